@@ -4,15 +4,11 @@ use Rattle.std.proofs.lemmas.Bool.{and_from, and_parts, cases_Bool, eq-eqb, eqb-
 use Rattle.std.proofs.lemmas.List.{get_or_push, length_push, take_all, take_more}
 use Rattle.std.proofs.lemmas.List.Elements.{All-weaker}
 use Rattle.std.proofs.lemmas.List.Folds.{Any-from_list_any, list_any_at}
-use Rattle.std.proofs.lemmas.List.Splits.{join_with_byte-slice_split}
 use Rattle.std.proofs.lemmas.List.Sums.{AllPass-from_list_all, list_all-from_AllPass}
 use Rattle.std.specs.List.{All, Contains, list_all, list_any}
 use Rattle.modpath.specs.ModulePath.{BeginsWith, EndsWith, IsElementByte, IsFirstElementByte}
 use Rattle.modpath.specs.Path.{is_element_byte, is_first_element_byte}
-use Rattle.modpath.specs.PathLaws.{DotEndsAreExact, ElementBytesAreExact, ElementsJoin, FirstElementsAreExact}
-
-pub elements_join : ElementsJoin
-elements_join text = join_with_byte-slice_split 47 text
+use Rattle.modpath.specs.PathLaws.{DotEndsAreExact, ElementBytesAreExact, FirstElementsAreExact}
 
 -- ---- lists
 

@@ -3,7 +3,7 @@
 use Rattle.std.specs.Prelude.{ℕ, ◌≡◌, ◌⊎◌, ◌^◌, ◌<◌, ◌≤◌, List, [], ◌∷◌, ◌++◌, length, map, codes, IsTrue}
 use Rattle.std.specs.Char.{is_ascii_alphanumeric, is_ascii_digit, is_ascii_lowercase, to_ascii_uppercase}
 use Rattle.std.specs.Fmt.{decimal}
-use Rattle.std.specs.List.{All, Contains}
+use Rattle.std.specs.List.{All, Contains, join_with_byte}
 use Rattle.modpath.specs.declared.major.Suffix.{Suffix}
 use Rattle.modpath.specs.declared.major.Suffix.TheVariants as suffix
 use Rattle.modpath.specs.declared.path.PathFault.{PathFault}
@@ -18,6 +18,16 @@ abbrev pub EndsWith : List ℕ → List ℕ → Type 0
 EndsWith text back = (front : List ℕ) × (text ≡ front ++ back)
 
 -- ---- elements
+
+-- the texts between the slashes of a text: joined by slashes they are the text, and none of them has a slash
+pub record AreBetweenSlashes (text : List ℕ) (es : List (List ℕ)) : Type 0 where
+  pub joined : join_with_byte 47 es ≡ text
+  pub no_slash : All (λ e. ¬ Contains e 47) es
+
+-- what stands before the first dot of an element, or all of it where it has none
+pub record IsStem (e name : List ℕ) : Type 0 where
+  pub no_dot : ¬ Contains name 46
+  pub place : (e ≡ name) ⊎ BeginsWith e (name ++ codes ".")
 
 -- an ASCII letter or digit, or one of `-`, `.`, `_`, `~`
 abbrev pub IsElementByte : ℕ → Type 0

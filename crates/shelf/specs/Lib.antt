@@ -5,3 +5,4 @@ pub mod Code
 pub mod Machine
 pub mod Store
 pub mod Kept
+pub mod MapsLend

@@ -4,6 +4,7 @@
 pub mod ask;
 pub mod bytes;
 pub mod entry;
+mod maps;
 pub mod reply;
 pub mod shelves;
 pub mod text;

@@ -6,7 +6,7 @@ use Rattle.std.specs.FinMap as map
 use Rattle.std.proofs.lemmas.Map.Views.{tells_apart}
 use Rattle.shelf.specs.World.{text_cmp}
 use Rattle.shelf.specs.Kept.{map_at, get_under, put_under}
-use Rattle.shelf.proofs.MapsOrders.{texts_total, texts_exact}
+use Rattle.shelf.proofs.Orders.{texts_total, texts_exact}
 use Rattle.shelf.proofs.MapsTexts.{put_again}
 
 -- the steps of a lookup by two texts

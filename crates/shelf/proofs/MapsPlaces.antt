@@ -16,7 +16,7 @@ use Rattle.shelf.specs.declared.entry.Place.{Place}
 use Rattle.shelf.specs.declared.entry.Entry.{Entry}
 use Rattle.shelf.specs.World.{text_cmp, place_cmp, place}
 use Rattle.shelf.specs.Kept.{Nested, placed, placed_on, by_place, get_under, map_at, put_under, put_at}
-use Rattle.shelf.proofs.MapsOrders.{texts_total, texts_exact, places_total, places_exact}
+use Rattle.shelf.proofs.Orders.{texts_total, texts_exact, places_total, places_exact}
 use Rattle.shelf.proofs.MapsNested.{get_map_at, get_put_under}
 
 -- ---- lists of entries, one after another

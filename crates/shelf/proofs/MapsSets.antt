@@ -11,7 +11,7 @@ use Rattle.std.specs.FinSet as set
 use Rattle.std.proofs.lemmas.Map.Text.{btree_set_updates_text}
 use Rattle.shelf.specs.World.{text_cmp}
 use Rattle.shelf.specs.Kept.{texts}
-use Rattle.shelf.proofs.MapsOrders.{texts_total, texts_exact}
+use Rattle.shelf.proofs.Orders.{texts_total, texts_exact}
 use Rattle.shelf.proofs.MapsTexts.{same_text}
 
 one_more : (b x : Bool) → cond b true x ≡ (b || x)

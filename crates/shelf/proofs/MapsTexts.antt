@@ -17,7 +17,7 @@ use Rattle.std.proofs.lemmas.Map.Text.{is_eq-slice_cmp, btree_map_updates_text}
 use Rattle.std.proofs.lemmas.Map.Keys.{IsDistinct-head, IsDistinct-tail, IsDistinct-from_sorted}
 use Rattle.shelf.specs.World.{text_cmp}
 use Rattle.shelf.specs.Kept.{by_text}
-use Rattle.shelf.proofs.MapsOrders.{texts_total, texts_exact}
+use Rattle.shelf.proofs.Orders.{texts_total, texts_exact}
 
 -- whether two texts are equal, either way round
 pub same_text : (k t : List ℕ) → bytes_eq k t ≡ eq_by_cmp text_cmp t k

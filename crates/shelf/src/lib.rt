@@ -3,8 +3,11 @@
 
 pub mod ask;
 pub mod bytes;
+pub mod decide;
 pub mod entry;
 mod maps;
 pub mod reply;
+pub mod run;
 pub mod shelves;
+pub mod step;
 pub mod text;

@@ -1,3 +1,5 @@
+pub mod MapsLend
+pub mod InMemory
 pub mod Names
 pub mod Forms
 pub mod World
@@ -5,4 +7,3 @@ pub mod Code
 pub mod Machine
 pub mod Store
 pub mod Kept
-pub mod MapsLend

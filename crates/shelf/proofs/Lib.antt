@@ -1,3 +1,4 @@
+pub mod MapsDone
 pub mod MapsTexts
 pub mod MapsNested
 pub mod MapsPlaces
@@ -6,3 +7,6 @@ pub mod MapsSets
 pub mod Orders
 pub mod Checks
 pub mod Runs
+pub mod Retained
+pub mod Views
+pub mod Sound

@@ -1,0 +1,12 @@
+pub mod MapsDone
+pub mod MapsTexts
+pub mod MapsNested
+pub mod MapsPlaces
+pub mod MapsCounts
+pub mod MapsSets
+pub mod Orders
+pub mod Checks
+pub mod Runs
+pub mod Retained
+pub mod Views
+pub mod Sound

@@ -1,0 +1,5 @@
+pub mod Framing
+pub mod Message
+pub mod Never
+pub mod Reply
+pub mod Values

@@ -45,9 +45,17 @@ may_publish None = false
 may_publish (Some Reads) = false
 may_publish (Some Publishes) = true
 
-abbrev pub is_too_large : Option Body → Bool
+-- the entry that its files make
+abbrev pub entry_of : Publish → Body → Entry
+entry_of p b = record { gomod = b.gomod; zip = b.zip }
+
+-- the entry that is handed in, if the files are told apart
+abbrev pub offered : Publish → Option Entry
+offered p = option_map (entry_of p) p.body
+
+abbrev pub is_too_large : Option Entry → Bool
 is_too_large None = false
-is_too_large (Some b) = nat_lt gomod_limit (length b.gomod) || nat_lt zip_limit (length b.zip)
+is_too_large (Some e) = nat_lt gomod_limit (length e.gomod) || nat_lt zip_limit (length e.zip)
 
 -- the checks of a publish alone, by a key with this right (none: an unknown key), each with its answer
 abbrev pub request_checks : Publish → Option Right → List (Bool × Decision)
@@ -56,26 +64,21 @@ request_checks p right =
     ∷ (is_none right, NotFound)
     ∷ (not (may_publish right), Forbidden)
     ∷ (is_none p.body, BadLength)
-    ∷ (is_too_large p.body, TooLarge)
+    ∷ (is_too_large (offered p), TooLarge)
     ∷ []
-
--- what is handed in as an entry
-abbrev pub entry_of : Publish → Body → Entry
-entry_of p b = record { gomod = b.gomod; zip = b.zip }
 
 abbrev pub same_entry : Entry → Entry → Bool
 same_entry d e = bytes_eq d.gomod e.gomod && bytes_eq d.zip e.zip
 
--- whether an entry is the one that is handed in
-abbrev pub is_same : Option Entry → Publish → Option Body → Bool
-is_same None p b = false
-is_same (Some e) p None = false
-is_same (Some e) p (Some b) = same_entry e (entry_of p b)
+-- whether two entries are there and the same
+abbrev pub is_same : Option Entry → Option Entry → Bool
+is_same (Some d) (Some e) = same_entry d e
+is_same d e = false
 
 -- the checks against what stands: this entry is visible, and so many versions of the path are on the shelf
 abbrev pub shelf_checks : Publish → Option Entry → ℕ → List (Bool × Decision)
 shelf_checks p seen n =
-    (is_same seen p p.body, Same)
+    (is_same seen (offered p), Same)
     ∷ (is_some seen, Conflict)
     ∷ (nat_le version_limit n, Full)
     ∷ []
@@ -100,12 +103,12 @@ abbrev pub place_of : List ℕ → Publish → Place
 place_of s p = place s p.path (version_text p.version)
 
 -- the world with what was published
-abbrev pub stored : World → List ℕ → Publish → Option Body → World
-stored w s p None = w
-stored w s p (Some b) = with_entry w (place_of s p) (entry_of p b)
+abbrev pub stored : World → Place → Option Entry → World
+stored w q None = w
+stored w q (Some e) = with_entry w q e
 
 abbrev pub after_decision : World → Option Holder → Publish → Decision → World
-after_decision w (Some h) p Published = stored w h.shelf p p.body
+after_decision w (Some h) p Published = stored w (place_of h.shelf p) (offered p)
 after_decision w h p d = w
 
 -- ---- a query

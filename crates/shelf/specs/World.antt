@@ -6,12 +6,11 @@ use Rattle.std.specs.Cmp.Lexicographic.{slice_cmp}
 use Rattle.std.specs.declared.cmp.Ordering.{Ordering}
 use Rattle.std.specs.FinMap as map
 use Rattle.std.specs.FinSet as set
-use Rattle.modpath.specs.Path.{IsPath}
 use Rattle.shelf.specs.declared.entry.Place.{Place}
 use Rattle.shelf.specs.declared.entry.Entry.{Entry}
 use Rattle.shelf.specs.declared.entry.Seen.{Seen}
 use Rattle.shelf.specs.declared.entry.Holder.{Holder}
-use Rattle.shelf.specs.Forms.{IsVersionText}
+use Rattle.shelf.specs.Forms.{IsPath, IsVersionText}
 pub use Rattle.shelf.specs.Names.{common, is_team_name, is_key}
 
 -- the order of texts: byte by byte

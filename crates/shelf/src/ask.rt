@@ -1,6 +1,9 @@
 //! What may be asked.
+ghost use Rattle.std.specs.Prelude.{◌≡◌};
+ghost use Rattle.shelf.specs.Machine.{offered};
+
 use crate::bytes::Bytes;
-use crate::entry::Right;
+use crate::entry::{EntryRef, Right};
 use crate::text::Text;
 use modpath::ModulePath;
 use modver::Version;
@@ -53,4 +56,19 @@ pub enum Event {
         key: Text,
         right: Right,
     },
+}
+
+impl Publish {
+    /// The entry that is handed in, if the files are told apart.
+    pub fn entry(&self) -> Option<EntryRef>
+        ensures { result ≡ offered self.now }
+    {
+        match &self.body {
+            Some(body) => Some(EntryRef {
+                gomod: body.gomod.as_slice(),
+                zip: body.zip.as_slice(),
+            }),
+            None => None,
+        }
+    }
 }

@@ -3,7 +3,10 @@
 
 pub mod ask;
 pub mod bytes;
+pub mod decide;
 pub mod entry;
 pub mod reply;
+pub mod run;
 pub mod shelves;
+pub mod step;
 pub mod text;

@@ -3,4 +3,7 @@ pub mod FramingLemmas
 pub mod HeadLemmas
 pub mod StreamLemmas
 pub mod ValuesLemmas
-mod StatusLemmas
+pub mod StatusLemmas
+pub mod CutLemmas
+pub mod PlainLemmas
+pub mod VersionLemmas

@@ -3,3 +3,4 @@ pub mod Message
 pub mod Never
 pub mod Reply
 pub mod Values
+pub mod Target

@@ -4,3 +4,7 @@ pub mod Runs
 pub mod Retained
 pub mod Views
 pub mod Sound
+pub mod Chains
+pub mod Apart
+pub mod Isolated
+pub mod Blind

@@ -1,8 +1,32 @@
 //! What holds of the machine and of every run of it.
 ghost use Rattle.shelf.specs.Laws.{WorldStays, RunsKeepWorlds};
+ghost use Rattle.shelf.specs.Isolation.{IsIsolated, PurgedRunsAgree, FaultyRunsAgree, MarksAreAsLong, MarksAreAtTheirMoment, OnlyOthersGo, IsBlind};
 
 /// Each event leads from a world to a world.
 pub fn soundness()
     ensures event { WorldStays }
     ensures run { RunsKeepWorlds }
+{}
+
+/// A shelf is told what it would be told if no request with a key of another team had come.
+pub fn isolation()
+    ensures { IsIsolated }
+{}
+
+/// So runs over the whole list and over the purged one tell it the same, whatever others met.
+pub fn runs_agree()
+    ensures purged { PurgedRunsAgree }
+    ensures faulty { FaultyRunsAgree }
+{}
+
+/// What is purged are the requests of other shelves, each by what its key holds at its moment.
+pub fn purge()
+    ensures length { MarksAreAsLong }
+    ensures moment { MarksAreAtTheirMoment }
+    ensures others { OnlyOthersGo }
+{}
+
+/// A key is answered alike in all worlds that its shelf cannot tell apart.
+pub fn blindness()
+    ensures { IsBlind }
 {}

@@ -177,3 +177,30 @@ room_for w h p e stands is_published is_offered =
       room = is.room;
       entry = entry_form h.shelf p e is.readable (ap is_too_large (sym is_offered) ∙ is.small);
     }
+
+-- what a publish was whose like is there already
+pub record Again (p : Publish) (right : Option Right) (seen : Option Entry) : Type 0 where
+  pub readable : is_readable p ≡ true
+  pub small : is_too_large (offered p) ≡ false
+  pub same : is_same seen (offered p) ≡ true
+
+only_same : (x y z : Bool) → cond x Same (cond y Conflict (cond z Full Published)) ≡ Same → x ≡ true
+only_same true y z e = refl
+only_same false true z e = absurd (true≢false (sym (ap is_same_answer e)))
+only_same false false true e = absurd (true≢false (sym (ap is_same_answer e)))
+only_same false false false e = absurd (true≢false (sym (ap is_same_answer e)))
+
+outcome_of : (x y z : Bool) → unwrap_or (cond x (Some Same) (cond y (Some Conflict) (cond z (Some Full) None))) Published ≡ cond x Same (cond y Conflict (cond z Full Published))
+outcome_of true y z = refl
+outcome_of false true z = refl
+outcome_of false false true = refl
+outcome_of false false false = refl
+
+pub same_again : (p : Publish) (right : Option Right) (seen : Option Entry) (n : ℕ) → decided p right seen n ≡ Same → Again p right seen
+same_again p right seen n e =
+    let parts = passed_before is_same_answer (request_checks p right) (shelf_checks p seen n) Same refl refl e in
+    record {
+      readable = not_false (is_readable p) parts.0.0;
+      small = parts.0.1.1.1.1.0;
+      same = only_same (is_same seen (offered p)) (is_some seen) (nat_le version_limit n) (sym (outcome_of (is_same seen (offered p)) (is_some seen) (nat_le version_limit n)) ∙ parts.1);
+    }

@@ -8,3 +8,5 @@ pub mod Chains
 pub mod Apart
 pub mod Isolated
 pub mod Blind
+pub mod Stays
+pub mod Served

@@ -1,5 +1,6 @@
 //! What holds of the machine and of every run of it.
 ghost use Rattle.shelf.specs.Laws.{WorldStays, RunsKeepWorlds};
+ghost use Rattle.shelf.specs.Immutability.{StaysServed, AcceptedIsServed};
 ghost use Rattle.shelf.specs.Isolation.{IsIsolated, PurgedRunsAgree, FaultyRunsAgree, MarksAreAsLong, MarksAreAtTheirMoment, OnlyOthersGo, IsBlind};
 
 /// Each event leads from a world to a world.
@@ -29,4 +30,14 @@ pub fn purge()
 /// A key is answered alike in all worlds that its shelf cannot tell apart.
 pub fn blindness()
     ensures { IsBlind }
+{}
+
+/// What was once served is served for good.
+pub fn immutability()
+    ensures { StaysServed }
+{}
+
+/// What was once accepted is served for good.
+pub fn acceptance()
+    ensures { AcceptedIsServed }
 {}

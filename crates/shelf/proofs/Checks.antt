@@ -16,6 +16,7 @@ use Rattle.shelf.specs.declared.entry.Entry.{Entry}
 use Rattle.shelf.specs.declared.entry.Seen.{Seen}
 use Rattle.shelf.specs.declared.entry.Holder.{Holder}
 use Rattle.shelf.specs.declared.entry.Right.{Right}
+use Rattle.shelf.specs.declared.entry.Right.TheVariants.{Publishes}
 use Rattle.shelf.specs.declared.ask.Body.{Body}
 use Rattle.shelf.specs.declared.ask.Publish.{Publish}
 use Rattle.shelf.specs.declared.reply.Decision.{Decision}
@@ -149,6 +150,7 @@ nothing_at (Some x) s rest e = cc
 pub record Accepted (p : Publish) (right : Option Right) (seen : Option Entry) (n : ℕ) : Type 0 where
   pub readable : is_readable p ≡ true
   pub may : may_publish right ≡ true
+  pub told : is_none p.body ≡ false
   pub small : is_too_large (offered p) ≡ false
   pub unseen : seen ≡ None
   pub room : n < version_limit
@@ -160,6 +162,7 @@ accepted p right seen n e =
     record {
       readable = not_false (is_readable p) all.0;
       may = not_false (may_publish right) all.1.1.0;
+      told = all.1.1.1.0;
       small = c.0;
       unseen = nothing_from seen c.1.1.0;
       room = below_not version_limit n c.1.1.1.0;
@@ -204,3 +207,13 @@ same_again p right seen n e =
       small = parts.0.1.1.1.1.0;
       same = only_same (is_same seen (offered p)) (is_some seen) (nat_le version_limit n) (sym (outcome_of (is_same seen (offered p)) (is_some seen) (nat_le version_limit n)) ∙ parts.1);
     }
+
+-- and of such a publish, by a key that may publish, the like is there
+row_of_same : (a b c d : Bool) (rest : Option Decision) → a ≡ true → b ≡ false → c ≡ false → d ≡ true
+    → unwrap_or (cond (not a) (Some NotFound) (cond b (Some BadLength) (cond c (Some TooLarge) (cond d (Some Same) rest)))) Published ≡ Same
+row_of_same a b c d rest ea eb ec ed = simp (ea, eb, ec, ed) refl
+
+pub same_decided : (p : Publish) (seen : Option Entry) (n : ℕ) → is_readable p ≡ true → is_none p.body ≡ false → is_too_large (offered p) ≡ false → is_same seen (offered p) ≡ true
+    → decided p (Some Publishes) seen n ≡ Same
+same_decided p seen n readable told small same =
+    row_of_same (is_readable p) (is_none p.body) (is_too_large (offered p)) (is_same seen (offered p)) _ readable told small same

@@ -10,3 +10,5 @@ pub mod Isolated
 pub mod Blind
 pub mod Stays
 pub mod Served
+pub mod Repeated
+pub mod Changes

@@ -1,6 +1,6 @@
 -- What was served or accepted once is served for good.
 use Rattle.std.proofs.Common.{◌≡◌, ℕ, List, [], ◌∷◌, Bool, true, false, refl, ◌∙◌, sym, ap, subst, Option, Some, None, inl, inr, ◌⊎◌}
-use Rattle.std.specs.Prelude.{bytes_eq, ◌&&◌, option_map}
+use Rattle.std.specs.Prelude.{bytes_eq, ◌&&◌, option_map, is_none}
 use Rattle.std.specs.Option.{option_or}
 use Rattle.std.specs.FinMap as map
 use Rattle.std.specs.FinSet as set
@@ -90,9 +90,16 @@ entry_is_seen : (o : Option Seen) (e : Entry) → option_map (λ (x : Seen). x.e
 entry_is_seen None e is = cc
 entry_is_seen (Some x) e is = (x, refl, cc)
 
-kept_published : (w : World) (h : Holder) (p : Publish) (b : Body) → decision w (Some h) p ≡ Published → p.body ≡ Some b → Kept (after_decision w (Some h) p Published) h.shelf p
-kept_published w h p b is body =
+body_there : (o : Option Body) → is_none o ≡ false → (b : Body) × (o ≡ Some b)
+body_there None e = absurd (true≢false e)
+body_there (Some b) e = (b, refl)
+
+kept_published : (w : World) (h : Holder) (p : Publish) → decision w (Some h) p ≡ Published → Kept (after_decision w (Some h) p Published) h.shelf p
+kept_published w h p is =
     let checks = accepted p (Some h.right) (entry_seen w h.shelf p) _ is in
+    let there = body_there p.body checks.told in
+    let b = there.0 in
+    let body = there.1 in
     let offer : offered p ≡ Some (entry_of p b) = ap (option_map (entry_of p)) body in
     let mine : Seen = record { shelf = h.shelf; entry = entry_of p b } in
     let after : World = stored w (place_of h.shelf p) (Some (entry_of p b)) in
@@ -119,10 +126,10 @@ kept_same w h p is =
       is_offered = entry.2 ∙ ap Some (sym seen.2);
     }
 
-pub kept_accepted : (w : World) (h : Holder) (p : Publish) (b : Body) (d : Decision) → decision w (Some h) p ≡ d → IsAccepted d → p.body ≡ Some b → Kept (after_decision w (Some h) p d) h.shelf p
-kept_accepted w h p b Published is yes_it_is body = kept_published w h p b is body
-kept_accepted w h p b Same is yes_it_is body = kept_same w h p is
-kept_accepted w h p b d is yes_it_is body = absurd yes_it_is
+pub kept_accepted : (w : World) (h : Holder) (p : Publish) (d : Decision) → decision w (Some h) p ≡ d → IsAccepted d → Kept (after_decision w (Some h) p d) h.shelf p
+kept_accepted w h p Published is yes_it_is = kept_published w h p is
+kept_accepted w h p Same is yes_it_is = kept_same w h p is
+kept_accepted w h p d is yes_it_is = absurd yes_it_is
 
 pub kept_through : (w new : World) (s : List ℕ) (p : Publish) (es : List Event) (answers : List Answer) → set.contains w.shelves s ≡ true → Run w es answers new → Kept w s p → Kept new s p
 kept_through w new s p es answers stands run kept = record {
@@ -138,14 +145,14 @@ pub decided_of : (x y : Decision) → reply.Decided x ≡ reply.Decided y → x 
 decided_of x y e = cc
 
 -- what was accepted by a key of s is what s sees after it
-pub kept_first : (w : World) (s k : List ℕ) (p : Publish) (b : Body) (d : Decision) → belongs w k s → reply.Decided d ≡ reply.Decided (decision w (map.get w.keys k) p) → IsAccepted d → p.body ≡ Some b → Kept (after w (Asked (Put k p))) s p
-kept_first w s k p b d own told yes_it_is body =
+pub kept_first : (w : World) (s k : List ℕ) (p : Publish) (d : Decision) → belongs w k s → reply.Decided d ≡ reply.Decided (decision w (map.get w.keys k) p) → IsAccepted d → Kept (after w (Asked (Put k p))) s p
+kept_first w s k p d own told yes_it_is =
     let h = own.0 in
     let is : d ≡ decision w (map.get w.keys k) p = decided_of d _ told in
     let is_h : decision w (Some h) p ≡ d = sym (is ∙ ap (λ o. decision w o p) own.1) in
     let after_is : after w (Asked (Put k p)) ≡ after_decision w (Some h) p d =
     ap (λ o. after_decision w o p (decision w o p)) own.1 ∙ ap (λ y. after_decision w (Some h) p y) is_h in
-    subst (λ y. Kept y s p) (sym after_is) (subst (λ t. Kept (after_decision w (Some h) p d) t p) own.2 (kept_accepted w h p b d is_h yes_it_is body))
+    subst (λ y. Kept y s p) (sym after_is) (subst (λ t. Kept (after_decision w (Some h) p d) t p) own.2 (kept_accepted w h p d is_h yes_it_is))
 
 same_body : (p : Publish) (b : Body) (e : Entry) → p.body ≡ Some b → offered p ≡ Some e → e ≡ entry_of p b
 same_body p b e body offer = some_same _ _ (sym offer ∙ ap (option_map (entry_of p)) body)
@@ -165,5 +172,5 @@ pub accepted_is_served : AcceptedIsServed
 accepted_is_served old mid new s k later p b d q r events answers (Failed fault) world own body yes_it_is run own_later back again = inr tt
 accepted_is_served old mid new s k later p b d q r events answers (Replied x) world own body yes_it_is run own_later back again =
     let stands = (stands_after old s (Asked (Put k p)) (shelf_stands old s k world own)).stands in
-    let kept = kept_through (after old (Asked (Put k p))) mid s p events answers stands run.1 (kept_first old s k p b d own run.0 yes_it_is body) in
+    let kept = kept_through (after old (Asked (Put k p))) mid s p events answers stands run.1 (kept_first old s k p d own run.0 yes_it_is) in
     inl (ap Replied (again.0 ∙ by_key mid s later q own_later ∙ answered_with mid s p b q r kept body back))

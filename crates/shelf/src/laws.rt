@@ -1,6 +1,6 @@
 //! What holds of the machine and of every run of it.
-ghost use Rattle.shelf.specs.Laws.{WorldStays, RunsKeepWorlds};
-ghost use Rattle.shelf.specs.Immutability.{StaysServed, AcceptedIsServed};
+ghost use Rattle.shelf.specs.Laws.{WorldStays, RunsKeepWorlds, OnlyChangesChange, BodiesChangeNothing, RunsAreCut, RunsAreJoined};
+ghost use Rattle.shelf.specs.Immutability.{StaysServed, AcceptedIsServed, RepeatedListChangesNothing};
 ghost use Rattle.shelf.specs.Isolation.{IsIsolated, PurgedRunsAgree, FaultyRunsAgree, MarksAreAsLong, MarksAreAtTheirMoment, OnlyOthersGo, IsBlind};
 
 /// Each event leads from a world to a world.
@@ -40,4 +40,21 @@ pub fn immutability()
 /// What was once accepted is served for good.
 pub fn acceptance()
     ensures { AcceptedIsServed }
+{}
+
+/// A list of publishes that was accepted changes nothing when it comes again.
+pub fn repetition()
+    ensures { RepeatedListChangesNothing }
+{}
+
+/// Only a publish that is stored and a command of the registry that is done change the world.
+pub fn changes()
+    ensures others { OnlyChangesChange }
+    ensures bodies { BodiesChangeNothing }
+{}
+
+/// A run may be cut at any event, and runs that meet may be joined.
+pub fn runs()
+    ensures cut { RunsAreCut }
+    ensures joined { RunsAreJoined }
 {}

@@ -51,10 +51,10 @@ snoc-some : (zs : List (List ℕ)) (x : List ℕ) → (y : List ℕ) × (ys : Li
 snoc-some [] x = (x, [], refl)
 snoc-some (z ∷ zs) x = (z, zs ++ x ∷ [], refl)
 
-reverse-snoc : (zs : List (List ℕ)) (x : List ℕ) → reverse (zs ++ x ∷ []) ≡ x ∷ reverse zs
+pub reverse-snoc : (zs : List (List ℕ)) (x : List ℕ) → reverse (zs ++ x ∷ []) ≡ x ∷ reverse zs
 reverse-snoc zs x = reverse-append zs (x ∷ [])
 
-reverse-some : (x : List ℕ) (xs : List (List ℕ)) → (y : List ℕ) × (ys : List (List ℕ)) × (reverse (x ∷ xs) ≡ y ∷ ys)
+pub reverse-some : (x : List ℕ) (xs : List (List ℕ)) → (y : List ℕ) × (ys : List (List ℕ)) × (reverse (x ∷ xs) ≡ y ∷ ys)
 reverse-some x xs =
     let s = snoc-some (reverse xs) x in
     (s.0, s.1, reverse-append (x ∷ []) xs ∙ s.2)

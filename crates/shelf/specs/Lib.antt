@@ -4,4 +4,7 @@ pub mod World
 pub mod Code
 pub mod Machine
 pub mod Store
+pub mod Laws
+pub mod Isolation
+pub mod Immutability
 pub mod Kept

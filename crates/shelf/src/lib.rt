@@ -5,6 +5,7 @@ pub mod ask;
 pub mod bytes;
 pub mod decide;
 pub mod entry;
+pub mod laws;
 pub mod reply;
 pub mod run;
 pub mod shelves;

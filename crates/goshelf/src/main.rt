@@ -7,7 +7,8 @@ mod arguments;
 mod command;
 mod memory;
 mod refusal;
-mod stand_in;
+#[cfg(test)]
+mod tests;
 
 use command::{command, words_refused};
 use std::env;

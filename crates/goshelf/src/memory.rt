@@ -1,34 +1,56 @@
 //! Shelves in memory, for one run of the program.
+ghost use Rattle.std.specs.Prelude.{◌≡◌, ◌⊎◌, true, IfOk, IfErr};
+ghost use Rattle.shelf.specs.Machine.{team_added, key_added};
+ghost use Rattle.shelf.specs.World.{IsWorld, with_key, with_team};
+ghost use Rattle.goshelf.specs.Opening.{AnsweredFor, AreNames, opening};
+
 use crate::refusal::Refusal;
-use crate::stand_in::{MapShelves, Registered, Right, answer_all};
+use engine::answer_all;
+use shelf::entry::Right;
+use shelf::map_shelves::MapShelves;
+use shelf::names::{is_key, is_team_name};
+use shelf::reply::Registered;
+use shelf::shelves::Shelves;
 use std::alloc::Global;
 use std::io::{Read, Write};
 
-/// Shelves in memory that have `common`, the team and its publishing key.
-pub fn shelves_with(alloc: Global, team: &str, key: &str) -> Result<MapShelves, Refusal> {
-    let mut shelves = MapShelves::new(alloc)?;
-    accepted(shelves.team_add(team))?;
-    accepted(shelves.key_add(team, key, Right::Publishes))?;
+/// Shelves in memory that have `common`, the team and its publishing key. A team or a key that breaks its
+/// rule is `Name`; else only want of memory stops it.
+pub fn shelves_with(alloc: Global, team: &str, key: &str) -> Result<MapShelves, Refusal>
+    ensures ok { IfOk result (λ shelves. (shelves ≡ opening team.now key.now) × AreNames team.now key.now) }
+    ensures err { IfErr result (λ e. ((e ≡ Refusal.Memory) × AreNames team.now key.now) ⊎ ((e ≡ Refusal.Name) × (¬ AreNames team.now key.now))) }
+{
+    if !is_team_name(team) || !is_key(key) {
+        return Err(Refusal::Name);
+    }
+    let Ok(mut shelves) = MapShelves::new(alloc) else {
+        return Err(Refusal::Memory);
+    };
+    let Ok(Registered::Done) = shelves.team_add(team) else {
+        return Err(Refusal::Memory);
+    };
+    let Ok(Registered::Done) = shelves.key_add(team, key, Right::Publishes) else {
+        return Err(Refusal::Memory);
+    };
     Ok(shelves)
 }
 
-fn accepted(outcome: Result<Registered, ()>) -> Result<(), Refusal> {
-    match outcome {
-        Ok(Registered::Done) => Ok(()),
-        Ok(Registered::Name) => Err(Refusal::Name),
-        Err(_) => Err(Refusal::Memory),
-    }
-}
-
-/// Answers the requests of the input from shelves in memory.
+/// Answers the requests of the input from shelves in memory that begin with `common`, the team and its
+/// publishing key. `Name` where one of them breaks its rule, and `Memory` where there is none to begin with:
+/// then nothing is read. `Io` where the input or the output failed.
 pub fn answer_in_memory<I: Read, O: Write>(
     alloc: Global,
     team: &str,
     key: &str,
     input: &mut I,
     output: &mut O,
-) -> Result<(), Refusal> {
-    let mut shelves = shelves_with(alloc, team, key)?;
+) -> Result<(), Refusal>
+    ensures { AnsweredFor team.now key.now (I.remaining input.old) (I.remaining input.new) (O.contents output.old) (O.contents output.new) result }
+{
+    let mut shelves = match shelves_with(alloc, team, key) {
+        Ok(shelves) => shelves,
+        Err(refusal) => return Err(refusal),
+    };
     match answer_all(alloc, input, output, &mut shelves) {
         Ok(()) => Ok(()),
         Err(_) => Err(Refusal::Io),

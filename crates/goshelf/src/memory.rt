@@ -1,7 +1,6 @@
 //! Shelves in memory, for one run of the program.
-ghost use Rattle.std.specs.Prelude.{◌≡◌, ◌⊎◌, true, IfOk, IfErr};
-ghost use Rattle.shelf.specs.Machine.{team_added, key_added};
-ghost use Rattle.shelf.specs.World.{IsWorld, with_key, with_team};
+ghost use Rattle.std.specs.Prelude.{◌≡◌, ◌⊎◌, true, OnOk, OnErr, IfOk, IfErr};
+ghost use Rattle.shelf.specs.World.{only_common, with_team, is_team_name, is_key};
 ghost use Rattle.goshelf.specs.Opening.{AnsweredFor, AreNames, opening};
 
 use crate::refusal::Refusal;
@@ -9,10 +8,35 @@ use engine::answer_all;
 use shelf::entry::Right;
 use shelf::map_shelves::MapShelves;
 use shelf::names::{is_key, is_team_name};
-use shelf::reply::Registered;
 use shelf::shelves::Shelves;
 use std::alloc::Global;
 use std::io::{Read, Write};
+
+/// Adds the first team.
+fn add_first_team(shelves: &mut MapShelves, team: &str) -> Result<(), Refusal>
+    requires { shelves.old ≡ only_common }
+    requires { is_team_name team.now ≡ true }
+    ensures ok { OnOk result (shelves.new ≡ with_team only_common team.now) }
+    ensures err { IfErr result (λ e. e ≡ Refusal.Memory) }
+{
+    match shelves.team_add(team) {
+        Ok(_) => Ok(()),
+        Err(_) => Err(Refusal::Memory),
+    }
+}
+
+/// Adds the publishing key of the first team.
+fn add_first_key(shelves: &mut MapShelves, team: &str, key: &str) -> Result<(), Refusal>
+    requires { shelves.old ≡ with_team only_common team.now }
+    requires { is_key key.now ≡ true }
+    ensures ok { OnOk result (shelves.new ≡ opening team.now key.now) }
+    ensures err { IfErr result (λ e. e ≡ Refusal.Memory) }
+{
+    match shelves.key_add(team, key, Right::Publishes) {
+        Ok(_) => Ok(()),
+        Err(_) => Err(Refusal::Memory),
+    }
+}
 
 /// Shelves in memory that have `common`, the team and its publishing key. A team or a key that breaks its
 /// rule is `Name`; else only want of memory stops it.
@@ -26,12 +50,8 @@ pub fn shelves_with(alloc: Global, team: &str, key: &str) -> Result<MapShelves, 
     let Ok(mut shelves) = MapShelves::new(alloc) else {
         return Err(Refusal::Memory);
     };
-    let Ok(Registered::Done) = shelves.team_add(team) else {
-        return Err(Refusal::Memory);
-    };
-    let Ok(Registered::Done) = shelves.key_add(team, key, Right::Publishes) else {
-        return Err(Refusal::Memory);
-    };
+    add_first_team(&mut shelves, team)?;
+    add_first_key(&mut shelves, team, key)?;
     Ok(shelves)
 }
 

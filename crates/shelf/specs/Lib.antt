@@ -1,3 +1,5 @@
+pub mod MapsLend
+pub mod InMemory
 pub mod Names
 pub mod Forms
 pub mod World

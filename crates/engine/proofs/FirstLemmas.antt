@@ -32,7 +32,7 @@ module _
     (u₂ : Option (List ℕ)) (next : Framing) where
   -- the next read closes the stream
   pub closes_reading : (closing : Option Fixed) → ReadsOn framing next u₁ u₂ (Ok (turn.Close closing)) → TakesFirst u₀ u₂ (Closes closing)
-  closes_reading closing (bytes, consumes, (all, told, closes)) = record {
+  closes_reading closing (bytes, consumes, (all, told, closes), some) = record {
     input = framing.held ++ all;
     told = Tells_after u₀ u₁ framing.held all consumed told;
     stands = closes;
@@ -67,4 +67,4 @@ module _
 
     -- nothing after it can go on
     pub takes_closing : (closing : Fixed) (last : Framing) → Takes next (taken.Close closing) last → TakesFirst u₀ u₂ (Closes (Some closing))
-    takes_closing closing last closes = takes (Closes (Some closing)) (closes (left_of u₂))
+    takes_closing closing last (closes, memory) = takes (Closes (Some closing)) (closes (left_of u₂))

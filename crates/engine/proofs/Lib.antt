@@ -1,4 +1,5 @@
 pub mod AskLemmas
+pub mod CrashLemmas
 pub mod FirstLemmas
 pub mod IsolationLemmas
 pub mod MessageLemmas

@@ -22,6 +22,9 @@ pub some_came : (held bytes more : List ℕ) (n : ℕ) → 0 < n → n ≤ lengt
 some_came held bytes more n some within e =
     absurd (omega (arith, ap length e, length-append held (take n bytes ++ more), length-append (take n bytes) more, length-take-le n bytes within))
 
+pub are_some : (bytes : List ℕ) (n : ℕ) → 0 < n → n ≤ length bytes → take n bytes ≢ []
+are_some bytes n some within e = absurd (omega (arith, ap length e, length-take-le n bytes within))
+
 -- bytes that begin with a message are some
 pub message_some : (bytes : List ℕ) → HasMessage bytes → (more : List ℕ) → bytes ++ more ≢ []
 message_some bytes (m, rest, reads) more e =

@@ -94,7 +94,7 @@ module _
   pub closed_reading : (u₃ w₂ : Option (List ℕ)) (closing : Option Fixed) (result : Result (Unit {0}) Io)
       → ReadsOn framing next u₁ u₂ (Ok (turn.Close closing)) → Delivers w₁ w₂ (closing_bytes closing) result
       → Serves old mid before between u₀ u₃ w₀ w₂ result
-  closed_reading u₃ w₂ closing result (bytes, consumes, (all, told, closes)) delivers =
+  closed_reading u₃ w₂ closing result (bytes, consumes, (all, told, closes), some) delivers =
       served old mid before between u₀ u₃ w₀ w₁ w₂ (far.got ++ all) (framing.held ++ all) closing result
       (answered_before old mid before between w₀ w₁ far.got framing.held all far.answered)
       (Tells_after u₀ u₁ far.got all far.consumed told) closes delivers

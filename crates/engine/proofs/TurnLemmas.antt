@@ -81,7 +81,7 @@ module _
     exchanges = far.exchanges ++ next.exchanges;
     reads = rw (map-append message_of far.exchanges next.exchanges)
         (ReadsMessages-join input _ _ rest after far.reads next.reads);
-    through = through_more old mid new before between now _ _ far.through next.through;
+    through = through_more old mid new before between now _ far.through _ next.through;
     appended = subst (Appends w₀ w₂) (sym (flat_map-append text_of far.exchanges next.exchanges)) (Appends-trans w₀ w₁ w₂ _ _ far.appended next.appended);
   }
 
@@ -98,7 +98,7 @@ module _
             (rw (map-append message_of far.exchanges (next.first ++ next.last ∷ []))
             (ReadsMessages-join input _ _ rest after far.reads next.reads));
         through = subst (λ (xs : List Exchange). GoesThrough old new before now xs) same
-            (through_more old mid new before between now _ _ far.through next.through);
+            (through_more old mid new before between now _ far.through _ next.through);
         begins = next.begins;
         appended = subst (Appends w₀ w₂)
             (sym (append_assoc (texts_of far.exchanges) (texts_of next.first) next.part) ∙ ap (λ bytes. bytes ++ next.part) (sym (flat_map-append text_of far.exchanges next.first)))

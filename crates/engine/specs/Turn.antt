@@ -1,9 +1,10 @@
 -- What one turn of reading or answering does.
-use Rattle.std.specs.Prelude.{◌≡◌, ℕ, ◌⊎◌, List, [], ◌∷◌, ◌++◌, Option, Some, None, map, Result, Ok, Err, MatchResult}
+use Rattle.std.specs.Prelude.{◌≡◌, ◌≢◌, ℕ, ◌⊎◌, List, [], ◌∷◌, ◌++◌, Option, Some, None, map, Result, Ok, Err, MatchResult}
 use Rattle.std.specs.Io.KnownBytes.{Consumes, Appends, Keeps}
 use Rattle.wire.specs.Message.{ReadsMessage, ReadsMessages}
-use Rattle.wire.specs.Framing.{Framing, IsUnfinished, view}
+use Rattle.wire.specs.Framing.{Framing, IsUnfinished, HasMessage, view}
 use Rattle.wire.specs.declared.reply.Fixed.{Fixed}
+use Rattle.wire.specs.declared.reply.Fixed.TheVariants as fixed
 use Rattle.shelf.specs.Store.{Shown}
 use Rattle.engine.specs.Outcome.{Exchange, message_of}
 use Rattle.engine.specs.Reply.{text_of}
@@ -17,19 +18,21 @@ use Rattle.engine.specs.declared.turn.Turn.TheVariants as turn
 use Rattle.engine.specs.declared.turn.Taken.{Taken}
 use Rattle.engine.specs.declared.turn.Taken.TheVariants as taken
 
--- what is taken from the front of the bytes held
+-- what is taken from the front of the bytes held; memory is wanted only for a message that is whole
 abbrev pub Takes : Framing → Taken → Framing → Type 0
 Takes old (taken.Message message) new = ReadsMessage old.held (view message) new.held × (new.failure ≡ None)
 Takes old taken.More new = IsUnfinished old.held × (new ≡ old)
-Takes old (taken.Close closing) new = (more : List ℕ) → IsClosing (old.held ++ more) (Some closing)
+Takes old (taken.Close closing) new =
+    ((more : List ℕ) → IsClosing (old.held ++ more) (Some closing)) × (closing ≡ fixed.Unavailable → HasMessage old.held)
 
--- what a read gave the framer, or why it closes the stream
+-- what a read gave the framer, or why it closes the stream; memory is wanted only for bytes that came
 abbrev pub ReadsOn : Framing → Framing → Option (List ℕ) → Option (List ℕ) → Result Turn Io → Type 0
 ReadsOn old new unread unread_new (Ok turn.Go) =
     (bytes : List ℕ) × Consumes unread unread_new bytes × (new ≡ record old { held = old.held ++ bytes })
 ReadsOn old new unread unread_new (Ok (turn.Close closing)) =
     (bytes : List ℕ) × Consumes unread unread_new bytes
     × ((all : List ℕ) × Tells unread all × IsClosing (old.held ++ all) closing)
+    × (closing ≡ Some fixed.Unavailable → bytes ≢ [])
 ReadsOn old new unread unread_new (Err e) = (e ≡ io.Read) × Keeps unread unread_new
 
 -- the messages at the front of the input were answered, and rest follows them

@@ -14,9 +14,10 @@ use Rattle.modpath.specs.PathLaws.{DotEndsAreExact, ElementBytesAreExact, FirstE
 
 -- a test of each element, by the fact that it tests
 pub all_exact : (p : ℕ → Bool) (P : ℕ → Type 0) → ((x : ℕ) → (p x ≡ true) ↔ P x) → (xs : List ℕ) → (list_all p xs ≡ true) ↔ All P xs
-all_exact p P each xs =
-    (λ h. All-weaker (λ x. p x ≡ true) P (λ x. (each x).0) xs (AllPass-from_list_all p xs h),
-     λ a. list_all-from_AllPass p xs (All-weaker P (λ x. p x ≡ true) (λ x. (each x).1) xs a))
+all_exact p P each xs = (
+  λ h. All-weaker (λ x. p x ≡ true) P (λ x. (each x).0) xs (AllPass-from_list_all p xs h),
+  λ a. list_all-from_AllPass p xs (All-weaker P (λ x. p x ≡ true) (λ x. (each x).1) xs a),
+)
 
 -- a list that contains an element has it in front or behind
 cons-at : {X : Type 0} (x : X) (xs : List X) (y : X) (k : ℕ) → k < length (x ∷ xs) → get_or (x ∷ xs) k y ≡ y → (x ≡ y) ⊎ Contains xs y
@@ -37,9 +38,10 @@ contains_there x xs y c = (suc c.0, omega (arith, c.1), c.2)
 
 -- a test for one byte
 pub any_exact : (c : ℕ) (xs : List ℕ) → (list_any (λ b. b == c) xs ≡ true) ↔ Contains xs c
-any_exact c xs =
-    (λ h. let a = Any-from_list_any (λ b. b == c) xs h in (a.0, a.2, subst (λ y. get_or xs a.0 y ≡ y) (eqb-true a.1 c a.4) a.3),
-     λ u. list_any_at (λ b. b == c) xs u.0 c u.1 (eq-eqb (get_or xs u.0 c) c u.2))
+any_exact c xs = (
+  λ h. let a = Any-from_list_any (λ b. b == c) xs h in (a.0, a.2, subst (λ y. get_or xs a.0 y ≡ y) (eqb-true a.1 c a.4) a.3),
+  λ u. list_any_at (λ b. b == c) xs u.0 c u.1 (eq-eqb (get_or xs u.0 c) c u.2),
+)
 
 -- a test of the first byte, and of the last
 pub begins_exact : (c : ℕ) (e : List ℕ) → 0 < c → ((get_or e 0 0 == c) ≡ true) ↔ BeginsWith e (c ∷ [])
@@ -48,9 +50,10 @@ begins_exact c [] some =
   where
     nil-cons : (rest : List ℕ) → ◌≡◌ {A = List ℕ} [] (c ∷ rest) → ⊥
     nil-cons rest h = cc h
-begins_exact c (b ∷ rest) some =
-    (λ h. (rest, ap (λ x. x ∷ rest) (eqb-true b c h)),
-     λ u. eq-eqb b c (ap (λ (l : List ℕ). get_or l 0 0) u.1))
+begins_exact c (b ∷ rest) some = (
+  λ h. (rest, ap (λ x. x ∷ rest) (eqb-true b c h)),
+  λ u. eq-eqb b c (ap (λ (l : List ℕ). get_or l 0 0) u.1),
+)
 
 pub last_byte : (e : List ℕ) → 0 < length e → e ≡ take (length e - 1) e ++ get_or e (length e - 1) 0 ∷ []
 last_byte e some =
@@ -63,17 +66,20 @@ nil-last c [] some none h = let z : 0 ≡ c = eqb-true 0 c h in omega arith
 nil-last c (b ∷ e) some none h = omega arith
 
 pub ends_exact : (c : ℕ) (e : List ℕ) → 0 < c → ((get_or e (length e - 1) 0 == c) ≡ true) ↔ EndsWith e (c ∷ [])
-ends_exact c e some =
-    (λ h. elim (cases_Bool (ltb 0 (length e))) [
-      | inl more ↦
-          (take (length e - 1) e,
-           last_byte e (ltb-true 0 (length e) more) ∙ ap (λ x. take (length e - 1) e ++ x ∷ []) (eqb-true (get_or e (length e - 1) 0) c h))
-      | inr none ↦ absurd (nil-last c e some (no-length none) h)
-    ],
-     λ u. ends-from u.0 u.1)
+ends_exact c e some = (
+  λ h. elim (cases_Bool (ltb 0 (length e))) [
+    | inl more ↦ (
+      take (length e - 1) e,
+      last_byte e (ltb-true 0 (length e) more) ∙ ap (λ x. take (length e - 1) e ++ x ∷ []) (eqb-true (get_or e (length e - 1) 0) c h),
+    )
+    | inr none ↦ absurd (nil-last c e some (no-length none) h)
+  ],
+  λ u. ends-from u.0 u.1,
+)
   where
     no-length : ltb 0 (length e) ≡ false → length e ≡ 0
     no-length h = grind (arith, Rattle.std.proofs.lemmas.Bool.Decides.nat_tests)
+
     ends-from : (front : List ℕ) → e ≡ front ++ c ∷ [] → (get_or e (length e - 1) 0 == c) ≡ true
     ends-from front e' =
         let n : length e ≡ length front + 1 = ap length e' ∙ length_push front c in
@@ -82,7 +88,7 @@ ends_exact c e some =
 
 -- ---- bytes
 
-element_byte-to : (b : ℕ) → is_element_byte b ≡ true → IsElementByte b
+pub element_byte-to : (b : ℕ) → is_element_byte b ≡ true → IsElementByte b
 element_byte-to b h = elim (or_cases _ _ h) [
   | inr tilde ↦ inr (contains_there 45 (46 ∷ 95 ∷ 126 ∷ []) b (contains_there 46 (95 ∷ 126 ∷ []) b (contains_there 95 (126 ∷ []) b (contains_here 126 [] b (sym (eqb-true b 126 tilde))))))
   | inl h₁ ↦ elim (or_cases _ _ h₁) [
@@ -100,7 +106,7 @@ element_byte-to b h = elim (or_cases _ _ h) [
 byte-among : (b c : ℕ) → c ≡ b → is_element_byte c ≡ true → is_element_byte b ≡ true
 byte-among b c e h = ap is_element_byte (sym e) ∙ h
 
-element_byte-from : (b : ℕ) → IsElementByte b → is_element_byte b ≡ true
+pub element_byte-from : (b : ℕ) → IsElementByte b → is_element_byte b ≡ true
 element_byte-from b (inl letter) = or_left _ _ (or_left _ _ (or_left _ _ (or_left _ _ letter)))
 element_byte-from b (inr among) = elim (contains_cases 45 (46 ∷ 95 ∷ 126 ∷ []) b among) [
   | inl e ↦ byte-among b 45 e refl
@@ -118,16 +124,18 @@ element_byte-from b (inr among) = elim (contains_cases 45 (46 ∷ 95 ∷ 126 ∷
 
 pub element_bytes_are_exact : ElementBytesAreExact
 element_bytes_are_exact e =
-    let each = all_exact is_element_byte IsElementByte (λ b. (element_byte-to b, element_byte-from b)) e in
-    (λ h. let p = and_parts _ _ h in record { some = ltb-true 0 (length e) p.0; each = each.0 p.1 },
-     λ u. and_from _ _ (lt-ltb 0 (length e) u.some) (each.1 u.each))
+    let each = all_exact is_element_byte IsElementByte (λ b. (element_byte-to b, element_byte-from b)) e in (
+      λ h. let p = and_parts _ _ h in record { some = ltb-true 0 (length e) p.0; each = each.0 p.1 },
+      λ u. and_from _ _ (lt-ltb 0 (length e) u.some) (each.1 u.each),
+    )
 
 pub dot_ends_are_exact : DotEndsAreExact
 dot_ends_are_exact e =
     let first = begins_exact 46 e (omega arith) in
-    let last = ends_exact 46 e (omega arith) in
-    (λ h. elim (or_cases _ _ h) [ inl f ↦ inl (first.0 f) | inr l ↦ inr (last.0 l) ],
-     λ u. elim u [ inl f ↦ or_left _ _ (first.1 f) | inr l ↦ or_right _ _ (last.1 l) ])
+    let last = ends_exact 46 e (omega arith) in (
+      λ h. elim (or_cases _ _ h) [ inl f ↦ inl (first.0 f) | inr l ↦ inr (last.0 l) ],
+      λ u. elim u [ inl f ↦ or_left _ _ (first.1 f) | inr l ↦ or_right _ _ (last.1 l) ],
+    )
 
 -- ---- the first element
 
@@ -163,7 +171,8 @@ pub first_elements_are_exact : FirstElementsAreExact
 first_elements_are_exact e =
     let each = all_exact is_first_element_byte IsFirstElementByte (λ b. (first_byte-to b, first_byte-from b)) e in
     let dot = any_exact 46 e in
-    let dash = begins_exact 45 e (omega arith) in
-    (λ h. let p = and_parts _ _ h in let q = and_parts _ _ p.0 in
-      record { bytes = each.0 q.0; dot = dot.0 q.1; no_dash = λ u. not-to _ p.1 (dash.1 u) },
-     λ u. and_from _ _ (and_from _ _ (each.1 u.bytes) (dot.1 u.dot)) (not-from _ (λ t. u.no_dash (dash.0 t))))
+    let dash = begins_exact 45 e (omega arith) in (
+      λ h. let p = and_parts _ _ h in let q = and_parts _ _ p.0 in
+          record { bytes = each.0 q.0; dot = dot.0 q.1; no_dash = λ u. not-to _ p.1 (dash.1 u) },
+      λ u. and_from _ _ (and_from _ _ (each.1 u.bytes) (dot.1 u.dot)) (not-from _ (λ t. u.no_dash (dash.0 t))),
+    )

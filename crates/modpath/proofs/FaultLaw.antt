@@ -66,18 +66,20 @@ element-to : (e : List ℕ) (f : PathFault) → element_check e ≡ Err f → Br
 element-to e f h = elim (fault-cases (names_check e) (fault_unless (not (has_tilde_number (stem e))) fault.Tilde) f h) [
   | inr tilde ↦
       let a = both _ _ tilde.0 in let b = both _ _ a.0 in let u = unmet _ fault.Tilde f tilde.1 in
-      subst (BreaksElement e) u.1
-      ((element_bytes_are_exact e).0 (tested _ _ b.0),
-       refutes _ _ (dot_ends_are_exact e) (not-true _ (tested _ _ b.1)),
-       refutes _ _ (reserved_names_are_exact (stem e)) (not-true _ (tested _ _ a.1)),
-       (tilde_numbers_are_exact (stem e)).0 (not-false _ u.0))
+      subst (BreaksElement e) u.1 (
+        (element_bytes_are_exact e).0 (tested _ _ b.0),
+        refutes _ _ (dot_ends_are_exact e) (not-true _ (tested _ _ b.1)),
+        refutes _ _ (reserved_names_are_exact (stem e)) (not-true _ (tested _ _ a.1)),
+        (tilde_numbers_are_exact (stem e)).0 (not-false _ u.0),
+      )
   | inl h₁ ↦ elim (fault-cases (dots_check e) (fault_unless (not (is_reserved (stem e))) fault.Reserved) f h₁) [
     | inr reserved ↦
         let b = both _ _ reserved.0 in let u = unmet _ fault.Reserved f reserved.1 in
-        subst (BreaksElement e) u.1
-        ((element_bytes_are_exact e).0 (tested _ _ b.0),
-         refutes _ _ (dot_ends_are_exact e) (not-true _ (tested _ _ b.1)),
-         (reserved_names_are_exact (stem e)).0 (not-false _ u.0))
+        subst (BreaksElement e) u.1 (
+          (element_bytes_are_exact e).0 (tested _ _ b.0),
+          refutes _ _ (dot_ends_are_exact e) (not-true _ (tested _ _ b.1)),
+          (reserved_names_are_exact (stem e)).0 (not-false _ u.0),
+        )
     | inl h₂ ↦ elim (fault-cases (bytes_check e) (fault_unless (not (has_dot_end e)) fault.DotEnd) f h₂) [
       | inr dot ↦
           let u = unmet _ fault.DotEnd f dot.1 in
@@ -101,13 +103,13 @@ names-pass e u v w = and_then _ _ (dots-pass e u v) (holds _ fault.Reserved (no_
 element-from : (e : List ℕ) (f : PathFault) → BreaksElement e f → element_check e ≡ Err f
 element-from e fault.Element u =
     fault-first _ _ fault.Element (fault-first _ _ fault.Element (fault-first _ _ fault.Element
-      (faulty _ fault.Element (fails _ _ (element_bytes_are_exact e) u))))
+    (faulty _ fault.Element (fails _ _ (element_bytes_are_exact e) u))))
 element-from e fault.DotEnd u =
     fault-first _ _ fault.DotEnd (fault-first _ _ fault.DotEnd
-      (fault-second _ _ fault.DotEnd (bytes-pass e u.0) (faulty _ fault.DotEnd (fails-not _ ((dot_ends_are_exact e).1 u.1)))))
+    (fault-second _ _ fault.DotEnd (bytes-pass e u.0) (faulty _ fault.DotEnd (fails-not _ ((dot_ends_are_exact e).1 u.1)))))
 element-from e fault.Reserved u =
     fault-first _ _ fault.Reserved
-      (fault-second _ _ fault.Reserved (dots-pass e u.0 u.1) (faulty _ fault.Reserved (fails-not _ ((reserved_names_are_exact (stem e)).1 u.2))))
+    (fault-second _ _ fault.Reserved (dots-pass e u.0 u.1) (faulty _ fault.Reserved (fails-not _ ((reserved_names_are_exact (stem e)).1 u.2))))
 element-from e fault.Tilde u =
     fault-second _ _ fault.Tilde (names-pass e u.0 u.1 u.2) (faulty _ fault.Tilde (fails-not _ ((tilde_numbers_are_exact (stem e)).1 u.3)))
 element-from e fault.Empty u = absurd u
@@ -183,9 +185,9 @@ data Found (strict : Bool) (text : List ℕ) (f : PathFault) : Type 0 where
   at_length : length_check text ≡ Err f → Found strict text f
   at_element : HasPathLength text → elements_check (elements text) ≡ Err f → Found strict text f
   at_first : HasPathElements text → (strict && not (is_first_element (first_element (elements text)))) ≡ true → f ≡ fault.First
-    → Found strict text f
+      → Found strict text f
   at_suffix : HasPathElements text → (strict && not (is_first_element (first_element (elements text)))) ≡ false
-    → (¬ ((s : Suffix) × HasSuffix text s)) → f ≡ fault.Suffix → Found strict text f
+      → (¬ ((s : Suffix) × HasSuffix text s)) → f ≡ fault.Suffix → Found strict text f
 
 -- the rule of the first element, where it is asked
 abbrev first_check : Bool → List ℕ → Check
@@ -238,14 +240,14 @@ element-fault : (strict : Bool) (text : List ℕ) (f : PathFault) → HasPathLen
 unfolding check_of
 element-fault strict text f n u =
     fault-first _ _ f (fault-first _ _ f (fault-second _ _ f ((length_passes text).1 n)
-      (ap elements_check u.place ∙ leftmost-from u.front u.element u.back f u.before u.breaks)))
+    (ap elements_check u.place ∙ leftmost-from u.front u.element u.back f u.before u.breaks)))
 
 first-fault : (text : List ℕ) → HasPathElements text → (¬ IsFirstElement (first_element (elements text))) → check_of true text ≡ Err fault.First
 unfolding check_of
 first-fault text es none =
     fault-first _ _ fault.First (fault-second _ _ fault.First
-      (and_then _ _ ((length_passes text).1 es.0) ((elements_pass (elements text)).1 es.1))
-      (faulty _ fault.First (fails-not _ (no_test _ _ (first_elements_are_exact (first_element (elements text))) none))))
+    (and_then _ _ ((length_passes text).1 es.0) ((elements_pass (elements text)).1 es.1))
+    (faulty _ fault.First (fails-not _ (no_test _ _ (first_elements_are_exact (first_element (elements text))) none))))
 
 suffix-fault : (strict : Bool) (text : List ℕ) → HasPathElements text
     → not (strict && not (is_first_element (first_element (elements text)))) ≡ true → (¬ ((s : Suffix) × HasSuffix text s))

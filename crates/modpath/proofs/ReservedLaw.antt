@@ -79,25 +79,49 @@ port-parts name word d e low high =
 -- ---- the names
 
 one-to-nine : (P : ℕ → Type 0) → P 49 → P 50 → P 51 → P 52 → P 53 → P 54 → P 55 → P 56 → P 57 → (d : ℕ) → 49 ≤ d → d ≤ 57 → P d
-one-to-nine P p1 p2 p3 p4 p5 p6 p7 p8 p9 d low high = elim (cases_eq d 49) [ inl e ↦ subst P (sym e) p1 | inr n1 ↦
-  elim (cases_eq d 50) [ inl e ↦ subst P (sym e) p2 | inr n2 ↦
-  elim (cases_eq d 51) [ inl e ↦ subst P (sym e) p3 | inr n3 ↦
-  elim (cases_eq d 52) [ inl e ↦ subst P (sym e) p4 | inr n4 ↦
-  elim (cases_eq d 53) [ inl e ↦ subst P (sym e) p5 | inr n5 ↦
-  elim (cases_eq d 54) [ inl e ↦ subst P (sym e) p6 | inr n6 ↦
-  elim (cases_eq d 55) [ inl e ↦ subst P (sym e) p7 | inr n7 ↦
-  elim (cases_eq d 56) [ inl e ↦ subst P (sym e) p8 | inr n8 ↦
-  elim (cases_eq d 57) [ inl e ↦ subst P (sym e) p9 | inr n9 ↦ absurd (omega arith) ] ] ] ] ] ] ] ] ]
+one-to-nine P p1 p2 p3 p4 p5 p6 p7 p8 p9 d low high = elim (cases_eq d 49) [
+  | inl e ↦ subst P (sym e) p1
+  | inr n1 ↦
+      elim (cases_eq d 50) [
+        | inl e ↦ subst P (sym e) p2
+        | inr n2 ↦
+            elim (cases_eq d 51) [
+              | inl e ↦ subst P (sym e) p3
+              | inr n3 ↦
+                  elim (cases_eq d 52) [
+                    | inl e ↦ subst P (sym e) p4
+                    | inr n4 ↦
+                        elim (cases_eq d 53) [
+                          | inl e ↦ subst P (sym e) p5
+                          | inr n5 ↦
+                              elim (cases_eq d 54) [
+                                | inl e ↦ subst P (sym e) p6
+                                | inr n6 ↦
+                                    elim (cases_eq d 55) [
+                                      | inl e ↦ subst P (sym e) p7
+                                      | inr n7 ↦
+                                          elim (cases_eq d 56) [
+                                            | inl e ↦ subst P (sym e) p8
+                                            | inr n8 ↦
+                                                elim (cases_eq d 57) [ inl e ↦ subst P (sym e) p9 | inr n9 ↦ absurd (omega arith) ]
+                                          ]
+                                    ]
+                              ]
+                        ]
+                  ]
+            ]
+      ]
+]
 
 com-name : (d : ℕ) → 49 ≤ d → d ≤ 57 → Contains reserved_names (codes "COM" ++ d ∷ [])
 com-name = one-to-nine (λ d. Contains reserved_names (codes "COM" ++ d ∷ []))
-  (4, lit< tt, refl) (5, lit< tt, refl) (6, lit< tt, refl) (7, lit< tt, refl) (8, lit< tt, refl)
-  (9, lit< tt, refl) (10, lit< tt, refl) (11, lit< tt, refl) (12, lit< tt, refl)
+    (4, lit< tt, refl) (5, lit< tt, refl) (6, lit< tt, refl) (7, lit< tt, refl) (8, lit< tt, refl)
+    (9, lit< tt, refl) (10, lit< tt, refl) (11, lit< tt, refl) (12, lit< tt, refl)
 
 lpt-name : (d : ℕ) → 49 ≤ d → d ≤ 57 → Contains reserved_names (codes "LPT" ++ d ∷ [])
 lpt-name = one-to-nine (λ d. Contains reserved_names (codes "LPT" ++ d ∷ []))
-  (13, lit< tt, refl) (14, lit< tt, refl) (15, lit< tt, refl) (16, lit< tt, refl) (17, lit< tt, refl)
-  (18, lit< tt, refl) (19, lit< tt, refl) (20, lit< tt, refl) (21, lit< tt, refl)
+    (13, lit< tt, refl) (14, lit< tt, refl) (15, lit< tt, refl) (16, lit< tt, refl) (17, lit< tt, refl)
+    (18, lit< tt, refl) (19, lit< tt, refl) (20, lit< tt, refl) (21, lit< tt, refl)
 
 named : (name word : List ℕ) → upper name ≡ word → Contains reserved_names word → IsReserved name
 named name word e c = subst (Contains reserved_names) (sym e) c
@@ -144,17 +168,64 @@ reserved-from name c =
     let P : List ℕ → Type 0 = λ word. upper name ≡ word → is_reserved name ≡ true in
     let com_at : (d : ℕ) → 49 ≤ d → d ≤ 57 → P (codes "COM" ++ d ∷ []) = com-from name in
     let lpt_at : (d : ℕ) → 49 ≤ d → d ≤ 57 → P (codes "LPT" ++ d ∷ []) = lpt-from name in
-    All-contains P reserved_names (upper name) (All-from_recursion P reserved_names
-      (λ e. or_left _ _ (or_left _ _ (or_left _ _ (or_left _ _ (same-from name (codes "CON") e)))),
-      (λ e. or_left _ _ (or_left _ _ (or_left _ _ (or_right _ _ (same-from name (codes "PRN") e)))),
-      (λ e. or_left _ _ (or_left _ _ (or_right _ _ (same-from name (codes "AUX") e))),
-      (λ e. or_left _ _ (or_right _ _ (same-from name (codes "NUL") e)),
-      (com_at 49 (omega arith) (omega arith), (com_at 50 (omega arith) (omega arith), (com_at 51 (omega arith) (omega arith),
-      (com_at 52 (omega arith) (omega arith), (com_at 53 (omega arith) (omega arith), (com_at 54 (omega arith) (omega arith),
-      (com_at 55 (omega arith) (omega arith), (com_at 56 (omega arith) (omega arith), (com_at 57 (omega arith) (omega arith),
-      (lpt_at 49 (omega arith) (omega arith), (lpt_at 50 (omega arith) (omega arith), (lpt_at 51 (omega arith) (omega arith),
-      (lpt_at 52 (omega arith) (omega arith), (lpt_at 53 (omega arith) (omega arith), (lpt_at 54 (omega arith) (omega arith),
-      (lpt_at 55 (omega arith) (omega arith), (lpt_at 56 (omega arith) (omega arith), (lpt_at 57 (omega arith) (omega arith), tt))))))))))))))))))))))) c refl
+    All-contains P reserved_names (upper name) (All-from_recursion P reserved_names (
+      λ e. or_left _ _ (or_left _ _ (or_left _ _ (or_left _ _ (same-from name (codes "CON") e)))),
+      (
+        λ e. or_left _ _ (or_left _ _ (or_left _ _ (or_right _ _ (same-from name (codes "PRN") e)))),
+        (
+          λ e. or_left _ _ (or_left _ _ (or_right _ _ (same-from name (codes "AUX") e))),
+          (
+            λ e. or_left _ _ (or_right _ _ (same-from name (codes "NUL") e)),
+            (
+              com_at 49 (omega arith) (omega arith),
+              (
+                com_at 50 (omega arith) (omega arith),
+                (
+                  com_at 51 (omega arith) (omega arith),
+                  (
+                    com_at 52 (omega arith) (omega arith),
+                    (
+                      com_at 53 (omega arith) (omega arith),
+                      (
+                        com_at 54 (omega arith) (omega arith),
+                        (
+                          com_at 55 (omega arith) (omega arith),
+                          (
+                            com_at 56 (omega arith) (omega arith),
+                            (
+                              com_at 57 (omega arith) (omega arith),
+                              (
+                                lpt_at 49 (omega arith) (omega arith),
+                                (
+                                  lpt_at 50 (omega arith) (omega arith),
+                                  (
+                                    lpt_at 51 (omega arith) (omega arith),
+                                    (
+                                      lpt_at 52 (omega arith) (omega arith),
+                                      (
+                                        lpt_at 53 (omega arith) (omega arith),
+                                        (
+                                          lpt_at 54 (omega arith) (omega arith),
+                                          (lpt_at 55 (omega arith) (omega arith), (lpt_at 56 (omega arith) (omega arith), (lpt_at 57 (omega arith) (omega arith), tt))),
+                                        ),
+                                      ),
+                                    ),
+                                  ),
+                                ),
+                              ),
+                            ),
+                          ),
+                        ),
+                      ),
+                    ),
+                  ),
+                ),
+              ),
+            ),
+          ),
+        ),
+      ),
+    )) c refl
 
 pub reserved_names_are_exact : ReservedNamesAreExact
 reserved_names_are_exact name = (reserved-to name, reserved-from name)

@@ -108,7 +108,7 @@ cut sep text h =
         none_in_first = f.3;
         none_in_last = l.3;
         is_last = ap (λ r. last_or [] (slice_split (λ b. b == sep) r)) l.2 ∙ ap (last_or []) (split_last sep l.0 l.1 l.3)
-          ∙ last_or-push [] (slice_split (λ b. b == sep) l.0) l.1;
+            ∙ last_or-push [] (slice_split (λ b. b == sep) l.0) l.1;
       }
     ]
 

@@ -26,7 +26,7 @@ onto-none : (sep b : ℕ) (parts : List (List ℕ)) (first : List ℕ) (others :
 onto-none sep b parts first others shape other all =
     let none : All (λ e. has sep e ≡ false) (first ∷ others) = rw shape at all in
     rw shape (All-cons (λ e. has sep e ≡ false) (b ∷ first) others (rw other (All-head (λ e. has sep e ≡ false) first others none))
-      (All-tail (λ e. has sep e ≡ false) first others none))
+    (All-tail (λ e. has sep e ≡ false) first others none))
 
 none-in-parts : (sep : ℕ) (text : List ℕ) → All (λ e. has sep e ≡ false) (slice_split (λ b. b == sep) text)
 none-in-parts sep [] = All-cons (λ e. has sep e ≡ false) [] [] refl (All-nil (λ e. has sep e ≡ false))

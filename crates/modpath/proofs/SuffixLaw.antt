@@ -46,9 +46,12 @@ dot_after-to (b ∷ rest) s h = elim (cases_Bool (b == 118)) [
       elim (number-cases (number_of rest)) [
         | inl none ↦ cc (sym (ap (option_map suffix.Dot) none) ∙ m)
         | inr n ↦
-            let d = (numbers_are_exact rest n.0).0 n.1 in
-            (n.0, same-suffix (suffix.Dot n.0) s (sym (ap (option_map suffix.Dot) n.1) ∙ m),
-             ap (λ x. x ∷ rest) (eqb-true b 118 v) ∙ ap (λ (l : List ℕ). 118 ∷ l) d.0, d.1)
+            let d = (numbers_are_exact rest n.0).0 n.1 in (
+              n.0,
+              same-suffix (suffix.Dot n.0) s (sym (ap (option_map suffix.Dot) n.1) ∙ m),
+              ap (λ x. x ∷ rest) (eqb-true b 118 v) ∙ ap (λ (l : List ℕ). 118 ∷ l) d.0,
+              d.1,
+            )
       ]
 ]
 
@@ -91,24 +94,29 @@ dotted text = list_all (λ d. is_ascii_digit d || (d == 46)) text
 
 dotted_exact : (text : List ℕ) → (dotted text ≡ true) ↔ All (λ b. IsTrue (is_ascii_digit b) ⊎ (b ≡ 46)) text
 dotted_exact text = all_exact (λ d. is_ascii_digit d || (d == 46)) (λ b. IsTrue (is_ascii_digit b) ⊎ (b ≡ 46))
-  (λ b. (λ h. elim (or_cases _ _ h) [ inl digit ↦ inl digit | inr dot ↦ inr (eqb-true b 46 dot) ],
-         λ u. elim u [ inl digit ↦ or_left _ _ digit | inr dot ↦ or_right _ _ (eq-eqb b 46 dot) ])) text
+    (λ b. (
+      λ h. elim (or_cases _ _ h) [ inl digit ↦ inl digit | inr dot ↦ inr (eqb-true b 46 dot) ],
+      λ u. elim u [ inl digit ↦ or_left _ _ digit | inr dot ↦ or_right _ _ (eq-eqb b 46 dot) ],
+    )) text
 
 abbrev numbered : ℕ → List ℕ → Bool
 numbered b rest = (b == 118) && ltb 0 (length rest) && dotted rest
 
 numbered_exact : (b : ℕ) (rest : List ℕ) → (numbered b rest ≡ true) ↔ Numbered (b ∷ rest)
-numbered_exact b rest =
-    (λ h. let p = and_parts _ _ h in let q = and_parts _ _ p.0 in record {
-      number = rest;
-      place = ap (λ x. x ∷ rest) (eqb-true b 118 q.0);
-      some = ltb-true 0 (length rest) q.1;
-      each = (dotted_exact rest).0 p.1;
-    }, λ u. numbered-from u.number u.place u.some u.each)
+numbered_exact b rest = (
+  λ h. let p = and_parts _ _ h in let q = and_parts _ _ p.0 in record {
+    number = rest;
+    place = ap (λ x. x ∷ rest) (eqb-true b 118 q.0);
+    some = ltb-true 0 (length rest) q.1;
+    each = (dotted_exact rest).0 p.1;
+  },
+  λ u. numbered-from u.number u.place u.some u.each,
+)
   where
     first_byte : List ℕ → ℕ
     first_byte [] = 0
     first_byte (x ∷ xs) = x
+
     numbered-from : (number : List ℕ) → b ∷ rest ≡ 118 ∷ number → 0 < length number
         → All (λ x. IsTrue (is_ascii_digit x) ⊎ (x ≡ 46)) number → numbered b rest ≡ true
     numbered-from number place some each =
@@ -149,6 +157,7 @@ slash-to (b ∷ rest) s h = elim (cases_Bool (numbered b rest)) [
   where
     small-none : (n : ℕ) → ltb n 2 ≡ true → slash_number (Some n) ≡ None
     small-none n h = rw h refl
+
     large-some : (n : ℕ) → ltb n 2 ≡ false → slash_number (Some n) ≡ Some (suffix.Slash n)
     large-some n h = rw h refl
 
@@ -181,7 +190,7 @@ ends-last text back c none u = elim (cut-last 47 u.0) [
       cc (yes_slash, no)
   | inr l ↦
       let at : text ≡ l.0 ++ 47 ∷ (l.1 ++ back)
-          = u.1 ∙ ap (λ (f : List ℕ). f ++ back) l.2 ∙ append_assoc l.0 (47 ∷ l.1) back in
+      = u.1 ∙ ap (λ (f : List ℕ). f ++ back) l.2 ∙ append_assoc l.0 (47 ∷ l.1) back in
       let no_more : has 47 (l.1 ++ back) ≡ false = list_any-append (λ b. b == 47) l.1 back ∙ rw (l.3, none) refl in
       (l.1, last_unique 47 c.front c.last l.0 (l.1 ++ back) (sym c.at_last ∙ at) c.none_in_last no_more)
 ]
@@ -197,7 +206,7 @@ versioned-last : (text : List ℕ) (c : Cut 47 text) → LooksVersioned text →
 versioned-last text c u = record {
   number = u.number;
   place = last_unique 47 c.front c.last u.place.0 (118 ∷ u.number) (sym c.at_last ∙ u.place.1) c.none_in_last
-    (dotted-has-no u.number ((dotted_exact u.number).1 u.each));
+      (dotted-has-no u.number ((dotted_exact u.number).1 u.each));
   some = u.some;
   each = u.each;
 }
@@ -238,9 +247,10 @@ suffix-cut text c =
     ∙ ap (λ (l : List ℕ). if is_gopkg c.first then dot_suffix l else slash_suffix l) c.is_last
 
 whole-none : (text : List ℕ) → has 47 text ≡ false → HasSuffix text suffix.None
-whole-none text none =
-    (λ u. cc (sym (ap (has 47) u.1) ∙ none),
-     λ u. cc (sym (ap (has 47) u.place.1 ∙ has-cut 47 u.place.0 (118 ∷ u.number)) ∙ none))
+whole-none text none = (
+  λ u. cc (sym (ap (has 47) u.1) ∙ none),
+  λ u. cc (sym (ap (has 47) u.place.1 ∙ has-cut 47 u.place.0 (118 ∷ u.number)) ∙ none),
+)
 
 ending-suffix : (text : List ℕ) (c : Cut 47 text) → is_gopkg c.first ≡ false → (s : Suffix) → Ending c.last s → HasSuffix text s
 ending-suffix text c other (suffix.Dot n) u = absurd u

@@ -42,12 +42,13 @@ tilde-to name h =
         → ((i : ℕ) → i < length name → at + 1 ≤ i → is_ascii_digit (get_or name i 0) ≡ true) → EndsInTildeNumber name
     around name at lt byte some each = record {
       digits = drop (at + 1) name;
-      place =
-        (take at name,
-         sym (take-append-drop at name) ∙ ap (λ (l : List ℕ). take at name ++ l) (drop_more name at 0 (omega arith) ∙ ap (λ b. b ∷ drop (at + 1) name) byte));
+      place = (
+        take at name,
+        sym (take-append-drop at name) ∙ ap (λ (l : List ℕ). take at name ++ l) (drop_more name at 0 (omega arith) ∙ ap (λ b. b ∷ drop (at + 1) name) byte),
+      );
       some = let n = length-drop (at + 1) name in omega arith;
       each = All-from_get_or (λ b. IsTrue (is_ascii_digit b)) (drop (at + 1) name) 0
-        (λ i l. let n = length-drop (at + 1) name in ap is_ascii_digit (get_or-drop (at + 1) name i 0) ∙ each (at + 1 + i) (omega arith) (omega arith));
+          (λ i l. let n = length-drop (at + 1) name in ap is_ascii_digit (get_or-drop (at + 1) name i 0) ∙ each (at + 1 + i) (omega arith) (omega arith));
     }
 
 tilde-len : (front digits : List ℕ) → All (λ b. IsTrue (is_ascii_digit b)) digits → suffix_len is_ascii_digit (front ++ 126 ∷ digits) ≡ length digits
@@ -55,12 +56,13 @@ tilde-len front digits all =
     let name : List ℕ = front ++ 126 ∷ digits in
     let n : length (front ++ 126 ∷ digits) ≡ length front + suc (length digits) = length-append front (126 ∷ digits) in
     let here = suffix_len_is is_ascii_digit (front ++ 126 ∷ digits) (length front + 1) 0 (omega arith)
-      (λ k low high. ap is_ascii_digit (at-digit k low) ∙ All-get_or (λ b. IsTrue (is_ascii_digit b)) digits (k - (length front + 1)) 0 (omega arith) all)
-      (λ _. ap is_ascii_digit (ap (λ k. get_or (front ++ 126 ∷ digits) k 0) (before (length front)) ∙ get_or_at front 126 digits 0 (length front) refl)) in
+    (λ k low high. ap is_ascii_digit (at-digit k low) ∙ All-get_or (λ b. IsTrue (is_ascii_digit b)) digits (k - (length front + 1)) 0 (omega arith) all)
+    (λ _. ap is_ascii_digit (ap (λ k. get_or (front ++ 126 ∷ digits) k 0) (before (length front)) ∙ get_or_at front 126 digits 0 (length front) refl)) in
     here ∙ (omega arith)
   where
     before : (k : ℕ) → k + 1 - 1 ≡ k
     before k = omega arith
+
     at-digit : (k : ℕ) → length front + 1 ≤ k → get_or (front ++ 126 ∷ digits) k 0 ≡ get_or digits (k - (length front + 1)) 0
     at-digit k low =
         ap (λ (l : List ℕ). get_or l k 0) (sym (append_assoc front (126 ∷ []) digits))

@@ -14,8 +14,8 @@ use std::io::{Read, Write};
 
 /// Adds the first team.
 fn add_first_team(shelves: &mut MapShelves, team: &str) -> Result<(), Refusal>
-    requires { shelves.old ≡ only_common }
-    requires { is_team_name team.now ≡ true }
+    requires begins { shelves.old ≡ only_common }
+    requires named { is_team_name team.now ≡ true }
     ensures ok { OnOk result (shelves.new ≡ with_team only_common team.now) }
     ensures err { IfErr result (λ e. e ≡ Refusal.Memory) }
 {
@@ -27,8 +27,8 @@ fn add_first_team(shelves: &mut MapShelves, team: &str) -> Result<(), Refusal>
 
 /// Adds the publishing key of the first team.
 fn add_first_key(shelves: &mut MapShelves, team: &str, key: &str) -> Result<(), Refusal>
-    requires { shelves.old ≡ with_team only_common team.now }
-    requires { is_key key.now ≡ true }
+    requires begins { shelves.old ≡ with_team only_common team.now }
+    requires named { is_key key.now ≡ true }
     ensures ok { OnOk result (shelves.new ≡ opening team.now key.now) }
     ensures err { IfErr result (λ e. e ≡ Refusal.Memory) }
 {

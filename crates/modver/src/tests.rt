@@ -1,6 +1,8 @@
 // The worked rows, and the standards' own examples.
 
-use crate::{Class, TimeFault, Version, VersionFault, class, compare, fits, rank_compare, read_time};
+use crate::{
+    Class, TimeFault, Version, VersionFault, class, compare, fits, rank_compare, read_time,
+};
 use modpath::{ModulePath, PathError};
 use std::cmp::Ordering;
 
@@ -14,7 +16,10 @@ fn texts_and_their_faults(rt: HostRuntime) {
         ("v18446744073709551616.0.0", Some(VersionFault::Form)),
         ("v0.18446744073709551616.0", Some(VersionFault::Form)),
         ("v0.0.18446744073709551616", Some(VersionFault::Form)),
-        ("v18446744073709551615.18446744073709551615.18446744073709551615", None),
+        (
+            "v18446744073709551615.18446744073709551615.18446744073709551615",
+            None,
+        ),
         ("", Some(VersionFault::Form)),
         ("v", Some(VersionFault::Form)),
         ("V1.0.0", Some(VersionFault::Form)),
@@ -27,11 +32,26 @@ fn texts_and_their_faults(rt: HostRuntime) {
         ("v1.0.0+incompatible.1", Some(VersionFault::Build)),
         ("v1.0.0+incompatible", None),
         ("v1.0.0-0A.01a.-", None),
-        ("v1.0.0-9999999999999999999999999999999999999999999999999999999999999999999999999999999999999999999999999999", None),
-        ("v1.0.0-aaaaaaaaaaaaaaaaaaaaaaaaaaaaaaaaaaaaaaaaaaaaaaaaaaaaaaaaaaaaaaaaaaaaaaaaaaaaaaaaaaaaaaaaaaaaaaaaaaaaaaaaaaaaaaaaaaaaaaaaa", None),
-        ("v1.0.0-aaaaaaaaaaaaaaaaaaaaaaaaaaaaaaaaaaaaaaaaaaaaaaaaaaaaaaaaaaaaaaaaaaaaaaaaaaaaaaaaaaaaaaaaaaaaaaaaaaaaaaaaaaaaaaaaaaaaaaaaaa", Some(VersionFault::TooLong)),
-        ("xxxxxxxxxxxxxxxxxxxxxxxxxxxxxxxxxxxxxxxxxxxxxxxxxxxxxxxxxxxxxxxxxxxxxxxxxxxxxxxxxxxxxxxxxxxxxxxxxxxxxxxxxxxxxxxxxxxxxxxxxxxxxxxxx", Some(VersionFault::TooLong)),
-        ("v1.0.0+mmmmmmmmmmmmmmmmmmmmmmmmmmmmmmmmmmmmmmmmmmmmmmmmmmmmmmmmmmmmmmmmmmmmmmmmmmmmmmmmmmmmmmmmmmmmmmmmmmmmmmmmmmmmmmmmmmmmmmmmmm", Some(VersionFault::TooLong)),
+        (
+            "v1.0.0-9999999999999999999999999999999999999999999999999999999999999999999999999999999999999999999999999999",
+            None,
+        ),
+        (
+            "v1.0.0-aaaaaaaaaaaaaaaaaaaaaaaaaaaaaaaaaaaaaaaaaaaaaaaaaaaaaaaaaaaaaaaaaaaaaaaaaaaaaaaaaaaaaaaaaaaaaaaaaaaaaaaaaaaaaaaaaaaaaaaaa",
+            None,
+        ),
+        (
+            "v1.0.0-aaaaaaaaaaaaaaaaaaaaaaaaaaaaaaaaaaaaaaaaaaaaaaaaaaaaaaaaaaaaaaaaaaaaaaaaaaaaaaaaaaaaaaaaaaaaaaaaaaaaaaaaaaaaaaaaaaaaaaaaaa",
+            Some(VersionFault::TooLong),
+        ),
+        (
+            "xxxxxxxxxxxxxxxxxxxxxxxxxxxxxxxxxxxxxxxxxxxxxxxxxxxxxxxxxxxxxxxxxxxxxxxxxxxxxxxxxxxxxxxxxxxxxxxxxxxxxxxxxxxxxxxxxxxxxxxxxxxxxxxxx",
+            Some(VersionFault::TooLong),
+        ),
+        (
+            "v1.0.0+mmmmmmmmmmmmmmmmmmmmmmmmmmmmmmmmmmmmmmmmmmmmmmmmmmmmmmmmmmmmmmmmmmmmmmmmmmmmmmmmmmmmmmmmmmmmmmmmmmmmmmmmmmmmmmmmmmmmmmmmmm",
+            Some(VersionFault::TooLong),
+        ),
     ];
     for (text, fault) in rows {
         assert!(rt; fault_of_text(&rt, text) == fault, "{text}");
@@ -48,11 +68,7 @@ fn fault_of_text(rt: &HostRuntime, text: &str) -> Option<VersionFault> {
 }
 
 // Compares each version of a list with each.
-fn is_ascending(
-    rt: &HostRuntime,
-    texts: &[&str],
-    by_rank: bool,
-) -> Result<bool, VersionFault> {
+fn is_ascending(rt: &HostRuntime, texts: &[&str], by_rank: bool) -> Result<bool, VersionFault> {
     for (i, left) in texts.iter().enumerate() {
         for (j, right) in texts.iter().enumerate() {
             let left = Version::parse(rt.alloc(), left)?;
@@ -128,14 +144,26 @@ fn classes(rt: HostRuntime) -> Result<(), VersionFault> {
         ("v2.0.0+incompatible", "release"),
         ("v1.2.3-pre", "pre"),
         ("v0.0.0-20191109021931-daa7c04131f5", "2019-11-09T02:19:31Z"),
-        ("v3.0.0-20191109021931-daa7c04131f5+incompatible", "2019-11-09T02:19:31Z"),
+        (
+            "v3.0.0-20191109021931-daa7c04131f5+incompatible",
+            "2019-11-09T02:19:31Z",
+        ),
         ("v0.0.1-20191109021931-daa7c04131f5", "pre"),
         ("v0.1.0-20191109021931-daa7c04131f5", "pre"),
-        ("v1.2.4-0.20191109021931-daa7c04131f5", "2019-11-09T02:19:31Z"),
+        (
+            "v1.2.4-0.20191109021931-daa7c04131f5",
+            "2019-11-09T02:19:31Z",
+        ),
         ("v1.2.0-0.20191109021931-daa7c04131f5", "pre"),
         ("v1.2.4-1.20191109021931-daa7c04131f5", "pre"),
-        ("v1.2.3-pre.0.20191109021931-daa7c04131f5", "2019-11-09T02:19:31Z"),
-        ("v1.2.0-0.0.20191109021931-daa7c04131f5", "2019-11-09T02:19:31Z"),
+        (
+            "v1.2.3-pre.0.20191109021931-daa7c04131f5",
+            "2019-11-09T02:19:31Z",
+        ),
+        (
+            "v1.2.0-0.0.20191109021931-daa7c04131f5",
+            "2019-11-09T02:19:31Z",
+        ),
         ("v1.2.3-pre.1.20191109021931-daa7c04131f5", "pre"),
         ("v1.2.3-0.pre.20191109021931-daa7c04131f5", "pre"),
         ("v0.0.0-2019110902193-daa7c04131f5", "pre"),
@@ -196,13 +224,24 @@ fn versions_of_paths(rt: HostRuntime) -> Result<(), PathError> {
         ("gopkg.in/yaml.v1", "v1.0.0", true),
         ("gopkg.in/yaml.v1", "v0.8.0", false),
         ("gopkg.in/yaml.v1", "v0.0.0", false),
-        ("gopkg.in/yaml.v1", "v0.0.0-20160105164936-4f90aeace3a2", true),
-        ("gopkg.in/yaml.v2", "v0.0.0-20160105164936-4f90aeace3a2", false),
+        (
+            "gopkg.in/yaml.v1",
+            "v0.0.0-20160105164936-4f90aeace3a2",
+            true,
+        ),
+        (
+            "gopkg.in/yaml.v2",
+            "v0.0.0-20160105164936-4f90aeace3a2",
+            false,
+        ),
         ("gopkg.in/yaml.v2", "v2.1.5", true),
         ("gopkg.in/yaml.v2", "v2.1.5+incompatible", false),
     ];
     for (path, version, expected) in rows {
-        assert!(rt; fits_texts(&rt, path, version)? == expected, "{path} {version}");
+        assert!(rt;
+            fits_texts(&rt, path, version)? == expected,
+            "{path} {version}"
+        );
     }
     Ok(())
 }

@@ -119,3 +119,8 @@ pub time-more : (v : SemanticVersion) (pre front last : List ℕ) → identifier
     → (if m then option_map time_of_stamp (stamp_of_identifier last) else None) ≡ option_map time_of_stamp (stamp_of v)
 time-more v pre front last ids cut true m = sym (ap (option_map time_of_stamp) (rw (← m) at (stamp-more v pre front last ids cut)))
 time-more v pre front last ids cut false m = sym (ap (option_map time_of_stamp) (rw (← m) at (stamp-more v pre front last ids cut)))
+
+-- a version without identifiers has none
+pub no-stamp : (v : SemanticVersion) → v.identifiers ≡ [] → stamp_of v ≡ None
+unfolding stamp_of
+no-stamp v e = rw e refl

@@ -15,8 +15,8 @@ use Rattle.modver.specs.Time.{IsTime, fits_byte, fits_form, is_lower_hex, is_mom
 use Rattle.modver.specs.declared.version.Class.TheVariants as class
 use Rattle.modver.proofs.DotParts.{reverse-some}
 use Rattle.modver.proofs.Forms.{digits-fit, fits_form-append, fits_form-part, length-fits, stamp-form}
-use Rattle.modver.proofs.Orders.{and-first, and-second}
-use Rattle.modver.proofs.Readings.{le-nat_le, nat_le-true}
+use Rattle.modver.proofs.Conditions.{and-both, and-first, and-second, le-nat_le, nat_le-true}
+use Rattle.modver.proofs.DotParts.{no-stamp}
 
 -- ---- stamped identifiers
 
@@ -96,10 +96,6 @@ if-some : (b : Bool) (o : Option (List ℕ)) (s : List ℕ) → (if b then o els
 if-some true o s h = (refl, h)
 if-some false o s h = cc h
 
-and-both : (x y : Bool) → (x && y) ≡ true → (x ≡ true) × (y ≡ true)
-and-both true y h = (refl, h)
-and-both false y h = cc h
-
 -- from the identifiers, the last first, to the form
 pseudo-from : (v : SemanticVersion) (back : List (List ℕ)) (stamp : List ℕ) → v.identifiers ≡ reverse back → stamp_from v.minor v.patch back ≡ Some stamp → IsPseudo v stamp
 pseudo-from v [] stamp ids h = cc h
@@ -158,10 +154,6 @@ pub stamp-time : StampHasATime
 stamp-time v stamp (inl p) = stamped-time p.last stamp p.stamped
 stamp-time v stamp (inr (inl p)) = stamped-time p.last stamp p.stamped
 stamp-time v stamp (inr (inr p)) = stamped-time p.last stamp p.stamped
-
-no-stamp : (v : SemanticVersion) → v.identifiers ≡ [] → stamp_of v ≡ None
-unfolding stamp_of
-no-stamp v e = rw e refl
 
 none-not : (v : SemanticVersion) → stamp_of v ≡ None → (stamp : List ℕ) → ¬ (IsPseudo v stamp)
 none-not v none stamp p = cc (none, pseudo-stamp v stamp p)

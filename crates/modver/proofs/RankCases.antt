@@ -10,17 +10,9 @@ use Rattle.modver.specs.Laws.{RankIsByClass}
 use Rattle.modver.specs.Precedence.{precedence}
 use Rattle.modver.specs.Rank.{IsAboveByClass, number_of_stamp, rank_from}
 use Rattle.modver.specs.SemanticVersion.{SemanticVersion}
-use Rattle.modver.proofs.Numerals.{nat_cmp-eq, nat_cmp-gt, nat_cmp-lt}
 use Rattle.modver.proofs.StrictOrders.{precedence_total, turned, turned-back}
-
-greater-nat : (m n : ℕ) → nat_cmp m n ≡ Greater → n < m
-greater-nat m n h = elim (cases_lt m n) [
-  | inl lt ↦ cc (h, nat_cmp-lt m n lt)
-  | inr le ↦ elim (cases_lt n m) [
-    | inl gt ↦ gt
-    | inr ge ↦ cc (h, nat_cmp-eq m n (omega arith))
-  ]
-]
+use Rattle.modver.proofs.Conditions.{greater-nat, nat_cmp-eq, nat_cmp-gt}
+use Rattle.modver.proofs.DotParts.{no-stamp}
 
 then-greater : (r s : Ordering) → ordering_then r s ≡ Greater → (r ≡ Greater) ⊎ ((r ≡ Equal) × (s ≡ Greater))
 then-greater Less s h = cc h
@@ -65,10 +57,6 @@ class-above u v (i ∷ xs) (j ∷ ys) (Some x) None a b f g h = absurd h
 class-above u v (i ∷ xs) (j ∷ ys) (Some x) (Some y) a b f g (inl later) = rw (nat_cmp-gt (number_of_stamp (Some x)) (number_of_stamp (Some y)) (rw (← a, ← b) at later)) refl
 class-above u v (i ∷ xs) (j ∷ ys) (Some x) (Some y) a b f g (inr both) =
     rw (nat_cmp-eq (number_of_stamp (Some x)) (number_of_stamp (Some y)) (rw (← a, ← b) at both.0)) (turned-back precedence precedence_total u v both.1)
-
-no-stamp : (v : SemanticVersion) → v.identifiers ≡ [] → stamp_of v ≡ None
-unfolding stamp_of
-no-stamp v e = rw e refl
 
 pub rank-by_class : RankIsByClass
 rank-by_class u v = (

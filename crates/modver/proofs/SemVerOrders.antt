@@ -12,20 +12,10 @@ use Rattle.modver.specs.Laws.{PrecedenceIsSemVer}
 use Rattle.modver.specs.Precedence.{IsBelow, identifier_cmp, pre_release_cmp}
 use Rattle.modver.specs.SemVerOrder.{HasLowerPrecedence, IsLexicallyLower, IsLowerIdentifier, IsLowerPreRelease}
 use Rattle.modver.specs.SemanticVersion.{IsVersion, SemanticVersion, is_identifier, is_numeric}
-use Rattle.modver.proofs.Numerals.{nat_cmp-eq, nat_cmp-gt, nat_cmp-lt}
-use Rattle.modver.proofs.Orders.{and-first, and-second}
 use Rattle.modver.proofs.StrictOrders.{identifier-tied}
+use Rattle.modver.proofs.Conditions.{and-first, and-second, less-nat, nat_cmp-eq, nat_cmp-lt, then-equal}
 
 -- ---- numbers
-
-pub less-nat : (m n : ℕ) → nat_cmp m n ≡ Less → m < n
-less-nat m n h = elim (cases_lt m n) [
-  | inl lt ↦ lt
-  | inr le ↦ elim (cases_lt n m) [
-    | inl gt ↦ cc (h, nat_cmp-gt m n gt)
-    | inr ge ↦ cc (h, nat_cmp-eq m n (omega arith))
-  ]
-]
 
 -- ---- lists
 
@@ -126,11 +116,6 @@ identifier-itself x = elim (cases_Bool (is_numeric x)) [
   | inl n ↦ rw (n, nat-itself (digits_value 10 x)) refl
   | inr n ↦ rw n (itself-list nat_cmp nat-itself x)
 ]
-
-then-equal : (r : Ordering) → ordering_then r Equal ≡ r
-then-equal Less = refl
-then-equal Equal = refl
-then-equal Greater = refl
 
 identifier-below : (x y : List ℕ) → identifier_cmp x y ≡ Less → IsLowerIdentifier x y
 identifier-below x y h = elim (cases_Bool (is_numeric x)) [

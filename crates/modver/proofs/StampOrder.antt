@@ -17,6 +17,7 @@ use Rattle.modver.specs.declared.version.Class.TheVariants as class
 use Rattle.modver.proofs.DotParts.{dots-shape}
 use Rattle.modver.proofs.Numerals.{same_length}
 use Rattle.modver.proofs.Ranks.{IsDigits, stamp-digits}
+use Rattle.modver.proofs.DotParts.{no-stamp}
 
 -- a list of 14
 record Fourteen (s : List ℕ) : Type 0 where
@@ -73,10 +74,6 @@ pub time-number : (x y : List ℕ) → (length x ≡ 14) × (list_all is_ascii_d
 time-number x y p q = time-order x y p.0 q.0 ∙ sym (same_length x y p.1 q.1 (p.0 ∙ sym q.0))
 
 -- ---- rank
-
-no-stamp : (v : SemanticVersion) → v.identifiers ≡ [] → stamp_of v ≡ None
-unfolding stamp_of
-no-stamp v e = rw e refl
 
 ranked : (xs ys : List (List ℕ)) (s t : Option (List ℕ)) (r : Ordering) → IsDigits s → IsDigits t → (xs ≡ [] → s ≡ None) → (ys ≡ [] → t ≡ None)
     → ordering_then (nat_cmp (rank_from xs s) (rank_from ys t)) (ordering_then (time_cmp (option_map time_of_stamp s) (option_map time_of_stamp t)) r)

@@ -1,4 +1,4 @@
-// Which versions a path may have.
+//! Which versions a path may have. (Go Modules Reference, "Major version suffixes".)
 
 ghost use Rattle.std.specs.Prelude.{◌≡◌};
 ghost use Rattle.modpath.specs.Path.{suffix_of};
@@ -7,13 +7,15 @@ ghost use Rattle.modver.specs.Fits as fit;
 use crate::version::Version;
 use modpath::{ModulePath, Suffix, suffix};
 
-/// Whether a path may have a version.
+/// Whether a module path may have a version. It takes no memory. (Go Modules Reference, "Major
+/// version suffixes" and "+incompatible versions".)
 pub fn fits(path: &ModulePath, version: &Version) -> bool
     ensures { result ≡ fit.fits (suffix_of path.now) version.now }
 {
     fits_suffix(suffix(path), version)
 }
 
+// A pre-release of v0.0.0, as which the old pseudo-versions of paths with `.v1` are written.
 fn is_zero_pre_release(version: &Version) -> bool
     ensures { result ≡ fit.is_zero_pre_release version.now }
 {

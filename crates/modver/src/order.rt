@@ -1,4 +1,4 @@
-// The orders of versions.
+//! The orders of versions.
 
 ghost use Rattle.std.specs.Prelude.{◌≡◌};
 ghost use Rattle.modver.specs.Precedence.{precedence};
@@ -9,7 +9,8 @@ use crate::time::TimeText;
 use crate::version::{Class, Version};
 use std::cmp::Ordering;
 
-/// The order of precedence.
+/// The order of precedence, in which the mark does not count. It takes no memory. (SemVer 2.0.0,
+/// section 11.)
 pub fn compare(left: &Version, right: &Version) -> Ordering
     ensures { result ≡ precedence left.now right.now }
 {
@@ -37,7 +38,9 @@ fn compare_times(left: Option<TimeText>, right: Option<TimeText>) -> Ordering
     }
 }
 
-/// The order of rank, by which the latest version is chosen.
+/// The order of rank, by which the latest version is chosen: releases above pre-releases above
+/// pseudo-versions; among pseudo-versions by stamp, else by precedence. It takes no memory. (Go
+/// Modules Reference, "GOPROXY protocol", `@latest`.)
 pub fn rank_compare(left: &Version, right: &Version) -> Ordering
     ensures { result ≡ rank_cmp left.now right.now }
 {

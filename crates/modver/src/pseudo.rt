@@ -1,4 +1,4 @@
-// Pseudo-versions, and the class of a version.
+//! Pseudo-versions, and the class of a version. (Go Modules Reference, "Pseudo-versions".)
 
 ghost use Rattle.std.specs.Prelude.{◌≡◌, ◌∷◌, [], ◌++◌, MatchOption, option_map, reverse};
 ghost use Rattle.modver.specs.Class.{class_of, may_precede, stamp_of, stamp_of_identifier};
@@ -65,7 +65,8 @@ pub(crate) fn pseudo_time(version: &Version) -> Option<TimeText>
     }
 }
 
-/// The class of a version.
+/// The class of a version, with the time of a pseudo-version's stamp. It takes no memory. (Go Modules
+/// Reference, "Pseudo-versions".)
 pub fn class(version: &Version) -> Class
     ensures { result ≡ class_of version.now }
 {

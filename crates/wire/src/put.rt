@@ -24,12 +24,20 @@ pub fn reply_head(alloc: Global, status: Status, kind: Kind, len: usize) -> Resu
 
 /// The body that tells a version and its time, where it has one, as `{"Version":"v1.0.0"}`. `Memory` where there is no
 /// room for it.
-pub fn info_body(alloc: Global, version: &Version, time: Option<TimeText>) -> Result<Vec<u8>, Memory>
+pub fn info_body(
+    alloc: Global,
+    version: &Version,
+    time: Option<TimeText>,
+) -> Result<Vec<u8>, Memory>
     ensures { IfOk result (λ body. body.items ≡ info_bytes version.now time) }
 {
     let text = match time {
         Some(time) => {
-            format!(in alloc; "{{\"Time\":\"{}\",\"Version\":\"{}\"}}", time.as_str(), version.as_str())?
+            format!(in alloc;
+                "{{\"Time\":\"{}\",\"Version\":\"{}\"}}",
+                time.as_str(),
+                version.as_str()
+            )?
         }
         None => format!(in alloc; "{{\"Version\":\"{}\"}}", version.as_str())?,
     };

@@ -16,7 +16,10 @@ fn a_message_is_handed_out_with_its_last_byte(rt: HostRuntime) {
             Ok(Next::Message(message)) => {
                 messages = messages.saturating_add(1);
                 assert!(rt; message.method.as_slice() == b"PUT".as_slice());
-                assert!(rt; message.target.as_slice() == b"/k/alphakey00000001/example.com/lib/@v/v1.0.0".as_slice());
+                assert!(rt;
+                    message.target.as_slice()
+                        == b"/k/alphakey00000001/example.com/lib/@v/v1.0.0".as_slice()
+                );
                 assert!(rt; message.body.as_slice() == b"module example.com/lib\n".as_slice());
                 assert!(rt; message.mod_lengths.len() == 1 && message.version_times.is_empty());
                 assert!(rt; framer.is_empty());
@@ -44,27 +47,69 @@ fn fronts_are_what_they_are(rt: HostRuntime) {
     let rows = [
         (b"GET / HTTP/1.0\n\n".as_slice(), "message"),
         (b"\r\n\r\nGET / HTTP/1.1\r\n\r\n".as_slice(), "message"),
-        (b"GET / HTTP/1.1\r\ncontent-length: 0\r\n\r\n".as_slice(), "message"),
+        (
+            b"GET / HTTP/1.1\r\ncontent-length: 0\r\n\r\n".as_slice(),
+            "message",
+        ),
         (b"GET /\xc3\xbc HTTP/1.1\r\n\r\n".as_slice(), "message"),
-        (b"GET / HTTP/1.1\r\nContent-Length: 1\r\n\r\nab".as_slice(), "message"),
-        (b"GET / HTTP/1.1\r\nContent-Length: \t1 \r\n\r\na".as_slice(), "message"),
+        (
+            b"GET / HTTP/1.1\r\nContent-Length: 1\r\n\r\nab".as_slice(),
+            "message",
+        ),
+        (
+            b"GET / HTTP/1.1\r\nContent-Length: \t1 \r\n\r\na".as_slice(),
+            "message",
+        ),
         (b"".as_slice(), "more"),
         (b"\r\n\r\n".as_slice(), "more"),
-        (b"GET / HTTP/1.1\r\nContent-Length: 17825792\r\n\r\n".as_slice(), "more"),
-        (b"GET / HTTP/1.1\r\nContent-Length: 17825793\r\n\r\n".as_slice(), "413"),
-        (b"GET / HTTP/1.1\r\nContent-Length: 9999999999\r\n\r\n".as_slice(), "413"),
-        (b"GET / HTTP/1.1\r\nContent-Length: 10000000000\r\n\r\n".as_slice(), "400"),
-        (b"GET / HTTP/1.1\r\nContent-Length: \r\n\r\n".as_slice(), "400"),
-        (b"GET / HTTP/1.1\r\nContent-Length: 00\r\n\r\n".as_slice(), "400"),
-        (b"GET / HTTP/1.1\r\nContent-Length: +1\r\n\r\na".as_slice(), "400"),
-        (b"GET / HTTP/1.1\r\nContent-Length: 1\r\nContent-Length: 1\r\n\r\na".as_slice(), "400"),
-        (b"GET / HTTP/1.1\r\nTransfer-Encoding: chunked\r\n\r\n".as_slice(), "400"),
-        (b"GET / HTTP/1.1\r\nContent-Length: 9999999999\r\ntransfer-encoding: x\r\n\r\n".as_slice(), "400"),
+        (
+            b"GET / HTTP/1.1\r\nContent-Length: 17825792\r\n\r\n".as_slice(),
+            "more",
+        ),
+        (
+            b"GET / HTTP/1.1\r\nContent-Length: 17825793\r\n\r\n".as_slice(),
+            "413",
+        ),
+        (
+            b"GET / HTTP/1.1\r\nContent-Length: 9999999999\r\n\r\n".as_slice(),
+            "413",
+        ),
+        (
+            b"GET / HTTP/1.1\r\nContent-Length: 10000000000\r\n\r\n".as_slice(),
+            "400",
+        ),
+        (
+            b"GET / HTTP/1.1\r\nContent-Length: \r\n\r\n".as_slice(),
+            "400",
+        ),
+        (
+            b"GET / HTTP/1.1\r\nContent-Length: 00\r\n\r\n".as_slice(),
+            "400",
+        ),
+        (
+            b"GET / HTTP/1.1\r\nContent-Length: +1\r\n\r\na".as_slice(),
+            "400",
+        ),
+        (
+            b"GET / HTTP/1.1\r\nContent-Length: 1\r\nContent-Length: 1\r\n\r\na".as_slice(),
+            "400",
+        ),
+        (
+            b"GET / HTTP/1.1\r\nTransfer-Encoding: chunked\r\n\r\n".as_slice(),
+            "400",
+        ),
+        (
+            b"GET / HTTP/1.1\r\nContent-Length: 9999999999\r\ntransfer-encoding: x\r\n\r\n".as_slice(),
+            "400",
+        ),
         (b"GET /\xff HTTP/1.1\r\n\r\n".as_slice(), "400"),
         (b"GET / HTTP/2.0\r\n\r\n".as_slice(), "400"),
     ];
     for (bytes, wanted) in rows {
-        assert!(rt; answer(rt.alloc(), bytes).is_ok_and(|word| word == wanted), "at {bytes:?}");
+        assert!(rt;
+            answer(rt.alloc(), bytes).is_ok_and(|word| word == wanted),
+            "at {bytes:?}"
+        );
     }
 }
 
@@ -94,7 +139,10 @@ fn heads_have_limits(rt: HostRuntime) {
     for (headers, last, length, wanted) in rows {
         match head_of(rt.alloc(), headers, last, length) {
             Ok(head) => {
-                assert!(rt; answer(rt.alloc(), &head).is_ok_and(|word| word == wanted), "{headers} headers, {length} bytes");
+                assert!(rt;
+                    answer(rt.alloc(), &head).is_ok_and(|word| word == wanted),
+                    "{headers} headers, {length} bytes"
+                );
                 assert!(rt; length == 0 || head.len() == length);
             }
             Err(_) => assert!(rt; false),
@@ -102,12 +150,17 @@ fn heads_have_limits(rt: HostRuntime) {
     }
     // 16,383 bytes of a head that is not whole, and one more.
     match head_of(rt.alloc(), 1, b"A: ", 20_000) {
-        Ok(head) if head.len() == 20_000 => {
-            assert!(rt; answer(rt.alloc(), &head[..16_383]).is_ok_and(|word| word == "more"));
-            assert!(rt; answer(rt.alloc(), &head[..16_384]).is_ok_and(|word| word == "400"));
+        Ok(head) => {
+            assert!(rt; answer(rt.alloc(), first(&head, 16_383)).is_ok_and(|word| word == "more"));
+            assert!(rt; answer(rt.alloc(), first(&head, 16_384)).is_ok_and(|word| word == "400"));
         }
-        _ => assert!(rt; false),
+        Err(_) => assert!(rt; false),
     }
+}
+
+/// The first so many bytes.
+fn first(bytes: &[u8], count: usize) -> &[u8] {
+    &bytes[..count.min(bytes.len())]
 }
 
 #[test]

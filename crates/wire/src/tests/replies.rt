@@ -35,7 +35,8 @@ fn fixed_replies_have_their_texts(rt: HostRuntime) {
     let mut buf = [0; 160];
     let len = fixed(Fixed::NotFound, &mut buf);
     assert!(rt;
-        &buf[..len] == b"HTTP/1.1 404 Not Found\r\nContent-Type: text/plain; charset=utf-8\r\nContent-Length: 10\r\nConnection: close\r\n\r\nnot found\n".as_slice()
+        &buf[..len]
+            == b"HTTP/1.1 404 Not Found\r\nContent-Type: text/plain; charset=utf-8\r\nContent-Length: 10\r\nConnection: close\r\n\r\nnot found\n".as_slice()
     );
     let mut line = [0; 40];
     let len = fixed_line(Fixed::BadGoMod(4), &mut line);
@@ -47,7 +48,8 @@ fn fixed_replies_have_their_texts(rt: HostRuntime) {
 /// The head of a zip of no bytes, which has 88 bytes, into memory and onto the stack.
 #[test]
 fn heads_have_their_texts(rt: HostRuntime) {
-    let wanted = b"HTTP/1.1 200 OK\r\nContent-Type: application/zip\r\nContent-Length: 0\r\nConnection: close\r\n\r\n";
+    let wanted =
+        b"HTTP/1.1 200 OK\r\nContent-Type: application/zip\r\nContent-Length: 0\r\nConnection: close\r\n\r\n";
     assert!(rt; wanted.len() == 88);
     let mut buf = [0; 160];
     let len = put_head(Kind::Zip, 0, &mut buf);

@@ -10,3 +10,4 @@ pub mod VersionLemmas
 pub mod PlainBytes
 pub mod TargetLemmas
 pub mod TargetReadings
+pub mod TextTargets

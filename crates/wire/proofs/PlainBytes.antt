@@ -105,7 +105,7 @@ escaped-no_at (b ∷ rest) h =
       | inr lower ↦ let other : (b == 64) ≡ false = grind (arith, nat_tests, both.0) in rw (lower, other) ih
     ]
 
-escaped-ascii : (text : List ℕ) → list_all is_plain_byte text ≡ true → IsAscii (escaped text)
+pub escaped-ascii : (text : List ℕ) → list_all is_plain_byte text ≡ true → IsAscii (escaped text)
 escaped-ascii [] h = IsAscii-nil
 escaped-ascii (b ∷ rest) h =
     let both = and_parts (is_plain_byte b) (list_all is_plain_byte rest) h in

@@ -1,5 +1,5 @@
 -- What a request asks for, computed, is what it asks for.
-use Rattle.std.proofs.Common.{◌≡◌, ℕ, List, [], ◌++◌, length, drop, codes, Option, Some, None, Ok, Err, true, get_or, is_ok, if◌then◌else◌, refl, sym, ap, ◌∙◌, subst, inl, inr, arith, append_assoc, length-append, nat_eq}
+use Rattle.std.proofs.Common.{◌≡◌, ℕ, List, [], ◌++◌, length, drop, codes, Option, Some, None, Ok, Err, true, get_or, is_ok, IfOk, Result, if◌then◌else◌, refl, sym, ap, ◌∙◌, subst, inl, inr, arith, append_assoc, length-append, nat_eq}
 use Rattle.std.proofs.lemmas.Bool.{cases_Bool}
 use Rattle.std.proofs.lemmas.Bool.Decides.{Decides-eqb}
 use Rattle.std.proofs.lemmas.List.{drop_at}
@@ -12,6 +12,7 @@ use Rattle.modver.proofs.Readings.{version-of}
 use Rattle.modver.specs.Reading.{IsCanonical, version_of}
 use Rattle.modver.specs.SemanticVersion.{SemanticVersion, version_text}
 use Rattle.wire.specs.Target.{Asks, IsKeyed, IsPlace, IsQuery, ReadsTarget, asked_or, cut_of, first_some, get_of, pair, path_of, place_of, plain_of, put_of, query_of, split_of, target_of, version_from, without_end}
+use Rattle.wire.specs.declared.message.Memory.{Memory}
 use Rattle.wire.specs.declared.request.Query.{Query}
 use Rattle.wire.specs.declared.request.Query.TheVariants as query
 use Rattle.wire.specs.declared.request.Target.{Target}
@@ -205,3 +206,9 @@ target-only method text target.Unreadable r = only-unreadable (target_of method 
 
 pub one-reading : (method text : List ℕ) (a b : Target) → ReadsTarget method text a → ReadsTarget method text b → a ≡ b
 one-reading method text a b r s = sym (target-only method text a r) ∙ target-only method text b s
+
+-- what equals the computed target
+pub reads-if_ok : (method text : List ℕ) (found : Result Target Memory) → IfOk found (λ asked. asked ≡ target_of method text)
+    → IfOk found (ReadsTarget method text)
+reads-if_ok method text (Ok asked) e = subst (ReadsTarget method text) (sym e) (target-reads method text)
+reads-if_ok method text (Err memory) e = tt

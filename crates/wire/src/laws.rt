@@ -2,7 +2,7 @@
 ghost use Rattle.std.specs.Prelude.{◌≡◌, ℕ, List, [], ◌++◌};
 ghost use Rattle.wire.specs.Message.{Request, ReadsMessage, End, IsStream};
 ghost use Rattle.wire.specs.Reply.{IsNumbered};
-ghost use Rattle.wire.specs.Target.{ReadsTarget, target_of};
+ghost use Rattle.wire.specs.Target.{Asks, IsTextThroughout, ReadsTarget, target_of};
 ghost use Rattle.wire.specs.declared.reply.Status.{Status};
 ghost use Rattle.wire.specs.declared.request.Target.{Target};
 
@@ -29,4 +29,9 @@ pub fn a_target_is_read_as_it_is()
 /// A request asks for one thing.
 pub fn a_target_has_one_reading()
     ensures { (method text : List ℕ) (a b : Target) → ReadsTarget method text a → ReadsTarget method text b → a ≡ b }
+{}
+
+/// A target that can be read is text, and decodes to text: all others are unreadable.
+pub fn a_readable_target_is_text()
+    ensures { (method text : List ℕ) (asked : Target) → Asks method text asked → IsTextThroughout text }
 {}

@@ -3,6 +3,9 @@ ghost use Rattle.std.specs.Prelude.{◌≡◌, option_copied, unwrap_or, Some, t
 ghost use Rattle.shelf.specs.Machine as spec;
 ghost use Rattle.shelf.specs.declared.reply.Decision.TheVariants.{Published};
 
+#[cfg(test)]
+mod tests;
+
 use crate::ask::Publish;
 use crate::entry::{Entry, EntryRef, Right};
 use crate::reply::Decision;
@@ -48,6 +51,7 @@ pub fn refusal(publish: &Publish, right: Option<Right>) -> Option<Decision>
 }
 
 /// The types of the path and of the version hold only well formed ones.
+#[tactic(auto, unfolding(modver::specs::SemanticVersion::is_version))]
 fn well_formed(publish: &Publish)
     ensures { spec.is_readable publish.now ≡ true }
 {

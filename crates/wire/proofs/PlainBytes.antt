@@ -10,10 +10,10 @@ use Rattle.std.proofs.lemmas.Str.Ascii.{IsAscii-nil, IsAscii-cons}
 use Rattle.std.specs.Char.{is_ascii_uppercase}
 use Rattle.std.specs.List.{join_with_byte, list_all, list_any}
 use Rattle.std.specs.Str.{IsAscii, IsUtf8}
-use Rattle.modpath.proofs.PathLaw.{check_is_exact}
+use Rattle.modpath.proofs.BytesLaw.{all_path_bytes, is_path_byte}
+use Rattle.modpath.proofs.PathLaw.{paths_are_loose}
 use Rattle.modpath.specs.Escape.{escaped, has_bang}
-use Rattle.modpath.specs.Path.{IsPath, elements, is_element_byte}
-use Rattle.modpath.specs.PathLaws.{AreElements}
+use Rattle.modpath.specs.Path.{IsPath}
 use Rattle.modver.specs.SemanticVersion.{IsVersion, SemanticVersion, build_text, is_identifier, is_identifier_byte, mark_of, pre_release_text, version_text}
 
 -- ASCII, and neither a `!` nor an `@`
@@ -38,18 +38,11 @@ all-joined sep (x ∷ y ∷ rest) h s =
 
 -- ---- paths
 
-element-plain : (b : ℕ) → is_element_byte b ≡ true → is_plain_byte b ≡ true
-element-plain b h = grind (arith, nat_tests)
-
-elements-plain : (es : List (List ℕ)) → AreElements es → list_all (list_all is_plain_byte) es ≡ true
-elements-plain [] h = refl
-elements-plain (e ∷ rest) h =
-    and_from _ _ (all-weaker is_element_byte is_plain_byte element-plain e (and_parts _ _ h.0.text).1) (elements-plain rest h.1)
+path_byte-plain : (b : ℕ) → is_path_byte b ≡ true → is_plain_byte b ≡ true
+path_byte-plain b h = grind (arith, nat_tests)
 
 pub path-plain : (path : List ℕ) → IsPath path → list_all is_plain_byte path ≡ true
-path-plain path is =
-    let each = elements-plain (elements path) ((check_is_exact path).0 is).each in
-    subst (λ (t : List ℕ). list_all is_plain_byte t ≡ true) (join_with_byte-slice_split 47 path) (all-joined 47 (elements path) each refl)
+path-plain path is = all-weaker is_path_byte is_plain_byte path_byte-plain path (all_path_bytes path (paths_are_loose path is))
 
 -- ---- versions
 

@@ -1,6 +1,6 @@
 -- Versions in their escaped form.
 use Rattle.std.proofs.Common.{◌≡◌, ◌⊎◌, inl, inr, ℕ, List, Option, Some, None, refl}
-use Rattle.modver.proofs.Readings.{not-both, version-of}
+use Rattle.modver.proofs.Readings.{not-faulty, version-of}
 use Rattle.modver.specs.Reading.{IsCanonical, IsFault, IsHeld, version_of}
 use Rattle.modver.specs.SemanticVersion.{SemanticVersion}
 use Rattle.modver.specs.declared.version.VersionFault.{VersionFault}
@@ -12,7 +12,7 @@ version-some text plain v is canonical = rw is ((version-of plain v).1 canonical
 
 no-version : (plain : List ℕ) (fault : VersionFault) → IsFault plain fault → (found : Option SemanticVersion) → version_of plain ≡ found → found ≡ None
 no-version plain fault faulty None is = refl
-no-version plain fault faulty (Some v) is = absurd (not-both plain v fault ((version-of plain v).0 is) faulty)
+no-version plain fault faulty (Some v) is = absurd (not-faulty plain v fault ((version-of plain v).0 is) faulty)
 
 version-none : (text plain : List ℕ) (fault : VersionFault) → plain_of text ≡ Some plain → IsFault plain fault → version_from text ≡ None
 version-none text plain fault is faulty = rw is (no-version plain fault faulty (version_of plain) refl)

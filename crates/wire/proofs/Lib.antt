@@ -7,3 +7,7 @@ pub mod StatusLemmas
 pub mod CutLemmas
 pub mod PlainLemmas
 pub mod VersionLemmas
+pub mod PlainBytes
+pub mod TargetLemmas
+pub mod TargetReadings
+pub mod TextTargets

@@ -1,6 +1,7 @@
 -- The bytes of replies. (RFC 9112, sections 4 and 5, in this server's own profile.)
-use Rattle.std.specs.Prelude.{◌≡◌, ℕ, List, ◌++◌, length, codes, decimal, nat_eq, true}
+use Rattle.std.specs.Prelude.{◌≡◌, ℕ, List, ◌++◌, length, codes, decimal, nat_eq, true, Option, Some, None}
 use Rattle.std.specs.List.{starts_with}
+use Rattle.modver.specs.SemanticVersion.{SemanticVersion, version_text}
 use Rattle.wire.specs.declared.reply.Status.{Status}
 use Rattle.wire.specs.declared.reply.Status.TheVariants as status
 use Rattle.wire.specs.declared.reply.Kind.{Kind}
@@ -105,3 +106,8 @@ fixed_bytes answer = reply_bytes (fixed_status answer) kind.TextPlain (fixed_tex
 -- its line in a list of outcomes: the number of its status, a space and its body without the newline
 abbrev pub line_bytes : Fixed → List ℕ
 line_bytes answer = decimal (status_number (fixed_status answer)) ++ codes " " ++ fixed_text answer
+
+-- the body that tells a version and its time, where it has one (Go Modules Reference, "GOPROXY protocol", `.info`)
+abbrev pub info_bytes : SemanticVersion → Option (List ℕ) → List ℕ
+info_bytes version (Some time) = codes "{\"Time\":\"" ++ time ++ codes "\",\"Version\":\"" ++ version_text version ++ codes "\"}"
+info_bytes version None = codes "{\"Version\":\"" ++ version_text version ++ codes "\"}"

@@ -48,6 +48,10 @@ ReadsTarget method text target.Unreadable = (asked : Target) → ¬ (Asks method
 ReadsTarget method text (target.Get key asked) = Asks method text (target.Get key asked)
 ReadsTarget method text (target.Put key path version) = Asks method text (target.Put key path version)
 
+-- a target and what it decodes to behind its key are text
+abbrev pub IsTextThroughout : List ℕ → Type 0
+IsTextThroughout text = IsUtf8 text × ((key rest : List ℕ) → IsKeyed text key rest → IsUtf8 (percent_decode rest))
+
 -- ---- the same, computed
 
 -- a text without its first or its last part

@@ -9,22 +9,28 @@ use httparse::spans::EMPTY_HEADER_SPAN;
 use std::alloc::Global;
 use std::marker::Model;
 
-/// Why a stream can't go on.
+/// Why a stream can't go on: the reply that ends it.
 #[derive(Clone, Copy, Debug, Drop, PartialEq, Eq)]
 pub enum Bad {
+    /// 400: however the bytes go on, no message and no good head of too large a body begins them.
     BadRequest,
+    /// 413: they begin with a good head whose body is too large.
     TooLarge,
 }
 
 /// What the bytes held give.
 #[derive(Debug, Drop)]
 pub enum Next {
+    /// The message at their front, which is taken off.
     Message(Message),
+    /// They begin with no whole message, and may begin one.
     NeedMore,
+    /// The stream can't go on, now or later.
     Bad(Bad),
 }
 
-/// Takes the bytes of a stream in any pieces, and hands out its messages.
+/// Takes the bytes of a stream in any pieces, and hands out its messages. How the bytes are cut does not matter, and the
+/// work is linear in them: each byte of a body is moved at most twice, and a head is read again only until it is whole.
 #[derive(Drop)]
 pub struct Framer {
     /// What was fed, but for a front that was dropped.
@@ -59,6 +65,7 @@ fn remove_front(bytes: &mut Vec<u8>, n: usize)
 }
 
 impl Framer {
+    /// A framer that holds nothing. It takes no memory yet.
     pub fn new(alloc: Global) -> Framer
         ensures { result ≡ record { held = []; failure = None } }
     {
@@ -70,7 +77,7 @@ impl Framer {
         }
     }
 
-    /// Takes the next bytes of the stream. An `Err` changes nothing.
+    /// Takes the next bytes of the stream. `Memory` where there is no room for them; an `Err` changes nothing.
     pub fn feed(&mut self, bytes: &[u8]) -> Result<(), Memory>
         ensures ok { OnOk result (self.new ≡ record self.old { held = self.old.held ++ bytes.now }) }
         ensures err { OnErr result (self.new ≡ self.old) }
@@ -90,13 +97,12 @@ impl Framer {
         }
     }
 
-    /// The next message of the stream. An `Err` changes nothing.
+    /// The next message of the stream. `Memory` where there is no room to hand out a whole message; an `Err` changes
+    /// nothing. A stream that has failed fails the same way from then on.
     pub fn next(&mut self) -> Result<Next, Memory>
         ensures answer { IfOk result (λ next. Answers self.old next self.new) }
-        // A stream that has failed fails the same way from then on.
         ensures again { IfSome self.old.failure (λ bad. result ≡ Ok (Next.Bad bad)) }
         ensures err { OnErr result (self.new ≡ self.old) }
-        // Memory is wanted only to hand out a message that is whole.
         ensures whole { OnErr result (HasMessage self.old.held) }
     {
         if let Some(bad) = self.failure {

@@ -17,12 +17,12 @@ pub enum Query {
 pub enum Target {
     /// Anything but a GET or a PUT that the server knows.
     Unreadable,
-    /// What stands behind a key.
+    /// A GET with a key, which is text without a slash, and what it asks for.
     Get {
         key: Text,
         query: Query,
     },
-    /// The publish of a version.
+    /// A PUT with a key: the publish of a version.
     Put {
         key: Text,
         path: ModulePath,

@@ -1,6 +1,6 @@
 //! Reading targets.
 ghost use Rattle.std.specs.Prelude.{◌≡◌, [], None, Some, IfOk, MatchOption, option_map, string_bytes};
-ghost use Rattle.wire.specs.Target.{around, cut_of, split_of, plain_of, path_of, version_from, place_of, query_of, get_of, put_of, target_of};
+ghost use Rattle.wire.specs.Target.{around, cut_of, split_of, plain_of, path_of, version_from, place_of, query_of, get_of, put_of, target_of, ReadsTarget};
 
 use crate::message::Memory;
 use crate::request::{Query, Target};
@@ -17,9 +17,19 @@ pub(crate) struct Place {
     pub(crate) version: Version,
 }
 
-/// What a request with this method and this target asks for.
-#[tactic(auto, unfolding(crate::specs::Target::target_of))]
+/// What a request with this method and this target asks for; both are compared as they stand. The target need not be
+/// UTF-8: one that is not, or decodes to bytes that are not, is unreadable. `Memory` where there is no room for the parts
+/// of a target, and then nothing is said of it.
 pub fn target(alloc: Global, method: &[u8], target: &[u8]) -> Result<Target, Memory>
+    ensures value { IfOk result (λ asked. asked ≡ target_of method.now target.now) }
+    ensures reads { IfOk result (ReadsTarget method.now target.now) }
+{
+    read_target(alloc, method, target)
+}
+
+/// The same, as it is computed.
+#[tactic(auto, unfolding(crate::specs::Target::target_of))]
+fn read_target(alloc: Global, method: &[u8], target: &[u8]) -> Result<Target, Memory>
     ensures { IfOk result (λ asked. asked ≡ target_of method.now target.now) }
 {
     let Some((key, rest)) = split_key(target) else {

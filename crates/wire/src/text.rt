@@ -18,18 +18,21 @@ impl Model for Text {
 }
 
 impl Text {
+    /// The text that a string holds.
     pub fn new(text: String) -> Text
         ensures { result ≡ string_bytes text }
     {
         Text { text }
     }
 
+    /// The text, borrowed.
     pub fn as_str(&self) -> &str
         ensures { result.now ≡ self.now }
     {
         self.text.as_str()
     }
 
+    /// The string, without a copy.
     pub fn into_string(self) -> String
         ensures { string_bytes result ≡ self }
     {

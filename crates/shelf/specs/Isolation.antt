@@ -97,6 +97,13 @@ abbrev pub AllReplied : List Answer → Type 0
 AllReplied [] = Unit {0}
 AllReplied (a ∷ answers) = IsReplied a × AllReplied answers
 
+-- The purged list is the same whether the faults are taken out before or after, where no kept event met one.
+abbrev pub PurgeIsTheSame : Type 0
+PurgeIsTheSame =
+    (old new : World) (s : List ℕ) (events : List Event) (answers : List Answer) → IsWorld old → Run old events answers new
+    → KeptAnswered old (chain new s) events answers
+    → purge old (chain new s) events ≡ purge old (chain new s) (answered events answers)
+
 -- A run over a list and a run over the purged list answer the kept events alike, where none of these met a
 -- fault. Faults of the other events do not matter.
 abbrev pub PurgedRunsAgree : Type 0

@@ -32,20 +32,21 @@ module _
     (u₂ : Option (List ℕ)) (next : Framing) where
   -- the next read closes the stream
   pub closes_reading : (closing : Option Fixed) → ReadsOn framing next u₁ u₂ (Ok (turn.Close closing)) → TakesFirst u₀ u₂ (Closes closing)
-  closes_reading closing (bytes, consumes, (all, told, closes), some) = record {
+  closes_reading closing (bytes, consumes, few, (all, told, closes), some) = record {
     input = framing.held ++ all;
     told = Tells_after u₀ u₁ framing.held all consumed told;
     stands = closes;
     early = framing.held;
     last = bytes;
     consumed = Consumes-trans u₀ u₁ u₂ framing.held bytes consumed consumes;
+    few = few;
     unfinished = waits;
   }
 
   module _ (reads : ReadsOn framing next u₁ u₂ (Ok turn.Go)) where
     pub held_now : Consumes u₀ u₂ next.held
     held_now =
-        subst (λ (f : Framing). Consumes u₀ u₂ f.held) (sym reads.2) (Consumes-trans u₀ u₁ u₂ framing.held reads.0 consumed reads.1)
+        subst (λ (f : Framing). Consumes u₀ u₂ f.held) (sym reads.3) (Consumes-trans u₀ u₁ u₂ framing.held reads.0 consumed reads.1)
 
     takes : (first : First) → IsFirst first (next.held ++ left_of u₂) → TakesFirst u₀ u₂ first
     takes first stands = record {
@@ -55,6 +56,7 @@ module _
       early = framing.held;
       last = reads.0;
       consumed = Consumes-trans u₀ u₁ u₂ framing.held reads.0 consumed reads.1;
+      few = reads.2;
       unfinished = waits;
     }
 

@@ -22,8 +22,13 @@ pub some_came : (held bytes more : List ℕ) (n : ℕ) → 0 < n → n ≤ lengt
 some_came held bytes more n some within e =
     absurd (omega (arith, ap length e, length-append held (take n bytes ++ more), length-append (take n bytes) more, length-take-le n bytes within))
 
+-- those that came are some
 pub are_some : (bytes : List ℕ) (n : ℕ) → 0 < n → n ≤ length bytes → take n bytes ≢ []
 are_some bytes n some within e = absurd (omega (arith, ap length e, length-take-le n bytes within))
+
+-- they are no more than the buffer holds
+pub are_few : (bytes : List ℕ) (n : ℕ) → n ≤ length bytes → length bytes ≤ 4096 → length (take n bytes) ≤ 4096
+are_few bytes n within room = omega (arith, length-take-le n bytes within)
 
 -- bytes that begin with a message are some
 pub message_some : (bytes : List ℕ) → HasMessage bytes → (more : List ℕ) → bytes ++ more ≢ []

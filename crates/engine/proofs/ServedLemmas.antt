@@ -94,7 +94,7 @@ module _
   pub closed_reading : (u₃ w₂ : Option (List ℕ)) (closing : Option Fixed) (result : Result (Unit {0}) Io)
       → ReadsOn framing next u₁ u₂ (Ok (turn.Close closing)) → Delivers w₁ w₂ (closing_bytes closing) result
       → Serves old mid before between u₀ u₃ w₀ w₂ result
-  closed_reading u₃ w₂ closing result (bytes, consumes, (all, told, closes), some) delivers =
+  closed_reading u₃ w₂ closing result (bytes, consumes, few, (all, told, closes), some) delivers =
       served old mid before between u₀ u₃ w₀ w₁ w₂ (far.got ++ all) (framing.held ++ all) closing result
       (answered_before old mid before between w₀ w₁ far.got framing.held all far.answered)
       (Tells_after u₀ u₁ far.got all far.consumed told) closes delivers
@@ -103,7 +103,7 @@ module _
     -- what was answered before, with the bytes that were read
     with_bytes : Answered old mid before between w₀ w₁ (far.got ++ reads.0) next.held
     with_bytes =
-        subst (λ (f : Framing). Answered old mid before between w₀ w₁ (far.got ++ reads.0) f.held) (sym reads.2)
+        subst (λ (f : Framing). Answered old mid before between w₀ w₁ (far.got ++ reads.0) f.held) (sym reads.3)
         (answered_before old mid before between w₀ w₁ far.got framing.held reads.0 far.answered)
 
     read_so_far : Consumes u₀ u₂ (far.got ++ reads.0)

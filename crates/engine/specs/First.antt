@@ -1,5 +1,5 @@
 -- What is written for the first message of a stream.
-use Rattle.std.specs.Prelude.{◌≡◌, ℕ, ◌⊎◌, List, [], ◌∷◌, ◌++◌, Option, Some, None, Result, Ok, Err}
+use Rattle.std.specs.Prelude.{◌≡◌, ℕ, ◌≤◌, ◌⊎◌, List, [], ◌∷◌, ◌++◌, length, Option, Some, None, Result, Ok, Err}
 use Rattle.std.specs.Io.KnownBytes.{Consumes, Appends, Keeps}
 use Rattle.wire.specs.Message.{ReadsMessage}
 use Rattle.wire.specs.Framing.{IsUnfinished}
@@ -37,8 +37,8 @@ abbrev pub first_exchanges : First → List Exchange
 first_exchanges (Answers x) = x ∷ []
 first_exchanges (Closes closing) = []
 
--- It stands first in what the reader tells, and no more was read than was needed: before the last read there was
--- no whole message, and the stream could go on.
+-- It stands first in what the reader tells, and no more was read than was needed: before the last read, of at most 4,096 bytes,
+-- there was no whole message, and the stream could go on.
 pub record TakesFirst (unread unread_new : Option (List ℕ)) (first : First) : Type 0 where
   pub input : List ℕ
   pub told : Tells unread input
@@ -46,6 +46,7 @@ pub record TakesFirst (unread unread_new : Option (List ℕ)) (first : First) : 
   pub early : List ℕ
   pub last : List ℕ
   pub consumed : Consumes unread unread_new (early ++ last)
+  pub few : length last ≤ 4096
   pub unfinished : IsUnfinished early
 
 -- The first message was answered as the machine answers it, or the stream closed without one: the number tells which status was

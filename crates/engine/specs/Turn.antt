@@ -1,5 +1,5 @@
 -- What one turn of reading or answering does.
-use Rattle.std.specs.Prelude.{◌≡◌, ◌≢◌, ℕ, ◌⊎◌, List, [], ◌∷◌, ◌++◌, Option, Some, None, map, Result, Ok, Err, MatchResult}
+use Rattle.std.specs.Prelude.{◌≡◌, ◌≢◌, ℕ, ◌≤◌, ◌⊎◌, List, [], ◌∷◌, ◌++◌, Option, Some, None, length, map, Result, Ok, Err, MatchResult}
 use Rattle.std.specs.Io.KnownBytes.{Consumes, Appends, Keeps}
 use Rattle.wire.specs.Message.{ReadsMessage, ReadsMessages}
 use Rattle.wire.specs.Framing.{Framing, IsUnfinished, HasMessage, view}
@@ -28,9 +28,9 @@ Takes old (taken.Close closing) new =
 -- what a read gave the framer, or why it closes the stream; memory is wanted only for bytes that came
 abbrev pub ReadsOn : Framing → Framing → Option (List ℕ) → Option (List ℕ) → Result Turn Io → Type 0
 ReadsOn old new unread unread_new (Ok turn.Go) =
-    (bytes : List ℕ) × Consumes unread unread_new bytes × (new ≡ record old { held = old.held ++ bytes })
+    (bytes : List ℕ) × Consumes unread unread_new bytes × (length bytes ≤ 4096) × (new ≡ record old { held = old.held ++ bytes })
 ReadsOn old new unread unread_new (Ok (turn.Close closing)) =
-    (bytes : List ℕ) × Consumes unread unread_new bytes
+    (bytes : List ℕ) × Consumes unread unread_new bytes × (length bytes ≤ 4096)
     × ((all : List ℕ) × Tells unread all × IsClosing (old.held ++ all) closing)
     × (closing ≡ Some fixed.Unavailable → bytes ≢ [])
 ReadsOn old new unread unread_new (Err e) = (e ≡ io.Read) × Keeps unread unread_new

@@ -16,6 +16,7 @@ pub(crate) const TRIES: u32 = 1_000;
 /// Reads once; a call that is interrupted is made anew.
 fn read_some<R: Read>(reader: &mut R, chunk: &mut [u8]) -> Result<usize, Io>
     requires { 0 < length chunk.old }
+    ensures room { IfOk result (λ _. length chunk.new ≤ length chunk.old) }
     ensures within { IfOk result (λ n. n ≤ length chunk.new) }
     ensures ok { IfOk result (λ n. Consumes (R.remaining reader.old) (R.remaining reader.new) (take n chunk.new)) }
     ensures end { IfOk result (λ n. n ≡ 0 → IsAtEnd (R.remaining reader.new)) }

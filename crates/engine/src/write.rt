@@ -32,7 +32,7 @@ fn write_some<W: Write>(writer: &mut W, bytes: &[u8]) -> Result<usize, Io>
 }
 
 /// Writes all the bytes. An `Err` has written a beginning of them, and not all.
-fn write_bytes<W: Write>(writer: &mut W, bytes: &[u8]) -> Result<(), Io>
+pub(crate) fn write_bytes<W: Write>(writer: &mut W, bytes: &[u8]) -> Result<(), Io>
     ensures { Writes (W.contents writer.old) (W.contents writer.new) bytes.now result }
 {
     let mut rest = bytes;

@@ -31,7 +31,7 @@ has_itself : (t : List ℕ) → set.contains (set.insert (set.empty {R = text_cm
 has_itself t = set.contains-insert texts_total set.empty t t ∙ ap (λ o. is_eq o || set.contains (set.empty {R = text_cmp}) t) (tied_itself texts_total t)
 
 pub has_nothing_else : (t x : List ℕ) → set.contains (set.insert (set.empty {R = text_cmp}) t) x ≡ true → x ≡ t
-pub has_nothing_else t x h = tells_apart texts_exact x t (first_true (eq_by_cmp text_cmp x t) (set.contains (set.empty {R = text_cmp}) x) (set.contains-empty text_cmp x) (sym (set.contains-insert texts_total set.empty t x) ∙ h))
+has_nothing_else t x h = tells_apart texts_exact x t (first_true (eq_by_cmp text_cmp x t) (set.contains (set.empty {R = text_cmp}) x) (set.contains-empty text_cmp x) (sym (set.contains-insert texts_total set.empty t x) ∙ h))
 
 neither : {X : Type 0} (b : Bool) → ◌≡◌ {A = Option X} (cond b None None) None
 neither true = refl

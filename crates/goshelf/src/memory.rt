@@ -28,6 +28,7 @@ fn add_first_team(shelves: &mut MapShelves, team: &str) -> Result<(), Refusal>
 /// Adds the publishing key of the first team.
 fn add_first_key(shelves: &mut MapShelves, team: &str, key: &str) -> Result<(), Refusal>
     requires begins { shelves.old ≡ with_team only_common team.now }
+    requires team_named { is_team_name team.now ≡ true }
     requires named { is_key key.now ≡ true }
     ensures ok { OnOk result (shelves.new ≡ opening team.now key.now) }
     ensures err { IfErr result (λ e. e ≡ Refusal.Memory) }

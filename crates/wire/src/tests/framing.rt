@@ -135,6 +135,12 @@ fn heads_have_limits(rt: HostRuntime) {
         (65, b"Content-Length: 9999999999".as_slice(), 0, "400"),
         (1, b"A: ".as_slice(), 16_384, "message"),
         (1, b"A: ".as_slice(), 16_385, "400"),
+        (
+            1,
+            b"Content-Length: 9999999999\r\nA: ".as_slice(),
+            16_385,
+            "400",
+        ),
     ];
     for (headers, last, length, wanted) in rows {
         match head_of(rt.alloc(), headers, last, length) {
@@ -161,6 +167,16 @@ fn heads_have_limits(rt: HostRuntime) {
 /// The first so many bytes.
 fn first(bytes: &[u8], count: usize) -> &[u8] {
     &bytes[..count.min(bytes.len())]
+}
+
+/// The line after a message belongs to the head of the next one.
+#[test]
+fn a_line_after_a_message_is_kept(rt: HostRuntime) {
+    let mut framer = Framer::new(rt.alloc());
+    assert!(rt; framer.feed(b"GET / HTTP/1.1\r\n\r\n\r\n").is_ok());
+    assert!(rt; matches!(framer.next(), Ok(Next::Message(_))));
+    assert!(rt; matches!(framer.next(), Ok(Next::NeedMore)));
+    assert!(rt; !framer.is_empty());
 }
 
 #[test]

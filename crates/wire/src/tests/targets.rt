@@ -102,6 +102,9 @@ fn targets_that_are_not_read(rt: HostRuntime) {
         b"/k/k\xff/example.com/lib/@v/v1.0.0.mod".as_slice(),
         b"/k/key/example.com/l%ffb/@v/v1.0.0.mod".as_slice(),
         b"/k/key".as_slice(),
+        b"/k/key/".as_slice(),
+        b"/k/key/-/".as_slice(),
+        b"/k/key/%2D/modules".as_slice(),
     ];
     for text in rows {
         assert!(rt;

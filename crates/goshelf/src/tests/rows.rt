@@ -5,6 +5,7 @@ use shelf::map_shelves::MapShelves;
 use shelf::reply::Registered;
 use shelf::shelves::Shelves;
 use std::alloc::Global;
+use std::process::Abort;
 use std::test::Fail;
 
 pub const A: &str = "alphakey00000001";
@@ -23,14 +24,14 @@ pub const TOO_LARGE: &str = "HTTP/1.1 413 Payload Too Large\r\nContent-Type: tex
 pub const EMPTY_ZIP: &str = "HTTP/1.1 200 OK\r\nContent-Type: application/zip\r\nContent-Length: 0\r\nConnection: close\r\n\r\n";
 
 /// The store that the rows begin on: `common`, the teams alpha and beta, and the keys A, R, B and C.
-pub fn opening<R: AllocGlobal + Abort>(rt: &R) -> Result<MapShelves, Fail> {
+pub fn opening<E: AllocGlobal + Abort>(rt: &E) -> Result<MapShelves, Fail> {
     let mut shelves = MapShelves::new(rt.alloc())?;
     for team in ["alpha", "beta"] {
         assert!(rt; matches!(shelves.team_add(team), Ok(Registered::Done)), "{team}");
     }
     let keys = [
         ("alpha", A, Right::Publishes),
-        ("alpha", self::R, Right::Reads),
+        ("alpha", R, Right::Reads),
         ("beta", B, Right::Publishes),
         ("common", C, Right::Publishes),
     ];
@@ -66,7 +67,7 @@ pub fn gomod_reply(alloc: Global, gomod: &str) -> Result<String, Fail> {
 }
 
 /// Sends one stream, and compares what is written.
-pub fn exchange<R: AllocGlobal + Abort>(rt: &R, shelves: &mut MapShelves, sent: &str, want: &str) {
+pub fn exchange<E: AllocGlobal + Abort>(rt: &E, shelves: &mut MapShelves, sent: &str, want: &str) {
     let mut reader = sent.as_bytes();
     let mut written = Vec::new(rt.alloc());
     let ended = answer_all(rt.alloc(), &mut reader, &mut written, shelves);

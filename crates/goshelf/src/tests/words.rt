@@ -3,7 +3,7 @@ use crate::command::command;
 use std::test::Fail;
 
 /// Runs the program with these words on an empty input: its status, and what it printed on its two outputs.
-fn outcome<R: AllocGlobal>(rt: &R, words: &[&str]) -> Result<(u8, Vec<u8>, Vec<u8>), Fail> {
+fn outcome<E: AllocGlobal>(rt: &E, words: &[&str]) -> Result<(u8, Vec<u8>, Vec<u8>), Fail> {
     let mut list: Vec<String> = Vec::new(rt.alloc());
     for word in words {
         list.push(String::from_str(rt.alloc(), word)?)?;

@@ -73,6 +73,6 @@ pub fits-exact : FitsIsExact
 fits-exact suffix.None v = (none-fits v.marked v.major, fits-none v.marked v.major)
 fits-exact (suffix.Slash n) v = (
   λ h. let both = and-both _ _ h in (eqb-true v.major n both.0, unmarked v.marked both.1),
-  λ p. rw (eq-eqb v.major n p.0, p.1) refl
+  λ p. rw (eq-eqb v.major n p.0, p.1) refl,
 )
 fits-exact (suffix.Dot n) v = (dot-fits n v, fits-dot n v)

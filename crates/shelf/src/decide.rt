@@ -26,7 +26,7 @@ pub fn decide(publish: &Publish, right: Option<Right>, seen: Option<&Entry>, cou
 {
     match refusal(publish, right) {
         Some(decision) => decision,
-        None => compare(publish, seen, count),
+        None => decide_by_shelf(publish, seen, count),
     }
 }
 
@@ -60,7 +60,7 @@ fn well_formed(publish: &Publish)
 }
 
 /// The outcome of the checks against what stands.
-fn compare(publish: &Publish, seen: Option<&Entry>, count: u64) -> Decision
+fn decide_by_shelf(publish: &Publish, seen: Option<&Entry>, count: u64) -> Decision
     ensures { result ≡ unwrap_or (spec.first_failing (spec.shelf_checks publish.now (option_copied seen.entry) count)) Published }
 {
     if let Some(entry) = seen {

@@ -1,5 +1,5 @@
 -- Shelves in memory begin as a world, and stay one.
-use Rattle.std.proofs.Common.{◌≡◌, ℕ, ◌≤◌, ◌+◌, List, Bool, true, false, cond, refl, ◌∙◌, sym, ap, subst, Option, Some, None, inl, inr, ◌⊎◌, arith, true≢false}
+use Rattle.std.proofs.Common.{◌≡◌, ℕ, List, Bool, true, false, cond, refl, ◌∙◌, sym, ap, subst, Option, Some, None, inl, inr, arith, true≢false}
 use Rattle.std.specs.Prelude.{◌||◌, is_some, bytes_eq, ◌&&◌}
 use Rattle.std.specs.Ordering.{eq_by_cmp, is_eq}
 use Rattle.std.specs.declared.cmp.Ordering.{Ordering}
@@ -11,7 +11,7 @@ use Rattle.shelf.specs.declared.entry.Place.{Place}
 use Rattle.shelf.specs.declared.entry.Entry.{Entry}
 use Rattle.shelf.specs.declared.ask.Event.{Event}
 use Rattle.shelf.specs.declared.reply.Answer.{Answer}
-use Rattle.shelf.specs.World.{World, IsWorld, only_common, common, text_cmp, place_cmp, count}
+use Rattle.shelf.specs.World.{World, IsWorld, only_common, common, text_cmp, place_cmp}
 use Rattle.shelf.specs.Machine.{Run, MetDevice, world_after}
 use Rattle.shelf.specs.Store.{Runs, GrewOrFull}
 use Rattle.shelf.specs.InMemory.{in_memory, IsJust}

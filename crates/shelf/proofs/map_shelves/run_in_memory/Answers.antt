@@ -1,5 +1,5 @@
-use Rattle.std.proofs.Common.{sym, subst}
-use Rattle.shelf.specs.World.{World, only_common}
+use Rattle.std.proofs.Common.{subst}
+use Rattle.shelf.specs.World.{World}
 use Rattle.shelf.specs.Store.{Runs}
 use Rattle.shelf.specs.InMemory.{in_memory}
 use Rattle.shelf.proofs.MapsAnchor.{ran, is_just}

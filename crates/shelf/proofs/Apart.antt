@@ -1,5 +1,5 @@
 -- Worlds that have one registry, and the same entries on the shelves that s sees.
-use Rattle.std.proofs.Common.{◌≡◌, ℕ, List, [], ◌∷◌, Bool, true, false, cond, refl, ◌∙◌, sym, ap, subst, Option, Some, None}
+use Rattle.std.proofs.Common.{◌≡◌, ℕ, List, true, false, refl, ◌∙◌, sym, ap, subst, Option, Some, None}
 use Rattle.std.specs.Prelude.{not, if◌then◌else◌}
 use Rattle.std.specs.FinMap as map
 use Rattle.std.specs.FinSet as set
@@ -19,7 +19,7 @@ use Rattle.shelf.specs.declared.reply.Registered.{Registered}
 use Rattle.shelf.specs.declared.reply.Registered.TheVariants.{Done, Name, Taken, NoTeam}
 use Rattle.shelf.specs.declared.reply.Reply.{Reply}
 use Rattle.shelf.specs.declared.reply.Reply.TheVariants as reply
-use Rattle.shelf.specs.World.{World, IsWorld, place, chain, is_team_name, is_key}
+use Rattle.shelf.specs.World.{World, IsWorld, place, is_team_name, is_key}
 use Rattle.shelf.specs.Machine.{decision, keyed_reply, after_decision, stored, offered, place_of, team_added, key_added, after_team_add, after_key_add, reply_to, after}
 use Rattle.shelf.specs.Isolation.{is_among, is_near, is_kept}
 use Rattle.shelf.proofs.Orders.{places_total, places_exact, get_put_both, get_elsewhere}

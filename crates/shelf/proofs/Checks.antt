@@ -1,6 +1,6 @@
 -- What the outcome of the checks of a publish says of each of them.
-use Rattle.std.proofs.Common.{◌≡◌, ℕ, ◌≤◌, ◌<◌, List, [], ◌∷◌, ◌++◌, Bool, true, false, cond, refl, ◌∙◌, sym, ap, subst, Option, Some, None, arith, length}
-use Rattle.std.specs.Prelude.{◌&&◌, ◌||◌, not, is_none, is_some, is_ok, Ok, Err, Result, ⊤, option_map, unwrap_or, nat_lt, nat_le, bytes_eq, ◌^◌}
+use Rattle.std.proofs.Common.{◌≡◌, ℕ, ◌≤◌, ◌<◌, List, [], ◌∷◌, ◌++◌, Bool, true, false, cond, refl, ◌∙◌, sym, ap, Option, Some, None, arith, length}
+use Rattle.std.specs.Prelude.{◌&&◌, ◌||◌, not, is_none, is_some, is_ok, Ok, Err, Result, ⊤, option_map, unwrap_or, nat_lt, nat_le, ◌^◌}
 use Rattle.std.specs.List.{list_any, list_all}
 use Rattle.std.specs.Option.{option_or}
 use Rattle.std.specs.FinMap as map
@@ -9,21 +9,18 @@ use Rattle.std.proofs.lemmas.Bool.{true≢false}
 use Rattle.std.proofs.lemmas.Bool.Decides.{nat_tests}
 use Rattle.modpath.specs.declared.path.PathFault.{PathFault}
 use Rattle.modpath.specs.Path.{path_check, passed, IsPath, is_path}
-use Rattle.modver.specs.SemanticVersion.{SemanticVersion, IsVersion, is_identifier, version_text}
+use Rattle.modver.specs.SemanticVersion.{SemanticVersion, is_identifier, is_version, version_text}
 use Rattle.modver.specs.Reading.{IsCanonical}
-use Rattle.shelf.specs.declared.entry.Place.{Place}
 use Rattle.shelf.specs.declared.entry.Entry.{Entry}
 use Rattle.shelf.specs.declared.entry.Seen.{Seen}
 use Rattle.shelf.specs.declared.entry.Holder.{Holder}
 use Rattle.shelf.specs.declared.entry.Right.{Right}
 use Rattle.shelf.specs.declared.entry.Right.TheVariants.{Publishes}
-use Rattle.shelf.specs.declared.ask.Body.{Body}
 use Rattle.shelf.specs.declared.ask.Publish.{Publish}
 use Rattle.shelf.specs.declared.reply.Decision.{Decision}
-use Rattle.shelf.specs.declared.reply.Decision.TheVariants.{Published, Same, NotFound, Forbidden, BadLength, TooLarge, Conflict, Full}
-use Rattle.shelf.specs.Forms.{is_version}
-use Rattle.shelf.specs.World.{World, IsEntry, common, place, seen_at, first_on, view, chain, count, gomod_limit, zip_limit, version_limit}
-use Rattle.shelf.specs.Machine.{first_failing, is_readable, may_publish, is_too_large, is_same, offered, entry_of, request_checks, shelf_checks, decided, entry_seen, decision, place_of}
+use Rattle.shelf.specs.declared.reply.Decision.TheVariants.{Published, Same, NotFound, BadLength, TooLarge, Conflict, Full}
+use Rattle.shelf.specs.World.{World, IsEntry, common, seen_at, first_on, view, count, gomod_limit, zip_limit, version_limit}
+use Rattle.shelf.specs.Machine.{first_failing, is_readable, may_publish, is_too_large, is_same, offered, request_checks, shelf_checks, decided, entry_seen, decision, place_of}
 use Rattle.shelf.specs.Store.{IsRoomFor}
 
 -- ---- one list of checks after another
@@ -104,6 +101,7 @@ pub path_form : (t : List ℕ) → is_path t ≡ true → IsPath t
 path_form t e = passes (path_check t) e
 
 pub version_form : (v : SemanticVersion) → is_version v ≡ true → IsCanonical (version_text v) v
+unfolding is_version
 version_form v e =
     let numbers : Bool = nat_lt v.major (2 ^ 64) && nat_lt v.minor (2 ^ 64) && nat_lt v.patch (2 ^ 64) in
     let a = both_true (numbers && list_all is_identifier v.identifiers) (nat_le (length (version_text v)) 128) e in

@@ -1,18 +1,16 @@
 -- A run with the requests of other shelves, and one without.
-use Rattle.std.proofs.Common.{◌≡◌, ℕ, List, [], ◌∷◌, ◌++◌, Bool, true, false, refl, ◌∙◌, sym, ap, subst, Option, Some, None, length}
-use Rattle.std.specs.Prelude.{◌↔◌, suc}
+use Rattle.std.proofs.Common.{◌≡◌, ℕ, List, [], ◌∷◌, Bool, true, false, refl, ◌∙◌, sym, ap, subst, Option, Some, None}
+use Rattle.std.specs.Prelude.{suc}
 use Rattle.std.specs.FinMap as map
 use Rattle.std.proofs.lemmas.Bool.{true≢false}
 use Rattle.shelf.specs.declared.entry.Holder.{Holder}
-use Rattle.shelf.specs.declared.ask.Ask.TheVariants.{Unreadable, Get, Put}
 use Rattle.shelf.specs.declared.ask.Event.{Event}
-use Rattle.shelf.specs.declared.ask.Event.TheVariants.{Asked, TeamAdd, KeyAdd}
 use Rattle.shelf.specs.declared.reply.Reply.{Reply}
 use Rattle.shelf.specs.declared.reply.Answer.{Answer}
 use Rattle.shelf.specs.declared.reply.Answer.TheVariants.{Replied, Failed}
 use Rattle.shelf.specs.World.{World, IsWorld, chain}
-use Rattle.shelf.specs.Machine.{reply_to, after, after_all, replies, Run, answered, replies_of}
-use Rattle.shelf.specs.Isolation.{is_among, is_near, is_near_key, asking_key, is_kept, kept, marked, purge, IsAnsweredIfKept, KeptAnswered, AllReplied, IsIsolated, PurgedRunsAgree, FaultyRunsAgree, MarksAreAsLong, MarksAreAtTheirMoment, IsOfOthers, OnlyOthersGo}
+use Rattle.shelf.specs.Machine.{reply_to, after, replies, Run, answered, replies_of}
+use Rattle.shelf.specs.Isolation.{is_among, is_near, is_near_key, asking_key, is_kept, kept, marked, purge, IsAnsweredIfKept, KeptAnswered, AllReplied, IsIsolated, PurgeIsTheSame, PurgedRunsAgree, FaultyRunsAgree, MarksAreAsLong, MarksAreAtTheirMoment, OnlyOthersGo}
 use Rattle.shelf.proofs.Sound.{sound}
 use Rattle.shelf.proofs.Chains.{reaches}
 use Rattle.shelf.proofs.Apart.{Agree, agree_self, agree_back, event_alike, event_far, kept_alike}
@@ -108,6 +106,35 @@ purged_told w x y new other s (e ∷ es) (Replied r ∷ answers) purged is three
 pub purged_runs_agree : PurgedRunsAgree
 purged_runs_agree old new other s events answers purged is run told again all =
     let self = agree_self old (chain new s) in purged_told old old old new other s events answers purged is (record { all = self; purged = self }) run told again all
+
+-- ---- the purge with the faults and without
+
+purged_alike : (w x new : World) (s : List ℕ) (es : List Event) (answers : List Answer) → IsWorld w → Agree w x (chain new s) → Run w es answers new → KeptAnswered x (chain new s) es answers
+    → marked (kept x (chain new s) es) es ≡ marked (kept w (chain new s) (answered es answers)) (answered es answers)
+purged_alike w x new s [] [] is agree run told = refl
+purged_alike w x new s [] (a ∷ answers) is agree run told = absurd run
+purged_alike w x new s (e ∷ es) [] is agree run told = absurd run
+purged_alike w x new s (e ∷ es) (Failed fault ∷ answers) is agree run told =
+    let ss : List (List ℕ) = chain new s in
+    elim (is_kept x ss e) as (λ b. is_kept x ss e ≡ b → IsAnsweredIfKept b (Failed fault) → marked (b ∷ kept (after x e) ss es) (e ∷ es) ≡ purge w ss (answered es answers)) [
+      | true ↦ λ near never. absurd never
+      | false ↦ λ far _. purged_alike w (after x e) new s es answers is (agree_back (after x e) w ss (event_far x w ss e far (agree_back w x ss agree))) run told.1
+    ] refl told.0
+purged_alike w x new s (e ∷ es) (Replied r ∷ answers) is agree run told =
+    let ss : List (List ℕ) = chain new s in
+    let rest : List Event = answered es answers in
+    subst (λ m. marked (kept x ss (e ∷ es)) (e ∷ es) ≡ marked (m ∷ kept (after w e) ss rest) (e ∷ rest)) (sym (kept_alike w x ss e agree))
+    (elim (is_kept x ss e) as (λ b. is_kept x ss e ≡ b → marked (b ∷ kept (after x e) ss es) (e ∷ es) ≡ marked (b ∷ kept (after w e) ss rest) (e ∷ rest)) [
+      | true ↦ λ near.
+          let alike = event_alike w x ss e (kept_alike w x ss e agree ∙ near) is (reaches w new s (e ∷ es) (Replied r ∷ answers) is run) agree in
+          ap (λ more. e ∷ more) (purged_alike (after w e) (after x e) new s es answers (sound w e is) alike.worlds run.1 told.1)
+      | false ↦ λ far.
+          let moved = agree_back (after x e) w ss (event_far x w ss e far (agree_back w x ss agree)) in
+          purged_alike (after w e) (after x e) new s es answers (sound w e is) (event_far w (after x e) ss e (kept_alike w x ss e agree ∙ far) moved) run.1 told.1
+    ] refl)
+
+pub purge_is_the_same : PurgeIsTheSame
+purge_is_the_same old new s events answers is run told = purged_alike old old new s events answers is (agree_self old (chain new s)) run told
 
 -- ---- what is purged
 

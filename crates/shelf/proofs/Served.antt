@@ -1,11 +1,11 @@
 -- What was served or accepted once is served for good.
-use Rattle.std.proofs.Common.{◌≡◌, ℕ, List, [], ◌∷◌, Bool, true, false, refl, ◌∙◌, sym, ap, subst, Option, Some, None, inl, inr, ◌⊎◌}
+use Rattle.std.proofs.Common.{◌≡◌, ℕ, List, [], ◌∷◌, true, false, refl, ◌∙◌, sym, ap, subst, Option, Some, None, inl, inr}
 use Rattle.std.specs.Prelude.{bytes_eq, ◌&&◌, option_map, is_none}
 use Rattle.std.specs.Option.{option_or}
 use Rattle.std.specs.FinMap as map
 use Rattle.std.specs.FinSet as set
 use Rattle.std.proofs.lemmas.Bool.{true≢false}
-use Rattle.modver.specs.SemanticVersion.{SemanticVersion, version_text}
+use Rattle.modver.specs.SemanticVersion.{version_text}
 use Rattle.shelf.specs.declared.entry.Entry.{Entry}
 use Rattle.shelf.specs.declared.entry.Seen.{Seen}
 use Rattle.shelf.specs.declared.entry.Holder.{Holder}
@@ -13,7 +13,7 @@ use Rattle.shelf.specs.declared.ask.Body.{Body}
 use Rattle.shelf.specs.declared.ask.Query.{Query}
 use Rattle.shelf.specs.declared.ask.Query.TheVariants.{GoMod, Zip}
 use Rattle.shelf.specs.declared.ask.Publish.{Publish}
-use Rattle.shelf.specs.declared.ask.Ask.TheVariants.{Get, Put}
+use Rattle.shelf.specs.declared.ask.Ask.TheVariants.{Put}
 use Rattle.shelf.specs.declared.ask.Event.{Event}
 use Rattle.shelf.specs.declared.ask.Event.TheVariants.{Asked}
 use Rattle.shelf.specs.declared.reply.Decision.{Decision}
@@ -25,7 +25,7 @@ use Rattle.shelf.specs.declared.reply.Answer.TheVariants.{Replied, Failed}
 use Rattle.shelf.specs.World.{World, IsWorld, common, seen_at, first_on, view}
 use Rattle.shelf.specs.Machine.{decision, is_readable, is_too_large, is_same, offered, entry_of, entry_seen, gomod_reply, zip_reply, query_reply, keyed_reply, after_decision, stored, place_of, after, Run}
 use Rattle.shelf.specs.Isolation.{belongs}
-use Rattle.shelf.specs.Immutability.{IsFailed, IsFound, StaysServed, IsAccepted, asks_back, AcceptedIsServed}
+use Rattle.shelf.specs.Immutability.{IsFound, StaysServed, IsAccepted, asks_back, AcceptedIsServed}
 use Rattle.shelf.proofs.Orders.{places_total, get_put, text_same}
 use Rattle.shelf.proofs.Checks.{accepted, same_again}
 use Rattle.shelf.proofs.Chains.{stands_after}

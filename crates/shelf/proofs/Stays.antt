@@ -1,5 +1,5 @@
 -- What a shelf sees stays as it is, whatever comes.
-use Rattle.std.proofs.Common.{◌≡◌, ℕ, List, [], ◌∷◌, Bool, true, false, refl, ◌∙◌, sym, ap, subst, Option, Some, None}
+use Rattle.std.proofs.Common.{◌≡◌, ℕ, List, [], ◌∷◌, true, false, refl, ◌∙◌, sym, ap, subst, Option, Some, None}
 use Rattle.std.specs.Prelude.{bytes_eq, ◌||◌}
 use Rattle.std.specs.Option.{option_or}
 use Rattle.std.specs.FinMap as map
@@ -21,7 +21,7 @@ use Rattle.shelf.specs.declared.reply.Registered.{Registered}
 use Rattle.shelf.specs.declared.reply.Registered.TheVariants.{Done}
 use Rattle.shelf.specs.declared.reply.Answer.{Answer}
 use Rattle.shelf.specs.declared.reply.Answer.TheVariants.{Replied, Failed}
-use Rattle.shelf.specs.World.{World, common, chain, place, seen_at, first_on, view, with_entry}
+use Rattle.shelf.specs.World.{World, chain, place, seen_at, first_on, view, with_entry}
 use Rattle.shelf.specs.Machine.{decision, after_decision, stored, offered, place_of, team_added, key_added, after_team_add, after_key_add, after, Run}
 use Rattle.shelf.specs.Isolation.{is_among, sees}
 use Rattle.shelf.proofs.Orders.{places_total, places_exact, get_elsewhere, text_self, text_same, text_apart}

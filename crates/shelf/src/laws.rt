@@ -1,7 +1,7 @@
 //! What holds of the machine and of every run of it.
 ghost use Rattle.shelf.specs.Laws.{WorldStays, RunsKeepWorlds, OnlyChangesChange, BodiesChangeNothing, RunsAreCut, RunsAreJoined};
 ghost use Rattle.shelf.specs.Immutability.{StaysServed, AcceptedIsServed, RepeatedListChangesNothing};
-ghost use Rattle.shelf.specs.Isolation.{IsIsolated, PurgedRunsAgree, FaultyRunsAgree, MarksAreAsLong, MarksAreAtTheirMoment, OnlyOthersGo, IsBlind};
+ghost use Rattle.shelf.specs.Isolation.{IsIsolated, PurgedRunsAgree, FaultyRunsAgree, MarksAreAsLong, MarksAreAtTheirMoment, OnlyOthersGo, PurgeIsTheSame, IsBlind};
 
 /// Each event leads from a world to a world.
 pub fn soundness()
@@ -25,6 +25,7 @@ pub fn purge()
     ensures length { MarksAreAsLong }
     ensures moment { MarksAreAtTheirMoment }
     ensures others { OnlyOthersGo }
+    ensures same { PurgeIsTheSame }
 {}
 
 /// A key is answered alike in all worlds that its shelf cannot tell apart.

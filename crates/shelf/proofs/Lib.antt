@@ -1,3 +1,4 @@
+pub mod MapsAnchor
 pub mod MapsDone
 pub mod MapsTexts
 pub mod MapsNested

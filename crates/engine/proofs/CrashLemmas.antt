@@ -2,7 +2,9 @@
 use Rattle.std.proofs.Common.{◌≡◌, List, [], ◌∷◌, ◌++◌, refl, sym, subst}
 use Rattle.shelf.specs.World.{World}
 use Rattle.shelf.specs.Store.{Shown}
-use Rattle.engine.specs.Outcome.{Exchange, Outcome, Unasked, Met, Shown as Told, IsUnmet, AllUnmet}
+use Rattle.engine.specs.Outcome.{Exchange, IsUnmet, AllUnmet}
+use Rattle.engine.specs.declared.outcome.Outcome.{Outcome}
+use Rattle.engine.specs.declared.outcome.Outcome.TheVariants.{Unasked, Met, Told}
 use Rattle.engine.specs.Store.{LeavesTwo, world_at}
 
 -- what holds of the store's worlds before holds of its worlds now

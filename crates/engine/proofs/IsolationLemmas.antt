@@ -13,7 +13,9 @@ use Rattle.shelf.proofs.Blind.{blind}
 use Rattle.engine.specs.Ask.{ask_of}
 use Rattle.engine.specs.First.{First, Answers, Closes, TakesFirst, ServesFirst, first_bytes, first_status, first_exchanges}
 use Rattle.engine.specs.Isolated.{IsToldByItsShelf, AnswersByItsShelf}
-use Rattle.engine.specs.Outcome.{Exchange, Outcome, Unasked, Met, Shown as Told}
+use Rattle.engine.specs.Outcome.{Exchange}
+use Rattle.engine.specs.declared.outcome.Outcome.{Outcome}
+use Rattle.engine.specs.declared.outcome.Outcome.TheVariants.{Unasked, Met, Told}
 use Rattle.engine.specs.Reply.{bytes_of}
 use Rattle.engine.specs.Served.{IsClosing, closing_status}
 use Rattle.engine.specs.Store.{GoesThrough}

@@ -11,7 +11,9 @@ use Rattle.shelf.specs.World.{World}
 use Rattle.shelf.specs.Machine.{ask_reply, after_ask, MetDevice, world_after}
 use Rattle.shelf.specs.Store.{Shown, Runs, Does, HasCause, GrewOrFull}
 use Rattle.engine.specs.Ask.{ask_of}
-use Rattle.engine.specs.Outcome.{Exchange, Outcome, Unasked, Met, Shown as Told, event_of, answer_of, AllUnmet}
+use Rattle.engine.specs.Outcome.{Exchange, event_of, answer_of, AllUnmet}
+use Rattle.engine.specs.declared.outcome.Outcome.{Outcome}
+use Rattle.engine.specs.declared.outcome.Outcome.TheVariants.{Unasked, Met, Told}
 use Rattle.engine.specs.Store.{GoesThrough, LeavesTwo, world_at}
 use Rattle.engine.proofs.CrashLemmas.{leaves_kept, leaves_more}
 use Rattle.engine.proofs.RunLemmas.{runs_more, world_more, met_either}

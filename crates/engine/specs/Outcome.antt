@@ -4,24 +4,16 @@ use Rattle.wire.specs.Message.{Request}
 use Rattle.shelf.specs.declared.ask.Event.{Event}
 use Rattle.shelf.specs.declared.reply.Answer.{Answer}
 use Rattle.shelf.specs.declared.reply.Answer.TheVariants.{Replied, Failed}
-use Rattle.shelf.specs.declared.reply.Reply.{Reply}
-use Rattle.shelf.specs.declared.reply.StoreFault.{StoreFault}
 use Rattle.shelf.specs.declared.reply.StoreFault.TheVariants.{Memory}
+use Rattle.engine.specs.declared.outcome.Outcome.{Outcome}
+use Rattle.engine.specs.declared.outcome.Outcome.TheVariants.{Unasked, Met, Told}
 use Rattle.engine.specs.Ask as spec
-
-pub data Outcome : Type 0 where
-  -- there was no memory to read what it asks, so the machine was not asked
-  Unasked : Outcome
-  -- the machine met a fault
-  Met : StoreFault → Outcome
-  -- the machine's reply was written
-  Shown : Reply → Outcome
 
 -- the machine's answer: want of memory before it was asked is a fault that changes nothing
 abbrev pub answer_to : Outcome → Answer
 answer_to Unasked = Failed Memory
 answer_to (Met fault) = Failed fault
-answer_to (Shown reply) = Replied reply
+answer_to (Told reply) = Replied reply
 
 -- a message, and what became of it
 pub record Exchange : Type 0 where
@@ -41,7 +33,7 @@ answer_of x = answer_to x.outcome
 abbrev pub IsUnmet : Outcome → Type 0
 IsUnmet Unasked = Unit {0}
 IsUnmet (Met fault) = ⊥
-IsUnmet (Shown reply) = Unit {0}
+IsUnmet (Told reply) = Unit {0}
 
 abbrev pub AllUnmet : List Exchange → Type 0
 AllUnmet [] = Unit {0}

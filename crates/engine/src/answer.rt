@@ -3,24 +3,23 @@ ghost use Rattle.std.specs.Prelude.{◌≡◌, ◌∷◌, [], None, IfOk, IfErr}
 ghost use Rattle.wire.specs.Framing.{view};
 ghost use Rattle.engine.specs.First.{ServesFirst, first_bytes, first_status, Answers};
 ghost use Rattle.engine.specs.Isolated.{AnswersByItsShelf};
-ghost use Rattle.engine.specs.Outcome.{Exchange, Outcome, answer_of};
+ghost use Rattle.engine.specs.Outcome.{Exchange, answer_of};
+ghost use Rattle.engine.specs.declared.outcome.Outcome.{Outcome};
 ghost use Rattle.engine.specs.Reply.{text_of, status_of};
 ghost use Rattle.engine.specs.Served.{Serves};
 ghost use Rattle.engine.specs.Store.{GoesThrough};
 ghost use Rattle.engine.specs.Turn.{AnswersHeld, Delivers};
 ghost use Rattle.engine.specs.Written.{Writes};
 
-use crate::ask::ask_of;
 use crate::fault::Io;
+use crate::outcome::{ask_machine, tell};
 use crate::read::read_more;
-use crate::show::show;
 use crate::turn::{Taken, Turn, take};
-use crate::write::{close, close_first, flush, write_fixed};
+use crate::write::{close, close_first, flush};
 use shelf::shelves::Shelves;
-use shelf::step::step;
 use std::alloc::Global;
 use std::io::{Read, Write};
-use wire::reply::{Fixed, Status};
+use wire::reply::Status;
 use wire::{Framer, Message};
 
 /// Answers one message: by the machine, or by 503 where there is no memory to read what it asks, or the machine met a fault.
@@ -36,13 +35,8 @@ fn answer_message<W: Write, S: Shelves>(
         × Writes (W.contents writer.old) (W.contents writer.new) (text_of x) result
         × IfOk result (λ status. status ≡ status_of (answer_of x))) }
 {
-    let Ok(ask) = ask_of(alloc, message) else {
-        return write_fixed(writer, Fixed::Unavailable);
-    };
-    match step(shelves, &ask) {
-        Ok(reply) => show(writer, &reply),
-        Err(_) => write_fixed(writer, Fixed::Unavailable),
-    }
+    let outcome = ask_machine(alloc, shelves, message);
+    tell(writer, &outcome)
 }
 
 /// Answers all whole messages that the framer holds.

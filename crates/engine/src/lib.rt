@@ -31,6 +31,7 @@
 mod answer;
 mod ask;
 pub mod fault;
+pub mod outcome;
 mod read;
 mod show;
 mod turn;

@@ -1,4 +1,5 @@
 mod doubles;
+mod rows;
 mod stream;
 
 use crate::{Io, answer_all, answer_one};

@@ -5,7 +5,7 @@ ghost use Rattle.modpath.specs.Path.{suffix_of};
 ghost use Rattle.modver.specs.Fits as fit;
 
 use crate::version::Version;
-use modpath::{ModulePath, Suffix, suffix};
+use modpath::{LoosePath, ModulePath, Suffix, loose_suffix, suffix};
 
 /// Whether a module path may have a version. It takes no memory. (Go Modules Reference, "Major
 /// version suffixes" and "+incompatible versions".)
@@ -13,6 +13,13 @@ pub fn fits(path: &ModulePath, version: &Version) -> bool
     ensures { result ≡ fit.fits (suffix_of path.now) version.now }
 {
     fits_suffix(suffix(path), version)
+}
+
+/// Whether a loose path may have a version, by the same rules. It takes no memory.
+pub fn fits_loose(path: &LoosePath, version: &Version) -> bool
+    ensures { result ≡ fit.fits (suffix_of path.now) version.now }
+{
+    fits_suffix(loose_suffix(path), version)
 }
 
 // A pre-release of v0.0.0, as which the old pseudo-versions of paths with `.v1` are written.

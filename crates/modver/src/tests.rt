@@ -1,9 +1,10 @@
 // The worked rows, and the standards' own examples.
 
 use crate::{
-    Class, TimeFault, Version, VersionFault, class, compare, fits, rank_compare, read_time,
+    Class, TimeFault, Version, VersionFault, class, compare, fits, fits_loose, rank_compare,
+    read_time,
 };
-use modpath::{ModulePath, PathError};
+use modpath::{LoosePath, ModulePath, PathError};
 use std::cmp::Ordering;
 
 #[test]
@@ -242,6 +243,30 @@ fn versions_of_paths(rt: HostRuntime) -> Result<(), PathError> {
             fits_texts(&rt, path, version)? == expected,
             "{path} {version}"
         );
+    }
+    Ok(())
+}
+
+fn fits_loose_texts(rt: &HostRuntime, path: &str, version: &str) -> Result<bool, PathError> {
+    let path = LoosePath::parse(rt.alloc(), path)?;
+    match Version::parse(rt.alloc(), version) {
+        Ok(version) => Ok(fits_loose(&path, &version)),
+        Err(_) => Err(PathError::Memory),
+    }
+}
+
+#[test]
+fn versions_of_loose_paths(rt: HostRuntime) -> Result<(), PathError> {
+    let rows = [
+        ("mymod", "v0.0.0", true),
+        ("mymod", "v2.0.0", false),
+        ("mymod", "v2.0.0+incompatible", true),
+        ("mymod/v2", "v2.0.0", true),
+        ("mymod/v2", "v1.0.0", false),
+        ("gopkg.in/yaml.v1", "v0.0.0-20160105164936-4f90aeace3a2", true),
+    ];
+    for (path, version, expected) in rows {
+        assert!(rt; fits_loose_texts(&rt, path, version)? == expected, "{path} {version}");
     }
     Ok(())
 }

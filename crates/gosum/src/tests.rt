@@ -15,7 +15,10 @@ fn hashes_of_another_program(rt: HostRuntime) -> Result<(), Fail> {
             b"module example.com/a\n\ngo 1.21\n\nrequire example.com/x v1.0.0\n",
             "h1:+e+VFogdv6ium6NFOxNbs/iVsZIUuATfkx7HZXv9Esk=",
         ),
-        (b"\x00\xff", "h1:/66P85L8BekpLj/oChmaHmVoS1SwEuBPpBSZ2Nbp/9w="),
+        (
+            b"\x00\xff",
+            "h1:/66P85L8BekpLj/oChmaHmVoS1SwEuBPpBSZ2Nbp/9w=",
+        ),
     ];
     for (gomod, want) in table {
         let hash = h1_of_mod(rt.alloc(), gomod)?;
@@ -33,8 +36,7 @@ fn line_of_a_version(rt: HostRuntime) -> Result<(), Fail> {
         panic!(rt; "the path and the version read");
     };
     let line = sum_line(alloc, &path, &version, LIB)?;
-    assert_eq!(
-        rt;
+    assert_eq!(rt;
         line.as_str(),
         "example.com/lib v1.0.0/go.mod h1:4OAnUP7RpKJ0hg7ydNi+A/luktLxx7xSrw0c+FeAtlc="
     );

@@ -263,10 +263,17 @@ fn versions_of_loose_paths(rt: HostRuntime) -> Result<(), PathError> {
         ("mymod", "v2.0.0+incompatible", true),
         ("mymod/v2", "v2.0.0", true),
         ("mymod/v2", "v1.0.0", false),
-        ("gopkg.in/yaml.v1", "v0.0.0-20160105164936-4f90aeace3a2", true),
+        (
+            "gopkg.in/yaml.v1",
+            "v0.0.0-20160105164936-4f90aeace3a2",
+            true,
+        ),
     ];
     for (path, version, expected) in rows {
-        assert!(rt; fits_loose_texts(&rt, path, version)? == expected, "{path} {version}");
+        assert!(rt;
+            fits_loose_texts(&rt, path, version)? == expected,
+            "{path} {version}"
+        );
     }
     Ok(())
 }

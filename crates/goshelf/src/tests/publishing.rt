@@ -6,6 +6,7 @@ use super::rows::{
 use std::test::Fail;
 
 const LIB: &str = "example.com/lib";
+
 const LIB_GOMOD: &str = "module example.com/lib\n";
 
 #[test]
@@ -47,7 +48,11 @@ fn what_is_not_visible_is_one_and_the_same_404(rt: HostRuntime) -> Result<(), Fa
     let mut shelves = opening(&rt)?;
     let first = put(alloc, A, LIB, "v1.0.0", "")?;
     exchange(&rt, &mut shelves, first.as_str(), PUBLISHED);
-    for (key, file) in [(B, "v1.0.0.zip"), ("nosuchkey0000001", "v1.0.0.zip"), (A, "v9.0.0.zip")] {
+    for (key, file) in [
+        (B, "v1.0.0.zip"),
+        ("nosuchkey0000001", "v1.0.0.zip"),
+        (A, "v9.0.0.zip"),
+    ] {
         let sent = get(alloc, key, LIB, file)?;
         exchange(&rt, &mut shelves, sent.as_str(), NOT_FOUND);
     }
@@ -106,8 +111,12 @@ fn refused_publishes_store_nothing(rt: HostRuntime) -> Result<(), Fail> {
     let path = "example.com/q";
     let by_reader = put(alloc, R, path, "v1.0.0", "")?;
     let whole = put(alloc, A, path, "v1.0.0", "")?;
-    let cut = whole.as_str().get(..whole.len().saturating_sub(1)).unwrap_or("");
-    let no_length = "PUT /k/alphakey00000001/example.com/q/@v/v1.0.0 HTTP/1.1\r\nContent-Length: 21\r\n\r\nmodule example.com/q\n";
+    let cut = whole
+        .as_str()
+        .get(..whole.len().saturating_sub(1))
+        .unwrap_or("");
+    let no_length =
+        "PUT /k/alphakey00000001/example.com/q/@v/v1.0.0 HTTP/1.1\r\nContent-Length: 21\r\n\r\nmodule example.com/q\n";
     let bad_path = put(alloc, A, "example.com//q", "v1.0.0", "")?;
     let bad_version = put(alloc, A, path, "1.0.0", "")?;
     let seen = get(alloc, A, path, "v1.0.0.mod")?;

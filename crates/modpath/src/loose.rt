@@ -3,6 +3,7 @@
 ghost use Rattle.std.specs.Prelude.{◌≡◌, IfErr, IfOk};
 ghost use Rattle.modpath.specs.Path as Spec;
 
+use crate::major::{Suffix, suffix_of};
 use crate::path::{PathError, check_loose};
 use std::alloc::Global;
 use std::marker::Model;
@@ -51,4 +52,14 @@ impl LoosePath {
     {
         self.text.as_str()
     }
+}
+
+/// The major version suffix that a loose path ends with.
+///
+/// It takes no memory. (Go Modules Reference, "Major version suffixes".)
+#[tactic(auto, unfolding(crate::specs::Path::suffix_of))]
+pub fn loose_suffix(path: &LoosePath) -> Suffix
+    ensures { result ≡ Spec.suffix_of path.now }
+{
+    suffix_of(path.text.as_bytes()).unwrap_or(Suffix::None)
 }

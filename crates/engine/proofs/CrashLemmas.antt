@@ -1,0 +1,34 @@
+-- What a crash leaves after more messages.
+use Rattle.std.proofs.Common.{◌≡◌, List, [], ◌∷◌, ◌++◌, refl, sym, subst}
+use Rattle.shelf.specs.World.{World}
+use Rattle.shelf.specs.Store.{Shown}
+use Rattle.engine.specs.Outcome.{Exchange, IsUnmet, AllUnmet}
+use Rattle.engine.specs.declared.outcome.Outcome.{Outcome}
+use Rattle.engine.specs.declared.outcome.Outcome.TheVariants.{Unasked, Met, Told}
+use Rattle.engine.specs.Store.{LeavesTwo, world_at}
+
+-- what holds of the store's worlds before holds of its worlds now
+pub leaves_kept : (mid new : Shown) → ((w x : World) → mid.leaves w x → new.leaves w x) → (w : World) (xs : List Exchange)
+    → LeavesTwo mid w xs → LeavesTwo new w xs
+leaves_kept mid new kept w [] leaves = kept w w leaves
+leaves_kept mid new kept w (x ∷ []) leaves = kept w _ leaves
+leaves_kept mid new kept w (x ∷ y ∷ more) leaves = λ unmet. leaves_kept mid new kept (world_at w (x ∷ [])) (y ∷ more) (leaves unmet)
+
+world_step : (w : World) (x : Exchange) (xs : List Exchange) → world_at (world_at w (x ∷ [])) xs ≡ world_at w (x ∷ xs)
+world_step w x xs = by_outcome x.outcome
+  where
+    by_outcome : (o : Outcome)
+        → world_at (world_at w (record { message = x.message; outcome = o } ∷ [])) xs ≡ world_at w (record { message = x.message; outcome = o } ∷ xs)
+    by_outcome Unasked = refl
+    by_outcome (Met fault) = refl
+    by_outcome (Told reply) = refl
+
+-- after messages that met no fault, more messages
+pub leaves_more : (new : Shown) (w : World) (xs : List Exchange) (y : Exchange) (ys : List Exchange)
+    → (AllUnmet xs → LeavesTwo new (world_at w xs) (y ∷ ys)) → LeavesTwo new w (xs ++ y ∷ ys)
+leaves_more new w [] y ys next = next tt
+leaves_more new w (x ∷ []) y ys next = λ unmet. next (unmet, tt)
+leaves_more new w (x ∷ x' ∷ more) y ys next =
+    λ unmet.
+    leaves_more new (world_at w (x ∷ [])) (x' ∷ more) y ys
+    (λ all. subst (λ v. LeavesTwo new v (y ∷ ys)) (sym (world_step w x (x' ∷ more))) (next (unmet, all)))

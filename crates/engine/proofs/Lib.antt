@@ -1,0 +1,10 @@
+pub mod AskLemmas
+pub mod CrashLemmas
+pub mod FirstLemmas
+pub mod IsolationLemmas
+pub mod MessageLemmas
+pub mod ReadLemmas
+pub mod RunLemmas
+pub mod ServedLemmas
+pub mod StoreLemmas
+pub mod TurnLemmas

@@ -1,0 +1,36 @@
+-- What a read says of the bytes held and of those that follow.
+use Rattle.std.proofs.Common.{◌≡◌, ◌≢◌, ℕ, ◌<◌, ◌≤◌, List, [], ◌∷◌, ◌++◌, Option, Some, None, length, take, refl, sym, ap, ◌∙◌, subst, arith, append-nil, length-append}
+use Rattle.std.proofs.lemmas.List.{length-take-le}
+use Rattle.std.specs.Io.KnownBytes.{Consumes, IsAtEnd}
+use Rattle.wire.specs.Message.{Ends, clean, bad}
+use Rattle.wire.specs.Framing.{HasMessage, IsUnfinished}
+use Rattle.wire.proofs.StreamLemmas.{ReadsMessage-append, no_message_at_end}
+use Rattle.engine.specs.Served.{Tells}
+
+-- a reader at its end told nothing more
+pub Tells_end : (old new : Option (List ℕ)) → Consumes old new [] → IsAtEnd new → Tells old []
+Tells_end None new x end = tt
+Tells_end (Some xs) None x end = absurd x
+Tells_end (Some xs) (Some ys) x end = sym (x ∙ end)
+
+-- bytes that end within a message
+pub ends_badly : (held : List ℕ) → IsUnfinished held → held ≢ [] → Ends (held ++ []) bad
+ends_badly held waits some = subst (λ bytes. Ends bytes bad) (sym (append-nil held)) (waits.ends some)
+
+-- some bytes came
+pub some_came : (held bytes more : List ℕ) (n : ℕ) → 0 < n → n ≤ length bytes → held ++ (take n bytes ++ more) ≢ []
+some_came held bytes more n some within e =
+    absurd (omega (arith, ap length e, length-append held (take n bytes ++ more), length-append (take n bytes) more, length-take-le n bytes within))
+
+-- those that came are some
+pub are_some : (bytes : List ℕ) (n : ℕ) → 0 < n → n ≤ length bytes → take n bytes ≢ []
+are_some bytes n some within e = absurd (omega (arith, ap length e, length-take-le n bytes within))
+
+-- they are no more than the buffer holds
+pub are_few : (bytes : List ℕ) (n : ℕ) → n ≤ length bytes → length bytes ≤ 4096 → length (take n bytes) ≤ 4096
+are_few bytes n within room = omega (arith, length-take-le n bytes within)
+
+-- bytes that begin with a message are some
+pub message_some : (bytes : List ℕ) → HasMessage bytes → (more : List ℕ) → bytes ++ more ≢ []
+message_some bytes (m, rest, reads) more e =
+    no_message_at_end (bytes ++ more) clean e m (rest ++ more) (ReadsMessage-append bytes more m rest reads)

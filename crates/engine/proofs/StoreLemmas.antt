@@ -1,0 +1,152 @@
+-- A store goes through messages: none, one, and more after others.
+use Rattle.std.proofs.Common.{◌≡◌, ℕ, ◌≤◌, List, [], ◌∷◌, ◌++◌, map, refl, sym, subst, ap, ◌∙◌, inl, inr, Result, Ok, Err, arith, append-nil}
+use Rattle.std.proofs.lemmas.List.{map-append}
+use Rattle.wire.specs.Message.{Request}
+use Rattle.shelf.specs.declared.ask.Ask.{Ask}
+use Rattle.shelf.specs.declared.reply.Answer.TheVariants.{Replied, Failed}
+use Rattle.shelf.specs.declared.reply.Reply.{Reply}
+use Rattle.shelf.specs.declared.reply.StoreFault.{StoreFault}
+use Rattle.shelf.specs.declared.reply.StoreFault.TheVariants.{Memory, Device}
+use Rattle.shelf.specs.World.{World}
+use Rattle.shelf.specs.Machine.{ask_reply, after_ask, MetDevice, world_after}
+use Rattle.shelf.specs.Store.{Shown, Runs, Does, HasCause, GrewOrFull}
+use Rattle.engine.specs.Ask.{ask_of}
+use Rattle.engine.specs.Outcome.{Exchange, event_of, answer_of, AllUnmet}
+use Rattle.engine.specs.declared.outcome.Outcome.{Outcome}
+use Rattle.engine.specs.declared.outcome.Outcome.TheVariants.{Unasked, Met, Told}
+use Rattle.engine.specs.Store.{GoesThrough, LeavesTwo, world_at}
+use Rattle.engine.proofs.CrashLemmas.{leaves_kept, leaves_more}
+use Rattle.engine.proofs.RunLemmas.{runs_more, world_more, met_either}
+
+unmet_parts : (xs ys : List Exchange) → AllUnmet (xs ++ ys) → AllUnmet xs × AllUnmet ys
+unmet_parts [] ys all = (tt, all)
+unmet_parts (x ∷ xs) ys all = let parts = unmet_parts xs ys all.1 in ((all.0, parts.0), parts.1)
+
+-- the count of failures only grows
+grown_first : (before mid now : ℕ) → GrewOrFull before mid → mid ≤ now → GrewOrFull before now
+grown_first before mid now (inl grew) more = inl (omega arith)
+grown_first before mid now (inr full) more = inr (omega arith)
+
+grown_next : (before mid now : ℕ) → before ≤ mid → GrewOrFull mid now → GrewOrFull before now
+grown_next before mid now less (inl grew) = inl (omega arith)
+grown_next before mid now less (inr full) = inr full
+
+-- ---- none
+
+pub through_none : (shown : Shown) (count : ℕ) → GoesThrough shown shown count count []
+through_none shown count = record {
+  runs = record {
+    honest = λ h. h;
+    at = λ h w stands. record { run = refl; ends = stands; left = λ idle was. was };
+  };
+  left = λ h w stands was. was;
+  settled = λ unmet h w stands was. was;
+  untouched = λ none h w x was. was;
+  no_fewer = omega arith;
+  device = λ met. absurd met;
+}
+
+-- ---- one
+
+-- the machine was not asked
+pub through_unasked : (shown : Shown) (count : ℕ) (m : Request) → ((w x : World) → shown.leaves w w → shown.leaves w x)
+    → GoesThrough shown shown count count (record { message = m; outcome = Unasked } ∷ [])
+through_unasked shown count m wider = record {
+  runs = record {
+    honest = λ h. h;
+    at = λ h w stands. record { run = refl; ends = stands; left = λ idle was. was };
+  };
+  left = λ h w stands was. wider w _ was;
+  settled = λ unmet h w stands was. was;
+  untouched = λ none. cc;
+  no_fewer = omega arith;
+  device = λ met. elim met [ inl is ↦ cc | inr never ↦ absurd never ];
+}
+
+module _ (old new : Shown) (before now : ℕ) (m : Request) (ask : Ask) (is : ask ≡ ask_of m) where
+  -- it met a fault
+  pub through_met : (fault : StoreFault) → Does {T = Reply} old new (Err fault) (λ w. ask_reply w ask) (λ w. after_ask w ask)
+      → HasCause {T = Reply} before now (Err fault) → GoesThrough old new before now (record { message = m; outcome = Met fault } ∷ [])
+  through_met fault does cause = record {
+    runs = record {
+      honest = λ h. does.honest h;
+      at = λ h w stands. let at = does.at h w stands tt in record {
+        run = refl;
+        ends = at.err;
+        left = λ idle was. subst (λ x. new.leaves w x) (ap (after_ask w) is ∙ idle.0) (at.left was);
+      };
+    };
+    left = λ h w stands was. subst (λ x. new.leaves w x) (ap (after_ask w) is) ((does.at h w stands tt).left was);
+    settled = λ unmet. absurd unmet.0;
+    untouched = λ none. cc;
+    no_fewer = cause.no_fewer;
+    device = λ met. elim met [ inl same ↦ cause.device cc | inr never ↦ absurd never ];
+  }
+
+  -- it replied
+  pub through_told : (reply : Reply) → Does {T = Reply} old new (Ok reply) (λ w. ask_reply w ask) (λ w. after_ask w ask)
+      → HasCause {T = Reply} before now (Ok reply) → GoesThrough old new before now (record { message = m; outcome = Told reply } ∷ [])
+  through_told reply does cause = record {
+    runs = record {
+      honest = λ h. does.honest h;
+      at = λ h w stands. let at = does.at h w stands tt in record {
+        run = (at.answer ∙ ap (ask_reply w) is, refl);
+        ends = subst new.stands (ap (after_ask w) is) at.ok;
+        left = λ idle was. kept w (at.kept was);
+      };
+    };
+    left = λ h w stands was. subst (λ x. new.leaves w x) (ap (after_ask w) is) ((does.at h w stands tt).left was);
+    settled = λ unmet h w stands was. kept w ((does.at h w stands tt).kept was);
+    untouched = λ none. cc;
+    no_fewer = cause.no_fewer;
+    device = λ met. elim met [ inl same ↦ cc | inr never ↦ absurd never ];
+  }
+    where
+      kept : (w : World) → new.leaves (after_ask w ask) (after_ask w ask) → new.leaves (after_ask w (ask_of m)) (after_ask w (ask_of m))
+      kept w leaves = subst (λ x. new.leaves x x) (ap (after_ask w) is) leaves
+
+-- ---- more after others
+
+none_of : (xs ys : List Exchange) → xs ++ ys ≡ [] → (xs ≡ []) × (ys ≡ [])
+none_of [] ys e = (refl, e)
+none_of (x ∷ xs) ys e = cc
+
+module _ (old mid new : Shown) (before between now : ℕ) (xs : List Exchange) (first : GoesThrough old mid before between xs) where
+  -- a crash after both, by whether there are more
+  leaves_after : (ys : List Exchange) → GoesThrough mid new between now ys → new.is_honest → (w : World) → old.stands w → old.leaves w w
+      → LeavesTwo new w (xs ++ ys)
+  leaves_after [] next h w stands was =
+      subst (LeavesTwo new w) (sym (append-nil xs))
+      (leaves_kept mid new (next.untouched refl h) w xs (first.left (next.runs.honest h) w stands was))
+  leaves_after (y ∷ ys) next h w stands was =
+      let honest = next.runs.honest h in
+      leaves_more new w xs y ys (λ all. next.left h _ (first.runs.at honest w stands).ends (first.settled all honest w stands was))
+
+  module _ (ys : List Exchange) where
+    same_world : mid.is_honest → (w : World) → old.stands w → world_at (world_at w xs) ys ≡ world_at w (xs ++ ys)
+    same_world h w stands =
+        rw (map-append event_of xs ys, map-append answer_of xs ys)
+        (world_more w _ (map event_of xs) (map event_of ys) (map answer_of xs) (map answer_of ys) (first.runs.at h w stands).run)
+
+    pub through_more : GoesThrough mid new between now ys → GoesThrough old new before now (xs ++ ys)
+    through_more next = record {
+      runs = rw (map-append event_of xs ys, map-append answer_of xs ys)
+          (runs_more old mid new (map event_of xs) (map event_of ys) (map answer_of xs) (map answer_of ys) first.runs next.runs);
+      left = leaves_after ys next;
+      settled = λ unmet h w stands was.
+          let parts = unmet_parts xs ys unmet in
+          let honest = next.runs.honest h in
+          let there = (first.runs.at honest w stands).ends in
+          subst (λ x. new.leaves x x) (same_world honest w stands)
+          (next.settled parts.1 h _ there (first.settled parts.0 honest w stands was));
+      untouched = λ none h w x was.
+          let parts = none_of xs ys none in
+          next.untouched parts.1 h w x (first.untouched parts.0 (next.runs.honest h) w x was);
+      no_fewer = omega (arith, first.no_fewer, next.no_fewer);
+      device = λ met.
+          let either = met_either (map answer_of xs) (map answer_of ys) (rw (map-append answer_of xs ys) at met) in
+          elim either [
+            | inl earlier ↦ grown_first _ _ _ (first.device earlier) next.no_fewer
+            | inr later ↦ grown_next _ _ _ first.no_fewer (next.device later)
+          ];
+    }

@@ -1,0 +1,106 @@
+-- What was answered so far goes on.
+use Rattle.std.proofs.Common.{◌≡◌, ℕ, List, [], ◌∷◌, ◌++◌, Option, Some, None, map, refl, sym, ap, ◌∙◌, subst, append_assoc, append-nil}
+use Rattle.std.specs.List.{flat_map}
+use Rattle.std.specs.Io.KnownBytes.{Consumes, Appends}
+use Rattle.std.proofs.KnownBytes.{Appends-trans, Appends-nil}
+use Rattle.std.proofs.lemmas.List.{map-append}
+use Rattle.std.proofs.lemmas.Grind.{flat_map-append}
+use Rattle.wire.specs.Message.{Request, ReadsMessage, ReadsMessages}
+use Rattle.shelf.specs.Store.{Shown}
+use Rattle.engine.specs.Outcome.{Exchange, message_of}
+use Rattle.engine.specs.Reply.{text_of}
+use Rattle.engine.specs.Served.{texts_of}
+use Rattle.engine.specs.Store.{GoesThrough}
+use Rattle.engine.specs.Turn.{Answered, CutShort}
+use Rattle.engine.specs.Written.{WritesPart}
+use Rattle.engine.proofs.MessageLemmas.{ReadsMessages-append, ReadsMessages-join}
+use Rattle.engine.proofs.StoreLemmas.{through_none, through_more}
+
+-- nothing has been answered
+pub answered_none : (shown : Shown) (count : ℕ) (written : Option (List ℕ)) (input : List ℕ) → Answered shown shown count count written written input input
+answered_none shown count written input = record {
+  exchanges = [];
+  reads = refl;
+  through = through_none shown count;
+  appended = Appends-nil written;
+}
+
+-- more bytes came
+pub answered_before : (old new : Shown) (before now : ℕ) (w w' : Option (List ℕ)) (input rest more : List ℕ)
+    → Answered old new before now w w' input rest → Answered old new before now w w' (input ++ more) (rest ++ more)
+answered_before old new before now w w' input rest more far = record {
+  exchanges = far.exchanges;
+  reads = ReadsMessages-append input _ rest more far.reads;
+  through = far.through;
+  appended = far.appended;
+}
+
+pub cut_before : (old new : Shown) (before now : ℕ) (w w' : Option (List ℕ)) (input rest more : List ℕ)
+    → CutShort old new before now w w' input rest → CutShort old new before now w w' (input ++ more) (rest ++ more)
+cut_before old new before now w w' input rest more far = record {
+  first = far.first;
+  last = far.last;
+  part = far.part;
+  reads = ReadsMessages-append input _ rest more far.reads;
+  through = far.through;
+  begins = far.begins;
+  appended = far.appended;
+}
+
+-- one message was answered
+pub answered_one : (old new : Shown) (before now : ℕ) (w w' : Option (List ℕ)) (input rest : List ℕ) (x : Exchange)
+    → ReadsMessage input x.message rest → GoesThrough old new before now (x ∷ []) → Appends w w' (text_of x)
+    → Answered old new before now w w' input rest
+answered_one old new before now w w' input rest x reads through appends = record {
+  exchanges = x ∷ [];
+  reads = (rest, reads, refl);
+  through = through;
+  appended = subst (Appends w w') (sym (append-nil (text_of x))) appends;
+}
+
+-- its answer was cut short
+pub cut_one : (old new : Shown) (before now : ℕ) (w w' : Option (List ℕ)) (input rest : List ℕ) (x : Exchange)
+    → ReadsMessage input x.message rest → GoesThrough old new before now (x ∷ []) → WritesPart w w' (text_of x)
+    → CutShort old new before now w w' input rest
+cut_one old new before now w w' input rest x reads through (part, begins, appends) = record {
+  first = [];
+  last = x;
+  part = part;
+  reads = (rest, reads, refl);
+  through = through;
+  begins = begins;
+  appended = appends;
+}
+
+module _
+    (old mid new : Shown) (before between now : ℕ) (w₀ w₁ w₂ : Option (List ℕ)) (input rest after : List ℕ)
+    (far : Answered old mid before between w₀ w₁ input rest) where
+  -- more messages were answered
+  pub answered_more : Answered mid new between now w₁ w₂ rest after → Answered old new before now w₀ w₂ input after
+  answered_more next = record {
+    exchanges = far.exchanges ++ next.exchanges;
+    reads = rw (map-append message_of far.exchanges next.exchanges)
+        (ReadsMessages-join input _ _ rest after far.reads next.reads);
+    through = through_more old mid new before between now _ far.through _ next.through;
+    appended = subst (Appends w₀ w₂) (sym (flat_map-append text_of far.exchanges next.exchanges)) (Appends-trans w₀ w₁ w₂ _ _ far.appended next.appended);
+  }
+
+  -- they were, but for the last
+  pub cut_more : CutShort mid new between now w₁ w₂ rest after → CutShort old new before now w₀ w₂ input after
+  cut_more next =
+      let same : far.exchanges ++ (next.first ++ next.last ∷ []) ≡ (far.exchanges ++ next.first) ++ next.last ∷ [] =
+      sym (append_assoc far.exchanges next.first (next.last ∷ [])) in
+      record {
+        first = far.exchanges ++ next.first;
+        last = next.last;
+        part = next.part;
+        reads = subst (λ (xs : List Exchange). ReadsMessages input (map message_of xs) after) same
+            (rw (map-append message_of far.exchanges (next.first ++ next.last ∷ []))
+            (ReadsMessages-join input _ _ rest after far.reads next.reads));
+        through = subst (λ (xs : List Exchange). GoesThrough old new before now xs) same
+            (through_more old mid new before between now _ far.through _ next.through);
+        begins = next.begins;
+        appended = subst (Appends w₀ w₂)
+            (sym (append_assoc (texts_of far.exchanges) (texts_of next.first) next.part) ∙ ap (λ bytes. bytes ++ next.part) (sym (flat_map-append text_of far.exchanges next.first)))
+            (Appends-trans w₀ w₁ w₂ _ _ far.appended next.appended);
+      }

@@ -1,0 +1,64 @@
+-- What a message asks of the machine.
+use Rattle.std.specs.Prelude.{ℕ, List, [], ◌∷◌, Bool, ◌&&◌, not, if◌then◌else◌, Option, Some, None, nat_le, nat_lt, nat_eq, length, take, drop, slice_index, map}
+use Rattle.std.specs.List.{list_all}
+use Rattle.std.specs.Char.{is_ascii_digit}
+use Rattle.std.specs.Str.Parse.{digits_value}
+use Rattle.wire.specs.Message.{Request}
+use Rattle.wire.specs.Target.{target_of}
+use Rattle.wire.specs.declared.request.Query.{Query as Wanted}
+use Rattle.wire.specs.declared.request.Query.TheVariants as wanted
+use Rattle.wire.specs.declared.request.Target.{Target}
+use Rattle.wire.specs.declared.request.Target.TheVariants as target
+use Rattle.shelf.specs.declared.ask.Query.{Query}
+use Rattle.shelf.specs.declared.ask.Query.TheVariants as query
+use Rattle.shelf.specs.declared.ask.Body.{Body}
+use Rattle.shelf.specs.declared.ask.Ask.{Ask}
+use Rattle.shelf.specs.declared.ask.Ask.TheVariants as ask
+use Rattle.shelf.specs.declared.ask.Event.{Event}
+use Rattle.shelf.specs.declared.ask.Event.TheVariants.{Asked}
+
+-- `0`, or one to ten decimal digits of which the first is not 0
+abbrev pub is_length : List ℕ → Bool
+is_length text =
+    nat_lt 0 (length text) && nat_le (length text) 10
+    && not (nat_lt 1 (length text) && nat_eq (slice_index text 0) 48) && list_all is_ascii_digit text
+
+-- the number that a length value writes
+abbrev pub length_value : List ℕ → Option ℕ
+length_value text = if is_length text then Some (digits_value 10 text) else None
+
+-- a number that is not above the most
+abbrev pub at_most : ℕ → Option ℕ → Option ℕ
+at_most most None = None
+at_most most (Some n) = if nat_le n most then Some n else None
+
+-- the length of the go.mod: that of the one `Mod-Length`, where it is a length value and not above the body
+abbrev pub gomod_len : List (List ℕ) → ℕ → Option ℕ
+gomod_len [] most = None
+gomod_len (text ∷ []) most = at_most most (length_value text)
+gomod_len (text ∷ other ∷ more) most = None
+
+-- the first so many bytes are the go.mod, the rest is the zip
+abbrev pub split_at : List ℕ → Option ℕ → Option Body
+split_at body None = None
+split_at body (Some n) = Some (record { gomod = take n body; zip = drop n body })
+
+-- the files of a publish
+abbrev pub body_of : Request → Option Body
+body_of m = split_at m.body (gomod_len m.mod_lengths (length m.body))
+
+abbrev pub query_of : Wanted → Query
+query_of (wanted.GoMod path version) = query.GoMod path version
+query_of (wanted.Zip path version) = query.Zip path version
+
+abbrev pub ask_at : Request → Target → Ask
+ask_at m target.Unreadable = ask.Unreadable
+ask_at m (target.Get key wanted) = ask.Get key (query_of wanted)
+ask_at m (target.Put key path version) = ask.Put key (record { path = path; version = version; body = body_of m })
+
+abbrev pub ask_of : Request → Ask
+ask_of m = ask_at m (target_of m.method m.target)
+
+-- the event that a message is
+abbrev pub event_of : Request → Event
+event_of m = Asked (ask_of m)

@@ -1,0 +1,63 @@
+-- What is written for the first message of a stream.
+use Rattle.std.specs.Prelude.{◌≡◌, ℕ, ◌≤◌, ◌⊎◌, List, [], ◌∷◌, ◌++◌, length, Option, Some, None, Result, Ok, Err}
+use Rattle.std.specs.Io.KnownBytes.{Consumes, Appends, Keeps}
+use Rattle.wire.specs.Message.{ReadsMessage}
+use Rattle.wire.specs.Framing.{IsUnfinished}
+use Rattle.wire.specs.Reply.{status_number}
+use Rattle.wire.specs.declared.reply.Fixed.{Fixed}
+use Rattle.shelf.specs.Store.{Shown}
+use Rattle.engine.specs.Outcome.{Exchange, answer_of}
+use Rattle.engine.specs.Reply.{text_of, status_of}
+use Rattle.engine.specs.Store.{GoesThrough}
+use Rattle.engine.specs.Written.{WritesPart}
+use Rattle.engine.specs.Served.{Tells, IsClosing, closing_bytes, closing_status}
+use Rattle.engine.specs.declared.fault.Io.{Io}
+use Rattle.engine.specs.declared.fault.Io.TheVariants as io
+
+-- what stands first: a message, or what closes a stream that begins with none
+pub data First : Type 0 where
+  Answers : Exchange → First
+  Closes : Option Fixed → First
+
+-- it stands first in the input
+abbrev pub IsFirst : First → List ℕ → Type 0
+IsFirst (Answers x) input = (rest : List ℕ) × ReadsMessage input x.message rest
+IsFirst (Closes closing) input = IsClosing input closing
+
+abbrev pub first_bytes : First → List ℕ
+first_bytes (Answers x) = text_of x
+first_bytes (Closes closing) = closing_bytes closing
+
+-- the number of the status written, or none where nothing is
+abbrev pub first_status : First → Option ℕ
+first_status (Answers x) = Some (status_number (status_of (answer_of x)))
+first_status (Closes closing) = closing_status closing
+
+abbrev pub first_exchanges : First → List Exchange
+first_exchanges (Answers x) = x ∷ []
+first_exchanges (Closes closing) = []
+
+-- It stands first in what the reader tells, and no more was read than was needed: before the last read, of at most 4,096 bytes,
+-- there was no whole message, and the stream could go on.
+pub record TakesFirst (unread unread_new : Option (List ℕ)) (first : First) : Type 0 where
+  pub input : List ℕ
+  pub told : Tells unread input
+  pub stands : IsFirst first input
+  pub early : List ℕ
+  pub last : List ℕ
+  pub consumed : Consumes unread unread_new (early ++ last)
+  pub few : length last ≤ 4096
+  pub unfinished : IsUnfinished early
+
+-- The first message was answered as the machine answers it, or the stream closed without one: the number tells which status was
+-- written. Or a read failed before, and nothing was done; or a write failed, and a beginning was written, or the flush alone failed.
+abbrev pub ServesFirst :
+    Shown → Shown → ℕ → ℕ → Option (List ℕ) → Option (List ℕ) → Option (List ℕ) → Option (List ℕ) → Result (Option ℕ) Io → Type 0
+ServesFirst old new before now unread unread_new written written_new (Ok status) =
+    (first : First) × TakesFirst unread unread_new first × GoesThrough old new before now (first_exchanges first)
+    × (status ≡ first_status first) × Appends written written_new (first_bytes first)
+ServesFirst old new before now unread unread_new written written_new (Err io.Read) =
+    (got : List ℕ) × Consumes unread unread_new got × IsUnfinished got × GoesThrough old new before now [] × Keeps written written_new
+ServesFirst old new before now unread unread_new written written_new (Err io.Write) =
+    (first : First) × TakesFirst unread unread_new first × GoesThrough old new before now (first_exchanges first)
+    × (WritesPart written written_new (first_bytes first) ⊎ Appends written written_new (first_bytes first))

@@ -1,0 +1,9 @@
+pub mod Ask
+pub mod First
+pub mod Isolated
+pub mod Outcome
+pub mod Reply
+pub mod Served
+pub mod Store
+pub mod Turn
+pub mod Written

@@ -1,0 +1,73 @@
+-- What is written for a stream.
+use Rattle.std.specs.Prelude.{◌≡◌, ◌≢◌, ℕ, ◌⊎◌, List, [], ◌∷◌, ◌++◌, Option, Some, None, map, ⊤, Result, Ok, Err}
+use Rattle.std.specs.List.{flat_map}
+use Rattle.std.specs.Io.KnownBytes.{Consumes, Appends}
+use Rattle.wire.specs.Message.{ReadsMessages, Ends, clean, too_large, bad}
+use Rattle.wire.specs.Framing.{IsUnfinished}
+use Rattle.wire.specs.Reply.{fixed_bytes, fixed_status, status_number}
+use Rattle.wire.specs.declared.reply.Fixed.{Fixed}
+use Rattle.wire.specs.declared.reply.Fixed.TheVariants.{TooLarge, BadRequest, Unavailable}
+use Rattle.shelf.specs.Store.{Shown}
+use Rattle.engine.specs.Outcome.{Exchange, message_of}
+use Rattle.engine.specs.Reply.{text_of}
+use Rattle.engine.specs.Store.{GoesThrough}
+use Rattle.engine.specs.Written.{IsBeginning}
+use Rattle.engine.specs.declared.fault.Io.{Io}
+use Rattle.engine.specs.declared.fault.Io.TheVariants as io
+
+-- the input is what the reader tells, where it tells
+abbrev pub Tells : Option (List ℕ) → List ℕ → Type 0
+Tells None input = ⊤
+Tells (Some bytes) input = input ≡ bytes
+
+-- What closes a stream whose messages leave this rest: nothing at a good end, the 413 at a front that is too large, the 400
+-- at any other rest; or one 503 for want of memory, in the place of what is left.
+abbrev pub IsClosing : List ℕ → Option Fixed → Type 0
+IsClosing rest None = Ends rest clean
+IsClosing rest (Some TooLarge) = Ends rest too_large
+IsClosing rest (Some BadRequest) = Ends rest bad
+IsClosing rest (Some Unavailable) = rest ≢ []
+IsClosing rest (Some other) = ⊥
+
+abbrev pub closing_bytes : Option Fixed → List ℕ
+closing_bytes None = []
+closing_bytes (Some closing) = fixed_bytes closing
+
+abbrev pub closing_status : Option Fixed → Option ℕ
+closing_status None = None
+closing_status (Some closing) = Some (status_number (fixed_status closing))
+
+-- all that is written for the exchanges
+abbrev pub texts_of : List Exchange → List ℕ
+texts_of exchanges = flat_map text_of exchanges
+
+-- a write failed: in the last answer, or in what closes the stream, or only the flush after all
+abbrev pub IsBrokenOff : List Exchange → List ℕ → List ℕ → Type 0
+IsBrokenOff exchanges rest out =
+    ((first : List Exchange) × (last : Exchange) × (part : List ℕ) × (exchanges ≡ first ++ last ∷ [])
+    × IsBeginning part (text_of last) × (out ≡ texts_of first ++ part))
+    ⊎ ((closing : Option Fixed) × (part : List ℕ) × IsClosing rest closing
+    × IsBeginning part (closing_bytes closing) × (out ≡ texts_of exchanges ++ part))
+    ⊎ ((closing : Option Fixed) × IsClosing rest closing × (out ≡ texts_of exchanges ++ closing_bytes closing))
+
+-- How it ended. A good end: all messages were answered, and the stream was closed. A failed read: each message that was read
+-- was answered, and what was read behind them is no whole message. A failed write: as above.
+abbrev pub Ended : Option (List ℕ) → Option (List ℕ) → List Exchange → List ℕ → List ℕ → List ℕ → Result (Unit {0}) Io → Type 0
+Ended unread unread_new exchanges input rest out (Ok u) =
+    Tells unread input × ((closing : Option Fixed) × IsClosing rest closing × (out ≡ texts_of exchanges ++ closing_bytes closing))
+Ended unread unread_new exchanges input rest out (Err io.Read) =
+    Consumes unread unread_new input × IsUnfinished rest × (out ≡ texts_of exchanges)
+Ended unread unread_new exchanges input rest out (Err io.Write) = Tells unread input × IsBrokenOff exchanges rest out
+
+-- The messages at the front of the input were answered one after another, as the machine answers them, and so it ended.
+pub record Serves
+    (old new : Shown) (before now : ℕ) (unread unread_new written written_new : Option (List ℕ))
+    (result : Result (Unit {0}) Io) : Type 0 where
+  pub exchanges : List Exchange
+  pub input : List ℕ
+  pub rest : List ℕ
+  pub out : List ℕ
+  pub reads : ReadsMessages input (map message_of exchanges) rest
+  pub through : GoesThrough old new before now exchanges
+  pub appended : Appends written written_new out
+  pub ends : Ended unread unread_new exchanges input rest out result

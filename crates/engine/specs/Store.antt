@@ -1,0 +1,30 @@
+-- What a store goes through while messages are answered.
+use Rattle.std.specs.Prelude.{◌≡◌, ℕ, ◌≤◌, List, [], ◌∷◌, map}
+use Rattle.shelf.specs.Machine.{after, world_after, MetDevice}
+use Rattle.shelf.specs.World.{World}
+use Rattle.shelf.specs.Store.{Shown, Runs, GrewOrFull}
+use Rattle.engine.specs.Outcome.{Exchange, event_of, answer_of, IsUnmet, AllUnmet}
+
+-- where the machine is after the exchanges
+abbrev pub world_at : World → List Exchange → World
+world_at w exchanges = world_after w (map event_of exchanges) (map answer_of exchanges)
+
+-- As long as no message but the last met a fault, a crash leaves the world before the last or the world after it.
+abbrev pub LeavesTwo : Shown → World → List Exchange → Type 0
+LeavesTwo shown w [] = shown.leaves w w
+LeavesTwo shown w (x ∷ []) = shown.leaves w (after w (event_of x))
+LeavesTwo shown w (x ∷ y ∷ more) = IsUnmet x.outcome → LeavesTwo shown (world_at w (x ∷ [])) (y ∷ more)
+
+-- From old to new the store went through the exchanges, with these counts of device failures before and now.
+pub record GoesThrough (old new : Shown) (before now : ℕ) (exchanges : List Exchange) : Type 0 where
+  -- the messages were answered in a run of the machine
+  pub runs : Runs old new (map event_of exchanges) (map answer_of exchanges)
+  -- where a crash left the world of the begin alone: two worlds at most, and that of the end alone if no message met a fault
+  pub left : new.is_honest → (w : World) → old.stands w → old.leaves w w → LeavesTwo new w exchanges
+  pub settled : AllUnmet exchanges → new.is_honest → (w : World) → old.stands w → old.leaves w w
+      → new.leaves (world_at w exchanges) (world_at w exchanges)
+  -- without messages nothing changes
+  pub untouched : exchanges ≡ [] → new.is_honest → (w x : World) → old.leaves w x → new.leaves w x
+  -- a failed device is told only where one failed
+  pub no_fewer : before ≤ now
+  pub device : MetDevice (map answer_of exchanges) → GrewOrFull before now

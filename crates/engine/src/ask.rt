@@ -1,0 +1,104 @@
+//! What a message asks of the machine.
+ghost use Rattle.std.specs.Prelude.{◌≡◌, IfOk};
+ghost use Rattle.std.specs.Char.{is_ascii_digit};
+ghost use Rattle.std.specs.List.{list_all};
+ghost use Rattle.wire.specs.Framing.{view, texts};
+ghost use Rattle.engine.specs.Ask as spec;
+
+use shelf::ask::{Ask, Body, Publish, Query};
+use shelf::bytes::Bytes;
+use shelf::text::Text;
+use std::alloc::{AllocError, Global};
+use wire::{Memory, Message, Query as Wanted, Target, target};
+
+/// What the message asks. The go.mod of a publish is the first bytes of its body, as many as `Mod-Length` says.
+pub(crate) fn ask_of(alloc: Global, message: Message) -> Result<Ask, Memory>
+    ensures { IfOk result (λ ask. ask ≡ spec.ask_of (view message)) }
+{
+    match target(alloc, &message.method, &message.target)? {
+        Target::Unreadable => Ok(Ask::Unreadable),
+        Target::Get { key, query } => Ok(Ask::Get {
+            key: Text::new(key.into_string()),
+            query: query_of(query),
+        }),
+        Target::Put { key, path, version } => {
+            let body = body_of(message)?;
+            Ok(Ask::Put {
+                key: Text::new(key.into_string()),
+                publish: Publish {
+                    path,
+                    version,
+                    body,
+                },
+            })
+        }
+    }
+}
+
+fn query_of(wanted: Wanted) -> Query
+    ensures { result ≡ spec.query_of wanted }
+{
+    match wanted {
+        Wanted::GoMod { path, version } => Query::GoMod { path, version },
+        Wanted::Zip { path, version } => Query::Zip { path, version },
+    }
+}
+
+/// The files of a publish. The body itself becomes the go.mod, so that the zip alone is copied.
+fn body_of(message: Message) -> Result<Option<Body>, AllocError>
+    ensures { IfOk result (λ body. body ≡ spec.body_of (view message)) }
+{
+    let Some(len) = gomod_len(&message.mod_lengths, message.body.len()) else {
+        return Ok(None);
+    };
+    let mut gomod = message.body;
+    let zip = gomod.split_off(len)?;
+    Ok(Some(Body {
+        gomod: Bytes::new(gomod),
+        zip: Bytes::new(zip),
+    }))
+}
+
+/// The length of the go.mod, where the values of `Mod-Length` say one that is not above the body.
+fn gomod_len(values: &[Vec<u8>], most: usize) -> Option<usize>
+    ensures { result ≡ spec.gomod_len (texts values.now) most }
+{
+    let [text] = values else {
+        return None;
+    };
+    let len = length_value(text)?;
+    if len <= most { Some(len) } else { None }
+}
+
+/// The number that a length value writes.
+fn length_value(text: &[u8]) -> Option<usize>
+    ensures { result ≡ spec.length_value text.now }
+{
+    if !is_length(text) {
+        return None;
+    }
+    let mut n = 0;
+    for digit in text {
+        n = n * 10 + (*digit - b'0') as usize;
+    }
+    Some(n)
+}
+
+/// Whether a text is `0`, or one to ten decimal digits of which the first is not 0.
+fn is_length(text: &[u8]) -> bool
+    ensures { result ≡ spec.is_length text.now }
+{
+    if text.is_empty() || text.len() > 10 {
+        return false;
+    }
+    if text.len() > 1 && text[0] == b'0' {
+        return false;
+    }
+    are_digits(text)
+}
+
+fn are_digits(text: &[u8]) -> bool
+    ensures { result ≡ list_all is_ascii_digit text.now }
+{
+    text.iter().all(|c| c.is_ascii_digit())
+}

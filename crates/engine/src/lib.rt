@@ -1,0 +1,44 @@
+//! Bytes in, bytes out: the requests of a stream, answered one after another by the machine of the shelves.
+//!
+//! A stream is messages of HTTP/1.0 or 1.1 (RFC 9112) behind one another, in the crate `wire`'s profile; the machine is the
+//! crate `shelf`'s, over any store. What is written for a stream is the reply to each of its messages, and then what closes it:
+//!
+//! | what is left after the messages | what is written for it |
+//! |---|---|
+//! | nothing | nothing |
+//! | a good head that announces a body of more than 17,825,792 bytes | one 413 |
+//! | anything else, as half a message | one 400 |
+//! | anything, where memory is refused while a message is gathered or handed out | one 503, in the place of all that is left |
+//!
+//! A message is answered as `shelf`'s machine answers what it asks: its target read by `wire`, the first bytes of the body of a
+//! PUT as the go.mod, as many as the one header `Mod-Length` says, and the rest as the zip. A PUT whose `Mod-Length` is absent,
+//! doubled, no length value or above the body has no files, and the machine's checks answer it.
+//!
+//! | body of the PUT | `Mod-Length` | go.mod and zip |
+//! |---|---|---|
+//! | `module example.com/a`, a newline, `Z` | `21` | `module example.com/a` and its newline; `Z` |
+//! | the same | `0` | nothing; the whole body |
+//! | the same | `23`, `021`, `+21`, two headers, or none | none: 400 `bad mod-length` |
+//!
+//! A message is answered 503 where there is no memory to read what it asks, or where the store met a fault; then it changed
+//! nothing. A reply is written from the stack, so nothing but the writer can fail once the machine has answered: a publish that
+//! the store accepted is never answered 503.
+//!
+//! A read or a write that is interrupted is made anew, a thousand times at most. A reader or a writer that fails gives
+//! [`Io`]: what was done before stays, and the contracts of [`answer_all`] and [`answer_one`] say what was written.
+#![tactic(auto)]
+
+mod answer;
+mod ask;
+pub mod fault;
+pub mod outcome;
+mod read;
+mod show;
+mod turn;
+mod write;
+
+pub use answer::{answer_all, answer_one};
+pub use fault::Io;
+
+#[cfg(test)]
+mod tests;

@@ -1,0 +1,110 @@
+//! Writing whole texts.
+ghost use Rattle.std.specs.Prelude.{◌≡◌, ◌≢◌, ◌<◌, ◌≤◌, ◌++◌, ℕ, [], length, take, IfOk, IfErr, OnErr};
+ghost use Rattle.std.specs.Io.KnownBytes.{Appends, Keeps};
+ghost use Rattle.wire.specs.Reply.{fixed_bytes, fixed_status, reply_bytes};
+ghost use Rattle.engine.specs.Served.{closing_bytes, closing_status};
+ghost use Rattle.engine.specs.Turn.{Delivers};
+ghost use Rattle.engine.specs.Written.{Writes};
+
+use crate::fault::Io;
+use crate::read::TRIES;
+use std::io::{ErrorKind, Write};
+use wire::reply::{Fixed, Kind, Status};
+use wire::{fixed, put_head};
+
+/// Writes some of the bytes; a call that is interrupted is made anew.
+fn write_some<W: Write>(writer: &mut W, bytes: &[u8]) -> Result<usize, Io>
+    ensures some { IfOk result (λ n. 0 < n) }
+    ensures within { IfOk result (λ n. n ≤ length bytes.now) }
+    ensures ok { IfOk result (λ n. Appends (W.contents writer.old) (W.contents writer.new) (take n bytes.now)) }
+    ensures err { OnErr result (Keeps (W.contents writer.old) (W.contents writer.new)) }
+    ensures which { IfErr result (λ e. e ≡ Io.Write) }
+{
+    for _ in 0..TRIES {
+        match writer.write(bytes) {
+            Ok(0) => return Err(Io::Write),
+            Ok(n) => return Ok(n),
+            Err(e) if e.kind() == ErrorKind::Interrupted => {}
+            Err(_) => return Err(Io::Write),
+        }
+    }
+    Err(Io::Write)
+}
+
+/// Writes all the bytes. An `Err` has written a beginning of them, and not all.
+pub(crate) fn write_bytes<W: Write>(writer: &mut W, bytes: &[u8]) -> Result<(), Io>
+    ensures { Writes (W.contents writer.old) (W.contents writer.new) bytes.now result }
+{
+    let mut rest = bytes;
+    while !rest.is_empty() {
+        let n = write_some(writer, rest)?;
+        rest = &rest[n..];
+    }
+    Ok(())
+}
+
+/// Writes one text after another.
+fn write_both<W: Write>(writer: &mut W, first: &[u8], second: &[u8]) -> Result<(), Io>
+    ensures { Writes (W.contents writer.old) (W.contents writer.new) (first.now ++ second.now) result }
+{
+    write_bytes(writer, first)?;
+    write_bytes(writer, second)
+}
+
+/// Writes a fixed reply, with no memory, and answers its status.
+pub(crate) fn write_fixed<W: Write>(writer: &mut W, answer: Fixed) -> Result<Status, Io>
+    ensures bytes { Writes (W.contents writer.old) (W.contents writer.new) (fixed_bytes answer) result }
+    ensures status { IfOk result (λ status. status ≡ fixed_status answer) }
+{
+    let mut buf = [0; 160];
+    let len = fixed(answer, &mut buf);
+    write_bytes(writer, &buf[..len])?;
+    Ok(answer.status())
+}
+
+/// Writes a 200 with a body, with no memory and no copy of the body, and answers its status.
+pub(crate) fn write_body<W: Write>(writer: &mut W, kind: Kind, body: &[u8]) -> Result<Status, Io>
+    ensures bytes { Writes (W.contents writer.old) (W.contents writer.new) (reply_bytes Status.Ok kind body.now) result }
+    ensures status { IfOk result (λ status. status ≡ Status.Ok) }
+{
+    let mut buf = [0; 160];
+    let len = put_head(kind, body.len(), &mut buf);
+    write_both(writer, &buf[..len], body)?;
+    Ok(Status::Ok)
+}
+
+/// Flushes what was written.
+pub(crate) fn flush<W: Write>(writer: &mut W) -> Result<(), Io>
+    ensures bytes { Keeps (W.contents writer.old) (W.contents writer.new) }
+    ensures which { IfErr result (λ e. e ≡ Io.Write) }
+{
+    match writer.flush() {
+        Ok(()) => Ok(()),
+        Err(_) => Err(Io::Write),
+    }
+}
+
+/// Closes a stream: by a fixed reply, or by nothing; and flushes.
+pub(crate) fn close<W: Write>(writer: &mut W, closing: Option<Fixed>) -> Result<(), Io>
+    ensures { Delivers (W.contents writer.old) (W.contents writer.new) (closing_bytes closing) result }
+{
+    if let Some(closing) = closing {
+        write_fixed(writer, closing)?;
+    }
+    flush(writer)
+}
+
+/// Closes a stream, and answers the number of the status that was written, if one was.
+pub(crate) fn close_first<W: Write>(
+    writer: &mut W,
+    closing: Option<Fixed>,
+) -> Result<Option<u16>, Io>
+    ensures bytes { Delivers (W.contents writer.old) (W.contents writer.new) (closing_bytes closing) result }
+    ensures status { IfOk result (λ status. status ≡ closing_status closing) }
+{
+    close(writer, closing)?;
+    match closing {
+        Some(closing) => Ok(Some(closing.status().number())),
+        None => Ok(None),
+    }
+}

@@ -1,0 +1,36 @@
+-- What a run over shelves in memory begins with, and how it ends.
+use Rattle.std.specs.Prelude.{ℕ, List, ◌≡◌, true, Option, Result, Ok, Err}
+use Rattle.std.specs.Io.KnownBytes.{Keeps}
+use Rattle.engine.specs.Served.{Serves}
+use Rattle.engine.specs.declared.fault.Io.{Io as Failure}
+use Rattle.shelf.specs.InMemory.{in_memory}
+use Rattle.shelf.specs.World.{World, only_common, with_team, with_key, is_team_name, is_key}
+use Rattle.shelf.specs.declared.entry.Right.TheVariants.{Publishes}
+use Rattle.goshelf.specs.declared.refusal.Refusal.{Refusal}
+use Rattle.goshelf.specs.declared.refusal.Refusal.TheVariants.{Name, Memory, Io}
+
+-- `common`, one team, and the team's publishing key
+abbrev pub opening : List ℕ → List ℕ → World
+opening team key = with_key (with_team only_common team) key (record { shelf = team; right = Publishes })
+
+-- the team and the key keep the rules of their kinds
+pub record AreNames (team key : List ℕ) : Type 0 where
+  pub team_name : is_team_name team ≡ true
+  pub key_name : is_key key ≡ true
+
+-- the requests were answered by shelves that began so, and it ended like this
+abbrev pub ServedFrom : World → Option (List ℕ) → Option (List ℕ) → Option (List ℕ) → Option (List ℕ) → Result (Unit {0}) Failure → Type 0
+ServedFrom start unread unread_new written written_new result =
+    (end : World) × Serves (in_memory start) (in_memory end) 0 0 unread unread_new written written_new result
+
+-- With names that keep their rules the requests are answered, or there was no memory to begin. With others nothing is read or written.
+abbrev pub AnsweredFor :
+    List ℕ → List ℕ → Option (List ℕ) → Option (List ℕ) → Option (List ℕ) → Option (List ℕ) → Result (Unit {0}) Refusal → Type 0
+AnsweredFor team key unread unread_new written written_new (Ok u) =
+    AreNames team key × ServedFrom (opening team key) unread unread_new written written_new (Ok tt)
+AnsweredFor team key unread unread_new written written_new (Err Io) =
+    AreNames team key × ((failure : Failure) × ServedFrom (opening team key) unread unread_new written written_new (Err failure))
+AnsweredFor team key unread unread_new written written_new (Err Name) =
+    (¬ AreNames team key) × (unread_new ≡ unread) × (written_new ≡ written)
+AnsweredFor team key unread unread_new written written_new (Err Memory) =
+    AreNames team key × (unread_new ≡ unread) × (written_new ≡ written)

@@ -1,0 +1,31 @@
+//! `goshelf`: a private Go module proxy with team shelves.
+//!
+//! One run of the program is the call [`command::command`]; `main` hands it the words, the streams and the runtime of the system.
+#![tactic(auto)]
+
+mod arguments;
+mod command;
+mod memory;
+mod refusal;
+#[cfg(test)]
+mod tests;
+
+use command::{command, words_refused};
+use std::env;
+use std::process::ExitCode;
+
+fn main(rt: HostRuntime) -> ExitCode {
+    let mut errors = rt.stderr();
+    let mut words = match env::args(&rt) {
+        Ok(words) => words,
+        Err(error) => return ExitCode::from(words_refused(error, &mut errors)),
+    };
+    let _name = words.next();
+    let words = match words.collect::<Vec<String>>(rt.alloc()) {
+        Ok(words) => words,
+        Err(error) => return ExitCode::from(words_refused(error.into(), &mut errors)),
+    };
+    let mut input = rt.reader();
+    let mut output = rt.stdout();
+    ExitCode::from(command(&rt, words.as_slice(), &mut input, &mut output, &mut errors))
+}

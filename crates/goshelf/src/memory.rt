@@ -1,0 +1,79 @@
+//! Shelves in memory, for one run of the program.
+ghost use Rattle.std.specs.Prelude.{◌≡◌, ◌⊎◌, true, OnOk, OnErr, IfOk, IfErr};
+ghost use Rattle.shelf.specs.World.{only_common, with_team, is_team_name, is_key};
+ghost use Rattle.goshelf.specs.Opening.{AnsweredFor, AreNames, opening};
+
+use crate::refusal::Refusal;
+use engine::answer_all;
+use shelf::entry::Right;
+use shelf::map_shelves::MapShelves;
+use shelf::names::{is_key, is_team_name};
+use shelf::shelves::Shelves;
+use std::alloc::Global;
+use std::io::{Read, Write};
+
+/// Adds the first team.
+fn add_first_team(shelves: &mut MapShelves, team: &str) -> Result<(), Refusal>
+    requires begins { shelves.old ≡ only_common }
+    requires named { is_team_name team.now ≡ true }
+    ensures ok { OnOk result (shelves.new ≡ with_team only_common team.now) }
+    ensures err { IfErr result (λ e. e ≡ Refusal.Memory) }
+{
+    match shelves.team_add(team) {
+        Ok(_) => Ok(()),
+        Err(_) => Err(Refusal::Memory),
+    }
+}
+
+/// Adds the publishing key of the first team.
+fn add_first_key(shelves: &mut MapShelves, team: &str, key: &str) -> Result<(), Refusal>
+    requires begins { shelves.old ≡ with_team only_common team.now }
+    requires team_named { is_team_name team.now ≡ true }
+    requires named { is_key key.now ≡ true }
+    ensures ok { OnOk result (shelves.new ≡ opening team.now key.now) }
+    ensures err { IfErr result (λ e. e ≡ Refusal.Memory) }
+{
+    match shelves.key_add(team, key, Right::Publishes) {
+        Ok(_) => Ok(()),
+        Err(_) => Err(Refusal::Memory),
+    }
+}
+
+/// Shelves in memory that have `common`, the team and its publishing key. A team or a key that breaks its
+/// rule is `Name`; else only want of memory stops it.
+pub fn shelves_with(alloc: Global, team: &str, key: &str) -> Result<MapShelves, Refusal>
+    ensures ok { IfOk result (λ shelves. (shelves ≡ opening team.now key.now) × AreNames team.now key.now) }
+    ensures err { IfErr result (λ e. ((e ≡ Refusal.Memory) × AreNames team.now key.now) ⊎ ((e ≡ Refusal.Name) × (¬ AreNames team.now key.now))) }
+{
+    if !is_team_name(team) || !is_key(key) {
+        return Err(Refusal::Name);
+    }
+    let Ok(mut shelves) = MapShelves::new(alloc) else {
+        return Err(Refusal::Memory);
+    };
+    add_first_team(&mut shelves, team)?;
+    add_first_key(&mut shelves, team, key)?;
+    Ok(shelves)
+}
+
+/// Answers the requests of the input from shelves in memory that begin with `common`, the team and its
+/// publishing key. `Name` where one of them breaks its rule, and `Memory` where there is none to begin with:
+/// then nothing is read. `Io` where the input or the output failed.
+pub fn answer_in_memory<I: Read, O: Write>(
+    alloc: Global,
+    team: &str,
+    key: &str,
+    input: &mut I,
+    output: &mut O,
+) -> Result<(), Refusal>
+    ensures { AnsweredFor team.now key.now (I.remaining input.old) (I.remaining input.new) (O.contents output.old) (O.contents output.new) result }
+{
+    let mut shelves = match shelves_with(alloc, team, key) {
+        Ok(shelves) => shelves,
+        Err(refusal) => return Err(refusal),
+    };
+    match answer_all(alloc, input, output, &mut shelves) {
+        Ok(()) => Ok(()),
+        Err(_) => Err(Refusal::Io),
+    }
+}

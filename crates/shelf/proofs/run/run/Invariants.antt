@@ -1,0 +1,17 @@
+use Rattle.std.proofs.Common.{◌≡◌, ◌≤◌, length, take}
+use Rattle.std.specs.Prelude.{vec_len, vec_capacity}
+use Rattle.shelf.specs.Machine.{MetDevice}
+use Rattle.shelf.specs.Store.{Runs, GrewOrFull}
+use Rattle.shelf.proofs.run.run.Given as goal
+
+-- the events so far were answered by a run, and there is room for each answer
+abbrev pub invariant-loop-event : goal.invariant-loop-event
+invariant-loop-event g l =
+    let s = g.S.Shelves in
+    record {
+      runs : Runs (s.shown l.fn.shelves) (s.shown l.shelves) (take l.event-index l.events) l.answers.items;
+      no_fewer : s.failure_count l.fn.shelves ≤ s.failure_count l.shelves;
+      device : MetDevice l.answers.items → GrewOrFull (s.failure_count l.fn.shelves) (s.failure_count l.shelves);
+      count : vec_len l.answers ≡ l.event-index;
+      room : length l.events ≤ vec_capacity l.answers;
+    }

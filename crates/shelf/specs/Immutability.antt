@@ -1,0 +1,92 @@
+-- What was served or accepted once is served for good.
+use Rattle.std.specs.Prelude.{ℕ, ◌≡◌, ◌⊎◌, List, [], ◌∷◌, Some}
+use Rattle.std.specs.FinMap as map
+use Rattle.shelf.specs.declared.entry.Right.TheVariants.{Publishes}
+use Rattle.shelf.specs.declared.ask.Query.{Query}
+use Rattle.shelf.specs.declared.ask.Query.TheVariants.{GoMod, Zip}
+use Rattle.shelf.specs.declared.ask.Body.{Body}
+use Rattle.shelf.specs.declared.ask.Publish.{Publish}
+use Rattle.shelf.specs.declared.ask.Ask.TheVariants.{Get, Put}
+use Rattle.shelf.specs.declared.ask.Event.{Event}
+use Rattle.shelf.specs.declared.ask.Event.TheVariants.{Asked}
+use Rattle.shelf.specs.declared.reply.Decision.{Decision}
+use Rattle.shelf.specs.declared.reply.Decision.TheVariants.{Published, Same}
+use Rattle.shelf.specs.declared.reply.Reply.{Reply}
+use Rattle.shelf.specs.declared.reply.Reply.TheVariants as reply
+use Rattle.shelf.specs.declared.reply.Answer.{Answer}
+use Rattle.shelf.specs.declared.reply.Answer.TheVariants.{Replied, Failed}
+use Rattle.shelf.specs.World.{World, IsWorld}
+use Rattle.shelf.specs.Machine.{Run}
+use Rattle.shelf.specs.Isolation.{belongs}
+
+abbrev pub IsFailed : Answer → Type 0
+IsFailed (Replied r) = ⊥
+IsFailed (Failed fault) = Unit {0}
+
+-- what is told of one version that was found
+abbrev pub IsFound : Reply → Type 0
+IsFound (reply.GoMod b) = Unit {0}
+IsFound (reply.Zip b) = Unit {0}
+IsFound r = ⊥
+
+-- Once a query by a key of s found a version, then after any events the same query by any key that then
+-- belongs to s is answered the same, or meets a fault. A run may be cut at any event, so this holds from
+-- each event of a run on.
+abbrev pub StaysServed : Type 0
+StaysServed =
+    (old mid new : World) (s k later : List ℕ) (q : Query) (r : Reply) (events : List Event) (answers : List Answer) (a : Answer)
+    → IsWorld old → belongs old k s → IsFound r
+    → Run old (Asked (Get k q) ∷ events) (Replied r ∷ answers) mid
+    → belongs mid later s → Run mid (Asked (Get later q) ∷ []) (a ∷ []) new
+    → (a ≡ Replied r) ⊎ IsFailed a
+
+-- a publish that is stored, now or before
+abbrev pub IsAccepted : Decision → Type 0
+IsAccepted Published = Unit {0}
+IsAccepted Same = Unit {0}
+IsAccepted d = ⊥
+
+-- what a query of the path and version of a publish asks of its files
+abbrev pub asks_back : Publish → Body → Query → Reply → Type 0
+asks_back p b (GoMod path version) r = (path ≡ p.path) × (version ≡ p.version) × (r ≡ reply.GoMod b.gomod)
+asks_back p b (Zip path version) r = (path ≡ p.path) × (version ≡ p.version) × (r ≡ reply.Zip b.zip)
+
+-- Once a publish by a key of s was accepted, then after any events each key that belongs to s gets its go.mod
+-- and its zip, or meets a fault.
+abbrev pub AcceptedIsServed : Type 0
+AcceptedIsServed =
+    (old mid new : World) (s k later : List ℕ) (p : Publish) (b : Body) (d : Decision) (q : Query) (r : Reply) (events : List Event) (answers : List Answer) (a : Answer)
+    → IsWorld old → belongs old k s → p.body ≡ Some b → IsAccepted d
+    → Run old (Asked (Put k p) ∷ events) (Replied (reply.Decided d) ∷ answers) mid
+    → belongs mid later s → asks_back p b q r → Run mid (Asked (Get later q) ∷ []) (a ∷ []) new
+    → (a ≡ Replied r) ⊎ IsFailed a
+
+-- ---- a list of publishes that comes again
+
+-- the publishes as requests with a key
+abbrev pub puts : List ℕ → List Publish → List Event
+puts k [] = []
+puts k (p ∷ ps) = Asked (Put k p) ∷ puts k ps
+
+abbrev pub IsAcceptance : Answer → Type 0
+IsAcceptance (Replied (reply.Decided d)) = IsAccepted d
+IsAcceptance a = ⊥
+
+abbrev pub AllAccepted : List Answer → Type 0
+AllAccepted [] = Unit {0}
+AllAccepted (a ∷ answers) = IsAcceptance a × AllAccepted answers
+
+-- the same is there already, or a fault
+abbrev pub AllSameOrFailed : List Answer → Type 0
+AllSameOrFailed [] = Unit {0}
+AllSameOrFailed (a ∷ answers) = ((a ≡ Replied (reply.Decided Same)) ⊎ IsFailed a) × AllSameOrFailed answers
+
+-- Once a list of publishes by a key of s was accepted throughout, then after any events the same list by a key
+-- that then may publish to s is answered 'the same is there already' throughout, faults aside, and changes nothing.
+abbrev pub RepeatedListChangesNothing : Type 0
+RepeatedListChangesNothing =
+    (old mid later new : World) (s k again : List ℕ) (ps : List Publish) (events : List Event) (accepted told repeated : List Answer)
+    → IsWorld old → belongs old k s → Run old (puts k ps) accepted mid → AllAccepted accepted
+    → Run mid events told later → map.get later.keys again ≡ Some (record { shelf = s; right = Publishes })
+    → Run later (puts again ps) repeated new
+    → AllSameOrFailed repeated × (new ≡ later)

@@ -1,0 +1,155 @@
+-- What a shelf can tell of the requests of others: nothing.
+use Rattle.std.specs.Prelude.{ℕ, ◌≡◌, List, [], ◌∷◌, ◌++◌, length, Bool, true, false, Option, Some, None, bytes_eq, ◌↔◌}
+use Rattle.std.specs.List.{list_any}
+use Rattle.std.specs.FinMap as map
+use Rattle.shelf.specs.declared.entry.Holder.{Holder}
+use Rattle.shelf.specs.declared.ask.Ask.{Ask}
+use Rattle.shelf.specs.declared.ask.Ask.TheVariants.{Unreadable, Get, Put}
+use Rattle.shelf.specs.declared.ask.Event.{Event}
+use Rattle.shelf.specs.declared.ask.Event.TheVariants.{Asked}
+use Rattle.shelf.specs.declared.reply.Answer.{Answer}
+use Rattle.shelf.specs.declared.reply.Answer.TheVariants.{Replied, Failed}
+use Rattle.shelf.specs.World.{World, IsWorld, chain, on_shelf}
+use Rattle.shelf.specs.Machine.{after, after_all, ask_reply, after_ask, replies, Run, answered, replies_of}
+
+-- ---- whose a request is
+
+-- whether a shelf is among these
+abbrev pub is_among : List (List ℕ) → List ℕ → Bool
+is_among ss t = list_any (bytes_eq t) ss
+
+-- whether a shelf sees another
+abbrev pub sees : World → List ℕ → List ℕ → Bool
+sees w s t = is_among (chain w s) t
+
+-- the key belongs to the shelf
+abbrev pub belongs : World → List ℕ → List ℕ → Type 0
+belongs w k s = (h : Holder) × (map.get w.keys k ≡ Some h) × (h.shelf ≡ s)
+
+-- the key that a request is made with
+abbrev pub key_of : Ask → Option (List ℕ)
+key_of Unreadable = None
+key_of (Get k q) = Some k
+key_of (Put k p) = Some k
+
+-- the same of an event; a command of the registry is made with none
+abbrev pub asking_key : Event → Option (List ℕ)
+asking_key (Asked a) = key_of a
+asking_key e = None
+
+-- ---- a run without other shelves' requests
+
+-- whether what a key holds is nothing, or belongs to one of these shelves
+abbrev pub is_near : List (List ℕ) → Option Holder → Bool
+is_near ss None = true
+is_near ss (Some h) = is_among ss h.shelf
+
+-- the same of the key, if there is one
+abbrev pub is_near_key : World → List (List ℕ) → Option (List ℕ) → Bool
+is_near_key w ss None = true
+is_near_key w ss (Some k) = is_near ss (map.get w.keys k)
+
+-- whether an event is kept: not a request whose key belongs at its moment to another shelf than these
+abbrev pub is_kept : World → List (List ℕ) → Event → Bool
+is_kept w ss e = is_near_key w ss (asking_key e)
+
+-- which of the events are kept, each at its moment
+abbrev pub kept : World → List (List ℕ) → List Event → List Bool
+kept w ss [] = []
+kept w ss (e ∷ es) = is_kept w ss e ∷ kept (after w e) ss es
+
+-- the items whose mark is true
+abbrev pub marked : {A : Type 0} → List Bool → List A → List A
+marked (true ∷ marks) (x ∷ xs) = x ∷ marked marks xs
+marked (false ∷ marks) (x ∷ xs) = marked marks xs
+marked marks xs = []
+
+-- the events without the requests of other shelves than these
+abbrev pub purge : World → List (List ℕ) → List Event → List Event
+purge w ss es = marked (kept w ss es) es
+
+-- A shelf is told what it would be told if no request with a key of a shelf that it does not see had come:
+-- in each run, the replies to the kept events are those of the machine over the purged list.
+abbrev pub IsIsolated : Type 0
+IsIsolated =
+    (old new : World) (s : List ℕ) (events : List Event) (answers : List Answer) → IsWorld old → Run old events answers new
+    → marked (kept old (chain new s) (answered events answers)) (replies_of answers) ≡ replies old (purge old (chain new s) (answered events answers))
+
+-- ---- two runs
+
+-- whether an event was answered, where it is kept
+abbrev pub IsAnsweredIfKept : Bool → Answer → Type 0
+IsAnsweredIfKept true (Failed fault) = ⊥
+IsAnsweredIfKept mark a = Unit {0}
+
+-- each kept event was answered
+abbrev pub KeptAnswered : World → List (List ℕ) → List Event → List Answer → Type 0
+KeptAnswered w ss (e ∷ es) (a ∷ answers) = IsAnsweredIfKept (is_kept w ss e) a × KeptAnswered (after w e) ss es answers
+KeptAnswered w ss es answers = Unit {0}
+
+abbrev pub IsReplied : Answer → Type 0
+IsReplied (Replied r) = Unit {0}
+IsReplied (Failed fault) = ⊥
+
+-- each event was answered
+abbrev pub AllReplied : List Answer → Type 0
+AllReplied [] = Unit {0}
+AllReplied (a ∷ answers) = IsReplied a × AllReplied answers
+
+-- The purged list is the same whether the faults are taken out before or after, where no kept event met one.
+abbrev pub PurgeIsTheSame : Type 0
+PurgeIsTheSame =
+    (old new : World) (s : List ℕ) (events : List Event) (answers : List Answer) → IsWorld old → Run old events answers new
+    → KeptAnswered old (chain new s) events answers
+    → purge old (chain new s) events ≡ purge old (chain new s) (answered events answers)
+
+-- A run over a list and a run over the purged list answer the kept events alike, where none of these met a
+-- fault. Faults of the other events do not matter.
+abbrev pub PurgedRunsAgree : Type 0
+PurgedRunsAgree =
+    (old new other : World) (s : List ℕ) (events : List Event) (answers purged : List Answer) → IsWorld old
+    → Run old events answers new → KeptAnswered old (chain new s) events answers
+    → Run old (purge old (chain new s) events) purged other → AllReplied purged
+    → marked (kept old (chain new s) events) answers ≡ purged
+
+-- Two runs whose answered events are the same after the purge reply alike to the kept ones.
+abbrev pub FaultyRunsAgree : Type 0
+FaultyRunsAgree =
+    (old one two : World) (s : List ℕ) (first second : List Event) (told heard : List Answer) → IsWorld old
+    → Run old first told one → Run old second heard two → chain one s ≡ chain two s
+    → purge old (chain one s) (answered first told) ≡ purge old (chain two s) (answered second heard)
+    → marked (kept old (chain one s) (answered first told)) (replies_of told) ≡ marked (kept old (chain two s) (answered second heard)) (replies_of heard)
+
+-- ---- what is purged
+
+-- There is a mark for each event.
+abbrev pub MarksAreAsLong : Type 0
+MarksAreAsLong = (w : World) (ss : List (List ℕ)) (es : List Event) → length (kept w ss es) ≡ length es
+
+-- Each mark is that of its event in the world at its moment.
+abbrev pub MarksAreAtTheirMoment : Type 0
+MarksAreAtTheirMoment =
+    (w : World) (ss : List (List ℕ)) (before : List Event) (e : Event) (rest : List Event)
+    → kept w ss (before ++ e ∷ rest) ≡ kept w ss before ++ is_kept (after_all w before) ss e ∷ kept (after (after_all w before) e) ss rest
+
+-- a request with a key that belongs to another shelf than these
+abbrev pub IsOfOthers : World → List (List ℕ) → Event → Type 0
+IsOfOthers w ss e = (k : List ℕ) × (h : Holder) × (asking_key e ≡ Some k) × (map.get w.keys k ≡ Some h) × (is_among ss h.shelf ≡ false)
+
+-- An event goes exactly if it is such a request at its moment.
+abbrev pub OnlyOthersGo : Type 0
+OnlyOthersGo = (w : World) (ss : List (List ℕ)) (e : Event) → (is_kept w ss e ≡ false) ↔ IsOfOthers w ss e
+
+-- ---- what a shelf can tell apart
+
+-- The worlds are the same to s: the same entries on the shelves that it sees, and the same keys of these with the same rights.
+pub record Low (w x : World) (s : List ℕ) : Type 0 where
+  pub chains : chain w s ≡ chain x s
+  pub entries : (t : List ℕ) → sees w s t ≡ true → on_shelf w t ≡ on_shelf x t
+  pub keys : (k : List ℕ) (h : Holder) → sees w s h.shelf ≡ true → (map.get w.keys k ≡ Some h) ↔ (map.get x.keys k ≡ Some h)
+
+-- A key of a shelf that s sees is answered alike in worlds that are the same to s, and they stay so.
+abbrev pub IsBlind : Type 0
+IsBlind =
+    (w x : World) (s t k : List ℕ) (a : Ask) → IsWorld w → IsWorld x → Low w x s → sees w s t ≡ true → belongs w k t → key_of a ≡ Some k
+    → (ask_reply w a ≡ ask_reply x a) × Low (after_ask w a) (after_ask x a) s

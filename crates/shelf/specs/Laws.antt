@@ -1,0 +1,44 @@
+-- What each event keeps, and how runs are cut.
+use Rattle.std.specs.Prelude.{◌≡◌, ◌⊎◌, List, ◌++◌, length}
+use Rattle.shelf.specs.declared.ask.Ask.{Ask}
+use Rattle.shelf.specs.declared.ask.Event.{Event}
+use Rattle.shelf.specs.declared.reply.Decision.TheVariants.{Published}
+use Rattle.shelf.specs.declared.reply.Registered.TheVariants.{Done}
+use Rattle.shelf.specs.declared.reply.Reply.{Reply}
+use Rattle.shelf.specs.declared.reply.Reply.TheVariants as reply
+use Rattle.shelf.specs.declared.reply.Answer.{Answer}
+use Rattle.shelf.specs.World.{World, IsWorld}
+use Rattle.shelf.specs.Machine.{ask_reply, after_ask, reply_to, after, HasBody, Run}
+
+-- Each event leads from a world to a world.
+abbrev pub WorldStays : Type 0
+WorldStays = (w : World) (e : Event) → IsWorld w → IsWorld (after w e)
+
+-- And so does each run.
+abbrev pub RunsKeepWorlds : Type 0
+RunsKeepWorlds = (old new : World) (events : List Event) (answers : List Answer) → IsWorld old → Run old events answers new → IsWorld new
+
+-- A reply with a body of its own leaves the world as it was.
+abbrev pub BodiesChangeNothing : Type 0
+BodiesChangeNothing = (w : World) (a : Ask) → HasBody (ask_reply w a) → after_ask w a ≡ w
+
+-- a publish that is stored, or a command of the registry that is done
+abbrev pub IsChange : Reply → Type 0
+IsChange (reply.Decided Published) = Unit {0}
+IsChange (reply.Registry Done) = Unit {0}
+IsChange r = ⊥
+
+-- Nothing else changes the world.
+abbrev pub OnlyChangesChange : Type 0
+OnlyChangesChange = (w : World) (e : Event) → IsChange (reply_to w e) ⊎ (after w e ≡ w)
+
+-- A run may be cut at any event, and runs that meet may be joined.
+abbrev pub RunsAreCut : Type 0
+RunsAreCut =
+    (old new : World) (events more : List Event) (answers last : List Answer) → length events ≡ length answers
+    → Run old (events ++ more) (answers ++ last) new → (mid : World) × Run old events answers mid × Run mid more last new
+
+abbrev pub RunsAreJoined : Type 0
+RunsAreJoined =
+    (old mid new : World) (events more : List Event) (answers last : List Answer)
+    → Run old events answers mid → Run mid more last new → Run old (events ++ more) (answers ++ last) new

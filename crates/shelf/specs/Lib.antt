@@ -1,0 +1,12 @@
+pub mod MapsLend
+pub mod InMemory
+pub mod Names
+pub mod Forms
+pub mod World
+pub mod Code
+pub mod Machine
+pub mod Store
+pub mod Laws
+pub mod Isolation
+pub mod Immutability
+pub mod Kept

@@ -1,0 +1,58 @@
+//! Lists of events over any store.
+ghost use Rattle.std.specs.Prelude.{◌≡◌, ◌≤◌, [], ◌∷◌, IfOk, OnErr};
+ghost use Rattle.shelf.specs.Machine.{reply_to, after, MetDevice};
+ghost use Rattle.shelf.specs.Store.{Does, Runs, HasCause, GrewOrFull};
+
+use crate::ask::Event;
+use crate::reply::{Answer, Reply, StoreFault};
+use crate::shelves::Shelves;
+use crate::step::step;
+use std::alloc::{AllocError, Global};
+
+/// Does what one event says.
+pub fn apply<S: Shelves>(shelves: &mut S, event: &Event) -> Result<Reply, StoreFault>
+    ensures does { Does (S.shown shelves.old) (S.shown shelves.new) result (λ w. reply_to w event.now) (λ w. after w event.now) }
+    ensures cause { HasCause (S.failure_count shelves.old) (S.failure_count shelves.new) result }
+{
+    match event {
+        Event::Asked(ask) => step(shelves, ask),
+        Event::TeamAdd { name } => Ok(Reply::Registry(shelves.team_add(name.as_str())?)),
+        Event::KeyAdd { shelf, key, right } => Ok(Reply::Registry(shelves.key_add(
+            shelf.as_str(),
+            key.as_str(),
+            *right,
+        )?)),
+    }
+}
+
+/// Does what one event says, and tells what became of it.
+fn answer<S: Shelves>(shelves: &mut S, event: &Event) -> Answer
+    ensures runs { Runs (S.shown shelves.old) (S.shown shelves.new) (event.now ∷ []) (result ∷ []) }
+    ensures no_fewer { S.failure_count shelves.old ≤ S.failure_count shelves.new }
+    ensures device { result ≡ Answer.Failed StoreFault.Device → GrewOrFull (S.failure_count shelves.old) (S.failure_count shelves.new) }
+{
+    match apply(shelves, event) {
+        Ok(reply) => Answer::Replied(reply),
+        Err(fault) => Answer::Failed(fault),
+    }
+}
+
+/// Does one event after the other. Where there is no room for the answers, nothing is done.
+pub fn run<S: Shelves>(
+    alloc: Global,
+    shelves: &mut S,
+    events: &[Event],
+) -> Result<Vec<Answer>, AllocError>
+    ensures runs { IfOk result (λ answers. Runs (S.shown shelves.old) (S.shown shelves.new) events.now answers.items) }
+    // The count of failures never falls, and a failed device is told only where one failed.
+    ensures no_fewer { S.failure_count shelves.old ≤ S.failure_count shelves.new }
+    ensures device { IfOk result (λ answers. MetDevice answers.items → GrewOrFull (S.failure_count shelves.old) (S.failure_count shelves.new)) }
+    ensures err { OnErr result (shelves.new ≡ shelves.old) }
+{
+    let mut answers = Vec::with_capacity(alloc, events.len())?;
+    for event in events {
+        let answer = answer(shelves, event);
+        answers.push(answer)?;
+    }
+    Ok(answers)
+}

@@ -1,0 +1,145 @@
+//! The machine over any store.
+ghost use Rattle.std.specs.Prelude.{◌≡◌, true};
+ghost use Rattle.std.specs.FinSet as set;
+ghost use Rattle.std.specs.FinMap as map;
+ghost use Rattle.shelf.specs.Machine as spec;
+ghost use Rattle.shelf.specs.Machine.{ask_reply, after_ask, keyed_reply, decision, after_decision, stored, place_of, offered};
+ghost use Rattle.shelf.specs.Store.{Does, DoesWhere, Reads, HasCause};
+ghost use Rattle.shelf.specs.declared.reply.Decision.TheVariants.{Published};
+
+use crate::ask::{Ask, Publish, Query};
+use crate::decide::{decide, refusal};
+use crate::entry::{Holder, Seen};
+use crate::reply::{Decision, Reply, StoreFault};
+use crate::shelves::Shelves;
+
+/// Answers a request.
+pub fn step<S: Shelves>(shelves: &mut S, ask: &Ask) -> Result<Reply, StoreFault>
+    ensures does { Does (S.shown shelves.old) (S.shown shelves.new) result (λ w. ask_reply w ask.now) (λ w. after_ask w ask.now) }
+    ensures cause { HasCause (S.failure_count shelves.old) (S.failure_count shelves.new) result }
+{
+    match ask {
+        Ask::Unreadable => Ok(Reply::NotFound),
+        Ask::Get { key, query } => answer_query(shelves, key.as_str(), query),
+        Ask::Put { key, publish } => Ok(Reply::Decided(answer_publish(
+            shelves,
+            key.as_str(),
+            publish,
+        )?)),
+    }
+}
+
+/// Answers a GET.
+fn answer_query<S: Shelves>(shelves: &mut S, key: &str, query: &Query) -> Result<Reply, StoreFault>
+    ensures reads { Reads (S.shown shelves.old) (S.shown shelves.new) result (λ w. keyed_reply w (map.get w.keys key.now) query.now) }
+    ensures cause { HasCause (S.failure_count shelves.old) (S.failure_count shelves.new) result }
+{
+    let Some(holder) = shelves.key(key)? else {
+        return Ok(Reply::NotFound);
+    };
+    let shelf = holder.shelf.as_str();
+    match query {
+        Query::GoMod { path, version } => {
+            let seen = shelves.entry(shelf, path, version)?;
+            Ok(gomod_reply(seen))
+        }
+        Query::Zip { path, version } => {
+            let seen = shelves.entry(shelf, path, version)?;
+            Ok(zip_reply(seen))
+        }
+    }
+}
+
+fn gomod_reply(seen: Option<Seen>) -> Reply
+    ensures { result ≡ spec.gomod_reply seen }
+{
+    match seen {
+        None => Reply::NotFound,
+        Some(seen) => {
+            let entry = seen.entry;
+            Reply::GoMod(entry.gomod)
+        }
+    }
+}
+
+fn zip_reply(seen: Option<Seen>) -> Reply
+    ensures { result ≡ spec.zip_reply seen }
+{
+    match seen {
+        None => Reply::NotFound,
+        Some(seen) => {
+            let entry = seen.entry;
+            Reply::Zip(entry.zip)
+        }
+    }
+}
+
+/// Answers a PUT.
+fn answer_publish<S: Shelves>(
+    shelves: &mut S,
+    key: &str,
+    publish: &Publish,
+) -> Result<Decision, StoreFault>
+    ensures does { Does (S.shown shelves.old) (S.shown shelves.new) result (λ w. decision w (map.get w.keys key.now) publish.now) (λ w. after_decision w (map.get w.keys key.now) publish.now (decision w (map.get w.keys key.now) publish.now)) }
+    ensures cause { HasCause (S.failure_count shelves.old) (S.failure_count shelves.new) result }
+{
+    let Some(holder) = shelves.key(key)? else {
+        return Ok(decide(publish, None, None, 0));
+    };
+    publish_to(shelves, &holder, publish)
+}
+
+/// Answers a PUT by a key of a shelf.
+fn publish_to<S: Shelves>(
+    shelves: &mut S,
+    holder: &Holder,
+    publish: &Publish,
+) -> Result<Decision, StoreFault>
+    ensures does { DoesWhere (λ w. set.contains w.shelves holder.now.shelf ≡ true) (S.shown shelves.old) (S.shown shelves.new) result (λ w. decision w (Some holder.now) publish.now) (λ w. after_decision w (Some holder.now) publish.now (decision w (Some holder.now) publish.now)) }
+    ensures cause { HasCause (S.failure_count shelves.old) (S.failure_count shelves.new) result }
+{
+    let decision = judge(shelves, holder, publish)?;
+    if decision == Decision::Published {
+        store(shelves, holder, publish)?;
+    }
+    Ok(decision)
+}
+
+/// The outcome of the checks of a publish by a key of a shelf. One that is refused for itself looks
+/// at no entry.
+fn judge<S: Shelves>(
+    shelves: &mut S,
+    holder: &Holder,
+    publish: &Publish,
+) -> Result<Decision, StoreFault>
+    ensures reads { Reads (S.shown shelves.old) (S.shown shelves.new) result (λ w. decision w (Some holder.now) publish.now) }
+    ensures cause { HasCause (S.failure_count shelves.old) (S.failure_count shelves.new) result }
+{
+    if let Some(refused) = refusal(publish, Some(holder.right)) {
+        return Ok(refused);
+    }
+    let shelf = holder.shelf.as_str();
+    let seen = shelves.entry(shelf, &publish.path, &publish.version)?;
+    let count = shelves.count(shelf, &publish.path)?;
+    let entry = match &seen {
+        Some(seen) => Some(&seen.entry),
+        None => None,
+    };
+    Ok(decide(publish, Some(holder.right), entry, count))
+}
+
+/// Stores a publish that passed the checks.
+fn store<S: Shelves>(shelves: &mut S, holder: &Holder, publish: &Publish) -> Result<(), StoreFault>
+    ensures does { DoesWhere (λ w. (set.contains w.shelves holder.now.shelf ≡ true) × (decision w (Some holder.now) publish.now ≡ Published)) (S.shown shelves.old) (S.shown shelves.new) result (λ w. tt) (λ w. stored w (place_of holder.now.shelf publish.now) (offered publish.now)) }
+    ensures cause { HasCause (S.failure_count shelves.old) (S.failure_count shelves.new) result }
+{
+    let Some(entry) = publish.entry() else {
+        return Ok(());
+    };
+    shelves.insert(
+        holder.shelf.as_str(),
+        &publish.path,
+        &publish.version,
+        &entry,
+    )
+}

@@ -1,0 +1,13 @@
+pub mod BegunLemmas
+pub mod FramingLemmas
+pub mod HeadLemmas
+pub mod StreamLemmas
+pub mod ValuesLemmas
+pub mod StatusLemmas
+pub mod CutLemmas
+pub mod PlainLemmas
+pub mod VersionLemmas
+pub mod PlainBytes
+pub mod TargetLemmas
+pub mod TargetReadings
+pub mod TextTargets

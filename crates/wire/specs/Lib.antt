@@ -1,0 +1,6 @@
+pub mod Framing
+pub mod Message
+pub mod Never
+pub mod Reply
+pub mod Values
+pub mod Target

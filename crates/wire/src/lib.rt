@@ -1,0 +1,43 @@
+//! The server's side of HTTP/1.1 on bytes: messages out of a stream, what a request asks for, and the bytes of replies.
+//!
+//! A message is a request head in the grammar of `httparse` (RFC 9112, sections 2 to 6) and then a body. A head has at
+//! most 16,384 bytes, its empty line and the empty lines before it counted, and at most 64 headers. It is good if it has
+//! no `Transfer-Encoding` and at most one `Content-Length`, which is `0` or one to ten digits of which the first is not
+//! 0; without one the body is empty. A body has at most 17,825,792 bytes. A stream is as many messages as there are, and
+//! ends well at its last byte, or badly: with a good head whose length is too large (413), or with any other rest (400).
+//!
+//! A target is `/k/`, a key, `/` and a rest, which is percent-decoded once (RFC 3986, section 2.1) and holds a module
+//! path and a version in the escaped form of the Go Modules Reference ("GOPROXY protocol"). Anything else is unreadable.
+//!
+//! | request | asks for |
+//! |---|---|
+//! | `GET /k/key/example.com/lib/@v/v1.0.0.mod` | the go.mod of `example.com/lib` at `v1.0.0` |
+//! | `GET /k/key/example.com/%21lib/@v/v1.0.0.zip` | the zip of `example.com/Lib` at `v1.0.0` |
+//! | `PUT /k/key/example.com/lib/@v/v1.0.0` | to publish `example.com/lib` at `v1.0.0` |
+//! | `GET /k/key/example.com/Lib/@v/v1.0.0.mod` | nothing: upper-case letters are escaped |
+//!
+//! A reply is a status line, the headers `Content-Type`, `Content-Length` and `Connection: close`, and a body. Those with
+//! a fixed body take no memory.
+#![tactic(auto)]
+
+mod cut;
+pub mod framer;
+mod head;
+pub mod laws;
+pub mod message;
+pub mod put;
+pub mod reply;
+pub mod request;
+pub mod targets;
+pub mod text;
+
+pub use framer::{Bad, Framer, Next};
+pub use message::{Memory, Message};
+pub use put::{fixed, fixed_line, info_body, put_head, reply_head};
+pub use reply::{Fixed, Kind, Status};
+pub use request::{Query, Target};
+pub use targets::target;
+pub use text::Text;
+
+#[cfg(test)]
+mod tests;

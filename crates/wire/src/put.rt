@@ -1,0 +1,147 @@
+//! Writing replies: into buffers on the stack, which takes no memory, and heads into memory.
+ghost use Rattle.std.specs.Prelude.{◌≡◌, ◌+◌, ◌≤◌, ◌++◌, length, take, IfOk};
+ghost use Rattle.wire.specs.Reply.{head_with, head_bytes, fixed_text, fixed_bytes, line_bytes, info_bytes};
+
+use crate::message::Memory;
+use crate::reply::{Fixed, Kind, Status};
+use itoa::Buffer;
+use modver::{TimeText, Version};
+use std::alloc::Global;
+
+/// The head of a reply whose body has that many bytes, with the empty line that ends it (RFC 9112, sections 4 and 5).
+/// `Memory` where there is no room for it.
+pub fn reply_head(alloc: Global, status: Status, kind: Kind, len: usize) -> Result<Vec<u8>, Memory>
+    ensures { IfOk result (λ head. head.items ≡ head_bytes status kind len) }
+{
+    let text = format!(in alloc;
+        "HTTP/1.1 {}\r\nContent-Type: {}\r\nContent-Length: {}\r\nConnection: close\r\n\r\n",
+        status.text(),
+        kind.text(),
+        len,
+    )?;
+    Ok(text.into_bytes())
+}
+
+/// The body that tells a version and its time, where it has one, as `{"Version":"v1.0.0"}`. `Memory` where there is no
+/// room for it.
+pub fn info_body(
+    alloc: Global,
+    version: &Version,
+    time: Option<TimeText>,
+) -> Result<Vec<u8>, Memory>
+    ensures { IfOk result (λ body. body.items ≡ info_bytes version.now time) }
+{
+    let text = match time {
+        Some(time) => {
+            format!(in alloc;
+                "{{\"Time\":\"{}\",\"Version\":\"{}\"}}",
+                time.as_str(),
+                version.as_str()
+            )?
+        }
+        None => format!(in alloc; "{{\"Version\":\"{}\"}}", version.as_str())?,
+    };
+    Ok(text.into_bytes())
+}
+
+/// Puts the head of a 200 whose body has that many bytes at the front of the buffer, and answers the head's length.
+pub fn put_head(kind: Kind, len: usize, buf: &mut [u8; 160]) -> usize
+    ensures text { take result buf.new ≡ head_bytes Status.Ok kind len }
+    ensures short { result ≤ 160 }
+{
+    let mut digits = Buffer::new();
+    put_head_with(Status::Ok, kind, digits.format(len).as_bytes(), buf)
+}
+
+/// Puts the whole reply at the front of the buffer, and answers its length.
+pub fn fixed(answer: Fixed, buf: &mut [u8; 160]) -> usize
+    ensures text { take result buf.new ≡ fixed_bytes answer }
+    ensures short { result ≤ 160 }
+{
+    let mut body = [0; 31];
+    let line = put_text(answer, &mut body, 0);
+    let len = put(&mut body, line, b"\n");
+    let mut digits = Buffer::new();
+    let at = put_head_with(
+        answer.status(),
+        Kind::TextPlain,
+        digits.format(len as u8).as_bytes(),
+        buf,
+    );
+    put(buf, at, &body[..len])
+}
+
+/// Puts the number of the status, a space and the fixed body without its newline at the front of the buffer, as
+/// `422 bad-time`, and answers their length.
+pub fn fixed_line(answer: Fixed, buf: &mut [u8; 40]) -> usize
+    ensures text { take result buf.new ≡ line_bytes answer }
+    ensures short { result ≤ 40 }
+{
+    let mut digits = Buffer::new();
+    let at = put(buf, 0, digits.format(answer.status().number()).as_bytes());
+    let at = put(buf, at, b" ");
+    put_text(answer, buf, at)
+}
+
+/// Puts a text into the buffer, and answers where it ends.
+fn put(buf: &mut [u8], at: usize, text: &[u8]) -> usize
+    requires { at + length text.now ≤ length buf.old }
+    ensures end { result ≡ at + length text.now }
+    ensures text { take result buf.new ≡ take at buf.old ++ text.now }
+{
+    let end = at + text.len();
+    buf[at..end].copy_from_slice(text);
+    end
+}
+
+/// Puts a head with these digits as the length at the front of the buffer, and answers the head's length.
+fn put_head_with(status: Status, kind: Kind, digits: &[u8], buf: &mut [u8]) -> usize
+    requires { 115 + length digits.now ≤ length buf.old }
+    ensures text { take result buf.new ≡ head_with status kind digits.now }
+    ensures short { result ≤ 115 + length digits.now }
+{
+    let at = put(buf, 0, b"HTTP/1.1 ");
+    let at = put(buf, at, status.text().as_bytes());
+    let at = put(buf, at, b"\r\nContent-Type: ");
+    let at = put(buf, at, kind.text().as_bytes());
+    let at = put(buf, at, b"\r\nContent-Length: ");
+    let at = put(buf, at, digits);
+    put(buf, at, b"\r\nConnection: close\r\n\r\n")
+}
+
+/// Puts a fixed body without its newline into the buffer, and answers where it ends.
+fn put_text(answer: Fixed, buf: &mut [u8], at: usize) -> usize
+    requires { at + 30 ≤ length buf.old }
+    ensures text { take result buf.new ≡ take at buf.old ++ fixed_text answer }
+    ensures short { result ≤ at + 30 }
+{
+    match answer {
+        Fixed::AlreadyPublished => put(buf, at, b"already published"),
+        Fixed::Published => put(buf, at, b"published"),
+        Fixed::BadRequest => put(buf, at, b"bad request"),
+        Fixed::BadModLength => put(buf, at, b"bad mod-length"),
+        Fixed::Forbidden => put(buf, at, b"forbidden"),
+        Fixed::NotFound => put(buf, at, b"not found"),
+        Fixed::Conflict => put(buf, at, b"conflict"),
+        Fixed::TooLarge => put(buf, at, b"too large"),
+        Fixed::MajorMismatch => put(buf, at, b"major-mismatch"),
+        Fixed::BadTime => put(buf, at, b"bad-time"),
+        Fixed::TimeMismatch => put(buf, at, b"time-mismatch"),
+        Fixed::BadGoMod(line) => put_bad_gomod(line, buf, at),
+        Fixed::ModulePath => put(buf, at, b"module-path"),
+        Fixed::IncompatibleGoMod => put(buf, at, b"incompatible-gomod"),
+        Fixed::Unavailable => put(buf, at, b"unavailable"),
+        Fixed::Full => put(buf, at, b"full"),
+    }
+}
+
+/// Puts `bad-gomod` and the line into the buffer, and answers where they end.
+fn put_bad_gomod(line: u64, buf: &mut [u8], at: usize) -> usize
+    requires { at + 30 ≤ length buf.old }
+    ensures text { take result buf.new ≡ take at buf.old ++ fixed_text (Fixed.BadGoMod line) }
+    ensures short { result ≤ at + 30 }
+{
+    let mut digits = Buffer::new();
+    let at = put(buf, at, b"bad-gomod ");
+    put(buf, at, digits.format(line).as_bytes())
+}

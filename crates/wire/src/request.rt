@@ -1,0 +1,31 @@
+//! What a request asks for.
+use crate::text::Text;
+use modpath::ModulePath;
+use modver::Version;
+
+/// What a GET asks for.
+#[derive(Drop)]
+pub enum Query {
+    /// The go.mod of a version.
+    GoMod { path: ModulePath, version: Version },
+    /// The zip of a version.
+    Zip { path: ModulePath, version: Version },
+}
+
+/// What a request asks for.
+#[derive(Drop)]
+pub enum Target {
+    /// Anything but a GET or a PUT that the server knows.
+    Unreadable,
+    /// A GET with a key, which is text without a slash, and what it asks for.
+    Get {
+        key: Text,
+        query: Query,
+    },
+    /// A PUT with a key: the publish of a version.
+    Put {
+        key: Text,
+        path: ModulePath,
+        version: Version,
+    },
+}

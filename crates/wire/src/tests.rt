@@ -1,0 +1,3 @@
+mod framing;
+mod replies;
+mod targets;

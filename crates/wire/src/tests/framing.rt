@@ -1,0 +1,191 @@
+use crate::{Bad, Framer, Memory, Next};
+use std::alloc::Global;
+
+const PUT: &[u8] =
+    b"PUT /k/alphakey00000001/example.com/lib/@v/v1.0.0 HTTP/1.1\r\nMod-Length: 23\r\nContent-Length: 23\r\n\r\nmodule example.com/lib\n";
+
+#[test]
+fn a_message_is_handed_out_with_its_last_byte(rt: HostRuntime) {
+    let mut framer = Framer::new(rt.alloc());
+    let mut waits = 0u32;
+    let mut messages = 0u32;
+    for byte in PUT {
+        assert!(rt; framer.feed(&[*byte]).is_ok());
+        match framer.next() {
+            Ok(Next::NeedMore) => waits = waits.saturating_add(1),
+            Ok(Next::Message(message)) => {
+                messages = messages.saturating_add(1);
+                assert!(rt; message.method.as_slice() == b"PUT".as_slice());
+                assert!(rt;
+                    message.target.as_slice()
+                        == b"/k/alphakey00000001/example.com/lib/@v/v1.0.0".as_slice()
+                );
+                assert!(rt; message.body.as_slice() == b"module example.com/lib\n".as_slice());
+                assert!(rt; message.mod_lengths.len() == 1 && message.version_times.is_empty());
+                assert!(rt; framer.is_empty());
+            }
+            _ => assert!(rt; false),
+        }
+    }
+    assert_eq!(rt; (waits, messages), (120, 1));
+}
+
+/// What the first bytes of a stream give, as a word.
+fn answer(alloc: Global, bytes: &[u8]) -> Result<&'static str, Memory> {
+    let mut framer = Framer::new(alloc);
+    framer.feed(bytes)?;
+    Ok(match framer.next()? {
+        Next::Message(_) => "message",
+        Next::NeedMore => "more",
+        Next::Bad(Bad::BadRequest) => "400",
+        Next::Bad(Bad::TooLarge) => "413",
+    })
+}
+
+#[test]
+fn fronts_are_what_they_are(rt: HostRuntime) {
+    let rows = [
+        (b"GET / HTTP/1.0\n\n".as_slice(), "message"),
+        (b"\r\n\r\nGET / HTTP/1.1\r\n\r\n".as_slice(), "message"),
+        (
+            b"GET / HTTP/1.1\r\ncontent-length: 0\r\n\r\n".as_slice(),
+            "message",
+        ),
+        (b"GET /\xc3\xbc HTTP/1.1\r\n\r\n".as_slice(), "message"),
+        (
+            b"GET / HTTP/1.1\r\nContent-Length: 1\r\n\r\nab".as_slice(),
+            "message",
+        ),
+        (
+            b"GET / HTTP/1.1\r\nContent-Length: \t1 \r\n\r\na".as_slice(),
+            "message",
+        ),
+        (b"".as_slice(), "more"),
+        (b"\r\n\r\n".as_slice(), "more"),
+        (
+            b"GET / HTTP/1.1\r\nContent-Length: 17825792\r\n\r\n".as_slice(),
+            "more",
+        ),
+        (
+            b"GET / HTTP/1.1\r\nContent-Length: 17825793\r\n\r\n".as_slice(),
+            "413",
+        ),
+        (
+            b"GET / HTTP/1.1\r\nContent-Length: 9999999999\r\n\r\n".as_slice(),
+            "413",
+        ),
+        (
+            b"GET / HTTP/1.1\r\nContent-Length: 10000000000\r\n\r\n".as_slice(),
+            "400",
+        ),
+        (
+            b"GET / HTTP/1.1\r\nContent-Length: \r\n\r\n".as_slice(),
+            "400",
+        ),
+        (
+            b"GET / HTTP/1.1\r\nContent-Length: 00\r\n\r\n".as_slice(),
+            "400",
+        ),
+        (
+            b"GET / HTTP/1.1\r\nContent-Length: +1\r\n\r\na".as_slice(),
+            "400",
+        ),
+        (
+            b"GET / HTTP/1.1\r\nContent-Length: 1\r\nContent-Length: 1\r\n\r\na".as_slice(),
+            "400",
+        ),
+        (
+            b"GET / HTTP/1.1\r\nTransfer-Encoding: chunked\r\n\r\n".as_slice(),
+            "400",
+        ),
+        (
+            b"GET / HTTP/1.1\r\nContent-Length: 9999999999\r\ntransfer-encoding: x\r\n\r\n".as_slice(),
+            "400",
+        ),
+        (b"GET /\xff HTTP/1.1\r\n\r\n".as_slice(), "400"),
+        (b"GET / HTTP/2.0\r\n\r\n".as_slice(), "400"),
+    ];
+    for (bytes, wanted) in rows {
+        assert!(rt;
+            answer(rt.alloc(), bytes).is_ok_and(|word| word == wanted),
+            "at {bytes:?}"
+        );
+    }
+}
+
+/// A head of so many headers, of which the last is this one, and of at least so many bytes.
+fn head_of(alloc: Global, headers: u8, last: &[u8], length: usize) -> Result<Vec<u8>, Memory> {
+    let mut head = Vec::from_slice(alloc, b"GET / HTTP/1.1\r\n")?;
+    for _ in 1..headers {
+        head.extend_from_slice(b"A: b\r\n")?;
+    }
+    head.extend_from_slice(last)?;
+    for _ in 0..length.saturating_sub(head.len()).saturating_sub(4) {
+        head.push(b'c')?;
+    }
+    head.extend_from_slice(b"\r\n\r\n")?;
+    Ok(head)
+}
+
+#[test]
+fn heads_have_limits(rt: HostRuntime) {
+    let rows = [
+        (64, b"A: b".as_slice(), 0, "message"),
+        (65, b"A: b".as_slice(), 0, "400"),
+        (65, b"Content-Length: 9999999999".as_slice(), 0, "400"),
+        (1, b"A: ".as_slice(), 16_384, "message"),
+        (1, b"A: ".as_slice(), 16_385, "400"),
+        (
+            1,
+            b"Content-Length: 9999999999\r\nA: ".as_slice(),
+            16_385,
+            "400",
+        ),
+    ];
+    for (headers, last, length, wanted) in rows {
+        match head_of(rt.alloc(), headers, last, length) {
+            Ok(head) => {
+                assert!(rt;
+                    answer(rt.alloc(), &head).is_ok_and(|word| word == wanted),
+                    "{headers} headers, {length} bytes"
+                );
+                assert!(rt; length == 0 || head.len() == length);
+            }
+            Err(_) => assert!(rt; false),
+        }
+    }
+    // 16,383 bytes of a head that is not whole, and one more.
+    match head_of(rt.alloc(), 1, b"A: ", 20_000) {
+        Ok(head) => {
+            assert!(rt; answer(rt.alloc(), first(&head, 16_383)).is_ok_and(|word| word == "more"));
+            assert!(rt; answer(rt.alloc(), first(&head, 16_384)).is_ok_and(|word| word == "400"));
+        }
+        Err(_) => assert!(rt; false),
+    }
+}
+
+/// The first so many bytes.
+fn first(bytes: &[u8], count: usize) -> &[u8] {
+    &bytes[..count.min(bytes.len())]
+}
+
+/// The line after a message belongs to the head of the next one.
+#[test]
+fn a_line_after_a_message_is_kept(rt: HostRuntime) {
+    let mut framer = Framer::new(rt.alloc());
+    assert!(rt; framer.feed(b"GET / HTTP/1.1\r\n\r\n\r\n").is_ok());
+    assert!(rt; matches!(framer.next(), Ok(Next::Message(_))));
+    assert!(rt; matches!(framer.next(), Ok(Next::NeedMore)));
+    assert!(rt; !framer.is_empty());
+}
+
+#[test]
+fn a_failed_stream_stays_failed(rt: HostRuntime) {
+    let mut framer = Framer::new(rt.alloc());
+    let front = b"GET / HTTP/1.1\r\nContent-Length: 9999999999\r\n\r\n";
+    assert!(rt; framer.feed(front).is_ok());
+    assert!(rt; matches!(framer.next(), Ok(Next::Bad(Bad::TooLarge))));
+    assert!(rt; framer.feed(PUT).is_ok());
+    assert!(rt; matches!(framer.next(), Ok(Next::Bad(Bad::TooLarge))));
+    assert!(rt; !framer.is_empty());
+}

@@ -1,0 +1,80 @@
+use crate::{Fixed, Kind, Status, fixed, fixed_line, info_body, put_head, reply_head};
+use modver::{Version, read_time};
+
+/// The whole replies in bytes, and the lines of two of them.
+#[test]
+fn fixed_replies_have_their_lengths(rt: HostRuntime) {
+    let rows = [
+        (Fixed::AlreadyPublished, 117, 200),
+        (Fixed::Published, 114, 201),
+        (Fixed::BadRequest, 120, 400),
+        (Fixed::BadModLength, 123, 400),
+        (Fixed::Forbidden, 116, 403),
+        (Fixed::NotFound, 116, 404),
+        (Fixed::Conflict, 113, 409),
+        (Fixed::TooLarge, 124, 413),
+        (Fixed::MajorMismatch, 132, 422),
+        (Fixed::BadTime, 125, 422),
+        (Fixed::TimeMismatch, 131, 422),
+        (Fixed::BadGoMod(0), 129, 422),
+        (Fixed::BadGoMod(u64::MAX), 148, 422),
+        (Fixed::ModulePath, 129, 422),
+        (Fixed::IncompatibleGoMod, 136, 422),
+        (Fixed::Unavailable, 128, 503),
+        (Fixed::Full, 121, 507),
+    ];
+    for (answer, length, number) in rows {
+        let mut buf = [0; 160];
+        assert_eq!(rt; fixed(answer, &mut buf), length, "{answer:?}");
+        assert_eq!(rt; answer.status().number(), number, "{answer:?}");
+    }
+}
+
+#[test]
+fn fixed_replies_have_their_texts(rt: HostRuntime) {
+    let mut buf = [0; 160];
+    let len = fixed(Fixed::NotFound, &mut buf);
+    assert!(rt;
+        &buf[..len]
+            == b"HTTP/1.1 404 Not Found\r\nContent-Type: text/plain; charset=utf-8\r\nContent-Length: 10\r\nConnection: close\r\n\r\nnot found\n".as_slice()
+    );
+    let mut line = [0; 40];
+    let len = fixed_line(Fixed::BadGoMod(4), &mut line);
+    assert!(rt; &line[..len] == b"422 bad-gomod 4".as_slice());
+    let len = fixed_line(Fixed::Published, &mut line);
+    assert!(rt; &line[..len] == b"201 published".as_slice());
+}
+
+/// The head of a zip of no bytes, which has 88 bytes, into memory and onto the stack.
+#[test]
+fn heads_have_their_texts(rt: HostRuntime) {
+    let wanted =
+        b"HTTP/1.1 200 OK\r\nContent-Type: application/zip\r\nContent-Length: 0\r\nConnection: close\r\n\r\n";
+    assert!(rt; wanted.len() == 88);
+    let mut buf = [0; 160];
+    let len = put_head(Kind::Zip, 0, &mut buf);
+    assert!(rt; &buf[..len] == wanted.as_slice());
+    let head = reply_head(rt.alloc(), Status::Ok, Kind::Zip, 0);
+    assert!(rt; head.is_ok_and(|head| head.as_slice() == wanted.as_slice()));
+}
+
+#[test]
+fn info_bodies_have_their_texts(rt: HostRuntime) {
+    let rows = [
+        ("v1.0.0", "", b"{\"Version\":\"v1.0.0\"}".as_slice()),
+        (
+            "v1.0.0",
+            "2024-02-29T23:59:59Z",
+            b"{\"Time\":\"2024-02-29T23:59:59Z\",\"Version\":\"v1.0.0\"}".as_slice(),
+        ),
+    ];
+    for (text, time, wanted) in rows {
+        match Version::parse(rt.alloc(), text) {
+            Ok(version) => {
+                let body = info_body(rt.alloc(), &version, read_time(time).ok());
+                assert!(rt; body.is_ok_and(|body| body.as_slice() == wanted));
+            }
+            Err(_) => assert!(rt; false),
+        }
+    }
+}

@@ -1,0 +1,30 @@
+//! The parts of a text that a separator cuts.
+
+ghost use Rattle.std.specs.List.{slice_split};
+ghost use Rattle.std.specs.Prelude.{◌≡◌, ◌==◌, [], ◌∷◌, MatchOption};
+ghost use Rattle.modpath.specs.Path.{last_or};
+
+/// What stands before the first separator of a text, and what stands behind it.
+pub fn cut(text: &[u8], separator: u8) -> Option<(&[u8], &[u8])>
+    ensures { MatchOption result
+        (slice_split (λ b. b == separator) text.now ≡ text.now ∷ [])
+        (λ p. slice_split (λ b. b == separator) text.now ≡ p.0.now ∷ slice_split (λ b. b == separator) p.1.now) }
+{
+    for at in 0..text.len() {
+        if text[at] == separator {
+            return Some((&text[..at], &text[at + 1..]));
+        }
+    }
+    None
+}
+
+/// What stands behind the last separator of a text, or all of it.
+pub fn last_part(text: &[u8], separator: u8) -> &[u8]
+    ensures { result.now ≡ last_or [] (slice_split (λ b. b == separator) text.now) }
+{
+    let mut last = &text[..0];
+    for part in text.split(move |byte| *byte == separator) {
+        last = part;
+    }
+    last
+}

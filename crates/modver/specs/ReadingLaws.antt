@@ -1,0 +1,27 @@
+-- What holds of texts and their versions, over the definitions alone.
+use Rattle.std.specs.Prelude.{ℕ, ◌≡◌, ◌↔◌, ◌⊎◌, true, List, Some}
+use Rattle.modver.specs.Reading.{IsCanonical, IsFault, version_of}
+use Rattle.modver.specs.SemanticVersion.{IsVersion, SemanticVersion, is_version, version_text}
+use Rattle.modver.specs.declared.version.VersionFault.{VersionFault}
+
+-- a version has one text, and a text at most one version
+abbrev pub TextIsOneToOne : Type 0
+TextIsOneToOne = (u v : SemanticVersion) → IsVersion u → IsVersion v → version_text u ≡ version_text v → u ≡ v
+
+-- the computed version of a text is the one whose canonical text it is
+abbrev pub VersionOfIsExact : Type 0
+VersionOfIsExact = (text : List ℕ) (v : SemanticVersion) → (version_of text ≡ Some v) ↔ IsCanonical text v
+
+-- the test of a version passes exactly those that have a canonical text
+abbrev pub IsVersionIsExact : Type 0
+IsVersionIsExact = (v : SemanticVersion) → (is_version v ≡ true) ↔ IsCanonical (version_text v) v
+
+-- a text is one thing: the canonical text of one version, or faulty in one way
+pub record HasOneReading (text : List ℕ) : Type 0 where
+  pub some : ((v : SemanticVersion) × IsCanonical text v) ⊎ ((f : VersionFault) × IsFault text f)
+  pub one_version : (u v : SemanticVersion) → IsCanonical text u → IsCanonical text v → u ≡ v
+  pub one_fault : (f g : VersionFault) → IsFault text f → IsFault text g → f ≡ g
+  pub not_both : (v : SemanticVersion) (f : VersionFault) → IsCanonical text v → ¬ (IsFault text f)
+
+abbrev pub EachTextHasOneReading : Type 0
+EachTextHasOneReading = (text : List ℕ) → HasOneReading text

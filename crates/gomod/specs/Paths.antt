@@ -6,23 +6,23 @@ abbrev pub Version : Type 0
 Version = ℕ
 
 -- module paths, and the loose ones that may be required
-abbrev pub is_path : List ℕ → Bool
+unfoldable pub is_path : List ℕ → Bool
 is_path text = stub.is_path text
 
-abbrev pub is_loose_path : List ℕ → Bool
+unfoldable pub is_loose_path : List ℕ → Bool
 is_loose_path text = stub.is_loose text
 
 -- the version whose canonical text this is
-abbrev pub version_of : List ℕ → Option Version
+unfoldable pub version_of : List ℕ → Option Version
 version_of text = stub.version_of text
 
 -- whether a path may have a version
-abbrev pub fits_path : List ℕ → Version → Bool
+unfoldable pub fits_path : List ℕ → Version → Bool
 fits_path path version = stub.fits path version
 
 -- one version is below another by precedence
-abbrev pub is_below : Version → Version → Bool
+unfoldable pub is_below : Version → Version → Bool
 is_below u v = nat_lt u v
 
-abbrev pub IsBelow : Version → Version → Type 0
+unfoldable pub IsBelow : Version → Version → Type 0
 IsBelow u v = u < v

@@ -29,6 +29,7 @@ pub(crate) struct Retraction {
     pub(crate) high: Version,
 }
 
+#[tactic(auto, unfolding(crate::specs::Paths::is_path))]
 fn module_path(alloc: Global, line: usize, word: &Token) -> Result<ModulePath, GoModFault>
     ensures { Gives (λ p. p) result (path_word line is_path (symbol word.now)) }
 {
@@ -40,6 +41,7 @@ fn module_path(alloc: Global, line: usize, word: &Token) -> Result<ModulePath, G
     }
 }
 
+#[tactic(auto, unfolding(crate::specs::Paths::is_loose_path))]
 fn loose_path(alloc: Global, line: usize, word: &Token) -> Result<LoosePath, GoModFault>
     ensures { Gives (λ p. p) result (path_word line is_loose_path (symbol word.now)) }
 {
@@ -51,6 +53,7 @@ fn loose_path(alloc: Global, line: usize, word: &Token) -> Result<LoosePath, GoM
     }
 }
 
+#[tactic(auto, unfolding(crate::specs::Paths::version_of))]
 fn version(alloc: Global, line: usize, word: &Token) -> Result<Version, GoModFault>
     ensures { Gives (λ v. v) result (version_word line (symbol word.now)) }
 {
@@ -63,7 +66,7 @@ fn version(alloc: Global, line: usize, word: &Token) -> Result<Version, GoModFau
 }
 
 /// A version that a module path may have.
-#[tactic(auto, unfolding(crate::specs::Reading::fitting_word))]
+#[tactic(auto, unfolding(crate::specs::Reading::fitting_word, crate::specs::Paths::fits_path))]
 fn fitting(
     alloc: Global,
     line: usize,
@@ -81,7 +84,7 @@ fn fitting(
 }
 
 /// A version that a loose path may have.
-#[tactic(auto, unfolding(crate::specs::Reading::fitting_word))]
+#[tactic(auto, unfolding(crate::specs::Reading::fitting_word, crate::specs::Paths::fits_path))]
 fn fitting_loose(
     alloc: Global,
     line: usize,
@@ -287,7 +290,7 @@ fn is_interval(left: &Token, first: &Token, comma: &Token, second: &Token, right
         && is_word(second)
 }
 
-#[tactic(auto, unfolding(crate::specs::Reading::interval))]
+#[tactic(auto, unfolding(crate::specs::Reading::interval, crate::specs::Paths::is_below))]
 fn interval(
     alloc: Global,
     line: usize,

@@ -1,6 +1,7 @@
 //! What a go.mod file says.
 
 ghost use Rattle.std.specs.Prelude.{◌≡◌, ◌↔◌, IsTrue, IsUtf8, Err};
+ghost use Rattle.std.specs.List.{list_any};
 ghost use Rattle.gomod.specs.Symbols.{profile_1};
 ghost use Rattle.gomod.specs.Reading.{Gives, first_unfit, fits_retraction, file_says, text_says, reading};
 ghost use Rattle.gomod.specs.Module.{IsRetracted, is_retracted, covers, interval_of};
@@ -65,7 +66,7 @@ impl GoMod {
         ensures value { result ≡ is_retracted self.now version.now }
         ensures retracted { IsTrue result ↔ IsRetracted self.now version.now }
     {
-        self.retractions.iter().any(|r| r.covers(version))
+        some_covers(&self.retractions, version)
     }
 
     /// Whether the module directive is the only directive.
@@ -77,17 +78,26 @@ impl GoMod {
 }
 
 impl Retraction {
+    #[tactic(auto, unfolding(crate::specs::Paths::is_below))]
     fn covers(&self, version: &Version) -> bool
         ensures { result ≡ covers version.now (interval_of self.now) }
     {
         !version.is_below(&self.low) && !self.high.is_below(version)
     }
 
+    #[tactic(auto, unfolding(crate::specs::Paths::fits_path))]
     fn fits(&self, path: &ModulePath) -> bool
         ensures { result ≡ fits_retraction path.now self.now }
     {
         fits(path, &self.low) && fits(path, &self.high)
     }
+}
+
+/// Whether some retraction has the version.
+fn some_covers(retractions: &[Retraction], version: &Version) -> bool
+    ensures { result ≡ list_any (λ r. covers version.now (interval_of r)) retractions.now }
+{
+    retractions.iter().any(|r| r.covers(version))
 }
 
 /// The line of the first retraction that doesn't fit the path.

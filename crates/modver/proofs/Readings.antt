@@ -13,6 +13,8 @@ use Rattle.modver.specs.SemanticVersion.{IsVersion, SemanticVersion, incompatibl
 use Rattle.modver.specs.declared.version.VersionFault.{VersionFault}
 use Rattle.modver.specs.declared.version.VersionFault.TheVariants as fault
 use Rattle.modver.proofs.SemVerText.{IsSemVer-of, no_front, no_mark, parts_from, pre_release-of, refused, version_parts-of, version_text-of}
+use Rattle.modver.proofs.Conditions.{and-both, le-nat_le, nat_le-false, nat_le-true}
+use Rattle.modver.proofs.SemVerText.{make}
 
 -- ---- a version, by its text
 
@@ -32,12 +34,8 @@ is_marked-mark_of false = refl
 pub IsSemVer-text : (v : SemanticVersion) → IsVersion v → IsSemVer (version_text v) v (mark_of v.marked)
 IsSemVer-text v valid = record { valid = valid; build_identifiers = mark-words v.marked; same = refl }
 
-make : (a b c : ℕ) (ids : List (List ℕ)) (m : Bool) → SemanticVersion
-make a b c ids m = record { major = a; minor = b; patch = c; identifiers = ids; marked = m }
-
 -- the parts of a version make it up again
 pub parts-again : (v : SemanticVersion) → IsVersion v → version_of_parts (parts_from v (mark_of v.marked)) ≡ v
-unfolding make
 parts-again v valid =
     ap (λ (ids : List (List ℕ)). make v.major v.minor v.patch ids (is_marked (mark_of v.marked))) (pre_release-of v.identifiers valid.identifiers).1
     ∙ ap (λ (m : Bool). make v.major v.minor v.patch v.identifiers m) (is_marked-mark_of v.marked)
@@ -108,18 +106,6 @@ bytes-fault (b ∷ rest) f short h = elim (cases_Bool (b == 118)) [
       subst (IsFault (b ∷ rest)) same (short, no_front (b ∷ rest) (λ more e. let first : b ≡ 118 = cc e in absurd (grind (arith, nat_tests))))
 ]
 
-nat_le-true : (m n : ℕ) → nat_le m n ≡ true → m ≤ n
-nat_le-true m n h = grind (arith, nat_tests)
-
-nat_le-false : (m n : ℕ) → nat_le m n ≡ false → n < m
-nat_le-false m n h = grind (arith, nat_tests)
-
-le-nat_le : (m n : ℕ) → m ≤ n → nat_le m n ≡ true
-le-nat_le m n h = grind (arith, nat_tests)
-
-gt-nat_le : (m n : ℕ) → n < m → nat_le m n ≡ false
-gt-nat_le m n h = grind (arith, nat_tests)
-
 pub canonical-of : (text : List ℕ) (v : SemanticVersion) → reading text ≡ Ok v → IsCanonical text v
 unfolding reading
 canonical-of text v h = elim (cases_Bool (nat_le (length text) 128)) [
@@ -153,14 +139,14 @@ no-other : (m : Bool) (build : List ℕ) → mark_of m ≡ build → build ≢ [
 no-other true build e some other = other (sym e)
 no-other false build e some other = some (sym e)
 
-pub not-both : (text : List ℕ) (v : SemanticVersion) (f : VersionFault) → IsCanonical text v → ¬ (IsFault text f)
-not-both text v fault.TooLong c h = absurd (omega (arith, c.short, h))
-not-both text v fault.Form c h = h.1 v (mark_of v.marked) (record { valid = c.valid; build_identifiers = mark-words v.marked; same = sym c.same })
-not-both text v fault.Build c h =
+pub not-faulty : (text : List ℕ) (v : SemanticVersion) (f : VersionFault) → IsCanonical text v → ¬ (IsFault text f)
+not-faulty text v fault.TooLong c h = absurd (omega (arith, c.short, h))
+not-faulty text v fault.Form c h = h.1 v (mark_of v.marked) (record { valid = c.valid; build_identifiers = mark-words v.marked; same = sym c.same })
+not-faulty text v fault.Build c h =
     let s : IsSemVer text v (mark_of v.marked) = record { valid = c.valid; build_identifiers = mark-words v.marked; same = sym c.same } in
     let same = one-build text v h.1.0 (mark_of v.marked) h.1.1 s h.1.2 in
     no-other v.marked h.1.1 same h.1.3 h.1.4
-not-both text v fault.Memory c h = h
+not-faulty text v fault.Memory c h = h
 
 -- two faults of a text are one
 one-fault : (text : List ℕ) (f g : VersionFault) → IsFault text f → IsFault text g → f ≡ g
@@ -188,7 +174,7 @@ each-one text = record {
   some = one-reading text (reading text) refl;
   one_version = λ u v c d. text-one u v c.valid d.valid (c.same ∙ sym d.same);
   one_fault = one-fault text;
-  not_both = not-both text;
+  not_both = not-faulty text;
 }
 
 value-some : (r : Result SemanticVersion VersionFault) (v : SemanticVersion) → value_of r ≡ Some v → r ≡ Ok v
@@ -200,10 +186,6 @@ unfolding version_of
 version-of text v = (λ e. canonical-of text v (value-some (reading text) v e), λ c. ap value_of (reading-of_canonical text v c))
 
 -- ---- the test of a version
-
-and-both : (x y : Bool) → (x && y) ≡ true → (x ≡ true) × (y ≡ true)
-and-both true y h = (refl, h)
-and-both false y h = cc h
 
 pub is-version : IsVersionIsExact
 unfolding is_version

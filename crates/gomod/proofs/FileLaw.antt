@@ -208,8 +208,8 @@ module_stands ds path h =
     ⊎_elim
     (λ yes. yes)
     (λ no. (
-      let none : entries_under Module (items ds None) ≡ [] = ap (entries_under Module) (append-nil (flat_map items_of ds)) ∙ none_entries Module ds no in
-      absurd (subst (λ l. Pointwise (λ e p. IsModuleEntry e.symbols p) l (path ∷ [])) none h)
+    let none : entries_under Module (items ds None) ≡ [] = ap (entries_under Module) (append-nil (flat_map items_of ds)) ∙ none_entries Module ds no in
+    absurd (subst (λ l. Pointwise (λ e p. IsModuleEntry e.symbols p) l (path ∷ [])) none h)
     ))
     (cases_Bool (stands Module ds))
 

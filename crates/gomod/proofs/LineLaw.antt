@@ -196,6 +196,7 @@ directive_moves known line ds k ts x known_k plain h =
     and_left : (a b : Bool) → (a && b) ≡ true → a ≡ true
     and_left true b e = refl
     and_left false b e = cc
+
     and_right : (a b : Bool) → (a && b) ≡ true → b ≡ true
     and_right true b e = e
     and_right false b e = cc

@@ -41,11 +41,10 @@ moved line at n place bytes (t ∷ ts) h =
 -- parentheses are spelled as themselves
 pub tokens_plain : (line at : ℕ) (bytes : List ℕ) (ts : List Lexeme) → AreTokens line at bytes ts → AllByRecursion IsPlain (map symbol_of ts)
 tokens_plain line at bytes [] h = tt
-tokens_plain line at bytes (t ∷ ts) h =
-    (
-      (λ is. subst (λ k. IsLexeme k t.text h.1) is h.3, λ is. subst (λ k. IsLexeme k t.text h.1) is h.3),
-      tokens_plain line (at + length h.0 + length t.text) h.1 ts h.6,
-    )
+tokens_plain line at bytes (t ∷ ts) h = (
+  (λ is. subst (λ k. IsLexeme k t.text h.1) is h.3, λ is. subst (λ k. IsLexeme k t.text h.1) is h.3),
+  tokens_plain line (at + length h.0 + length t.text) h.1 ts h.6,
+)
 
 -- ---- the computed tokens of a line
 

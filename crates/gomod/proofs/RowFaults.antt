@@ -86,10 +86,16 @@ entry_fails line c k ts f h = ⊎_elim (λ e. e) (λ x. (let bad = x.2 in cc)) (
 -- of an entry, behind a keyword
 single_fault : (known : Keywords) (line : ℕ) (ds : List Directive) (t : Symbol) (ts : List Symbol) (k : Keyword) (f : GoModFault) → IsKeyword known t k → keyword_named known t.text ≡ Some k → ¬ IsUnknown known None (t ∷ ts) → ¬ IsRepeated known ds None (t ∷ ts) → (has_block k && is_opening ts) ≡ false → IsEntryFault line k ts f → IsRowFault known ds None line (t ∷ ts) f
 single_fault known line ds t ts k f is named no_unknown no_twice no_block h =
-    inr (no_unknown, inr (no_twice, ⊎_elim
-    (λ shapeless. inl (outside_denied known t ts k named no_block shapeless.0, shapeless.1))
-    (λ words. inr (words.0, (k, is, words.1), words.2))
-    h))
+    inr (
+      no_unknown,
+      inr (
+        no_twice,
+        ⊎_elim
+            (λ shapeless. inl (outside_denied known t ts k named no_block shapeless.0, shapeless.1))
+            (λ words. inr (words.0, (k, is, words.1), words.2))
+            h,
+      ),
+    )
 
 fresh_once : (known : Keywords) (ds : List Directive) (t : Symbol) (ts : List Symbol) (k : Keyword) → keyword_named known t.text ≡ Some k → IsFresh ds k → ¬ IsRepeated known ds None (t ∷ ts)
 fresh_once known ds t ts k named fresh r =
@@ -131,28 +137,46 @@ unfolding line_inside
 inside_fault known line ds b t ts f alone h =
     ⊎_elim
     (λ closing. ⊎_elim
-    (λ empty. inr (λ u. u, inr (λ r. r, inl (
-      inside_denied known b t ts
-          (λ _ filled. both_ways _ (filled-context ds b alone filled) empty.0)
-          (λ demands _ shape. both_ways (is_closing (t ∷ ts)) (shape_no_closing b.keyword (t ∷ ts) demands shape) closing.0),
-      (let same = empty.1 in cc),
-    ))))
+    (λ empty. inr (
+      λ u. u,
+      inr (
+        λ r. r,
+        inl (
+          inside_denied known b t ts
+              (λ _ filled. both_ways _ (filled-context ds b alone filled) empty.0)
+              (λ demands _ shape. both_ways (is_closing (t ∷ ts)) (shape_no_closing b.keyword (t ∷ ts) demands shape) closing.0),
+          (let same = empty.1 in cc),
+        ),
+      ),
+    ))
     (λ full. (let bad = full.1 in cc))
     (chosen (is_module b.keyword && not (context_at ds (Some b)).has_module) _ _ _ closing.1))
     (λ other. ⊎_elim
-    (λ full. inr (λ u. u, inr (λ r. r, inl (
-      inside_denied known b t ts
-          (λ closing _. both_ways (is_closing (t ∷ ts)) other.0 closing)
-          (λ demands room _. both_ways _ (room-context ds b alone room) full.0),
-      (let same = full.1 in cc),
-    ))))
-    (λ room. inr (λ u. u, inr (λ r. r, ⊎_elim
-    (λ shapeless. inl (
-      inside_denied known b t ts (λ closing _. both_ways (is_closing (t ∷ ts)) other.0 closing) (λ demands _ shape. shapeless.0 demands shape),
-      shapeless.1,
+    (λ full. inr (
+      λ u. u,
+      inr (
+        λ r. r,
+        inl (
+          inside_denied known b t ts
+              (λ closing _. both_ways (is_closing (t ∷ ts)) other.0 closing)
+              (λ demands room _. both_ways _ (room-context ds b alone room) full.0),
+          (let same = full.1 in cc),
+        ),
+      ),
     ))
-    (λ words. inr (words.0, (context-room ds b alone room.0, words.1), words.2))
-    (entry_fault line b.keyword (t ∷ ts) f (entry_fails line (context_at ds (Some b)) b.keyword (t ∷ ts) f room.1)))))
+    (λ room. inr (
+      λ u. u,
+      inr (
+        λ r. r,
+        ⊎_elim
+            (λ shapeless. inl (
+              inside_denied known b t ts (λ closing _. both_ways (is_closing (t ∷ ts)) other.0 closing) (λ demands _ shape. shapeless.0 demands shape),
+              shapeless.1,
+            ))
+            (λ words. inr (words.0, (context-room ds b alone room.0, words.1), words.2))
+            (entry_fault line b.keyword (t ∷ ts) f (entry_fails line (context_at ds (Some b)) b.keyword (t ∷ ts) f room.1)),
+      ),
+    ))
     (chosen (is_module b.keyword && (context_at ds (Some b)).has_module) _ _ _ other.1))
     (chosen (is_closing (t ∷ ts)) _ _ _ h)
 

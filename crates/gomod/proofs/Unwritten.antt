@@ -29,9 +29,9 @@ fewer {known = known} {rows = rows} {ds = ds} {es = es} {o = o} {p = p} {r = r} 
     blocks = blocks;
     open_block = open_block;
     single = λ j only.
-    let few = subst (λ l. length (filter (is_keyword j) l) ≤ 1) (keywords_in-move m) (w.single j only) in
-    let join = filter-join (is_keyword j) (keywords_in ds o) (keywords_more m) in
-    omega (arith, few, ap length join, length-join (filter (is_keyword j) (keywords_in ds o)) (filter (is_keyword j) (keywords_more m)));
+        let few = subst (λ l. length (filter (is_keyword j) l) ≤ 1) (keywords_in-move m) (w.single j only) in
+        let join = filter-join (is_keyword j) (keywords_in ds o) (keywords_more m) in
+        omega (arith, few, ap length join, length-join (filter (is_keyword j) (keywords_in ds o)) (filter (is_keyword j) (keywords_more m)));
     entries = all-front (λ i. IsRight i.keyword i.entry.symbols) (items ds o) (items_more m) (subst (AllByRecursion (λ i. IsRight i.keyword i.entry.symbols)) (items-move m) w.entries);
   };
 }

@@ -28,7 +28,6 @@ is_keyword-itself Exclude = refl
 is_keyword-itself Replace = refl
 is_keyword-itself Retract = refl
 
-
 -- ---- a line more
 
 known_more : {known : Keywords} {ds es : List Directive} {o p : Option OpenBlock} {r : Row} (m : Move known ds o r es p) → AllByRecursion (IsKnown known) (keywords_more m)

@@ -2,15 +2,15 @@
 
 ghost use Rattle.std.specs.Prelude.{◌≡◌};
 ghost use Rattle.gomod.specs.Symbols.{symbol, symbols};
-ghost use Rattle.gomod.specs.Paths.{is_path, is_loose_path};
-ghost use Rattle.gomod.specs.Reading.{Gives, path_word, version_word, fitting_word, module_entry, go_entry, pair, pair_entry, old_path, old_version, new_file, new_version, replace_three, replace_four, replace_five, replace_entry, are_interval_kinds, interval, retract_entry};
+ghost use Rattle.gomod.specs.Paths.{is_path, is_loose_path, is_below};
+ghost use Rattle.gomod.specs.Reading.{Gives, path_word, version_fault, version_word, fitting_word, module_entry, go_entry, pair, pair_entry, old_path, old_version, new_file, new_version, replace_three, replace_four, replace_five, replace_entry, are_interval_kinds, interval, retract_entry};
 
 use super::fault::GoModFault;
 use super::go_version::{is_file_path, is_go_version};
 use super::lexer::{Kind, Token};
-use super::modpath::{LoosePath, ModulePath, PathError};
-use super::modver::{Version, VersionFault, fits, fits_loose};
 use super::words::{is_arrow, is_word, value};
+use modpath::{LoosePath, ModulePath, PathError};
+use modver::{Version, VersionFault, compare, fits, fits_loose};
 use std::alloc::Global;
 
 /// A version of a module that another one asks for. (Go Modules Reference, "require directive".)
@@ -36,7 +36,7 @@ fn module_path(alloc: Global, line: usize, word: &Token) -> Result<ModulePath, G
     let text = value(alloc, word)?;
     match ModulePath::parse(alloc, text.as_str()) {
         Ok(path) => Ok(path),
-        Err(PathError::Fault) => Err(GoModFault::Path(line)),
+        Err(PathError::Fault(_)) => Err(GoModFault::Path(line)),
         Err(PathError::Memory) => Err(GoModFault::Memory),
     }
 }
@@ -48,21 +48,39 @@ fn loose_path(alloc: Global, line: usize, word: &Token) -> Result<LoosePath, GoM
     let text = value(alloc, word)?;
     match LoosePath::parse(alloc, text.as_str()) {
         Ok(path) => Ok(path),
-        Err(PathError::Fault) => Err(GoModFault::Path(line)),
+        Err(PathError::Fault(_)) => Err(GoModFault::Path(line)),
         Err(PathError::Memory) => Err(GoModFault::Memory),
     }
 }
 
-#[tactic(auto, unfolding(crate::specs::Paths::version_of))]
 fn version(alloc: Global, line: usize, word: &Token) -> Result<Version, GoModFault>
     ensures { Gives (λ v. v) result (version_word line (symbol word.now)) }
 {
     let text = value(alloc, word)?;
-    match Version::parse(text.as_str()) {
+    match Version::parse(alloc, text.as_str()) {
         Ok(version) => Ok(version),
-        Err(VersionFault::Form) => Err(GoModFault::Version(line)),
-        Err(VersionFault::Memory) => Err(GoModFault::Memory),
+        Err(fault) => Err(version_fault(line, fault)),
     }
+}
+
+/// The fault of a line with a word that was read as no version.
+fn version_fault(line: usize, fault: VersionFault) -> GoModFault
+    ensures { result ≡ version_fault line fault }
+{
+    match fault {
+        VersionFault::Memory => GoModFault::Memory,
+        VersionFault::Form | VersionFault::Build | VersionFault::TooLong => {
+            GoModFault::Version(line)
+        }
+    }
+}
+
+/// Whether one version is below another by precedence.
+#[tactic(auto, unfolding(crate::specs::Paths::is_below))]
+pub(crate) fn is_below(left: &Version, right: &Version) -> bool
+    ensures { result ≡ is_below left.now right.now }
+{
+    compare(left, right).is_lt()
 }
 
 /// A version that a module path may have.
@@ -290,7 +308,7 @@ fn is_interval(left: &Token, first: &Token, comma: &Token, second: &Token, right
         && is_word(second)
 }
 
-#[tactic(auto, unfolding(crate::specs::Reading::interval, crate::specs::Paths::is_below))]
+#[tactic(auto, unfolding(crate::specs::Reading::interval))]
 fn interval(
     alloc: Global,
     line: usize,
@@ -301,7 +319,7 @@ fn interval(
 {
     let low = version(alloc, line, first)?;
     let high = version(alloc, line, second)?;
-    if high.is_below(&low) {
+    if is_below(&high, &low) {
         Err(GoModFault::Interval(line))
     } else {
         Ok(Retraction { line, low, high })

@@ -7,12 +7,12 @@ ghost use Rattle.gomod.specs.Reading.{Gives, first_unfit, fits_retraction, file_
 ghost use Rattle.gomod.specs.Module.{IsRetracted, is_retracted, covers, interval_of};
 ghost use Rattle.gomod.specs.State.{state_of};
 
-use super::entries::{Requirement, Retraction};
+use super::entries::{Requirement, Retraction, is_below};
 use super::fault::GoModFault;
 use super::lexer::cut_line;
-use super::modpath::ModulePath;
-use super::modver::{Version, fits};
 use super::reader::{Reader, read_line};
+use modpath::ModulePath;
+use modver::{Version, fits};
 use std::alloc::Global;
 use std::marker::Model;
 
@@ -78,11 +78,10 @@ impl GoMod {
 }
 
 impl Retraction {
-    #[tactic(auto, unfolding(crate::specs::Paths::is_below))]
     fn covers(&self, version: &Version) -> bool
         ensures { result ≡ covers version.now (interval_of self.now) }
     {
-        !version.is_below(&self.low) && !self.high.is_below(version)
+        !is_below(version, &self.low) && !is_below(&self.high, version)
     }
 
     #[tactic(auto, unfolding(crate::specs::Paths::fits_path))]

@@ -1,0 +1,16 @@
+use Rattle.std.proofs.Common.{sym, ◌∙◌, inl}
+use Rattle.sqlite.specs.Held.{state}
+use Rattle.shelf.specs.World.{only_common}
+use Rattle.store.proofs.FirstWorld.{first_world}
+use Rattle.store.proofs.WriteLemmas.{open_leaves}
+use Rattle.store.proofs.store.SqlShelves.adopt_empty.Goals as goal
+
+pub returns-in-Ok-clause-made : goal.returns-in-Ok-clause-made
+returns-in-Ok-clause-made g c clean =
+    let h = c.in-Ok.ensures.made clean (sym c.schema.ensures.value ∙ c.is_no_schema.ensures.0 c.if-not-is_no_schema.false) in
+    (h.0, ((λ _ _. h.1), first_world))
+
+pub returns-in-Ok-clause-left : goal.returns-in-Ok-clause-left
+returns-in-Ok-clause-left g c clean =
+    let h = c.in-Ok.ensures.made clean (sym c.schema.ensures.value ∙ c.is_no_schema.ensures.0 c.if-not-is_no_schema.false) in
+    λ db may. let it = open_leaves (state g.S.Store c.create.new.conn) only_common (λ db may. g.met.S.Store.settled c.create.new.conn.store db h.0 may) h.1 db may in (it.0, it.1, inl it.2)

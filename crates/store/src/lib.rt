@@ -31,6 +31,9 @@
 
 mod create;
 mod entries;
+pub mod open;
 mod schema;
 mod shelves;
 pub mod store;
+#[cfg(test)]
+mod tests;

@@ -1,12 +1,12 @@
 //! The store that the machine runs over.
 
-ghost use Rattle.std.specs.Prelude.{◌≡◌, ◌≢◌, ◌≤◌, IfOk, IfErr, IsTrue};
+ghost use Rattle.std.specs.Prelude.{◌≡◌, ◌≢◌, ◌≤◌, ◌⊎◌, IfOk, IfErr, IsTrue};
 ghost use Rattle.sqlite.specs.Held.{state};
 ghost use Rattle.sqlite.specs.State.{HasCleanDisk};
 ghost use Rattle.shelf.specs.World.{only_common};
 ghost use Rattle.shelf.specs.Store.{GrewOrFull};
 ghost use Rattle.store.specs.Schema.{no_schema};
-ghost use Rattle.store.specs.Means.{StandsFor};
+ghost use Rattle.store.specs.Means.{StandsFor, StandFor};
 ghost use Rattle.store.specs.Calls.{LeavesEither};
 
 use crate::create::create;
@@ -153,6 +153,9 @@ impl<S: Alter> SqlShelves<S> {
         ensures made { IfOk result (λ s. HasCleanDisk (state S.Store s.conn) → IsTrue (state S.Store s.conn).is_open × StandsFor (state S.Store s.conn) only_common) }
         ensures left { IfOk result (λ s. HasCleanDisk (state S.Store s.conn) → LeavesEither (state S.Store s.conn) only_common only_common) }
         ensures none_failed { IfOk result (λ s. s.failures ≡ 0) }
+        // Where this is refused, the connection shows what it showed, and a crash leaves what it left before or the made tables.
+        ensures kept { IfErr result (λ e. HasCleanDisk (state S.Store e.1) → IsTrue (state S.Store e.1).is_open → (state S.Store conn).now ≡ (state S.Store conn).committed → (state S.Store e.1).now ≡ (state S.Store conn).now) }
+        ensures crash { IfErr result (λ e. HasCleanDisk (state S.Store e.1) → (db : _) → (state S.Store e.1).may_leave db → (state S.Store conn).may_leave db ⊎ StandFor db only_common) }
         ensures schema { IfErr result (λ e. e.0 ≡ Refusal.BadSchema → ((state S.Store conn).now.schema ≢ no_schema) × (e.1 ≡ conn)) }
     {
         if !is_no_schema(conn.schema()) {

@@ -108,13 +108,13 @@ bytes-fault (b ∷ rest) f short h = elim (cases_Bool (b == 118)) [
       subst (IsFault (b ∷ rest)) same (short, no_front (b ∷ rest) (λ more e. let first : b ≡ 118 = cc e in absurd (grind (arith, nat_tests))))
 ]
 
-nat_le-true : (m n : ℕ) → nat_le m n ≡ true → m ≤ n
+pub nat_le-true : (m n : ℕ) → nat_le m n ≡ true → m ≤ n
 nat_le-true m n h = grind (arith, nat_tests)
 
 nat_le-false : (m n : ℕ) → nat_le m n ≡ false → n < m
 nat_le-false m n h = grind (arith, nat_tests)
 
-le-nat_le : (m n : ℕ) → m ≤ n → nat_le m n ≡ true
+pub le-nat_le : (m n : ℕ) → m ≤ n → nat_le m n ≡ true
 le-nat_le m n h = grind (arith, nat_tests)
 
 gt-nat_le : (m n : ℕ) → n < m → nat_le m n ≡ false

@@ -1,6 +1,6 @@
 -- What the outcome of the checks of a publish says of each of them.
-use Rattle.std.proofs.Common.{◌≡◌, ℕ, ◌≤◌, ◌<◌, List, [], ◌∷◌, ◌++◌, Bool, true, false, cond, refl, ◌∙◌, sym, ap, subst, Option, Some, None, arith, length}
-use Rattle.std.specs.Prelude.{◌&&◌, ◌||◌, not, is_none, is_some, is_ok, Ok, Err, Result, ⊤, option_map, unwrap_or, nat_lt, nat_le, bytes_eq, ◌^◌}
+use Rattle.std.proofs.Common.{◌≡◌, ℕ, ◌≤◌, ◌<◌, List, [], ◌∷◌, ◌++◌, Bool, true, false, cond, refl, ◌∙◌, sym, ap, Option, Some, None, arith, length}
+use Rattle.std.specs.Prelude.{◌&&◌, ◌||◌, not, is_none, is_some, is_ok, Ok, Err, Result, ⊤, option_map, unwrap_or, nat_lt, nat_le, ◌^◌}
 use Rattle.std.specs.List.{list_any, list_all}
 use Rattle.std.specs.Option.{option_or}
 use Rattle.std.specs.FinMap as map
@@ -9,20 +9,18 @@ use Rattle.std.proofs.lemmas.Bool.{true≢false}
 use Rattle.std.proofs.lemmas.Bool.Decides.{nat_tests}
 use Rattle.modpath.specs.declared.path.PathFault.{PathFault}
 use Rattle.modpath.specs.Path.{path_check, passed, IsPath, is_path}
-use Rattle.modver.specs.SemanticVersion.{SemanticVersion, IsVersion, is_identifier, version_text}
+use Rattle.modver.specs.SemanticVersion.{SemanticVersion, is_identifier, is_version, version_text}
 use Rattle.modver.specs.Reading.{IsCanonical}
-use Rattle.shelf.specs.declared.entry.Place.{Place}
 use Rattle.shelf.specs.declared.entry.Entry.{Entry}
 use Rattle.shelf.specs.declared.entry.Seen.{Seen}
 use Rattle.shelf.specs.declared.entry.Holder.{Holder}
 use Rattle.shelf.specs.declared.entry.Right.{Right}
-use Rattle.shelf.specs.declared.ask.Body.{Body}
+use Rattle.shelf.specs.declared.entry.Right.TheVariants.{Publishes}
 use Rattle.shelf.specs.declared.ask.Publish.{Publish}
 use Rattle.shelf.specs.declared.reply.Decision.{Decision}
-use Rattle.shelf.specs.declared.reply.Decision.TheVariants.{Published, Same, NotFound, Forbidden, BadLength, TooLarge, Conflict, Full}
-use Rattle.shelf.specs.Forms.{is_version}
-use Rattle.shelf.specs.World.{World, IsEntry, common, place, seen_at, first_on, view, chain, count, gomod_limit, zip_limit, version_limit}
-use Rattle.shelf.specs.Machine.{first_failing, is_readable, may_publish, is_too_large, is_same, offered, entry_of, request_checks, shelf_checks, decided, entry_seen, decision, place_of}
+use Rattle.shelf.specs.declared.reply.Decision.TheVariants.{Published, Same, NotFound, BadLength, TooLarge, Conflict, Full}
+use Rattle.shelf.specs.World.{World, IsEntry, common, seen_at, first_on, view, count, gomod_limit, zip_limit, version_limit}
+use Rattle.shelf.specs.Machine.{first_failing, is_readable, may_publish, is_too_large, is_same, offered, request_checks, shelf_checks, decided, entry_seen, decision, place_of}
 use Rattle.shelf.specs.Store.{IsRoomFor}
 
 -- ---- one list of checks after another
@@ -103,6 +101,7 @@ pub path_form : (t : List ℕ) → is_path t ≡ true → IsPath t
 path_form t e = passes (path_check t) e
 
 pub version_form : (v : SemanticVersion) → is_version v ≡ true → IsCanonical (version_text v) v
+unfolding is_version
 version_form v e =
     let numbers : Bool = nat_lt v.major (2 ^ 64) && nat_lt v.minor (2 ^ 64) && nat_lt v.patch (2 ^ 64) in
     let a = both_true (numbers && list_all is_identifier v.identifiers) (nat_le (length (version_text v)) 128) e in
@@ -149,6 +148,7 @@ nothing_at (Some x) s rest e = cc
 pub record Accepted (p : Publish) (right : Option Right) (seen : Option Entry) (n : ℕ) : Type 0 where
   pub readable : is_readable p ≡ true
   pub may : may_publish right ≡ true
+  pub told : is_none p.body ≡ false
   pub small : is_too_large (offered p) ≡ false
   pub unseen : seen ≡ None
   pub room : n < version_limit
@@ -160,6 +160,7 @@ accepted p right seen n e =
     record {
       readable = not_false (is_readable p) all.0;
       may = not_false (may_publish right) all.1.1.0;
+      told = all.1.1.1.0;
       small = c.0;
       unseen = nothing_from seen c.1.1.0;
       room = below_not version_limit n c.1.1.1.0;
@@ -177,3 +178,40 @@ room_for w h p e stands is_published is_offered =
       room = is.room;
       entry = entry_form h.shelf p e is.readable (ap is_too_large (sym is_offered) ∙ is.small);
     }
+
+-- what a publish was whose like is there already
+pub record Again (p : Publish) (right : Option Right) (seen : Option Entry) : Type 0 where
+  pub readable : is_readable p ≡ true
+  pub small : is_too_large (offered p) ≡ false
+  pub same : is_same seen (offered p) ≡ true
+
+only_same : (x y z : Bool) → cond x Same (cond y Conflict (cond z Full Published)) ≡ Same → x ≡ true
+only_same true y z e = refl
+only_same false true z e = absurd (true≢false (sym (ap is_same_answer e)))
+only_same false false true e = absurd (true≢false (sym (ap is_same_answer e)))
+only_same false false false e = absurd (true≢false (sym (ap is_same_answer e)))
+
+outcome_of : (x y z : Bool) → unwrap_or (cond x (Some Same) (cond y (Some Conflict) (cond z (Some Full) None))) Published ≡ cond x Same (cond y Conflict (cond z Full Published))
+outcome_of true y z = refl
+outcome_of false true z = refl
+outcome_of false false true = refl
+outcome_of false false false = refl
+
+pub same_again : (p : Publish) (right : Option Right) (seen : Option Entry) (n : ℕ) → decided p right seen n ≡ Same → Again p right seen
+same_again p right seen n e =
+    let parts = passed_before is_same_answer (request_checks p right) (shelf_checks p seen n) Same refl refl e in
+    record {
+      readable = not_false (is_readable p) parts.0.0;
+      small = parts.0.1.1.1.1.0;
+      same = only_same (is_same seen (offered p)) (is_some seen) (nat_le version_limit n) (sym (outcome_of (is_same seen (offered p)) (is_some seen) (nat_le version_limit n)) ∙ parts.1);
+    }
+
+-- and of such a publish, by a key that may publish, the like is there
+row_of_same : (a b c d : Bool) (rest : Option Decision) → a ≡ true → b ≡ false → c ≡ false → d ≡ true
+    → unwrap_or (cond (not a) (Some NotFound) (cond b (Some BadLength) (cond c (Some TooLarge) (cond d (Some Same) rest)))) Published ≡ Same
+row_of_same a b c d rest ea eb ec ed = simp (ea, eb, ec, ed) refl
+
+pub same_decided : (p : Publish) (seen : Option Entry) (n : ℕ) → is_readable p ≡ true → is_none p.body ≡ false → is_too_large (offered p) ≡ false → is_same seen (offered p) ≡ true
+    → decided p (Some Publishes) seen n ≡ Same
+same_decided p seen n readable told small same =
+    row_of_same (is_readable p) (is_none p.body) (is_too_large (offered p)) (is_same seen (offered p)) _ readable told small same

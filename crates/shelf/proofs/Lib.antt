@@ -1,3 +1,4 @@
+pub mod MapsAnchor
 pub mod MapsDone
 pub mod MapsTexts
 pub mod MapsNested
@@ -10,3 +11,11 @@ pub mod Runs
 pub mod Retained
 pub mod Views
 pub mod Sound
+pub mod Chains
+pub mod Apart
+pub mod Isolated
+pub mod Blind
+pub mod Stays
+pub mod Served
+pub mod Repeated
+pub mod Changes

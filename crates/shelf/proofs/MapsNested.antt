@@ -1,5 +1,5 @@
 -- Maps of texts in a map of texts.
-use Rattle.std.proofs.Common.{◌≡◌, ℕ, List, Bool, true, false, cond, refl, ◌∙◌, sym, ap, Some, None, Option}
+use Rattle.std.proofs.Common.{◌≡◌, ℕ, List, true, false, cond, refl, ◌∙◌, sym, ap, Some, None, Option}
 use Rattle.std.specs.Prelude.{unwrap_or, option_and_then}
 use Rattle.std.specs.Ordering.{eq_by_cmp}
 use Rattle.std.specs.FinMap as map

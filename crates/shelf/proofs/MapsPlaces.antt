@@ -1,23 +1,22 @@
 -- What nested maps of texts have at each place.
-use Rattle.std.proofs.Common.{◌≡◌, ℕ, List, [], ◌∷◌, ◌++◌, Bool, true, false, cond, refl, ◌∙◌, sym, ap, subst, Some, None, Option, length}
-use Rattle.std.specs.Prelude.{map as each, bytes_eq, ◌&&◌, unwrap_or, option_and_then}
+use Rattle.std.proofs.Common.{◌≡◌, ℕ, List, [], ◌∷◌, ◌++◌, Bool, true, false, cond, refl, ◌∙◌, sym, ap, subst, Some, None, Option}
+use Rattle.std.specs.Prelude.{map as each, ◌&&◌, unwrap_or, option_and_then}
 use Rattle.std.specs.Option.{option_or}
 use Rattle.std.specs.List.{flat_map}
 use Rattle.std.specs.Ordering.{eq_by_cmp, is_eq, is_lt, ordering_then}
 use Rattle.std.specs.declared.cmp.Ordering.{Ordering}
 use Rattle.std.specs.declared.cmp.Ordering.TheVariants.{Less, Equal, Greater}
-use Rattle.std.specs.Cmp.{IsTotalOrder, tied_itself}
+use Rattle.std.specs.Cmp.{IsTotalOrder}
 use Rattle.std.specs.FinMap as map
 use Rattle.std.specs.FinMap.Entries.{below_all}
 use Rattle.std.proofs.lemmas.Map.Views.{tells_apart}
-use Rattle.std.proofs.lemmas.Map.Text.{is_eq-slice_cmp}
 use lib.Dec.{T}
 use Rattle.shelf.specs.declared.entry.Place.{Place}
 use Rattle.shelf.specs.declared.entry.Entry.{Entry}
 use Rattle.shelf.specs.World.{text_cmp, place_cmp, place}
 use Rattle.shelf.specs.Kept.{Nested, placed, placed_on, by_place, get_under, map_at, put_under, put_at}
 use Rattle.shelf.proofs.Orders.{texts_total, texts_exact, places_total, places_exact}
-use Rattle.shelf.proofs.MapsNested.{get_map_at, get_put_under}
+use Rattle.shelf.proofs.MapsNested.{get_put_under}
 
 -- ---- lists of entries, one after another
 

@@ -1,16 +1,15 @@
 -- What a map of texts has at each text, as the finite map that it stands for.
-use Rattle.std.proofs.Common.{◌≡◌, ℕ, ◌+◌, List, [], ◌∷◌, Bool, true, false, cond, refl, ◌∙◌, sym, ap, Some, None, Option, length, arith}
+use Rattle.std.proofs.Common.{◌≡◌, ℕ, ◌+◌, List, [], ◌∷◌, true, false, cond, refl, ◌∙◌, sym, ap, Some, None, Option, length, arith}
 use Rattle.std.specs.Prelude.{String, map as each, string_bytes, bytes_eq, is_some, IsSome, OnSome}
 use Rattle.std.specs.Borrow.{MutBor}
 use Rattle.std.specs.Option.{option_copied_mut}
 use Rattle.std.proofs.lemmas.Map.Views.{tells_apart}
-use Rattle.std.specs.List.{IsDistinct, AllByRecursion, list_any}
-use Rattle.std.specs.List.Sorted.{IsStrictlySortedBy}
-use Rattle.std.specs.Map.{lookup, keys_of, update}
+use Rattle.std.specs.List.{IsDistinct, AllByRecursion}
+use Rattle.std.specs.Map.{lookup, keys_of}
 use Rattle.std.specs.BTreeMap.{BTreeMap, is_at, get_by_text, IsOrdered, UpdatesBy}
 use Rattle.std.specs.String.{string_cmp}
 use Rattle.std.specs.Ordering.{eq_by_cmp, is_eq, nat_cmp}
-use Rattle.std.specs.Cmp.{IsTotalOrder, eq_by_cmp_equiv}
+use Rattle.std.specs.Cmp.{eq_by_cmp_equiv}
 use Rattle.std.specs.Cmp.Lexicographic.{slice_cmp}
 use Rattle.std.specs.FinMap as map
 use Rattle.std.proofs.lemmas.Map.Text.{is_eq-slice_cmp, btree_map_updates_text}

@@ -1,7 +1,7 @@
 -- Each event leads from a world to a world.
 use Rattle.std.proofs.Common.{◌≡◌, ℕ, ◌+◌, ◌≤◌, ◌<◌, List, [], ◌∷◌, Bool, true, false, cond, refl, ◌∙◌, sym, ap, subst, Option, Some, None, inl, inr, ◌⊎◌, arith}
-use Rattle.std.specs.Prelude.{bytes_eq, ◌||◌, ◌&&◌, option_map, not, if◌then◌else◌}
-use Rattle.std.specs.Ordering.{eq_by_cmp, is_eq}
+use Rattle.std.specs.Prelude.{bytes_eq, ◌&&◌, not, if◌then◌else◌}
+use Rattle.std.specs.Ordering.{eq_by_cmp}
 use Rattle.std.specs.declared.cmp.Ordering.{Ordering}
 use Rattle.std.specs.Cmp.{IsTotalOrder}
 use Rattle.std.specs.FinMap as map
@@ -12,20 +12,16 @@ use Rattle.shelf.specs.declared.entry.Place.{Place}
 use Rattle.shelf.specs.declared.entry.Entry.{Entry}
 use Rattle.shelf.specs.declared.entry.Holder.{Holder}
 use Rattle.shelf.specs.declared.entry.Right.{Right}
-use Rattle.shelf.specs.declared.ask.Query.{Query}
 use Rattle.shelf.specs.declared.ask.Publish.{Publish}
-use Rattle.shelf.specs.declared.ask.Ask.{Ask}
 use Rattle.shelf.specs.declared.ask.Ask.TheVariants.{Unreadable, Get, Put}
-use Rattle.shelf.specs.declared.ask.Event.{Event}
 use Rattle.shelf.specs.declared.ask.Event.TheVariants.{Asked, TeamAdd, KeyAdd}
 use Rattle.shelf.specs.declared.reply.Decision.{Decision}
 use Rattle.shelf.specs.declared.reply.Decision.TheVariants.{Published}
 use Rattle.shelf.specs.declared.reply.Registered.{Registered}
 use Rattle.shelf.specs.declared.reply.Registered.TheVariants.{Done, Name, Taken, NoTeam}
-use Rattle.shelf.specs.declared.reply.Answer.{Answer}
 use Rattle.shelf.specs.declared.reply.Answer.TheVariants.{Replied, Failed}
 use Rattle.shelf.specs.World.{World, IsWorld, IsEntry, common, is_team_name, is_key, version_limit, text_cmp, count, with_entry, with_key, with_team}
-use Rattle.shelf.specs.Machine.{decision, after_decision, stored, offered, place_of, team_added, key_added, after_team_add, after_key_add, after, Run}
+use Rattle.shelf.specs.Machine.{decision, after_decision, stored, offered, place_of, team_added, key_added, after_team_add, after_key_add, after}
 use Rattle.shelf.specs.Laws.{WorldStays, RunsKeepWorlds}
 use Rattle.shelf.specs.Store.{IsRoomFor}
 use Rattle.shelf.proofs.Orders.{texts_total, texts_exact, places_total, places_exact, text_same}

@@ -1,7 +1,6 @@
 -- What was served or accepted once is served for good.
 use Rattle.std.specs.Prelude.{ℕ, ◌≡◌, ◌⊎◌, List, [], ◌∷◌, Some}
 use Rattle.std.specs.FinMap as map
-use Rattle.modver.specs.SemanticVersion.{SemanticVersion}
 use Rattle.shelf.specs.declared.entry.Right.TheVariants.{Publishes}
 use Rattle.shelf.specs.declared.ask.Query.{Query}
 use Rattle.shelf.specs.declared.ask.Query.TheVariants.{GoMod, Zip}

@@ -6,8 +6,7 @@ use Rattle.shelf.specs.declared.entry.Holder.{Holder}
 use Rattle.shelf.specs.declared.ask.Ask.{Ask}
 use Rattle.shelf.specs.declared.ask.Ask.TheVariants.{Unreadable, Get, Put}
 use Rattle.shelf.specs.declared.ask.Event.{Event}
-use Rattle.shelf.specs.declared.ask.Event.TheVariants.{Asked, TeamAdd, KeyAdd}
-use Rattle.shelf.specs.declared.reply.Reply.{Reply}
+use Rattle.shelf.specs.declared.ask.Event.TheVariants.{Asked}
 use Rattle.shelf.specs.declared.reply.Answer.{Answer}
 use Rattle.shelf.specs.declared.reply.Answer.TheVariants.{Replied, Failed}
 use Rattle.shelf.specs.World.{World, IsWorld, chain, on_shelf}
@@ -96,6 +95,13 @@ IsReplied (Failed fault) = ⊥
 abbrev pub AllReplied : List Answer → Type 0
 AllReplied [] = Unit {0}
 AllReplied (a ∷ answers) = IsReplied a × AllReplied answers
+
+-- The purged list is the same whether the faults are taken out before or after, where no kept event met one.
+abbrev pub PurgeIsTheSame : Type 0
+PurgeIsTheSame =
+    (old new : World) (s : List ℕ) (events : List Event) (answers : List Answer) → IsWorld old → Run old events answers new
+    → KeptAnswered old (chain new s) events answers
+    → purge old (chain new s) events ≡ purge old (chain new s) (answered events answers)
 
 -- A run over a list and a run over the purged list answer the kept events alike, where none of these met a
 -- fault. Faults of the other events do not matter.

@@ -1,5 +1,5 @@
 -- The names of teams, and keys.
-use Rattle.std.specs.Prelude.{ℕ, List, [], ◌∷◌, Bool, true, false, not, ◌&&◌, ◌||◌, nat_eq, nat_le, length, bytes_eq, codes}
+use Rattle.std.specs.Prelude.{ℕ, List, [], ◌∷◌, Bool, false, not, ◌&&◌, ◌||◌, nat_eq, nat_le, length, bytes_eq, codes}
 use Rattle.std.specs.List.{list_all}
 
 -- the shelf that every shelf sees

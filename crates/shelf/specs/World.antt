@@ -1,5 +1,5 @@
 -- What stands on the shelves, and what each shelf sees of it.
-use Rattle.std.specs.Prelude.{ℕ, List, [], ◌∷◌, Bool, true, ◌&&◌, Option, Some, None, bytes_eq, ◌≡◌, ◌≤◌, ◌⊎◌, length}
+use Rattle.std.specs.Prelude.{ℕ, List, [], ◌∷◌, true, ◌&&◌, Option, Some, None, bytes_eq, ◌≡◌, ◌≤◌, ◌⊎◌, length}
 use Rattle.std.specs.Option.{option_or}
 use Rattle.std.specs.Ordering.{nat_cmp, ordering_then}
 use Rattle.std.specs.Cmp.Lexicographic.{slice_cmp}

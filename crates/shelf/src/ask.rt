@@ -8,7 +8,7 @@ use crate::text::Text;
 use modpath::ModulePath;
 use modver::Version;
 
-/// What a GET asks for.
+/// What a GET asks for. (Go Modules Reference, "GOPROXY protocol".)
 #[derive(Drop)]
 pub enum Query {
     /// The go.mod of a version.

@@ -3,6 +3,9 @@ ghost use Rattle.std.specs.Prelude.{◌≡◌, option_copied, unwrap_or, Some, t
 ghost use Rattle.shelf.specs.Machine as spec;
 ghost use Rattle.shelf.specs.declared.reply.Decision.TheVariants.{Published};
 
+#[cfg(test)]
+mod tests;
+
 use crate::ask::Publish;
 use crate::entry::{Entry, EntryRef, Right};
 use crate::reply::Decision;
@@ -23,7 +26,7 @@ pub fn decide(publish: &Publish, right: Option<Right>, seen: Option<&Entry>, cou
 {
     match refusal(publish, right) {
         Some(decision) => decision,
-        None => compare(publish, seen, count),
+        None => decide_by_shelf(publish, seen, count),
     }
 }
 
@@ -48,6 +51,7 @@ pub fn refusal(publish: &Publish, right: Option<Right>) -> Option<Decision>
 }
 
 /// The types of the path and of the version hold only well formed ones.
+#[tactic(auto, unfolding(modver::specs::SemanticVersion::is_version))]
 fn well_formed(publish: &Publish)
     ensures { spec.is_readable publish.now ≡ true }
 {
@@ -56,7 +60,7 @@ fn well_formed(publish: &Publish)
 }
 
 /// The outcome of the checks against what stands.
-fn compare(publish: &Publish, seen: Option<&Entry>, count: u64) -> Decision
+fn decide_by_shelf(publish: &Publish, seen: Option<&Entry>, count: u64) -> Decision
     ensures { result ≡ unwrap_or (spec.first_failing (spec.shelf_checks publish.now (option_copied seen.entry) count)) Published }
 {
     if let Some(entry) = seen {

@@ -61,6 +61,7 @@ pub struct Holder {
 }
 
 impl Place {
+    /// The place of a shelf, a path and a version.
     pub fn new(alloc: Global, shelf: &str, path: &str, version: &str) -> Result<Place, AllocError>
         ensures { IfOk result (λ q. q ≡ place shelf.now path.now version.now) }
     {
@@ -97,6 +98,7 @@ impl Entry {
 }
 
 impl Holder {
+    /// A shelf and a right.
     pub fn new(alloc: Global, shelf: &str, right: Right) -> Result<Holder, AllocError>
         ensures { IfOk result (λ h. h ≡ record { shelf = shelf.now; right = right }) }
     {
@@ -104,6 +106,7 @@ impl Holder {
         Ok(Holder { shelf, right })
     }
 
+    /// A copy of it.
     pub fn copy(&self, alloc: Global) -> Result<Holder, AllocError>
         ensures { IfOk result (λ h. h ≡ self.now) }
     {

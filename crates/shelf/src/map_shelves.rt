@@ -2,14 +2,18 @@
 ghost use Rattle.std.specs.Prelude.{◌≡◌, IfOk};
 ghost use Rattle.std.specs.FinMap as map;
 ghost use Rattle.modver.specs.SemanticVersion.{version_text};
+ghost use Rattle.shelf.specs.InMemory.{IsJust};
+ghost use Rattle.shelf.specs.Machine.{Run, MetDevice};
 ghost use Rattle.shelf.specs.World.{only_common, place, seen_at};
 
+use crate::ask::Event;
 use crate::entry::{Entry, EntryRef, Holder, Right, Seen};
 use crate::maps::entry_map::EntryMap;
 use crate::maps::text_map::TextMap;
 use crate::maps::text_set::TextSet;
 use crate::names;
-use crate::reply::{Registered, StoreFault};
+use crate::reply::{Answer, Registered, StoreFault};
+use crate::run::run;
 use crate::shelves::Shelves;
 use crate::text::Text;
 use modpath::ModulePath;
@@ -123,8 +127,9 @@ impl Shelves for MapShelves {
         entry: &EntryRef,
     ) -> Result<(), StoreFault> {
         let entry = Entry::copy_of(self.alloc, entry)?;
+        let (path, version) = (path.as_str(), version.as_str());
         self.entries
-            .insert(self.alloc, shelf, path.as_str(), version.as_str(), entry)?;
+            .insert(self.alloc, shelf, path, version, entry)?;
         Ok(())
     }
 
@@ -150,8 +155,29 @@ impl Shelves for MapShelves {
             return Ok(Registered::Taken);
         }
         let holder = Holder::new(self.alloc, shelf, right)?;
-        self.keys
-            .insert(String::from_str(self.alloc, key)?, holder)?;
+        let key = String::from_str(self.alloc, key)?;
+        self.keys.insert(key, holder)?;
         Ok(Registered::Done)
     }
 }
+
+/// Does a list of events on shelves in memory that begin with `common` alone. Where there is no
+/// room for the shelves or for the answers, nothing is done.
+pub fn run_in_memory(
+    alloc: Global,
+    events: &[Event],
+) -> Result<(MapShelves, Vec<Answer>), AllocError>
+    // The answers are those of a run of the machine, which leaves the world that the shelves hold.
+    ensures run { IfOk result (λ r. Run only_common events.now r.1.items r.0) }
+    // No device fails.
+    ensures no_device { IfOk result (λ r. ¬ MetDevice r.1.items) }
+    // The trait's contracts speak of that world alone, and a crash leaves just it.
+    ensures shown { IfOk result (λ r. IsJust (⟦<MapShelves as Shelves>⟧.shown r.0) r.0) }
+{
+    let mut shelves = MapShelves::new(alloc)?;
+    let answers = run(alloc, &mut shelves, events)?;
+    Ok((shelves, answers))
+}
+
+#[cfg(test)]
+mod tests;

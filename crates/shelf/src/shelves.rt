@@ -20,6 +20,7 @@ pub trait Shelves {
     /// How often a device has failed. It stays once it cannot grow.
     ghost failure_count: { Self → ℕ };
 
+    /// The count of failures. It takes no memory.
     fn failures(&self) -> u64
         ensures { result ≡ failure_count self.now };
 

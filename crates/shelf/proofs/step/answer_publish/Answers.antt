@@ -1,4 +1,4 @@
-use Rattle.std.proofs.Common.{◌≡◌, rules, sym, subst, ◌∙◌, Some}
+use Rattle.std.proofs.Common.{◌≡◌, sym, subst, ◌∙◌, Some}
 use Rattle.std.specs.FinMap as map
 use Rattle.shelf.specs.Machine.{decision, after_decision}
 use Rattle.shelf.specs.Store.{DoesAt}

@@ -1,4 +1,4 @@
-use Rattle.std.proofs.Common.{◌≡◌, ◌∙◌, ap, refl, ℕ, List}
+use Rattle.std.proofs.Common.{◌∙◌, ap, refl, ℕ, List}
 use Rattle.std.specs.FinMap as map
 use Rattle.modver.specs.SemanticVersion.{version_text}
 use Rattle.shelf.specs.declared.entry.Place.{Place}
@@ -19,8 +19,8 @@ returns-clause-does c = record {
       let q : Place = place s c.args.path.now (version_text c.args.version.now) in
       done _ _ w tt tt (with_entry w q e) refl
       (ap inside c.in_ok-insert.ensures.ok
-      ∙ ap (λ (p : List ℕ). with_entry was (place s p c.as_str-2.result.now) c.in_ok-entry.entry) c.as_str.ensures.value
-      ∙ ap (λ (v : List ℕ). with_entry was (place s c.args.path.now v) c.in_ok-entry.entry) c.as_str-2.ensures.value
+      ∙ ap (λ (p : List ℕ). with_entry was (place s p c.as_str-version.result.now) c.in_ok-entry.entry) c.as_str-path.ensures.value
+      ∙ ap (λ (v : List ℕ). with_entry was (place s c.args.path.now v) c.in_ok-entry.entry) c.as_str-version.ensures.value
       ∙ ap (λ (x : Entry). with_entry was q x) c.in_ok-entry.ensures ∙ ap (λ (x : World). with_entry x q e) (c.self.view_is ∙ is.0))
       (entry_added w q e is.1 room);
 }

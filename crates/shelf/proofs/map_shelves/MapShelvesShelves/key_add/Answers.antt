@@ -1,4 +1,4 @@
-use Rattle.std.proofs.Common.{◌≡◌, ◌∙◌, ap, sym, rules, true, false, ℕ, List}
+use Rattle.std.proofs.Common.{◌≡◌, ◌∙◌, ap, sym, rules, true, false}
 use Rattle.std.specs.FinMap as map
 use Rattle.std.specs.FinSet as set
 use Rattle.shelf.specs.declared.entry.Holder.{Holder}
@@ -27,7 +27,7 @@ returns-clause-does c = record {
       let added : key_added w s k ≡ Done = ap (λ x. key_added x s k) (sym same) ∙ key_done was s k named there free in
       done _ _ w Done (key_added w s k) (after_key_add w s k c.args.right (key_added w s k)) (sym added)
       (ap inside c.in_ok-insert.ensures.ok
-      ∙ ap (λ x. with_key was x c.in_ok-holder.holder) c.in_ok-from_str.ensures.ok ∙ ap (λ (x : Holder). with_key was k x) c.in_ok-holder.ensures
+      ∙ ap (λ x. with_key was x c.in_ok-holder.holder) c.in_ok-key.ensures.ok ∙ ap (λ (x : Holder). with_key was k x) c.in_ok-holder.ensures
       ∙ ap (λ x. with_key x k h) same ∙ ap (λ (r : Registered). after_key_add w s k c.args.right r) (sym added))
       (sound w (KeyAdd s k c.args.right) is.1);
 }

@@ -1,4 +1,4 @@
-use Rattle.std.proofs.Common.{◌≡◌, ◌∙◌, ap, sym, rules, true, false, ℕ, List}
+use Rattle.std.proofs.Common.{◌≡◌, ◌∙◌, ap, sym, rules, true, false}
 use Rattle.std.specs.FinSet as set
 use Rattle.shelf.specs.declared.ask.Event.TheVariants.{TeamAdd}
 use Rattle.shelf.specs.declared.reply.Registered.{Registered}

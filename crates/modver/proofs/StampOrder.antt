@@ -1,0 +1,129 @@
+-- The order of times is that of their stamps as numbers.
+use Rattle.std.proofs.Common.{◌≡◌, ◌<◌, ℕ, List, [], ◌∷◌, length, Option, Some, None, refl, sym, ap, ◌∙◌, arith}
+use Rattle.std.specs.Char.{is_ascii_digit}
+use Rattle.std.specs.Cmp.Lexicographic.{slice_cmp}
+use Rattle.std.specs.List.{list_all}
+use Rattle.std.specs.Ordering.{nat_cmp, ordering_then}
+use Rattle.std.specs.Prelude.{option_map}
+use Rattle.std.specs.Str.Parse.{digits_value}
+use Rattle.std.specs.declared.cmp.Ordering.{Ordering}
+use Rattle.modver.specs.Class.{class_from, class_of, stamp_of}
+use Rattle.modver.specs.Parts.{identifiers_of}
+use Rattle.modver.specs.Rank.{class_rank, number_of_stamp, rank_cmp, rank_from, time_cmp}
+use Rattle.modver.specs.Precedence.{precedence}
+use Rattle.modver.specs.SemanticVersion.{SemanticVersion}
+use Rattle.modver.specs.Time.{time_of_stamp}
+use Rattle.modver.specs.declared.version.Class.TheVariants as class
+use Rattle.modver.proofs.DotParts.{dots-shape}
+use Rattle.modver.proofs.Numerals.{same_length}
+use Rattle.modver.proofs.Ranks.{IsDigits, stamp-digits}
+
+-- a list of 14
+record Fourteen (s : List ℕ) : Type 0 where
+  pub a : ℕ
+  pub b : ℕ
+  pub c : ℕ
+  pub d : ℕ
+  pub e : ℕ
+  pub f : ℕ
+  pub g : ℕ
+  pub h : ℕ
+  pub i : ℕ
+  pub j : ℕ
+  pub k : ℕ
+  pub l : ℕ
+  pub m : ℕ
+  pub n : ℕ
+  pub same : s ≡ a ∷ b ∷ c ∷ d ∷ e ∷ f ∷ g ∷ h ∷ i ∷ j ∷ k ∷ l ∷ m ∷ n ∷ []
+
+fourteen : (s : List ℕ) → length s ≡ 14 → Fourteen s
+fourteen [] size = absurd (omega arith)
+fourteen (a ∷ []) size = absurd (omega arith)
+fourteen (a ∷ b ∷ []) size = absurd (omega arith)
+fourteen (a ∷ b ∷ c ∷ []) size = absurd (omega arith)
+fourteen (a ∷ b ∷ c ∷ d ∷ []) size = absurd (omega arith)
+fourteen (a ∷ b ∷ c ∷ d ∷ e ∷ []) size = absurd (omega arith)
+fourteen (a ∷ b ∷ c ∷ d ∷ e ∷ f ∷ []) size = absurd (omega arith)
+fourteen (a ∷ b ∷ c ∷ d ∷ e ∷ f ∷ g ∷ []) size = absurd (omega arith)
+fourteen (a ∷ b ∷ c ∷ d ∷ e ∷ f ∷ g ∷ h ∷ []) size = absurd (omega arith)
+fourteen (a ∷ b ∷ c ∷ d ∷ e ∷ f ∷ g ∷ h ∷ i ∷ []) size = absurd (omega arith)
+fourteen (a ∷ b ∷ c ∷ d ∷ e ∷ f ∷ g ∷ h ∷ i ∷ j ∷ []) size = absurd (omega arith)
+fourteen (a ∷ b ∷ c ∷ d ∷ e ∷ f ∷ g ∷ h ∷ i ∷ j ∷ k ∷ []) size = absurd (omega arith)
+fourteen (a ∷ b ∷ c ∷ d ∷ e ∷ f ∷ g ∷ h ∷ i ∷ j ∷ k ∷ l ∷ []) size = absurd (omega arith)
+fourteen (a ∷ b ∷ c ∷ d ∷ e ∷ f ∷ g ∷ h ∷ i ∷ j ∷ k ∷ l ∷ m ∷ []) size = absurd (omega arith)
+fourteen (a ∷ b ∷ c ∷ d ∷ e ∷ f ∷ g ∷ h ∷ i ∷ j ∷ k ∷ l ∷ m ∷ n ∷ []) size = record { a = a; b = b; c = c; d = d; e = e; f = f; g = g; h = h; i = i; j = j; k = k; l = l; m = m; n = n; same = refl }
+fourteen (a ∷ b ∷ c ∷ d ∷ e ∷ f ∷ g ∷ h ∷ i ∷ j ∷ k ∷ l ∷ m ∷ n ∷ o ∷ rest) size = absurd (omega arith)
+
+order-fourteen : (a1 b1 c1 d1 e1 f1 g1 h1 i1 j1 k1 l1 m1 n1 : ℕ) (a2 b2 c2 d2 e2 f2 g2 h2 i2 j2 k2 l2 m2 n2 : ℕ)
+    → slice_cmp nat_cmp (time_of_stamp (a1 ∷ b1 ∷ c1 ∷ d1 ∷ e1 ∷ f1 ∷ g1 ∷ h1 ∷ i1 ∷ j1 ∷ k1 ∷ l1 ∷ m1 ∷ n1 ∷ [])) (time_of_stamp (a2 ∷ b2 ∷ c2 ∷ d2 ∷ e2 ∷ f2 ∷ g2 ∷ h2 ∷ i2 ∷ j2 ∷ k2 ∷ l2 ∷ m2 ∷ n2 ∷ []))
+    ≡ slice_cmp nat_cmp (a1 ∷ b1 ∷ c1 ∷ d1 ∷ e1 ∷ f1 ∷ g1 ∷ h1 ∷ i1 ∷ j1 ∷ k1 ∷ l1 ∷ m1 ∷ n1 ∷ []) (a2 ∷ b2 ∷ c2 ∷ d2 ∷ e2 ∷ f2 ∷ g2 ∷ h2 ∷ i2 ∷ j2 ∷ k2 ∷ l2 ∷ m2 ∷ n2 ∷ [])
+order-fourteen a1 b1 c1 d1 e1 f1 g1 h1 i1 j1 k1 l1 m1 n1 a2 b2 c2 d2 e2 f2 g2 h2 i2 j2 k2 l2 m2 n2 = refl
+
+time-order : (x y : List ℕ) → length x ≡ 14 → length y ≡ 14 → slice_cmp nat_cmp (time_of_stamp x) (time_of_stamp y) ≡ slice_cmp nat_cmp x y
+time-order x y p q =
+    let f = fourteen x p in
+    let g = fourteen y q in
+    ap (λ (s : List ℕ). slice_cmp nat_cmp (time_of_stamp s) (time_of_stamp y)) f.same
+    ∙ ap (λ (s : List ℕ). slice_cmp nat_cmp (time_of_stamp (f.a ∷ f.b ∷ f.c ∷ f.d ∷ f.e ∷ f.f ∷ f.g ∷ f.h ∷ f.i ∷ f.j ∷ f.k ∷ f.l ∷ f.m ∷ f.n ∷ [])) (time_of_stamp s)) g.same
+    ∙ order-fourteen f.a f.b f.c f.d f.e f.f f.g f.h f.i f.j f.k f.l f.m f.n g.a g.b g.c g.d g.e g.f g.g g.h g.i g.j g.k g.l g.m g.n
+    ∙ sym (ap (λ (s : List ℕ). slice_cmp nat_cmp s y) f.same ∙ ap (λ (s : List ℕ). slice_cmp nat_cmp (f.a ∷ f.b ∷ f.c ∷ f.d ∷ f.e ∷ f.f ∷ f.g ∷ f.h ∷ f.i ∷ f.j ∷ f.k ∷ f.l ∷ f.m ∷ f.n ∷ []) s) g.same)
+
+pub time-number : (x y : List ℕ) → (length x ≡ 14) × (list_all is_ascii_digit x ≡ Rattle.std.proofs.Common.true) → (length y ≡ 14) × (list_all is_ascii_digit y ≡ Rattle.std.proofs.Common.true)
+    → slice_cmp nat_cmp (time_of_stamp x) (time_of_stamp y) ≡ nat_cmp (digits_value 10 x) (digits_value 10 y)
+time-number x y p q = time-order x y p.0 q.0 ∙ sym (same_length x y p.1 q.1 (p.0 ∙ sym q.0))
+
+-- ---- rank
+
+no-stamp : (v : SemanticVersion) → v.identifiers ≡ [] → stamp_of v ≡ None
+unfolding stamp_of
+no-stamp v e = rw e refl
+
+ranked : (xs ys : List (List ℕ)) (s t : Option (List ℕ)) (r : Ordering) → IsDigits s → IsDigits t → (xs ≡ [] → s ≡ None) → (ys ≡ [] → t ≡ None)
+    → ordering_then (nat_cmp (rank_from xs s) (rank_from ys t)) (ordering_then (time_cmp (option_map time_of_stamp s) (option_map time_of_stamp t)) r)
+    ≡ ordering_then (nat_cmp (rank_from xs s) (rank_from ys t)) (ordering_then (nat_cmp (number_of_stamp s) (number_of_stamp t)) r)
+ranked [] [] None None r p q f g = refl
+ranked [] [] None (Some y) r p q f g = cc (g refl)
+ranked [] [] (Some x) t r p q f g = cc (f refl)
+ranked [] (j ∷ ys) s None r p q f g = refl
+ranked [] (j ∷ ys) s (Some y) r p q f g = refl
+ranked (i ∷ xs) [] None t r p q f g = refl
+ranked (i ∷ xs) [] (Some x) t r p q f g = refl
+ranked (i ∷ xs) (j ∷ ys) None None r p q f g = refl
+ranked (i ∷ xs) (j ∷ ys) None (Some y) r p q f g = refl
+ranked (i ∷ xs) (j ∷ ys) (Some x) None r p q f g = refl
+ranked (i ∷ xs) (j ∷ ys) (Some x) (Some y) r p q f g = ap (λ (o : Ordering). ordering_then o r) (time-number x y p q)
+
+-- rank by class, then by time, then by precedence
+pub rank-by : (u v : SemanticVersion)
+    → ordering_then (nat_cmp (class_rank u) (class_rank v)) (ordering_then (time_cmp (option_map time_of_stamp (stamp_of u)) (option_map time_of_stamp (stamp_of v))) (precedence u v))
+    ≡ rank_cmp u v
+rank-by u v = ranked u.identifiers v.identifiers (stamp_of u) (stamp_of v) (precedence u v) (stamp-digits u) (stamp-digits v) (no-stamp u) (no-stamp v)
+
+-- ---- class
+
+class-some : (i : List ℕ) (rest : List (List ℕ)) (stamp : Option (List ℕ)) (time : List ℕ) → Some time ≡ option_map time_of_stamp stamp
+    → class.Pseudo time ≡ class_from (i ∷ rest) stamp
+class-some i rest None time e = cc e
+class-some i rest (Some stamp) time e = let same : time ≡ time_of_stamp stamp = cc e in ap (λ (t : List ℕ). class.Pseudo t) same
+
+class-of_ids : (pre : List ℕ) (ids : List (List ℕ)) (stamp : Option (List ℕ)) (time : List ℕ) → identifiers_of pre ≡ ids → 0 < length pre
+    → Some time ≡ option_map time_of_stamp stamp → class.Pseudo time ≡ class_from ids stamp
+class-of_ids [] ids stamp time same some e = absurd (omega arith)
+class-of_ids (b ∷ rest) ids stamp time same some e =
+    let s = dots-shape (b ∷ rest) in
+    let shape : ids ≡ s.0 ∷ s.1 = sym same ∙ s.2 in
+    rw shape (class-some s.0 s.1 stamp time e)
+
+-- a version whose stamp has a time is a pseudo-version
+pub class-pseudo : (v : SemanticVersion) (pre time : List ℕ) → identifiers_of pre ≡ v.identifiers → 0 < length pre → Some time ≡ option_map time_of_stamp (stamp_of v)
+    → class.Pseudo time ≡ class_of v
+class-pseudo v pre time ids some e = class-of_ids pre v.identifiers (stamp_of v) time ids some e
+
+rank-some : (ids : List (List ℕ)) (stamp : Option (List ℕ)) (time : List ℕ) → class.Pseudo time ≡ class_from ids stamp → 1 ≡ rank_from ids stamp
+rank-some [] stamp time e = cc e
+rank-some (i ∷ rest) None time e = cc e
+rank-some (i ∷ rest) (Some stamp) time e = refl
+
+-- and has the rank of one
+pub rank-pseudo : (v : SemanticVersion) (time : List ℕ) → class.Pseudo time ≡ class_of v → 1 ≡ class_rank v
+rank-pseudo v time e = rank-some v.identifiers (stamp_of v) time e

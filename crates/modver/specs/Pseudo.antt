@@ -1,0 +1,41 @@
+-- What a pseudo-version is. (Go Modules Reference, "Pseudo-versions".)
+use Rattle.std.specs.Prelude.{ℕ, ◌≡◌, ◌≢◌, ◌≤◌, ◌⊎◌, true, List, [], ◌∷◌, ◌++◌, length, codes}
+use Rattle.std.specs.Char.{is_ascii_digit}
+use Rattle.std.specs.List.{list_all}
+use Rattle.modver.specs.SemanticVersion.{SemanticVersion}
+use Rattle.modver.specs.Time.{is_lower_hex, is_moment, time_of_stamp}
+
+-- the last identifier of a pseudo-version: a stamp of 14 digits that name a date that exists and a time of day,
+-- `-`, and a revision of 12 lower-case hexadecimal digits
+pub record IsStamped (identifier stamp : List ℕ) : Type 0 where
+  pub revision : List ℕ
+  pub same : identifier ≡ stamp ++ 45 ∷ revision
+  pub digits : (length stamp ≡ 14) × (list_all is_ascii_digit stamp ≡ true)
+  pub hexadecimal : (length revision ≡ 12) × (list_all is_lower_hex revision ≡ true)
+  pub moment : is_moment (time_of_stamp stamp) ≡ true
+
+-- `vX.0.0-STAMP-REVISION`: there is no earlier version
+pub record HasNoBase (v : SemanticVersion) (stamp : List ℕ) : Type 0 where
+  pub last : List ℕ
+  pub identifiers : v.identifiers ≡ last ∷ []
+  pub numbers : (v.minor ≡ 0) × (v.patch ≡ 0)
+  pub stamped : IsStamped last stamp
+
+-- `vX.Y.Z-0.STAMP-REVISION`: the release before has a patch number that is one less
+pub record FollowsRelease (v : SemanticVersion) (stamp : List ℕ) : Type 0 where
+  pub last : List ℕ
+  pub identifiers : v.identifiers ≡ codes "0" ∷ last ∷ []
+  pub patch : 1 ≤ v.patch
+  pub stamped : IsStamped last stamp
+
+-- `vX.Y.Z-PRE.0.STAMP-REVISION`: the version before is the pre-release `vX.Y.Z-PRE`
+pub record FollowsPreRelease (v : SemanticVersion) (stamp : List ℕ) : Type 0 where
+  pub front : List (List ℕ)
+  pub last : List ℕ
+  pub some : front ≢ []
+  pub identifiers : v.identifiers ≡ front ++ codes "0" ∷ last ∷ []
+  pub stamped : IsStamped last stamp
+
+-- a pseudo-version, with its stamp
+abbrev pub IsPseudo : SemanticVersion → List ℕ → Type 0
+IsPseudo v stamp = HasNoBase v stamp ⊎ (FollowsRelease v stamp ⊎ FollowsPreRelease v stamp)

@@ -1,0 +1,42 @@
+// Which versions a path may have.
+
+ghost use Rattle.std.specs.Prelude.{◌≡◌};
+ghost use Rattle.modpath.specs.Path.{suffix_of};
+ghost use Rattle.modver.specs.Fits as fit;
+
+use crate::version::Version;
+use modpath::{ModulePath, Suffix, suffix};
+
+/// Whether a path may have a version.
+pub fn fits(path: &ModulePath, version: &Version) -> bool
+    ensures { result ≡ fit.fits (suffix_of path.now) version.now }
+{
+    fits_suffix(suffix(path), version)
+}
+
+fn is_zero_pre_release(version: &Version) -> bool
+    ensures { result ≡ fit.is_zero_pre_release version.now }
+{
+    version.major() == 0
+        && version.minor() == 0
+        && version.patch() == 0
+        && !version.pre_release().is_empty()
+}
+
+fn fits_suffix(suffix: Suffix, version: &Version) -> bool
+    ensures { result ≡ fit.fits suffix version.now }
+{
+    match suffix {
+        Suffix::None => {
+            if version.is_marked() {
+                2 <= version.major()
+            } else {
+                version.major() < 2
+            }
+        }
+        Suffix::Slash(n) => version.major() == n && !version.is_marked(),
+        Suffix::Dot(n) => {
+            (version.major() == n || n == 1 && is_zero_pre_release(version)) && !version.is_marked()
+        }
+    }
+}

@@ -1,0 +1,47 @@
+// The orders of versions.
+
+ghost use Rattle.std.specs.Prelude.{◌≡◌};
+ghost use Rattle.modver.specs.Precedence.{precedence};
+ghost use Rattle.modver.specs.Rank.{class_rank, rank_cmp, time_cmp};
+
+use crate::pseudo::{class, pseudo_time};
+use crate::time::TimeText;
+use crate::version::{Class, Version};
+use std::cmp::Ordering;
+
+/// The order of precedence.
+pub fn compare(left: &Version, right: &Version) -> Ordering
+    ensures { result ≡ precedence left.now right.now }
+{
+    left.parts.cmp_precedence(&right.parts)
+}
+
+// 3 for a release, 2 for a pre-release, 1 for a pseudo-version.
+fn class_rank(version: &Version) -> u8
+    ensures { result ≡ class_rank version.now }
+{
+    match class(version) {
+        Class::Release => 3,
+        Class::Pre => 2,
+        Class::Pseudo(_) => 1,
+    }
+}
+
+// The order of two times, where both are given.
+fn compare_times(left: Option<TimeText>, right: Option<TimeText>) -> Ordering
+    ensures { result ≡ time_cmp left right }
+{
+    match (left, right) {
+        (Some(left), Some(right)) => left.as_str().cmp(right.as_str()),
+        _ => Ordering::Equal,
+    }
+}
+
+/// The order of rank, by which the latest version is chosen.
+pub fn rank_compare(left: &Version, right: &Version) -> Ordering
+    ensures { result ≡ rank_cmp left.now right.now }
+{
+    let by_class = class_rank(left).cmp(&class_rank(right));
+    let by_time = compare_times(pseudo_time(left), pseudo_time(right));
+    by_class.then(by_time.then(compare(left, right)))
+}

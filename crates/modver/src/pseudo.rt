@@ -1,0 +1,79 @@
+// Pseudo-versions, and the class of a version.
+
+ghost use Rattle.std.specs.Prelude.{◌≡◌, ◌∷◌, [], ◌++◌, MatchOption, option_map, reverse};
+ghost use Rattle.modver.specs.Class.{class_of, may_precede, stamp_of, stamp_of_identifier};
+ghost use Rattle.modver.specs.Parts.{between_dots};
+ghost use Rattle.modver.specs.Time.{time_of_stamp};
+
+use crate::time::{TimeText, fits_form};
+use crate::version::{Class, Version};
+
+// A text around its last dot.
+fn cut_last(text: &[u8]) -> Option<(&[u8], &[u8])>
+    ensures { MatchOption result
+        (between_dots text.now ≡ text.now ∷ [])
+        (λ p. between_dots text.now ≡ between_dots p.0.now ++ p.1.now ∷ []) }
+{
+    for at in (0..text.len()).rev() {
+        if text[at] == b'.' {
+            return Some((&text[..at], &text[at + 1..]));
+        }
+    }
+    None
+}
+
+// The time of a stamped identifier.
+fn time_of_identifier(identifier: &[u8]) -> Option<TimeText>
+    ensures { result ≡ option_map time_of_stamp (stamp_of_identifier identifier.now) }
+{
+    if !fits_form(b"dddddddddddddd-hhhhhhhhhhhh", identifier) {
+        return None;
+    }
+    TimeText::of_stamp(&identifier[..14])
+}
+
+// Whether what stands before the last dot of a pre-release may be that of a pseudo-version.
+fn is_base(front: &[u8], minor: u64, patch: u64) -> bool
+    ensures { result ≡ may_precede minor patch (reverse (between_dots front.now)) }
+{
+    match cut_last(front) {
+        None => front == b"0".as_slice() && 1 <= patch,
+        Some((_, before)) => before == b"0".as_slice(),
+    }
+}
+
+// The time of the stamp of a pseudo-version.
+pub(crate) fn pseudo_time(version: &Version) -> Option<TimeText>
+    ensures { result ≡ option_map time_of_stamp (stamp_of version.now) }
+{
+    let pre_release = version.pre_release();
+    match cut_last(pre_release) {
+        None => {
+            if version.minor() == 0 && version.patch() == 0 {
+                time_of_identifier(pre_release)
+            } else {
+                None
+            }
+        }
+        Some((front, last)) => {
+            if is_base(front, version.minor(), version.patch()) {
+                time_of_identifier(last)
+            } else {
+                None
+            }
+        }
+    }
+}
+
+/// The class of a version.
+pub fn class(version: &Version) -> Class
+    ensures { result ≡ class_of version.now }
+{
+    if version.pre_release().is_empty() {
+        return Class::Release;
+    }
+    match pseudo_time(version) {
+        Some(time) => Class::Pseudo(time),
+        None => Class::Pre,
+    }
+}

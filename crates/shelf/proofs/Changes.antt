@@ -1,0 +1,55 @@
+-- What changes a world, and how runs are cut.
+use Rattle.std.proofs.Common.{◌≡◌, ℕ, List, [], ◌∷◌, refl, ap, Option, Some, None, inl, inr, ◌⊎◌}
+use Rattle.std.specs.Prelude.{pred}
+use Rattle.std.specs.FinMap as map
+use Rattle.shelf.specs.declared.entry.Right.{Right}
+use Rattle.shelf.specs.declared.entry.Holder.{Holder}
+use Rattle.shelf.specs.declared.ask.Publish.{Publish}
+use Rattle.shelf.specs.declared.ask.Ask.TheVariants.{Unreadable, Get, Put}
+use Rattle.shelf.specs.declared.ask.Event.TheVariants.{Asked, TeamAdd, KeyAdd}
+use Rattle.shelf.specs.declared.reply.Decision.{Decision}
+use Rattle.shelf.specs.declared.reply.Decision.TheVariants.{Published}
+use Rattle.shelf.specs.declared.reply.Registered.{Registered}
+use Rattle.shelf.specs.declared.reply.Registered.TheVariants.{Done}
+use Rattle.shelf.specs.declared.reply.Reply.TheVariants as reply
+use Rattle.shelf.specs.declared.reply.Answer.TheVariants.{Replied, Failed}
+use Rattle.shelf.specs.World.{World}
+use Rattle.shelf.specs.Machine.{decision, after_decision, team_added, key_added, after_team_add, after_key_add, after}
+use Rattle.shelf.specs.Laws.{BodiesChangeNothing, IsChange, OnlyChangesChange, RunsAreCut, RunsAreJoined}
+use Rattle.shelf.proofs.Runs.{run_more}
+
+pub bodies_change_nothing : BodiesChangeNothing
+bodies_change_nothing w Unreadable body = refl
+bodies_change_nothing w (Get k q) body = refl
+bodies_change_nothing w (Put k p) body = absurd body
+
+put_changes : (w : World) (h : Option Holder) (p : Publish) (d : Decision) → IsChange (reply.Decided d) ⊎ (after_decision w h p d ≡ w)
+put_changes w h p Published = inl tt
+put_changes w None p d = inr refl
+put_changes w (Some h) p d = inr refl
+
+team_changes : (w : World) (t : List ℕ) (r : Registered) → IsChange (reply.Registry r) ⊎ (after_team_add w t r ≡ w)
+team_changes w t Done = inl tt
+team_changes w t r = inr refl
+
+key_changes : (w : World) (s k : List ℕ) (right : Right) (r : Registered) → IsChange (reply.Registry r) ⊎ (after_key_add w s k right r ≡ w)
+key_changes w s k right Done = inl tt
+key_changes w s k right r = inr refl
+
+pub only_changes_change : OnlyChangesChange
+only_changes_change w (Asked Unreadable) = inr refl
+only_changes_change w (Asked (Get k q)) = inr refl
+only_changes_change w (Asked (Put k p)) = put_changes w (map.get w.keys k) p (decision w (map.get w.keys k) p)
+only_changes_change w (TeamAdd t) = team_changes w t (team_added w t)
+only_changes_change w (KeyAdd t k right) = key_changes w t k right (key_added w t k)
+
+pub runs_are_cut : RunsAreCut
+runs_are_cut old new [] more [] last long run = (old, refl, run)
+runs_are_cut old new [] more (a ∷ answers) last long run = cc
+runs_are_cut old new (e ∷ es) more [] last long run = cc
+runs_are_cut old new (e ∷ es) more (Replied r ∷ answers) last long run =
+    let rest = runs_are_cut (after old e) new es more answers last (ap pred long) run.1 in (rest.0, (run.0, rest.1), rest.2)
+runs_are_cut old new (e ∷ es) more (Failed fault ∷ answers) last long run = runs_are_cut old new es more answers last (ap pred long) run
+
+pub runs_are_joined : RunsAreJoined
+runs_are_joined old mid new events more answers last first second = run_more old mid new events more answers last first second

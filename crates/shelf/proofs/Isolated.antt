@@ -1,0 +1,161 @@
+-- A run with the requests of other shelves, and one without.
+use Rattle.std.proofs.Common.{◌≡◌, ℕ, List, [], ◌∷◌, Bool, true, false, refl, ◌∙◌, sym, ap, subst, Option, Some, None}
+use Rattle.std.specs.Prelude.{suc}
+use Rattle.std.specs.FinMap as map
+use Rattle.std.proofs.lemmas.Bool.{true≢false}
+use Rattle.shelf.specs.declared.entry.Holder.{Holder}
+use Rattle.shelf.specs.declared.ask.Event.{Event}
+use Rattle.shelf.specs.declared.reply.Reply.{Reply}
+use Rattle.shelf.specs.declared.reply.Answer.{Answer}
+use Rattle.shelf.specs.declared.reply.Answer.TheVariants.{Replied, Failed}
+use Rattle.shelf.specs.World.{World, IsWorld, chain}
+use Rattle.shelf.specs.Machine.{reply_to, after, replies, Run, answered, replies_of}
+use Rattle.shelf.specs.Isolation.{is_among, is_near, is_near_key, asking_key, is_kept, kept, marked, purge, IsAnsweredIfKept, KeptAnswered, AllReplied, IsIsolated, PurgeIsTheSame, PurgedRunsAgree, FaultyRunsAgree, MarksAreAsLong, MarksAreAtTheirMoment, OnlyOthersGo}
+use Rattle.shelf.proofs.Sound.{sound}
+use Rattle.shelf.proofs.Chains.{reaches}
+use Rattle.shelf.proofs.Apart.{Agree, agree_self, agree_back, event_alike, event_far, kept_alike}
+
+-- ---- against the machine over the purged list
+
+told_alike : (w x new : World) (s : List ℕ) (es : List Event) (answers : List Answer) → IsWorld w → Agree w x (chain new s) → Run w es answers new
+    → marked (kept w (chain new s) (answered es answers)) (replies_of answers) ≡ replies x (marked (kept w (chain new s) (answered es answers)) (answered es answers))
+told_alike w x new s [] [] is agree run = refl
+told_alike w x new s [] (a ∷ answers) is agree run = absurd run
+told_alike w x new s (e ∷ es) [] is agree run = absurd run
+told_alike w x new s (e ∷ es) (Failed fault ∷ answers) is agree run = told_alike w x new s es answers is agree run
+told_alike w x new s (e ∷ es) (Replied r ∷ answers) is agree run =
+    let ss : List (List ℕ) = chain new s in
+    let marks : List Bool = kept (after w e) ss (answered es answers) in
+    let told : List Reply = replies_of answers in
+    let rest : List Event = answered es answers in
+    elim (is_kept w ss e) as (λ b. is_kept w ss e ≡ b → marked (b ∷ marks) (r ∷ told) ≡ replies x (marked (b ∷ marks) (e ∷ rest))) [
+      | true ↦ λ near.
+          let alike = event_alike w x ss e near is (reaches w new s (e ∷ es) (Replied r ∷ answers) is run) agree in
+          ap (λ a. a ∷ marked marks told) (run.0 ∙ alike.reply)
+          ∙ ap (λ rs. reply_to x e ∷ rs) (told_alike (after w e) (after x e) new s es answers (sound w e is) alike.worlds run.1)
+      | false ↦ λ far. told_alike (after w e) x new s es answers (sound w e is) (event_far w x ss e far agree) run.1
+    ] refl
+
+pub isolated : IsIsolated
+isolated old new s events answers is run = told_alike old old new s events answers is (agree_self old (chain new s)) run
+
+-- ---- against another run
+
+pub faulty_runs_agree : FaultyRunsAgree
+faulty_runs_agree old one two s first second told heard is run again chains same =
+    isolated old one s first told is run ∙ ap (replies old) same ∙ sym (isolated old two s second heard is again)
+
+-- the world of the run, the one that all events would have led to, and that of the purged run
+record Three (w x y : World) (ss : List (List ℕ)) : Type 0 where
+  all : Agree w x ss
+  purged : Agree w y ss
+
+-- a kept event that was answered moves all three
+three_kept : (w x y new : World) (s : List ℕ) (e : Event) (r : Reply) (es : List Event) (answers : List Answer) → IsWorld w → Three w x y (chain new s)
+    → is_kept w (chain new s) e ≡ true → Run w (e ∷ es) (Replied r ∷ answers) new
+    → (r ≡ reply_to y e) × Three (after w e) (after x e) (after y e) (chain new s)
+three_kept w x y new s e r es answers is three near run =
+    let all = reaches w new s (e ∷ es) (Replied r ∷ answers) is run in
+    let to_all = event_alike w x (chain new s) e near is all three.all in
+    let to_purged = event_alike w y (chain new s) e near is all three.purged in
+    (run.0 ∙ to_purged.reply, record { all = to_all.worlds; purged = to_purged.worlds })
+
+-- another event moves the second, and the first where it was answered
+three_failed : (w x y : World) (ss : List (List ℕ)) (e : Event) → Three w x y ss → is_kept x ss e ≡ false → Three w (after x e) y ss
+three_failed w x y ss e three far = record { all = agree_back (after x e) w ss (event_far x w ss e far (agree_back w x ss three.all)); purged = three.purged }
+
+three_far : (w x y : World) (ss : List (List ℕ)) (e : Event) → Three w x y ss → is_kept x ss e ≡ false → Three (after w e) (after x e) y ss
+three_far w x y ss e three far =
+    let here : is_kept w ss e ≡ false = kept_alike w x ss e three.all ∙ far in
+    let moved = three_failed w x y ss e three far in
+    record { all = event_far w (after x e) ss e here moved.all; purged = event_far w y ss e here moved.purged }
+
+first_of : (y other : World) (e : Event) (es : List Event) (purged : List Answer) → Run y (e ∷ es) purged other → AllReplied purged
+    → (r : Reply) × (rest : List Answer) × (purged ≡ Replied r ∷ rest) × (r ≡ reply_to y e) × Run (after y e) es rest other × AllReplied rest
+first_of y other e es [] run all = absurd run
+first_of y other e es (Replied r ∷ rest) run all = (r, rest, refl, run.0, run.1, all.1)
+first_of y other e es (Failed fault ∷ rest) run all = absurd all.0
+
+purged_told : (w x y new other : World) (s : List ℕ) (es : List Event) (answers purged : List Answer) → IsWorld w → Three w x y (chain new s)
+    → Run w es answers new → KeptAnswered x (chain new s) es answers → Run y (marked (kept x (chain new s) es) es) purged other → AllReplied purged
+    → marked (kept x (chain new s) es) answers ≡ purged
+purged_told w x y new other s [] [] [] is three run told again all = refl
+purged_told w x y new other s [] [] (a ∷ purged) is three run told again all = absurd again
+purged_told w x y new other s [] (a ∷ answers) purged is three run told again all = absurd run
+purged_told w x y new other s (e ∷ es) [] purged is three run told again all = absurd run
+purged_told w x y new other s (e ∷ es) (Failed fault ∷ answers) purged is three run told again all =
+    let ss : List (List ℕ) = chain new s in
+    let marks : List Bool = kept (after x e) ss es in
+    elim (is_kept x ss e) as (λ b. is_kept x ss e ≡ b → IsAnsweredIfKept b (Failed fault) → Run y (marked (b ∷ marks) (e ∷ es)) purged other → marked (b ∷ marks) (Failed fault ∷ answers) ≡ purged) [
+      | true ↦ λ near never _. absurd never
+      | false ↦ λ far _ rest. purged_told w (after x e) y new other s es answers purged is (three_failed w x y ss e three far) run told.1 rest all
+    ] refl told.0 again
+purged_told w x y new other s (e ∷ es) (Replied r ∷ answers) purged is three run told again all =
+    let ss : List (List ℕ) = chain new s in
+    let marks : List Bool = kept (after x e) ss es in
+    elim (is_kept x ss e) as (λ b. is_kept x ss e ≡ b → Run y (marked (b ∷ marks) (e ∷ es)) purged other → marked (b ∷ marks) (Replied r ∷ answers) ≡ purged) [
+      | true ↦ λ near rest.
+          let first = first_of y other e (marked marks es) purged rest all in
+          let step = three_kept w x y new s e r es answers is three (kept_alike w x ss e three.all ∙ near) run in
+          ap (λ a. Replied a ∷ marked marks answers) (step.0 ∙ sym first.3)
+          ∙ ap (λ told. Replied first.0 ∷ told) (purged_told (after w e) (after x e) (after y e) new other s es answers first.1 (sound w e is) step.1 run.1 told.1 first.4 first.5)
+          ∙ sym first.2
+      | false ↦ λ far rest. purged_told (after w e) (after x e) y new other s es answers purged (sound w e is) (three_far w x y ss e three far) run.1 told.1 rest all
+    ] refl again
+
+pub purged_runs_agree : PurgedRunsAgree
+purged_runs_agree old new other s events answers purged is run told again all =
+    let self = agree_self old (chain new s) in purged_told old old old new other s events answers purged is (record { all = self; purged = self }) run told again all
+
+-- ---- the purge with the faults and without
+
+purged_alike : (w x new : World) (s : List ℕ) (es : List Event) (answers : List Answer) → IsWorld w → Agree w x (chain new s) → Run w es answers new → KeptAnswered x (chain new s) es answers
+    → marked (kept x (chain new s) es) es ≡ marked (kept w (chain new s) (answered es answers)) (answered es answers)
+purged_alike w x new s [] [] is agree run told = refl
+purged_alike w x new s [] (a ∷ answers) is agree run told = absurd run
+purged_alike w x new s (e ∷ es) [] is agree run told = absurd run
+purged_alike w x new s (e ∷ es) (Failed fault ∷ answers) is agree run told =
+    let ss : List (List ℕ) = chain new s in
+    elim (is_kept x ss e) as (λ b. is_kept x ss e ≡ b → IsAnsweredIfKept b (Failed fault) → marked (b ∷ kept (after x e) ss es) (e ∷ es) ≡ purge w ss (answered es answers)) [
+      | true ↦ λ near never. absurd never
+      | false ↦ λ far _. purged_alike w (after x e) new s es answers is (agree_back (after x e) w ss (event_far x w ss e far (agree_back w x ss agree))) run told.1
+    ] refl told.0
+purged_alike w x new s (e ∷ es) (Replied r ∷ answers) is agree run told =
+    let ss : List (List ℕ) = chain new s in
+    let rest : List Event = answered es answers in
+    subst (λ m. marked (kept x ss (e ∷ es)) (e ∷ es) ≡ marked (m ∷ kept (after w e) ss rest) (e ∷ rest)) (sym (kept_alike w x ss e agree))
+    (elim (is_kept x ss e) as (λ b. is_kept x ss e ≡ b → marked (b ∷ kept (after x e) ss es) (e ∷ es) ≡ marked (b ∷ kept (after w e) ss rest) (e ∷ rest)) [
+      | true ↦ λ near.
+          let alike = event_alike w x ss e (kept_alike w x ss e agree ∙ near) is (reaches w new s (e ∷ es) (Replied r ∷ answers) is run) agree in
+          ap (λ more. e ∷ more) (purged_alike (after w e) (after x e) new s es answers (sound w e is) alike.worlds run.1 told.1)
+      | false ↦ λ far.
+          let moved = agree_back (after x e) w ss (event_far x w ss e far (agree_back w x ss agree)) in
+          purged_alike (after w e) (after x e) new s es answers (sound w e is) (event_far w (after x e) ss e (kept_alike w x ss e agree ∙ far) moved) run.1 told.1
+    ] refl)
+
+pub purge_is_the_same : PurgeIsTheSame
+purge_is_the_same old new s events answers is run told = purged_alike old old new s events answers is (agree_self old (chain new s)) run told
+
+-- ---- what is purged
+
+pub marks_are_as_long : MarksAreAsLong
+marks_are_as_long w ss [] = refl
+marks_are_as_long w ss (e ∷ es) = ap suc (marks_are_as_long (after w e) ss es)
+
+pub marks_are_at_their_moment : MarksAreAtTheirMoment
+marks_are_at_their_moment w ss [] e rest = refl
+marks_are_at_their_moment w ss (b ∷ before) e rest = ap (λ marks. is_kept w ss b ∷ marks) (marks_are_at_their_moment (after w b) ss before e rest)
+
+far_holder : (ss : List (List ℕ)) (o : Option Holder) → is_near ss o ≡ false → (h : Holder) × (o ≡ Some h) × (is_among ss h.shelf ≡ false)
+far_holder ss None far = absurd (true≢false far)
+far_holder ss (Some h) far = (h, refl, far)
+
+far_key : (w : World) (ss : List (List ℕ)) (o : Option (List ℕ)) → is_near_key w ss o ≡ false → (k : List ℕ) × (h : Holder) × (o ≡ Some k) × (map.get w.keys k ≡ Some h) × (is_among ss h.shelf ≡ false)
+far_key w ss None far = absurd (true≢false far)
+far_key w ss (Some k) far = let h = far_holder ss (map.get w.keys k) far in (k, h.0, refl, h.1, h.2)
+
+pub only_others_go : OnlyOthersGo
+only_others_go w ss e = (
+  (λ far. far_key w ss (asking_key e) far),
+  (λ others. ap (is_near_key w ss) others.2 ∙ ap (is_near ss) others.3 ∙ others.4),
+)

@@ -1,0 +1,105 @@
+-- A list of publishes that was accepted changes nothing when it comes again.
+use Rattle.std.proofs.Common.{◌≡◌, ℕ, List, [], ◌∷◌, true, false, refl, ◌∙◌, sym, ap, subst, Option, Some, None, inl, inr}
+use Rattle.std.specs.Prelude.{bytes_eq, ◌&&◌, option_map, is_none}
+use Rattle.std.specs.FinMap as map
+use Rattle.std.specs.FinSet as set
+use Rattle.shelf.specs.declared.entry.Place.{Place}
+use Rattle.shelf.specs.declared.entry.Entry.{Entry}
+use Rattle.shelf.specs.declared.entry.Seen.{Seen}
+use Rattle.shelf.specs.declared.entry.Holder.{Holder}
+use Rattle.shelf.specs.declared.entry.Right.TheVariants.{Publishes}
+use Rattle.shelf.specs.declared.ask.Body.{Body}
+use Rattle.shelf.specs.declared.ask.Publish.{Publish}
+use Rattle.shelf.specs.declared.ask.Ask.TheVariants.{Put}
+use Rattle.shelf.specs.declared.ask.Event.{Event}
+use Rattle.shelf.specs.declared.ask.Event.TheVariants.{Asked}
+use Rattle.shelf.specs.declared.reply.Decision.{Decision}
+use Rattle.shelf.specs.declared.reply.Decision.TheVariants.{Published, Same}
+use Rattle.shelf.specs.declared.reply.Reply.{Reply}
+use Rattle.shelf.specs.declared.reply.Reply.TheVariants as reply
+use Rattle.shelf.specs.declared.reply.Answer.{Answer}
+use Rattle.shelf.specs.declared.reply.Answer.TheVariants.{Replied, Failed}
+use Rattle.shelf.specs.World.{World, IsWorld, count}
+use Rattle.shelf.specs.Machine.{decision, same_entry, is_same, offered, entry_of, entry_seen, after_decision, stored, place_of, after, Run}
+use Rattle.shelf.specs.Isolation.{belongs}
+use Rattle.shelf.specs.Immutability.{IsAccepted, IsAcceptance, AllAccepted, AllSameOrFailed, puts, RepeatedListChangesNothing}
+use Rattle.shelf.proofs.Orders.{text_self}
+use Rattle.shelf.proofs.Checks.{same_decided}
+use Rattle.shelf.proofs.Sound.{sound}
+use Rattle.shelf.proofs.Chains.{stands_after, stands_through}
+use Rattle.shelf.proofs.Served.{Kept, kept_first, kept_through, shelf_stands}
+
+-- ---- one publish
+
+same_itself : (e : Entry) → same_entry e e ≡ true
+same_itself e = ap (λ b. b && bytes_eq e.zip e.zip) (text_self e.gomod) ∙ text_self e.zip
+
+told_of : (p : Publish) (o : Option Body) (e : Entry) → option_map (entry_of p) o ≡ Some e → is_none o ≡ false
+told_of p None e is = cc
+told_of p (Some b) e is = refl
+
+kept_is_same : (w : World) (s : List ℕ) (p : Publish) → Kept w s p → decision w (Some (record { shelf = s; right = Publishes })) p ≡ Same
+kept_is_same w s p kept =
+    let seen : entry_seen w s p ≡ Some kept.seen.entry = ap (option_map (λ (x : Seen). x.entry)) kept.is_seen in
+    let same : is_same (entry_seen w s p) (offered p) ≡ true =
+    ap (λ o. is_same o (offered p)) seen ∙ ap (is_same (Some kept.seen.entry)) kept.is_offered ∙ same_itself kept.seen.entry in
+    same_decided p (entry_seen w s p) (count w s p.path) kept.readable (told_of p p.body kept.seen.entry kept.is_offered) kept.small same
+
+-- ---- the list for the first time
+
+-- all of these are seen by s as they were handed in
+abbrev AllKept : World → List ℕ → List Publish → Type 0
+AllKept w s [] = Unit {0}
+AllKept w s (p ∷ ps) = Kept w s p × AllKept w s ps
+
+keys_stored : (w : World) (q : Place) (o : Option Entry) → (stored w q o).keys ≡ w.keys
+keys_stored w q None = refl
+keys_stored w q (Some e) = refl
+
+keys_decided : (w : World) (h : Option Holder) (p : Publish) (d : Decision) → (after_decision w h p d).keys ≡ w.keys
+keys_decided w (Some h) p Published = keys_stored w (place_of h.shelf p) (offered p)
+keys_decided w h p d = refl
+
+belongs_after : (w : World) (s k j : List ℕ) (p : Publish) → belongs w k s → belongs (after w (Asked (Put j p))) k s
+belongs_after w s k j p own = (own.0, ap (λ m. map.get m k) (keys_decided w (map.get w.keys j) p (decision w (map.get w.keys j) p)) ∙ own.1, own.2)
+
+acceptance : (r : Reply) → IsAcceptance (Replied r) → (d : Decision) × (r ≡ reply.Decided d) × IsAccepted d
+acceptance (reply.Decided d) is = (d, refl, is)
+acceptance r is = absurd is
+
+all_kept : (w mid : World) (s k : List ℕ) (ps : List Publish) (answers : List Answer) → IsWorld w → belongs w k s → Run w (puts k ps) answers mid → AllAccepted answers → AllKept mid s ps
+all_kept w mid s k [] answers is own run all = tt
+all_kept w mid s k (p ∷ ps) [] is own run all = absurd run
+all_kept w mid s k (p ∷ ps) (Failed fault ∷ answers) is own run all = absurd all.0
+all_kept w mid s k (p ∷ ps) (Replied r ∷ answers) is own run all =
+    let e : Event = Asked (Put k p) in
+    let first = acceptance r all.0 in
+    let stands = (stands_after w s e (shelf_stands w s k is own)).stands in
+    let kept = kept_first w s k p first.0 own (sym first.1 ∙ run.0) first.2 in
+    (kept_through (after w e) mid s p (puts k ps) answers stands run.1 kept, all_kept (after w e) mid s k ps answers (sound w e is) (belongs_after w s k k p own) run.1 all.1)
+
+all_through : (w new : World) (s : List ℕ) (ps : List Publish) (es : List Event) (answers : List Answer) → set.contains w.shelves s ≡ true → Run w es answers new → AllKept w s ps → AllKept new s ps
+all_through w new s [] es answers stands run kept = tt
+all_through w new s (p ∷ ps) es answers stands run kept = (kept_through w new s p es answers stands run kept.0, all_through w new s ps es answers stands run kept.1)
+
+-- ---- the list again
+
+again_same : (w : World) (s k : List ℕ) (p : Publish) → map.get w.keys k ≡ Some (record { shelf = s; right = Publishes }) → Kept w s p → (decision w (map.get w.keys k) p ≡ Same) × (after w (Asked (Put k p)) ≡ w)
+again_same w s k p may kept =
+    let same = kept_is_same w s p kept in
+    (ap (λ o. decision w o p) may ∙ same, ap (λ o. after_decision w o p (decision w o p)) may ∙ ap (after_decision w (Some (record { shelf = s; right = Publishes })) p) same)
+
+again : (w new : World) (s k : List ℕ) (ps : List Publish) (answers : List Answer) → map.get w.keys k ≡ Some (record { shelf = s; right = Publishes }) → AllKept w s ps → Run w (puts k ps) answers new → AllSameOrFailed answers × (new ≡ w)
+again w new s k [] [] may kept run = (tt, run)
+again w new s k [] (a ∷ answers) may kept run = absurd run
+again w new s k (p ∷ ps) [] may kept run = absurd run
+again w new s k (p ∷ ps) (Failed fault ∷ answers) may kept run = let rest = again w new s k ps answers may kept.1 run in ((inr tt, rest.0), rest.1)
+again w new s k (p ∷ ps) (Replied r ∷ answers) may kept run =
+    let same = again_same w s k p may kept.0 in
+    let rest = again w new s k ps answers may kept.1 (subst (λ x. Run x (puts k ps) answers new) same.1 run.1) in
+    ((inl (ap Replied (run.0 ∙ ap reply.Decided same.0)), rest.0), rest.1)
+
+pub repeated_list_changes_nothing : RepeatedListChangesNothing
+repeated_list_changes_nothing old mid later new s k second ps events accepted told repeated is own first all between may run =
+    let stands = (stands_through old mid s (puts k ps) accepted (shelf_stands old s k is own) first).stands in
+    again later new s second ps repeated may (all_through mid later s ps events told stands between (all_kept old mid s k ps accepted is own first all)) run

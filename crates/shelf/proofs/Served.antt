@@ -1,0 +1,176 @@
+-- What was served or accepted once is served for good.
+use Rattle.std.proofs.Common.{◌≡◌, ℕ, List, [], ◌∷◌, true, false, refl, ◌∙◌, sym, ap, subst, Option, Some, None, inl, inr}
+use Rattle.std.specs.Prelude.{bytes_eq, ◌&&◌, option_map, is_none}
+use Rattle.std.specs.Option.{option_or}
+use Rattle.std.specs.FinMap as map
+use Rattle.std.specs.FinSet as set
+use Rattle.std.proofs.lemmas.Bool.{true≢false}
+use Rattle.modver.specs.SemanticVersion.{version_text}
+use Rattle.shelf.specs.declared.entry.Entry.{Entry}
+use Rattle.shelf.specs.declared.entry.Seen.{Seen}
+use Rattle.shelf.specs.declared.entry.Holder.{Holder}
+use Rattle.shelf.specs.declared.ask.Body.{Body}
+use Rattle.shelf.specs.declared.ask.Query.{Query}
+use Rattle.shelf.specs.declared.ask.Query.TheVariants.{GoMod, Zip}
+use Rattle.shelf.specs.declared.ask.Publish.{Publish}
+use Rattle.shelf.specs.declared.ask.Ask.TheVariants.{Put}
+use Rattle.shelf.specs.declared.ask.Event.{Event}
+use Rattle.shelf.specs.declared.ask.Event.TheVariants.{Asked}
+use Rattle.shelf.specs.declared.reply.Decision.{Decision}
+use Rattle.shelf.specs.declared.reply.Decision.TheVariants.{Published, Same}
+use Rattle.shelf.specs.declared.reply.Reply.{Reply}
+use Rattle.shelf.specs.declared.reply.Reply.TheVariants as reply
+use Rattle.shelf.specs.declared.reply.Answer.{Answer}
+use Rattle.shelf.specs.declared.reply.Answer.TheVariants.{Replied, Failed}
+use Rattle.shelf.specs.World.{World, IsWorld, common, seen_at, first_on, view}
+use Rattle.shelf.specs.Machine.{decision, is_readable, is_too_large, is_same, offered, entry_of, entry_seen, gomod_reply, zip_reply, query_reply, keyed_reply, after_decision, stored, place_of, after, Run}
+use Rattle.shelf.specs.Isolation.{belongs}
+use Rattle.shelf.specs.Immutability.{IsFound, StaysServed, IsAccepted, asks_back, AcceptedIsServed}
+use Rattle.shelf.proofs.Orders.{places_total, get_put, text_same}
+use Rattle.shelf.proofs.Checks.{accepted, same_again}
+use Rattle.shelf.proofs.Chains.{stands_after}
+use Rattle.shelf.proofs.Stays.{stays_through}
+
+-- ---- what was served
+
+-- the reply to a query by a key of s
+pub by_key : (w : World) (s k : List ℕ) (q : Query) → belongs w k s → keyed_reply w (map.get w.keys k) q ≡ query_reply w s q
+by_key w s k q b = ap (λ h. keyed_reply w h q) b.1 ∙ ap (λ t. query_reply w t q) b.2
+
+-- the shelf of a key stands
+pub shelf_stands : (w : World) (s k : List ℕ) → IsWorld w → belongs w k s → set.contains w.shelves s ≡ true
+shelf_stands w s k is b = ap (set.contains w.shelves) (sym b.2) ∙ is.keys_stand k b.0 b.1
+
+-- what a query found once it finds after a run
+found_again : (old mid : World) (s : List ℕ) (q : Query) (r : Reply) (events : List Event) (answers : List Answer)
+    → set.contains old.shelves s ≡ true → IsFound r → r ≡ query_reply old s q → Run old events answers mid → query_reply mid s q ≡ r
+found_again old mid s (GoMod p v) r events answers stands found is run =
+    elim (view old s p (version_text v)) as (λ o. view old s p (version_text v) ≡ o → r ≡ gomod_reply o → gomod_reply (view mid s p (version_text v)) ≡ r) [
+      | None ↦ λ _ e. absurd (subst IsFound e found)
+      | Some seen ↦ λ here e. ap gomod_reply (stays_through old mid s p (version_text v) events answers seen stands run here) ∙ sym e
+    ] refl is
+found_again old mid s (Zip p v) r events answers stands found is run =
+    elim (view old s p (version_text v)) as (λ o. view old s p (version_text v) ≡ o → r ≡ zip_reply o → zip_reply (view mid s p (version_text v)) ≡ r) [
+      | None ↦ λ _ e. absurd (subst IsFound e found)
+      | Some seen ↦ λ here e. ap zip_reply (stays_through old mid s p (version_text v) events answers seen stands run here) ∙ sym e
+    ] refl is
+
+pub stays_served : StaysServed
+stays_served old mid new s k later q r events answers (Failed fault) world own found run own_later again = inr tt
+stays_served old mid new s k later q r events answers (Replied x) world own found run own_later again =
+    inl (ap Replied (again.0 ∙ by_key mid s later q own_later ∙ found_again old mid s q r events answers (shelf_stands old s k world own) found (run.0 ∙ by_key old s k q own) run.1))
+
+-- ---- what was accepted
+
+-- what was handed in is what the shelf sees
+pub record Kept (w : World) (s : List ℕ) (p : Publish) : Type 0 where
+  pub readable : is_readable p ≡ true
+  pub small : is_too_large (offered p) ≡ false
+  pub seen : Seen
+  pub is_seen : view w s p.path (version_text p.version) ≡ Some seen
+  pub is_offered : offered p ≡ Some seen.entry
+
+both_equal : (a b c d : List ℕ) → (bytes_eq a b && bytes_eq c d) ≡ true → (a ≡ b) × (c ≡ d)
+both_equal a b c d e =
+    elim (bytes_eq a b) as (λ x. bytes_eq a b ≡ x → (x && bytes_eq c d) ≡ true → (a ≡ b) × (c ≡ d)) [
+      | true ↦ λ ab cd. (text_same a b ab, text_same c d cd)
+      | false ↦ λ _ never. absurd (true≢false (sym never))
+    ] refl e
+
+same_whole : (d e : Entry) → (d.gomod ≡ e.gomod) × (d.zip ≡ e.zip) → e ≡ d
+same_whole d e both = λ i. record { gomod = sym both.0 i; zip = sym both.1 i }
+
+-- an entry that is the same as the one that is handed in
+same_offer : (seen offer : Option Entry) → is_same seen offer ≡ true → (e : Entry) × (seen ≡ Some e) × (offer ≡ Some e)
+same_offer None offer e = absurd (true≢false (sym e))
+same_offer (Some d) None e = absurd (true≢false (sym e))
+same_offer (Some d) (Some f) e = (d, refl, ap Some (same_whole d f (both_equal d.gomod f.gomod d.zip f.zip e)))
+
+entry_is_seen : (o : Option Seen) (e : Entry) → option_map (λ (x : Seen). x.entry) o ≡ Some e → (seen : Seen) × (o ≡ Some seen) × (seen.entry ≡ e)
+entry_is_seen None e is = cc
+entry_is_seen (Some x) e is = (x, refl, cc)
+
+body_there : (o : Option Body) → is_none o ≡ false → (b : Body) × (o ≡ Some b)
+body_there None e = absurd (true≢false e)
+body_there (Some b) e = (b, refl)
+
+kept_published : (w : World) (h : Holder) (p : Publish) → decision w (Some h) p ≡ Published → Kept (after_decision w (Some h) p Published) h.shelf p
+kept_published w h p is =
+    let checks = accepted p (Some h.right) (entry_seen w h.shelf p) _ is in
+    let there = body_there p.body checks.told in
+    let b = there.0 in
+    let body = there.1 in
+    let offer : offered p ≡ Some (entry_of p b) = ap (option_map (entry_of p)) body in
+    let mine : Seen = record { shelf = h.shelf; entry = entry_of p b } in
+    let after : World = stored w (place_of h.shelf p) (Some (entry_of p b)) in
+    let here : view after h.shelf p.path (version_text p.version) ≡ Some mine =
+    ap (λ o. option_or (seen_at o h.shelf) (first_on after (common ∷ []) p.path (version_text p.version))) (get_put places_total w.entries (place_of h.shelf p) (entry_of p b)) in
+    record {
+      readable = checks.readable;
+      small = checks.small;
+      seen = mine;
+      is_seen = subst (λ o. view (stored w (place_of h.shelf p) o) h.shelf p.path (version_text p.version) ≡ Some mine) (sym offer) here;
+      is_offered = offer;
+    }
+
+kept_same : (w : World) (h : Holder) (p : Publish) → decision w (Some h) p ≡ Same → Kept w h.shelf p
+kept_same w h p is =
+    let checks = same_again p (Some h.right) (entry_seen w h.shelf p) _ is in
+    let entry = same_offer (entry_seen w h.shelf p) (offered p) checks.same in
+    let seen = entry_is_seen (view w h.shelf p.path (version_text p.version)) entry.0 entry.1 in
+    record {
+      readable = checks.readable;
+      small = checks.small;
+      seen = seen.0;
+      is_seen = seen.1;
+      is_offered = entry.2 ∙ ap Some (sym seen.2);
+    }
+
+pub kept_accepted : (w : World) (h : Holder) (p : Publish) (d : Decision) → decision w (Some h) p ≡ d → IsAccepted d → Kept (after_decision w (Some h) p d) h.shelf p
+kept_accepted w h p Published is yes_it_is = kept_published w h p is
+kept_accepted w h p Same is yes_it_is = kept_same w h p is
+kept_accepted w h p d is yes_it_is = absurd yes_it_is
+
+pub kept_through : (w new : World) (s : List ℕ) (p : Publish) (es : List Event) (answers : List Answer) → set.contains w.shelves s ≡ true → Run w es answers new → Kept w s p → Kept new s p
+kept_through w new s p es answers stands run kept = record {
+  readable = kept.readable;
+  small = kept.small;
+  seen = kept.seen;
+  is_seen = stays_through w new s p.path (version_text p.version) es answers kept.seen stands run kept.is_seen;
+  is_offered = kept.is_offered;
+}
+
+-- the decision on a publish that was made
+pub decided_of : (x y : Decision) → reply.Decided x ≡ reply.Decided y → x ≡ y
+decided_of x y e = cc
+
+-- what was accepted by a key of s is what s sees after it
+pub kept_first : (w : World) (s k : List ℕ) (p : Publish) (d : Decision) → belongs w k s → reply.Decided d ≡ reply.Decided (decision w (map.get w.keys k) p) → IsAccepted d → Kept (after w (Asked (Put k p))) s p
+kept_first w s k p d own told yes_it_is =
+    let h = own.0 in
+    let is : d ≡ decision w (map.get w.keys k) p = decided_of d _ told in
+    let is_h : decision w (Some h) p ≡ d = sym (is ∙ ap (λ o. decision w o p) own.1) in
+    let after_is : after w (Asked (Put k p)) ≡ after_decision w (Some h) p d =
+    ap (λ o. after_decision w o p (decision w o p)) own.1 ∙ ap (λ y. after_decision w (Some h) p y) is_h in
+    subst (λ y. Kept y s p) (sym after_is) (subst (λ t. Kept (after_decision w (Some h) p d) t p) own.2 (kept_accepted w h p d is_h yes_it_is))
+
+same_body : (p : Publish) (b : Body) (e : Entry) → p.body ≡ Some b → offered p ≡ Some e → e ≡ entry_of p b
+same_body p b e body offer = some_same _ _ (sym offer ∙ ap (option_map (entry_of p)) body)
+  where
+    some_same : (x y : Entry) → Some x ≡ Some y → x ≡ y
+    some_same x y e = cc
+
+answered_with : (w : World) (s : List ℕ) (p : Publish) (b : Body) (q : Query) (r : Reply) → Kept w s p → p.body ≡ Some b → asks_back p b q r → query_reply w s q ≡ r
+answered_with w s p b (GoMod path version) r kept body back =
+    ap (λ x. gomod_reply (view w s x (version_text version))) back.0 ∙ ap (λ x. gomod_reply (view w s p.path (version_text x))) back.1 ∙ ap gomod_reply kept.is_seen
+    ∙ ap (λ (e : Entry). reply.GoMod e.gomod) (same_body p b kept.seen.entry body kept.is_offered) ∙ sym back.2
+answered_with w s p b (Zip path version) r kept body back =
+    ap (λ x. zip_reply (view w s x (version_text version))) back.0 ∙ ap (λ x. zip_reply (view w s p.path (version_text x))) back.1 ∙ ap zip_reply kept.is_seen
+    ∙ ap (λ (e : Entry). reply.Zip e.zip) (same_body p b kept.seen.entry body kept.is_offered) ∙ sym back.2
+
+pub accepted_is_served : AcceptedIsServed
+accepted_is_served old mid new s k later p b d q r events answers (Failed fault) world own body yes_it_is run own_later back again = inr tt
+accepted_is_served old mid new s k later p b d q r events answers (Replied x) world own body yes_it_is run own_later back again =
+    let stands = (stands_after old s (Asked (Put k p)) (shelf_stands old s k world own)).stands in
+    let kept = kept_through (after old (Asked (Put k p))) mid s p events answers stands run.1 (kept_first old s k p d own run.0 yes_it_is) in
+    inl (ap Replied (again.0 ∙ by_key mid s later q own_later ∙ answered_with mid s p b q r kept body back))

@@ -1,7 +1,7 @@
 -- What the query of a count answers.
-use Rattle.std.proofs.Common.{◌≡◌, ◌≤◌, ◌+◌, ◌&&◌, ◌++◌, ℕ, suc, pos, negsuc, Bool, true, false, cond, List, [], ◌∷◌, length, min, map as mapped, flat_map, filter, Option, Some, None, is_some, IsTrue, inl, inr, refl, sym, ap, subst, ◌∙◌, codes, arith, true≢false}
-use Rattle.std.specs.Prelude.{bytes_eq, IsPermutation}
-use Rattle.std.specs.List.{AllZip, AllByRecursion, list_all}
+use Rattle.std.proofs.Common.{◌≡◌, ◌≤◌, ◌+◌, ◌&&◌, ◌++◌, ℕ, suc, pos, negsuc, Bool, true, false, cond, List, [], ◌∷◌, length, min, map as mapped, flat_map, filter, Option, Some, None, is_some, inl, inr, refl, sym, ap, subst, ◌∙◌, codes, arith, true≢false}
+use Rattle.std.specs.Prelude.{bytes_eq}
+use Rattle.std.specs.List.{AllZip, list_all}
 use Rattle.std.specs.FinMap as map
 use Rattle.std.specs.Ordering.{eq_by_cmp, is_eq}
 use Rattle.std.specs.declared.cmp.Ordering.{Ordering}
@@ -9,7 +9,6 @@ use Rattle.std.specs.Cmp.{IsTotalOrder, tied_itself}
 use Rattle.std.proofs.lemmas.Bool.{and_parts, cases_Bool}
 use Rattle.std.proofs.lemmas.List.Sorted.{length_permutation}
 use Rattle.std.proofs.lemmas.Map.Views.{tells_apart}
-use Rattle.sqlite.specs.declared.types.Value.{Value}
 use Rattle.sqlite.specs.declared.types.Value.TheVariants.{Null, Int, Text}
 use Rattle.sqlite.specs.Collation.TheVariants.{Binary}
 use Rattle.sqlite_sql.specs.declared.aggregate.AggregateOp.TheVariants.{CountRows}
@@ -32,13 +31,13 @@ use Rattle.sqlite_rules.proofs.ListLemmas.{all_has, all_from, has_filtered, has_
 use Rattle.sqlite_rules.proofs.ProbeLemmas.{has_mapped}
 use Rattle.shelf.specs.declared.entry.Place.{Place}
 use Rattle.shelf.specs.declared.entry.Entry.{Entry}
-use Rattle.shelf.specs.World.{World, IsWorld, place_cmp, count, version_limit}
+use Rattle.shelf.specs.World.{World, IsWorld, count, version_limit}
 use Rattle.shelf.proofs.Orders.{places_total, places_exact, text_self, text_same}
 use Rattle.shelf.proofs.Views.{test_alike}
 use Rattle.store.specs.Schema.{store_schema}
 use Rattle.store.specs.Lookup.{passes}
 use Rattle.store.specs.Calls.{Selects}
-use Rattle.store.specs.Means.{Means, IsAt, IsEachPlaceOnce}
+use Rattle.store.specs.Means.{Means, IsAt}
 use Rattle.store.proofs.Texts.{count_text}
 use Rattle.store.proofs.ValueLemmas.{equals_text, equals_itself}
 use Rattle.store.proofs.LookupLemmas.{has_permuted}

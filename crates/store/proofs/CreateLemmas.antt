@@ -1,5 +1,5 @@
 -- The tables as one text makes them.
-use Rattle.std.proofs.Common.{◌≡◌, ◌<◌, ◌-◌, ℕ, suc, ℤ, pos, Bool, true, false, cond, List, [], ◌∷◌, length, take, drop, Some, None, Ok, Err, Result, inl, inr, refl, sym, ap, subst, subst₂, ◌∙◌, codes, arith, IsTrue, OnOk, lit<}
+use Rattle.std.proofs.Common.{◌≡◌, ◌<◌, ◌-◌, ℕ, suc, ℤ, pos, true, false, List, [], ◌∷◌, length, take, drop, Some, None, Ok, Err, Result, inl, inr, refl, sym, ap, subst, subst₂, ◌∙◌, codes, arith, IsTrue, OnOk, lit<}
 use Rattle.std.proofs.lemmas.Bool.{cases_Bool}
 use Rattle.sqlite.specs.declared.types.Value.TheVariants.{Null, Int, Text}
 use Rattle.sqlite_trees.specs.declared.store.Store.{Ghosts}
@@ -24,15 +24,9 @@ use Rattle.sqlite.specs.Held.{Held, state}
 use Rattle.sqlite.proofs.Callers.{IsPlain, command_of, statement_of}
 use Rattle.sqlite_tied.specs.Compute.{everything}
 use Rattle.store.specs.Schema.{no_schema, store_schema, meta_table, shelf_table, access_table, version_table, body_table}
-use Rattle.std.proofs.lemmas.Slice.Eq.{bytes_eq-Decides}
 use Rattle.sqlite.specs.Order.{column}
 use Rattle.sqlite.specs.Edit.{put_all}
-use Rattle.sqlite.specs.declared.types.Value.{Value}
-use Rattle.sqlite.specs.Kind.TheVariants.{Integer}
-use Rattle.sqlite.specs.Cast.{cast}
-use Rattle.sqlite.specs.Ops.{unary}
 use Rattle.store.specs.Means.{Means, schema_named}
-use Rattle.std.specs.FinMap as map
 use Rattle.std.specs.FinSet as set
 use Rattle.shelf.specs.World.{only_common, common, text_cmp, place_cmp}
 use Rattle.store.proofs.Maps.{none_in_empty, text_put, text_splits, no_text}

@@ -1,5 +1,5 @@
 -- What a finite map holds after one insertion, and what is empty.
-use Rattle.std.proofs.Common.{◌≡◌, ◌⊎◌, ◌∙◌, ◌||◌, ℕ, List, ap, sym, cond, true, false, Bool, Option, Some, None, is_some, inl, inr, true≢false, IsTrue}
+use Rattle.std.proofs.Common.{◌≡◌, ◌⊎◌, ◌∙◌, ◌||◌, ℕ, List, ap, sym, Option, Some, None, is_some, inl, inr, true≢false, IsTrue}
 use Rattle.std.specs.FinMap as map
 use Rattle.std.specs.FinSet as set
 use Rattle.std.specs.Ordering.{eq_by_cmp, is_eq}
@@ -8,7 +8,7 @@ use Rattle.std.specs.Cmp.{IsTotalOrder, tied_itself}
 use Rattle.std.proofs.lemmas.Map.Views.{tells_apart}
 use Rattle.std.proofs.lemmas.Bool.{cases_Bool}
 use Rattle.shelf.specs.World.{text_cmp}
-use Rattle.shelf.proofs.Orders.{texts_total, texts_exact, get_put, get_elsewhere}
+use Rattle.shelf.proofs.Orders.{texts_total, texts_exact, get_elsewhere}
 use Rattle.shelf.proofs.Sound.{at_or_before}
 
 module _ {K X : Type 0} {R : K → K → Ordering} (o : IsTotalOrder R) (exact : map.IsAntisymmetric R) (m : map.FinMap R X) (k : K) (x : X) where

@@ -1,13 +1,12 @@
 -- Calls on the tables as calls of a store.
-use Rattle.std.proofs.Common.{◌≡◌, ◌⊎◌, ◌≤◌, Bool, true, false, Result, Ok, Err, inl, inr, refl, sym, ap, subst, is_ok}
-use Rattle.std.specs.Prelude.{OnOk, OnErr, IfOk}
+use Rattle.std.proofs.Common.{◌≡◌, ◌≤◌, Result, Ok, Err, inl, inr, refl, subst, is_ok}
+use Rattle.std.specs.Prelude.{IfOk}
 use Rattle.sqlite_trees.specs.View.{doubt}
-use Rattle.sqlite.specs.Tree.{Trees}
 use Rattle.sqlite.specs.State.{State, HasCleanDisk}
 use Rattle.shelf.specs.declared.reply.StoreFault.{StoreFault}
 use Rattle.shelf.specs.World.{World, IsWorld}
 use Rattle.shelf.specs.Store.{Does, DoesWhere, DoesAt, Reads}
-use Rattle.store.specs.Means.{Stands, StandsFor}
+use Rattle.store.specs.Means.{StandsFor}
 use Rattle.store.specs.Calls.{Spares, LeavesOnly, LeavesEither, ChangesAt, shown_of}
 use Rattle.store.proofs.CallLemmas.{was_clean}
 

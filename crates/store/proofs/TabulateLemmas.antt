@@ -9,7 +9,6 @@ use Rattle.sqlite.specs.Tree.{rowid}
 use Rattle.sqlite_value.specs.Order.{value_cmp}
 use Rattle.sqlite_trees.specs.Tree.{IsAscending, put_row}
 use Rattle.sqlite.specs.Edit.{put_all, are_fresh}
-use Rattle.sqlite_rules.specs.Lists.{Has}
 use Rattle.sqlite_rules.proofs.ListLemmas.{all_from, all_has}
 use Rattle.sqlite_rules.proofs.TableLemmas.{put_all_has, put_all_keeps, put_all_adds, put_has}
 use Rattle.store.specs.Means.{Tabulates}

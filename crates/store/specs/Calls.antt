@@ -44,3 +44,9 @@ LeavesEither s w x = LeavesOnly s (λ y. (y ≡ w) ⊎ (y ≡ x))
 -- what is known of a store from what its connection shows
 abbrev pub shown_of : State → Shown
 shown_of s = record { stands = StandsFor s; is_honest = HasCleanDisk s; leaves = LeavesEither s }
+
+-- each disk below was as told so far, the store stands for the world, and a crash leaves that world alone
+pub record BeginsAt (s : Shown) (w : World) : Type 0 where
+  pub honest : s.is_honest
+  pub stands : s.stands w
+  pub left : s.leaves w w

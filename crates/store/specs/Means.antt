@@ -1,6 +1,5 @@
 -- The world that the tables stand for. No row number and no order of rows occurs here.
-use Rattle.std.specs.Prelude.{ℕ, ℤ, Bool, true, false, pos, if◌then◌else◌, List, Option, Some, None, IsTrue, codes, ◌≡◌}
-use Rattle.sqlite.specs.declared.types.Value.{Value}
+use Rattle.std.specs.Prelude.{ℕ, ℤ, Bool, true, false, pos, if◌then◌else◌, List, Some, IsTrue, codes, ◌≡◌}
 use Rattle.sqlite.specs.declared.types.Value.TheVariants.{Null, Int, Text, Blob}
 use Rattle.sqlite.specs.Order.{Row, column}
 use Rattle.sqlite.specs.Collation.TheVariants.{Binary}

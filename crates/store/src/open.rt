@@ -2,11 +2,9 @@
 
 ghost use Rattle.std.specs.Prelude.{◌≡◌, ◌≢◌, IfOk, IfErr};
 ghost use Rattle.sqlite.specs.Held.{state};
-ghost use Rattle.sqlite.specs.State.{HasCleanDisk};
 ghost use Rattle.sqlite.specs.Steps.{over_memory};
 ghost use Rattle.shelf.specs.World.{only_common};
-ghost use Rattle.store.specs.Means.{StandsFor};
-ghost use Rattle.store.specs.Calls.{LeavesEither};
+ghost use Rattle.store.specs.Calls.{shown_of, BeginsAt};
 
 use crate::store::{Refusal, SqlShelves};
 use sqlite::{Connection, MemStore};
@@ -15,9 +13,7 @@ use std::alloc::Global;
 impl SqlShelves<MemStore> {
     /// A store in memory, with the shelf `common` alone.
     pub fn open_memory(alloc: Global) -> Result<SqlShelves<MemStore>, Refusal>
-        ensures honest { IfOk result (λ s. HasCleanDisk (state over_memory s.conn)) }
-        ensures stands { IfOk result (λ s. StandsFor (state over_memory s.conn) only_common) }
-        ensures left { IfOk result (λ s. LeavesEither (state over_memory s.conn) only_common only_common) }
+        ensures begins { IfOk result (λ s. BeginsAt (shown_of (state over_memory s.conn)) only_common) }
         ensures none_failed { IfOk result (λ s. s.failures ≡ 0) }
         ensures refused { IfErr result (λ refusal. refusal ≢ Refusal.BadSchema) }
     {

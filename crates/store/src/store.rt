@@ -6,8 +6,8 @@ ghost use Rattle.sqlite.specs.State.{HasCleanDisk};
 ghost use Rattle.shelf.specs.World.{only_common};
 ghost use Rattle.shelf.specs.Store.{GrewOrFull};
 ghost use Rattle.store.specs.Schema.{no_schema};
-ghost use Rattle.store.specs.Means.{StandsFor, StandFor};
-ghost use Rattle.store.specs.Calls.{LeavesEither};
+ghost use Rattle.store.specs.Means.{StandFor};
+ghost use Rattle.store.specs.Calls.{shown_of, BeginsAt};
 
 use crate::create::create;
 use crate::entries::{add_entry, count_entries, find_entry};
@@ -44,7 +44,6 @@ fn fault(failures: &mut u64, error: Error) -> StoreFault
 
 impl<S: Alter> Shelves for SqlShelves<S> {
     ghost use Rattle.std.proofs.Common.{inl, inr};
-    ghost use Rattle.store.specs.Calls.{shown_of};
 
     ghost shown = { λ s. shown_of (state S.Store s.conn) };
 
@@ -150,8 +149,8 @@ impl<S: Alter> SqlShelves<S> {
     /// Makes the tables on a connection that has none, with the shelf `common` alone. Where there are
     /// any, this is `BadSchema`, and nothing is done.
     pub fn adopt_empty(mut conn: Connection<S>) -> Result<SqlShelves<S>, (Refusal, Connection<S>)>
-        ensures made { IfOk result (λ s. HasCleanDisk (state S.Store s.conn) → IsTrue (state S.Store s.conn).is_open × StandsFor (state S.Store s.conn) only_common) }
-        ensures left { IfOk result (λ s. HasCleanDisk (state S.Store s.conn) → LeavesEither (state S.Store s.conn) only_common only_common) }
+        ensures is_open { IfOk result (λ s. HasCleanDisk (state S.Store s.conn) → IsTrue (state S.Store s.conn).is_open) }
+        ensures begins { IfOk result (λ s. HasCleanDisk (state S.Store s.conn) → BeginsAt (shown_of (state S.Store s.conn)) only_common) }
         ensures none_failed { IfOk result (λ s. s.failures ≡ 0) }
         // Where this is refused, the connection shows what it showed, and a crash leaves what it left before or the made tables.
         ensures kept { IfErr result (λ e. HasCleanDisk (state S.Store e.1) → IsTrue (state S.Store e.1).is_open → (state S.Store conn).now ≡ (state S.Store conn).committed → (state S.Store e.1).now ≡ (state S.Store conn).now) }

@@ -1,4 +1,4 @@
-use Rattle.std.proofs.Common.{Some, sym, subst, to_z-of_z, w64, SFits, rules}
+use Rattle.std.proofs.Common.{Some, subst, to_z-of_z, w64, SFits, rules}
 use Rattle.sqlite.specs.Held.{state}
 use Rattle.sqlite.specs.Effect.{Database}
 use Rattle.shelf.specs.declared.entry.Place.{Place}

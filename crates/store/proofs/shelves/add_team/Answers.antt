@@ -1,4 +1,4 @@
-use Rattle.std.proofs.Common.{◌≡◌, false, true, sym, ap, subst, ◌∙◌, rules}
+use Rattle.std.proofs.Common.{◌≡◌, false, true, sym, subst, ◌∙◌, rules}
 use Rattle.sqlite.specs.Held.{state}
 use Rattle.shelf.specs.declared.reply.Registered.TheVariants.{Done}
 use Rattle.shelf.specs.Machine.{team_added}

@@ -1,5 +1,4 @@
 use Rattle.std.proofs.Common.{refl, sym}
-use Rattle.sqlite.specs.Held.{state}
 use Rattle.store.proofs.shelves.judge_team.Goals as goal
 
 pub returns-then-branch-clause-answer : goal.returns-then-branch-clause-answer

@@ -5,6 +5,7 @@ Build the program first (`./goshelf --version`). Each line tells requests a seco
 and the peak memory of the run. With --quick the streams are a tenth as long.
 """
 
+import itertools
 import os
 import subprocess
 import sys
@@ -14,32 +15,38 @@ import time
 ROOT = os.path.dirname(os.path.dirname(os.path.abspath(__file__)))
 PROGRAM = os.path.join(ROOT, "crates", "goshelf", "out", "goshelf")
 KEY = "alphakey00000001"
+BLOCK = bytes(range(256)) * 256
 WORDS = ["answer", "--mem", "--team", "alpha", "--key", KEY]
 
 
-def put(path, version, zip_bytes=b""):
+def publish(path, version, zip_length=0):
+    """The parts of a PUT with a zip of that many bytes."""
     gomod = f"module {path}\n".encode()
-    head = (
+    yield (
         f"PUT /k/{KEY}/{path}/@v/{version} HTTP/1.1\r\n"
-        f"Mod-Length: {len(gomod)}\r\nContent-Length: {len(gomod) + len(zip_bytes)}\r\n\r\n"
-    )
-    return head.encode() + gomod + zip_bytes
+        f"Mod-Length: {len(gomod)}\r\nContent-Length: {len(gomod) + zip_length}\r\n\r\n"
+    ).encode() + gomod
+    while zip_length > 0:
+        yield BLOCK[: min(zip_length, len(BLOCK))]
+        zip_length -= len(BLOCK)
 
 
 def get(path, version, kind):
-    return f"GET /k/{KEY}/{path}/@v/{version}.{kind} HTTP/1.1\r\n\r\n".encode()
+    yield f"GET /k/{KEY}/{path}/@v/{version}.{kind} HTTP/1.1\r\n\r\n".encode()
 
 
-def versions(count):
-    """Paths and versions of that many entries, at most 4,000 to a path."""
-    for n in range(count):
-        yield f"example.com/m{n // 4000}", f"v1.0.{n % 4000}"
+def place(n):
+    """The path and the version of the nth entry, with at most 4,000 versions to a path."""
+    return f"example.com/m{n // 4000}", f"v1.0.{n % 4000}"
 
 
-def run(stream):
-    """Runs the program on a stream: its seconds, its peak memory in bytes, and the size and the beginning of its output."""
+def run(requests):
+    """Runs the program on a stream, which is written to a file part by part so that this process stays small:
+    a child's peak memory begins at its parent's."""
     with tempfile.TemporaryFile() as source, tempfile.TemporaryFile() as target:
-        source.write(stream)
+        for request in requests:
+            source.writelines(request)
+        sent = source.tell()
         source.seek(0)
         started = time.monotonic()
         child = subprocess.Popen([PROGRAM] + WORDS, stdin=source, stdout=target)
@@ -47,32 +54,25 @@ def run(stream):
         seconds = time.monotonic() - started
         if status != 0:
             sys.exit(f"the program ended with wait status {status}")
-        size = target.tell()
-        target.seek(0)
-        return seconds, usage.ru_maxrss * 1024, size, target.read(64)
+        return seconds, usage.ru_maxrss * 1024, sent, os.fstat(target.fileno()).st_size
 
 
-def report(name, requests, stream, seconds, memory, size):
+def measure(name, count, requests):
+    seconds, memory, sent, got = run(requests)
     print(
-        f"{name}: {requests / seconds:,.0f} requests/s, {len(stream) / seconds / 1e6:,.1f} MB/s in, "
-        f"{size / seconds / 1e6:,.1f} MB/s out, {seconds:.2f} s, peak {memory / 2**20:,.1f} MiB"
+        f"{name}: {count / seconds:,.0f} requests/s, {sent / seconds / 1e6:,.1f} MB/s in, "
+        f"{got / seconds / 1e6:,.1f} MB/s out, {seconds:.2f} s, peak {memory / 2**20:,.1f} MiB"
     )
-
-
-def measure(name, requests, stream):
-    seconds, memory, size, _ = run(stream)
-    report(name, requests, stream, seconds, memory, size)
-    return seconds, memory
+    return memory
 
 
 def gets_on_a_store(entries, gets):
     """Seconds of so many GETs on a store of so many versions, without the time that making the store takes."""
-    places = list(versions(entries))
-    made = b"".join(put(path, version) for path, version in places)
+    made = lambda: (publish(*place(n)) for n in range(entries))
     # The asked versions are spread over the store.
-    asked = b"".join(get(*places[n * 7919 % entries], "mod") for n in range(gets))
-    before, _, _, _ = run(made)
-    after, memory, _, _ = run(made + asked)
+    asked = (get(*place(n * 7919 % entries), "mod") for n in range(gets))
+    before, _, _, _ = run(made())
+    after, memory, _, _ = run(itertools.chain(made(), asked))
     seconds = max(after - before, 1e-9)
     print(
         f"{gets:,} GETs of a .mod on a store of {entries:,} versions: {gets / seconds:,.0f} requests/s "
@@ -87,18 +87,17 @@ def main():
         sys.exit("build the program first: ./goshelf --version")
 
     gets = 100_000 // scale
-    stream = put("example.com/lib", "v1.0.0") + get("example.com/lib", "v1.0.0", "mod") * gets
-    measure(f"{gets:,} GETs of one .mod", gets, stream)
+    one = [publish("example.com/lib", "v1.0.0")]
+    asked = (get("example.com/lib", "v1.0.0", "mod") for _ in range(gets))
+    measure(f"{gets:,} GETs of one .mod", gets, itertools.chain(one, asked))
 
     puts = 10_000 // scale
-    zip_bytes = bytes(range(256)) * 4
-    stream = b"".join(put(path, version, zip_bytes) for path, version in versions(puts))
-    measure(f"{puts:,} PUTs with 1 KiB zips", puts, stream)
+    measure(f"{puts:,} PUTs with 1 KiB zips", puts, (publish(*place(n), 1024) for n in range(puts)))
 
-    large = bytes(16 * 2**20)
-    stream = put("example.com/big", "v1.0.0", large) + get("example.com/big", "v1.0.0", "zip")
-    _, memory = measure("a PUT of a 16 MiB zip and its GET", 2, stream)
-    print(f"  that is {memory / len(large):.1f} times the zip")
+    length = 16 * 2**20
+    large = [publish("example.com/big", "v1.0.0", length), get("example.com/big", "v1.0.0", "zip")]
+    memory = measure("a PUT of a 16 MiB zip and its GET", 2, large)
+    print(f"  that is {memory / length:.1f} times the zip")
 
     few = gets_on_a_store(1_000, gets)
     many = gets_on_a_store(100_000 // scale, gets)

@@ -2,7 +2,7 @@
 use Rattle.std.proofs.Common.{◌≡◌, List, [], ◌∷◌, ◌++◌, refl, sym, subst}
 use Rattle.shelf.specs.World.{World}
 use Rattle.shelf.specs.Store.{Shown}
-use Rattle.engine.specs.Outcome.{Exchange, IsUnmet, AllUnmet}
+use Rattle.engine.specs.Outcome.{Exchange, AllUnmet}
 use Rattle.engine.specs.declared.outcome.Outcome.{Outcome}
 use Rattle.engine.specs.declared.outcome.Outcome.TheVariants.{Unasked, Met, Told}
 use Rattle.engine.specs.Store.{LeavesTwo, world_at}

@@ -1,5 +1,5 @@
 -- What the call for the first message says.
-use Rattle.std.proofs.Common.{◌≡◌, ℕ, inl, inr, List, [], ◌∷◌, ◌++◌, Option, Some, None, Result, Ok, Err, IfOk, refl, sym, ap, ◌∙◌, subst}
+use Rattle.std.proofs.Common.{◌≡◌, ℕ, List, ◌++◌, Option, Some, Result, Ok, Err, IfOk, sym, subst}
 use Rattle.std.specs.Io.KnownBytes.{Consumes}
 use Rattle.std.proofs.KnownBytes.{Consumes-trans}
 use Rattle.wire.specs.Message.{ReadsMessage}
@@ -10,7 +10,6 @@ use Rattle.wire.proofs.StreamLemmas.{ReadsMessage-append}
 use Rattle.shelf.specs.Store.{Shown}
 use Rattle.engine.specs.First.{First, Answers, Closes, IsFirst, TakesFirst, ServesFirst, first_bytes, first_status, first_exchanges}
 use Rattle.engine.specs.Outcome.{Exchange}
-use Rattle.engine.specs.Served.{IsClosing}
 use Rattle.engine.specs.Store.{GoesThrough}
 use Rattle.engine.specs.Turn.{ReadsOn, Takes, Delivers}
 use Rattle.engine.specs.declared.fault.Io.{Io}

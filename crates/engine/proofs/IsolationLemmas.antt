@@ -1,7 +1,7 @@
 -- A caller is told what it is told in every world that is the same to it.
-use Rattle.std.proofs.Common.{◌≡◌, ◌≢◌, ℕ, List, [], ◌∷◌, Option, Some, None, Result, Ok, Err, refl, sym, ap, ◌∙◌, subst}
+use Rattle.std.proofs.Common.{◌≡◌, ◌≢◌, ℕ, List, [], ◌∷◌, Option, Some, None, Result, Ok, Err, sym, ◌∙◌, subst}
 use Rattle.std.specs.Io.KnownBytes.{Appends}
-use Rattle.wire.specs.Message.{Request, ReadsMessage, Ends, clean, too_large, bad}
+use Rattle.wire.specs.Message.{Request, ReadsMessage, clean, too_large, bad}
 use Rattle.wire.specs.declared.reply.Fixed.{Fixed}
 use Rattle.wire.specs.declared.reply.Fixed.TheVariants.{TooLarge, BadRequest, Unavailable}
 use Rattle.wire.proofs.StreamLemmas.{message_unique, no_message_at_end}
@@ -13,7 +13,6 @@ use Rattle.shelf.proofs.Blind.{blind}
 use Rattle.engine.specs.Ask.{ask_of}
 use Rattle.engine.specs.First.{First, Answers, Closes, TakesFirst, ServesFirst, first_bytes, first_status, first_exchanges}
 use Rattle.engine.specs.Isolated.{IsToldByItsShelf, AnswersByItsShelf}
-use Rattle.engine.specs.Outcome.{Exchange}
 use Rattle.engine.specs.declared.outcome.Outcome.{Outcome}
 use Rattle.engine.specs.declared.outcome.Outcome.TheVariants.{Unasked, Met, Told}
 use Rattle.engine.specs.Reply.{bytes_of}

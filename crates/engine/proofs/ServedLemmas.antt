@@ -1,12 +1,11 @@
 -- What the whole call says, from what was answered so far.
-use Rattle.std.proofs.Common.{◌≡◌, ℕ, inl, inr, List, [], ◌∷◌, ◌++◌, Option, Some, None, Result, Ok, Err, refl, sym, ap, ◌∙◌, subst, append_assoc, append-nil}
-use Rattle.std.specs.Io.KnownBytes.{Consumes, Appends, IsAtEnd, Keeps}
+use Rattle.std.proofs.Common.{ℕ, inl, inr, List, [], ◌∷◌, ◌++◌, Option, Some, None, Result, Ok, Err, refl, sym, ap, ◌∙◌, subst}
+use Rattle.std.specs.Io.KnownBytes.{Consumes}
 use Rattle.std.proofs.KnownBytes.{Appends-trans, Consumes-trans, Consumes-nil}
 use Rattle.wire.specs.Framing.{Framing}
 use Rattle.wire.specs.declared.reply.Fixed.{Fixed}
 use Rattle.wire.proofs.StreamLemmas.{unfinished_nothing}
 use Rattle.shelf.specs.Store.{Shown}
-use Rattle.engine.specs.Reply.{text_of}
 use Rattle.engine.specs.Served.{Tells, IsClosing, closing_bytes, texts_of, Serves}
 use Rattle.engine.specs.Turn.{ReadsOn, Answered, CutShort, AnswersHeld, SoFar, Delivers}
 use Rattle.engine.specs.declared.fault.Io.{Io}

@@ -1,18 +1,15 @@
 -- A store goes through messages: none, one, and more after others.
-use Rattle.std.proofs.Common.{◌≡◌, ℕ, ◌≤◌, List, [], ◌∷◌, ◌++◌, map, refl, sym, subst, ap, ◌∙◌, inl, inr, Result, Ok, Err, arith, append-nil}
+use Rattle.std.proofs.Common.{◌≡◌, ℕ, ◌≤◌, List, [], ◌∷◌, ◌++◌, map, refl, sym, subst, ap, ◌∙◌, inl, inr, Ok, Err, arith, append-nil}
 use Rattle.std.proofs.lemmas.List.{map-append}
 use Rattle.wire.specs.Message.{Request}
 use Rattle.shelf.specs.declared.ask.Ask.{Ask}
-use Rattle.shelf.specs.declared.reply.Answer.TheVariants.{Replied, Failed}
 use Rattle.shelf.specs.declared.reply.Reply.{Reply}
 use Rattle.shelf.specs.declared.reply.StoreFault.{StoreFault}
-use Rattle.shelf.specs.declared.reply.StoreFault.TheVariants.{Memory, Device}
 use Rattle.shelf.specs.World.{World}
-use Rattle.shelf.specs.Machine.{ask_reply, after_ask, MetDevice, world_after}
-use Rattle.shelf.specs.Store.{Shown, Runs, Does, HasCause, GrewOrFull}
+use Rattle.shelf.specs.Machine.{ask_reply, after_ask}
+use Rattle.shelf.specs.Store.{Shown, Does, HasCause, GrewOrFull}
 use Rattle.engine.specs.Ask.{ask_of}
 use Rattle.engine.specs.Outcome.{Exchange, event_of, answer_of, AllUnmet}
-use Rattle.engine.specs.declared.outcome.Outcome.{Outcome}
 use Rattle.engine.specs.declared.outcome.Outcome.TheVariants.{Unasked, Met, Told}
 use Rattle.engine.specs.Store.{GoesThrough, LeavesTwo, world_at}
 use Rattle.engine.proofs.CrashLemmas.{leaves_kept, leaves_more}

@@ -1,11 +1,10 @@
 -- What was answered so far goes on.
-use Rattle.std.proofs.Common.{◌≡◌, ℕ, List, [], ◌∷◌, ◌++◌, Option, Some, None, map, refl, sym, ap, ◌∙◌, subst, append_assoc, append-nil}
-use Rattle.std.specs.List.{flat_map}
-use Rattle.std.specs.Io.KnownBytes.{Consumes, Appends}
+use Rattle.std.proofs.Common.{◌≡◌, ℕ, List, [], ◌∷◌, ◌++◌, Option, map, refl, sym, ap, ◌∙◌, subst, append_assoc, append-nil}
+use Rattle.std.specs.Io.KnownBytes.{Appends}
 use Rattle.std.proofs.KnownBytes.{Appends-trans, Appends-nil}
 use Rattle.std.proofs.lemmas.List.{map-append}
 use Rattle.std.proofs.lemmas.Grind.{flat_map-append}
-use Rattle.wire.specs.Message.{Request, ReadsMessage, ReadsMessages}
+use Rattle.wire.specs.Message.{ReadsMessage, ReadsMessages}
 use Rattle.shelf.specs.Store.{Shown}
 use Rattle.engine.specs.Outcome.{Exchange, message_of}
 use Rattle.engine.specs.Reply.{text_of}

@@ -1,5 +1,5 @@
 -- What a message asks of the machine.
-use Rattle.std.specs.Prelude.{ℕ, List, [], ◌∷◌, Bool, ◌&&◌, not, if◌then◌else◌, Option, Some, None, nat_le, nat_lt, nat_eq, length, take, drop, slice_index, map}
+use Rattle.std.specs.Prelude.{ℕ, List, [], ◌∷◌, Bool, ◌&&◌, not, if◌then◌else◌, Option, Some, None, nat_le, nat_lt, nat_eq, length, take, drop, slice_index}
 use Rattle.std.specs.List.{list_all}
 use Rattle.std.specs.Char.{is_ascii_digit}
 use Rattle.std.specs.Str.Parse.{digits_value}

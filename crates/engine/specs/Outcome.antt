@@ -1,5 +1,5 @@
 -- What became of a message.
-use Rattle.std.specs.Prelude.{List, [], ◌∷◌, map}
+use Rattle.std.specs.Prelude.{List, [], ◌∷◌}
 use Rattle.wire.specs.Message.{Request}
 use Rattle.shelf.specs.declared.ask.Event.{Event}
 use Rattle.shelf.specs.declared.reply.Answer.{Answer}

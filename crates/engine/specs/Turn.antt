@@ -3,7 +3,6 @@ use Rattle.std.specs.Prelude.{◌≡◌, ◌≢◌, ℕ, ◌≤◌, ◌⊎◌, L
 use Rattle.std.specs.Io.KnownBytes.{Consumes, Appends, Keeps}
 use Rattle.wire.specs.Message.{ReadsMessage, ReadsMessages}
 use Rattle.wire.specs.Framing.{Framing, IsUnfinished, HasMessage, view}
-use Rattle.wire.specs.declared.reply.Fixed.{Fixed}
 use Rattle.wire.specs.declared.reply.Fixed.TheVariants as fixed
 use Rattle.shelf.specs.Store.{Shown}
 use Rattle.engine.specs.Outcome.{Exchange, message_of}

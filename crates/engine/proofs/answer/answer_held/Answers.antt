@@ -1,4 +1,3 @@
-use Rattle.std.proofs.Common.{◌∷◌, []}
 use Rattle.wire.specs.Framing.{view}
 use Rattle.engine.specs.Outcome.{Exchange}
 use Rattle.std.proofs.lemmas.Result.{err_from_is_err_and}

@@ -1,5 +1,4 @@
-use Rattle.std.proofs.Common.{◌≡◌, ◌<◌, ◌≤◌, take, ◌^◌, length, All}
-use Rattle.std.specs.Char.{IsAsciiDigit}
+use Rattle.std.proofs.Common.{◌≡◌, ◌<◌, take, ◌^◌}
 use Rattle.std.specs.Str.Parse.{digits_value}
 use Rattle.engine.proofs.ask.length_value.Given as goal
 

@@ -1,0 +1,195 @@
+-- What stands above a line, by its directives.
+use Rattle.std.proofs.Common.{◌≡◌, ℕ, ◌+◌, ◌<◌, ◌≤◌, Bool, true, false, not, ◌&&◌, ◌||◌, List, [], ◌∷◌, ◌++◌, map, filter, length, refl, ap, sym, ◌∙◌, arith, append-nil, Option, Some, None, ◌⊎◌, inl, inr, ⊎_elim}
+use Rattle.std.specs.List.{list_any}
+use Rattle.std.proofs.lemmas.List.Folds.{list_any-append}
+use Rattle.gomod.specs.declared.keyword.Keyword.{Keyword}
+use Rattle.gomod.specs.declared.keyword.Keyword.TheVariants.{Module, Go, Require, Exclude, Replace, Retract}
+use Rattle.gomod.specs.Symbols.{Keywords, is_module, is_go, has_block}
+use Rattle.gomod.specs.Reading.{Context, has_stood, with_entry}
+use Rattle.gomod.specs.Grammar.{Row, Directive, OpenBlock, keyword_of, keywords_in, is_keyword, is_single, AreWritten, IsOpenBlock}
+use Rattle.gomod.specs.Faults.{HasRoom, IsFilled}
+use Rattle.gomod.proofs.Lists.{map-join, filter-join, none-any, length-join}
+use Rattle.gomod.proofs.Moves.{IsFresh, closed, with_row}
+
+-- whether a directive of the keyword stands above
+abbrev pub stands : Keyword → List Directive → Bool
+stands k ds = list_any (is_keyword k) (map keyword_of ds)
+
+abbrev pub has_entry : List Row → Bool
+has_entry [] = false
+has_entry (r ∷ rs) = true
+
+-- the context behind directives and an open block
+abbrev pub context_at : List Directive → Option OpenBlock → Context
+context_at ds None = record { block = None; has_module = stands Module ds; has_go = stands Go ds }
+context_at ds (Some b) = record { block = Some b.keyword; has_module = stands Module ds || (is_module b.keyword && has_entry b.entries); has_go = stands Go ds }
+
+pub module_same : (k : Keyword) → is_keyword Module k ≡ is_module k
+module_same Module = refl
+module_same Go = refl
+module_same Require = refl
+module_same Exclude = refl
+module_same Replace = refl
+module_same Retract = refl
+
+pub go_same : (k : Keyword) → is_keyword Go k ≡ is_go k
+go_same Module = refl
+go_same Go = refl
+go_same Require = refl
+go_same Exclude = refl
+go_same Replace = refl
+go_same Retract = refl
+
+pub block_no_go : (k : Keyword) → has_block k ≡ true → is_go k ≡ false
+block_no_go Module h = refl
+block_no_go Go h = cc
+block_no_go Require h = refl
+block_no_go Exclude h = refl
+block_no_go Replace h = refl
+block_no_go Retract h = refl
+
+-- a keyword that may stand once and does not stand above
+pub fresh-stood : (ds : List Directive) (k : Keyword) → IsFresh ds k → has_stood (context_at ds None) k ≡ false
+fresh-stood ds Module h = h refl
+fresh-stood ds Go h = h refl
+fresh-stood ds Require h = refl
+fresh-stood ds Exclude h = refl
+fresh-stood ds Replace h = refl
+fresh-stood ds Retract h = refl
+
+pub stood-fresh : (ds : List Directive) (k : Keyword) → has_stood (context_at ds None) k ≡ false → IsFresh ds k
+stood-fresh ds Module h = λ only. h
+stood-fresh ds Go h = λ only. h
+stood-fresh ds Require h = λ only. cc
+stood-fresh ds Exclude h = λ only. cc
+stood-fresh ds Replace h = λ only. cc
+stood-fresh ds Retract h = λ only. cc
+
+pub stood-repeated : (ds : List Directive) (k : Keyword) → has_stood (context_at ds None) k ≡ true → (is_single k ≡ true) × (stands k ds ≡ true)
+stood-repeated ds Module h = (refl, h)
+stood-repeated ds Go h = (refl, h)
+stood-repeated ds Require h = cc
+stood-repeated ds Exclude h = cc
+stood-repeated ds Replace h = cc
+stood-repeated ds Retract h = cc
+
+or_none : (a : Bool) → (a || false) ≡ a
+or_none true = refl
+or_none false = refl
+
+and_none : (a : Bool) → (a && false) ≡ false
+and_none true = refl
+and_none false = refl
+
+and_one : (a : Bool) → (a && true) ≡ a
+and_one true = refl
+and_one false = refl
+
+pub stands-more : (j : Keyword) (ds : List Directive) (d : Directive) → stands j (ds ++ d ∷ []) ≡ (stands j ds || is_keyword j (keyword_of d))
+stands-more j ds d =
+    ap (list_any (is_keyword j)) (map-join keyword_of ds (d ∷ [])) ∙ list_any-append (is_keyword j) (map keyword_of ds) (keyword_of d ∷ [])
+    ∙ ap (λ b. stands j ds || b) (or_none (is_keyword j (keyword_of d)))
+
+-- a directive on one line
+pub context-single : (ds : List Directive) (k : Keyword) (d : Directive) → keyword_of d ≡ k → with_entry (context_at ds None) k ≡ context_at (ds ++ d ∷ []) None
+context-single ds k d is = λ i. record {
+  block = None;
+  has_module = (ap (λ b. stands Module ds || b) (sym (module_same k) ∙ ap (is_keyword Module) (sym is)) ∙ sym (stands-more Module ds d)) i;
+  has_go = (ap (λ b. stands Go ds || b) (sym (go_same k) ∙ ap (is_keyword Go) (sym is)) ∙ sym (stands-more Go ds d)) i;
+}
+
+-- a block begins
+pub context-begins : (ds : List Directive) (k : Keyword) (line : ℕ) → ◌≡◌ {A = Context} (record { block = Some k; has_module = stands Module ds; has_go = stands Go ds }) (context_at ds (Some (record { keyword = k; first = line; entries = [] })))
+context-begins ds k line = λ i. record {
+  block = Some k;
+  has_module = (sym (or_none (stands Module ds)) ∙ ap (λ b. stands Module ds || b) (sym (and_none (is_module k)))) i;
+  has_go = stands Go ds;
+}
+
+some_entry : (rs : List Row) (r : Row) → has_entry (rs ++ r ∷ []) ≡ true
+some_entry [] r = refl
+some_entry (x ∷ rs) r = refl
+
+absorbs : (s m x : Bool) → ((s || (m && x)) || m) ≡ (s || m)
+absorbs true m x = refl
+absorbs false true true = refl
+absorbs false true false = refl
+absorbs false false x = refl
+
+-- an entry of a block
+pub context-inside : (ds : List Directive) (b : OpenBlock) (r : Row) → has_block b.keyword ≡ true → with_entry (context_at ds (Some b)) b.keyword ≡ context_at ds (Some (with_row b r))
+context-inside ds b r h = λ i. record {
+  block = Some b.keyword;
+  has_module = (absorbs (stands Module ds) (is_module b.keyword) (has_entry b.entries) ∙ ap (λ x. stands Module ds || x) (sym (and_one (is_module b.keyword)) ∙ ap (λ x. is_module b.keyword && x) (sym (some_entry b.entries r)))) i;
+  has_go = (ap (λ x. stands Go ds || x) (block_no_go b.keyword h) ∙ or_none (stands Go ds)) i;
+}
+
+filled_entry : (m : Bool) (rs : List Row) → (m ≡ true → 0 < length rs) → (m && has_entry rs) ≡ m
+filled_entry true [] h = absurd (let e = h refl in omega (arith, e))
+filled_entry true (r ∷ rs) h = refl
+filled_entry false rs h = refl
+
+-- a block ends
+pub context-closes : (ds : List Directive) (b : OpenBlock) (line : ℕ) → has_block b.keyword ≡ true → IsFilled b → ◌≡◌ {A = Context} (record { block = None; has_module = (context_at ds (Some b)).has_module; has_go = stands Go ds }) (context_at (ds ++ closed b line ∷ []) None)
+context-closes ds b line h filled = λ i. record {
+  block = None;
+  has_module = (ap (λ x. stands Module ds || x) (filled_entry (is_module b.keyword) b.entries filled ∙ sym (module_same b.keyword)) ∙ sym (stands-more Module ds (closed b line))) i;
+  has_go = (sym (or_none (stands Go ds)) ∙ ap (λ x. stands Go ds || x) (sym (block_no_go b.keyword h) ∙ sym (go_same b.keyword)) ∙ sym (stands-more Go ds (closed b line))) i;
+}
+
+-- where a block of module is open, no other module stands above
+abbrev pub IsAlone : List Directive → Option OpenBlock → Type 0
+IsAlone ds None = Unit {0}
+IsAlone ds (Some b) = (has_block b.keyword ≡ true) × (is_module b.keyword ≡ true → stands Module ds ≡ false)
+
+alone_by : (ds : List Directive) (b : OpenBlock) → length (filter (is_keyword Module) (map keyword_of ds ++ b.keyword ∷ [])) ≤ 1 → is_module b.keyword ≡ true → stands Module ds ≡ false
+alone_by ds b few is =
+    let same : is_keyword Module b.keyword ≡ true = module_same b.keyword ∙ is in
+    let one_more : length (filter (is_keyword Module) (b.keyword ∷ [])) ≡ 1 = rw same refl in
+    let join = filter-join (is_keyword Module) (map keyword_of ds) (b.keyword ∷ []) in
+    none-any (is_keyword Module) (map keyword_of ds)
+    (omega (arith, few, ap length join, length-join (filter (is_keyword Module) (map keyword_of ds)) (filter (is_keyword Module) (b.keyword ∷ [])), one_more))
+
+pub written-alone : (known : Keywords) (rows : List Row) (ds : List Directive) (o : Option OpenBlock) → AreWritten known rows ds o → IsAlone ds o
+written-alone known rows ds None w = tt
+written-alone known rows ds (Some b) w = (w.open_block.0, alone_by ds b (w.single Module refl))
+
+-- what the context of an open block of module says of its entries
+no_entry : (rs : List Row) → has_entry rs ≡ false → rs ≡ []
+no_entry [] h = refl
+no_entry (r ∷ rs) h = cc
+
+any_entry : (rs : List Row) → has_entry rs ≡ true → 0 < length rs
+any_entry [] h = cc
+any_entry (r ∷ rs) h = omega arith
+
+entry_any : (rs : List Row) → 0 < length rs → has_entry rs ≡ true
+entry_any [] h = absurd (omega (arith, h))
+entry_any (r ∷ rs) h = refl
+
+module_entry_is : (ds : List Directive) (b : OpenBlock) → IsAlone ds (Some b) → is_module b.keyword ≡ true → (context_at ds (Some b)).has_module ≡ has_entry b.entries
+module_entry_is ds b alone is = let none = alone.1 is in rw (none, is) refl
+
+pub room-context : (ds : List Directive) (b : OpenBlock) → IsAlone ds (Some b) → HasRoom b → (is_module b.keyword && (context_at ds (Some b)).has_module) ≡ false
+room-context ds b alone room = by_module (is_module b.keyword) refl
+  where
+    by_module : (m : Bool) → is_module b.keyword ≡ m → (m && (context_at ds (Some b)).has_module) ≡ false
+    by_module true is = module_entry_is ds b alone is ∙ ap has_entry (room is)
+    by_module false is = refl
+
+pub context-room : (ds : List Directive) (b : OpenBlock) → IsAlone ds (Some b) → (is_module b.keyword && (context_at ds (Some b)).has_module) ≡ false → HasRoom b
+context-room ds b alone h is = no_entry b.entries (sym (module_entry_is ds b alone is) ∙ ap (λ m. m && (context_at ds (Some b)).has_module) (sym is) ∙ h)
+
+pub filled-context : (ds : List Directive) (b : OpenBlock) → IsAlone ds (Some b) → IsFilled b → (is_module b.keyword && not (context_at ds (Some b)).has_module) ≡ false
+filled-context ds b alone filled = by_module (is_module b.keyword) refl
+  where
+    by_module : (m : Bool) → is_module b.keyword ≡ m → (m && not (context_at ds (Some b)).has_module) ≡ false
+    by_module true is = ap not (module_entry_is ds b alone is ∙ entry_any b.entries (filled is))
+    by_module false is = refl
+
+pub context-filled : (ds : List Directive) (b : OpenBlock) → IsAlone ds (Some b) → (is_module b.keyword && not (context_at ds (Some b)).has_module) ≡ false → IsFilled b
+context-filled ds b alone h is = any_entry b.entries (sym (module_entry_is ds b alone is) ∙ not_not (context_at ds (Some b)).has_module (ap (λ m. m && not (context_at ds (Some b)).has_module) (sym is) ∙ h))
+  where
+    not_not : (x : Bool) → not x ≡ false → x ≡ true
+    not_not true e = refl
+    not_not false e = cc

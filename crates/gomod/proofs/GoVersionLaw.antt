@@ -1,0 +1,140 @@
+-- The test of a Go version passes just those that are ones by their parts.
+use Rattle.std.proofs.Common.{◌≡◌, ◌↔◌, ℕ, zero, suc, ◌+◌, ◌<◌, ◌≤◌, Bool, true, false, ◌&&◌, ◌||◌, ◌==◌, cond, List, [], ◌∷◌, ◌++◌, length, take, drop, codes, arith, add-one, refl, ap, sym, ◌∙◌, subst, append_assoc, length-append, ◌⊎◌, inl, inr, ⊎_elim, nat_eq, rules, tests}
+use Rattle.std.specs.List.{list_all, starts_with}
+use Rattle.std.specs.Char.{is_ascii_digit}
+use Rattle.std.specs.Str.{bytes_eq}
+use Rattle.std.proofs.lemmas.Slice.Eq.{bytes_eq-Decides}
+use Rattle.std.proofs.lemmas.List.{take_at, drop_at}
+use Rattle.std.proofs.lemmas.Bool.{and_parts, and_from, or_cases, cases_Bool, ltb-true, lt-ltb, eqb-true}
+use Rattle.gomod.specs.GoVersion.{is_decimal, is_tail, is_minor, digits_len, dot_at, is_go_version}
+use Rattle.gomod.specs.GoVersions.{IsDecimal, IsTail, IsGoVersion}
+
+split_at : (n : ℕ) (xs : List ℕ) → take n xs ++ drop n xs ≡ xs
+split_at zero [] = refl
+split_at zero (x ∷ xs) = refl
+split_at (suc n) [] = refl
+split_at (suc n) (x ∷ xs) = ap (λ l. x ∷ l) (split_at n xs)
+
+-- a text round its first dot
+dot_split : (text : List ℕ) → dot_at text < length text → text ≡ take (dot_at text) text ++ 46 ∷ drop (dot_at text + 1) text
+dot_split [] h = absurd (omega (arith, h))
+dot_split (b ∷ bs) h =
+    ⊎_elim
+    (λ yes.
+    let here : dot_at (b ∷ bs) ≡ 0 = rw yes refl in
+    subst (λ n. b ∷ bs ≡ take n (b ∷ bs) ++ 46 ∷ drop (n + 1) (b ∷ bs)) (sym here) (ap (λ x. x ∷ bs) (eqb-true b 46 yes)))
+    (λ no.
+    let here : dot_at (b ∷ bs) ≡ suc (dot_at bs) = rw no (add-one (dot_at bs)) in
+    let number : suc (dot_at bs + 1) ≡ suc (dot_at bs) + 1 = omega arith in
+    let more = dot_split bs (omega (arith, h, here)) in
+    subst (λ n. b ∷ bs ≡ take n (b ∷ bs) ++ 46 ∷ drop (n + 1) (b ∷ bs)) (sym here)
+    (ap (λ l. b ∷ l) more ∙ ap (λ n. b ∷ (take (dot_at bs) bs ++ 46 ∷ drop n (b ∷ bs))) number))
+    (cases_Bool (b == 46))
+
+digit_no_dot : (b : ℕ) → is_ascii_digit b ≡ true → (b == 46) ≡ false
+digit_no_dot b h = search (rules, tests)
+
+dot_at-digits : (a r : List ℕ) → list_all is_ascii_digit a ≡ true → dot_at (a ++ 46 ∷ r) ≡ length a
+dot_at-digits [] r h = refl
+dot_at-digits (b ∷ a) r h =
+    let parts = and_parts (is_ascii_digit b) (list_all is_ascii_digit a) h in
+    let no = digit_no_dot b parts.0 in
+    let more = dot_at-digits a r parts.1 in
+    let here : dot_at (b ∷ (a ++ 46 ∷ r)) ≡ dot_at (a ++ 46 ∷ r) + 1 = rw no refl in
+    omega (arith, more, here)
+
+digits_len-front : (b tail : List ℕ) → list_all is_ascii_digit b ≡ true → digits_len tail ≡ 0 → digits_len (b ++ tail) ≡ length b
+digits_len-front [] tail h none = none
+digits_len-front (x ∷ b) tail h none =
+    let parts = and_parts (is_ascii_digit x) (list_all is_ascii_digit b) h in
+    let yes = parts.0 in
+    let more = digits_len-front b tail parts.1 none in
+    let here : digits_len (x ∷ (b ++ tail)) ≡ digits_len (b ++ tail) + 1 = rw yes refl in
+    omega (arith, more, here)
+
+decimal_digits : (a : List ℕ) → is_decimal a ≡ true → list_all is_ascii_digit a ≡ true
+unfolding is_decimal
+decimal_digits [] h = refl
+decimal_digits (b ∷ bs) h = (and_parts (list_all is_ascii_digit (b ∷ bs)) _ h).0
+
+tail_no_digit : (tail : List ℕ) → IsTail tail → digits_len tail ≡ 0
+tail_no_digit tail h =
+    ⊎_elim (λ none. ap digits_len none)
+    (λ x. ⊎_elim (λ e. ap digits_len e) (λ y. ⊎_elim (λ e. ap digits_len e) (λ e. ap digits_len e) y) x.2)
+    h
+
+is_tail-from : (tail : List ℕ) → IsTail tail → is_tail tail ≡ true
+unfolding is_tail
+is_tail-from tail h =
+    ⊎_elim (λ none. ap is_tail none)
+    (λ x.
+    let decimal = x.1 in
+    ⊎_elim
+    (λ e. ap is_tail e ∙ rw decimal refl)
+    (λ y. ⊎_elim (λ e. ap is_tail e ∙ rw decimal refl) (λ e. ap is_tail e ∙ rw decimal refl) y)
+    x.2)
+    h
+
+starts : (tail p : List ℕ) → starts_with nat_eq tail p ≡ true → tail ≡ p ++ drop (length p) tail
+starts tail p h =
+    let front = (bytes_eq-Decides p (take (length p) tail)).0 h in
+    sym (split_at (length p) tail) ∙ ap (λ l. l ++ drop (length p) tail) (sym front)
+
+tail_parts : (tail : List ℕ) → is_tail tail ≡ true → IsTail tail
+unfolding is_tail
+tail_parts tail h =
+    ⊎_elim
+    (λ a. ⊎_elim
+    (λ b. ⊎_elim
+    (λ none. inl ((bytes_eq-Decides tail []).0 none))
+    (λ dot. (let x = and_parts (starts_with nat_eq tail (codes ".")) (is_decimal (drop 1 tail)) dot in inr (drop 1 tail, x.1, inl (starts tail (codes ".") x.0))))
+    (or_cases _ _ b))
+    (λ rc. (let x = and_parts (starts_with nat_eq tail (codes "rc")) (is_decimal (drop 2 tail)) rc in inr (drop 2 tail, x.1, inr (inl (starts tail (codes "rc") x.0)))))
+    (or_cases _ _ a))
+    (λ beta. (let x = and_parts (starts_with nat_eq tail (codes "beta")) (is_decimal (drop 4 tail)) beta in inr (drop 4 tail, x.1, inr (inr (starts tail (codes "beta") x.0)))))
+    (or_cases _ _ h)
+
+minor_from : (b tail : List ℕ) → is_decimal b ≡ true → IsTail tail → is_minor (b ++ tail) ≡ true
+unfolding is_minor
+minor_from b tail hb ht =
+    let len = digits_len-front b tail (decimal_digits b hb) (tail_no_digit tail ht) in
+    and_from (is_decimal (take (digits_len (b ++ tail)) (b ++ tail))) (is_tail (drop (digits_len (b ++ tail)) (b ++ tail)))
+    (ap (λ n. is_decimal (take n (b ++ tail))) len ∙ ap is_decimal (take_at b tail (length b) refl) ∙ hb)
+    (ap (λ n. is_tail (drop n (b ++ tail))) len ∙ ap is_tail (drop_at b tail (length b) refl) ∙ is_tail-from tail ht)
+
+version_from : (a b tail : List ℕ) → is_decimal a ≡ true → is_decimal b ≡ true → IsTail tail → is_go_version (a ++ 46 ∷ (b ++ tail)) ≡ true
+unfolding is_go_version
+version_from a b tail ha hb ht =
+    let rest : List ℕ = b ++ tail in
+    let len : dot_at (a ++ 46 ∷ rest) ≡ length a = dot_at-digits a rest (decimal_digits a ha) in
+    let size = length-append a (46 ∷ rest) in
+    let cut : drop (length a + 1) (a ++ 46 ∷ rest) ≡ rest =
+    ap (drop (length a + 1)) (sym (append_assoc a (46 ∷ []) rest)) ∙ drop_at (a ++ 46 ∷ []) rest (length a + 1) (length-append a (46 ∷ [])) in
+    and_from _ _
+    (and_from _ _
+    (lt-ltb (dot_at (a ++ 46 ∷ rest)) (length (a ++ 46 ∷ rest)) (omega (arith, len, size)))
+    (ap (λ n. is_decimal (take n (a ++ 46 ∷ rest))) len ∙ ap is_decimal (take_at a (46 ∷ rest) (length a) refl) ∙ ha))
+    (ap (λ n. is_minor (drop (n + 1) (a ++ 46 ∷ rest))) len ∙ ap is_minor cut ∙ minor_from b tail hb ht)
+
+version_parts : (text : List ℕ) → is_go_version text ≡ true → IsGoVersion text
+unfolding is_go_version is_minor
+version_parts text h =
+    let outer = and_parts _ _ h in
+    let inner = and_parts _ _ outer.0 in
+    let rest : List ℕ = drop (dot_at text + 1) text in
+    let behind = and_parts (is_decimal (take (digits_len rest) rest)) (is_tail (drop (digits_len rest) rest)) outer.1 in
+    record {
+      major = take (dot_at text) text;
+      minor = take (digits_len rest) rest;
+      tail = drop (digits_len rest) rest;
+      is_major = inner.1;
+      is_minor = behind.0;
+      is_tail = tail_parts (drop (digits_len rest) rest) behind.1;
+      spelled = dot_split text (ltb-true (dot_at text) (length text) inner.0) ∙ ap (λ l. take (dot_at text) text ++ 46 ∷ l) (sym (split_at (digits_len rest) rest));
+    }
+
+pub is_go_version-exact : (text : List ℕ) → (is_go_version text ≡ true) ↔ IsGoVersion text
+is_go_version-exact text = (
+  λ h. version_parts text h,
+  λ v. ap is_go_version v.spelled ∙ version_from v.major v.minor v.tail v.is_major v.is_minor v.is_tail,
+)

@@ -1,0 +1,236 @@
+-- What is computed of a line is what it makes of the directives above it.
+use Rattle.std.proofs.Common.{◌≡◌, ℕ, ◌+◌, ◌<◌, Bool, true, false, not, ◌&&◌, ◌||◌, cond, List, [], ◌∷◌, ◌++◌, map, length, refl, ap, sym, ◌∙◌, subst, Option, Some, None, Result, Ok, Err, codes, ◌⊎◌, inl, inr, ⊎_elim}
+use Rattle.std.specs.List.{list_all, AllByRecursion}
+use Rattle.gomod.specs.declared.lexer.Kind.{Kind}
+use Rattle.gomod.specs.declared.lexer.Kind.TheVariants as kinds
+use Rattle.gomod.specs.declared.keyword.Keyword.{Keyword}
+use Rattle.gomod.specs.declared.fault.GoModFault.{GoModFault}
+use Rattle.gomod.specs.declared.fault.GoModFault.TheVariants as faults
+use Rattle.gomod.specs.Symbols.{Symbol, Keywords, keyword_named, spelling, is_module, has_block, is_name_kind, opens_block_kind, closes_block_kind}
+use Rattle.gomod.specs.Reading.{Context, Parts, nothing, last_path, ◌⊕◌, ◌>>=◌, has_stood, header, with_entry, entry, entry_says, is_opening, is_closing, directive, line_outside, line_inside, line_says}
+use Rattle.gomod.specs.declared.keyword.Keyword.TheVariants.{Module}
+use Rattle.gomod.specs.Reads.{Pointwise}
+use Rattle.gomod.specs.Entries.{IsRight, IsModuleEntry}
+use Rattle.gomod.specs.Grammar.{Row, row, keyword_symbol, left, right, Directive, one, OpenBlock, opening, closing, Item, item, entries_under, IsKnown}
+use Rattle.gomod.specs.Faults.{HasRoom, IsFilled, IsKeyword}
+use Rattle.gomod.proofs.Steps.{chosen, guarded, bound, ok_same}
+use Rattle.gomod.proofs.Moves.{Move, blank, single, begins, inside, closes, with_row, closed, IsFresh, keywords_more, items_more}
+use Rattle.gomod.proofs.EntryMeaning.{AreMeant, path_list, entry_means}
+use Rattle.gomod.proofs.EntryRight.{entry_right, right_entry, shape_no_opening, shape_no_closing, named_spelling}
+use Rattle.gomod.proofs.Contexts.{context_at, IsAlone, fresh-stood, stood-fresh, context-single, context-begins, context-inside, context-closes, room-context, context-room, filled-context, context-filled}
+
+-- ---- a move is computed
+
+last_path-none : (p : Option (List ℕ)) → last_path None p ≡ p
+last_path-none None = refl
+last_path-none (Some x) = refl
+
+-- what a line says of the entries and keywords that it adds
+pub record Says (known : Keywords) (line : ℕ) (c d : Context) (ts : List Symbol) (is : List Item) (ks : List Keyword) : Type 0 where
+  pub said : Parts
+  pub is_said : line_says known line c ts ≡ Ok (d, said)
+  pub meant : AreMeant is said
+  pub bare : said.bare ≡ list_all is_module ks
+
+-- a line that begins with a keyword
+outside_is : (known : Keywords) (line : ℕ) (ds : List Directive) (k : Keyword) (ts : List Symbol) → IsKnown known k → line_says known line (context_at ds None) (keyword_symbol k ∷ ts) ≡ directive line (context_at ds None) k ts
+unfolding line_says line_outside
+outside_is known line ds k ts known_k = rw known_k refl
+
+directive_entry : (line : ℕ) (c : Context) (k : Keyword) (ts : List Symbol) (q : Parts) → has_stood c k ≡ false → is_opening ts ≡ false → entry line k ts ≡ Ok q → directive line c k ts ≡ Ok (with_entry c k, header k ⊕ q)
+unfolding directive
+directive_entry line c k ts q fresh no_opening is =
+    let other : (has_block k && is_opening ts) ≡ false = ap (λ b. has_block k && b) no_opening ∙ and_none (has_block k) in
+    let said : entry_says line c k ts ≡ Ok (with_entry c k, q) = ap (λ r. r >>= (λ p. Ok (with_entry c k, p))) is in
+    rw (fresh, other) (ap (λ r. r >>= (λ x. Ok (x.0, header k ⊕ x.1))) said)
+  where
+    and_none : (a : Bool) → (a && false) ≡ false
+    and_none true = refl
+    and_none false = refl
+
+directive_begins : (line : ℕ) (ds : List Directive) (k : Keyword) → IsFresh ds k → has_block k ≡ true → directive line (context_at ds None) k (left ∷ []) ≡ Ok (context_at ds (Some (record { keyword = k; first = line; entries = [] })), header k)
+unfolding directive
+directive_begins line ds k fresh h =
+    let stood = fresh-stood ds k fresh in
+    rw (stood, h) (ap (λ c. Ok (c, header k)) (context-begins ds k line))
+
+meant_behind : (k : Keyword) (is : List Item) (q : Parts) → AreMeant is q → AreMeant is (header k ⊕ q)
+meant_behind k is q m = record {
+  paths = subst (λ p. Pointwise (λ e x. IsModuleEntry e.symbols x) (entries_under Module is) (path_list p)) (sym (last_path-none q.module_path)) m.paths;
+  required = m.required;
+  retractions = m.retractions;
+}
+
+inside_entry : (known : Keywords) (line : ℕ) (ds : List Directive) (b : OpenBlock) (t : Symbol) (ts : List Symbol) (q : Parts) → IsAlone ds (Some b) → HasRoom b → is_closing (t ∷ ts) ≡ false → entry line b.keyword (t ∷ ts) ≡ Ok q → line_says known line (context_at ds (Some b)) (t ∷ ts) ≡ Ok (context_at ds (Some (with_row b (row line (t ∷ ts)))), q)
+unfolding line_says line_inside
+inside_entry known line ds b t ts q alone room no_closing is =
+    let has_room = room-context ds b alone room in
+    rw (no_closing, has_room) (ap (λ r. r >>= (λ p. Ok (with_entry (context_at ds (Some b)) b.keyword, p))) is ∙ ap (λ c. Ok (c, q)) (context-inside ds b (row line (t ∷ ts)) alone.0))
+
+inside_closes : (known : Keywords) (line : ℕ) (ds : List Directive) (b : OpenBlock) → IsAlone ds (Some b) → IsFilled b → line_says known line (context_at ds (Some b)) (right ∷ []) ≡ Ok (context_at (ds ++ closed b line ∷ []) None, nothing)
+unfolding line_says line_inside
+inside_closes known line ds b alone filled =
+    let full = filled-context ds b alone filled in
+    rw full (ap (λ c. Ok (c, nothing)) (context-closes ds b line alone.0 filled))
+
+and_itself : (a b : Bool) → b ≡ true → (a && b) ≡ (a && true)
+and_itself a b h = ap (λ x. a && x) h
+
+pub move_says : {known : Keywords} {ds es : List Directive} {o p : Option OpenBlock} {r : Row} (m : Move known ds o r es p) → IsAlone ds o → Says known r.line (context_at ds o) (context_at es p) r.symbols (items_more m) (keywords_more m)
+unfolding line_says
+move_says (blank ds o line) alone = record { said = nothing; is_said = refl; meant = record { paths = tt; required = tt; retractions = tt }; bare = refl }
+move_says {known = known} (single ds line k ts known_k fresh is_right) alone =
+    let q = right_entry line k ts is_right in
+    let means = entry_means line k ts q.0 q.1 in
+    record {
+      said = header k ⊕ q.0;
+      is_said = outside_is known line ds k ts known_k ∙ directive_entry line (context_at ds None) k ts q.0 (fresh-stood ds k fresh) (shape_no_opening k ts is_right.0 is_right.1) q.1 ∙ ap (λ c. Ok (c, header k ⊕ q.0)) (context-single ds k (one k (row line ts)) refl);
+      meant = meant_behind k (item k (row line ts) ∷ []) q.0 means.0;
+      bare = and_itself (is_module k) q.0.bare means.1;
+    }
+move_says {known = known} (begins ds line k known_k fresh h) alone = record {
+  said = header k;
+  is_said = outside_is known line ds k (left ∷ []) known_k ∙ directive_begins line ds k fresh h;
+  meant = record { paths = tt; required = tt; retractions = tt };
+  bare = sym (and_one (is_module k));
+}
+  where
+    and_one : (a : Bool) → (a && true) ≡ a
+    and_one true = refl
+    and_one false = refl
+move_says {known = known} (inside ds b line t ts room is_right) alone =
+    let q = right_entry line b.keyword (t ∷ ts) is_right in
+    let means = entry_means line b.keyword (t ∷ ts) q.0 q.1 in
+    record {
+      said = q.0;
+      is_said = inside_entry known line ds b t ts q.0 alone room (shape_no_closing b.keyword (t ∷ ts) is_right.0 is_right.1) q.1;
+      meant = means.0;
+      bare = means.1;
+    }
+move_says {known = known} (closes ds b line filled) alone = record {
+  said = nothing;
+  is_said = inside_closes known line ds b alone filled;
+  meant = record { paths = tt; required = tt; retractions = tt };
+  bare = refl;
+}
+
+-- ---- what is computed is a move
+
+-- a parenthesis is spelled as itself
+abbrev pub IsPlain : Symbol → Type 0
+IsPlain t = (t.kind ≡ kinds.ParenLeft → t.text ≡ codes "(") × (t.kind ≡ kinds.ParenRight → t.text ≡ codes ")")
+
+opens_is : (k : Kind) → opens_block_kind k ≡ true → k ≡ kinds.ParenLeft
+opens_is kinds.ParenLeft h = refl
+opens_is kinds.Name h = cc
+opens_is kinds.Quoted h = cc
+opens_is kinds.Raw h = cc
+opens_is kinds.Arrow h = cc
+opens_is kinds.Comma h = cc
+opens_is kinds.ParenRight h = cc
+opens_is kinds.BracketLeft h = cc
+opens_is kinds.BracketRight h = cc
+
+closes_is : (k : Kind) → closes_block_kind k ≡ true → k ≡ kinds.ParenRight
+closes_is kinds.ParenRight h = refl
+closes_is kinds.Name h = cc
+closes_is kinds.Quoted h = cc
+closes_is kinds.Raw h = cc
+closes_is kinds.Arrow h = cc
+closes_is kinds.Comma h = cc
+closes_is kinds.ParenLeft h = cc
+closes_is kinds.BracketLeft h = cc
+closes_is kinds.BracketRight h = cc
+
+pub name_is : (k : Kind) → is_name_kind k ≡ true → k ≡ kinds.Name
+name_is kinds.Name h = refl
+name_is kinds.Quoted h = cc
+name_is kinds.Raw h = cc
+name_is kinds.Arrow h = cc
+name_is kinds.Comma h = cc
+name_is kinds.ParenLeft h = cc
+name_is kinds.ParenRight h = cc
+name_is kinds.BracketLeft h = cc
+name_is kinds.BracketRight h = cc
+
+pub opening_parts : (ts : List Symbol) → is_opening ts ≡ true → (p : Symbol) × (ts ≡ p ∷ []) × (p.kind ≡ kinds.ParenLeft)
+opening_parts [] h = cc
+opening_parts (p ∷ []) h = (p, refl, opens_is p.kind h)
+opening_parts (p ∷ q ∷ ts) h = cc
+
+pub closing_parts : (ts : List Symbol) → is_closing ts ≡ true → (p : Symbol) × (ts ≡ p ∷ []) × (p.kind ≡ kinds.ParenRight)
+closing_parts [] h = cc
+closing_parts (p ∷ []) h = (p, refl, closes_is p.kind h)
+closing_parts (p ∷ q ∷ ts) h = cc
+
+-- a name of the profile is a keyword
+pub keyword_is : (known : Keywords) (t : Symbol) (k : Keyword) → is_name_kind t.kind ≡ true → keyword_named known t.text ≡ Some k → IsKeyword known t k
+keyword_is known t k name named =
+    let spelled = named_spelling known t.text k named in
+    (λ i. record { kind = name_is t.kind name i; text = spelled i }, ap (keyword_named known) (sym spelled) ∙ named)
+
+-- the directives with the line
+pub record Moves (known : Keywords) (ds : List Directive) (o : Option OpenBlock) (r : Row) : Type 0 where
+  pub directives : List Directive
+  pub opened : Option OpenBlock
+  pub move : Move known ds o r directives opened
+
+directive_moves : (known : Keywords) (line : ℕ) (ds : List Directive) (k : Keyword) (ts : List Symbol) (x : Context × Parts) → IsKnown known k → AllByRecursion IsPlain ts → directive line (context_at ds None) k ts ≡ Ok x → Moves known ds None (row line (keyword_symbol k ∷ ts))
+unfolding directive
+directive_moves known line ds k ts x known_k plain h =
+    ⊎_elim
+    (λ twice. (let e = twice.1 in cc))
+    (λ fresh. ⊎_elim
+    (λ block.
+    let parts = opening_parts ts (and_right (has_block k) (is_opening ts) block.0) in
+    let is_left : ts ≡ left ∷ [] = parts.1 ∙ ap (λ p. p ∷ []) (λ i. record { kind = parts.2 i; text = (subst (AllByRecursion IsPlain) parts.1 plain).0.0 parts.2 i }) in
+    subst (λ us. Moves known ds None (row line (keyword_symbol k ∷ us))) (sym is_left)
+    (record { directives = ds; opened = Some (record { keyword = k; first = line; entries = [] }); move = begins ds line k known_k (stood-fresh ds k fresh.0) (and_left (has_block k) (is_opening ts) block.0) }))
+    (λ entry_.
+    let b = bound (entry_says line (context_at ds None) k ts) (λ y. Ok (y.0, header k ⊕ y.1)) x entry_.1 in
+    let c = bound (entry line k ts) (λ p. Ok (with_entry (context_at ds None) k, p)) b.0 b.1 in
+    record { directives = ds ++ one k (row line ts) ∷ []; opened = None; move = single ds line k ts known_k (stood-fresh ds k fresh.0) (entry_right line k ts c.0 c.1) })
+    (chosen (has_block k && is_opening ts) _ _ _ fresh.1))
+    (chosen (has_stood (context_at ds None) k) _ _ _ h)
+  where
+    and_left : (a b : Bool) → (a && b) ≡ true → a ≡ true
+    and_left true b e = refl
+    and_left false b e = cc
+
+    and_right : (a b : Bool) → (a && b) ≡ true → b ≡ true
+    and_right true b e = e
+    and_right false b e = cc
+
+named_moves : (known : Keywords) (line : ℕ) (ds : List Directive) (t : Symbol) (ts : List Symbol) (x : Context × Parts) (o : Option Keyword) → keyword_named known t.text ≡ o → is_name_kind t.kind ≡ true → AllByRecursion IsPlain ts → ◌≡◌ {A = Result (Context × Parts) GoModFault} (elim o [ None ↦ Err (faults.Unknown line) | Some k ↦ directive line (context_at ds None) k ts ]) (Ok x) → Moves known ds None (row line (t ∷ ts))
+named_moves known line ds t ts x None named name plain h = cc
+named_moves known line ds t ts x (Some k) named name plain h =
+    let is = keyword_is known t k name named in
+    subst (λ u. Moves known ds None (row line (u ∷ ts))) (sym is.0) (directive_moves known line ds k ts x is.1 plain h)
+
+inside_moves : (known : Keywords) (line : ℕ) (ds : List Directive) (b : OpenBlock) (t : Symbol) (ts : List Symbol) (x : Context × Parts) → IsAlone ds (Some b) → AllByRecursion IsPlain (t ∷ ts) → line_inside line (context_at ds (Some b)) b.keyword (t ∷ ts) ≡ Ok x → Moves known ds (Some b) (row line (t ∷ ts))
+unfolding line_inside
+inside_moves known line ds b t ts x alone plain h =
+    ⊎_elim
+    (λ closing_.
+    let parts = closing_parts (t ∷ ts) closing_.0 in
+    let is_right : t ∷ ts ≡ right ∷ [] = parts.1 ∙ ap (λ p. p ∷ []) (λ i. record { kind = parts.2 i; text = (subst (AllByRecursion IsPlain) parts.1 plain).0.1 parts.2 i }) in
+    ⊎_elim
+    (λ empty. (let e = empty.1 in cc))
+    (λ full. subst (λ us. Moves known ds (Some b) (row line us)) (sym is_right)
+    (record { directives = ds ++ closed b line ∷ []; opened = None; move = closes ds b line (context-filled ds b alone full.0) }))
+    (chosen (is_module b.keyword && not (context_at ds (Some b)).has_module) _ _ _ closing_.1))
+    (λ other. ⊎_elim
+    (λ full. (let e = full.1 in cc))
+    (λ room.
+    let c = bound (entry line b.keyword (t ∷ ts)) (λ p. Ok (with_entry (context_at ds (Some b)) b.keyword, p)) x room.1 in
+    record { directives = ds; opened = Some (with_row b (row line (t ∷ ts))); move = inside ds b line t ts (context-room ds b alone room.0) (entry_right line b.keyword (t ∷ ts) c.0 c.1) })
+    (chosen (is_module b.keyword && (context_at ds (Some b)).has_module) _ _ _ other.1))
+    (chosen (is_closing (t ∷ ts)) _ _ _ h)
+
+pub says_move : (known : Keywords) (line : ℕ) (ds : List Directive) (o : Option OpenBlock) (ts : List Symbol) (x : Context × Parts) → IsAlone ds o → AllByRecursion IsPlain ts → line_says known line (context_at ds o) ts ≡ Ok x → Moves known ds o (row line ts)
+unfolding line_says line_outside
+says_move known line ds o [] x alone plain h = record { directives = ds; opened = o; move = blank ds o line }
+says_move known line ds None (t ∷ ts) x alone plain h =
+    let name = guarded (is_name_kind t.kind) _ _ x h in
+    named_moves known line ds t ts x (keyword_named known t.text) refl name.0 plain.1 name.1
+says_move known line ds (Some b) (t ∷ ts) x alone plain h = inside_moves known line ds b t ts x alone plain h

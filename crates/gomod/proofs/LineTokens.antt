@@ -1,0 +1,133 @@
+-- The tokens of a line do not depend on where the line stands, but for their places.
+use Rattle.std.proofs.Common.{◌≡◌, ℕ, zero, suc, ◌+◌, ◌-◌, take, Bool, true, false, List, [], ◌∷◌, ◌++◌, map, length, refl, ap, sym, ◌∙◌, subst, arith, Option, Some, None, Result, Ok, Err, codes, ◌⊎◌, inl, inr, ⊎_elim}
+use Rattle.std.specs.List.{AllByRecursion}
+use Rattle.gomod.specs.declared.lexer.Kind.{Kind}
+use Rattle.gomod.specs.declared.lexer.Kind.TheVariants as kinds
+use Rattle.gomod.specs.declared.lexer.TokenFault.{TokenFault}
+use Rattle.gomod.specs.declared.lexer.TokenFault.TheVariants as token_faults
+use Rattle.gomod.specs.declared.fault.GoModFault.{GoModFault}
+use Rattle.gomod.specs.declared.fault.GoModFault.TheVariants as faults
+use Rattle.gomod.specs.Bytes.{is_blank, is_slash_and}
+use Rattle.gomod.specs.Lexer.{Lexeme, lexeme, lexeme_at, line_tokens, tokens_behind, tokens_then}
+use Rattle.gomod.specs.Tokens.{AreTokens, IsLexeme}
+use Rattle.gomod.specs.Symbols.{Symbol, symbol_of, Keywords}
+use Rattle.gomod.specs.Reading.{Context, Parts, ◌>>=◌, as_reader, line_says, bytes_say}
+use Rattle.gomod.specs.Grammar.{Directive, OpenBlock}
+use Rattle.gomod.specs.Faults.{IsLineFault}
+use Rattle.gomod.proofs.Steps.{chosen, bound, fails}
+use Rattle.gomod.proofs.TokenLaw.{tokens_behind-all}
+use Rattle.gomod.proofs.TokenSound.{tokens_behind-sound}
+use Rattle.gomod.proofs.Contexts.{context_at, IsAlone}
+use Rattle.gomod.proofs.LineLaw.{IsPlain}
+use Rattle.gomod.proofs.RowFaults.{says_fault}
+use Rattle.gomod.proofs.OneFault.{fault_says}
+
+-- the same tokens at another place
+pub record Moved (line at : ℕ) (bytes : List ℕ) (ts : List Lexeme) : Type 0 where
+  pub tokens : List Lexeme
+  pub are : AreTokens line at bytes tokens
+  pub same : map symbol_of tokens ≡ map symbol_of ts
+
+pub moved : (line at n place : ℕ) (bytes : List ℕ) (ts : List Lexeme) → AreTokens line at bytes ts → Moved n place bytes ts
+moved line at n place bytes [] h = record { tokens = []; are = h; same = refl }
+moved line at n place bytes (t ∷ ts) h =
+    let more = moved line (at + length h.0 + length t.text) n (place + length h.0 + length t.text) h.1 ts h.6 in
+    record {
+      tokens = lexeme t.kind n (place + length h.0) t.text ∷ more.tokens;
+      are = (h.0, h.1, h.2, h.3, h.4, refl, more.are);
+      same = ap (λ l. symbol_of t ∷ l) more.same;
+    }
+
+-- parentheses are spelled as themselves
+pub tokens_plain : (line at : ℕ) (bytes : List ℕ) (ts : List Lexeme) → AreTokens line at bytes ts → AllByRecursion IsPlain (map symbol_of ts)
+tokens_plain line at bytes [] h = tt
+tokens_plain line at bytes (t ∷ ts) h = (
+  (λ is. subst (λ k. IsLexeme k t.text h.1) is h.3, λ is. subst (λ k. IsLexeme k t.text h.1) is h.3),
+  tokens_plain line (at + length h.0 + length t.text) h.1 ts h.6,
+)
+
+-- ---- the computed tokens of a line
+
+pub tokens_are : (line at : ℕ) (l : List ℕ) (ts : List Lexeme) → line_tokens line at l ≡ Ok ts → AreTokens line at l ts
+tokens_are line at l ts h = tokens_behind-sound (length l) line at l ts (omega arith) h
+
+-- a line with tokens says what they say
+pub bytes_say-tokens : (known : Keywords) (line at : ℕ) (c : Context) (l : List ℕ) (ts : List Lexeme) → AreTokens line at l ts → bytes_say known line c l ≡ line_says known line c (map symbol_of ts)
+unfolding bytes_say
+bytes_say-tokens known line at c l ts h =
+    let at_front = moved line at line 0 l ts h in
+    ap (λ r. as_reader r >>= (λ us. line_says known line c (map symbol_of us))) (tokens_behind-all line 0 l at_front.tokens at_front.are)
+    ∙ ap (line_says known line c) at_front.same
+
+read_ok : (r : Result (List Lexeme) TokenFault) (ts : List Lexeme) → as_reader r ≡ Ok ts → r ≡ Ok ts
+read_ok (Ok us) ts h = ap (λ k. Ok k) (let same : us ≡ ts = cc in same)
+read_ok (Err (token_faults.Lex n)) ts h = cc
+read_ok (Err token_faults.Memory) ts h = cc
+
+-- a line that reads has tokens
+pub bytes_ok : (known : Keywords) (line at : ℕ) (c : Context) (l : List ℕ) (x : Context × Parts) → bytes_say known line c l ≡ Ok x → (ts : List Lexeme) × AreTokens line at l ts × (line_says known line c (map symbol_of ts) ≡ Ok x)
+unfolding bytes_say
+bytes_ok known line at c l x h =
+    let b = bound (as_reader (line_tokens line 0 l)) (λ ts. line_says known line c (map symbol_of ts)) x h in
+    let there = moved line 0 line at l b.0 (tokens_are line 0 l b.0 (read_ok (line_tokens line 0 l) b.0 b.1)) in
+    (there.tokens, there.are, ap (line_says known line c) there.same ∙ b.2)
+
+-- the lexer's only fault is that of its line
+after_fault : (front : List Lexeme) (r : Result (List Lexeme) TokenFault) (e : TokenFault) → tokens_then front r ≡ Err e → r ≡ Err e
+after_fault front (Ok ts) e h = cc
+after_fault front (Err d) e h = h
+
+found_fault : (line at b : ℕ) (bs : List ℕ) (e : TokenFault) (o : Option (Kind × ℕ)) → ((k : ℕ) → tokens_behind k line (at + 1) bs ≡ Err e → e ≡ token_faults.Lex line) → ◌≡◌ {A = Result (List Lexeme) TokenFault} (elim o [ None ↦ Err (token_faults.Lex line) | Some x ↦ tokens_then (lexeme x.0 line at (take x.1 (b ∷ bs)) ∷ []) (tokens_behind (x.1 - 1) line (at + 1) bs) ]) (Err e) → e ≡ token_faults.Lex line
+found_fault line at b bs e None below h = cc
+found_fault line at b bs e (Some x) below h = below (x.1 - 1) (after_fault (lexeme x.0 line at (take x.1 (b ∷ bs)) ∷ []) _ e h)
+
+pub tokens_fault : (skipped line at : ℕ) (bs : List ℕ) (e : TokenFault) → tokens_behind skipped line at bs ≡ Err e → e ≡ token_faults.Lex line
+tokens_fault skipped line at [] e h = cc
+tokens_fault (suc skipped) line at (b ∷ bs) e h = tokens_fault skipped line (at + 1) bs e h
+tokens_fault zero line at (b ∷ bs) e h =
+    ⊎_elim
+    (λ blank. tokens_fault 0 line (at + 1) bs e blank.1)
+    (λ solid. ⊎_elim
+    (λ comment. (let bad = comment.1 in cc))
+    (λ token. found_fault line at b bs e (lexeme_at (b ∷ bs)) (λ k. tokens_fault k line (at + 1) bs e) token.1)
+    (chosen (is_slash_and 47 b bs) _ _ _ solid.1))
+    (chosen (is_blank b) _ _ _ h)
+
+ok_or_fault : (r : Result (List Lexeme) TokenFault) → ((ts : List Lexeme) × (r ≡ Ok ts)) ⊎ ((e : TokenFault) × (r ≡ Err e))
+ok_or_fault (Ok ts) = inl (ts, refl)
+ok_or_fault (Err e) = inr (e, refl)
+
+reader_fault : (line : ℕ) (r : Result (List Lexeme) TokenFault) (f : GoModFault) → ((e : TokenFault) → r ≡ Err e → e ≡ token_faults.Lex line) → as_reader r ≡ Err f → (r ≡ Err (token_faults.Lex line)) × (f ≡ faults.Lex line)
+reader_fault line (Ok ts) f only h = cc
+reader_fault line (Err (token_faults.Lex n)) f only h =
+    let same = only (token_faults.Lex n) refl in (ap (λ e. Err e) same, (let number : n ≡ line = cc in cc))
+reader_fault line (Err token_faults.Memory) f only h = let same = only token_faults.Memory refl in cc
+
+no_tokens : (line : ℕ) (l : List ℕ) (e : TokenFault) → line_tokens line 0 l ≡ Err e → (ts : List Lexeme) → ¬ AreTokens line 0 l ts
+no_tokens line l e h ts are = let some = tokens_behind-all line 0 l ts are in cc
+
+-- the fault of a line is computed, and what is computed is its fault
+pub bytes_fault : (known : Keywords) (line : ℕ) (ds : List Directive) (o : Option OpenBlock) (l : List ℕ) (f : GoModFault) → IsAlone ds o → bytes_say known line (context_at ds o) l ≡ Err f → IsLineFault known ds o line l f
+unfolding bytes_say
+bytes_fault known line ds o l f alone h =
+    ⊎_elim
+    (λ lex.
+    let x = reader_fault line (line_tokens line 0 l) f (λ e. tokens_fault 0 line 0 l e) lex in
+    inl (no_tokens line l (token_faults.Lex line) x.0, x.1))
+    (λ x.
+    let are = tokens_are line 0 l x.0 (read_ok (line_tokens line 0 l) x.0 x.1) in
+    inr (x.0, are, says_fault known line ds o (map symbol_of x.0) f alone x.2))
+    (fails (as_reader (line_tokens line 0 l)) (λ ts. line_says known line (context_at ds o) (map symbol_of ts)) f h)
+
+pub fault_bytes : (known : Keywords) (line : ℕ) (ds : List Directive) (o : Option OpenBlock) (l : List ℕ) (f : GoModFault) → IsAlone ds o → IsLineFault known ds o line l f → bytes_say known line (context_at ds o) l ≡ Err f
+unfolding bytes_say
+fault_bytes known line ds o l f alone h =
+    ⊎_elim
+    (λ lex. ⊎_elim
+    (λ x. absurd (lex.0 x.0 (tokens_are line 0 l x.0 x.1)))
+    (λ x.
+    let is = x.1 ∙ ap (λ e. Err e) (tokens_fault 0 line 0 l x.0 x.1) in
+    ap (λ r. as_reader r >>= (λ us. line_says known line (context_at ds o) (map symbol_of us))) is ∙ ap (λ e. Err e) (sym lex.1))
+    (ok_or_fault (line_tokens line 0 l)))
+    (λ row. bytes_say-tokens known line 0 (context_at ds o) l row.0 row.1 ∙ fault_says known line ds o (map symbol_of row.0) f alone (tokens_plain line 0 l row.0 row.1) row.2)
+    h

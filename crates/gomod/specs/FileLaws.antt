@@ -1,0 +1,14 @@
+-- A go.mod file reads, or it is faulty.
+use Rattle.std.specs.Prelude.{◌≡◌, ℕ, List, ◌⊎◌}
+use Rattle.gomod.specs.declared.fault.GoModFault.{GoModFault}
+use Rattle.gomod.specs.Symbols.{Keywords}
+use Rattle.gomod.specs.Module.{GoModule}
+use Rattle.gomod.specs.Reads.{Reads}
+use Rattle.gomod.specs.Faults.{Faulty}
+
+-- just one of the two holds, for one meaning or one fault
+pub record ReadsOrIsFaulty (known : Keywords) (bytes : List ℕ) : Type 0 where
+  pub either : ((m : GoModule) × Reads known bytes m) ⊎ ((f : GoModFault) × Faulty known bytes f)
+  pub not_both : (m : GoModule) (f : GoModFault) → Reads known bytes m → ¬ Faulty known bytes f
+  pub one_meaning : (m n : GoModule) → Reads known bytes m → Reads known bytes n → m ≡ n
+  pub one_fault : (f g : GoModFault) → Faulty known bytes f → Faulty known bytes g → f ≡ g

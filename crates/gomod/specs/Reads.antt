@@ -1,0 +1,39 @@
+-- What a go.mod file says by its grammar.
+use Rattle.std.specs.Prelude.{◌≡◌, ℕ, Bool, true, List, [], ◌∷◌, length, map, None, IsUtf8, ◌↔◌}
+use Rattle.std.specs.List.{AllByRecursion}
+use Rattle.gomod.specs.declared.keyword.Keyword.TheVariants.{Module, Require, Retract}
+use Rattle.gomod.specs.Paths.{fits_path}
+use Rattle.gomod.specs.Lines.{lines}
+use Rattle.gomod.specs.Lexer.{Lexeme}
+use Rattle.gomod.specs.Tokens.{AreTokensOf}
+use Rattle.gomod.specs.Symbols.{Keywords, symbol_of}
+use Rattle.gomod.specs.Module.{GoModule, Interval}
+use Rattle.gomod.specs.Entries.{IsModuleEntry, IsPair, IsSpan}
+use Rattle.gomod.specs.Grammar.{Row, Directive, AreWritten, rows_from, items, entries_under}
+
+-- the two lists are as long as one another, and related place by place
+abbrev pub Pointwise : {A B : Type 0} → (A → B → Type 0) → List A → List B → Type 0
+Pointwise R [] [] = Unit {0}
+Pointwise R (x ∷ xs) (y ∷ ys) = R x y × Pointwise R xs ys
+Pointwise R _ _ = ⊥
+
+-- the rows of the lines of a text
+abbrev pub rows_of_tokens : List (List Lexeme) → List Row
+rows_of_tokens tss = rows_from 1 (map (map symbol_of) tss)
+
+-- the versions of the interval fit the path
+abbrev pub FitsPath : List ℕ → Interval → Type 0
+FitsPath path i = (fits_path path i.low ≡ true) × (fits_path path i.high ≡ true)
+
+-- the file with these bytes says this
+pub record Reads (known : Keywords) (bytes : List ℕ) (m : GoModule) : Type 0 where
+  pub utf8 : IsUtf8 bytes
+  pub tokens : List (List Lexeme)
+  pub lexemes : AreTokensOf 1 0 (lines bytes) tokens
+  pub directives : List Directive
+  pub grammar : AreWritten known (rows_of_tokens tokens) directives None
+  pub path : Pointwise (λ e p. IsModuleEntry e.symbols p) (entries_under Module (items directives None)) (m.path ∷ [])
+  pub required : Pointwise (λ e r. IsPair e.symbols r) (entries_under Require (items directives None)) m.required
+  pub retractions : Pointwise (λ e i. IsSpan e.symbols i) (entries_under Retract (items directives None)) m.retractions
+  pub fitting : AllByRecursion (FitsPath m.path) m.retractions
+  pub bare : (m.bare ≡ true) ↔ (length directives ≡ 1)

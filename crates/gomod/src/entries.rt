@@ -1,0 +1,349 @@
+//! The entries of directives: the words of a line, and what they stand for.
+
+ghost use Rattle.std.specs.Prelude.{◌≡◌};
+ghost use Rattle.gomod.specs.Symbols.{symbol, symbols};
+ghost use Rattle.gomod.specs.Paths.{is_path, is_loose_path, is_below};
+ghost use Rattle.gomod.specs.Reading.{Gives, path_word, version_fault, version_word, fitting_word, module_entry, go_entry, pair, pair_entry, old_path, old_version, new_file, new_version, replace_three, replace_four, replace_five, replace_entry, are_interval_kinds, interval, retract_entry};
+
+use super::fault::GoModFault;
+use super::go_version::{is_file_path, is_go_version};
+use super::lexer::{Kind, Token};
+use super::words::{is_arrow, is_word, value};
+use modpath::{LoosePath, ModulePath, PathError};
+use modver::{Version, VersionFault, compare, fits, fits_loose};
+use std::alloc::Global;
+
+/// A version of a module that another one asks for. (Go Modules Reference, "require directive".)
+#[derive(Drop)]
+pub struct Requirement {
+    pub path: LoosePath,
+    pub version: Version,
+}
+
+/// Versions that a module takes back, on a line: all from the low one to the high one.
+/// (Go Modules Reference, "retract directive".)
+#[derive(Drop)]
+pub(crate) struct Retraction {
+    pub(crate) line: usize,
+    pub(crate) low: Version,
+    pub(crate) high: Version,
+}
+
+#[tactic(auto, unfolding(crate::specs::Paths::is_path))]
+fn module_path(alloc: Global, line: usize, word: &Token) -> Result<ModulePath, GoModFault>
+    ensures { Gives (λ p. p) result (path_word line is_path (symbol word.now)) }
+{
+    let text = value(alloc, word)?;
+    match ModulePath::parse(alloc, text.as_str()) {
+        Ok(path) => Ok(path),
+        Err(PathError::Fault(_)) => Err(GoModFault::Path(line)),
+        Err(PathError::Memory) => Err(GoModFault::Memory),
+    }
+}
+
+#[tactic(auto, unfolding(crate::specs::Paths::is_loose_path))]
+fn loose_path(alloc: Global, line: usize, word: &Token) -> Result<LoosePath, GoModFault>
+    ensures { Gives (λ p. p) result (path_word line is_loose_path (symbol word.now)) }
+{
+    let text = value(alloc, word)?;
+    match LoosePath::parse(alloc, text.as_str()) {
+        Ok(path) => Ok(path),
+        Err(PathError::Fault(_)) => Err(GoModFault::Path(line)),
+        Err(PathError::Memory) => Err(GoModFault::Memory),
+    }
+}
+
+fn version(alloc: Global, line: usize, word: &Token) -> Result<Version, GoModFault>
+    ensures { Gives (λ v. v) result (version_word line (symbol word.now)) }
+{
+    let text = value(alloc, word)?;
+    match Version::parse(alloc, text.as_str()) {
+        Ok(version) => Ok(version),
+        Err(fault) => Err(version_fault(line, fault)),
+    }
+}
+
+/// The fault of a line with a word that was read as no version.
+fn version_fault(line: usize, fault: VersionFault) -> GoModFault
+    ensures { result ≡ version_fault line fault }
+{
+    match fault {
+        VersionFault::Memory => GoModFault::Memory,
+        VersionFault::Form | VersionFault::Build | VersionFault::TooLong => {
+            GoModFault::Version(line)
+        }
+    }
+}
+
+/// Whether one version is below another by precedence.
+#[tactic(auto, unfolding(crate::specs::Paths::is_below))]
+pub(crate) fn is_below(left: &Version, right: &Version) -> bool
+    ensures { result ≡ is_below left.now right.now }
+{
+    compare(left, right).is_lt()
+}
+
+/// A version that a module path may have.
+#[tactic(auto, unfolding(crate::specs::Reading::fitting_word, crate::specs::Paths::fits_path))]
+fn fitting(
+    alloc: Global,
+    line: usize,
+    path: &ModulePath,
+    word: &Token,
+) -> Result<Version, GoModFault>
+    ensures { Gives (λ v. v) result (fitting_word line path.now (symbol word.now)) }
+{
+    let version = version(alloc, line, word)?;
+    if fits(path, &version) {
+        Ok(version)
+    } else {
+        Err(GoModFault::Version(line))
+    }
+}
+
+/// A version that a loose path may have.
+#[tactic(auto, unfolding(crate::specs::Reading::fitting_word, crate::specs::Paths::fits_path))]
+fn fitting_loose(
+    alloc: Global,
+    line: usize,
+    path: &LoosePath,
+    word: &Token,
+) -> Result<Version, GoModFault>
+    ensures { Gives (λ v. v) result (fitting_word line path.now (symbol word.now)) }
+{
+    let version = version(alloc, line, word)?;
+    if fits_loose(path, &version) {
+        Ok(version)
+    } else {
+        Err(GoModFault::Version(line))
+    }
+}
+
+/// `module`: a module path.
+#[tactic(auto, unfolding(crate::specs::Reading::module_entry))]
+pub(crate) fn module_entry(
+    alloc: Global,
+    line: usize,
+    tokens: &[Token],
+) -> Result<ModulePath, GoModFault>
+    ensures { Gives (λ p. p) result (module_entry line (symbols tokens.now)) }
+{
+    match tokens {
+        [word] if is_word(word) => module_path(alloc, line, word),
+        _ => Err(GoModFault::Grammar(line)),
+    }
+}
+
+/// `go`: a Go version.
+#[tactic(auto, unfolding(crate::specs::Reading::go_entry))]
+pub(crate) fn go_entry(alloc: Global, line: usize, tokens: &[Token]) -> Result<(), GoModFault>
+    ensures { Gives (λ o. o) result (go_entry line (symbols tokens.now)) }
+{
+    match tokens {
+        [word] if is_word(word) => {
+            let text = value(alloc, word)?;
+            if is_go_version(text.as_bytes()) {
+                Ok(())
+            } else {
+                Err(GoModFault::GoVersion(line))
+            }
+        }
+        _ => Err(GoModFault::Grammar(line)),
+    }
+}
+
+#[tactic(auto, unfolding(crate::specs::Reading::pair))]
+fn pair(
+    alloc: Global,
+    line: usize,
+    first: &Token,
+    second: &Token,
+) -> Result<Requirement, GoModFault>
+    ensures { Gives (λ r. r) result (pair line (symbol first.now) (symbol second.now)) }
+{
+    let path = loose_path(alloc, line, first)?;
+    let version = fitting_loose(alloc, line, &path, second)?;
+    Ok(Requirement { path, version })
+}
+
+/// `require` and `exclude`: a loose path, and a version that it may have.
+#[tactic(auto, unfolding(crate::specs::Reading::pair_entry))]
+pub(crate) fn pair_entry(
+    alloc: Global,
+    line: usize,
+    tokens: &[Token],
+) -> Result<Requirement, GoModFault>
+    ensures { Gives (λ r. r) result (pair_entry line (symbols tokens.now)) }
+{
+    match tokens {
+        [first, second] if is_word(first) && is_word(second) => pair(alloc, line, first, second),
+        _ => Err(GoModFault::Grammar(line)),
+    }
+}
+
+#[tactic(auto, unfolding(crate::specs::Reading::old_path))]
+fn old_path(alloc: Global, line: usize, path: &Token) -> Result<(), GoModFault>
+    ensures { Gives (λ o. o) result (old_path line (symbol path.now)) }
+{
+    loose_path(alloc, line, path)?;
+    Ok(())
+}
+
+#[tactic(auto, unfolding(crate::specs::Reading::old_version))]
+fn old_version(alloc: Global, line: usize, path: &Token, word: &Token) -> Result<(), GoModFault>
+    ensures { Gives (λ o. o) result (old_version line (symbol path.now) (symbol word.now)) }
+{
+    pair(alloc, line, path, word)?;
+    Ok(())
+}
+
+#[tactic(auto, unfolding(crate::specs::Reading::new_version))]
+fn new_version(alloc: Global, line: usize, path: &Token, word: &Token) -> Result<(), GoModFault>
+    ensures { Gives (λ o. o) result (new_version line (symbol path.now) (symbol word.now)) }
+{
+    let path = module_path(alloc, line, path)?;
+    fitting(alloc, line, &path, word)?;
+    Ok(())
+}
+
+#[tactic(auto, unfolding(crate::specs::Reading::new_file))]
+fn new_file(alloc: Global, line: usize, word: &Token) -> Result<(), GoModFault>
+    ensures { Gives (λ o. o) result (new_file line (symbol word.now)) }
+{
+    let text = value(alloc, word)?;
+    if is_file_path(text.as_bytes()) {
+        Ok(())
+    } else {
+        Err(GoModFault::Path(line))
+    }
+}
+
+/// A path, an arrow and a file path.
+#[tactic(auto, unfolding(crate::specs::Reading::replace_three))]
+fn replace_three(
+    alloc: Global,
+    line: usize,
+    path: &Token,
+    arrow: &Token,
+    file: &Token,
+) -> Result<(), GoModFault>
+    ensures { Gives (λ o. o) result
+        (replace_three line (symbol path.now) (symbol arrow.now) (symbol file.now)) }
+{
+    if is_word(path) && is_arrow(arrow) && is_word(file) {
+        old_path(alloc, line, path)?;
+        return new_file(alloc, line, file);
+    }
+    Err(GoModFault::Grammar(line))
+}
+
+/// A path, an arrow, a path and a version; or a path, a version, an arrow and a file path.
+#[tactic(auto, unfolding(crate::specs::Reading::replace_four))]
+fn replace_four(
+    alloc: Global,
+    line: usize,
+    path: &Token,
+    second: &Token,
+    third: &Token,
+    last: &Token,
+) -> Result<(), GoModFault>
+    ensures { Gives (λ o. o) result
+        (replace_four line (symbol path.now) (symbol second.now) (symbol third.now) (symbol last.now)) }
+{
+    if is_word(path) && is_arrow(second) && is_word(third) && is_word(last) {
+        old_path(alloc, line, path)?;
+        return new_version(alloc, line, third, last);
+    }
+    if is_word(path) && is_word(second) && is_arrow(third) && is_word(last) {
+        old_version(alloc, line, path, second)?;
+        return new_file(alloc, line, last);
+    }
+    Err(GoModFault::Grammar(line))
+}
+
+/// A path, a version, an arrow, a path and a version.
+#[tactic(auto, unfolding(crate::specs::Reading::replace_five))]
+fn replace_five(
+    alloc: Global,
+    line: usize,
+    path: &Token,
+    version: &Token,
+    arrow: &Token,
+    target: &Token,
+    fitting: &Token,
+) -> Result<(), GoModFault>
+    ensures { Gives (λ o. o) result
+        (replace_five line (symbol path.now) (symbol version.now) (symbol arrow.now) (symbol target.now) (symbol fitting.now)) }
+{
+    if is_word(path) && is_word(version) && is_arrow(arrow) && is_word(target) && is_word(fitting) {
+        old_version(alloc, line, path, version)?;
+        return new_version(alloc, line, target, fitting);
+    }
+    Err(GoModFault::Grammar(line))
+}
+
+/// `replace`: a loose path and perhaps a version of it, an arrow, and a file path or a module path
+/// with a version.
+#[tactic(auto, unfolding(crate::specs::Reading::replace_entry))]
+pub(crate) fn replace_entry(alloc: Global, line: usize, tokens: &[Token]) -> Result<(), GoModFault>
+    ensures { Gives (λ o. o) result (replace_entry line (symbols tokens.now)) }
+{
+    match tokens {
+        [path, arrow, file] => replace_three(alloc, line, path, arrow, file),
+        [path, second, third, last] => replace_four(alloc, line, path, second, third, last),
+        [path, version, arrow, target, fitting] => {
+            replace_five(alloc, line, path, version, arrow, target, fitting)
+        }
+        _ => Err(GoModFault::Grammar(line)),
+    }
+}
+
+fn is_interval(left: &Token, first: &Token, comma: &Token, second: &Token, right: &Token) -> bool
+    ensures { result ≡ are_interval_kinds left.now.kind first.now.kind comma.now.kind second.now.kind right.now.kind }
+{
+    matches!(
+        (left.kind, comma.kind, right.kind),
+        (Kind::BracketLeft, Kind::Comma, Kind::BracketRight)
+    ) && is_word(first)
+        && is_word(second)
+}
+
+#[tactic(auto, unfolding(crate::specs::Reading::interval))]
+fn interval(
+    alloc: Global,
+    line: usize,
+    first: &Token,
+    second: &Token,
+) -> Result<Retraction, GoModFault>
+    ensures { Gives (λ r. r) result (interval line (symbol first.now) (symbol second.now)) }
+{
+    let low = version(alloc, line, first)?;
+    let high = version(alloc, line, second)?;
+    if is_below(&high, &low) {
+        Err(GoModFault::Interval(line))
+    } else {
+        Ok(Retraction { line, low, high })
+    }
+}
+
+/// `retract`: a version, or a closed interval of them.
+#[tactic(auto, unfolding(crate::specs::Reading::retract_entry))]
+pub(crate) fn retract_entry(
+    alloc: Global,
+    line: usize,
+    tokens: &[Token],
+) -> Result<Retraction, GoModFault>
+    ensures { Gives (λ r. r) result (retract_entry line (symbols tokens.now)) }
+{
+    match tokens {
+        [only] if is_word(only) => {
+            let low = version(alloc, line, only)?;
+            let high = version(alloc, line, only)?;
+            Ok(Retraction { line, low, high })
+        }
+        [left, first, comma, second, right] if is_interval(left, first, comma, second, right) => {
+            interval(alloc, line, first, second)
+        }
+        _ => Err(GoModFault::Grammar(line)),
+    }
+}

@@ -1,0 +1,84 @@
+//! Why a go.mod file does not read.
+
+ghost use Rattle.std.specs.Prelude.{◌≡◌};
+ghost use Rattle.gomod.specs.Faults.{line_of};
+
+use std::alloc::{AllocError, AllocFailed};
+use thiserror::Error;
+
+/// Why a go.mod file does not read. A number is that of the line, from 1 on.
+#[derive(Clone, Copy, Debug, Error, PartialEq, Eq)]
+pub enum GoModFault {
+    /// The bytes are no UTF-8.
+    #[error("the file is not UTF-8")]
+    Utf8,
+    /// The line has no tokens.
+    #[error("line {0} has no tokens")]
+    Lex(usize),
+    /// The line is not one that the grammar allows there, or a block is open after it, the last.
+    #[error("line {0} does not have the form of a directive")]
+    Grammar(usize),
+    /// A word is no module path, no loose path or no file path where one stands.
+    #[error("line {0} has a malformed path")]
+    Path(usize),
+    /// A word is no canonical version, or one that its path may not have.
+    #[error("line {0} has a malformed version, or one that does not fit its path")]
+    Version(usize),
+    /// The word of a go directive is no Go version.
+    #[error("line {0} has a malformed Go version")]
+    GoVersion(usize),
+    /// There is no module directive.
+    #[error("there is no module directive")]
+    NoModule,
+    /// The line is a second directive of a keyword that may stand once.
+    #[error("line {0} repeats a directive that may stand once")]
+    Twice(usize),
+    /// The low version of the interval is above its high one.
+    #[error("line {0} has an interval whose versions are reversed")]
+    Interval(usize),
+    /// The line begins with a name that is no keyword.
+    #[error("line {0} begins with an unknown directive")]
+    Unknown(usize),
+    /// The system is out of memory.
+    #[error("out of memory")]
+    Memory,
+}
+
+impl GoModFault {
+    /// The number of the line; 0 for a fault that has none.
+    pub fn line(&self) -> usize
+        ensures { result ≡ line_of self.now }
+    {
+        match *self {
+            GoModFault::Lex(line)
+            | GoModFault::Grammar(line)
+            | GoModFault::Path(line)
+            | GoModFault::Version(line)
+            | GoModFault::GoVersion(line)
+            | GoModFault::Twice(line)
+            | GoModFault::Interval(line)
+            | GoModFault::Unknown(line) => line,
+            GoModFault::Utf8 | GoModFault::NoModule | GoModFault::Memory => 0,
+        }
+    }
+}
+
+impl From<AllocError> for GoModFault {
+    ghost use Rattle.gomod.specs.declared.fault.GoModFault.TheVariants.{Memory};
+
+    ghost from_gives = { λ _ e. e ≡ Memory };
+
+    fn from(_: AllocError) -> Self {
+        GoModFault::Memory
+    }
+}
+
+impl<T: Drop> From<AllocFailed<T>> for GoModFault {
+    ghost use Rattle.gomod.specs.declared.fault.GoModFault.TheVariants.{Memory};
+
+    ghost from_gives = { λ _ e. e ≡ Memory };
+
+    fn from(_: AllocFailed<T>) -> Self {
+        GoModFault::Memory
+    }
+}

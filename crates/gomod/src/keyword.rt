@@ -1,0 +1,46 @@
+//! The keywords of a go.mod file.
+
+ghost use Rattle.std.specs.Prelude.{◌≡◌};
+ghost use Rattle.gomod.specs.Symbols.{keyword_named, profile_1, is_module, has_block};
+
+/// The keywords, each of which begins a directive. (Go Modules Reference, "go.mod files".)
+#[derive(Clone, Copy, Debug, PartialEq, Eq)]
+pub(crate) enum Keyword {
+    Module,
+    Go,
+    Require,
+    Exclude,
+    Replace,
+    Retract,
+}
+
+impl Keyword {
+    /// The keyword that a name is.
+    #[tactic(auto, unfolding(crate::specs::Symbols::keyword_named))]
+    pub(crate) fn named(name: &str) -> Option<Keyword>
+        ensures { result ≡ keyword_named profile_1 name.now }
+    {
+        match name {
+            "module" => Some(Keyword::Module),
+            "go" => Some(Keyword::Go),
+            "require" => Some(Keyword::Require),
+            "exclude" => Some(Keyword::Exclude),
+            "replace" => Some(Keyword::Replace),
+            "retract" => Some(Keyword::Retract),
+            _ => None,
+        }
+    }
+
+    pub(crate) fn is_module(self) -> bool
+        ensures { result ≡ is_module self }
+    {
+        matches!(self, Keyword::Module)
+    }
+
+    /// Whether its directive may be a block.
+    pub(crate) fn has_block(self) -> bool
+        ensures { result ≡ has_block self }
+    {
+        !matches!(self, Keyword::Go)
+    }
+}

@@ -1,0 +1,157 @@
+//! What a go.mod file says.
+
+ghost use Rattle.std.specs.Prelude.{◌≡◌, ◌↔◌, IsTrue, IsUtf8, Err};
+ghost use Rattle.std.specs.List.{list_any};
+ghost use Rattle.gomod.specs.Symbols.{profile_1};
+ghost use Rattle.gomod.specs.Reading.{Gives, first_unfit, fits_retraction, file_says, text_says, reading};
+ghost use Rattle.gomod.specs.Module.{IsRetracted, is_retracted, covers, interval_of};
+ghost use Rattle.gomod.specs.State.{state_of};
+
+use super::entries::{Requirement, Retraction, is_below};
+use super::fault::GoModFault;
+use super::lexer::cut_line;
+use super::reader::{Reader, read_line};
+use modpath::ModulePath;
+use modver::{Version, fits};
+use std::alloc::Global;
+use std::marker::Model;
+
+/// What a go.mod file says. (Go Modules Reference, "go.mod files".)
+#[derive(Drop)]
+pub struct GoMod {
+    path: ModulePath,
+    required: Vec<Requirement>,
+    retractions: Vec<Retraction>,
+    bare: bool,
+}
+
+impl Model for GoMod {
+    ghost use Rattle.std.specs.Prelude.{map};
+    ghost use Rattle.gomod.specs.Module.{GoModule, interval_of};
+
+    ghost Value = { GoModule };
+
+    ghost view = { λ m. record { path = m.path; required = m.required.items; retractions = map interval_of m.retractions.items; bare = m.bare } };
+}
+
+impl GoMod {
+    /// Reads a go.mod file, or names its first fault.
+    #[tactic(auto, unfolding(crate::specs::Reading::reading))]
+    pub fn read(alloc: Global, bytes: &[u8]) -> Result<GoMod, GoModFault>
+        ensures value { Gives (λ m. m) result (reading profile_1 bytes.now) }
+        ensures memory { result ≡ Err GoModFault.Memory → IsUtf8 bytes.now }
+    {
+        let Ok(text) = str::from_utf8(bytes) else {
+            return Err(GoModFault::Utf8);
+        };
+        read_text(alloc, text)
+    }
+
+    /// The module's path.
+    pub fn module(&self) -> &ModulePath
+        ensures { result.now ≡ self.now.path }
+    {
+        &self.path
+    }
+
+    /// What the module requires, in the file's order.
+    pub fn required(&self) -> &[Requirement]
+        ensures { result.now ≡ self.now.required }
+    {
+        &self.required
+    }
+
+    /// Whether the module takes a version back.
+    pub fn retracts(&self, version: &Version) -> bool
+        ensures value { result ≡ is_retracted self.now version.now }
+        ensures retracted { IsTrue result ↔ IsRetracted self.now version.now }
+    {
+        some_covers(&self.retractions, version)
+    }
+
+    /// Whether the module directive is the only directive.
+    pub fn is_bare(&self) -> bool
+        ensures { result ≡ self.now.bare }
+    {
+        self.bare
+    }
+}
+
+impl Retraction {
+    fn covers(&self, version: &Version) -> bool
+        ensures { result ≡ covers version.now (interval_of self.now) }
+    {
+        !is_below(version, &self.low) && !is_below(&self.high, version)
+    }
+
+    #[tactic(auto, unfolding(crate::specs::Paths::fits_path))]
+    fn fits(&self, path: &ModulePath) -> bool
+        ensures { result ≡ fits_retraction path.now self.now }
+    {
+        fits(path, &self.low) && fits(path, &self.high)
+    }
+}
+
+/// Whether some retraction has the version.
+fn some_covers(retractions: &[Retraction], version: &Version) -> bool
+    ensures { result ≡ list_any (λ r. covers version.now (interval_of r)) retractions.now }
+{
+    retractions.iter().any(|r| r.covers(version))
+}
+
+/// The line of the first retraction that doesn't fit the path.
+fn first_unfit(path: &ModulePath, retractions: &[Retraction]) -> Option<usize>
+    ensures { result ≡ first_unfit path.now retractions.now }
+{
+    for retraction in retractions {
+        if !retraction.fits(path) {
+            return Some(retraction.line);
+        }
+    }
+    None
+}
+
+/// What all lines say, of which the last has a number.
+#[tactic(auto, unfolding(crate::specs::Reading::file_says))]
+fn finish(reader: Reader, last: usize) -> Result<GoMod, GoModFault>
+    ensures { Gives (λ m. m) result (file_says last (state_of reader)) }
+{
+    let Reader {
+        block,
+        module,
+        has_go: _,
+        required,
+        retractions,
+        bare,
+    } = reader;
+    if block.is_some() {
+        return Err(GoModFault::Grammar(last));
+    }
+    let Some(path) = module else {
+        return Err(GoModFault::NoModule);
+    };
+    if let Some(line) = first_unfit(&path, retractions.as_slice()) {
+        return Err(GoModFault::Version(line));
+    }
+    Ok(GoMod {
+        path,
+        required,
+        retractions,
+        bare,
+    })
+}
+
+fn read_text(alloc: Global, text: &str) -> Result<GoMod, GoModFault>
+    ensures { Gives (λ m. m) result (text_says profile_1 text.now) }
+{
+    let mut reader = Reader::new(alloc);
+    let mut line = 1;
+    let mut rest = text;
+    'lines: while let Some((first, behind)) = cut_line(rest) {
+        read_line(&mut reader, alloc, line, first)?;
+        line += 1;
+        rest = behind;
+    }
+    read_line(&mut reader, alloc, line, rest)?;
+    finish(reader, line)
+}

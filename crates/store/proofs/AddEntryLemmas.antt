@@ -1,0 +1,83 @@
+-- What the two INSERTs of an entry do.
+use Rattle.std.proofs.Common.{◌≡◌, ℕ, ℤ, List, [], ◌∷◌, Option, Some, None, unwrap_or, Ok, refl, ap, subst, ◌∙◌}
+use Rattle.sqlite.specs.declared.types.Value.TheVariants.{Null, Int, Text, Blob}
+use Rattle.sqlite.specs.Order.{Row}
+use Rattle.sqlite.specs.Term.{Term, lit, col}
+use Rattle.sqlite.specs.Effect.{Database}
+use Rattle.sqlite.specs.Edit.{next_rowid}
+use Rattle.sqlite.specs.Listing.{understood}
+use Rattle.sqlite.specs.Command.TheVariants.{Insert}
+use Rattle.sqlite.specs.Source.TheVariants.{Values}
+use Rattle.sqlite.specs.Does.{Tally, Does}
+use Rattle.sqlite.specs.State.{State, ExecutesInside}
+use Rattle.sqlite.proofs.Callers.{IsPlain, command_of, runs_as}
+use Rattle.sqlite_tied.specs.Compute.{everything}
+use Rattle.store.specs.Schema.{store_schema, version_table, body_table}
+use Rattle.shelf.specs.declared.entry.Place.{Place}
+use Rattle.shelf.specs.declared.entry.Entry.{Entry}
+use Rattle.store.specs.Added.{Inserted, HasAdded, version_row, body_row}
+use Rattle.store.proofs.Texts.{add_version_text, add_body_text}
+use Rattle.store.proofs.InsertLemmas.{inserted, enforced, cast_null, cast_int}
+
+abbrev pub version_terms : List Term
+version_terms = lit Null ∷ lit Null ∷ col 0 0 ∷ col 0 1 ∷ col 0 2 ∷ lit Null ∷ col 0 3 ∷ []
+
+abbrev pub body_terms : List Term
+body_terms = col 0 0 ∷ lit Null ∷ col 0 1 ∷ []
+
+version_is : command_of (understood store_schema add_version_text) ≡ Insert 3 (Values version_terms 7)
+unfolding understood everything
+version_is = refl
+
+version_plain : IsPlain (understood store_schema add_version_text)
+unfolding understood everything
+version_plain = (refl, refl)
+
+body_is : command_of (understood store_schema add_body_text) ≡ Insert 4 (Values body_terms 3)
+unfolding understood everything
+body_is = refl
+
+body_plain : IsPlain (understood store_schema add_body_text)
+unfolding understood everything
+body_plain = (refl, refl)
+
+abbrev pub version_params : Place → Entry → Row
+version_params p e = Text p.shelf ∷ Text p.path ∷ Text p.version ∷ Blob e.gomod ∷ []
+
+abbrev pub body_params : ℤ → Entry → Row
+body_params id e = Int id ∷ Blob e.zip ∷ []
+
+module _ (limit : Option ℕ) (p : Place) (e : Entry) where
+  version_added : (db : Database) (tally : Tally) (after : Database) → db.schema ≡ store_schema → Does limit enforced (version_params p e) db [] None (Insert 3 (Values version_terms 7)) (Ok (tally, after))
+      → (after.schema ≡ store_schema) × Inserted db.trees after.trees version_table (version_row (next_rowid (db.trees 6)) p e) × (tally.last ≡ Some (next_rowid (db.trees 6)))
+  version_added db tally after has h =
+      let it = inserted limit version_table refl (version_params p e) version_terms 7 (Null ∷ Null ∷ Text p.shelf ∷ Text p.path ∷ Text p.version ∷ Null ∷ Blob e.gomod ∷ []) refl (λ _. refl) 3 refl db [] tally after has h in
+      (it.0, rw cast_null at it.1, rw cast_null at it.2)
+
+  body_added : (id : ℤ) (db : Database) (tally : Tally) (after : Database) → db.schema ≡ store_schema → Does limit enforced (body_params id e) db [] None (Insert 4 (Values body_terms 3)) (Ok (tally, after))
+      → (after.schema ≡ store_schema) × Inserted db.trees after.trees body_table (body_row id e)
+  body_added id db tally after has h =
+      let it = inserted limit body_table refl (body_params id e) body_terms 3 (Int id ∷ Null ∷ Blob e.zip ∷ []) refl (λ _. refl) 4 refl db [] tally after has h in
+      (it.0, rw (cast_null, cast_int id) at it.1)
+
+-- both, one after the other, within a transaction
+pub both_added : (p : Place) (e : Entry) (old mid new : State) (one two : ℕ) → old.now.schema ≡ store_schema → ExecutesInside 0 add_version_text (version_params p e) old mid (Ok one)
+    → ExecutesInside 0 add_body_text (body_params mid.last_rowid e) mid new (Ok two) → HasAdded old new p e
+both_added p e old mid new one two has first second =
+    let w = runs_as add_version_text (version_params p e) old mid store_schema has _ version_is version_plain one first.0 in
+    let a = version_added old.step_limit p e old.now w.tally mid.now has w.changed in
+    let v = runs_as add_body_text (body_params mid.last_rowid e) mid new store_schema a.0 _ body_is body_plain two second.0 in
+    let b = body_added mid.step_limit p e mid.last_rowid mid.now v.tally new.now a.0 v.changed in
+    let id : mid.last_rowid ≡ next_rowid (old.now.trees 6) = w.last_rowid ∙ ap (λ o. unwrap_or o old.last_rowid) a.2 in
+    record {
+      id = next_rowid (old.now.trees 6);
+      mid = mid.now.trees;
+      first = a.1;
+      second = subst (λ n. Inserted mid.now.trees new.now.trees body_table (body_row n e)) id b.1;
+      schema = b.0;
+      sound = v.sound;
+      is_open = v.shown.is_open;
+      was_open = w.shown.was_open;
+      committed = second.1.committed_is ∙ first.1.committed_is;
+      inside = second.1.mode;
+    }

@@ -1,0 +1,100 @@
+-- What the INSERT of a key does.
+use Rattle.std.proofs.Common.{◌≡◌, ℕ, pos, Bool, true, false, cond, List, [], ◌∷◌, Option, Some, None, Ok, refl, sym, ap, ◌∙◌, true≢false, arith, is_some, not}
+use Rattle.sqlite.specs.declared.types.Value.TheVariants.{Null, Int, Text}
+use Rattle.sqlite.specs.Order.{Row}
+use Rattle.sqlite.specs.Term.{Term, lit, col}
+use Rattle.sqlite.specs.Effect.{Database}
+use Rattle.sqlite.specs.Edit.{next_rowid}
+use Rattle.sqlite.specs.Listing.{understood}
+use Rattle.sqlite.specs.Command.TheVariants.{Insert}
+use Rattle.sqlite.specs.Source.TheVariants.{Values}
+use Rattle.sqlite.specs.Does.{Tally, Does}
+use Rattle.sqlite.specs.State.{State}
+use Rattle.sqlite.proofs.Callers.{IsPlain, command_of}
+use Rattle.sqlite_tied.specs.Compute.{everything}
+use Rattle.store.specs.Schema.{store_schema, access_table}
+use Rattle.std.specs.FinMap as map
+use Rattle.std.specs.FinSet as set
+use Rattle.shelf.specs.declared.entry.Holder.{Holder}
+use Rattle.shelf.specs.declared.entry.Right.{Right}
+use Rattle.shelf.specs.declared.reply.Registered.{Registered}
+use Rattle.shelf.specs.declared.reply.Registered.TheVariants.{Done, Name, Taken, NoTeam}
+use Rattle.shelf.specs.World.{World, with_key, is_key}
+use Rattle.shelf.specs.Machine.{key_added, after_key_add}
+use Rattle.shelf.proofs.Orders.{texts_total, texts_exact, get_put}
+use Rattle.store.specs.Means.{Holds, IsAccess}
+use Rattle.store.proofs.Texts.{add_key_text}
+use Rattle.store.specs.Views.{may_publish, with_key_added}
+use Rattle.store.proofs.InsertLemmas.{Inserted, inserted, cast_null, cast_int}
+use Rattle.store.proofs.WriteLemmas.{Rewrites}
+use Rattle.store.proofs.TabulateLemmas.{tabulates_put}
+use Rattle.store.proofs.Maps.{put_keeps, put_splits}
+
+abbrev pub terms : List Term
+terms = lit Null ∷ col 0 0 ∷ col 0 1 ∷ col 0 2 ∷ []
+
+pub add_key_is : command_of (understood store_schema add_key_text) ≡ Insert 2 (Values terms 4)
+unfolding understood everything
+add_key_is = refl
+
+pub add_key_plain : IsPlain (understood store_schema add_key_text)
+unfolding understood everything
+add_key_plain = (refl, refl)
+
+abbrev pub key_params : List ℕ → Holder → Row
+key_params token g = Text token ∷ Text g.shelf ∷ Int (cond (may_publish g.right) (pos 1) (pos 0)) ∷ []
+
+module _ (limit : Option ℕ) (token : List ℕ) (g : Holder) where
+  source : Row
+  source = Null ∷ key_params token g
+
+  added : (db : Database) (text : List ℕ) (tally : Tally) (after : Database) → db.schema ≡ store_schema → Does limit Rattle.store.proofs.InsertLemmas.enforced (key_params token g) db text None (Insert 2 (Values terms 4)) (Ok (tally, after))
+      → (after.schema ≡ store_schema) × Inserted db.trees after.trees access_table (Int (next_rowid (db.trees 4)) ∷ key_params token g)
+  added db text tally after has h =
+      let it = inserted limit access_table refl (key_params token g) terms 4 (Null ∷ key_params token g) refl (λ _. refl) 2 refl db text tally after has h in
+      (it.0, rw (cast_null, cast_int _) at it.1)
+
+module _ (w : World) (token : List ℕ) (g : Holder) (unused : map.get w.keys token ≡ None) where
+  pub add_key_turns : (old : State) → Holds old w → Rewrites add_key_text (key_params token g) 2 (Values terms 4) add_key_is add_key_plain old old w (with_key w token g)
+  add_key_turns old h tally after does =
+      let it = added old.step_limit token g old.now [] tally after h.schema does in
+      let means = h.trees.means in (
+        it.0,
+        record {
+          named = rw (it.1.tables.0 (λ e. omega (arith, e))) means.named;
+          shelves = rw (it.1.tables.1.0 (λ e. omega (arith, e))) means.shelves;
+          access = rw it.1.rows (tabulates_put IsAccess (old.now.trees 4) _ (token, g) _ _ it.1.fresh (refl, refl, refl) (λ y. put_keeps texts_total texts_exact w.keys token g unused y.0 y.1) (get_put texts_total w.keys token g) (put_splits texts_total texts_exact w.keys token g) means.access);
+          entries = rw (it.1.tables.1.1.1.0 (λ e. omega (arith, e)), it.1.tables.1.1.1.1.0 (λ e. omega (arith, e))) means.entries;
+          once = rw (it.1.tables.1.1.1.0 (λ e. omega (arith, e))) means.once;
+        },
+      )
+
+is_done : Registered → Bool
+is_done Done = true
+is_done r = false
+
+module _ (w : World) (shelf token : List ℕ) (right : Right) where
+  pub added_same : (r : Registered) → r ≡ key_added w shelf token → (r ≡ Done → ⊥) → with_key_added shelf token right w ≡ w
+  added_same r is other = go (key_added w shelf token) (λ e. other (is ∙ e))
+    where
+      go : (q : Registered) → (q ≡ Done → ⊥) → after_key_add w shelf token right q ≡ w
+      go Done other = absurd (other refl)
+      go Name other = refl
+      go Taken other = refl
+      go NoTeam other = refl
+
+  pub added_new : key_added w shelf token ≡ Done → with_key_added shelf token right w ≡ with_key w token (record { shelf = shelf; right = right })
+  added_new h = ap (λ (q : Registered). after_key_add w shelf token right q) h
+
+  pub unused_from : key_added w shelf token ≡ Done → map.get w.keys token ≡ None
+  unfolding is_done
+  unused_from h = go (is_key token) (set.contains w.shelves shelf) (map.get w.keys token) refl h
+    where
+      go : (a b : Bool) (o : Option Holder) → map.get w.keys token ≡ o → cond (not a) Name (cond (not b) NoTeam (cond (is_some o) Taken Done)) ≡ Done → map.get w.keys token ≡ None
+      go true true None is h = is
+      go true true (Some x) is h = absurd (true≢false (sym (ap is_done h)))
+      go true false o is h = absurd (true≢false (sym (ap is_done h)))
+      go false b o is h = absurd (true≢false (sym (ap is_done h)))
+
+pub misnamed : (w : World) (shelf token : List ℕ) → is_key token ≡ false → Name ≡ key_added w shelf token
+misnamed w shelf token wrong = rw wrong refl

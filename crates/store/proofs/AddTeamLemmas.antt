@@ -1,0 +1,75 @@
+-- What the INSERT of a shelf does.
+use Rattle.std.proofs.Common.{◌≡◌, ℕ, false, List, [], ◌∷◌, Option, None, Ok, refl, ap, ◌∙◌, arith}
+use Rattle.sqlite.specs.declared.types.Value.TheVariants.{Null, Int, Text}
+use Rattle.sqlite.specs.Order.{Row}
+use Rattle.sqlite.specs.Term.{Term, lit, col}
+use Rattle.sqlite.specs.Effect.{Database}
+use Rattle.sqlite.specs.Edit.{next_rowid}
+use Rattle.sqlite.specs.Listing.{understood}
+use Rattle.sqlite.specs.Command.TheVariants.{Insert}
+use Rattle.sqlite.specs.Source.TheVariants.{Values}
+use Rattle.sqlite.specs.Does.{Tally, Does}
+use Rattle.sqlite.specs.State.{State}
+use Rattle.sqlite.proofs.Callers.{IsPlain, command_of}
+use Rattle.sqlite_tied.specs.Compute.{everything}
+use Rattle.shelf.specs.declared.reply.Registered.{Registered}
+use Rattle.shelf.specs.declared.reply.Registered.TheVariants.{Done, Name}
+use Rattle.shelf.specs.World.{World, with_team, is_team_name}
+use Rattle.shelf.specs.Machine.{team_added, after_team_add}
+use Rattle.shelf.proofs.Sound.{still}
+use Rattle.store.specs.Schema.{store_schema, shelf_table}
+use Rattle.store.specs.Means.{Holds, IsShelf}
+use Rattle.store.specs.Views.{with_team_added}
+use Rattle.store.proofs.Texts.{add_shelf_text}
+use Rattle.store.proofs.InsertLemmas.{Inserted, inserted, enforced, cast_null}
+use Rattle.store.proofs.WriteLemmas.{Rewrites}
+use Rattle.store.proofs.TabulateLemmas.{tabulates_put}
+use Rattle.store.proofs.Maps.{text_put, text_splits}
+
+abbrev pub terms : List Term
+terms = lit Null ∷ col 0 0 ∷ []
+
+pub add_shelf_is : command_of (understood store_schema add_shelf_text) ≡ Insert 1 (Values terms 2)
+unfolding understood everything
+add_shelf_is = refl
+
+pub add_shelf_plain : IsPlain (understood store_schema add_shelf_text)
+unfolding understood everything
+add_shelf_plain = (refl, refl)
+
+abbrev pub shelf_params : List ℕ → Row
+shelf_params name = Text name ∷ []
+
+added : (limit : Option ℕ) (name : List ℕ) (db : Database) (text : List ℕ) (tally : Tally) (after : Database) → db.schema ≡ store_schema → Does limit enforced (shelf_params name) db text None (Insert 1 (Values terms 2)) (Ok (tally, after))
+    → (after.schema ≡ store_schema) × Inserted db.trees after.trees shelf_table (Int (next_rowid (db.trees 2)) ∷ shelf_params name)
+added limit name db text tally after has h =
+    let it = inserted limit shelf_table refl (shelf_params name) terms 2 (Null ∷ shelf_params name) refl (λ _. refl) 1 refl db text tally after has h in
+    (it.0, rw cast_null at it.1)
+
+module _ (w : World) (name : List ℕ) where
+  pub add_shelf_turns : (old : State) → Holds old w → Rewrites add_shelf_text (shelf_params name) 1 (Values terms 2) add_shelf_is add_shelf_plain old old w (with_team w name)
+  add_shelf_turns old h tally after does =
+      let it = added old.step_limit name old.now [] tally after h.schema does in
+      let means = h.trees.means in (
+        it.0,
+        record {
+          named = rw (it.1.tables.0 (λ e. omega (arith, e))) means.named;
+          shelves = rw it.1.rows (tabulates_put IsShelf (old.now.trees 2) _ name _ _ it.1.fresh refl (λ y. still w.shelves name y) (text_put w.shelves name) (text_splits w.shelves name) means.shelves);
+          access = rw (it.1.tables.1.1.0 (λ e. omega (arith, e))) means.access;
+          entries = rw (it.1.tables.1.1.1.0 (λ e. omega (arith, e)), it.1.tables.1.1.1.1.0 (λ e. omega (arith, e))) means.entries;
+          once = rw (it.1.tables.1.1.1.0 (λ e. omega (arith, e))) means.once;
+        },
+      )
+
+  pub team_same : (r : Registered) → r ≡ team_added w name → (r ≡ Done → ⊥) → with_team_added name w ≡ w
+  team_same r is other = go (team_added w name) (λ e. other (is ∙ e))
+    where
+      go : (q : Registered) → (q ≡ Done → ⊥) → after_team_add w name q ≡ w
+      go Done other = absurd (other refl)
+      go _ other = refl
+
+  pub team_new : team_added w name ≡ Done → with_team_added name w ≡ with_team w name
+  team_new h = ap (λ (q : Registered). after_team_add w name q) h
+
+pub misnamed_team : (w : World) (name : List ℕ) → is_team_name name ≡ false → Name ≡ team_added w name
+misnamed_team w name wrong = rw wrong refl

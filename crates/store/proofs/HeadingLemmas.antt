@@ -1,0 +1,153 @@
+-- What the queries of an entry answer.
+use Rattle.std.proofs.Common.{◌≡◌, ◌&&◌, ℕ, ℤ, Bool, true, false, List, [], ◌∷◌, Option, Some, None, refl, sym, ap, subst, ◌∙◌, codes, true≢false}
+use Rattle.std.specs.Option.{option_or}
+use Rattle.std.proofs.lemmas.Bool.{and_parts}
+use Rattle.std.specs.FinMap as map
+use Rattle.sqlite.specs.declared.types.Value.TheVariants.{Int, Text, Blob}
+use Rattle.sqlite.specs.Collation.TheVariants.{Binary}
+use Rattle.sqlite_sql.specs.declared.ops.BinaryOp.TheVariants.{Compare}
+use Rattle.sqlite_sql.specs.declared.ops.CompareOp.TheVariants.{Eq}
+use Rattle.sqlite.specs.Order.{Row, column}
+use Rattle.sqlite.specs.Tree.{Trees, rowid}
+use Rattle.sqlite.specs.Term.{Term, col, op2}
+use Rattle.sqlite.specs.Effect.{Database}
+use Rattle.sqlite.specs.Listing.{understood, reads_listing}
+use Rattle.sqlite.specs.Command.TheVariants.{Select}
+use Rattle.sqlite.proofs.Callers.{IsPlain, command_of}
+use Rattle.sqlite_tied.specs.Compute.{everything}
+use Rattle.sqlite_schema.specs.Rules.{equal}
+use Rattle.shelf.specs.declared.entry.Place.{Place}
+use Rattle.shelf.specs.declared.entry.Entry.{Entry}
+use Rattle.shelf.specs.declared.entry.Seen.{Seen}
+use Rattle.shelf.specs.World.{World, common, place, seen_at, view}
+use Rattle.store.specs.Schema.{store_schema}
+use Rattle.store.specs.declared.entries.Heading.{Heading}
+use Rattle.store.specs.Means.{Means, IsVersion, IsAt}
+use Rattle.store.specs.Reading.{IsHeading, HasZip}
+use Rattle.store.specs.Lookup.{lookup, passes, FirstFound}
+use Rattle.store.specs.Calls.{Selects}
+use Rattle.store.proofs.Texts.{heading_text, zip_text}
+use Rattle.store.proofs.ValueLemmas.{equals_text, equals_itself}
+use Rattle.store.proofs.LookupLemmas.{selected_found}
+use Rattle.store.proofs.TransactionLemmas.{same_place}
+
+abbrev pub by_place : List Term
+by_place = op2 (Compare Eq Binary) (col 1 2) (col 0 0) ∷ op2 (Compare Eq Binary) (col 1 3) (col 0 1) ∷ op2 (Compare Eq Binary) (col 1 4) (col 0 2) ∷ []
+
+abbrev pub heading : List Term
+heading = col 1 0 ∷ col 1 2 ∷ col 1 6 ∷ []
+
+heading_is : command_of (understood store_schema heading_text) ≡ Select (record { lets = []; body = lookup 6 by_place heading }) (codes "id" ∷ codes "shelf" ∷ codes "mod" ∷ [])
+unfolding understood everything
+heading_is = refl
+
+pub heading_plain : IsPlain (understood store_schema heading_text)
+unfolding understood everything
+heading_plain = (refl, refl)
+
+pub heading_tables : reads_listing store_schema heading_text ≡ false
+unfolding understood everything
+heading_tables = refl
+
+abbrev by_number : List Term
+by_number = op2 (Compare Eq Binary) (col 1 0) (col 0 0) ∷ []
+
+zip_is : command_of (understood store_schema zip_text) ≡ Select (record { lets = []; body = lookup 8 by_number (col 1 2 ∷ []) }) (codes "zip" ∷ [])
+unfolding understood everything
+zip_is = refl
+
+pub zip_plain : IsPlain (understood store_schema zip_text)
+unfolding understood everything
+zip_plain = (refl, refl)
+
+pub zip_tables : reads_listing store_schema zip_text ≡ false
+unfolding understood everything
+zip_tables = refl
+
+abbrev pub place_params : Place → Row
+place_params p = Text p.shelf ∷ Text p.path ∷ Text p.version ∷ []
+
+module _ (p : Place) (db : Database) (w : World) (means : Means db.trees w) where
+  passes_at : (row : Row) → passes by_place (place_params p) row ≡ true → IsAt row p
+  passes_at row h =
+      let one = and_parts _ _ h in
+      let two = and_parts _ _ one.1 in
+      let three = and_parts _ _ two.1 in
+      (equals_text (column row 2) p.shelf one.0, equals_text (column row 3) p.path two.0, equals_text (column row 4) p.version three.0)
+
+  passes_own : (row : Row) → IsAt row p → passes by_place (place_params p) row ≡ true
+  passes_own row at = rw (at.0, at.1, at.2, equals_itself p.shelf, equals_itself p.path, equals_itself p.version) refl
+
+  heading_some : (out : Row) (h : Heading) → FirstFound (db.trees 6) by_place heading (place_params p) (Some out) → column out 0 ≡ Int h.id → column out 1 ≡ Text h.shelf → column out 2 ≡ Blob h.gomod → IsHeading db.trees w p h
+  heading_some out h found id shelf gomod =
+      let it = means.entries.each found.0 found.1 in
+      let at = passes_at found.0 found.2 in
+      let same : it.0.0 ≡ p = same_place found.0 it.0.0 p it.1.place at in
+      let shelves : h.shelf ≡ p.shelf = let e = sym shelf ∙ (ap (λ (r : Row). column r 1) found.3 ∙ at.0) in cc in
+      let mods : h.gomod ≡ it.0.1.gomod = let e = sym gomod ∙ (ap (λ (r : Row). column r 2) found.3 ∙ it.1.gomod) in cc in
+      record {
+        row = found.0;
+        entry = it.0.1;
+        kept = subst (λ q. map.get w.entries q ≡ Some it.0.1) same it.2;
+        is = subst (λ q. IsVersion (db.trees 8) found.0 (q, it.0.1)) same it.1;
+        id = sym (ap (λ (r : Row). column r 0) found.3) ∙ id;
+        shelf = shelves;
+        gomod = mods;
+      }
+
+  heading_none : FirstFound (db.trees 6) by_place heading (place_params p) None → map.get w.entries p ≡ None
+  heading_none h = go (map.get w.entries p) refl
+    where
+      go : (o : Option Entry) → map.get w.entries p ≡ o → map.get w.entries p ≡ None
+      go None is = is
+      go (Some e) is = absurd (let it = means.entries.found (p, e) is in true≢false (sym (passes_own it.0 it.2.place) ∙ h it.0 it.1))
+
+  pub heading_read : (row : Row) (h : Heading) → Selects heading_text (place_params p) db (Some row) → column row 0 ≡ Int h.id → column row 1 ≡ Text h.shelf → column row 2 ≡ Blob h.gomod → IsHeading db.trees w p h
+  heading_read row h picked = heading_some row h (selected_found heading_text (place_params p) db 6 by_place heading _ heading_is (λ _. refl) (Some row) picked)
+
+  pub heading_lacks : Selects heading_text (place_params p) db None → map.get w.entries p ≡ None
+  heading_lacks picked = heading_none (selected_found heading_text (place_params p) db 6 by_place heading _ heading_is (λ _. refl) None picked)
+
+and_true : (b : Bool) → (b && true) ≡ false → b ≡ false
+and_true true e = e
+and_true false e = refl
+
+module _ (id : ℤ) (db : Database) where
+  pub zip_read : (row : Row) (zip : List ℕ) → Selects zip_text (Int id ∷ []) db (Some row) → column row 0 ≡ Blob zip → HasZip db.trees id (Some zip)
+  zip_read row zip picked is =
+      let found = selected_found zip_text (Int id ∷ []) db 8 by_number (col 1 2 ∷ []) _ zip_is (λ _. refl) (Some row) picked in
+      (found.0, found.1, (and_parts _ _ found.2).0, sym (ap (λ (r : Row). column r 0) found.3) ∙ is)
+
+  pub zip_lacks : Selects zip_text (Int id ∷ []) db None → HasZip db.trees id None
+  zip_lacks picked row there = and_true (equal Binary (rowid row) (Int id)) (selected_found zip_text (Int id ∷ []) db 8 by_number (col 1 2 ∷ []) _ zip_is (λ _. refl) None picked row there)
+
+-- the two rows are the entry
+pub entry_whole : (db : Trees) (w : World) (p : Place) (h : Heading) (zip : List ℕ) → IsHeading db w p h → HasZip db h.id (Some zip)
+    → Some (record { shelf = h.shelf; entry = record { gomod = h.gomod; zip = zip } }) ≡ seen_at (map.get w.entries p) p.shelf
+entry_whole db w p h zip it found =
+    let zips : it.entry.zip ≡ zip = let e = sym (it.is.only found.0 found.1 (ap (λ v. equal Binary (rowid found.0) v) it.id ∙ found.2)) ∙ found.3 in cc in
+    let mods = it.gomod in
+    let shelves = it.shelf in
+    ap Some (λ i. record { shelf = shelves i; entry = record { gomod = mods i; zip = sym zips i } }) ∙ sym (ap (λ o. seen_at o p.shelf) it.kept)
+
+pub entry_lacks : (w : World) (p : Place) → map.get w.entries p ≡ None → None ≡ seen_at (map.get w.entries p) p.shelf
+entry_lacks w p none = sym (ap (λ o. seen_at o p.shelf) none)
+
+-- ---- what a shelf sees
+
+after_none : {X : Type 0} (o : Option X) → option_or o None ≡ o
+after_none None = refl
+after_none (Some x) = refl
+
+module _ (w : World) (s p v : List ℕ) where
+  abbrev on_own : Option Seen
+  on_own = seen_at (map.get w.entries (place s p v)) s
+
+  abbrev on_common : Option Seen
+  on_common = seen_at (map.get w.entries (place common p v)) common
+
+  pub view_own : (seen : Seen) → Some seen ≡ on_own → Some seen ≡ view w s p v
+  view_own seen is = ap (λ o. option_or o (option_or on_common None)) is
+
+  pub view_common : (found : Option Seen) → None ≡ on_own → found ≡ on_common → found ≡ view w s p v
+  view_common found none is = is ∙ (sym (after_none on_common) ∙ ap (λ o. option_or o (option_or on_common None)) none)

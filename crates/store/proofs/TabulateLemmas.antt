@@ -1,0 +1,45 @@
+-- One row more.
+use Rattle.std.proofs.Common.{◌≡◌, ◌⊎◌, true, List, [], ◌∷◌, inl, inr, refl, sym, subst}
+use Rattle.std.specs.List.{AllByRecursion}
+use Rattle.std.specs.Ordering.{match_ordering}
+use Rattle.std.specs.declared.cmp.Ordering.{Ordering}
+use Rattle.std.specs.declared.cmp.Ordering.TheVariants.{Less, Equal, Greater}
+use Rattle.sqlite.specs.Order.{Row}
+use Rattle.sqlite.specs.Tree.{rowid}
+use Rattle.sqlite_value.specs.Order.{value_cmp}
+use Rattle.sqlite_trees.specs.Tree.{IsAscending, put_row}
+use Rattle.sqlite.specs.Edit.{put_all, are_fresh}
+use Rattle.sqlite_rules.proofs.ListLemmas.{all_from, all_has}
+use Rattle.sqlite_rules.proofs.TableLemmas.{put_all_has, put_all_keeps, put_all_adds, put_has}
+use Rattle.store.specs.Means.{Tabulates}
+
+pub tabulates_put : {X : Type 0} (IsRow : Row → X → Type 0) (rows : List Row) (row : Row) (x : X) (P Q : X → Type 0) → are_fresh rows (row ∷ []) ≡ true → IsRow row x
+    → ((y : X) → P y → Q y) → Q x → ((y : X) → Q y → (y ≡ x) ⊎ P y) → Tabulates IsRow rows P → Tabulates IsRow (put_all rows (row ∷ [])) Q
+tabulates_put {X} IsRow rows row x P Q fresh is grows new only h = record {
+  each = λ r there. elim (put_all_has (row ∷ []) rows r there) [
+    | inl (inl same) ↦ (x, subst (λ z. IsRow z x) (sym same) is, new)
+    | inl (inr none) ↦ absurd none
+    | inr was ↦ (let it = h.each r was in (it.0, it.1, grows it.0 it.2))
+  ];
+  found = λ y holds. elim (only y holds) [
+    | inl same ↦ (row, put_all_adds (row ∷ []) rows row fresh (inl refl), subst (IsRow row) (sym same) is)
+    | inr was ↦ (let it = h.found y was in (it.0, put_all_keeps (row ∷ []) rows it.0 fresh it.1, it.2))
+  ];
+}
+
+-- where each two rows have a relation, and each of them to a new one, so they have with it among them
+module _ (P : Row → Row → Type 0) (turned : (a b : Row) → P a b → P b a) (new : Row) where
+  all_put : (r : Row) (rows : List Row) → P r new → AllByRecursion (P r) rows → AllByRecursion (P r) (put_row new rows)
+  all_put r rows first rest = all_from (P r) (put_row new rows) (λ x h. elim (put_has new rows x h) [ inl same ↦ subst (P r) (sym same) first | inr was ↦ all_has (P r) rows x rest was ])
+
+  abbrev placed : Ordering → Row → List Row → List Row
+  placed o r rows = match_ordering o (r ∷ put_row new rows) (new ∷ rows) (new ∷ r ∷ rows)
+
+  pub put_apart : (rows : List Row) → AllByRecursion (P new) rows → IsAscending P rows → IsAscending P (put_row new rows)
+  put_apart [] apart up = (tt, tt)
+  put_apart (r ∷ rows) apart up = go (value_cmp (rowid r) (rowid new)) (put_apart rows apart.1 up.1)
+    where
+      go : (o : Ordering) → IsAscending P (put_row new rows) → IsAscending P (placed o r rows)
+      go Less rest = (all_put r rows (turned new r apart.0) up.0, rest)
+      go Equal rest = (apart.1, up.1)
+      go Greater rest = (apart, up)

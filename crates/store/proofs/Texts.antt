@@ -1,0 +1,29 @@
+-- The statements.
+use Rattle.std.specs.Prelude.{codes, List, ℕ}
+
+abbrev pub key_text : List ℕ
+key_text = codes "SELECT shelf, publish FROM access WHERE token = ?1"
+
+abbrev pub add_key_text : List ℕ
+add_key_text = codes "INSERT INTO access (token, shelf, publish) VALUES (?1, ?2, ?3)"
+
+abbrev pub shelf_text : List ℕ
+shelf_text = codes "SELECT name FROM shelf WHERE name = ?1"
+
+abbrev pub add_shelf_text : List ℕ
+add_shelf_text = codes "INSERT INTO shelf (name) VALUES (?1)"
+
+abbrev pub heading_text : List ℕ
+heading_text = codes "SELECT id, shelf, mod FROM version WHERE shelf = ?1 AND path = ?2 AND version = ?3"
+
+abbrev pub zip_text : List ℕ
+zip_text = codes "SELECT zip FROM body WHERE id = ?1"
+
+abbrev pub count_text : List ℕ
+count_text = codes "SELECT count(*) FROM version WHERE shelf = ?1 AND path = ?2"
+
+abbrev pub add_version_text : List ℕ
+add_version_text = codes "INSERT INTO version (shelf, path, version, mod) VALUES (?1, ?2, ?3, ?4)"
+
+abbrev pub add_body_text : List ℕ
+add_body_text = codes "INSERT INTO body (id, zip) VALUES (?1, ?2)"

@@ -1,0 +1,52 @@
+-- What a call on the store leaves of it.
+use Rattle.std.specs.Prelude.{ℕ, ◌≤◌, ◌≡◌, ◌⊎◌, List, [], ◌∷◌, Option, Some, None, IsTrue, Bool, if◌then◌else◌}
+use Rattle.sqlite_trees.specs.View.{doubt}
+use Rattle.sqlite.specs.Tree.{Trees}
+use Rattle.sqlite.specs.Order.{Row}
+use Rattle.sqlite.specs.Effect.{Database, Reads, ReadsFirst}
+use Rattle.sqlite.specs.Listing.{understood}
+use Rattle.sqlite.specs.State.{State, HasCleanDisk}
+use Rattle.sqlite.proofs.Callers.{command_of}
+use Rattle.shelf.specs.World.{World}
+use Rattle.store.specs.Schema.{store_schema}
+use Rattle.shelf.specs.Store.{Shown}
+use Rattle.store.specs.Means.{Stands, StandsFor, StandFor}
+
+-- it shows the same world, and a crash leaves nothing that it did not leave before
+pub record Spares (old new : State) : Type 0 where
+  pub clean : doubt old.is_clean ≤ doubt new.is_clean
+  pub stays : (w : World) → Stands old w → Stands new w
+  pub left : HasCleanDisk new → (w : World) → Stands old w → (db : Trees) → new.may_leave db → old.may_leave db
+
+-- the row begins an answer of the query, or its answer is empty
+abbrev pub Selects : List ℕ → Row → Database → Option Row → Type 0
+Selects sql params db (Some row) = ReadsFirst (command_of (understood store_schema sql)) db params (row ∷ [])
+Selects sql params db None = Reads (command_of (understood store_schema sql)) db params []
+
+-- whatever an open after a crash at this moment may find stands for a world, and for one of these
+abbrev pub LeavesOnly : State → (World → Type 0) → Type 0
+LeavesOnly s P = (db : Trees) → s.may_leave db → (x : World) × StandFor db x × P x
+
+-- It makes the next world of this one where it is done, and leaves it where it is not. A crash leaves one of the two, and once it is done the next alone.
+pub record ChangesAt (old new : State) (done : Bool) (w next : World) : Type 0 where
+  pub world : Stands old w → Stands new (if done then next else w)
+  pub left : HasCleanDisk new → Stands old w → LeavesOnly old (λ x. x ≡ w) → LeavesOnly new (λ x. (x ≡ w) ⊎ (x ≡ next))
+  pub kept : IsTrue done → HasCleanDisk new → Stands old w → LeavesOnly new (λ x. x ≡ next)
+
+pub record Changes (old new : State) (done : Bool) (next : World → World) : Type 0 where
+  pub clean : doubt old.is_clean ≤ doubt new.is_clean
+  pub at : (w : World) → ChangesAt old new done w (next w)
+
+-- whatever a crash leaves stands for the first or for the second
+abbrev pub LeavesEither : State → World → World → Type 0
+LeavesEither s w x = LeavesOnly s (λ y. (y ≡ w) ⊎ (y ≡ x))
+
+-- what is known of a store from what its connection shows
+abbrev pub shown_of : State → Shown
+shown_of s = record { stands = StandsFor s; is_honest = HasCleanDisk s; leaves = LeavesEither s }
+
+-- each disk below was as told so far, the store stands for the world, and a crash leaves that world alone
+pub record BeginsAt (s : Shown) (w : World) : Type 0 where
+  pub honest : s.is_honest
+  pub stands : s.stands w
+  pub left : s.leaves w w

@@ -1,0 +1,33 @@
+-- What the rows of an entry show.
+use Rattle.std.specs.Prelude.{◌≡◌, ℤ, true, false, List, ℕ, Option, Some, None}
+use Rattle.std.specs.FinMap as map
+use Rattle.sqlite.specs.declared.types.Value.TheVariants.{Int, Blob}
+use Rattle.sqlite.specs.Order.{Row, column}
+use Rattle.sqlite.specs.Tree.{Trees, rowid}
+use Rattle.sqlite.specs.Collation.TheVariants.{Binary}
+use Rattle.sqlite_schema.specs.Rules.{equal}
+use Rattle.sqlite_rules.specs.Lists.{Has}
+use Rattle.shelf.specs.declared.entry.Place.{Place}
+use Rattle.shelf.specs.declared.entry.Entry.{Entry}
+use Rattle.shelf.specs.World.{World}
+use Rattle.store.specs.declared.entries.Heading.{Heading}
+use Rattle.store.specs.Means.{IsVersion}
+use Rattle.store.specs.Schema.{body_table}
+
+-- what the row of a version shows, and the entry that the row is of
+pub record IsHeading (db : Trees) (w : World) (p : Place) (h : Heading) : Type 0 where
+  pub row : Row
+  pub entry : Entry
+  pub kept : map.get w.entries p ≡ Some entry
+  pub is : IsVersion (db body_table.tree) row (p, entry)
+  pub id : rowid row ≡ Int h.id
+  pub shelf : h.shelf ≡ p.shelf
+  pub gomod : h.gomod ≡ entry.gomod
+
+abbrev pub HasHeading : Trees → World → Place → Option Heading → Type 0
+HasHeading db w p (Some h) = IsHeading db w p h
+HasHeading db w p None = map.get w.entries p ≡ None
+
+abbrev pub HasZip : Trees → ℤ → Option (List ℕ) → Type 0
+HasZip db id (Some zip) = (row : Row) × Has (db body_table.tree) row × (equal Binary (rowid row) (Int id) ≡ true) × (column row 2 ≡ Blob zip)
+HasZip db id None = (row : Row) → Has (db body_table.tree) row → equal Binary (rowid row) (Int id) ≡ false

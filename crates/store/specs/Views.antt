@@ -1,0 +1,18 @@
+-- Values of the program as the definitions see them.
+use Rattle.std.specs.Prelude.{ℕ, List, Bool, true, false}
+use Rattle.shelf.specs.declared.entry.Right.{Right}
+use Rattle.shelf.specs.declared.entry.Right.TheVariants.{Reads, Publishes}
+use Rattle.shelf.specs.World.{World}
+use Rattle.shelf.specs.Machine.{key_added, after_key_add, team_added, after_team_add}
+
+abbrev pub may_publish : Right → Bool
+may_publish Reads = false
+may_publish Publishes = true
+
+-- the world once a key was asked for
+abbrev pub with_key_added : List ℕ → List ℕ → Right → World → World
+with_key_added shelf key right w = after_key_add w shelf key right (key_added w shelf key)
+
+-- the world once a team was asked for
+abbrev pub with_team_added : List ℕ → World → World
+with_team_added name w = after_team_add w name (team_added w name)

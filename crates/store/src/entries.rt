@@ -1,0 +1,221 @@
+//! Entries over SQL tables.
+
+ghost use Rattle.std.specs.Prelude.{◌≡◌, ◌≤◌, pos, true, IfOk, OnOk, is_ok, IsTrue};
+ghost use Rattle.std.specs.FinMap as map;
+ghost use Rattle.sqlite.specs.declared.types.Value.TheVariants.{Int, Text as StoredText, Blob};
+ghost use Rattle.sqlite.specs.Order.{column};
+ghost use Rattle.sqlite.specs.Held.{state};
+ghost use Rattle.sqlite.specs.State.{HasCleanDisk, KeepsCommit, Survives};
+ghost use Rattle.sqlite_trees.specs.View.{doubt};
+ghost use Rattle.shelf.specs.World.{place, seen_at, view, count, with_entry};
+ghost use Rattle.store.specs.Schema.{store_schema};
+ghost use Rattle.store.specs.Means.{Stands, StandsFor};
+ghost use Rattle.store.specs.Calls.{Spares, ChangesAt};
+ghost use Rattle.store.specs.Reading.{HasHeading, HasZip};
+ghost use Rattle.store.specs.Added.{HasAdded};
+
+use crate::shelves::{find_row, has_shelf};
+use shelf::bytes::Bytes;
+use shelf::entry::{Entry, Seen};
+use shelf::text::Text;
+use sqlite::{Alter, Connection, Error, ErrorCode, Row, Transaction, params};
+
+/// What the row of a version shows, with its number.
+#[derive(Drop)]
+pub(crate) struct Heading {
+    pub(crate) id: i64,
+    pub(crate) shelf: Text,
+    pub(crate) gomod: Bytes,
+}
+
+fn read_heading(row: &Row) -> Result<Heading, Error>
+    ensures { IfOk result (λ h. (column row.now 0 ≡ Int h.id) × (column row.now 1 ≡ StoredText h.shelf) × (column row.now 2 ≡ Blob h.gomod)) }
+{
+    let id: i64 = row.get(0)?;
+    let shelf: String = row.get(1)?;
+    let gomod: Vec<u8> = row.get(2)?;
+    Ok(Heading {
+        id,
+        shelf: Text::new(shelf),
+        gomod: Bytes::new(gomod),
+    })
+}
+
+/// The row of a version on a shelf.
+fn find_heading<S: Alter>(
+    conn: &mut Connection<S>,
+    shelf: &str,
+    path: &str,
+    version: &str,
+) -> Result<Option<Heading>, Error>
+    ensures spares { Spares (state S.Store conn.old) (state S.Store conn.new) }
+    ensures same { HasCleanDisk (state S.Store conn.new) → (w : _) → Stands (state S.Store conn.old) w → OnOk result ((state S.Store conn.new).now ≡ (state S.Store conn.old).now) }
+    ensures answer { HasCleanDisk (state S.Store conn.new) → (w : _) → Stands (state S.Store conn.old) w → IfOk result (λ found. IsTrue (state S.Store conn.old).is_open × IsTrue (state S.Store conn.new).is_open
+        × HasHeading (state S.Store conn.old).now.trees w (place shelf.now path.now version.now) found) }
+{
+    match find_row(
+        conn,
+        "SELECT id, shelf, mod FROM version WHERE shelf = ?1 AND path = ?2 AND version = ?3",
+        params![shelf, path, version],
+    )? {
+        Some(row) => Ok(Some(read_heading(&row)?)),
+        None => Ok(None),
+    }
+}
+
+fn read_zip(row: &Row) -> Result<Bytes, Error>
+    ensures { IfOk result (λ zip. column row.now 0 ≡ Blob zip) }
+{
+    let zip: Vec<u8> = row.get(0)?;
+    Ok(Bytes::new(zip))
+}
+
+/// The zip that has this number.
+fn find_zip<S: Alter>(conn: &mut Connection<S>, id: i64) -> Result<Option<Bytes>, Error>
+    ensures spares { Spares (state S.Store conn.old) (state S.Store conn.new) }
+    ensures answer { HasCleanDisk (state S.Store conn.new) → (w : _) → Stands (state S.Store conn.old) w → IfOk result (λ found. IsTrue (state S.Store conn.old).is_open × IsTrue (state S.Store conn.new).is_open
+        × HasZip (state S.Store conn.old).now.trees id found) }
+{
+    match find_row(conn, "SELECT zip FROM body WHERE id = ?1", params![id])? {
+        Some(row) => Ok(Some(read_zip(&row)?)),
+        None => Ok(None),
+    }
+}
+
+/// The entry of a version on a shelf, with the shelf.
+fn entry_at<S: Alter>(
+    conn: &mut Connection<S>,
+    shelf: &str,
+    path: &str,
+    version: &str,
+) -> Result<Option<Seen>, Error>
+    ensures spares { Spares (state S.Store conn.old) (state S.Store conn.new) }
+    ensures answer { HasCleanDisk (state S.Store conn.new) → (w : _) → Stands (state S.Store conn.old) w → IfOk result (λ found. IsTrue (state S.Store conn.old).is_open × IsTrue (state S.Store conn.new).is_open
+        × (found ≡ seen_at (map.get w.entries (place shelf.now path.now version.now)) shelf.now)) }
+{
+    let Some(heading) = find_heading(conn, shelf, path, version)? else {
+        return Ok(None);
+    };
+    let Some(zip) = find_zip(conn, heading.id)? else {
+        return Err(Error::SqliteFailure(ErrorCode::DatabaseCorrupt));
+    };
+    Ok(Some(Seen {
+        shelf: heading.shelf,
+        entry: Entry {
+            gomod: heading.gomod,
+            zip,
+        },
+    }))
+}
+
+/// The entry that a shelf sees: its own, or else that of `common`.
+pub(crate) fn find_entry<S: Alter>(
+    conn: &mut Connection<S>,
+    shelf: &str,
+    path: &str,
+    version: &str,
+) -> Result<Option<Seen>, Error>
+    ensures spares { Spares (state S.Store conn.old) (state S.Store conn.new) }
+    ensures answer { HasCleanDisk (state S.Store conn.new) → (w : _) → Stands (state S.Store conn.old) w → IfOk result (λ found. found ≡ view w shelf.now path.now version.now) }
+{
+    match entry_at(conn, shelf, path, version)? {
+        Some(seen) => Ok(Some(seen)),
+        None => entry_at(conn, "common", path, version),
+    }
+}
+
+fn read_count(row: &Row) -> Result<u64, Error>
+    ensures { IfOk result (λ n. column row.now 0 ≡ Int (pos n)) }
+{
+    let count: i64 = row.get(0)?;
+    match u64::try_from(count) {
+        Ok(count) => Ok(count),
+        Err(_) => Err(Error::SqliteFailure(ErrorCode::DatabaseCorrupt)),
+    }
+}
+
+/// How many versions of a path stand on a shelf.
+pub(crate) fn count_entries<S: Alter>(
+    conn: &mut Connection<S>,
+    shelf: &str,
+    path: &str,
+) -> Result<u64, Error>
+    ensures spares { Spares (state S.Store conn.old) (state S.Store conn.new) }
+    ensures answer { HasCleanDisk (state S.Store conn.new) → (w : _) → StandsFor (state S.Store conn.old) w → IfOk result (λ n. n ≡ count w shelf.now path.now) }
+{
+    match find_row(
+        conn,
+        "SELECT count(*) FROM version WHERE shelf = ?1 AND path = ?2",
+        params![shelf, path],
+    )? {
+        Some(row) => read_count(&row),
+        None => Err(Error::SqliteFailure(ErrorCode::DatabaseCorrupt)),
+    }
+}
+
+/// Writes the two rows of an entry.
+fn insert_rows<'p, S: Alter>(
+    tx: &mut Transaction<'_, S>,
+    shelf: &'p str,
+    path: &'p str,
+    version: &'p str,
+    gomod: &'p [u8],
+    zip: &'p [u8],
+) -> Result<(), Error>
+    ensures same_reference { tx.new.conn.ghost_name ≡ tx.old.conn.ghost_name }
+    ensures survives { Survives (state S.Store tx.old.conn.now) (state S.Store tx.new.conn.now) (λ _. ⊥) }
+    ensures kept { HasCleanDisk (state S.Store tx.new.conn.now) → IsTrue (state S.Store tx.old.conn.now).in_transaction → KeepsCommit (state S.Store tx.old.conn.now) (state S.Store tx.new.conn.now) }
+    ensures added { HasCleanDisk (state S.Store tx.new.conn.now) → IsTrue (state S.Store tx.old.conn.now).in_transaction → (state S.Store tx.old.conn.now).now.schema ≡ store_schema
+        → OnOk result (HasAdded (state S.Store tx.old.conn.now) (state S.Store tx.new.conn.now) (place shelf.now path.now version.now) (record { gomod = gomod.now; zip = zip.now })) }
+{
+    tx.execute(
+        "INSERT INTO version (shelf, path, version, mod) VALUES (?1, ?2, ?3, ?4)",
+        params![shelf, path, version, gomod],
+    )?;
+    let id = tx.last_insert_rowid();
+    tx.execute(
+        "INSERT INTO body (id, zip) VALUES (?1, ?2)",
+        params![id, zip],
+    )?;
+    Ok(())
+}
+
+/// Stores an entry where there is none, with both its rows or with neither.
+fn insert_entry<S: Alter>(
+    conn: &mut Connection<S>,
+    shelf: &str,
+    path: &str,
+    version: &str,
+    gomod: &[u8],
+    zip: &[u8],
+) -> Result<(), Error>
+    ensures clean { doubt (state S.Store conn.old).is_clean ≤ doubt (state S.Store conn.new).is_clean }
+    ensures changes { (HasCleanDisk (state S.Store conn.old) → IsTrue (state S.Store conn.old).is_open) → (w : _) → map.get w.entries (place shelf.now path.now version.now) ≡ None
+        → ChangesAt (state S.Store conn.old) (state S.Store conn.new) (is_ok result) w (with_entry w (place shelf.now path.now version.now) (record { gomod = gomod.now; zip = zip.now })) }
+{
+    if !conn.is_autocommit() {
+        return Err(Error::SqliteFailure(ErrorCode::TransactionState));
+    }
+    let mut tx = conn.transaction();
+    insert_rows(&mut tx, shelf, path, version, gomod, zip)?;
+    tx.commit()?;
+    Ok(())
+}
+
+/// Stores an entry where there is none, unless the connection is shut.
+pub(crate) fn add_entry<S: Alter>(
+    conn: &mut Connection<S>,
+    shelf: &str,
+    path: &str,
+    version: &str,
+    gomod: &[u8],
+    zip: &[u8],
+) -> Result<(), Error>
+    ensures clean { doubt (state S.Store conn.old).is_clean ≤ doubt (state S.Store conn.new).is_clean }
+    ensures changes { HasCleanDisk (state S.Store conn.new) → (w : _) → Stands (state S.Store conn.old) w → map.get w.entries (place shelf.now path.now version.now) ≡ None
+        → ChangesAt (state S.Store conn.old) (state S.Store conn.new) (is_ok result) w (with_entry w (place shelf.now path.now version.now) (record { gomod = gomod.now; zip = zip.now })) }
+{
+    // A connection that is shut refuses this, so the next line finds the tables.
+    has_shelf(conn, shelf)?;
+    insert_entry(conn, shelf, path, version, gomod, zip)
+}

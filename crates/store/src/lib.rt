@@ -1,0 +1,39 @@
+//! Team shelves as rows of SQL tables, behind the trait `shelf::shelves::Shelves`.
+//!
+//! A store holds five STRICT tables, schema 1:
+//!
+//! | table | a row is | columns |
+//! |---|---|---|
+//! | `meta` | the number of the schema, 1, under the name `schema` | `name`, `value` |
+//! | `shelf` | a shelf; `common` is always there | `name` |
+//! | `access` | a key, the shelf that it belongs to and whether it may publish | `token`, `shelf`, `publish` |
+//! | `version` | a version of a module on a shelf, and its go.mod | `id`, `shelf`, `path`, `version`, `time`, `mod` |
+//! | `body` | the zip of the version that has the same number | `id`, `zip` |
+//!
+//! The tables stand for one world: each row of `shelf` is a shelf, each row of `access` a key, and
+//! each row of `version`, with its row of `body`, an entry; each shelf, key and entry has one row.
+//! The numbers of the rows and their order mean nothing.
+//!
+//! A change is one transaction. So a crash leaves the world before it or the world after it, and
+//! once the change has answered Ok, the world after it alone.
+//!
+//! | call | its statements |
+//! |---|---|
+//! | `key` | the row of `access` that has the key |
+//! | `entry` | the row of `version` on the own shelf, or else on `common`, then its row of `body` |
+//! | `count` | how many rows of `version` the path has on the shelf |
+//! | `insert` | in one transaction a row of `version` and a row of `body` |
+//! | `team_add`, `key_add` | a row of `shelf`; a row of `access` |
+//!
+//! What is said of values holds where each answer of the disk was what had been written. A fault is
+//! `Memory` where memory was wanted, and otherwise `Device`, which is counted.
+#![tactic(auto)]
+
+mod create;
+mod entries;
+pub mod open;
+mod schema;
+mod shelves;
+pub mod store;
+#[cfg(test)]
+mod tests;

@@ -1,0 +1,236 @@
+use crate::store::SqlShelves;
+use modpath::ModulePath;
+use modver::Version;
+use shelf::ask::{Ask, Body, Event, Publish, Query};
+use shelf::bytes::Bytes;
+use shelf::entry::{EntryRef, Right};
+use shelf::reply::{Answer, Decision, Registered, Reply, StoreFault};
+use shelf::run::run;
+use shelf::shelves::Shelves;
+use shelf::text::Text;
+use std::alloc::Global;
+use std::test::Fail;
+
+const LIB: &[u8] = b"module example.com/lib\n";
+
+const X: &[u8] = b"module example.com/x\n";
+
+const Y: &[u8] = b"module example.com/y\n";
+
+const ALPHA: &str = "alphakey00000001";
+
+const READER: &str = "alphareader00001";
+
+const BETA: &str = "betakey000000001";
+
+const COMMON: &str = "commonkey0000001";
+
+const UNKNOWN: &str = "nosuchkey0000001";
+
+/// What is asked. A publish is of `v1.0.0`.
+#[derive(Drop)]
+enum Step {
+    Team(&'static str),
+    Key(&'static str, &'static str, Right),
+    Put(&'static str, &'static str, &'static [u8], &'static [u8]),
+    Mod(&'static str, &'static str, &'static str),
+    Zip(&'static str, &'static str, &'static str),
+}
+
+/// What is to be answered.
+#[derive(Drop)]
+enum Want {
+    Registry(Registered),
+    Decided(Decision),
+    GoMod(&'static [u8]),
+    Zip(&'static [u8]),
+    NotFound,
+}
+
+fn event(alloc: Global, step: &Step) -> Result<Event, Fail> {
+    match step {
+        Step::Team(name) => Ok(Event::TeamAdd {
+            name: Text::copy_of(alloc, name)?,
+        }),
+        Step::Key(shelf, key, right) => Ok(Event::KeyAdd {
+            shelf: Text::copy_of(alloc, shelf)?,
+            key: Text::copy_of(alloc, key)?,
+            right: *right,
+        }),
+        Step::Put(key, path, gomod, zip) => Ok(Event::Asked(Ask::Put {
+            key: Text::copy_of(alloc, key)?,
+            publish: publish(alloc, path, gomod, zip)?,
+        })),
+        Step::Mod(key, path, version) => Ok(Event::Asked(Ask::Get {
+            key: Text::copy_of(alloc, key)?,
+            query: Query::GoMod {
+                path: ModulePath::parse(alloc, path)?,
+                version: Version::parse(alloc, version)?,
+            },
+        })),
+        Step::Zip(key, path, version) => Ok(Event::Asked(Ask::Get {
+            key: Text::copy_of(alloc, key)?,
+            query: Query::Zip {
+                path: ModulePath::parse(alloc, path)?,
+                version: Version::parse(alloc, version)?,
+            },
+        })),
+    }
+}
+
+fn publish(alloc: Global, path: &str, gomod: &[u8], zip: &[u8]) -> Result<Publish, Fail> {
+    let body = Body {
+        gomod: Bytes::copy_of(alloc, gomod)?,
+        zip: Bytes::copy_of(alloc, zip)?,
+    };
+    Ok(Publish {
+        path: ModulePath::parse(alloc, path)?,
+        version: Version::parse(alloc, "v1.0.0")?,
+        body: Some(body),
+    })
+}
+
+fn is_told(answer: &Answer, want: &Want) -> bool {
+    match (answer, want) {
+        (Answer::Replied(Reply::Registry(told)), Want::Registry(want)) => *told == *want,
+        (Answer::Replied(Reply::Decided(told)), Want::Decided(want)) => *told == *want,
+        (Answer::Replied(Reply::GoMod(told)), Want::GoMod(want)) => told.as_slice() == *want,
+        (Answer::Replied(Reply::Zip(told)), Want::Zip(want)) => told.as_slice() == *want,
+        (Answer::Replied(Reply::NotFound), Want::NotFound) => true,
+        _ => false,
+    }
+}
+
+#[test]
+fn answers_as_the_machine_does(rt: HostRuntime) -> Result<(), Fail> {
+    let table = [
+        (Step::Team("alpha"), Want::Registry(Registered::Done)),
+        (Step::Team("beta"), Want::Registry(Registered::Done)),
+        (Step::Team("alpha"), Want::Registry(Registered::Taken)),
+        (Step::Team("common"), Want::Registry(Registered::Name)),
+        (
+            Step::Key("alpha", ALPHA, Right::Publishes),
+            Want::Registry(Registered::Done),
+        ),
+        (
+            Step::Key("alpha", ALPHA, Right::Reads),
+            Want::Registry(Registered::Taken),
+        ),
+        (
+            Step::Key("alpha", "shortkey1234567", Right::Reads),
+            Want::Registry(Registered::Name),
+        ),
+        (
+            Step::Key("nosuch", ALPHA, Right::Publishes),
+            Want::Registry(Registered::NoTeam),
+        ),
+        (
+            Step::Key("alpha", READER, Right::Reads),
+            Want::Registry(Registered::Done),
+        ),
+        (
+            Step::Key("beta", BETA, Right::Publishes),
+            Want::Registry(Registered::Done),
+        ),
+        (
+            Step::Key("common", COMMON, Right::Publishes),
+            Want::Registry(Registered::Done),
+        ),
+        (
+            Step::Put(ALPHA, "example.com/lib", LIB, b""),
+            Want::Decided(Decision::Published),
+        ),
+        (
+            Step::Zip(ALPHA, "example.com/lib", "v1.0.0"),
+            Want::Zip(b""),
+        ),
+        (
+            Step::Mod(ALPHA, "example.com/lib", "v1.0.0"),
+            Want::GoMod(LIB),
+        ),
+        (
+            Step::Put(ALPHA, "example.com/lib", LIB, b""),
+            Want::Decided(Decision::Same),
+        ),
+        (
+            Step::Put(ALPHA, "example.com/lib", LIB, b"Z"),
+            Want::Decided(Decision::Conflict),
+        ),
+        (Step::Zip(BETA, "example.com/lib", "v1.0.0"), Want::NotFound),
+        (
+            Step::Zip(UNKNOWN, "example.com/lib", "v1.0.0"),
+            Want::NotFound,
+        ),
+        (
+            Step::Zip(ALPHA, "example.com/lib", "v9.0.0"),
+            Want::NotFound,
+        ),
+        (
+            Step::Put(COMMON, "example.com/x", X, b"X"),
+            Want::Decided(Decision::Published),
+        ),
+        (Step::Mod(ALPHA, "example.com/x", "v1.0.0"), Want::GoMod(X)),
+        (
+            Step::Put(ALPHA, "example.com/x", X, b"Y"),
+            Want::Decided(Decision::Conflict),
+        ),
+        (
+            Step::Put(ALPHA, "example.com/x", X, b"X"),
+            Want::Decided(Decision::Same),
+        ),
+        (
+            Step::Put(ALPHA, "example.com/y", Y, b"a"),
+            Want::Decided(Decision::Published),
+        ),
+        (
+            Step::Put(COMMON, "example.com/y", Y, b"c"),
+            Want::Decided(Decision::Published),
+        ),
+        (Step::Zip(ALPHA, "example.com/y", "v1.0.0"), Want::Zip(b"a")),
+        (Step::Zip(BETA, "example.com/y", "v1.0.0"), Want::Zip(b"c")),
+        (
+            Step::Put(READER, "example.com/lib", LIB, b""),
+            Want::Decided(Decision::Forbidden),
+        ),
+    ];
+    let alloc = rt.alloc();
+    let mut events = Vec::new(alloc);
+    for (step, _) in &table {
+        events.push(event(alloc, step)?)?;
+    }
+    let Ok(mut shelves) = SqlShelves::open_memory(alloc) else {
+        panic!(rt; "a store opens in memory");
+    };
+    let answers = run(alloc, &mut shelves, events.as_slice())?;
+    assert_eq!(rt; answers.len(), table.len());
+    for (place, (answer, (_, want))) in answers.iter().zip(&table).enumerate() {
+        assert!(rt; is_told(answer, want), "at {place}");
+    }
+    assert_eq!(rt; shelves.failures(), 0);
+    Ok(())
+}
+
+// The tables keep a second row of one version out, and that is a failure of the store.
+#[test]
+fn a_second_row_is_refused_and_counted(rt: HostRuntime) -> Result<(), Fail> {
+    let alloc = rt.alloc();
+    let Ok(mut shelves) = SqlShelves::open_memory(alloc) else {
+        panic!(rt; "a store opens in memory");
+    };
+    let path = ModulePath::parse(alloc, "example.com/lib")?;
+    let version = Version::parse(alloc, "v1.0.0")?;
+    let entry = EntryRef {
+        gomod: LIB,
+        zip: b"",
+    };
+    assert_eq!(rt; shelves.insert("common", &path, &version, &entry), Ok(()));
+    assert_eq!(rt; shelves.count("common", &path), Ok(1));
+    assert_eq!(rt; shelves.failures(), 0);
+    assert_eq!(rt;
+        shelves.insert("common", &path, &version, &entry),
+        Err(StoreFault::Device)
+    );
+    assert_eq!(rt; shelves.failures(), 1);
+    assert_eq!(rt; shelves.count("common", &path), Ok(1));
+    Ok(())
+}

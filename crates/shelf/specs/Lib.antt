@@ -2,8 +2,11 @@ pub mod MapsLend
 pub mod InMemory
 pub mod Names
 pub mod Forms
+pub mod GoMods
 pub mod World
 pub mod Code
+pub mod Visible
+pub mod Versions
 pub mod Machine
 pub mod Store
 pub mod Laws

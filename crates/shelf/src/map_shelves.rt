@@ -10,12 +10,12 @@ use crate::ask::Event;
 use crate::entry::{Entry, EntryRef, Holder, Right, Seen};
 use crate::maps::entry_map::EntryMap;
 use crate::maps::text_map::TextMap;
-use crate::maps::text_set::TextSet;
 use crate::names;
 use crate::reply::{Answer, Registered, StoreFault};
 use crate::run::run;
 use crate::shelves::Shelves;
 use crate::text::Text;
+use crate::text_set::TextSet;
 use modpath::ModulePath;
 use modver::Version;
 use std::alloc::{AllocError, Global};
@@ -115,6 +115,14 @@ impl Shelves for MapShelves {
         Ok(self.seen_on(COMMON, path, version)?)
     }
 
+    fn versions(&mut self, shelf: &str, path: &ModulePath) -> Result<TextSet, StoreFault> {
+        Ok(TextSet::new(self.alloc))
+    }
+
+    fn paths(&mut self, shelf: &str) -> Result<TextSet, StoreFault> {
+        Ok(TextSet::new(self.alloc))
+    }
+
     fn count(&mut self, shelf: &str, path: &ModulePath) -> Result<u64, StoreFault> {
         Ok(self.entries.count(shelf, path.as_str()) as u64)
     }
@@ -157,6 +165,14 @@ impl Shelves for MapShelves {
         let holder = Holder::new(self.alloc, shelf, right)?;
         let key = String::from_str(self.alloc, key)?;
         self.keys.insert(key, holder)?;
+        Ok(Registered::Done)
+    }
+
+    fn key_revoke(&mut self, key: &str) -> Result<Registered, StoreFault> {
+        if !self.keys.contains_key(key) {
+            return Ok(Registered::NoKey);
+        }
+        self.keys.remove(key);
         Ok(Registered::Done)
     }
 }

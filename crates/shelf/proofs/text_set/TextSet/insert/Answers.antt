@@ -2,7 +2,7 @@ use Rattle.std.proofs.Common.{◌∙◌, ap}
 use Rattle.std.specs.Prelude.{string_bytes}
 use Rattle.std.specs.FinSet as set
 use Rattle.shelf.proofs.MapsSets.{insert_kept_text}
-use Rattle.shelf.proofs.maps.text_set.TextSet.insert.Goals as goal
+use Rattle.shelf.proofs.text_set.TextSet.insert.Goals as goal
 
 pub returns-clause-ok : goal.returns-clause-ok
 returns-clause-ok c =

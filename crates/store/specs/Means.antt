@@ -1,7 +1,8 @@
 -- The world that the tables stand for. No row number and no order of rows occurs here.
 use Rattle.std.specs.Prelude.{ℕ, ℤ, Bool, true, false, pos, if◌then◌else◌, List, Some, IsTrue, codes, ◌≡◌}
-use Rattle.sqlite.specs.declared.types.Value.TheVariants.{Null, Int, Text, Blob}
+use Rattle.sqlite.specs.declared.types.Value.TheVariants.{Int, Text, Blob}
 use Rattle.sqlite.specs.Order.{Row, column}
+use Rattle.sqlite.specs.Values.{or_null}
 use Rattle.sqlite.specs.Collation.TheVariants.{Binary}
 use Rattle.sqlite.specs.Tree.{Trees, rowid}
 use Rattle.sqlite_trees.specs.Tree.{IsAscending}
@@ -54,7 +55,7 @@ IsEachPlaceOnce = IsAscending (λ a b. (p : Place) → IsAt a p → IsAt b p →
 -- a row of `version`, with a row of `body` that has its number, whose zip is that of each that has it
 pub record IsVersion (bodies : List Row) (row : Row) (it : Place × Entry) : Type 0 where
   pub place : IsAt row it.0
-  pub time : column row 5 ≡ Null
+  pub time : column row 5 ≡ or_null Text it.1.time
   pub gomod : column row 6 ≡ Blob it.1.gomod
   pub body : Row
   pub there : Has bodies body

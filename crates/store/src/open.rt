@@ -20,7 +20,7 @@ impl SqlShelves<MemStore> {
         let Ok(conn) = Connection::open_in_memory(alloc) else {
             return Err(Refusal::Memory);
         };
-        match SqlShelves::adopt_empty(conn) {
+        match SqlShelves::adopt_empty(alloc, conn) {
             Ok(shelves) => Ok(shelves),
             Err((refusal, _)) => Err(refusal),
         }

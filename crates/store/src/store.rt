@@ -11,21 +11,26 @@ ghost use Rattle.store.specs.Calls.{shown_of, BeginsAt};
 
 use crate::create::create;
 use crate::entries::{add_entry, count_entries, find_entry};
+use crate::revoke::revoke_key;
 use crate::schema::is_no_schema;
 use crate::shelves::{add_key, add_team, find_key};
+use crate::visible::{find_paths, find_versions};
 use modpath::ModulePath;
 use modver::Version;
 use shelf::entry::{EntryRef, Holder, Right, Seen};
 use shelf::names::{is_key, is_team_name};
 use shelf::reply::{Registered, StoreFault};
 use shelf::shelves::Shelves;
+use shelf::text_set::TextSet;
 use sqlite::{Alter, Connection, Error, ErrorCode};
+use std::alloc::Global;
 
 /// Shelves whose entries and keys are rows of SQL tables.
 #[derive(Drop)]
 pub struct SqlShelves<S: Alter> {
     conn: Connection<S>,
     failures: u64,
+    alloc: Global,
 }
 
 /// Counts a failure that is no want of memory.
@@ -76,6 +81,20 @@ impl<S: Alter> Shelves for SqlShelves<S> {
         }
     }
 
+    fn versions(&mut self, shelf: &str, path: &ModulePath) -> Result<TextSet, StoreFault> {
+        match find_versions(self.alloc, &mut self.conn, shelf, path.as_str()) {
+            Ok(versions) => Ok(versions),
+            Err(error) => Err(fault(&mut self.failures, error)),
+        }
+    }
+
+    fn paths(&mut self, shelf: &str) -> Result<TextSet, StoreFault> {
+        match find_paths(self.alloc, &mut self.conn, shelf) {
+            Ok(paths) => Ok(paths),
+            Err(error) => Err(fault(&mut self.failures, error)),
+        }
+    }
+
     fn count(&mut self, shelf: &str, path: &ModulePath) -> Result<u64, StoreFault> {
         match count_entries(&mut self.conn, shelf, path.as_str()) {
             Ok(count) => Ok(count),
@@ -95,8 +114,7 @@ impl<S: Alter> Shelves for SqlShelves<S> {
             shelf,
             path.as_str(),
             version.as_str(),
-            entry.gomod,
-            entry.zip,
+            entry,
         ) {
             Ok(()) => Ok(()),
             Err(error) => Err(fault(&mut self.failures, error)),
@@ -118,6 +136,13 @@ impl<S: Alter> Shelves for SqlShelves<S> {
             return Ok(Registered::Name);
         }
         match add_key(&mut self.conn, shelf, key, right) {
+            Ok(registered) => Ok(registered),
+            Err(error) => Err(fault(&mut self.failures, error)),
+        }
+    }
+
+    fn key_revoke(&mut self, key: &str) -> Result<Registered, StoreFault> {
+        match revoke_key(&mut self.conn, key) {
             Ok(registered) => Ok(registered),
             Err(error) => Err(fault(&mut self.failures, error)),
         }
@@ -148,7 +173,10 @@ fn open_refusal(error: Error) -> Refusal
 impl<S: Alter> SqlShelves<S> {
     /// Makes the tables on a connection that has none, with the shelf `common` alone. Where there are
     /// any, this is `BadSchema`, and nothing is done.
-    pub fn adopt_empty(mut conn: Connection<S>) -> Result<SqlShelves<S>, (Refusal, Connection<S>)>
+    pub fn adopt_empty(
+        alloc: Global,
+        mut conn: Connection<S>,
+    ) -> Result<SqlShelves<S>, (Refusal, Connection<S>)>
         ensures is_open { IfOk result (λ s. HasCleanDisk (state S.Store s.conn) → IsTrue (state S.Store s.conn).is_open) }
         ensures begins { IfOk result (λ s. HasCleanDisk (state S.Store s.conn) → BeginsAt (shown_of (state S.Store s.conn)) only_common) }
         ensures none_failed { IfOk result (λ s. s.failures ≡ 0) }
@@ -161,7 +189,11 @@ impl<S: Alter> SqlShelves<S> {
             return Err((Refusal::BadSchema, conn));
         }
         match create(&mut conn) {
-            Ok(()) => Ok(SqlShelves { conn, failures: 0 }),
+            Ok(()) => Ok(SqlShelves {
+                conn,
+                failures: 0,
+                alloc,
+            }),
             Err(error) => Err((open_refusal(error), conn)),
         }
     }

@@ -14,7 +14,7 @@ returns-clause-added g c clean inside has =
     let mid = state g.S.Store c.execute.new.self.conn.now in
     let new = state g.S.Store c.execute-2.new.self.conn.now in
     let p : Place = record { shelf = c.args.shelf.now; path = c.args.path.now; version = c.args.version.now } in
-    let e : Entry = record { gomod = c.args.gomod.now; zip = c.args.zip.now } in
+    let e : Entry = c.args.entry.now in
     let first = c.in_ok-execute.ensures.runs (was_clean mid new c.execute-2.ensures.survives.clean clean) inside in
     let one : ExecutesInside 0 add_version_text (version_params p e) old mid (Ok c.in_ok-execute.field-0) =
     rw (c.params-to_sql.ensures, c.params-to_sql-2.ensures, c.params-to_sql-3.ensures, c.params-to_sql-4.ensures) at first in

@@ -18,7 +18,7 @@ use Rattle.std.specs.FinSet as set
 use Rattle.shelf.specs.declared.entry.Holder.{Holder}
 use Rattle.shelf.specs.declared.entry.Right.{Right}
 use Rattle.shelf.specs.declared.reply.Registered.{Registered}
-use Rattle.shelf.specs.declared.reply.Registered.TheVariants.{Done, Name, Taken, NoTeam}
+use Rattle.shelf.specs.declared.reply.Registered.TheVariants.{Done, Name, Taken, NoTeam, NoKey}
 use Rattle.shelf.specs.World.{World, with_key, is_key}
 use Rattle.shelf.specs.Machine.{key_added, after_key_add}
 use Rattle.shelf.proofs.Orders.{texts_total, texts_exact, get_put}
@@ -82,6 +82,7 @@ module _ (w : World) (shelf token : List ℕ) (right : Right) where
       go Name other = refl
       go Taken other = refl
       go NoTeam other = refl
+      go NoKey other = refl
 
   pub added_new : key_added w shelf token ≡ Done → with_key_added shelf token right w ≡ with_key w token (record { shelf = shelf; right = right })
   added_new h = ap (λ (q : Registered). after_key_add w shelf token right q) h

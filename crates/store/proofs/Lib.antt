@@ -20,3 +20,4 @@ pub mod FirstWorld
 pub mod FlagLemmas
 pub mod CreateLemmas
 pub mod StoreLemmas
+pub mod VisibleLemmas

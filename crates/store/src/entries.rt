@@ -16,8 +16,8 @@ ghost use Rattle.store.specs.Reading.{HasHeading, HasZip};
 ghost use Rattle.store.specs.Added.{HasAdded};
 
 use crate::shelves::{find_row, has_shelf};
-use shelf::bytes::Bytes;
 use modver::{TimeText, read_time};
+use shelf::bytes::Bytes;
 use shelf::entry::{Entry, EntryRef, Seen};
 use shelf::text::Text;
 use sqlite::{Alter, Connection, Error, ErrorCode, Row, Transaction, params};

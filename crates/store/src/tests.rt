@@ -301,21 +301,33 @@ fn a_shelf_sees_its_own_and_common(rt: HostRuntime) -> Result<(), Fail> {
     assert_eq!(rt; shelves.team_add("alpha"), Ok(Registered::Done));
     assert_eq!(rt; shelves.team_add("beta"), Ok(Registered::Done));
     for (shelf, path, version) in &table {
-        assert!(rt; put(alloc, &mut shelves, shelf, path, version, None)?, "{shelf} takes {version}");
+        assert!(rt;
+            put(alloc, &mut shelves, shelf, path, version, None)?,
+            "{shelf} takes {version}"
+        );
     }
     let lib = ModulePath::parse(alloc, "example.com/lib")?;
     let Ok(versions) = shelves.versions("alpha", &lib) else {
         panic!(rt; "versions are read");
     };
-    assert_eq!(rt; versions.lines(alloc)?.as_slice(), b"v0.1.0\nv1.10.0\nv1.2.0\n".as_slice());
+    assert_eq!(rt;
+        versions.lines(alloc)?.as_slice(),
+        b"v0.1.0\nv1.10.0\nv1.2.0\n".as_slice()
+    );
     let Ok(paths) = shelves.paths("alpha") else {
         panic!(rt; "paths are read");
     };
-    assert_eq!(rt; paths.lines(alloc)?.as_slice(), b"example.com/lib\nexample.com/tool\n".as_slice());
+    assert_eq!(rt;
+        paths.lines(alloc)?.as_slice(),
+        b"example.com/lib\nexample.com/tool\n".as_slice()
+    );
     let Ok(own) = shelves.paths("common") else {
         panic!(rt; "paths are read");
     };
-    assert_eq!(rt; own.lines(alloc)?.as_slice(), b"example.com/lib\nexample.com/tool\n".as_slice());
+    assert_eq!(rt;
+        own.lines(alloc)?.as_slice(),
+        b"example.com/lib\nexample.com/tool\n".as_slice()
+    );
     Ok(())
 }
 
@@ -325,13 +337,20 @@ fn an_entry_keeps_its_time(rt: HostRuntime) -> Result<(), Fail> {
     let Ok(mut shelves) = SqlShelves::open_memory(alloc) else {
         panic!(rt; "a store opens in memory");
     };
-    let table = [
-        ("v1.0.0", Some("2024-02-29T12:34:56Z")),
-        ("v1.1.0", None),
-    ];
+    let table = [("v1.0.0", Some("2024-02-29T12:34:56Z")), ("v1.1.0", None)];
     let path = ModulePath::parse(alloc, "example.com/lib")?;
     for (text, time) in &table {
-        assert!(rt; put(alloc, &mut shelves, "common", "example.com/lib", text, *time)?, "{text} is taken");
+        assert!(rt;
+            put(
+                alloc,
+                &mut shelves,
+                "common",
+                "example.com/lib",
+                text,
+                *time
+            )?,
+            "{text} is taken"
+        );
         let version = Version::parse(alloc, text)?;
         let Ok(Some(seen)) = shelves.entry("common", &path, &version) else {
             panic!(rt; "{text} is seen");

@@ -26,8 +26,8 @@ use Rattle.store.specs.Means.{Holds, IsAccess}
 use Rattle.store.proofs.Texts.{add_key_text}
 use Rattle.store.specs.Views.{may_publish, with_key_added}
 use Rattle.store.proofs.InsertLemmas.{Inserted, inserted, cast_null, cast_int}
-use Rattle.store.proofs.WriteLemmas.{Rewrites}
-use Rattle.store.proofs.TabulateLemmas.{tabulates_put}
+use Rattle.store.proofs.WriteLemmas.{Rewrites, inserting}
+use Rattle.store.proofs.TabulateLemmas.{tabulates_put, numbered_put}
 use Rattle.store.proofs.Maps.{put_keeps, put_splits}
 
 abbrev pub terms : List Term
@@ -55,7 +55,7 @@ module _ (limit : Option ℕ) (token : List ℕ) (g : Holder) where
       (it.0, rw (cast_null, cast_int _) at it.1)
 
 module _ (w : World) (token : List ℕ) (g : Holder) (unused : map.get w.keys token ≡ None) where
-  pub add_key_turns : (old : State) → Holds old w → Rewrites add_key_text (key_params token g) 2 (Values terms 4) add_key_is add_key_plain old old w (with_key w token g)
+  pub add_key_turns : (old : State) → Holds old w → Rewrites add_key_text (key_params token g) (Insert 2 (Values terms 4)) add_key_is add_key_plain (inserting 2 (Values terms 4)) old old w (with_key w token g)
   add_key_turns old h tally after does =
       let it = added old.step_limit token g old.now [] tally after h.schema does in
       let means = h.trees.means in (
@@ -64,6 +64,7 @@ module _ (w : World) (token : List ℕ) (g : Holder) (unused : map.get w.keys to
           named = rw (it.1.tables.0 (λ e. omega (arith, e))) means.named;
           shelves = rw (it.1.tables.1.0 (λ e. omega (arith, e))) means.shelves;
           access = rw it.1.rows (tabulates_put IsAccess (old.now.trees 4) _ (token, g) _ _ it.1.fresh (refl, refl, refl) (λ y. put_keeps texts_total texts_exact w.keys token g unused y.0 y.1) (get_put texts_total w.keys token g) (put_splits texts_total texts_exact w.keys token g) means.access);
+          numbered = rw it.1.rows (numbered_put (old.now.trees 4) (next_rowid (old.now.trees 4)) _ refl it.1.fresh means.numbered);
           entries = rw (it.1.tables.1.1.1.0 (λ e. omega (arith, e)), it.1.tables.1.1.1.1.0 (λ e. omega (arith, e))) means.entries;
           once = rw (it.1.tables.1.1.1.0 (λ e. omega (arith, e))) means.once;
         },

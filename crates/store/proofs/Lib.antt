@@ -21,3 +21,4 @@ pub mod FlagLemmas
 pub mod CreateLemmas
 pub mod StoreLemmas
 pub mod VisibleLemmas
+pub mod RevokeLemmas

@@ -107,6 +107,7 @@ module _ (w : World) (p : Place) (e : Entry) (unused : map.get w.entries p ≡ N
         named = rw (second.tables.0 (λ f. omega (arith, f)), first.tables.0 (λ f. omega (arith, f))) means.named;
         shelves = rw (second.tables.1.0 (λ f. omega (arith, f)), first.tables.1.0 (λ f. omega (arith, f))) means.shelves;
         access = rw (second.tables.1.1.0 (λ f. omega (arith, f)), first.tables.1.1.0 (λ f. omega (arith, f))) means.access;
+        numbered = rw (second.tables.1.1.0 (λ f. omega (arith, f)), first.tables.1.1.0 (λ f. omega (arith, f))) means.numbered;
         entries = rw (rows, first.rows) (tabulates_put (IsVersion (after 8)) (db 6) (version_row a.id p e) (p, e) _ _ first.fresh new_is kept (get_put places_total w.entries p e) split wider);
         once = rw (rows, first.rows) (put_apart (λ a b. (q : Place) → IsAt a q → IsAt b q → ⊥) (λ a b apart q ofb ofa. apart q ofa ofb) (version_row a.id p e) (db 6) (all_from _ (db 6) (λ r there. place_free (db 8) (db 6) means.entries r there (version_row a.id p e) (refl, refl, refl))) means.once);
       }

@@ -192,6 +192,6 @@ module _ (w : World) (s : List ℕ) (mid new : set.FinSet text_cmp) where
           let seen = λ (v : List ℕ). some_seen (map.get w.entries (place s p v)) (map.get w.entries (place common p v)) s common in
           let is = contains_paths w s p in
           same_truth (set.contains new p) (set.contains (paths_seen w s) p) (
-            λ h. is.1 (elim (both.0 h) [ inl it ↦ (it.0, (seen it.0).1 (inl it.1)) | inr it ↦ (it.0, (seen it.0).1 (inr it.1)) ]),
-            λ h. let it = is.0 h in both.1 (elim ((seen it.0).0 it.1) [ inl e ↦ inl (it.0, e) | inr e ↦ inr (it.0, e) ]),
+            λ h. is.1 (elim (both.0 h) [ inl it ↦ (it.0, (seen it.0).1 (inl (it.1, it.2))) | inr it ↦ (it.0, (seen it.0).1 (inr (it.1, it.2))) ]),
+            λ h. let it = is.0 h in both.1 (elim ((seen it.0).0 it.1) [ inl e ↦ inl (it.0, e.0, e.1) | inr e ↦ inr (it.0, e.0, e.1) ]),
           )

@@ -44,6 +44,11 @@ IsAccess row it = (column row 1 ≡ Text it.0) × (column row 2 ≡ Text it.1.sh
 abbrev pub is_numbered_as : Row → Row → Bool
 is_numbered_as a b = equal Binary (rowid a) (rowid b)
 
+-- each row has a number, and no other row has it
+pub record IsNumbered (rows : List Row) : Type 0 where
+  pub number : (row : Row) → Has rows row → (n : ℤ) × (rowid row ≡ Int n)
+  pub own : (a b : Row) → Has rows a → Has rows b → rowid a ≡ rowid b → a ≡ b
+
 -- the place that a row of `version` names
 abbrev pub IsAt : Row → Place → Type 0
 IsAt row p = (column row 2 ≡ Text p.shelf) × (column row 3 ≡ Text p.path) × (column row 4 ≡ Text p.version)
@@ -67,6 +72,7 @@ pub record Means (db : Trees) (w : World) : Type 0 where
   pub named : Tabulates IsMeta (db meta_table.tree) (λ it. it ≡ schema_named)
   pub shelves : Tabulates IsShelf (db shelf_table.tree) (λ name. IsTrue (set.contains w.shelves name))
   pub access : Tabulates IsAccess (db access_table.tree) (λ it. map.get w.keys it.0 ≡ Some it.1)
+  pub numbered : IsNumbered (db access_table.tree)
   pub entries : Tabulates (IsVersion (db body_table.tree)) (db version_table.tree) (λ it. map.get w.entries it.0 ≡ Some it.1)
   pub once : IsEachPlaceOnce (db version_table.tree)
 

@@ -3,6 +3,9 @@ use Rattle.store.proofs.CallLemmas.{spares_then, was_clean}
 use Rattle.store.proofs.VisibleLemmas.{paths_whole}
 use Rattle.store.proofs.visible.find_paths.Goals as goal
 
+pub returns-in_err-add_paths-2-clause-spares : goal.returns-in_err-add_paths-2-clause-spares
+returns-in_err-add_paths-2-clause-spares g c = spares_then _ _ _ c.add_paths.ensures.spares c.add_paths-2.ensures.spares
+
 pub returns-clause-spares : goal.returns-clause-spares
 returns-clause-spares g c = spares_then _ _ _ c.add_paths.ensures.spares c.add_paths-2.ensures.spares
 

@@ -3,6 +3,9 @@ use Rattle.store.proofs.CallLemmas.{spares_then, was_clean}
 use Rattle.store.proofs.VisibleLemmas.{versions_whole}
 use Rattle.store.proofs.visible.find_versions.Goals as goal
 
+pub returns-in_err-add_versions-2-clause-spares : goal.returns-in_err-add_versions-2-clause-spares
+returns-in_err-add_versions-2-clause-spares g c = spares_then _ _ _ c.add_versions.ensures.spares c.add_versions-2.ensures.spares
+
 pub returns-clause-spares : goal.returns-clause-spares
 returns-clause-spares g c = spares_then _ _ _ c.add_versions.ensures.spares c.add_versions-2.ensures.spares
 

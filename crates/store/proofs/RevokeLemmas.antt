@@ -1,5 +1,5 @@
 -- What the DELETE of a key does.
-use Rattle.std.proofs.Common.{◌≡◌, ◌≢◌, ◌∙◌, ℕ, ℤ, Bool, true, false, not, cond, List, [], ◌∷◌, Option, Some, None, is_some, is_none, Ok, inl, inr, refl, sym, ap, subst, true≢false, arith, is_eq}
+use Rattle.std.proofs.Common.{◌≡◌, ◌≢◌, ◌∙◌, ℕ, ℤ, Bool, true, false, not, cond, List, [], ◌∷◌, Option, Some, None, Ok, inl, inr, refl, sym, ap, subst, true≢false, arith, is_eq}
 use Rattle.std.specs.List.{AllByRecursion}
 use Rattle.std.specs.FinMap as map
 use Rattle.std.specs.Ordering.{eq_by_cmp}
@@ -187,7 +187,3 @@ module _ (w : World) (token : List ℕ) where
 
   pub known_gone : map.contains_key w.keys token ≡ true → with_key_revoked token w ≡ without_key w token
   known_gone h = ap (λ b. after_key_revoke w token (cond b Done NoKey)) h
-
-pub none_is : {X : Type 0} (o : Option X) (b : Bool) → is_none o ≡ b → is_some o ≡ not b
-none_is None b h = ap not h
-none_is (Some x) b h = ap not h

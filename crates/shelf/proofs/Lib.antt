@@ -7,6 +7,7 @@ pub mod MapsCounts
 pub mod MapsSets
 pub mod Orders
 pub mod InOrder
+pub mod VersionOrder
 pub mod Checks
 pub mod Runs
 pub mod Retained

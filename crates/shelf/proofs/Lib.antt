@@ -12,6 +12,8 @@ pub mod Checks
 pub mod Runs
 pub mod Retained
 pub mod Views
+pub mod Seen
+pub mod Alike
 pub mod Sound
 pub mod Chains
 pub mod Apart

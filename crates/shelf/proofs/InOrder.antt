@@ -84,12 +84,12 @@ module _ {K : Type 0} {R : K → K → Ordering} (o : IsTotalOrder R) where
       set.contains-from_list o (insert_key R ks k) q ∙ among_more ks k q
       ∙ ap (λ b. eq_by_cmp R q k || b) (sym (set.contains-from_list o ks q)) ∙ sym (set.contains-insert o (set.from_list ks) k q))
 
-less_is : (r : Ordering) → r ≡ Less → T (is_lt r)
+pub less_is : (r : Ordering) → r ≡ Less → T (is_lt r)
 less_is Less e = tt
 less_is Equal e = cc e
 less_is Greater e = cc e
 
-both : (a b : Bool) → T a → T b → T (a && b)
+pub both : (a b : Bool) → T a → T b → T (a && b)
 both true b p q = q
 both false b p q = p
 

@@ -5,6 +5,7 @@ pub mod MapsNested
 pub mod MapsPlaces
 pub mod MapsCounts
 pub mod MapsSets
+pub mod MapsSeen
 pub mod Orders
 pub mod InOrder
 pub mod VersionOrder

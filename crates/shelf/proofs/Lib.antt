@@ -6,6 +6,7 @@ pub mod MapsPlaces
 pub mod MapsCounts
 pub mod MapsSets
 pub mod Orders
+pub mod InOrder
 pub mod Checks
 pub mod Runs
 pub mod Retained

@@ -38,6 +38,7 @@ use Rattle.shelf.specs.declared.reading.Reading.{Reading}
 use Rattle.shelf.specs.declared.reading.Reading.TheVariants.{Module, Fault}
 use Rattle.shelf.specs.Forms.{is_path, is_version, is_time, fits, suffix_of}
 use Rattle.shelf.specs.GoMods.{reading_of, module_told}
+use Rattle.shelf.specs.Lines.{in_order}
 use Rattle.shelf.specs.Versions.{named, listed, highest, unretracted}
 use Rattle.shelf.specs.Visible.{versions_seen, paths_seen}
 use Rattle.shelf.specs.World.{World, is_team_name, is_key, gomod_limit, zip_limit, version_limit, place, view, count, with_entry, with_key, without_key, with_team}
@@ -211,7 +212,7 @@ list_reply (v ∷ vs) = reply.Versions (listed (v ∷ vs))
 
 -- the versions of a path that a shelf sees
 abbrev pub versions_of : World → List ℕ → List ℕ → List SemanticVersion
-versions_of w s p = named (set.items (versions_seen w s p))
+versions_of w s p = named (in_order (versions_seen w s p))
 
 -- what the go.mod of a version says
 abbrev pub module_of : Option Seen → Option GoModule

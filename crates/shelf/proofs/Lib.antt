@@ -6,6 +6,8 @@ pub mod MapsPlaces
 pub mod MapsCounts
 pub mod MapsSets
 pub mod Orders
+pub mod Named
+pub mod Latest
 pub mod InOrder
 pub mod Checks
 pub mod Runs

@@ -23,3 +23,7 @@ pub mod Stays
 pub mod Served
 pub mod Repeated
 pub mod Changes
+pub mod Members
+pub mod Highest
+pub mod Told
+pub mod Latest

@@ -1,5 +1,5 @@
 -- The latest version of a path.
-use Rattle.std.proofs.Common.{◌≡◌, ℕ, List, [], ◌∷◌, refl, ◌∙◌, sym, ap, subst, inl, inr, ◌⊎◌, Option, Some, None, Result, Ok, Err}
+use Rattle.std.proofs.Common.{◌≡◌, ℕ, List, [], refl, ◌∙◌, sym, ap, subst, Some, None, Result, Ok, Err}
 use Rattle.std.specs.Prelude.{◌↔◌, Contains}
 use Rattle.gomod.specs.Module.{GoModule, IsRetracted}
 use Rattle.gomod.specs.Reading as gomod

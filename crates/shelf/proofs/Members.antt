@@ -1,6 +1,6 @@
 -- The members of lists, and of sets in their order.
 use Rattle.std.proofs.Common.{◌≡◌, ◌<◌, ℕ, zero, suc, List, [], ◌∷◌, Bool, true, false, refl, ◌∙◌, sym, ap, subst, inl, inr, ◌⊎◌, length, get_or, arith}
-use Rattle.std.specs.Prelude.{◌↔◌, ◌&&◌, Contains, map as each}
+use Rattle.std.specs.Prelude.{◌&&◌, Contains, map as each}
 use Rattle.std.specs.Cmp.{IsTotalOrder, tied_itself}
 use Rattle.std.specs.FinMap as map
 use Rattle.std.specs.FinSet as set

@@ -1,5 +1,5 @@
 -- What a shelf is told of its paths and of the versions of a path.
-use Rattle.std.proofs.Common.{◌≡◌, ℕ, List, [], ◌∷◌, Bool, true, false, refl, ◌∙◌, sym, ap, subst, inl, inr, ◌⊎◌, Option, Some, None}
+use Rattle.std.proofs.Common.{◌≡◌, ℕ, List, [], ◌∷◌, true, false, refl, ◌∙◌, sym, ap, subst, inl, inr, ◌⊎◌, Option, Some, None}
 use Rattle.std.specs.Prelude.{◌↔◌, Contains, is_some, if◌then◌else◌}
 use Rattle.std.specs.Option.{option_or}
 use Rattle.std.specs.Ordering.{eq_by_cmp, is_eq, ordering_then}
@@ -20,7 +20,6 @@ use Rattle.modver.specs.declared.version.Class.TheVariants as class
 use Rattle.modver.proofs.Readings.{text-one, version-of}
 use Rattle.modver.proofs.StrictOrders.{precedence-tied}
 use Rattle.modpath.specs.Path.{suffix_of}
-use Rattle.shelf.specs.declared.entry.Entry.{Entry}
 use Rattle.shelf.specs.declared.entry.Seen.{Seen}
 use Rattle.shelf.specs.declared.reply.Reply.TheVariants as reply
 use Rattle.shelf.specs.Lines.{in_order}
@@ -185,6 +184,7 @@ below_next path (u ∷ v ∷ vs) fit up =
     first_less Less b e apart = refl
     first_less Equal b e apart = absurd (apart refl)
     first_less Greater b e apart = cc e
+
     below : (x y : SemanticVersion) → IsVersionOf path x → IsVersionOf path y → version_cmp x y ≡ Less → IsBelow x y
     below x y fx fy e = first_less (precedence x y) _ e (λ tie.
         let same = precedence-tied (suffix_of path) x y fx fy tie in

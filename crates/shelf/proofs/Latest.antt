@@ -1,156 +1,187 @@
--- The highest of the versions of a path is the top of them.
-use Rattle.std.proofs.Common.{◌≡◌, ℕ, List, [], ◌∷◌, Bool, true, false, refl, sym, ap, subst, ◌∙◌, Option, Some, None, inl, inr, ◌⊎◌, unwrap_or, slice_get, length, Bor, option_copied}
-use Rattle.std.specs.Prelude.{Contains}
-use Rattle.std.specs.Slice.{IsItemAt}
-use Rattle.std.specs.declared.cmp.Ordering.{Ordering}
-use Rattle.std.specs.declared.cmp.Ordering.TheVariants.{Less, Equal, Greater}
-use Rattle.std.proofs.lemmas.Bool.{true≢false, cases_Bool, false_from_ne_true}
-use Rattle.std.proofs.lemmas.Option.{slice_get_past, slice_get_read}
-use Rattle.gomod.specs.Module.{GoModule, IsRetracted, is_retracted}
-use Rattle.gomod.proofs.Retractions.{is_retracted-decides}
+-- The latest version of a path.
+use Rattle.std.proofs.Common.{◌≡◌, ℕ, List, [], refl, ◌∙◌, sym, ap, subst, Some, None, Result, Ok, Err}
+use Rattle.std.specs.Prelude.{◌↔◌, Contains}
+use Rattle.gomod.specs.Module.{GoModule, IsRetracted}
+use Rattle.gomod.specs.Reading as gomod
+use Rattle.gomod.specs.Symbols.{profile_1}
+use Rattle.gomod.specs.declared.fault.GoModFault.{GoModFault}
+use Rattle.gomod.proofs.FileLaw.{reads-from_reading, reading-from_reads}
+use Rattle.latest.specs.Latest.{Versions, IsTop, among}
 use Rattle.latest.specs.Latest as latest
-use Rattle.latest.specs.Latest.{IsTop, NamesTop, Versions, among}
 use Rattle.latest.proofs.Scans.{top_one}
-use Rattle.modpath.proofs.ElementLaw.{contains_cases, contains_none, contains_here, contains_there}
-use Rattle.modver.proofs.Ranks.{rank-orders}
-use Rattle.modver.specs.Rank.{IsAbove, rank_cmp}
-use Rattle.modver.specs.SemanticVersion.{SemanticVersion}
-use Rattle.shelf.specs.Versions.{AllOf, higher, highest, is_greater, unretracted}
+use Rattle.modver.specs.Fits.{IsVersionOf}
+use Rattle.modver.specs.SemanticVersion.{SemanticVersion, version_text}
+use Rattle.shelf.specs.declared.entry.Seen.{Seen}
+use Rattle.shelf.specs.declared.ask.Query.TheVariants as query
+use Rattle.shelf.specs.declared.reading.Reading.{Reading}
+use Rattle.shelf.specs.declared.reading.Reading.TheVariants.{Module, Fault}
+use Rattle.shelf.specs.declared.reply.Reply.TheVariants as reply
+use Rattle.shelf.specs.GoMods.{Says, told, reading_of, module_told}
+use Rattle.shelf.specs.Machine.{versions_of, module_of, highest_left, latest_by, latest_of, latest_reply, info_reply, query_reply}
+use Rattle.shelf.specs.PathLaws.{IsSeen, seen_versions, HighestSays, unretracted_versions, LatestIsTheTop, NoneIsLatest, HasTime, LatestIsTold, LatestIsNotFound}
+use Rattle.shelf.specs.Versions.{highest, unretracted}
+use Rattle.shelf.specs.World.{World, IsWorld, view}
+use Rattle.shelf.proofs.Members.{no_member}
+use Rattle.shelf.proofs.Highest.{none_highest, highest_top, left}
+use Rattle.shelf.proofs.Told.{entry_at, seen_members, seen_fits}
 
-some_same : {X : Type 0} (a b : X) → ◌≡◌ {A = Option X} (Some a) (Some b) → a ≡ b
-some_same a b e = ap (λ o. unwrap_or o a) e
+-- ---- what a go.mod says
 
--- ---- the highest
+reading_ok : (r : Result GoModule GoModFault) (m : GoModule) → told r ≡ Module m → r ≡ Ok m
+reading_ok (Ok x) m e = let same : x ≡ m = cc e in ap Ok same
+reading_ok (Err f) m e = cc e
 
-greater : (o : Ordering) → is_greater o ≡ true → o ≡ Greater
-greater Less e = absurd (true≢false (sym e))
-greater Equal e = absurd (true≢false (sym e))
-greater Greater e = refl
+module_read : (r : Reading) (m : GoModule) → module_told r ≡ Some m → r ≡ Module m
+module_read (Module x) m e = let same : x ≡ m = cc e in ap Module same
+module_read (Fault line) m e = cc e
 
--- the higher of two is the second, where it is above the first, and else the first
-higher_cases : (v u : SemanticVersion) → (IsAbove u v × (higher v (Some u) ≡ u)) ⊎ ((¬ IsAbove u v) × (higher v (Some u) ≡ v))
-higher_cases v u = elim (cases_Bool (is_greater (rank_cmp u v))) [
-  | inl above ↦ inl (greater (rank_cmp u v) above, rw above refl)
-  | inr not_above ↦ inr (λ above. true≢false (sym (ap is_greater above) ∙ not_above), rw not_above refl)
-]
+says_read : (bytes : List ℕ) (m : GoModule) → reading_of bytes ≡ Module m → Says bytes m
+says_read bytes m e = reads-from_reading profile_1 bytes m (reading_ok (gomod.reading profile_1 bytes) m e)
 
-pub highest_none : (vs : List SemanticVersion) → highest vs ≡ None → vs ≡ []
-highest_none [] e = refl
-highest_none (v ∷ vs) e = cc
+one_meaning : (bytes : List ℕ) (m n : GoModule) → Says bytes m → Says bytes n → m ≡ n
+one_meaning bytes m n a b =
+    let same : ◌≡◌ {A = Result GoModule GoModFault} (Ok m) (Ok n) = sym (reading-from_reads profile_1 bytes m a) ∙ reading-from_reads profile_1 bytes n b in
+    cc same
 
-module _ (path : List ℕ) where
-  not_itself : (x : SemanticVersion) → ¬ IsAbove x x
-  not_itself x = (rank-orders path).irreflexive x
+-- ---- tops
 
-  all_of_rest : (x : SemanticVersion) (xs : List SemanticVersion) → AllOf path (x ∷ xs) → AllOf path xs
-  all_of_rest x xs all v at = all v (contains_there x xs v at)
+-- the top of a set is that of another with the same versions
+alike : (one other : Versions) → ((u : SemanticVersion) → one u → other u) → ((u : SemanticVersion) → other u → one u) → (v : SemanticVersion) → IsTop one v → IsTop other v
+alike one other to back v top = record { member = to v top.member; highest = λ u at. top.highest u (back u at) }
 
-  pub highest_top : (vs : List SemanticVersion) (v : SemanticVersion) → AllOf path vs → highest vs ≡ Some v → IsTop (among vs) v
-  highest_top [] v all e = cc
-  highest_top (x ∷ xs) v all e =
-      elim (highest xs) as (λ o. highest xs ≡ o → higher x o ≡ v → IsTop (among (x ∷ xs)) v) [
-        | None ↦ λ none first. record {
-          member = contains_here x xs v first;
-          highest = λ u at. elim (contains_cases x xs u at) [
-            | inl here ↦ subst (λ y. ¬ IsAbove y v) (sym first ∙ here) (not_itself v)
-            | inr later ↦ absurd (contains_none u (subst (λ ys. Contains ys u) (highest_none xs none) later))
-          ];
-        }
-        | Some y ↦ λ some either.
-            let rest = highest_top xs y (all_of_rest x xs all) some in
-            elim (higher_cases x y) [
-              | inl above ↦ second y rest above.0 (sym above.1 ∙ either)
-              | inr not_above ↦ first y rest not_above.0 (sym not_above.1 ∙ either)
-            ]
-      ] refl (some_same (higher x (highest xs)) v e)
-    where
-      second : (y : SemanticVersion) → IsTop (among xs) y → IsAbove y x → y ≡ v → IsTop (among (x ∷ xs)) v
-      second y rest above is = subst (IsTop (among (x ∷ xs))) is (record {
-        member = contains_there x xs y rest.member;
-        highest = λ u at. elim (contains_cases x xs u at) [
-          | inl here ↦ λ over. not_itself y ((rank-orders path).transitive y u y (subst (IsAbove y) here above) over)
-          | inr later ↦ rest.highest u later
-        ];
-      })
-      first : (y : SemanticVersion) → IsTop (among xs) y → (¬ IsAbove y x) → x ≡ v → IsTop (among (x ∷ xs)) v
-      first y rest not_above is = subst (IsTop (among (x ∷ xs))) is (record {
-        member = contains_here x xs x refl;
-        highest = λ u at. elim (contains_cases x xs u at) [
-          | inl here ↦ subst (λ z. ¬ IsAbove z x) here (not_itself x)
-          | inr later ↦ λ over. elim ((rank-orders path).total u y (all u at) (all y (contains_there x xs y rest.member))) [
-            | inl above ↦ rest.highest u later above
-            | inr more ↦ elim more [
-              | inl same ↦ not_above (subst (λ z. IsAbove z x) same over)
-              | inr below ↦ not_above ((rank-orders path).transitive y u x below over)
-            ]
-          ]
-        ];
-      })
+module _ (w : World) (is : IsWorld w) (s p : List ℕ) where
+  abbrev vs : List SemanticVersion
+  vs = versions_of w s p
 
--- ---- where it stands
+  fit : (x : SemanticVersion) → Contains vs x → IsVersionOf p x
+  fit x at = seen_fits w is s p x ((seen_members w is s p x).0 at)
 
--- what is lent at a place stands there
-pub lent_at : {X : Type 0} (xs : List X) (i : ℕ) (r : Option (Bor X)) → IsItemAt xs i r → option_copied r ≡ slice_get xs i
-lent_at xs i None item = sym (slice_get_past xs i item.3)
-lent_at xs i (Some x) item = sym (slice_get_read xs (length xs) i x.now refl item.3.0 item.1)
+  top_seen : (v : SemanticVersion) → IsTop (among vs) v → IsTop (seen_versions w s p) v
+  top_seen v = alike (among vs) (seen_versions w s p) (λ u. (seen_members w is s p u).0) (λ u. (seen_members w is s p u).1) v
 
--- the version at a place
-abbrev pub version_at : List SemanticVersion → Option ℕ → Option SemanticVersion
-version_at vs None = None
-version_at vs (Some place) = slice_get vs place
+  seen_top : (v : SemanticVersion) → IsTop (seen_versions w s p) v → IsTop (among vs) v
+  seen_top v = alike (seen_versions w s p) (among vs) (λ u. (seen_members w is s p u).1) (λ u. (seen_members w is s p u).0) v
 
-none_there : (us : List SemanticVersion) → ((v : SemanticVersion) → ¬ Contains us v) → None ≡ highest us
-none_there [] none = refl
-none_there (u ∷ us) none = absurd (none u (contains_here u us u refl))
+  -- ---- the go.mod of the highest
 
-some_there : (us : List SemanticVersion) (v : SemanticVersion) → Contains us v → (h : SemanticVersion) × (highest us ≡ Some h)
-some_there [] v at = absurd (contains_none v at)
-some_there (u ∷ us) v at = (higher u (highest us), refl)
+  highest_says : (top : SemanticVersion) (m : GoModule) → highest vs ≡ Some top → module_of (view w s p (version_text top)) ≡ Some m → HighestSays w s p m
+  highest_says top m e f =
+      let is_top = top_seen top (highest_top vs top e) in
+      let seen = is_top.member.1 in
+      let read : module_told (reading_of seen.0.entry.gomod) ≡ Some m = sym (ap module_of seen.1) ∙ f in
+      record {
+        highest = top;
+        top = is_top;
+        at = seen.0;
+        seen = seen.1;
+        says = says_read seen.0.entry.gomod m (module_read (reading_of seen.0.entry.gomod) m read);
+      }
 
--- of versions of a path, the place where the top of a set stands is that of the highest of a list with the same members
-named_highest : (path : List ℕ) (vs us : List SemanticVersion) (set : Versions) → AllOf path us
-    → ((v : SemanticVersion) → Contains us v → set v) → ((v : SemanticVersion) → set v → Contains us v)
-    → (answer : Option ℕ) → NamesTop vs set answer → version_at vs answer ≡ highest us
-named_highest path vs us set all to from None none = none_there us (λ v at. none v (to v at))
-named_highest path vs us set all to from (Some place) named =
-    let v = named.0 in
-    let top : IsTop (among us) v = record { member = from v named.2.member; highest = λ u at. named.2.highest u (to u at) } in
-    let some = some_there us v top.member in
-    named.1 ∙ ap Some ((top_one path us all v some.0).0 top (highest_top path us some.0 all some.1)) ∙ sym some.1
+  one_says : (m n : GoModule) → HighestSays w s p m → HighestSays w s p n → m ≡ n
+  one_says m n a b =
+      let same = (top_one p vs fit a.highest b.highest).0 (seen_top a.highest a.top) (seen_top b.highest b.top) in
+      let one : Some a.at ≡ Some b.at = sym a.seen ∙ ap (λ v. view w s p (version_text v)) same ∙ b.seen in
+      let at : a.at ≡ b.at = cc one in
+      one_meaning b.at.entry.gomod m n (subst (λ (x : Seen). Says x.entry.gomod m) at a.says) b.says
 
-pub names_highest : (path : List ℕ) (vs : List SemanticVersion) → AllOf path vs → (answer : Option ℕ) → NamesTop vs (among vs) answer → version_at vs answer ≡ highest vs
-names_highest path vs all = named_highest path vs vs (among vs) all (λ v at. at) (λ v at. at)
+  -- the versions that it leaves
+  left_of : (m : GoModule) → HighestSays w s p m → (v : SemanticVersion) → Contains (unretracted m vs) v ↔ unretracted_versions w s p v
+  left_of m says v = (
+    λ at. (let h = (left m v vs).0 at in (m, says, (seen_members w is s p v).0 h.0, h.1)),
+    λ h. (left m v vs).1 ((seen_members w is s p v).1 h.2, subst (λ x. ¬ IsRetracted x v) (one_says h.0 m h.1 says) h.3),
+  )
 
--- ---- those that a go.mod does not retract
+  -- ---- the latest version
 
-module _ (m : GoModule) where
-  kept_there : (vs : List SemanticVersion) (v : SemanticVersion) → Contains vs v → is_retracted m v ≡ false → Contains (unretracted m vs) v
-  kept_there [] v at out = absurd (contains_none v at)
-  kept_there (x ∷ xs) v at out = elim (cases_Bool (is_retracted m x)) [
-    | inl gone ↦ rw gone (elim (contains_cases x xs v at) [
-      | inl here ↦ absurd (true≢false (sym gone ∙ ap (is_retracted m) here ∙ out))
-      | inr later ↦ kept_there xs v later out
-    ])
-    | inr stays ↦ rw stays (elim (contains_cases x xs v at) [
-      | inl here ↦ contains_here x (unretracted m xs) v here
-      | inr later ↦ contains_there x (unretracted m xs) v (kept_there xs v later out)
-    ])
-  ]
+  some_latest : (v : SemanticVersion) → latest_of w s p ≡ Some v → IsTop (unretracted_versions w s p) v
+  some_latest v latest = elim (highest vs) as (λ o. highest vs ≡ o → latest_by w s p o ≡ Some v → IsTop (unretracted_versions w s p) v) [
+    | None ↦ λ _ e. cc e
+    | Some top ↦ λ is_top by. elim (module_of (view w s p (version_text top))) as (λ o. module_of (view w s p (version_text top)) ≡ o → highest_left o vs ≡ Some v → IsTop (unretracted_versions w s p) v) [
+      | None ↦ λ _ e. cc e
+      | Some m ↦ λ says e.
+          let h = highest_says top m is_top says in
+          alike (among (unretracted m vs)) (unretracted_versions w s p) (λ u. (left_of m h u).0) (λ u. (left_of m h u).1) v (highest_top (unretracted m vs) v e)
+    ] refl by
+  ] refl latest
 
-  there_kept : (vs : List SemanticVersion) (v : SemanticVersion) → Contains (unretracted m vs) v → Contains vs v × (is_retracted m v ≡ false)
-  there_kept [] v at = absurd (contains_none v at)
-  there_kept (x ∷ xs) v at = elim (cases_Bool (is_retracted m x)) [
-    | inl gone ↦ let rest = there_kept xs v (rw gone at at) in (contains_there x xs v rest.0, rest.1)
-    | inr stays ↦ elim (contains_cases x (unretracted m xs) v (rw stays at at)) [
-      | inl here ↦ (contains_here x xs v here, ap (is_retracted m) (sym here) ∙ stays)
-      | inr later ↦ let rest = there_kept xs v later in (contains_there x xs v rest.0, rest.1)
-    ]
-  ]
+  -- in a world the go.mod of a version that is seen reads
+  read_there : (t : List ℕ) → IsSeen w s p t → module_of (view w s p t) ≡ None → ⊥
+  read_there t seen none =
+      let reads = (entry_at w is s p t seen).reads in
+      let some : module_of (view w s p t) ≡ Some reads.says = ap module_of seen.1 ∙ ap module_told reads.reads in
+      let never : None ≡ Some reads.says = sym none ∙ some in
+      cc never
 
-  pub names_highest_left : (path : List ℕ) (vs : List SemanticVersion) → AllOf path vs → (answer : Option ℕ)
-      → NamesTop vs (latest.unretracted vs m) answer → version_at vs answer ≡ highest (unretracted m vs)
-  names_highest_left path vs all =
-      named_highest path vs (unretracted m vs) (latest.unretracted vs m)
-      (λ v at. all v (there_kept vs v at).0)
-      (λ v at. let both = there_kept vs v at in (both.0, λ out. true≢false (sym ((is_retracted-decides m v).1 out) ∙ both.1)))
-      (λ v at. kept_there vs v at.0 (false_from_ne_true (is_retracted m v) (λ e. at.1 ((is_retracted-decides m v).0 e))))
+  empty : (us : List SemanticVersion) (v : SemanticVersion) → us ≡ [] → Contains us v → ⊥
+  empty us v e at = no_member v (subst (λ xs. Contains xs v) e at)
+
+  none_left : latest_of w s p ≡ None → (v : SemanticVersion) → ¬ unretracted_versions w s p v
+  none_left latest v h = elim (highest vs) as (λ o. highest vs ≡ o → latest_by w s p o ≡ None → ⊥) [
+    | None ↦ λ none _. empty vs v (none_highest vs none) ((seen_members w is s p v).1 h.2)
+    | Some top ↦ λ is_top by. elim (module_of (view w s p (version_text top))) as (λ o. module_of (view w s p (version_text top)) ≡ o → highest_left o vs ≡ None → ⊥) [
+      | None ↦ λ none _. read_there (version_text top) (top_seen top (highest_top vs top is_top)).member.1 none
+      | Some m ↦ λ says e. empty (unretracted m vs) v (none_highest (unretracted m vs) e) ((left_of m (highest_says top m is_top says) v).1 h)
+    ] refl by
+  ] refl latest
+
+  left_top : (m : GoModule) → HighestSays w s p m → (v : SemanticVersion) → IsTop (unretracted_versions w s p) v → IsTop (latest.unretracted vs m) v
+  left_top m says v =
+      alike (unretracted_versions w s p) (latest.unretracted vs m) (λ u x. (left m u vs).0 ((left_of m says u).1 x)) (λ u x. (left_of m says u).0 ((left m u vs).1 x)) v
+
+  one_latest : (u v : SemanticVersion) → IsTop (unretracted_versions w s p) u → IsTop (unretracted_versions w s p) v → u ≡ v
+  one_latest u v a b =
+      let m = a.member.0 in
+      let says = a.member.1 in
+      (top_one p vs fit u v).1 m (left_top m says u a) (left_top m says v b)
+
+pub latest_is_the_top : LatestIsTheTop
+latest_is_the_top w s p v is = (
+  λ e. some_latest w is s p v e,
+  λ top. elim (latest_of w s p) as (λ o. latest_of w s p ≡ o → o ≡ Some v) [
+    | None ↦ λ none. absurd (none_left w is s p none v top.member)
+    | Some u ↦ λ some. ap Some (one_latest w is s p u v (some_latest w is s p u some) top)
+  ] refl,
+)
+
+pub none_is_latest : NoneIsLatest
+none_is_latest w s p is = (
+  λ e. none_left w is s p e,
+  λ none. elim (latest_of w s p) as (λ o. latest_of w s p ≡ o → o ≡ None) [
+    | None ↦ λ _. refl
+    | Some u ↦ λ some. absurd (none u (some_latest w is s p u some).member)
+  ] refl,
+)
+
+-- ---- the reply
+
+-- the reply that tells a latest version
+told_some : (w : World) (is : IsWorld w) (s p : List ℕ) (v : SemanticVersion) → latest_of w s p ≡ Some v → (e : Seen) × (view w s p (version_text v) ≡ Some e) × (query_reply w s (query.Latest p) ≡ reply.Info v e.entry.time)
+told_some w is s p v e =
+    let seen = (some_latest w is s p v e).member.2.1 in
+    (seen.0, seen.1, ap (latest_reply w s p) e ∙ ap (info_reply v) seen.1)
+
+pub latest_is_told : LatestIsTold
+latest_is_told w s p v time is = (
+  λ e. elim (latest_of w s p) as (λ o. latest_of w s p ≡ o → IsTop (unretracted_versions w s p) v × HasTime w s p v time) [
+    | None ↦ λ none. let never : reply.NotFound ≡ reply.Info v time = sym (ap (latest_reply w s p) none) ∙ e in cc never
+    | Some u ↦ λ some.
+        let told = told_some w is s p u some in
+        let one : reply.Info u told.0.entry.time ≡ reply.Info v time = sym told.2 ∙ e in
+        let same : u ≡ v = cc one in
+        let at : told.0.entry.time ≡ time = cc one in
+        (subst (IsTop (unretracted_versions w s p)) same (some_latest w is s p u some), subst (λ x. HasTime w s p x time) same (told.0, told.1, at))
+  ] refl,
+  λ h. ap (latest_reply w s p) ((latest_is_the_top w s p v is).1 h.0) ∙ ap (info_reply v) h.1.1 ∙ ap (reply.Info v) h.1.2,
+)
+
+pub latest_is_not_found : LatestIsNotFound
+latest_is_not_found w s p is = (
+  λ e. elim (latest_of w s p) as (λ o. latest_of w s p ≡ o → (v : SemanticVersion) → ¬ unretracted_versions w s p v) [
+    | None ↦ λ none. none_left w is s p none
+    | Some u ↦ λ some.
+        let told = told_some w is s p u some in
+        let never : reply.NotFound ≡ reply.Info u told.0.entry.time = sym e ∙ told.2 in
+        cc never
+  ] refl,
+  λ none. ap (latest_reply w s p) ((none_is_latest w s p is).1 none),
+)

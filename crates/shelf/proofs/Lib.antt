@@ -8,7 +8,6 @@ pub mod MapsSets
 pub mod MapsSeen
 pub mod Orders
 pub mod Named
-pub mod Latest
 pub mod InOrder
 pub mod VersionOrder
 pub mod Checks
@@ -26,3 +25,8 @@ pub mod Stays
 pub mod Served
 pub mod Repeated
 pub mod Changes
+pub mod Members
+pub mod Highest
+pub mod Tops
+pub mod Told
+pub mod Latest

@@ -1,5 +1,5 @@
 use Rattle.std.proofs.Common.{ap, ◌∙◌, Some, None, option_copied}
-use Rattle.shelf.proofs.Latest.{lent_at, names_highest_left}
+use Rattle.shelf.proofs.Tops.{lent_at, names_highest_left}
 use Rattle.shelf.proofs.versions.highest_left.Goals as goal
 
 pub returns-in_err-place : goal.returns-in_err-place

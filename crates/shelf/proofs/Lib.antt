@@ -7,6 +7,7 @@ pub mod MapsCounts
 pub mod MapsSets
 pub mod MapsSeen
 pub mod Orders
+pub mod Named
 pub mod InOrder
 pub mod VersionOrder
 pub mod Checks
@@ -24,3 +25,8 @@ pub mod Stays
 pub mod Served
 pub mod Repeated
 pub mod Changes
+pub mod Members
+pub mod Highest
+pub mod Tops
+pub mod Told
+pub mod Latest

@@ -11,6 +11,7 @@ pub mod Versions
 pub mod Machine
 pub mod Store
 pub mod Laws
+pub mod PathLaws
 pub mod Isolation
 pub mod Immutability
 pub mod Kept

@@ -88,6 +88,14 @@ abbrev pub is_other_time : Class → GivenTime → Bool
 is_other_time (class.Pseudo stamp) (At time) = not (bytes_eq stamp time)
 is_other_time c given = false
 
+-- the checks of the version and of the time that is given, each with its answer
+abbrev pub version_checks : Publish → List (Bool × Decision)
+version_checks p =
+    (not (fits (suffix_of p.path) p.version), Refused refusal.MajorMismatch)
+    ∷ (is_bad_time p.time, Refused refusal.BadTime)
+    ∷ (is_other_time (class_of p.version) p.time, Refused refusal.TimeMismatch)
+    ∷ []
+
 -- the checks of a publish alone, by a key with this right (none: an unknown key), each with its answer
 abbrev pub request_checks : Publish → Option Right → List (Bool × Decision)
 request_checks p right =
@@ -96,10 +104,7 @@ request_checks p right =
     ∷ (not (may_publish right), Forbidden)
     ∷ (is_none p.body, BadLength)
     ∷ (is_too_large (offered p), TooLarge)
-    ∷ (not (fits (suffix_of p.path) p.version), Refused refusal.MajorMismatch)
-    ∷ (is_bad_time p.time, Refused refusal.BadTime)
-    ∷ (is_other_time (class_of p.version) p.time, Refused refusal.TimeMismatch)
-    ∷ []
+    ∷ version_checks p
 
 -- ---- the go.mod of a publish, if it was read
 

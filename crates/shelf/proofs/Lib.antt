@@ -29,4 +29,5 @@ pub mod Members
 pub mod Highest
 pub mod Tops
 pub mod Told
+pub mod Newest
 pub mod Latest

@@ -11,6 +11,7 @@ pub mod Named
 pub mod InOrder
 pub mod VersionOrder
 pub mod Checks
+pub mod EntryTests
 pub mod Runs
 pub mod Retained
 pub mod Views

@@ -30,4 +30,5 @@ pub mod Members
 pub mod Highest
 pub mod Tops
 pub mod Told
+pub mod Newest
 pub mod Latest

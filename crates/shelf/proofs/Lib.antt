@@ -11,6 +11,7 @@ pub mod Named
 pub mod InOrder
 pub mod VersionOrder
 pub mod Checks
+pub mod EntryTests
 pub mod Runs
 pub mod Retained
 pub mod Views
@@ -29,4 +30,5 @@ pub mod Members
 pub mod Highest
 pub mod Tops
 pub mod Told
+pub mod Newest
 pub mod Latest

@@ -1,5 +1,5 @@
 -- Which versions texts name.
-use Rattle.std.proofs.Common.{◌≡◌, List, ℕ, refl, sym, ap, ◌∙◌, Some, None, ◌⊎◌, inl, inr}
+use Rattle.std.proofs.Common.{◌≡◌, List, ℕ, refl, sym, Some, None, ◌⊎◌, inl, inr}
 use Rattle.modver.specs.Reading.{IsCanonical, IsFault, IsHeld, version_of}
 use Rattle.modver.specs.SemanticVersion.{SemanticVersion}
 use Rattle.modver.specs.declared.version.VersionFault.{VersionFault}

@@ -5,6 +5,7 @@ pub mod Lines
 pub mod Forms
 pub mod GoMods
 pub mod World
+pub mod EntryTest
 pub mod Code
 pub mod Visible
 pub mod Versions

@@ -37,6 +37,7 @@ pub mod ask;
 pub mod bytes;
 pub mod decide;
 pub mod entry;
+pub mod entry_test;
 pub mod laws;
 pub mod map_shelves;
 mod maps;

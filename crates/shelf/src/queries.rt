@@ -1,9 +1,10 @@
 //! Answers to GETs over any store. (Go Modules Reference, "GOPROXY protocol".)
-ghost use Rattle.std.specs.Prelude.{◌≡◌, IfOk, Some};
+ghost use Rattle.std.specs.Prelude.{◌≡◌, ℕ, List, IfOk};
 ghost use Rattle.std.specs.FinMap as map;
 ghost use Rattle.shelf.specs.Machine as spec;
 ghost use Rattle.shelf.specs.Machine.{keyed_reply, latest_of, latest_reply};
 ghost use Rattle.shelf.specs.Store.{Reads, HasCause};
+ghost use Rattle.shelf.specs.Versions.{AllOf};
 
 use crate::ask::Query;
 use crate::entry::Seen;
@@ -135,10 +136,22 @@ fn latest_version<S: Shelves>(
         return Ok(None);
     };
     let seen = shelves.entry(shelf, path, newest)?;
-    let Some(gomod) = gomod_seen(alloc, seen)? else {
+    let gomod = gomod_seen(alloc, seen)?;
+    Ok(latest_left(alloc, versions.as_slice(), gomod)?)
+}
+
+/// The highest of some versions of a path that a go.mod does not retract.
+fn latest_left(
+    alloc: Global,
+    versions: &[Version],
+    gomod: Option<GoMod>,
+) -> Result<Option<Version>, AllocError>
+    ensures { IfOk result (λ v. (path : List ℕ) → AllOf path versions.now → v ≡ spec.highest_left gomod versions.now) }
+{
+    let Some(gomod) = gomod else {
         return Ok(None);
     };
-    match highest_left(versions.as_slice(), &gomod) {
+    match highest_left(versions, &gomod) {
         None => Ok(None),
         Some(version) => Ok(Some(version.copy(alloc)?)),
     }

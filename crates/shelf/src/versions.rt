@@ -27,7 +27,7 @@ pub fn named(alloc: Global, texts: &TextSet) -> Result<Vec<Version>, AllocError>
 }
 
 /// The version that a text names, if it names one.
-fn version_of(alloc: Global, text: &str) -> Result<Option<Version>, AllocError>
+pub fn version_of(alloc: Global, text: &str) -> Result<Option<Version>, AllocError>
     ensures { IfOk result (λ v. v ≡ version_of text.now) }
 {
     match Version::parse(alloc, text) {

@@ -1,4 +1,4 @@
-use Rattle.std.proofs.Common.{rules, ◌≡◌, List}
+use Rattle.std.proofs.Common.{rules, ◌≡◌}
 use Rattle.modver.specs.declared.version.VersionFault.TheVariants as fault
 use Rattle.shelf.proofs.Named.{names_version, read_none}
 use Rattle.shelf.proofs.versions.version_of.Goals as goal

@@ -7,37 +7,149 @@ use std::process::Abort;
 
 const ONLY_A_MODULE: &str = "module github.com/davecgh/go-spew\n";
 
-const NO_REQUIREMENTS: &str = "module github.com/gorilla/mux\n\ngo 1.20\n";
+const NO_REQUIREMENTS: &str = "module github.com/gorilla/mux
 
-const TOOLS: &str =
-    "// Tools.\nmodule golang.org/x/tools\n\ngo 1.22.0 // see the notes\n\nrequire (\n\tgithub.com/google/go-cmp v0.6.0\n\n\tgithub.com/yuin/goldmark v1.4.13 // indirect\n\t\"golang.org/x/mod\" v0.22.0\n)\n\nrequire golang.org/x/telemetry v0.0.0-20240521205824-bda55230c457\n";
+go 1.20
+";
 
-const QUOTED: &str =
-    "module \"gopkg.in/yaml.v3\"\n\nrequire (\n\t\"gopkg.in/check.v1\" v0.0.0-20161208181325-20d25e280405\n)\n";
+const TOOLS: &str = "// Tools.
+module golang.org/x/tools
 
-const SUFFIXES: &str =
-    "module github.com/spf13/cobra\n\ngo 1.15\n\nrequire (\n\tgithub.com/cpuguy83/go-md2man/v2 v2.0.6\n\tgithub.com/inconshreveable/mousetrap v1.1.0\n\tgopkg.in/yaml.v3 v3.0.1\n)\n";
+go 1.22.0 // see the notes
 
-const MARKED: &str =
-    "module github.com/docker/cli\n\n// 'vendor.mod' is this file's other name (see the notes).\n\ngo 1.23rc1\n\nrequire (\n\tgithub.com/Azure/go-autorest v14.2.0+incompatible\n\tgithub.com/docker/docker v28.0.0-rc.1+incompatible // v28.0.0\n)\n\nrequire (\n\tgithub.com/docker/libtrust v0.0.0-20160708172513-aabc10ec26b7 // indirect\n)\n";
+require (
+\tgithub.com/google/go-cmp v0.6.0
 
-const STAGED: &str =
-    "// This is a generated file. Do not edit directly.\n\nmodule k8s.io/kubernetes\n\ngo 1.24.0\n\nrequire (\n\tk8s.io/api v0.0.0\n\tk8s.io/utils v0.0.0-20241104100929-3ea5e8cea738\n)\n\nreplace (\n\tk8s.io/api => ./staging/src/k8s.io/api\n\tk8s.io/client-go => ./staging/src/k8s.io/client-go\n)\n";
+\tgithub.com/yuin/goldmark v1.4.13 // indirect
+\t\"golang.org/x/mod\" v0.22.0
+)
 
-const FORKED: &str =
-    "module go.etcd.io/etcd/v3\n\nreplace (\n\tgo.etcd.io/etcd/api/v3 => ./api\n\tgithub.com/coreos/bbolt v1.3.4 => go.etcd.io/bbolt v1.3.4 // moved\n)\n\nreplace github.com/old/grpc => github.com/new/grpc/v2 v2.1.0\nreplace github.com/old/grpc v1.0.0 => /src/grpc\n\n// It does not build.\nexclude github.com/old/grpc v1.1.0\n\nexclude (\n\tgithub.com/old/grpc v1.2.0-beta.1\n)\n\nrequire go.etcd.io/etcd/api/v3 v3.6.0-alpha.0\n";
+require golang.org/x/telemetry v0.0.0-20240521205824-bda55230c457
+";
 
-const WITHDRAWN: &str =
-    "module github.com/redis/go-redis/v9\n\ngo 1.18\n\nrequire (\n\tgithub.com/bsm/ginkgo/v2 v2.12.0\n\tgithub.com/dgryski/go-rendezvous v0.0.0-20200823014737-9f7001d12a5f\n)\n\nretract (\n\tv9.7.2 // Released by accident. Please use v9.7.3.\n\tv9.5.4 // Released by accident. Please use v9.6.0.\n)\n";
+const QUOTED: &str = "module \"gopkg.in/yaml.v3\"
 
-const EXPLAINED: &str =
-    "module github.com/foo/bar/v3\n\n// Published before the interface was settled,\n// and withdrawn with all its betas.\nretract [v3.0.0-alpha, v3.0.0]\n\nretract (\n\t// It loses data.\n\t[ v3.1.0 , v3.1.5 ]\n\n\tv3.9.0-rc.1 // Only the tag was wrong (see [v3.9.0]).\n)\n";
+require (
+\t\"gopkg.in/check.v1\" v0.0.0-20161208181325-20d25e280405
+)
+";
 
-const LOCAL: &str =
-    "module example.com/shop\n\nrequire (\n\tinternal v0.0.0\n\tshop/prices/v2 v2.0.0\n)\n\nreplace internal => ../internal\n\nreplace shop/prices/v2 v2.0.0 => ..\n";
+const SUFFIXES: &str = "module github.com/spf13/cobra
 
-const IN_STRINGS: &str =
-    "module `example.com/strings`\n\ngo \"1.21\"\n\nrequire \"github.com/a/b\" \"v1.0.0\"\nrequire `github.com/c/d` v0.1.0 // a \"comment\"\nrequire \"github.com/\\e/f\" v0.2.0\nreplace \"github.com/a/b\" => \"./a directory/of \\\"ours\\\", (old)\"\nretract \"v1.0.0\"\nretract [`v1.1.0`,\"v1.2.0\"]\n";
+go 1.15
+
+require (
+\tgithub.com/cpuguy83/go-md2man/v2 v2.0.6
+\tgithub.com/inconshreveable/mousetrap v1.1.0
+\tgopkg.in/yaml.v3 v3.0.1
+)
+";
+
+const MARKED: &str = "module github.com/docker/cli
+
+// 'vendor.mod' is this file's other name (see the notes).
+
+go 1.23rc1
+
+require (
+\tgithub.com/Azure/go-autorest v14.2.0+incompatible
+\tgithub.com/docker/docker v28.0.0-rc.1+incompatible // v28.0.0
+)
+
+require (
+\tgithub.com/docker/libtrust v0.0.0-20160708172513-aabc10ec26b7 // indirect
+)
+";
+
+const STAGED: &str = "// This is a generated file. Do not edit directly.
+
+module k8s.io/kubernetes
+
+go 1.24.0
+
+require (
+\tk8s.io/api v0.0.0
+\tk8s.io/utils v0.0.0-20241104100929-3ea5e8cea738
+)
+
+replace (
+\tk8s.io/api => ./staging/src/k8s.io/api
+\tk8s.io/client-go => ./staging/src/k8s.io/client-go
+)
+";
+
+const FORKED: &str = "module go.etcd.io/etcd/v3
+
+replace (
+\tgo.etcd.io/etcd/api/v3 => ./api
+\tgithub.com/coreos/bbolt v1.3.4 => go.etcd.io/bbolt v1.3.4 // moved
+)
+
+replace github.com/old/grpc => github.com/new/grpc/v2 v2.1.0
+replace github.com/old/grpc v1.0.0 => /src/grpc
+
+// It does not build.
+exclude github.com/old/grpc v1.1.0
+
+exclude (
+\tgithub.com/old/grpc v1.2.0-beta.1
+)
+
+require go.etcd.io/etcd/api/v3 v3.6.0-alpha.0
+";
+
+const WITHDRAWN: &str = "module github.com/redis/go-redis/v9
+
+go 1.18
+
+require (
+\tgithub.com/bsm/ginkgo/v2 v2.12.0
+\tgithub.com/dgryski/go-rendezvous v0.0.0-20200823014737-9f7001d12a5f
+)
+
+retract (
+\tv9.7.2 // Released by accident. Please use v9.7.3.
+\tv9.5.4 // Released by accident. Please use v9.6.0.
+)
+";
+
+const EXPLAINED: &str = "module github.com/foo/bar/v3
+
+// Published before the interface was settled,
+// and withdrawn with all its betas.
+retract [v3.0.0-alpha, v3.0.0]
+
+retract (
+\t// It loses data.
+\t[ v3.1.0 , v3.1.5 ]
+
+\tv3.9.0-rc.1 // Only the tag was wrong (see [v3.9.0]).
+)
+";
+
+const LOCAL: &str = "module example.com/shop
+
+require (
+\tinternal v0.0.0
+\tshop/prices/v2 v2.0.0
+)
+
+replace internal => ../internal
+
+replace shop/prices/v2 v2.0.0 => ..
+";
+
+const IN_STRINGS: &str = "module `example.com/strings`
+
+go \"1.21\"
+
+require \"github.com/a/b\" \"v1.0.0\"
+require `github.com/c/d` v0.1.0 // a \"comment\"
+require \"github.com/\\e/f\" v0.2.0
+replace \"github.com/a/b\" => \"./a directory/of \\\"ours\\\", (old)\"
+retract \"v1.0.0\"
+retract [`v1.1.0`,\"v1.2.0\"]
+";
 
 const OF_WINDOWS: &str =
     "require github.com/a/b v1.0.0\r\nrequire(\r\n  github.com/c/d  v1.0.0 \t\r\n)\r\n\r\nmodule (\r\n\texample.com/windows//the path\r\n)\r\ngo 1.9.2\r\nrequire (\r\n)";

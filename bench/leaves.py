@@ -3,8 +3,8 @@
 
 Build the program first (`cd crates/measure && rt run -- gomod 0 </dev/null`). It does the same work in rounds, and each
 line tells what a round costs in processor time, beside a run with no rounds, which only makes the input ready. Of a
-go.mod it also tells how much dearer twice the text is, and the status is 1 where that is more than 2.5 times.
-With --quick the inputs are a tenth as long.
+go.mod it also tells how many times dearer the text is than one half as long, and the status is 1 where that is more
+than 2.5 times. With --quick the inputs are a tenth as long.
 """
 
 import os
@@ -85,7 +85,7 @@ def comment(size):
 
 def requirements(count):
     head = b"module example.com/a\n\nrequire (\n"
-    entry = lambda n: f"\tgithub.com/owner{n % 97}/module-{n} v1.{n % 50}.{n % 20} // indirect"
+    entry = lambda n: f"\tgithub.com/owner{n % 97}/mod-{n} v1.{n % 50}.{n % 20} // indirect"
     return head + lines(count, entry) + b")\n", count
 
 
@@ -113,16 +113,16 @@ def measure_versions(count):
 
 
 def measure_gomod(name, size, make):
-    """Whether twice the text costs no more than it may."""
-    texts, wanted = zip(make(size), make(2 * size))
-    once, twice = rounds_of("gomod", *texts)
-    if (once[1], twice[1]) != wanted:
-        sys.exit(f"{once[1]} and {twice[1]} requirements were read, and not {wanted}")
-    length = len(texts[0])
-    times = twice[0] / once[0]
+    """Whether the text costs no more than it may beside one half as long."""
+    texts, wanted = zip(make(size), make(size // 2))
+    whole, half = rounds_of("gomod", *texts)
+    if (whole[1], half[1]) != wanted:
+        sys.exit(f"{whole[1]} and {half[1]} requirements were read, and not {wanted}")
+    seconds, length = whole[0], len(texts[0])
+    times = seconds / half[0]
     print(
-        f"a go.mod of {name}, {length:,} bytes: {length / once[0] / 1e6:,.1f} MB/s ({once[0] * 1e3:.2f} ms), "
-        f"twice the text {times:.2f} times"
+        f"a go.mod of {name}, {length:,} bytes: {length / seconds / 1e6:,.1f} MB/s ({seconds * 1e3:.2f} ms), "
+        f"{times:.2f} times one half as long"
     )
     return times <= TWICE_COSTS_AT_MOST
 
@@ -139,7 +139,7 @@ def main():
         measure_gomod(f"{80_000 // scale:,} lines", 80_000 // scale, short_lines),
     ]
     if not all(linear):
-        sys.exit(f"twice the text costs more than {TWICE_COSTS_AT_MOST} times")
+        sys.exit(f"twice the text costs more than {TWICE_COSTS_AT_MOST} times as much")
 
 
 if __name__ == "__main__":

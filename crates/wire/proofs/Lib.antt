@@ -9,5 +9,7 @@ pub mod PlainLemmas
 pub mod VersionLemmas
 pub mod PlainBytes
 pub mod TargetLemmas
+pub mod PlaceReadings
+pub mod QueryReadings
 pub mod TargetReadings
 pub mod TextTargets

@@ -6,11 +6,11 @@ use Rattle.shelf.specs.declared.ask.Ask.{Ask}
 use Rattle.shelf.specs.declared.reply.Reply.{Reply}
 use Rattle.shelf.specs.declared.reply.StoreFault.{StoreFault}
 use Rattle.shelf.specs.World.{World}
-use Rattle.shelf.specs.Machine.{ask_reply, after_ask}
+use Rattle.shelf.specs.Machine.{ask_reply, after_ask, HasBody}
 use Rattle.shelf.specs.Store.{Shown, Does, HasCause, GrewOrFull}
+use Rattle.shelf.proofs.Changes.{bodies_change_nothing}
 use Rattle.engine.specs.Ask.{ask_of}
-use Rattle.engine.specs.Outcome.{Exchange, event_of, answer_of, AllUnmet}
-use Rattle.engine.specs.declared.outcome.Outcome.TheVariants.{Unasked, Met, Told}
+use Rattle.engine.specs.Exchange.{Exchange, Unserved, Met, Told, event_of, answer_of, AllUnmet}
 use Rattle.engine.specs.Store.{GoesThrough, LeavesTwo, world_at}
 use Rattle.engine.proofs.CrashLemmas.{leaves_kept, leaves_more}
 use Rattle.engine.proofs.RunLemmas.{runs_more, world_more, met_either}
@@ -47,7 +47,7 @@ through_none shown count = record {
 
 -- the machine was not asked
 pub through_unasked : (shown : Shown) (count : ℕ) (m : Request) → ((w x : World) → shown.leaves w w → shown.leaves w x)
-    → GoesThrough shown shown count count (record { message = m; outcome = Unasked } ∷ [])
+    → GoesThrough shown shown count count (record { message = m; outcome = Unserved } ∷ [])
 through_unasked shown count m wider = record {
   runs = record {
     honest = λ h. h;
@@ -101,6 +101,31 @@ module _ (old new : Shown) (before now : ℕ) (m : Request) (ask : Ask) (is : as
     where
       kept : (w : World) → new.leaves (after_ask w ask) (after_ask w ask) → new.leaves (after_ask w (ask_of m)) (after_ask w (ask_of m))
       kept w leaves = subst (λ x. new.leaves x x) (ap (after_ask w) is) leaves
+
+  -- it replied with a body that there was no memory for: the world is as it was
+  pub through_unshown : (reply : Reply) → HasBody reply → Does {T = Reply} old new (Ok reply) (λ w. ask_reply w ask) (λ w. after_ask w ask)
+      → HasCause {T = Reply} before now (Ok reply) → GoesThrough old new before now (record { message = m; outcome = Unserved } ∷ [])
+  through_unshown reply body does cause = record {
+    runs = record {
+      honest = λ h. does.honest h;
+      at = λ h w stands. let at = does.at h w stands tt in record {
+        run = refl;
+        ends = subst new.stands (same h w stands) at.ok;
+        left = λ idle was. kept h w stands was;
+      };
+    };
+    left = λ h w stands was. subst (λ x. new.leaves w x) (ap (after_ask w) is) ((does.at h w stands tt).left was);
+    settled = λ unmet h w stands was. kept h w stands was;
+    untouched = λ none. cc;
+    no_fewer = cause.no_fewer;
+    device = λ met. elim met [ inl other ↦ cc | inr never ↦ absurd never ];
+  }
+    where
+      same : new.is_honest → (w : World) → old.stands w → after_ask w ask ≡ w
+      same h w stands = bodies_change_nothing w ask (subst HasBody (does.at h w stands tt).answer body)
+
+      kept : new.is_honest → (w : World) → old.stands w → old.leaves w w → new.leaves w w
+      kept h w stands was = subst (λ x. new.leaves x x) (same h w stands) ((does.at h w stands tt).kept was)
 
 -- ---- more after others
 

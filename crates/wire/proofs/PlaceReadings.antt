@@ -1,5 +1,5 @@
 -- Module paths and versions around `/@`, computed, are what they are.
-use Rattle.std.proofs.Common.{◌≡◌, ℕ, List, [], ◌++◌, codes, Option, Some, None, Ok, Err, true, is_ok, if◌then◌else◌, refl, sym, ap, ◌∙◌, subst, append_assoc}
+use Rattle.std.proofs.Common.{◌≡◌, ℕ, List, [], ◌++◌, codes, Option, Some, None, Ok, Err, true, is_ok, if◌then◌else◌, refl, sym, ap, ◌∙◌, subst}
 use Rattle.std.proofs.lemmas.List.{append-nil}
 use Rattle.std.specs.Option.{option_and_then, option_map}
 use Rattle.modpath.specs.Escape.{escaped}
@@ -11,7 +11,7 @@ use Rattle.wire.specs.Place.{IsPlace, cut_of, pair, path_of, place_of, plain_of,
 use Rattle.wire.specs.declared.places.Place.{Place}
 use Rattle.wire.proofs.PlainBytes.{escaped-no_at, escaped-utf8, path-plain, plain-no_bang, version-plain}
 use Rattle.wire.proofs.PlainLemmas.{plain-is, plain-some}
-use Rattle.wire.proofs.TargetLemmas.{cut-is, cut-taken, if-some, map-some, start-is, start-taken, then-some}
+use Rattle.wire.proofs.TargetLemmas.{cut-is, cut-taken, if-some, map-some, start-is, then-some}
 
 -- ---- paths and versions in their escaped forms
 
@@ -84,4 +84,4 @@ unfolding place_of
 place-taken text path version is =
     let name = escaped (version_text version) in
     let whole : text ≡ escaped path ++ (codes "/@" ++ (codes "v/" ++ name)) = is.whole ∙ ap (λ (l : List ℕ). escaped path ++ (codes "/@v/" ++ l)) (append-nil name) in
-    rw (whole, path-cut path (codes "v/" ++ name) is.path_is, start-taken (codes "v/") name, path-taken path is.path_is, version-taken version is.version_is) refl
+    rw (whole, path-cut path (codes "v/" ++ name) is.path_is, path-taken path is.path_is, version-taken version is.version_is) refl

@@ -1,10 +1,10 @@
 -- What a GET asks for by the rest behind the key, computed, is what it asks for.
-use Rattle.std.proofs.Common.{◌≡◌, ◌≢◌, ◌==◌, ℕ, ◌+◌, suc, List, [], ◌∷◌, ◌++◌, length, take, drop, codes, Option, Some, None, Ok, Bool, true, false, get_or, nat_eq, refl, sym, ap, ◌∙◌, subst, inl, inr, arith, append_assoc, length-append}
+use Rattle.std.proofs.Common.{◌≡◌, ◌≢◌, ◌==◌, ℕ, ◌+◌, List, [], ◌∷◌, ◌++◌, length, drop, codes, Option, Some, None, true, false, get_or, refl, sym, ap, ◌∙◌, subst, inl, inr, arith, append_assoc, length-append}
 use Rattle.std.proofs.lemmas.Bool.{cases_Bool}
 use Rattle.std.proofs.lemmas.Bool.Decides.{Decides-eqb}
 use Rattle.std.proofs.lemmas.List.{drop_at}
 use Rattle.std.specs.Char.{is_ascii_uppercase}
-use Rattle.std.specs.Cmp.Lexicographic.{pointwise, pointwise_decides}
+use Rattle.std.specs.Cmp.Lexicographic.{pointwise_decides}
 use Rattle.std.specs.List.{onto_first, slice_split}
 use Rattle.std.specs.Option.{option_and_then, option_map}
 use Rattle.percent_encoding.proofs.PercentLemmas.{percent_decode_not_percent}
@@ -12,17 +12,16 @@ use Rattle.percent_encoding.specs.Percent.{percent_decode}
 use Rattle.modpath.proofs.PathLaw.{check_is_exact}
 use Rattle.modpath.specs.Escape.{escaped}
 use Rattle.modpath.specs.ModulePath.{BeginsWith}
-use Rattle.modpath.specs.Path.{IsPath, check_of, elements, first_element}
-use Rattle.modver.specs.Reading.{IsCanonical}
+use Rattle.modpath.specs.Path.{IsPath, check_of, first_element}
 use Rattle.modver.specs.SemanticVersion.{SemanticVersion, version_text}
-use Rattle.wire.specs.Place.{IsPathWith, IsPlace, cut_of, path_of, version_from, without_end, without_start}
-use Rattle.wire.specs.Query.{IsOwn, IsQuery, asked_by, asked_of, ending_of, first_some, of_path, own_of, own_or_asked, part_of, query_for, query_of, split_part, text_eq, without_ending}
+use Rattle.wire.specs.Place.{IsPlace, cut_of, path_of, version_from, without_end, without_start}
+use Rattle.wire.specs.Query.{IsQuery, asked_by, asked_of, ending_of, first_some, of_path, own_of, own_or_asked, part_of, query_for, query_of, split_part, text_eq, without_ending}
 use Rattle.wire.specs.declared.queries.Part.{Part}
 use Rattle.wire.specs.declared.queries.Part.TheVariants as part
 use Rattle.wire.specs.declared.request.Query.{Query}
 use Rattle.wire.specs.declared.request.Query.TheVariants as query
 use Rattle.wire.proofs.PlaceReadings.{path-cut, path-is, path-taken, version-is, version-taken}
-use Rattle.wire.proofs.TargetLemmas.{cut-is, end-is, end-taken, if-some, map-some, same-pointwise, start-is, start-taken, then-some}
+use Rattle.wire.proofs.TargetLemmas.{cut-is, end-is, end-taken, if-some, map-some, start-is, then-some}
 
 pub same-text : (xs ys : List ℕ) → text_eq xs ys ≡ true → xs ≡ ys
 same-text xs ys h = (pointwise_decides Decides-eqb xs ys).0 h
@@ -136,11 +135,9 @@ no-list version p = elim (cases_Bool (text_eq (version ++ ending_of p) (codes "l
     apart part.GoMod e = omega (arith, same-last version [] (codes ".mo") (codes "lis") 100 116 e)
     apart part.Zip e = omega (arith, same-last version [] (codes ".zi") (codes "lis") 112 116 e)
 
-part-taken : (path : List ℕ) (v : SemanticVersion) (p : Part) → IsCanonical (version_text v) v
-    → of_path path (codes "v/" ++ (escaped (version_text v) ++ ending_of p)) ≡ Some (query_for p path v)
-part-taken path v p is =
-    let name = escaped (version_text v) in
-    rw (no-list name p, start-taken (codes "v/") (name ++ ending_of p), without-ending-taken name p, version-taken v is) refl
+part-taken : (path name : List ℕ) (v : SemanticVersion) (p : Part) → version_from name ≡ Some v
+    → of_path path (codes "v/" ++ (name ++ ending_of p)) ≡ Some (query_for p path v)
+part-taken path name v p is = rw (no-list name p, without-ending-taken name p, is) refl
 
 -- ---- what is asked of a path
 
@@ -153,11 +150,11 @@ of-path-taken rest path behind asked whole is h =
 place-taken : (rest path : List ℕ) (v : SemanticVersion) (p : Part) → IsPlace (percent_decode rest) path v (ending_of p)
     → query_of rest ≡ Some (query_for p path v)
 place-taken rest path v p is =
-    of-path-taken rest path (codes "v/" ++ (escaped (version_text v) ++ ending_of p)) (query_for p path v) is.whole is.path_is (part-taken path v p is.version_is)
+    of-path-taken rest path (codes "v/" ++ (escaped (version_text v) ++ ending_of p)) (query_for p path v) is.whole is.path_is (part-taken path (escaped (version_text v)) v p (version-taken v is.version_is))
 
 own-taken : (rest behind : List ℕ) → rest ≡ codes "-/" ++ behind → percent_decode behind ≡ codes "modules" → query_of rest ≡ Some query.Modules
 unfolding query_of
-own-taken rest behind whole decodes = rw (whole, start-taken (codes "-/") behind, decodes) refl
+own-taken rest behind whole decodes = rw (whole, decodes) refl
 
 pub query-taken : (rest : List ℕ) (asked : Query) → IsQuery rest asked → query_of rest ≡ Some asked
 query-taken rest (query.Info path v) is = place-taken rest path v part.Info is

@@ -1,9 +1,8 @@
 -- What a request asks for, computed, is what it asks for.
-use Rattle.std.proofs.Common.{◌≡◌, ℕ, List, [], codes, Option, Some, None, Ok, Err, true, IfOk, Result, nat_eq, refl, sym, ◌∙◌, subst, inl, inr}
+use Rattle.std.proofs.Common.{◌≡◌, ℕ, List, codes, Option, Some, None, Ok, Err, IfOk, Result, nat_eq, refl, sym, ◌∙◌, subst, inl, inr}
 use Rattle.std.proofs.lemmas.Bool.{cases_Bool}
 use Rattle.std.specs.Cmp.Lexicographic.{pointwise}
 use Rattle.percent_encoding.specs.Percent.{percent_decode}
-use Rattle.modver.specs.SemanticVersion.{SemanticVersion}
 use Rattle.wire.specs.Place.{place_of}
 use Rattle.wire.specs.Query.{query_of}
 use Rattle.wire.specs.Target.{Asks, IsKeyed, ReadsTarget, asked_or, get_of, put_of, split_of, target_of}

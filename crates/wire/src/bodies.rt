@@ -1,6 +1,6 @@
 //! Bodies that a request asks for, made in memory: one version, and lists.
-ghost use Rattle.std.specs.Prelude.{◌≡◌, ◌∷◌, ◌++◌, [], IfOk, OnOk, OnErr};
-ghost use Rattle.wire.specs.Reply.{info_bytes, lines_bytes, versions_bytes};
+ghost use Rattle.std.specs.Prelude.{◌≡◌, ◌++◌, codes, IfOk, OnOk, OnErr};
+ghost use Rattle.wire.specs.Reply.{info_bytes, paths_bytes, versions_bytes};
 
 use crate::message::Memory;
 use modpath::ModulePath;
@@ -42,7 +42,7 @@ pub fn versions_body(alloc: Global, versions: &[Version]) -> Result<Vec<u8>, Mem
 
 /// The body that lists module paths, likewise. `Memory` where there is no room for it.
 pub fn paths_body(alloc: Global, paths: &[ModulePath]) -> Result<Vec<u8>, Memory>
-    ensures { IfOk result (λ body. body.items ≡ lines_bytes paths.now) }
+    ensures { IfOk result (λ body. body.items ≡ paths_bytes paths.now) }
 {
     let mut body = Vec::new(alloc);
     for path in paths {
@@ -54,7 +54,7 @@ pub fn paths_body(alloc: Global, paths: &[ModulePath]) -> Result<Vec<u8>, Memory
 /// Puts a text and a newline behind the lines of a body. `Memory` where there is no room for them, and then the body is as
 /// it was.
 pub fn push_line(body: &mut Vec<u8>, line: &str) -> Result<(), Memory>
-    ensures ok { OnOk result (body.new.items ≡ body.old.items ++ (line.now ++ 10 ∷ [])) }
+    ensures ok { OnOk result (body.new.items ≡ body.old.items ++ (line.now ++ codes "\n")) }
     ensures err { OnErr result (body.new.items ≡ body.old.items) }
 {
     let len = body.len();

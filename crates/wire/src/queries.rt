@@ -35,18 +35,19 @@ pub(crate) fn read_query(alloc: Global, rest: &[u8]) -> Result<Option<Query>, Me
     ensures { IfOk result (λ found. found ≡ spec.query_of rest.now) }
 {
     match rest.strip_prefix(b"-/") {
-        Some(behind) => read_own(alloc, &decoded(alloc, behind)?),
+        Some(behind) => Ok(read_own(&decoded(alloc, behind)?)),
         None => read_asked(alloc, &decoded(alloc, rest)?),
     }
 }
 
 /// What is asked of the shelf itself.
-fn read_own(alloc: Global, text: &[u8]) -> Result<Option<Query>, Memory>
-    ensures { IfOk result (λ found. found ≡ spec.own_of text.now) }
+fn read_own(text: &[u8]) -> Option<Query>
+    ensures { result ≡ spec.own_of text.now }
 {
-    match text {
-        b"modules" => Ok(Some(Query::Modules)),
-        _ => Ok(None),
+    if text == b"modules".as_slice() {
+        Some(Query::Modules)
+    } else {
+        None
     }
 }
 

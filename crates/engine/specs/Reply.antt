@@ -1,5 +1,5 @@
 -- The bytes and the status of an answer to a request.
-use Rattle.std.specs.Prelude.{ℕ, List, map}
+use Rattle.std.specs.Prelude.{◌≡◌, ℕ, List, map, Result, Ok, Err}
 use Rattle.std.specs.FinSet as set
 use Rattle.modver.specs.SemanticVersion.{version_text}
 use Rattle.wire.specs.Message.{Request}
@@ -18,7 +18,8 @@ use Rattle.shelf.specs.declared.reply.Refusal.{Refusal}
 use Rattle.shelf.specs.declared.reply.Refusal.TheVariants as refusal
 use Rattle.shelf.specs.declared.reply.Reply.{Reply}
 use Rattle.shelf.specs.declared.reply.Reply.TheVariants as reply
-use Rattle.engine.specs.Exchange.{Exchange, answer_of}
+use Rattle.shelf.specs.declared.reply.StoreFault.{StoreFault}
+use Rattle.engine.specs.Exchange.{Exchange, Outcome, Unserved, Met, Told, answer_of}
 use Rattle.engine.specs.declared.page.Page.{Page}
 use Rattle.engine.specs.declared.page.Page.TheVariants as page
 
@@ -61,6 +62,14 @@ IsComposed (reply.Info version time) = Unit {0}
 IsComposed (reply.Versions versions) = Unit {0}
 IsComposed (reply.Paths paths) = Unit {0}
 IsComposed other = ⊥
+
+-- What becomes of a message, by what the machine answered: its reply is told, or it is not for want of memory for a body that
+-- is composed; or the store met a fault.
+abbrev pub IsOutcome : Result Reply StoreFault → Outcome → Type 0
+IsOutcome (Ok reply) (Told told) = told ≡ reply
+IsOutcome (Ok reply) Unserved = IsComposed reply
+IsOutcome (Err fault) (Met met) = met ≡ fault
+IsOutcome answer outcome = ⊥
 
 -- an answer to a request as it is written: the reply, or the 503
 abbrev pub page_for : Request → Answer → Page

@@ -53,13 +53,16 @@ fn query_of(wanted: Wanted) -> Query
 }
 
 /// The time that the values of `Version-Time` give.
+#[tactic(auto, using(crate::proofs::AskLemmas::many_times))]
 fn given_time(values: &[Vec<u8>]) -> GivenTime
     ensures { result ≡ spec.given_time (texts values.now) }
 {
+    if values.len() > 1 {
+        return GivenTime::Malformed;
+    }
     match values {
-        [] => GivenTime::Absent,
         [text] => time_in(text),
-        _ => GivenTime::Malformed,
+        _ => GivenTime::Absent,
     }
 }
 

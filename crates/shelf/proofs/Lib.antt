@@ -6,10 +6,13 @@ pub mod MapsPlaces
 pub mod MapsCounts
 pub mod MapsSets
 pub mod Orders
+pub mod InOrder
 pub mod Checks
 pub mod Runs
 pub mod Retained
 pub mod Views
+pub mod Seen
+pub mod Alike
 pub mod Sound
 pub mod Chains
 pub mod Apart

@@ -1,5 +1,5 @@
 -- What a go.mod says to a publish, and when it goes with a path and a version.
-use Rattle.std.specs.Prelude.{ℕ, ◌≡◌, Bool, true, false, not, ◌&&◌, List, Option, Some, None, Result, Ok, Err, bytes_eq}
+use Rattle.std.specs.Prelude.{ℕ, ◌≡◌, Bool, true, List, Option, Some, None, Result, Ok, Err}
 use Rattle.gomod.specs.Faults.{line_of}
 use Rattle.gomod.specs.Module.{GoModule}
 use Rattle.gomod.specs.Reading as gomod

@@ -1,6 +1,7 @@
 pub mod MapsLend
 pub mod InMemory
 pub mod Names
+pub mod Lines
 pub mod Forms
 pub mod GoMods
 pub mod World

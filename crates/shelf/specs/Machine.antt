@@ -38,6 +38,7 @@ use Rattle.shelf.specs.declared.reading.Reading.{Reading}
 use Rattle.shelf.specs.declared.reading.Reading.TheVariants.{Module, Fault}
 use Rattle.shelf.specs.Forms.{is_path, is_version, is_time, fits, suffix_of}
 use Rattle.shelf.specs.GoMods.{reading_of, module_told}
+use Rattle.shelf.specs.Lines.{in_order}
 use Rattle.shelf.specs.Versions.{named, listed, highest, unretracted}
 use Rattle.shelf.specs.Visible.{versions_seen, paths_seen}
 use Rattle.shelf.specs.World.{World, is_team_name, is_key, gomod_limit, zip_limit, version_limit, place, view, count, with_entry, with_key, without_key, with_team}
@@ -87,6 +88,14 @@ abbrev pub is_other_time : Class → GivenTime → Bool
 is_other_time (class.Pseudo stamp) (At time) = not (bytes_eq stamp time)
 is_other_time c given = false
 
+-- the checks of the version and of the time that is given, each with its answer
+abbrev pub version_checks : Publish → List (Bool × Decision)
+version_checks p =
+    (not (fits (suffix_of p.path) p.version), Refused refusal.MajorMismatch)
+    ∷ (is_bad_time p.time, Refused refusal.BadTime)
+    ∷ (is_other_time (class_of p.version) p.time, Refused refusal.TimeMismatch)
+    ∷ []
+
 -- the checks of a publish alone, by a key with this right (none: an unknown key), each with its answer
 abbrev pub request_checks : Publish → Option Right → List (Bool × Decision)
 request_checks p right =
@@ -95,10 +104,7 @@ request_checks p right =
     ∷ (not (may_publish right), Forbidden)
     ∷ (is_none p.body, BadLength)
     ∷ (is_too_large (offered p), TooLarge)
-    ∷ (not (fits (suffix_of p.path) p.version), Refused refusal.MajorMismatch)
-    ∷ (is_bad_time p.time, Refused refusal.BadTime)
-    ∷ (is_other_time (class_of p.version) p.time, Refused refusal.TimeMismatch)
-    ∷ []
+    ∷ version_checks p
 
 -- ---- the go.mod of a publish, if it was read
 
@@ -206,7 +212,7 @@ list_reply (v ∷ vs) = reply.Versions (listed (v ∷ vs))
 
 -- the versions of a path that a shelf sees
 abbrev pub versions_of : World → List ℕ → List ℕ → List SemanticVersion
-versions_of w s p = named (set.items (versions_seen w s p))
+versions_of w s p = named (in_order (versions_seen w s p))
 
 -- what the go.mod of a version says
 abbrev pub module_of : Option Seen → Option GoModule

@@ -11,7 +11,7 @@ use crate::entry::{Entry, EntryRef, Right};
 use crate::reading::Reading;
 use crate::reply::{Decision, Refusal};
 use gomod::GoMod;
-use modver::{Class, TimeText, Version, class, fits};
+use modver::{Class, TimeText, class, fits};
 
 /// The most bytes of a go.mod.
 pub const MAX_GOMOD: usize = 1_048_576;
@@ -54,11 +54,14 @@ pub fn gomod_refusal(publish: &Publish, gomod: Option<&Reading>) -> Option<Decis
     }
 }
 
-fn module_refusal(publish: &Publish, module: &GoMod) -> Option<Decision> {
-    if module.module().as_str() != publish.path.as_str() {
+/// The answer of the first check of a go.mod that reads that fails.
+fn module_refusal(publish: &Publish, gomod: &GoMod) -> Option<Decision>
+    ensures { result ≡ spec.first_failing (spec.gomod_checks publish.now (Some (Reading.Module gomod.now))) }
+{
+    if gomod.module().as_str() != publish.path.as_str() {
         return Some(Decision::Refused(Refusal::ModulePath));
     }
-    if is_marked(&publish.version) && !module.is_bare() {
+    if publish.version.is_marked() && !gomod.is_bare() {
         return Some(Decision::Refused(Refusal::IncompatibleGoMod));
     }
     None
@@ -85,16 +88,44 @@ pub fn refusal(publish: &Publish, right: Option<Right>) -> Option<Decision>
 }
 
 /// The answer of the first check of the version and its time that fails.
-fn version_refusal(publish: &Publish) -> Option<Decision> {
+fn version_refusal(publish: &Publish) -> Option<Decision>
+    ensures { result ≡ spec.first_failing (spec.version_checks publish.now) }
+{
     if !fits(&publish.path, &publish.version) {
         return Some(Decision::Refused(Refusal::MajorMismatch));
     }
-    match (publish.time, class(&publish.version)) {
-        (GivenTime::Malformed, _) => Some(Decision::Refused(Refusal::BadTime)),
-        (GivenTime::At(time), Class::Pseudo(stamp)) if time.as_str() != stamp.as_str() => {
-            Some(Decision::Refused(Refusal::TimeMismatch))
+    if is_bad_time(publish.time) {
+        return Some(Decision::Refused(Refusal::BadTime));
+    }
+    if is_other_time(class(&publish.version), publish.time) {
+        return Some(Decision::Refused(Refusal::TimeMismatch));
+    }
+    None
+}
+
+/// The type of a time holds only a time.
+fn is_bad_time(given: GivenTime) -> bool
+    ensures { result ≡ spec.is_bad_time given }
+{
+    match given {
+        GivenTime::Absent => false,
+        GivenTime::Malformed => true,
+        GivenTime::At(time) => {
+            let _time = time.as_str();
+            false
         }
-        _ => None,
+    }
+}
+
+fn is_other_time(class: Class, given: GivenTime) -> bool
+    ensures { result ≡ spec.is_other_time class given }
+{
+    let GivenTime::At(time) = given else {
+        return false;
+    };
+    match class {
+        Class::Pseudo(stamp) => stamp.as_str() != time.as_str(),
+        _ => false,
     }
 }
 
@@ -151,9 +182,4 @@ fn is_same_time(left: Option<TimeText>, right: Option<TimeText>) -> bool
         (Some(left), Some(right)) => left.as_str() == right.as_str(),
         _ => false,
     }
-}
-
-// Whether a version has the mark.
-fn is_marked(version: &Version) -> bool {
-    version.as_str().ends_with("+incompatible")
 }

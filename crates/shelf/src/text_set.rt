@@ -1,9 +1,12 @@
 //! An ordered set of texts.
-ghost use Rattle.std.specs.Prelude.{◌≡◌, OnOk, OnErr, string_bytes};
+ghost use Rattle.std.specs.Prelude.{◌≡◌, ◌↔◌, IsTrue, IfOk, OnOk, OnErr, map as each, string_bytes};
 ghost use Rattle.std.specs.FinSet as set;
+ghost use Rattle.shelf.specs.Lines.{in_order, lines_of};
 
+use crate::bytes::Bytes;
 use std::alloc::{AllocError, Global};
 use std::collections::BTreeSet;
+use std::collections::btree_set::Iter;
 use std::marker::Model;
 
 /// An ordered set of texts, which contracts see as a finite set of their bytes.
@@ -34,6 +37,12 @@ impl TextSet {
         }
     }
 
+    pub fn is_empty(&self) -> bool
+        ensures { IsTrue result ↔ (self.now ≡ set.empty) }
+    {
+        self.tree.is_empty()
+    }
+
     pub fn contains(&self, text: &str) -> bool
         ensures { result ≡ set.contains self.now text.now }
     {
@@ -47,5 +56,24 @@ impl TextSet {
     {
         self.tree.insert(text)?;
         Ok(())
+    }
+
+    /// The texts in order.
+    pub fn iter(&self) -> Iter<'_, String>
+        ensures { each string_bytes result ≡ in_order self.now }
+    {
+        self.tree.iter()
+    }
+
+    /// The texts in order, each ended by a newline.
+    pub fn lines(&self, alloc: Global) -> Result<Bytes, AllocError>
+        ensures { IfOk result (λ b. b ≡ lines_of (in_order self.now)) }
+    {
+        let mut lines = Vec::new(alloc);
+        for text in self.iter() {
+            lines.extend_from_slice(text.as_bytes())?;
+            lines.push(b'\n')?;
+        }
+        Ok(Bytes::new(lines))
     }
 }

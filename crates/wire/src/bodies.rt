@@ -1,11 +1,27 @@
 //! Bodies that a request asks for, made in memory: one version, and lists.
-ghost use Rattle.std.specs.Prelude.{◌≡◌, ◌++◌, codes, IfOk, OnOk, OnErr};
+ghost use Rattle.std.specs.Prelude.{◌≡◌, ◌++◌, codes, IfOk, IfSome, OnOk, OnErr};
+ghost use Rattle.modver.specs.SemanticVersion.{IsVersion};
+ghost use Rattle.modver.specs.Time.{IsTime};
+ghost use Rattle.serde_json.specs.View.{view};
+ghost use Rattle.wire.specs.Info.{info_object};
 ghost use Rattle.wire.specs.Reply.{info_bytes, paths_bytes, versions_bytes};
 
 use crate::message::Memory;
 use modpath::ModulePath;
 use modver::{TimeText, Version};
-use std::alloc::Global;
+use serde_json::{Value, json};
+use std::alloc::{AllocError, Global};
+
+/// The object that tells a version and its time, where it has one.
+fn info(alloc: Global, version: &Version, time: Option<TimeText>) -> Result<Value, AllocError>
+    ensures told { IfOk result (λ value. view value ≡ info_object version.now time) }
+    ensures valid { OnOk result (IsVersion version.now × IfSome time IsTime) }
+{
+    match time {
+        Some(time) => { json!(in alloc; {"Time": time.as_str(), "Version": version.as_str()}) }
+        None => json!(in alloc; {"Version": version.as_str()}),
+    }
+}
 
 /// The body that tells a version and its time, where it has one, as `{"Version":"v1.0.0"}`. `Memory` where there is no
 /// room for it.
@@ -16,16 +32,7 @@ pub fn info_body(
 ) -> Result<Vec<u8>, Memory>
     ensures { IfOk result (λ body. body.items ≡ info_bytes version.now time) }
 {
-    let text = match time {
-        Some(time) => {
-            format!(in alloc;
-                "{{\"Time\":\"{}\",\"Version\":\"{}\"}}",
-                time.as_str(),
-                version.as_str()
-            )?
-        }
-        None => format!(in alloc; "{{\"Version\":\"{}\"}}", version.as_str())?,
-    };
+    let text = info(alloc, version, time)?.to_string(alloc)?;
     Ok(text.into_bytes())
 }
 

@@ -5,8 +5,10 @@ pub mod MapsNested
 pub mod MapsPlaces
 pub mod MapsCounts
 pub mod MapsSets
+pub mod MapsSeen
 pub mod Orders
 pub mod InOrder
+pub mod VersionOrder
 pub mod Checks
 pub mod Runs
 pub mod Retained

@@ -45,7 +45,7 @@ some_or : (b : Bool) (e : Entry) (o : Option Entry) → is_some (cond b (Some e)
 some_or true e o = refl
 some_or false e o = refl
 
-contains_among : (s p v : List ℕ) (es : List (Place × Entry)) → set.contains (versions_among s p es) v ≡ is_some (map.find place_cmp (place s p v) es)
+pub contains_among : (s p v : List ℕ) (es : List (Place × Entry)) → set.contains (versions_among s p es) v ≡ is_some (map.find place_cmp (place s p v) es)
 contains_among s p v [] = set.contains-empty text_cmp v
 contains_among s p v (e ∷ es) =
     elim (bytes_eq e.0.shelf s && bytes_eq e.0.path p) as (λ b. (bytes_eq e.0.shelf s && bytes_eq e.0.path p) ≡ b → set.contains (cond b (set.insert (versions_among s p es) e.0.version) (versions_among s p es)) v ≡ is_some (map.find place_cmp (place s p v) (e ∷ es))) [
@@ -80,7 +80,7 @@ contains_versions w s p v = contains_on w (chain w s) p v
 -- ---- paths
 
 -- of some version of the path, an entry is found
-abbrev FoundAmong : List ℕ → List ℕ → List (Place × Entry) → Type 0
+abbrev pub FoundAmong : List ℕ → List ℕ → List (Place × Entry) → Type 0
 FoundAmong s p es = (v : List ℕ) × (is_some (map.find place_cmp (place s p v) es) ≡ true)
 
 one_more : (s p : List ℕ) (e : Place × Entry) (es : List (Place × Entry)) → FoundAmong s p es → FoundAmong s p (e ∷ es)
@@ -100,7 +100,7 @@ found_first s p e es same_shelf same_path = (
       ∙ or_left _ _ (version_tie s p e.0.version e.0 same_shelf same_path ∙ ap is_eq (tied_itself texts_total e.0.version)),
 )
 
-path_among : (s p : List ℕ) (es : List (Place × Entry)) → (set.contains (paths_among s es) p ≡ true) ↔ FoundAmong s p es
+pub path_among : (s p : List ℕ) (es : List (Place × Entry)) → (set.contains (paths_among s es) p ≡ true) ↔ FoundAmong s p es
 path_among s p [] = (λ at. absurd (true≢false (sym at ∙ set.contains-empty text_cmp p)), λ found. absurd (true≢false (sym found.1)))
 path_among s p (e ∷ es) =
     let rest = path_among s p es in

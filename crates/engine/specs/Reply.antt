@@ -1,6 +1,5 @@
 -- The bytes and the status of an answer to a request.
 use Rattle.std.specs.Prelude.{◌≡◌, ℕ, List, map, Result, Ok, Err}
-use Rattle.std.specs.FinSet as set
 use Rattle.modver.specs.SemanticVersion.{version_text}
 use Rattle.wire.specs.Message.{Request}
 use Rattle.wire.specs.Reply.{reply_bytes, fixed_bytes, fixed_status, info_bytes}
@@ -9,7 +8,7 @@ use Rattle.wire.specs.declared.reply.Fixed.TheVariants as fixed
 use Rattle.wire.specs.declared.reply.Kind.TheVariants as kind
 use Rattle.wire.specs.declared.reply.Status.{Status}
 use Rattle.wire.specs.declared.reply.Status.TheVariants as status
-use Rattle.shelf.specs.Lines.{lines_of}
+use Rattle.shelf.specs.Lines.{in_order, lines_of}
 use Rattle.shelf.specs.declared.reply.Answer.{Answer}
 use Rattle.shelf.specs.declared.reply.Answer.TheVariants.{Replied, Failed}
 use Rattle.shelf.specs.declared.reply.Decision.{Decision}
@@ -52,8 +51,8 @@ page_of m (reply.Decided decision) = page.Fixed (fixed_of decision)
 page_of m (reply.GoMod text) = page.Body kind.TextPlain text
 page_of m (reply.Zip zip) = page.Body kind.Zip zip
 page_of m (reply.Info version time) = page.Body kind.Json (info_bytes version time)
-page_of m (reply.Versions versions) = page.Body kind.TextPlain (lines_of (map version_text (set.items versions)))
-page_of m (reply.Paths paths) = page.Body kind.TextPlain (lines_of (set.items paths))
+page_of m (reply.Versions versions) = page.Body kind.TextPlain (lines_of (map version_text (in_order versions)))
+page_of m (reply.Paths paths) = page.Body kind.TextPlain (lines_of (in_order paths))
 page_of m (reply.Registry outcome) = page.Fixed fixed.NotFound
 
 -- a reply whose body is composed, and is no file as it was received

@@ -7,12 +7,21 @@ use std::alloc::Global;
 use std::io;
 use std::io::{Error, ErrorKind, Read, Write};
 
-/// The shelf of team alpha, with a key that may publish.
+/// The shelf `common` and the teams alpha and beta, with their keys.
 pub fn shelves(alloc: Global) -> Result<MapShelves, StoreFault> {
     let mut shelves = MapShelves::new(alloc)?;
-    shelves.team_add("alpha")?;
-    shelves.key_add("alpha", "alphakey00000001", Right::Publishes)?;
+    register(&mut shelves)?;
     Ok(shelves)
+}
+
+fn register(shelves: &mut MapShelves) -> Result<(), StoreFault> {
+    shelves.team_add("alpha")?;
+    shelves.team_add("beta")?;
+    shelves.key_add("alpha", "alphakey00000001", Right::Publishes)?;
+    shelves.key_add("alpha", "alphareader00001", Right::Reads)?;
+    shelves.key_add("beta", "betakey000000001", Right::Publishes)?;
+    shelves.key_add("common", "commonkey0000001", Right::Publishes)?;
+    Ok(())
 }
 
 /// Gives its bytes in pieces; the read after so many fails.

@@ -42,6 +42,18 @@ more_keys s u m same = set.same_set texts_total texts_exact _ _ (λ t.
 no_more : (s u : set.FinSet text_cmp) → ((t : List ℕ) → set.contains u t ≡ false) → s ≡ set.union s u
 no_more s u none = set.same_set texts_total texts_exact _ _ (λ t. sym (set.contains-union texts_total s u t ∙ ap (λ b. set.contains s t || b) (none t) ∙ or_false (set.contains s t)))
 
+same_union : (a b : Bool) → ((false || a) || b) ≡ (a || (b || false))
+same_union true b = refl
+same_union false true = refl
+same_union false false = refl
+
+-- two sets put into an empty one
+pub both_sets : (s t : set.FinSet text_cmp) → set.union (set.union set.empty s) t ≡ set.union s (set.union t set.empty)
+both_sets s t = set.same_set texts_total texts_exact _ _ (λ q.
+    set.contains-union texts_total (set.union set.empty s) t q ∙ ap (λ b. b || set.contains t q) (set.contains-union texts_total set.empty s q ∙ ap (λ b. b || set.contains s q) (set.contains-empty text_cmp q))
+    ∙ same_union (set.contains s q) (set.contains t q)
+    ∙ sym (set.contains-union texts_total s (set.union t set.empty) q ∙ ap (λ b. set.contains s q || b) (set.contains-union texts_total t set.empty q ∙ ap (λ b. set.contains t q || b) (set.contains-empty text_cmp q))))
+
 -- ---- versions
 
 module _ {A B C : Type 0} (f : A → Option B) (g : B → Option C) where

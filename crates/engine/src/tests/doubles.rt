@@ -33,6 +33,17 @@ pub struct Source<'a> {
     pub failure: ErrorKind,
 }
 
+impl<'a> Source<'a> {
+    pub fn new(rest: &'a [u8], piece: usize) -> Source<'a> {
+        Source {
+            rest,
+            piece,
+            reads: u64::MAX,
+            failure: ErrorKind::Interrupted,
+        }
+    }
+}
+
 impl<'a> Read for Source<'a> {
     fn read(&mut self, buf: &mut [u8]) -> io::Result<usize> {
         if self.reads == 0 {
@@ -55,6 +66,18 @@ pub struct Sink {
     pub room: usize,
     pub interrupts: bool,
     pub flushes: bool,
+}
+
+impl Sink {
+    pub fn new(alloc: Global, room: usize) -> Sink {
+        Sink {
+            taken: Vec::new(alloc),
+            piece: 7,
+            room,
+            interrupts: true,
+            flushes: true,
+        }
+    }
 }
 
 impl Write for Sink {

@@ -102,7 +102,7 @@ PUT A example.com/t/@v/v1.1.0 | 422 Unprocessable Entity | plain | bad-time; | m
 ";
 
 /// A column of a row; one that is not there is empty.
-fn column(row: &str, place: usize) -> &str {
+pub fn column(row: &str, place: usize) -> &str {
     row.split('|').nth(place).unwrap_or("").trim()
 }
 
@@ -127,7 +127,7 @@ fn kind_of(word: &str) -> &'static str {
 }
 
 /// Puts a text behind another, with this end for each of its lines.
-fn push_lines(to: &mut String, text: &str, end: &str) -> Result<(), AllocError> {
+pub fn push_lines(to: &mut String, text: &str, end: &str) -> Result<(), AllocError> {
     for c in text.chars() {
         if c == ';' {
             to.push_str(end)?;
@@ -145,7 +145,12 @@ fn push_files(to: &mut String, alloc: Global, row: &str) -> Result<(), AllocErro
     let gomod = files.len();
     files.push_str(column(row, 5))?;
     push_lines(to, column(row, 6), "\r\n")?;
-    write!(to, "Mod-Length: {gomod}\r\nContent-Length: {}\r\n\r\n{files}", files.len()).map_err(|_| AllocError)
+    write!(
+        to,
+        "Mod-Length: {gomod}\r\nContent-Length: {}\r\n\r\n{files}",
+        files.len()
+    )
+    .map_err(|_| AllocError)
 }
 
 /// The bytes of the request of a row.
@@ -164,7 +169,7 @@ fn request(alloc: Global, row: &str) -> Result<String, AllocError> {
 }
 
 /// The bytes of the reply of a row.
-fn reply(alloc: Global, row: &str) -> Result<String, AllocError> {
+pub fn reply(alloc: Global, row: &str) -> Result<String, AllocError> {
     let mut body = String::new(alloc);
     push_lines(&mut body, column(row, 3), "\n")?;
     format!(in alloc;
@@ -176,7 +181,7 @@ fn reply(alloc: Global, row: &str) -> Result<String, AllocError> {
 }
 
 /// What is written for a stream.
-fn answered(alloc: Global, shelves: &mut MapShelves, stream: &[u8]) -> Result<Vec<u8>, Io> {
+pub fn answered(alloc: Global, shelves: &mut MapShelves, stream: &[u8]) -> Result<Vec<u8>, Io> {
     let mut reader = stream;
     let mut out = Vec::new(alloc);
     answer_all(alloc, &mut reader, &mut out, shelves)?;

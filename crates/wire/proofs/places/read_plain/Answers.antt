@@ -1,6 +1,6 @@
 use Rattle.std.proofs.Common.{sym}
 use Rattle.wire.proofs.PlainLemmas.{plain-no_text, plain-some, plain-refused}
-use Rattle.wire.proofs.targets.read_plain.Goals as goal
+use Rattle.wire.proofs.places.read_plain.Goals as goal
 
 pub returns-in_default : goal.returns-in_default
 returns-in_default c = sym (plain-no_text c.args.bytes.now c.in_default.ensures.cases.0)

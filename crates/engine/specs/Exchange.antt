@@ -1,17 +1,25 @@
--- What became of a message.
+-- A message, and what became of it.
 use Rattle.std.specs.Prelude.{List, [], ◌∷◌}
 use Rattle.wire.specs.Message.{Request}
 use Rattle.shelf.specs.declared.ask.Event.{Event}
 use Rattle.shelf.specs.declared.reply.Answer.{Answer}
 use Rattle.shelf.specs.declared.reply.Answer.TheVariants.{Replied, Failed}
+use Rattle.shelf.specs.declared.reply.Reply.{Reply}
+use Rattle.shelf.specs.declared.reply.StoreFault.{StoreFault}
 use Rattle.shelf.specs.declared.reply.StoreFault.TheVariants.{Memory}
-use Rattle.engine.specs.declared.outcome.Outcome.{Outcome}
-use Rattle.engine.specs.declared.outcome.Outcome.TheVariants.{Unasked, Met, Told}
 use Rattle.engine.specs.Ask as spec
 
--- the machine's answer: want of memory before it was asked is a fault that changes nothing
+pub data Outcome : Type 0 where
+  -- there was no memory outside the store: to read what the message asks, or for the body of the reply
+  Unserved : Outcome
+  -- the store met a fault
+  Met : StoreFault → Outcome
+  -- the machine replied
+  Told : Reply → Outcome
+
+-- the machine's answer: want of memory outside the store is a fault that changes nothing
 abbrev pub answer_to : Outcome → Answer
-answer_to Unasked = Failed Memory
+answer_to Unserved = Failed Memory
 answer_to (Met fault) = Failed fault
 answer_to (Told reply) = Replied reply
 
@@ -29,9 +37,9 @@ event_of x = spec.event_of x.message
 abbrev pub answer_of : Exchange → Answer
 answer_of x = answer_to x.outcome
 
--- no message met a fault of the machine
+-- the store met no fault
 abbrev pub IsUnmet : Outcome → Type 0
-IsUnmet Unasked = Unit {0}
+IsUnmet Unserved = Unit {0}
 IsUnmet (Met fault) = ⊥
 IsUnmet (Told reply) = Unit {0}
 

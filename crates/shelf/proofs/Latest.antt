@@ -22,7 +22,7 @@ use Rattle.shelf.specs.Versions.{AllOf, highest, unretracted}
 use Rattle.shelf.specs.World.{World, IsWorld, view}
 use Rattle.shelf.proofs.Members.{no_member}
 use Rattle.shelf.proofs.Highest.{none_highest, highest_top, left}
-use Rattle.shelf.proofs.Told.{entry_at, seen_members, all_fit}
+use Rattle.shelf.proofs.Told.{entry_at, seen_members, versions_fit}
 
 -- ---- what a go.mod says
 
@@ -53,7 +53,7 @@ module _ (w : World) (is : IsWorld w) (s p : List ℕ) where
   vs = versions_of w s p
 
   fit : AllOf p vs
-  fit = all_fit w is s p
+  fit = versions_fit w is s p
 
   top_seen : (v : SemanticVersion) → IsTop (among vs) v → IsTop (seen_versions w s p) v
   top_seen v = alike (among vs) (seen_versions w s p) (λ u. (seen_members w is s p u).0) (λ u. (seen_members w is s p u).1) v

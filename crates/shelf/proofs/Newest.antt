@@ -9,7 +9,7 @@ use Rattle.shelf.specs.Machine.{versions_of, module_of, highest_left, latest_by,
 use Rattle.shelf.specs.Versions.{AllOf, named, highest}
 use Rattle.shelf.specs.Visible.{versions_seen}
 use Rattle.shelf.specs.World.{World, IsWorld, text_cmp, view}
-use Rattle.shelf.proofs.Told.{seen_members, seen_fits}
+use Rattle.shelf.proofs.Told.{versions_fit}
 
 -- the versions of a path were read
 module _ (w : World) (s p : List ℕ) (texts : set.FinSet text_cmp) (vs : List SemanticVersion) (read : texts ≡ versions_seen w s p) (says : vs ≡ named (in_order texts)) where
@@ -18,7 +18,7 @@ module _ (w : World) (s p : List ℕ) (texts : set.FinSet text_cmp) (vs : List S
 
   -- in a world they fit the path
   pub all_fit : IsWorld w → AllOf p vs
-  all_fit is = subst (AllOf p) (sym are_versions) (λ v at. seen_fits w is s p v ((seen_members w is s p v).0 at))
+  all_fit is = subst (AllOf p) (sym are_versions) (versions_fit w is s p)
 
   pub no_latest : None ≡ highest vs → None ≡ latest_of w s p
   no_latest none = ap (latest_by w s p) (none ∙ ap highest are_versions)

@@ -128,8 +128,8 @@ module _ (w : World) (is : IsWorld w) (s p : List ℕ) where
       let same : entry.version.0 ≡ v = text-one entry.version.0 v entry.version.1.valid seen.0 entry.version.1.same in
       (seen.0, subst (λ u. fits (suffix_of p) u ≡ true) same entry.fits)
 
-  pub all_fit : AllOf p (versions_of w s p)
-  all_fit v at = seen_fits v ((seen_members v).0 at)
+  pub versions_fit : AllOf p (versions_of w s p)
+  versions_fit v at = seen_fits v ((seen_members v).0 at)
 
   -- where an entry is seen, so is its version
   version_there : (t : List ℕ) → IsSeen w s p t → (v : SemanticVersion) × seen_versions w s p v

@@ -9,7 +9,6 @@ use Rattle.gomod.proofs.FileLaw.{reads-from_reading, reading-from_reads}
 use Rattle.latest.specs.Latest.{Versions, IsTop, among}
 use Rattle.latest.specs.Latest as latest
 use Rattle.latest.proofs.Scans.{top_one}
-use Rattle.modver.specs.Fits.{IsVersionOf}
 use Rattle.modver.specs.SemanticVersion.{SemanticVersion, version_text}
 use Rattle.shelf.specs.declared.entry.Seen.{Seen}
 use Rattle.shelf.specs.declared.ask.Query.TheVariants as query
@@ -19,11 +18,11 @@ use Rattle.shelf.specs.declared.reply.Reply.TheVariants as reply
 use Rattle.shelf.specs.GoMods.{Says, told, reading_of, module_told}
 use Rattle.shelf.specs.Machine.{versions_of, module_of, highest_left, latest_by, latest_of, latest_reply, info_reply, query_reply}
 use Rattle.shelf.specs.PathLaws.{IsSeen, seen_versions, HighestSays, unretracted_versions, LatestIsTheTop, NoneIsLatest, HasTime, LatestIsTold, LatestIsNotFound}
-use Rattle.shelf.specs.Versions.{highest, unretracted}
+use Rattle.shelf.specs.Versions.{AllOf, highest, unretracted}
 use Rattle.shelf.specs.World.{World, IsWorld, view}
 use Rattle.shelf.proofs.Members.{no_member}
 use Rattle.shelf.proofs.Highest.{none_highest, highest_top, left}
-use Rattle.shelf.proofs.Told.{entry_at, seen_members, seen_fits}
+use Rattle.shelf.proofs.Told.{entry_at, seen_members, all_fit}
 
 -- ---- what a go.mod says
 
@@ -53,8 +52,8 @@ module _ (w : World) (is : IsWorld w) (s p : List ℕ) where
   abbrev vs : List SemanticVersion
   vs = versions_of w s p
 
-  fit : (x : SemanticVersion) → Contains vs x → IsVersionOf p x
-  fit x at = seen_fits w is s p x ((seen_members w is s p x).0 at)
+  fit : AllOf p vs
+  fit = all_fit w is s p
 
   top_seen : (v : SemanticVersion) → IsTop (among vs) v → IsTop (seen_versions w s p) v
   top_seen v = alike (among vs) (seen_versions w s p) (λ u. (seen_members w is s p u).0) (λ u. (seen_members w is s p u).1) v

@@ -25,7 +25,7 @@ use Rattle.shelf.specs.declared.reply.Reply.TheVariants as reply
 use Rattle.shelf.specs.Lines.{in_order}
 use Rattle.shelf.specs.Machine.{versions_of, list_reply}
 use Rattle.shelf.specs.PathLaws.{IsSeen, VersionsAreSeen, PathsAreSeen, PathsAreTold, EachToNext, seen_versions, IsListed, AreListed, ListIsTold, ListIsNotFound}
-use Rattle.shelf.specs.Versions.{with_version, named, version_cmp, versions_total, is_listed, listed}
+use Rattle.shelf.specs.Versions.{AllOf, with_version, named, version_cmp, versions_total, is_listed, listed}
 use Rattle.shelf.specs.Visible.{versions_seen, paths_seen}
 use Rattle.shelf.specs.World.{World, IsWorld, IsEntry, chain, place, seen_at, first_on, view, text_cmp}
 use Rattle.shelf.proofs.Orders.{texts_total, texts_exact}
@@ -128,6 +128,9 @@ module _ (w : World) (is : IsWorld w) (s p : List ℕ) where
       let same : entry.version.0 ≡ v = text-one entry.version.0 v entry.version.1.valid seen.0 entry.version.1.same in
       (seen.0, subst (λ u. fits (suffix_of p) u ≡ true) same entry.fits)
 
+  pub all_fit : AllOf p (versions_of w s p)
+  all_fit v at = seen_fits v ((seen_members v).0 at)
+
   -- where an entry is seen, so is its version
   version_there : (t : List ℕ) → IsSeen w s p t → (v : SemanticVersion) × seen_versions w s p v
   version_there t seen = let entry = entry_at t seen in (entry.version.0, (entry.version.1.valid, subst (IsSeen w s p) (sym entry.version.1.same) seen))
@@ -174,7 +177,7 @@ listed_members (x ∷ vs) v =
     ] refl
 
 -- what rises among versions of one path rises by precedence
-below_next : (path : List ℕ) (vs : List SemanticVersion) → ((v : SemanticVersion) → Contains vs v → IsVersionOf path v) → EachToNext (λ u v. version_cmp u v ≡ Less) vs → EachToNext IsBelow vs
+below_next : (path : List ℕ) (vs : List SemanticVersion) → AllOf path vs → EachToNext (λ u v. version_cmp u v ≡ Less) vs → EachToNext IsBelow vs
 below_next path [] fit up = tt
 below_next path (v ∷ []) fit up = tt
 below_next path (u ∷ v ∷ vs) fit up =

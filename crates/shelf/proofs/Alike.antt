@@ -10,6 +10,7 @@ use Rattle.shelf.specs.declared.ask.Query.TheVariants as query
 use Rattle.shelf.specs.declared.ask.Publish.{Publish}
 use Rattle.shelf.specs.declared.reply.Reply.TheVariants as reply
 use Rattle.shelf.specs.World.{World, chain, view, count}
+use Rattle.shelf.specs.Lines.{in_order}
 use Rattle.shelf.specs.Visible.{versions_seen, paths_seen}
 use Rattle.shelf.specs.Versions.{named, highest}
 use Rattle.shelf.specs.Machine.{decided, decision, gomod_of, entry_seen, versions_of, module_of, highest_left, latest_by, latest_of, latest_reply, query_reply, gomod_reply, zip_reply, info_reply, list_reply}
@@ -48,10 +49,10 @@ module _ (w x : World) (s : List ℕ) (chains : chain w s ≡ chain x s) (same :
   latest_by_same p None = refl
   latest_by_same p (Some top) =
       ap (λ o. highest_left (module_of o) (versions_of w s p)) (view_same w x s p (version_text top) chains same)
-      ∙ ap (λ vs. highest_left (module_of (view x s p (version_text top))) (named (set.items vs))) (versions_same p)
+      ∙ ap (λ vs. highest_left (module_of (view x s p (version_text top))) (named (in_order vs))) (versions_same p)
 
   latest_same : (p : List ℕ) → latest_of w s p ≡ latest_of x s p
-  latest_same p = ap (λ vs. latest_by w s p (highest (named (set.items vs)))) (versions_same p) ∙ latest_by_same p (highest (versions_of x s p))
+  latest_same p = ap (λ vs. latest_by w s p (highest (named (in_order vs)))) (versions_same p) ∙ latest_by_same p (highest (versions_of x s p))
 
   told_of : (p : List ℕ) (v : Option SemanticVersion) → latest_reply w s p v ≡ latest_reply x s p v
   told_of p None = refl
@@ -63,7 +64,7 @@ module _ (w x : World) (s : List ℕ) (chains : chain w s ≡ chain x s) (same :
   query_same (query.GoMod p v) = ap gomod_reply (view_same w x s p (version_text v) chains same)
   query_same (query.Zip p v) = ap zip_reply (view_same w x s p (version_text v) chains same)
   query_same (query.Info p v) = ap (info_reply v) (view_same w x s p (version_text v) chains same)
-  query_same (query.List p) = ap (λ vs. list_reply (named (set.items vs))) (versions_same p)
+  query_same (query.List p) = ap (λ vs. list_reply (named (in_order vs))) (versions_same p)
   query_same (query.Latest p) = ap (latest_reply w s p) (latest_same p) ∙ told_of p (latest_of x s p)
   query_same query.Modules = ap reply.Paths paths_same
 

@@ -1,17 +1,16 @@
 -- What the outcome of the checks of a publish says of each of them.
-use Rattle.std.proofs.Common.{◌≡◌, ℕ, ◌≤◌, ◌<◌, List, [], ◌∷◌, ◌++◌, Bool, true, false, cond, refl, ◌∙◌, sym, ap, subst, Option, Some, None, arith, length}
-use Rattle.std.specs.Prelude.{bytes_eq, ◌&&◌, ◌||◌, not, is_none, is_some, is_ok, Ok, Err, Result, ⊤, option_map, unwrap_or, nat_lt, nat_le, ◌^◌}
-use Rattle.std.specs.List.{list_any, list_all}
+use Rattle.std.proofs.Common.{◌≡◌, ℕ, ◌<◌, List, [], ◌∷◌, ◌++◌, Bool, true, false, cond, refl, ◌∙◌, sym, ap, subst, Option, Some, None, length}
+use Rattle.std.specs.Prelude.{bytes_eq, ◌&&◌, not, is_none, is_some, is_ok, Ok, Err, Result, ⊤, option_map, unwrap_or, nat_lt, nat_le}
+use Rattle.std.specs.List.{list_any}
 use Rattle.std.specs.Option.{option_or}
 use Rattle.std.specs.FinMap as map
 use Rattle.std.specs.FinSet as set
-use Rattle.std.proofs.lemmas.Bool.{true≢false}
-use Rattle.std.proofs.lemmas.Bool.Decides.{nat_tests}
+use Rattle.std.proofs.lemmas.Bool.{true≢false, and_parts, or_parts, not-false, ltb-false, leb-false}
 use Rattle.modpath.specs.declared.path.PathFault.{PathFault}
 use Rattle.modpath.specs.Path.{path_check, passed, IsPath, is_path}
-use Rattle.modver.specs.SemanticVersion.{SemanticVersion, is_identifier, is_version, version_text}
+use Rattle.modver.specs.SemanticVersion.{is_version, version_text}
+use Rattle.modver.proofs.Readings.{is-version}
 use Rattle.modver.specs.Class.{class_of}
-use Rattle.modver.specs.Reading.{IsCanonical}
 use Rattle.modver.specs.Time.{has_time_form, is_moment}
 use Rattle.modver.specs.declared.version.Class.{Class}
 use Rattle.modver.specs.declared.version.Class.TheVariants as class
@@ -82,16 +81,12 @@ pub passed_none : (cs : List (Bool × Decision)) → Passed cs → first_failing
 passed_none [] all = refl
 passed_none (c ∷ cs) all = ap (λ b. cond b (Some c.1) (first_failing cs)) all.0 ∙ passed_none cs all.1
 
-neither : (a b : Bool) → (a || b) ≡ false → (a ≡ false) × (b ≡ false)
-neither true b e = absurd (true≢false e)
-neither false b e = (refl, e)
-
 -- where the outcome is no answer of the first checks, these were passed
 pub passed_before : (test : Decision → Bool) (cs ds : List (Bool × Decision)) (d : Decision) → test d ≡ true → list_any (λ c. test c.1) cs ≡ false
     → unwrap_or (first_failing (cs ++ ds)) Published ≡ d → Passed cs × (unwrap_or (first_failing ds) Published ≡ d)
 passed_before test [] ds d is apart e = (tt, e)
 passed_before test (c ∷ cs) ds d is apart e =
-    let parts = neither (test c.1) (list_any (λ x. test x.1) cs) apart in
+    let parts = or_parts (test c.1) (list_any (λ x. test x.1) cs) apart in
     elim c.0 as (λ b. c.0 ≡ b → unwrap_or (cond b (Some c.1) (first_failing (cs ++ ds))) Published ≡ d → ((c.0 ≡ false) × Passed cs) × (unwrap_or (first_failing ds) Published ≡ d)) [
       | true ↦ λ _ here. absurd (true≢false (sym is ∙ ap test (sym here) ∙ parts.0))
       | false ↦ λ passes rest. let more = passed_before test cs ds d is parts.1 rest in ((passes, more.0), more.1)
@@ -107,53 +102,19 @@ is_same_answer d = false
 
 -- ---- forms
 
-pub both_true : (a b : Bool) → (a && b) ≡ true → (a ≡ true) × (b ≡ true)
-both_true true b e = (refl, e)
-both_true false b e = absurd (true≢false (sym e))
-
-not_false : (a : Bool) → not a ≡ false → a ≡ true
-not_false true e = refl
-not_false false e = absurd (true≢false e)
-
 passes : (c : Result ⊤ PathFault) → is_ok c ≡ true → c ≡ passed
 passes (Ok tt) e = refl
 passes (Err f) e = absurd (true≢false (sym e))
 
-below : (m n : ℕ) → nat_lt m n ≡ true → m < n
-below m n e = grind (arith, nat_tests)
-
-at_most : (m n : ℕ) → nat_le m n ≡ true → m ≤ n
-at_most m n e = grind (arith, nat_tests)
-
-at_most_not : (m n : ℕ) → nat_lt m n ≡ false → n ≤ m
-at_most_not m n e = grind (arith, nat_tests)
-
-below_not : (m n : ℕ) → nat_le m n ≡ false → n < m
-below_not m n e = grind (arith, nat_tests)
-
 pub path_form : (t : List ℕ) → is_path t ≡ true → IsPath t
 path_form t e = passes (path_check t) e
-
-pub version_form : (v : SemanticVersion) → is_version v ≡ true → IsCanonical (version_text v) v
-unfolding is_version
-version_form v e =
-    let numbers : Bool = nat_lt v.major (2 ^ 64) && nat_lt v.minor (2 ^ 64) && nat_lt v.patch (2 ^ 64) in
-    let a = both_true (numbers && list_all is_identifier v.identifiers) (nat_le (length (version_text v)) 128) e in
-    let b = both_true numbers (list_all is_identifier v.identifiers) a.0 in
-    let c = both_true (nat_lt v.major (2 ^ 64) && nat_lt v.minor (2 ^ 64)) (nat_lt v.patch (2 ^ 64)) b.0 in
-    let d = both_true (nat_lt v.major (2 ^ 64)) (nat_lt v.minor (2 ^ 64)) c.0 in
-    record {
-      valid = record { major = below v.major (2 ^ 64) d.0; minor = below v.minor (2 ^ 64) d.1; patch = below v.patch (2 ^ 64) c.1; identifiers = b.1 };
-      same = refl;
-      short = at_most (length (version_text v)) 128 a.1;
-    }
 
 -- the time of an entry is that of its version
 time_form : (c : Class) (given : GivenTime) → is_bad_time given ≡ false → IsTimeOf c (entry_time c given)
 time_form (class.Pseudo stamp) given well = refl
 time_form c Absent well = tt
 time_form c Malformed well = tt
-time_form c (At time) well = let both = both_true (has_time_form time) (is_moment time) (not_false (is_time time) well) in record { form = both.0; moment = both.1 }
+time_form c (At time) well = let both = and_parts (has_time_form time) (is_moment time) (not-false (is_time time) well) in record { form = both.0; moment = both.1 }
 
 -- a go.mod that was read
 gomod_form : (path : List ℕ) (is_marked : Bool) (bytes : List ℕ) (r : Reading) → reading_of bytes ≡ r
@@ -162,8 +123,8 @@ gomod_form path is_marked bytes (Fault line) read sound named bare = absurd (tru
 gomod_form path is_marked bytes (Module m) read sound named bare = record {
   says = m;
   reads = read;
-  names = text_same m.path path (not_false (bytes_eq m.path path) named);
-  bare = λ is. not_false m.bare (ap (λ b. b && not m.bare) (sym is) ∙ bare);
+  names = text_same m.path path (not-false (bytes_eq m.path path) named);
+  bare = λ is. not-false m.bare (ap (λ b. b && not m.bare) (sym is) ∙ bare);
 }
 
 -- ---- a publish that passed the checks of itself and of its go.mod
@@ -188,18 +149,18 @@ files_told p right reading is = is.own.1.1.1.0
 -- the entry that they make may stand
 entry_form : (s : List ℕ) (p : Publish) (right : Option Right) (b : Body) → p.body ≡ Some b → Passing p right (gomod_of p) → IsEntry (place_of s p) (entry_of p b)
 entry_form s p right b body is =
-    let forms = both_true (is_path p.path) (is_version p.version) (not_false (is_readable p) is.own.0) in
+    let forms = and_parts (is_path p.path) (is_version p.version) (not-false (is_readable p) is.own.0) in
     let files = is.own.1.1.1.1 in
     let small : is_too_large (Some (entry_of p b)) ≡ false = ap (λ o. is_too_large (option_map (entry_of p) o)) (sym body) ∙ files.0 in
-    let sizes = neither (nat_lt gomod_limit (length b.gomod)) (nat_lt zip_limit (length b.zip)) small in
+    let sizes = or_parts (nat_lt gomod_limit (length b.gomod)) (nat_lt zip_limit (length b.zip)) small in
     let read : gomod_of p ≡ Some (reading_of b.gomod) = ap (option_map (λ (x : Body). reading_of x.gomod)) body in
     let gomod : Passed (gomod_checks p (Some (reading_of b.gomod))) = subst (λ o. Passed (gomod_checks p o)) read is.gomod in
     record {
       path = path_form p.path forms.0;
-      version = (p.version, version_form p.version forms.1);
-      fits = not_false (fits (suffix_of p.path) p.version) files.1.0;
-      gomod = at_most_not gomod_limit (length b.gomod) sizes.0;
-      zip = at_most_not zip_limit (length b.zip) sizes.1;
+      version = (p.version, (is-version p.version).0 forms.1);
+      fits = not-false (fits (suffix_of p.path) p.version) files.1.0;
+      gomod = ltb-false gomod_limit (length b.gomod) sizes.0;
+      zip = ltb-false zip_limit (length b.zip) sizes.1;
       time = time_form (class_of p.version) p.time files.1.1.0;
       reads = gomod_form p.path p.version.marked b.gomod (reading_of b.gomod) refl gomod.0 gomod.1.0 gomod.1.1.0;
     }
@@ -231,7 +192,7 @@ accepted p right reading seen n e =
     record {
       passing = passing p right reading [] all.0;
       unseen = nothing_from seen shelf.1.0;
-      room = below_not version_limit n shelf.1.1.0;
+      room = leb-false version_limit n shelf.1.1.0;
     }
 
 pub unseen : (w : World) (h : Holder) (p : Publish) → decision w (Some h) p ≡ Published → view w h.shelf p.path (version_text p.version) ≡ None

@@ -5,9 +5,13 @@ pub mod MapsNested
 pub mod MapsPlaces
 pub mod MapsCounts
 pub mod MapsSets
+pub mod MapsSeen
 pub mod Orders
+pub mod Named
 pub mod InOrder
+pub mod VersionOrder
 pub mod Checks
+pub mod EntryTests
 pub mod Runs
 pub mod Retained
 pub mod Views
@@ -22,3 +26,9 @@ pub mod Stays
 pub mod Served
 pub mod Repeated
 pub mod Changes
+pub mod Members
+pub mod Highest
+pub mod Tops
+pub mod Told
+pub mod Newest
+pub mod Latest

@@ -1,9 +1,9 @@
 -- A list of publishes that was accepted changes nothing when it comes again.
-use Rattle.std.proofs.Common.{◌≡◌, ℕ, List, [], ◌∷◌, Bool, true, false, refl, ◌∙◌, sym, ap, subst, Option, Some, None, inl, inr}
-use Rattle.std.specs.Prelude.{◌&&◌, option_map}
+use Rattle.std.proofs.Common.{◌≡◌, ℕ, List, [], ◌∷◌, true, refl, ◌∙◌, sym, ap, subst, Option, Some, None, inl, inr}
+use Rattle.std.specs.Prelude.{option_map}
 use Rattle.std.specs.FinMap as map
 use Rattle.std.specs.FinSet as set
-use Rattle.std.proofs.lemmas.Bool.{true≢false}
+use Rattle.std.proofs.lemmas.Bool.{and_from}
 use Rattle.shelf.specs.declared.entry.Place.{Place}
 use Rattle.shelf.specs.declared.entry.Entry.{Entry}
 use Rattle.shelf.specs.declared.entry.Seen.{Seen}
@@ -31,16 +31,12 @@ use Rattle.shelf.proofs.Served.{Kept, kept_first, kept_through, shelf_stands}
 
 -- ---- one publish
 
-both : (a b : Bool) → a ≡ true → b ≡ true → (a && b) ≡ true
-both true b e f = f
-both false b e f = absurd (true≢false (sym e))
-
 same_time_itself : (t : Option (List ℕ)) → same_time t t ≡ true
 same_time_itself None = refl
 same_time_itself (Some t) = text_self t
 
 same_itself : (e : Entry) → same_entry e e ≡ true
-same_itself e = both _ _ (both _ _ (text_self e.gomod) (text_self e.zip)) (same_time_itself e.time)
+same_itself e = and_from _ _ (and_from _ _ (text_self e.gomod) (text_self e.zip)) (same_time_itself e.time)
 
 kept_is_same : (w : World) (s : List ℕ) (p : Publish) → Kept w s p → decision w (Some (record { shelf = s; right = Publishes })) p ≡ Same
 kept_is_same w s p kept =

@@ -6,7 +6,7 @@ use Rattle.std.specs.Ordering.{eq_by_cmp, ordering_then, is_eq}
 use Rattle.std.specs.Cmp.{tied_itself}
 use Rattle.std.specs.FinMap as map
 use Rattle.std.specs.FinSet as set
-use Rattle.std.proofs.lemmas.Bool.{true≢false, false_from_ne_true}
+use Rattle.std.proofs.lemmas.Bool.{true≢false, and_parts, false_from_ne_true, or_cases, or_left, or_right}
 use Rattle.std.proofs.lemmas.Map.Views.{tells_apart}
 use Rattle.shelf.specs.declared.entry.Place.{Place}
 use Rattle.shelf.specs.declared.entry.Entry.{Entry}
@@ -14,22 +14,6 @@ use Rattle.shelf.specs.declared.entry.Seen.{Seen}
 use Rattle.shelf.specs.World.{World, chain, place, place_cmp, text_cmp, seen_at, first_on, view}
 use Rattle.shelf.specs.Visible.{versions_among, versions_on, versions_seen, paths_among, paths_on, paths_seen}
 use Rattle.shelf.proofs.Orders.{texts_total, texts_exact, places_exact, text_self, text_same}
-
-both_true : (a b : Bool) → (a && b) ≡ true → (a ≡ true) × (b ≡ true)
-both_true true b e = (refl, e)
-both_true false b e = absurd (true≢false (sym e))
-
-or_left : (a b : Bool) → a ≡ true → (a || b) ≡ true
-or_left true b e = refl
-or_left false b e = absurd (true≢false (sym e))
-
-or_right : (a b : Bool) → b ≡ true → (a || b) ≡ true
-or_right true b e = refl
-or_right false b e = e
-
-or_cases : (a b : Bool) → (a || b) ≡ true → (a ≡ true) ⊎ (b ≡ true)
-or_cases true b e = inl refl
-or_cases false b e = inr e
 
 -- ---- versions
 
@@ -45,12 +29,12 @@ some_or : (b : Bool) (e : Entry) (o : Option Entry) → is_some (cond b (Some e)
 some_or true e o = refl
 some_or false e o = refl
 
-contains_among : (s p v : List ℕ) (es : List (Place × Entry)) → set.contains (versions_among s p es) v ≡ is_some (map.find place_cmp (place s p v) es)
+pub contains_among : (s p v : List ℕ) (es : List (Place × Entry)) → set.contains (versions_among s p es) v ≡ is_some (map.find place_cmp (place s p v) es)
 contains_among s p v [] = set.contains-empty text_cmp v
 contains_among s p v (e ∷ es) =
     elim (bytes_eq e.0.shelf s && bytes_eq e.0.path p) as (λ b. (bytes_eq e.0.shelf s && bytes_eq e.0.path p) ≡ b → set.contains (cond b (set.insert (versions_among s p es) e.0.version) (versions_among s p es)) v ≡ is_some (map.find place_cmp (place s p v) (e ∷ es))) [
       | true ↦ λ here.
-          let both = both_true (bytes_eq e.0.shelf s) (bytes_eq e.0.path p) here in
+          let both = and_parts (bytes_eq e.0.shelf s) (bytes_eq e.0.path p) here in
           set.contains-insert texts_total (versions_among s p es) e.0.version v
           ∙ ap (λ b. b || set.contains (versions_among s p es) v) (sym (version_tie s p v e.0 (text_same e.0.shelf s both.0) (text_same e.0.path p both.1)))
           ∙ ap (λ b. eq_by_cmp place_cmp (place s p v) e.0 || b) (contains_among s p v es)
@@ -80,7 +64,7 @@ contains_versions w s p v = contains_on w (chain w s) p v
 -- ---- paths
 
 -- of some version of the path, an entry is found
-abbrev FoundAmong : List ℕ → List ℕ → List (Place × Entry) → Type 0
+abbrev pub FoundAmong : List ℕ → List ℕ → List (Place × Entry) → Type 0
 FoundAmong s p es = (v : List ℕ) × (is_some (map.find place_cmp (place s p v) es) ≡ true)
 
 one_more : (s p : List ℕ) (e : Place × Entry) (es : List (Place × Entry)) → FoundAmong s p es → FoundAmong s p (e ∷ es)
@@ -100,7 +84,7 @@ found_first s p e es same_shelf same_path = (
       ∙ or_left _ _ (version_tie s p e.0.version e.0 same_shelf same_path ∙ ap is_eq (tied_itself texts_total e.0.version)),
 )
 
-path_among : (s p : List ℕ) (es : List (Place × Entry)) → (set.contains (paths_among s es) p ≡ true) ↔ FoundAmong s p es
+pub path_among : (s p : List ℕ) (es : List (Place × Entry)) → (set.contains (paths_among s es) p ≡ true) ↔ FoundAmong s p es
 path_among s p [] = (λ at. absurd (true≢false (sym at ∙ set.contains-empty text_cmp p)), λ found. absurd (true≢false (sym found.1)))
 path_among s p (e ∷ es) =
     let rest = path_among s p es in

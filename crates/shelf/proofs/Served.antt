@@ -4,7 +4,7 @@ use Rattle.std.specs.Prelude.{bytes_eq, ◌&&◌, option_map, is_none}
 use Rattle.std.specs.Option.{option_or}
 use Rattle.std.specs.FinMap as map
 use Rattle.std.specs.FinSet as set
-use Rattle.std.proofs.lemmas.Bool.{true≢false}
+use Rattle.std.proofs.lemmas.Bool.{true≢false, and_parts}
 use Rattle.modver.specs.SemanticVersion.{version_text}
 use Rattle.shelf.specs.declared.entry.Entry.{Entry}
 use Rattle.shelf.specs.declared.entry.Seen.{Seen}
@@ -28,7 +28,6 @@ use Rattle.shelf.specs.Machine.{decision, gomod_of, same_time, same_entry, is_sa
 use Rattle.shelf.specs.Isolation.{belongs}
 use Rattle.shelf.specs.Immutability.{IsOfVersion, IsFound, StaysServed, IsAccepted, asks_back, AcceptedIsServed}
 use Rattle.shelf.proofs.Orders.{places_total, get_put, text_same}
-use Rattle.shelf.proofs.Views.{and_both}
 use Rattle.shelf.proofs.Checks.{Passing, files_told, accepted, same_again, passes_again}
 use Rattle.shelf.proofs.Chains.{stands_after}
 use Rattle.shelf.proofs.Stays.{stays_through}
@@ -85,8 +84,8 @@ same_times (Some t) (Some u) e = ap Some (text_same t u e)
 
 same_whole : (d e : Entry) → same_entry d e ≡ true → e ≡ d
 same_whole d e same =
-    let parts = and_both (bytes_eq d.gomod e.gomod && bytes_eq d.zip e.zip) (same_time d.time e.time) same in
-    let files = and_both (bytes_eq d.gomod e.gomod) (bytes_eq d.zip e.zip) parts.0 in
+    let parts = and_parts (bytes_eq d.gomod e.gomod && bytes_eq d.zip e.zip) (same_time d.time e.time) same in
+    let files = and_parts (bytes_eq d.gomod e.gomod) (bytes_eq d.zip e.zip) parts.0 in
     λ i. record {
       gomod = sym (text_same d.gomod e.gomod files.0) i;
       zip = sym (text_same d.zip e.zip files.1) i;

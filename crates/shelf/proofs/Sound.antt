@@ -6,7 +6,7 @@ use Rattle.std.specs.declared.cmp.Ordering.{Ordering}
 use Rattle.std.specs.Cmp.{IsTotalOrder}
 use Rattle.std.specs.FinMap as map
 use Rattle.std.specs.FinSet as set
-use Rattle.std.proofs.lemmas.Bool.{true≢false}
+use Rattle.std.proofs.lemmas.Bool.{true≢false, and_parts, or_cases, or_right}
 use Rattle.std.proofs.lemmas.Map.Views.{tells_apart}
 use Rattle.shelf.specs.declared.entry.Place.{Place}
 use Rattle.shelf.specs.declared.entry.Entry.{Entry}
@@ -25,7 +25,6 @@ use Rattle.shelf.specs.Machine.{decision, after_decision, stored, offered, place
 use Rattle.shelf.specs.Laws.{WorldStays, RunsKeepWorlds}
 use Rattle.shelf.specs.Store.{IsRoomFor}
 use Rattle.shelf.proofs.Orders.{texts_total, texts_exact, places_total, places_exact, text_same}
-use Rattle.shelf.proofs.Views.{or_right, or_cases, and_both}
 use Rattle.shelf.proofs.Retained.{stays, goes}
 use Rattle.shelf.proofs.Checks.{room_for}
 
@@ -60,7 +59,7 @@ count_after w q e s p room few =
     let test : Place → Bool = λ r. bytes_eq r.shelf s && bytes_eq r.path p in
     elim (test q) as (λ b. test q ≡ b → count (with_entry w q e) s p ≤ version_limit) [
       | true ↦ λ passes.
-          let same = and_both (bytes_eq q.shelf s) (bytes_eq q.path p) passes in
+          let same = and_parts (bytes_eq q.shelf s) (bytes_eq q.path p) passes in
           let here : count w s p < version_limit = subst (λ x. count w x p < version_limit) (text_same q.shelf s same.0) (subst (λ x. count w q.shelf x < version_limit) (text_same q.path p same.1) room) in
           let grown : count (with_entry w q e) s p ≡ cond (map.contains_key (map.retain_keys w.entries test) q) (count w s p) (count w s p + 1) =
           ap map.len (stays places_total places_exact test w.entries q e passes) ∙ map.len-insert places_total (map.retain_keys w.entries test) q e in

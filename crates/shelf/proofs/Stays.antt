@@ -4,7 +4,7 @@ use Rattle.std.specs.Prelude.{bytes_eq, ◌||◌}
 use Rattle.std.specs.Option.{option_or}
 use Rattle.std.specs.FinMap as map
 use Rattle.std.specs.FinSet as set
-use Rattle.std.proofs.lemmas.Bool.{true≢false}
+use Rattle.std.proofs.lemmas.Bool.{true≢false, or_right}
 use Rattle.modver.specs.SemanticVersion.{version_text}
 use Rattle.shelf.specs.declared.entry.Place.{Place}
 use Rattle.shelf.specs.declared.entry.Entry.{Entry}
@@ -25,7 +25,7 @@ use Rattle.shelf.specs.World.{World, chain, place, seen_at, first_on, view, with
 use Rattle.shelf.specs.Machine.{decision, after_decision, stored, offered, place_of, team_added, key_added, key_revoked, after_team_add, after_key_add, after_key_revoke, after, Run}
 use Rattle.shelf.specs.Isolation.{is_among, sees}
 use Rattle.shelf.proofs.Orders.{places_total, places_exact, get_elsewhere, text_self, text_same, text_apart}
-use Rattle.shelf.proofs.Views.{or_right, sees_itself, sees_common, only_common, view_same}
+use Rattle.shelf.proofs.Views.{sees_itself, sees_common, only_common, view_same}
 use Rattle.shelf.proofs.Chains.{stands_after}
 use Rattle.shelf.proofs.Checks.{unseen}
 

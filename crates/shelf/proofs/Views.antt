@@ -4,25 +4,13 @@ use Rattle.std.specs.Prelude.{bytes_eq, ◌&&◌, ◌||◌}
 use Rattle.std.specs.Option.{option_or}
 use Rattle.std.specs.declared.cmp.Ordering.TheVariants.{Equal}
 use Rattle.std.specs.FinMap as map
-use Rattle.std.proofs.lemmas.Bool.{true≢false}
+use Rattle.std.proofs.lemmas.Bool.{true≢false, and_parts, or_cases, or_right}
 use Rattle.shelf.specs.declared.entry.Place.{Place}
 use Rattle.shelf.specs.World.{World, IsWorld, common, chain, place, place_cmp, seen_at, first_on, view, count}
 use Rattle.shelf.specs.Isolation.{is_among, sees}
 use Rattle.shelf.proofs.Orders.{places_total, places_exact, text_self, text_same}
 
 -- ---- which shelves a shelf sees
-
-pub or_cases : (a b : Bool) → (a || b) ≡ true → (a ≡ true) ⊎ (b ≡ true)
-or_cases true b e = inl refl
-or_cases false b e = inr e
-
-pub or_right : (a b : Bool) → b ≡ true → (a || b) ≡ true
-or_right true b e = refl
-or_right false b e = e
-
-pub and_both : (a b : Bool) → (a && b) ≡ true → (a ≡ true) × (b ≡ true)
-and_both true b e = (refl, e)
-and_both false b e = absurd (true≢false (sym e))
 
 pub sees_itself : (w : World) (s : List ℕ) → sees w s s ≡ true
 sees_itself w s = ap (λ b. b || is_among (common ∷ []) s) (text_self s)
@@ -78,7 +66,7 @@ count_same w x s p same =
     ap map.len (map.same_map places_total places_exact _ _ (λ q.
     map.get-retain_keys w.entries test q (test_alike test q)
     ∙ guarded (test q) (map.get w.entries q) (map.get x.entries q) (λ e.
-    let both = and_both (bytes_eq q.shelf s) (bytes_eq q.path p) e in
+    let both = and_parts (bytes_eq q.shelf s) (bytes_eq q.path p) e in
     let here : place s p q.version ≡ q = λ i. record { shelf = sym (text_same q.shelf s both.0) i; path = sym (text_same q.path p both.1) i; version = q.version } in
     subst (λ r. map.get w.entries r ≡ map.get x.entries r) here (same p q.version))
     ∙ sym (map.get-retain_keys x.entries test q (test_alike test q))))

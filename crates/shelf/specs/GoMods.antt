@@ -3,12 +3,17 @@ use Rattle.std.specs.Prelude.{ℕ, ◌≡◌, Bool, true, List, Option, Some, No
 use Rattle.gomod.specs.Faults.{line_of}
 use Rattle.gomod.specs.Module.{GoModule}
 use Rattle.gomod.specs.Reading as gomod
+use Rattle.gomod.specs.Reads.{Reads}
 use Rattle.gomod.specs.Symbols.{profile_1}
 use Rattle.gomod.specs.declared.fault.GoModFault.{GoModFault}
 use Rattle.shelf.specs.declared.reading.Reading.{Reading}
 use Rattle.shelf.specs.declared.reading.Reading.TheVariants.{Module, Fault}
 
--- what a file says, or the line of its fault
+-- the file with these bytes says this
+abbrev pub Says : List ℕ → GoModule → Type 0
+Says bytes m = Reads profile_1 bytes m
+
+-- the same computed: what a file says, or the line of its fault
 abbrev pub told : Result GoModule GoModFault → Reading
 told (Ok m) = Module m
 told (Err f) = Fault (line_of f)

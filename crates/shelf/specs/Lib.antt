@@ -5,12 +5,14 @@ pub mod Lines
 pub mod Forms
 pub mod GoMods
 pub mod World
+pub mod EntryTest
 pub mod Code
 pub mod Visible
 pub mod Versions
 pub mod Machine
 pub mod Store
 pub mod Laws
+pub mod PathLaws
 pub mod Isolation
 pub mod Immutability
 pub mod Kept

@@ -1,12 +1,16 @@
 -- Versions by their precedence, and the highest of them by rank.
-use Rattle.std.specs.Prelude.{ℕ, Bool, true, false, not, List, [], ◌∷◌, Option, Some, None, if◌then◌else◌}
+use Rattle.std.specs.Prelude.{ℕ, Bool, true, false, List, [], ◌∷◌, Contains, Option, Some, None, if◌then◌else◌}
+use Rattle.std.proofs.lemmas.Cmp.{nat_list_cmp_total, on_total, then_total}
+use Rattle.std.specs.Cmp.{IsTotalOrder}
 use Rattle.std.specs.Cmp.Lexicographic.{slice_cmp}
 use Rattle.std.specs.FinSet as set
 use Rattle.std.specs.Ordering.{nat_cmp, on, then_cmp}
 use Rattle.std.specs.declared.cmp.Ordering.{Ordering}
 use Rattle.std.specs.declared.cmp.Ordering.TheVariants.{Greater}
 use Rattle.gomod.specs.Module.{GoModule, is_retracted}
+use Rattle.modver.proofs.StrictOrders.{precedence_total}
 use Rattle.modver.specs.Class.{class_of}
+use Rattle.modver.specs.Fits.{IsVersionOf}
 use Rattle.modver.specs.Precedence.{precedence}
 use Rattle.modver.specs.Rank.{rank_cmp}
 use Rattle.modver.specs.Reading.{version_of}
@@ -31,6 +35,10 @@ named (t ∷ ts) = with_version (version_of t) (named ts)
 abbrev pub version_cmp : SemanticVersion → SemanticVersion → Ordering
 version_cmp = then_cmp precedence (on version_text (slice_cmp nat_cmp))
 
+-- it is a total order
+pub versions_total : IsTotalOrder version_cmp
+versions_total = then_total precedence_total (on_total version_text nat_list_cmp_total)
+
 -- a pseudo-version is not listed
 abbrev pub is_listed : Class → Bool
 is_listed (class.Pseudo time) = false
@@ -42,6 +50,10 @@ listed [] = set.empty
 listed (v ∷ vs) = if is_listed (class_of v) then set.insert (listed vs) v else listed vs
 
 -- ---- by rank
+
+-- each is a version of the path
+abbrev pub AllOf : List ℕ → List SemanticVersion → Type 0
+AllOf path vs = (v : SemanticVersion) → Contains vs v → IsVersionOf path v
 
 abbrev pub is_greater : Ordering → Bool
 is_greater Greater = true

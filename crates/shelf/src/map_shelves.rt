@@ -116,11 +116,20 @@ impl Shelves for MapShelves {
     }
 
     fn versions(&mut self, shelf: &str, path: &ModulePath) -> Result<TextSet, StoreFault> {
-        Ok(TextSet::new(self.alloc))
+        let mut versions = TextSet::new(self.alloc);
+        let path = path.as_str();
+        self.entries
+            .add_versions(self.alloc, shelf, path, &mut versions)?;
+        self.entries
+            .add_versions(self.alloc, COMMON, path, &mut versions)?;
+        Ok(versions)
     }
 
     fn paths(&mut self, shelf: &str) -> Result<TextSet, StoreFault> {
-        Ok(TextSet::new(self.alloc))
+        let mut paths = TextSet::new(self.alloc);
+        self.entries.add_paths(self.alloc, shelf, &mut paths)?;
+        self.entries.add_paths(self.alloc, COMMON, &mut paths)?;
+        Ok(paths)
     }
 
     fn count(&mut self, shelf: &str, path: &ModulePath) -> Result<u64, StoreFault> {
@@ -194,6 +203,9 @@ pub fn run_in_memory(
     let answers = run(alloc, &mut shelves, events)?;
     Ok((shelves, answers))
 }
+
+#[cfg(test)]
+mod calls;
 
 #[cfg(test)]
 mod tests;

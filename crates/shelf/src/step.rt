@@ -7,15 +7,16 @@ ghost use Rattle.shelf.specs.Machine.{ask_reply, after_ask, keyed_reply, decisio
 ghost use Rattle.shelf.specs.Store.{Does, DoesWhere, Reads, HasCause};
 ghost use Rattle.shelf.specs.declared.reply.Decision.TheVariants.{Published};
 
-use crate::ask::{Ask, Publish, Query};
+#[cfg(test)]
+mod tests;
+
+use crate::ask::{Ask, Publish};
 use crate::decide::{decide, gomod_refusal, refusal};
-use crate::entry::{Holder, Seen};
+use crate::entry::Holder;
+use crate::queries::answer_query;
 use crate::reading::Reading;
 use crate::reply::{Decision, Reply, StoreFault};
 use crate::shelves::Shelves;
-use crate::text_set::TextSet;
-use modpath::ModulePath;
-use modver::Version;
 use std::alloc::{AllocError, Global};
 
 /// Answers a request.
@@ -32,81 +33,6 @@ pub fn step<S: Shelves>(alloc: Global, shelves: &mut S, ask: &Ask) -> Result<Rep
             key.as_str(),
             publish,
         )?)),
-    }
-}
-
-/// Answers a GET.
-fn answer_query<S: Shelves>(
-    alloc: Global,
-    shelves: &mut S,
-    key: &str,
-    query: &Query,
-) -> Result<Reply, StoreFault>
-    ensures reads { Reads (S.shown shelves.old) (S.shown shelves.new) result (λ w. keyed_reply w (map.get w.keys key.now) query.now) }
-    ensures cause { HasCause (S.failure_count shelves.old) (S.failure_count shelves.new) result }
-{
-    let Some(holder) = shelves.key(key)? else {
-        return Ok(Reply::NotFound);
-    };
-    let shelf = holder.shelf.as_str();
-    match query {
-        Query::GoMod { path, version } => {
-            let seen = shelves.entry(shelf, path, version)?;
-            Ok(gomod_reply(seen))
-        }
-        Query::Zip { path, version } => {
-            let seen = shelves.entry(shelf, path, version)?;
-            Ok(zip_reply(seen))
-        }
-        Query::Info { path, version } => {
-            let seen = shelves.entry(shelf, path, version)?;
-            Ok(info_reply(version.copy(alloc)?, seen))
-        }
-        Query::List { path } => {
-            let versions = shelves.versions(shelf, path)?;
-            Ok(list_reply(alloc, &versions)?)
-        }
-        Query::Latest { path } => answer_latest(alloc, shelves, shelf, path),
-        Query::Modules => Ok(Reply::Paths(shelves.paths(shelf)?)),
-    }
-}
-
-fn info_reply(version: Version, seen: Option<Seen>) -> Reply
-    ensures { result ≡ spec.info_reply version seen }
-{
-    match seen {
-        None => Reply::NotFound,
-        Some(seen) => {
-            let entry = seen.entry;
-            Reply::Info {
-                version,
-                time: entry.time,
-            }
-        }
-    }
-}
-
-fn gomod_reply(seen: Option<Seen>) -> Reply
-    ensures { result ≡ spec.gomod_reply seen }
-{
-    match seen {
-        None => Reply::NotFound,
-        Some(seen) => {
-            let entry = seen.entry;
-            Reply::GoMod(entry.gomod)
-        }
-    }
-}
-
-fn zip_reply(seen: Option<Seen>) -> Reply
-    ensures { result ≡ spec.zip_reply seen }
-{
-    match seen {
-        None => Reply::NotFound,
-        Some(seen) => {
-            let entry = seen.entry;
-            Reply::Zip(entry.zip)
-        }
     }
 }
 
@@ -195,17 +121,4 @@ fn read_gomod(alloc: Global, publish: &Publish) -> Result<Option<Reading>, Alloc
         None => Ok(None),
         Some(body) => Ok(Some(Reading::of(alloc, body.gomod.as_slice())?)),
     }
-}
-
-fn list_reply(alloc: Global, versions: &TextSet) -> Result<Reply, AllocError> {
-    Ok(Reply::NotFound)
-}
-
-fn answer_latest<S: Shelves>(
-    alloc: Global,
-    shelves: &mut S,
-    shelf: &str,
-    path: &ModulePath,
-) -> Result<Reply, StoreFault> {
-    Ok(Reply::NotFound)
 }

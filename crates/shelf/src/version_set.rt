@@ -1,11 +1,18 @@
 //! A set of versions in the order of their precedence.
-ghost use Rattle.std.specs.Prelude.{◌≡◌, OnOk, OnErr};
+ghost use Rattle.std.specs.Prelude.{◌≡◌, ◌↔◌, IsTrue, IfOk, OnOk, OnErr, map as each};
 ghost use Rattle.std.specs.FinSet as set;
+ghost use Rattle.modver.specs.SemanticVersion.{version_text};
+ghost use Rattle.shelf.specs.Lines.{in_order, lines_of};
 
+#[cfg(test)]
+mod tests;
+
+use crate::bytes::Bytes;
 use modver::{Version, compare};
 use std::alloc::{AllocError, Global};
 use std::cmp::Ordering;
 use std::collections::BTreeSet;
+use std::collections::btree_set::Iter;
 use std::marker::Model;
 
 /// A version that is compared by precedence, and where that is equal by its text.
@@ -24,14 +31,13 @@ impl Model for Ranked {
 }
 
 impl PartialEq for Ranked {
+    ghost use Rattle.std.specs.Cmp.{eq_by_cmp_equiv, partial_equiv_from_equiv};
     ghost use Rattle.std.specs.Ordering.{eq_by_cmp};
-    ghost use Rattle.shelf.specs.Versions.{version_cmp};
-    ghost use Rattle.std.proofs.Common.{rules};
-    ghost use Rattle.std.specs.Cmp.Rules.{comparing};
+    ghost use Rattle.shelf.specs.Versions.{version_cmp, versions_total};
 
     ghost eq = { eq_by_cmp version_cmp };
 
-    ghost laws = { Prim.search (comparing, rules) };
+    ghost laws = { partial_equiv_from_equiv (eq_by_cmp_equiv versions_total) };
 
     fn eq(&self, other: &Ranked) -> bool {
         self.cmp(other) == Ordering::Equal
@@ -39,22 +45,20 @@ impl PartialEq for Ranked {
 }
 
 impl Eq for Ranked {
-    ghost use Rattle.std.proofs.Common.{rules};
-    ghost use Rattle.std.specs.Cmp.Rules.{comparing};
+    ghost use Rattle.std.specs.Cmp.{eq_by_cmp_equiv};
+    ghost use Rattle.shelf.specs.Versions.{versions_total};
 
-    ghost laws = { Prim.search (comparing, rules) };
+    ghost laws = { eq_by_cmp_equiv versions_total };
 }
 
 impl PartialOrd for Ranked {
-    ghost use Rattle.std.proofs.Common.{rules};
-    ghost use Rattle.std.specs.Cmp.{partial_order_from_own_ties};
-    ghost use Rattle.std.specs.Cmp.Rules.{comparing};
+    ghost use Rattle.std.specs.Cmp.{partial_order_from_total};
     ghost use Rattle.std.specs.Ordering.{as_partial_cmp};
-    ghost use Rattle.shelf.specs.Versions.{version_cmp};
+    ghost use Rattle.shelf.specs.Versions.{version_cmp, versions_total};
 
     ghost partial_cmp = { as_partial_cmp version_cmp };
 
-    ghost laws = { partial_order_from_own_ties (Prim.search (comparing, rules)) (Prim.search (comparing, rules)) };
+    ghost laws = { partial_order_from_total versions_total };
 
     fn partial_cmp(&self, other: &Ranked) -> Option<Ordering> {
         Some(self.cmp(other))
@@ -64,11 +68,11 @@ impl PartialOrd for Ranked {
 impl Ord for Ranked {
     ghost use Rattle.std.proofs.Common.{rules};
     ghost use Rattle.std.specs.Cmp.Rules.{comparing};
-    ghost use Rattle.shelf.specs.Versions.{version_cmp};
+    ghost use Rattle.shelf.specs.Versions.{version_cmp, versions_total};
 
     ghost cmp = { version_cmp };
 
-    ghost total = { Prim.search (comparing, rules) };
+    ghost total = { versions_total };
 
     ghost matches_partial_cmp = { Prim.search (comparing, rules) };
 
@@ -89,7 +93,7 @@ pub struct VersionSet {
 impl Model for VersionSet {
     ghost use Rattle.std.specs.FinSet as set;
     ghost use Rattle.shelf.specs.Code.{version_code};
-    ghost use Rattle.shelf.specs.Versions.{version_cmp};
+    ghost use Rattle.shelf.specs.Versions.{version_cmp, versions_total};
 
     ghost Value = { set.FinSet version_cmp };
 
@@ -107,6 +111,12 @@ impl VersionSet {
         }
     }
 
+    pub fn is_empty(&self) -> bool
+        ensures { IsTrue result ↔ (self.now ≡ set.empty) }
+    {
+        self.tree.is_empty()
+    }
+
     /// Puts a version into the set.
     pub fn insert(&mut self, version: Version) -> Result<(), AllocError>
         ensures ok { OnOk result (self.new ≡ set.insert self.old version) }
@@ -114,5 +124,23 @@ impl VersionSet {
     {
         self.tree.insert(Ranked { version })?;
         Ok(())
+    }
+
+    fn iter(&self) -> Iter<'_, Ranked>
+        ensures { result ≡ in_order self.now }
+    {
+        self.tree.iter()
+    }
+
+    /// The texts of the versions in their order, each ended by a newline.
+    pub fn lines(&self, alloc: Global) -> Result<Bytes, AllocError>
+        ensures { IfOk result (λ b. b ≡ lines_of (each version_text (in_order self.now))) }
+    {
+        let mut lines = Vec::new(alloc);
+        for ranked in self.iter() {
+            lines.extend_from_slice(ranked.version.as_str().as_bytes())?;
+            lines.push(b'\n')?;
+        }
+        Ok(Bytes::new(lines))
     }
 }

@@ -206,6 +206,5 @@ pub fn run_in_memory(
 
 #[cfg(test)]
 mod calls;
-
 #[cfg(test)]
 mod tests;

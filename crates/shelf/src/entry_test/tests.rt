@@ -36,7 +36,13 @@ fn entries_of_a_table(rt: HostRuntime) -> Result<(), Fail> {
         Row("example.com/lib", "v2.0.0", lib, None, false),
         Row("example.com/lib", "v1.0.0", second, None, false),
         Row("example.com/lib", "v1.0.0", "module\n", None, false),
-        Row("example.com/lib", "v2.0.0+incompatible", bare_not, None, false),
+        Row(
+            "example.com/lib",
+            "v2.0.0+incompatible",
+            bare_not,
+            None,
+            false,
+        ),
         Row("example.com/lib", STAMPED, lib, Some(later), false),
         Row("example.com/lib", STAMPED, lib, None, false),
     ];

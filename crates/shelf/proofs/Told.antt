@@ -122,7 +122,7 @@ module _ (w : World) (is : IsWorld w) (s p : List ℕ) where
       )
 
   -- each of them fits the path
-  seen_fits : (v : SemanticVersion) → seen_versions w s p v → IsVersionOf p v
+  pub seen_fits : (v : SemanticVersion) → seen_versions w s p v → IsVersionOf p v
   seen_fits v seen =
       let entry = entry_at (version_text v) seen.1 in
       let same : entry.version.0 ≡ v = text-one entry.version.0 v entry.version.1.valid seen.0 entry.version.1.same in

@@ -32,7 +32,7 @@ digits_end (c ∷ x) (d ∷ y) s t nx ny es et e =
     let head : c ≡ d = cc e in
     let tail : x ++ s ≡ y ++ t = cc e in
     let rest : (x ≡ y) × (s ≡ t) = digits_end x y s t (and-second _ _ nx) (and-second _ _ ny) es et tail in
-    (cc (head, rest.0), rest.1)
+    ((λ i. head i ∷ rest.0 i), rest.1)
 
 -- two identifiers that tie end where they do
 identifier_ends : (x y s t : List ℕ) → identifier_cmp x y ≡ Equal → EndsDigits s → EndsDigits t → x ++ s ≡ y ++ t → (x ≡ y) × (s ≡ t)

@@ -3,6 +3,9 @@ ghost use Rattle.std.specs.Prelude.{◌≡◌, IfOk};
 ghost use Rattle.shelf.specs.EntryTest as spec;
 ghost use Rattle.shelf.specs.GoMods.{reading_of};
 
+#[cfg(test)]
+mod tests;
+
 use crate::decide::{MAX_GOMOD, MAX_ZIP};
 use crate::entry::EntryRef;
 use crate::reading::Reading;

@@ -205,4 +205,7 @@ pub fn run_in_memory(
 }
 
 #[cfg(test)]
+mod calls;
+
+#[cfg(test)]
 mod tests;

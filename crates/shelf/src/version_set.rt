@@ -4,6 +4,9 @@ ghost use Rattle.std.specs.FinSet as set;
 ghost use Rattle.modver.specs.SemanticVersion.{version_text};
 ghost use Rattle.shelf.specs.Lines.{in_order, lines_of};
 
+#[cfg(test)]
+mod tests;
+
 use crate::bytes::Bytes;
 use modver::{Version, compare};
 use std::alloc::{AllocError, Global};

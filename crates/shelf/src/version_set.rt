@@ -93,7 +93,7 @@ pub struct VersionSet {
 impl Model for VersionSet {
     ghost use Rattle.std.specs.FinSet as set;
     ghost use Rattle.shelf.specs.Code.{version_code};
-    ghost use Rattle.shelf.specs.Versions.{version_cmp, versions_total};
+    ghost use Rattle.shelf.specs.Versions.{version_cmp};
 
     ghost Value = { set.FinSet version_cmp };
 
@@ -103,6 +103,7 @@ impl Model for VersionSet {
 }
 
 impl VersionSet {
+    /// The empty set. It takes no memory.
     pub fn new(alloc: Global) -> VersionSet
         ensures { result ≡ set.empty }
     {
@@ -111,13 +112,14 @@ impl VersionSet {
         }
     }
 
+    /// Whether it has no version.
     pub fn is_empty(&self) -> bool
         ensures { IsTrue result ↔ (self.now ≡ set.empty) }
     {
         self.tree.is_empty()
     }
 
-    /// Puts a version into the set.
+    /// Puts a version into the set. Without memory the set stays as it was.
     pub fn insert(&mut self, version: Version) -> Result<(), AllocError>
         ensures ok { OnOk result (self.new ≡ set.insert self.old version) }
         ensures err { OnErr result (self.new ≡ self.old) }
@@ -132,7 +134,8 @@ impl VersionSet {
         self.tree.iter()
     }
 
-    /// The texts of the versions in their order, each ended by a newline.
+    /// The texts of the versions in their order, each ended by a newline, or that there was no memory
+    /// for them.
     pub fn lines(&self, alloc: Global) -> Result<Bytes, AllocError>
         ensures { IfOk result (λ b. b ≡ lines_of (each version_text (in_order self.now))) }
     {

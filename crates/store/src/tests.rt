@@ -1,6 +1,6 @@
 use crate::store::SqlShelves;
 use modpath::ModulePath;
-use modver::{Version, read_time};
+use modver::{TimeText, Version, read_time};
 use shelf::ask::{Ask, Body, Event, GivenTime, Publish, Query};
 use shelf::bytes::Bytes;
 use shelf::entry::{EntryRef, Right};
@@ -331,34 +331,40 @@ fn a_shelf_sees_its_own_and_common(rt: HostRuntime) -> Result<(), Fail> {
     Ok(())
 }
 
+fn is_time(told: &Option<TimeText>, want: Option<&str>) -> bool {
+    match (told, want) {
+        (Some(told), Some(want)) => told.as_str() == want,
+        (None, None) => true,
+        _ => false,
+    }
+}
+
+/// Whether a version of `common` is seen with this time.
+fn has_time(
+    alloc: Global,
+    shelves: &mut SqlShelves<MemStore>,
+    version: &str,
+    time: Option<&str>,
+) -> Result<bool, Fail> {
+    let path = ModulePath::parse(alloc, "example.com/lib")?;
+    let version = Version::parse(alloc, version)?;
+    match shelves.entry("common", &path, &version) {
+        Ok(Some(seen)) => Ok(is_time(&seen.entry.time, time)),
+        _ => Ok(false),
+    }
+}
+
 #[test]
 fn an_entry_keeps_its_time(rt: HostRuntime) -> Result<(), Fail> {
     let alloc = rt.alloc();
     let Ok(mut shelves) = SqlShelves::open_memory(alloc) else {
         panic!(rt; "a store opens in memory");
     };
-    let table = [("v1.0.0", Some("2024-02-29T12:34:56Z")), ("v1.1.0", None)];
-    let path = ModulePath::parse(alloc, "example.com/lib")?;
-    for (text, time) in &table {
-        assert!(rt;
-            put(
-                alloc,
-                &mut shelves,
-                "common",
-                "example.com/lib",
-                text,
-                *time
-            )?,
-            "{text} is taken"
-        );
-        let version = Version::parse(alloc, text)?;
-        let Ok(Some(seen)) = shelves.entry("common", &path, &version) else {
-            panic!(rt; "{text} is seen");
-        };
-        match (seen.entry.time, time) {
-            (Some(told), Some(want)) => assert_eq!(rt; told.as_str(), *want),
-            (told, want) => assert_eq!(rt; told.is_some(), want.is_some()),
-        }
-    }
+    let path = "example.com/lib";
+    let leap = Some("2024-02-29T12:34:56Z");
+    assert!(rt; put(alloc, &mut shelves, "common", path, "v1.0.0", leap)?);
+    assert!(rt; put(alloc, &mut shelves, "common", path, "v1.1.0", None)?);
+    assert!(rt; has_time(alloc, &mut shelves, "v1.0.0", leap)?);
+    assert!(rt; has_time(alloc, &mut shelves, "v1.1.0", None)?);
     Ok(())
 }

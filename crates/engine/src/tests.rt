@@ -1,7 +1,7 @@
 mod doubles;
-mod fronts;
 mod rows;
 mod stream;
+mod streams;
 
 use crate::{Io, answer_all, answer_one};
 use doubles::{Sink, Source, shelves};

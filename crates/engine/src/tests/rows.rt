@@ -84,6 +84,9 @@ PUT A example.com/bad/@v/v1.0.0 | 422 Unprocessable Entity | plain | module-path
 modules-of-a-team
 GET B -/modules | 200 OK | plain | example.com/x;example.com/y;
 GET A -/modules | 200 OK | plain | example.com/Lib;example.com/lib;example.com/ps;example.com/ra;example.com/rb;example.com/rc;example.com/rd;example.com/x;example.com/y;
+unreadable: an empty element, and a version that is not canonical
+PUT A example.com//q/@v/v1.0.0 | 404 Not Found | plain | not found; | module example.com/q; |
+PUT A example.com/q/@v/1.0.0 | 404 Not Found | plain | not found; | module example.com/q; |
 near-pseudo
 PUT A example.com/near/@v/v0.0.0-20240230000000-aaaaaaaaaaaa | 201 Created | plain | published; | module example.com/near; |
 PUT A example.com/near/@v/v1.0.0-0.20230101000000-bbbbbbbbbbbb | 201 Created | plain | published; | module example.com/near; |
@@ -96,7 +99,7 @@ same-without-time
 PUT A example.com/t/@v/v1.0.0 | 409 Conflict | plain | conflict; | module example.com/t; |
 time-against-stamp
 PUT A example.com/t/@v/v0.0.0-20240101000000-aaaaaaaaaaaa | 422 Unprocessable Entity | plain | time-mismatch; | module example.com/t; | | Version-Time: 2024-01-01T00:00:01Z;
-two times, and none
+two times, and an empty one
 PUT A example.com/t/@v/v1.1.0 | 422 Unprocessable Entity | plain | bad-time; | module example.com/t; | | Version-Time: 2024-01-01T00:00:00Z;version-time: 2024-01-01T00:00:00Z;
 PUT A example.com/t/@v/v1.1.0 | 422 Unprocessable Entity | plain | bad-time; | module example.com/t; | | Version-Time:;
 ";

@@ -1,4 +1,4 @@
-use Rattle.std.proofs.Common.{refl, sym}
+use Rattle.std.proofs.Common.{refl}
 use Rattle.engine.specs.Exchange.{Unserved, Met, Told}
 use Rattle.engine.proofs.exchange.page_told.Goals as goal
 

@@ -13,9 +13,18 @@
 //! | the key may publish | [`reply::Decision::Forbidden`] | 403 |
 //! | the bytes are split into a go.mod and a zip | [`reply::Decision::BadLength`] | 400 |
 //! | the go.mod has at most 1,048,576 bytes, the zip at most 16,777,216 | [`reply::Decision::TooLarge`] | 413 |
-//! | the shelf sees no entry of the version | [`reply::Decision::Same`] for one that is the same, else [`reply::Decision::Conflict`] | 200, 409 |
+//! | the version fits the path | [`reply::Refusal::MajorMismatch`] | 422 |
+//! | at most one time is given, and it is one; with a pseudo-version it is that of the stamp | [`reply::Refusal::BadTime`]; [`reply::Refusal::TimeMismatch`] | 422 |
+//! | the go.mod reads | [`reply::Refusal::BadGoMod`], with the faulty line | 422 |
+//! | the go.mod names the path | [`reply::Refusal::ModulePath`] | 422 |
+//! | with the mark `+incompatible`, the go.mod has its module directive alone | [`reply::Refusal::IncompatibleGoMod`] | 422 |
+//! | the shelf sees no entry of the version | [`reply::Decision::Same`] for one with the same files and time, else [`reply::Decision::Conflict`] | 200, 409 |
 //! | the shelf has fewer than 4,096 versions of the path | [`reply::Decision::Full`] | 507 |
 //! | the store took it | [`reply::Decision::Published`] | 201 |
+//!
+//! The time of a pseudo-version is that of its stamp, given or not; another version has the time that was given, or
+//! none. The list of a path has its releases and pre-releases by precedence. Its latest version is the highest by rank
+//! that the go.mod of the highest does not retract.
 //!
 //! Requests in this order, with keys of two teams and of `common` that may publish:
 //!

@@ -7,9 +7,6 @@ ghost use Rattle.shelf.specs.Machine.{ask_reply, after_ask, keyed_reply, decisio
 ghost use Rattle.shelf.specs.Store.{Does, DoesWhere, Reads, HasCause};
 ghost use Rattle.shelf.specs.declared.reply.Decision.TheVariants.{Published};
 
-#[cfg(test)]
-mod tests;
-
 use crate::ask::{Ask, Publish};
 use crate::decide::{decide, gomod_refusal, refusal};
 use crate::entry::Holder;

@@ -100,7 +100,8 @@ fn the_time_of_an_entry(rt: HostRuntime) -> Result<(), Fail> {
     shelves.insert("common", &path, &version, &entry)?;
     let seen = shelves.entry("alpha", &path, &version)?.ok_or("no entry")?;
     assert!(rt; seen.shelf.as_str() == "common");
-    let time = seen.entry.time.ok_or("no time")?;
+    let entry = seen.entry.as_ref();
+    let time = entry.time.ok_or("no time")?;
     assert!(rt; time.as_str() == "2024-02-29T23:59:59Z");
     Ok(())
 }

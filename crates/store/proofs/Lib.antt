@@ -8,6 +8,8 @@ pub mod KeyLemmas
 pub mod InsertLemmas
 pub mod WriteLemmas
 pub mod ChangeLemmas
+pub mod WalkLemmas
+pub mod ListingLemmas
 pub mod ShelfLemmas
 pub mod TabulateLemmas
 pub mod AddKeyLemmas

@@ -27,3 +27,17 @@ add_version_text = codes "INSERT INTO version (shelf, path, version, mod) VALUES
 
 abbrev pub add_body_text : List ℕ
 add_body_text = codes "INSERT INTO body (id, zip) VALUES (?1, ?2)"
+
+-- ---- all rows
+
+abbrev pub meta_rows_text : List ℕ
+meta_rows_text = codes "SELECT name, value FROM meta"
+
+abbrev pub shelf_rows_text : List ℕ
+shelf_rows_text = codes "SELECT name FROM shelf"
+
+abbrev pub key_rows_text : List ℕ
+key_rows_text = codes "SELECT token FROM access ORDER BY token"
+
+abbrev pub entry_rows_text : List ℕ
+entry_rows_text = codes "SELECT v.shelf, v.path, v.version, v.time, v.mod, b.zip FROM version AS v LEFT JOIN body AS b ON b.id = v.id ORDER BY v.shelf, v.path, v.version"

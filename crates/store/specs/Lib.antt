@@ -6,3 +6,4 @@ pub mod Calls
 pub mod Reading
 pub mod Added
 pub mod Made
+pub mod Walks

@@ -35,5 +35,6 @@ pub mod open;
 mod schema;
 mod shelves;
 pub mod store;
+mod walk;
 #[cfg(test)]
 mod tests;

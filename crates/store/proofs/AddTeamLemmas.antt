@@ -57,7 +57,9 @@ module _ (w : World) (name : List ℕ) where
           shelves = rw it.1.rows (tabulates_put IsShelf (old.now.trees 2) _ name _ _ it.1.fresh refl (λ y. still w.shelves name y) (text_put w.shelves name) (text_splits w.shelves name) means.shelves);
           access = rw (it.1.tables.1.1.0 (λ e. omega (arith, e))) means.access;
           entries = rw (it.1.tables.1.1.1.0 (λ e. omega (arith, e)), it.1.tables.1.1.1.1.0 (λ e. omega (arith, e))) means.entries;
-          once = rw (it.1.tables.1.1.1.0 (λ e. omega (arith, e))) means.once;
+          tokens = rw (it.1.tables.1.1.0 (λ e. omega (arith, e))) means.tokens;
+          bodies = rw (it.1.tables.1.1.1.1.0 (λ e. omega (arith, e))) means.bodies;
+          places = rw (it.1.tables.1.1.1.0 (λ e. omega (arith, e))) means.places;
         },
       )
 

@@ -238,7 +238,7 @@ module _ (s p : List ℕ) (w : World) (db : Trees) (means : Means db w) where
       go false g passed is some = absurd (true≢false (sym some))
 
   all_counted : length found_rows ≡ count w s p
-  all_counted = rows_counted places_total places_exact IsAt same_place found_rows (map.retain_keys w.entries test) each_found found_each (ascending_filtered _ (passes by_path (path_params s p)) (db 6) means.once)
+  all_counted = rows_counted places_total places_exact IsAt same_place found_rows (map.retain_keys w.entries test) each_found found_each (ascending_filtered _ (passes by_path (path_params s p)) (db 6) means.places)
 
   pub count_read : (base : Database) → base.trees ≡ db → IsWorld w → (row : Row) (n : ℕ) → Selects count_text (path_params s p) base (Some row) → column row 0 ≡ Int (pos n) → n ≡ count w s p
   count_read base has_db is row n picked shown =

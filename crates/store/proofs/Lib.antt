@@ -10,6 +10,8 @@ pub mod WriteLemmas
 pub mod ChangeLemmas
 pub mod WalkLemmas
 pub mod ListingLemmas
+pub mod Ascending
+pub mod RunLemmas
 pub mod ShelfLemmas
 pub mod TabulateLemmas
 pub mod AddKeyLemmas

@@ -7,3 +7,4 @@ pub mod Reading
 pub mod Added
 pub mod Made
 pub mod Walks
+pub mod Fit

@@ -65,6 +65,15 @@ adjacent_both {X} P Q R f (x ∷ xs) p q = go x xs p q
     go x [] p q = tt
     go x (y ∷ ys) p q = (f x y p.0 q.0, go y ys p.1 q.1)
 
+-- the same, of the elements of a list
+pub adjacent_among : {X : Type 0} (P R : X → X → Type 0) (xs : List X) → ((x y : X) → Has xs x → Has xs y → P x y → R x y) → Adjacent P xs → Adjacent R xs
+adjacent_among {X} P R [] f p = tt
+adjacent_among {X} P R (x ∷ xs) f p = go x xs f p
+  where
+    go : (x : X) (xs : List X) → ((y z : X) → Has (x ∷ xs) y → Has (x ∷ xs) z → P y z → R y z) → Steps P x xs → Steps R x xs
+    go x [] f p = tt
+    go x (y ∷ ys) f p = (f x y (inl refl) (inr (inl refl)) p.0, go y ys (λ a b here there. f a b (inr here) (inr there)) p.1)
+
 pub adjacent_map : {X Y : Type 0} (P : Y → Y → Type 0) (f : X → Y) (xs : List X) → Adjacent (λ a b. P (f a) (f b)) xs → Adjacent P (mapped f xs)
 adjacent_map {X} P f [] p = tt
 adjacent_map {X} P f (x ∷ xs) p = go x xs p

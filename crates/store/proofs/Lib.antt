@@ -9,9 +9,12 @@ pub mod InsertLemmas
 pub mod WriteLemmas
 pub mod ChangeLemmas
 pub mod WalkLemmas
-pub mod ListingLemmas
 pub mod Ascending
+pub mod ListingLemmas
 pub mod RunLemmas
+pub mod AsciiLemmas
+pub mod FitTests
+pub mod RowFits
 pub mod ShelfLemmas
 pub mod TabulateLemmas
 pub mod AddKeyLemmas

@@ -56,11 +56,19 @@ many_same s p q rows h =
     let two = it.1 in
     λ i. many_on (one i) (two i) rows
 
-push_on : (s p : List ℕ) (rows : List Row) (row : Row) → is_on s p (place_in row) ≡ true → many_on s p (rows ++ row ∷ []) ≡ many_on s p rows + 1
+pub push_on : (s p : List ℕ) (rows : List Row) (row : Row) → is_on s p (place_in row) ≡ true → many_on s p (rows ++ row ∷ []) ≡ many_on s p rows + 1
 push_on s p rows row h = filter_push (λ r. is_on s p (place_in r)) rows row ∙ ap (λ b. many_on s p rows + cond b 1 0) h
 
 push_off : (s p : List ℕ) (rows : List Row) (row : Row) → is_on s p (place_in row) ≡ false → many_on s p (rows ++ row ∷ []) ≡ many_on s p rows
 push_off s p rows row h = let e = filter_push (λ r. is_on s p (place_in r)) rows row ∙ ap (λ b. many_on s p rows + cond b 1 0) h in omega (arith, e)
+
+pub many_more : (s p : List ℕ) (rows more : List Row) → many_on s p rows ≤ many_on s p (rows ++ more)
+many_more s p [] more = omega arith
+many_more s p (r ∷ rows) more = go (is_on s p (place_in r)) (many_more s p rows more)
+  where
+    go : (b : Bool) → many_on s p rows ≤ many_on s p (rows ++ more) → length (cond b (r ∷ filter (λ row. is_on s p (place_in row)) rows) (filter (λ row. is_on s p (place_in row)) rows)) ≤ length (cond b (r ∷ filter (λ row. is_on s p (place_in row)) (rows ++ more)) (filter (λ row. is_on s p (place_in row)) (rows ++ more)))
+    go true h = omega (arith, h)
+    go false h = h
 
 one_at_least : (rows : List Row) (row : Row) → 1 ≤ many_on (place_in row).shelf (place_in row).path (rows ++ row ∷ [])
 one_at_least rows row = let e = push_on (place_in row).shelf (place_in row).path rows row (is_on_itself (place_in row)) in omega (arith, e)

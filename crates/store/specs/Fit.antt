@@ -53,14 +53,18 @@ IsKeyRow row = (key : List ℕ) × (column row 0 ≡ Text key) × (is_key key �
 abbrev pub key_in : Row → List ℕ
 key_in row = text_in (column row 0)
 
+-- the row shows the entry but for its place
+pub record ShowsFiles (row : Row) (e : Entry) : Type 0 where
+  pub time : column row 3 ≡ Null
+  pub gomod : column row 4 ≡ Blob e.gomod
+  pub zip : column row 5 ≡ Blob e.zip
+
 -- the row shows an entry that may stand at its place
 pub record ShowsEntry (row : Row) (q : Place) (e : Entry) : Type 0 where
   pub shelf : column row 0 ≡ Text q.shelf
   pub path : column row 1 ≡ Text q.path
   pub version : column row 2 ≡ Text q.version
-  pub time : column row 3 ≡ Null
-  pub gomod : column row 4 ≡ Blob e.gomod
-  pub zip : column row 5 ≡ Blob e.zip
+  pub files : ShowsFiles row e
   pub utf8 : IsUtf8 q.shelf
   pub may : IsEntry q e
 

@@ -31,6 +31,8 @@
 
 mod create;
 mod entries;
+mod entry_test;
+mod fit;
 pub mod open;
 mod schema;
 mod shelves;

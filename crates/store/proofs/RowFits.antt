@@ -1,0 +1,41 @@
+-- What a row that fits has in its columns.
+use Rattle.std.proofs.Common.{◌≡◌, Bool, List, [], ℕ, Decides, sym, subst, ◌∙◌}
+use Rattle.std.specs.Str.{IsUtf8}
+use Rattle.sqlite.specs.declared.types.Value.TheVariants.{Text}
+use Rattle.sqlite.specs.Order.{Row, column}
+use Rattle.shelf.specs.declared.entry.Place.{Place}
+use Rattle.shelf.specs.declared.entry.Entry.{Entry}
+use Rattle.shelf.specs.World.{place, IsEntry}
+use Rattle.store.specs.Fit.{IsShelfRow, IsKeyRow, IsEntryRow, ShowsFiles, text_in, place_in}
+use Rattle.store.proofs.AsciiLemmas.{shelf_utf8, key_utf8, path_utf8, version_utf8}
+
+abbrev pub HasNoText : Row → ℕ → Type 0
+HasNoText row at = (t : List ℕ) → column row at ≡ Text t → IsUtf8 t → ⊥
+
+pub no_shelf : (row : Row) → HasNoText row 0 → IsShelfRow row → ⊥
+no_shelf row none fits = none fits.0 fits.1 (shelf_utf8 fits.0 fits.2)
+
+pub no_key : (row : Row) → HasNoText row 0 → IsKeyRow row → ⊥
+no_key row none fits = none fits.0 fits.1 (key_utf8 fits.0 fits.2)
+
+pub no_path : (row : Row) → HasNoText row 1 → IsEntryRow row → ⊥
+no_path row none fits = none fits.0.path fits.2.path (path_utf8 fits.0.path fits.2.may.path)
+
+pub no_version : (row : Row) → HasNoText row 2 → IsEntryRow row → ⊥
+no_version row none fits = none fits.0.version fits.2.version (version_utf8 fits.2.may.version.0 fits.0.version fits.2.may.version.1)
+
+pub place_shown : (row : Row) (s p v : List ℕ) → column row 0 ≡ Text s → column row 1 ≡ Text p → column row 2 ≡ Text v → place s p v ≡ place_in row
+place_shown row s p v one two three = λ i. record { shelf = text_in (sym one i); path = text_in (sym two i); version = text_in (sym three i) }
+
+pub entry_shown : (row : Row) (s p v : List ℕ) (e : Entry) → column row 0 ≡ Text s → IsUtf8 s → column row 1 ≡ Text p → column row 2 ≡ Text v → ShowsFiles row e → IsEntry (place s p v) e → IsEntryRow row
+entry_shown row s p v e one utf8 two three files may = (place s p v, e, record { shelf = one; path = two; version = three; files = files; utf8 = utf8; may = may })
+
+pub same_entry : (row : Row) (d e : Entry) → ShowsFiles row d → ShowsFiles row e → d ≡ e
+same_entry row d e one two =
+    let gomod : d.gomod ≡ e.gomod = let f = sym one.gomod ∙ two.gomod in cc in
+    let zip : d.zip ≡ e.zip = let f = sym one.zip ∙ two.zip in cc in
+    λ i. record { gomod = gomod i; zip = zip i }
+
+-- the files of a row tell whether it shows an entry that may stand there
+pub entry_told : (row : Row) (p v : List ℕ) (e : Entry) (b : Bool) → ShowsFiles row e → ((s : List ℕ) → Decides b (IsEntry (place s p v) e)) → Decides b ((x : Entry) × ShowsFiles row x × ((s : List ℕ) → IsEntry (place s p v) x))
+entry_told row p v e b files told = (λ t. (e, files, λ s. (told s).0 t), λ x. (told []).1 (subst (IsEntry (place [] p v)) (same_entry row x.0 e x.1 files) (x.2 [])))

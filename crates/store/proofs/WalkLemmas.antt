@@ -68,13 +68,18 @@ module _ {X : Type 0} (Fits : X → Row → Type 0) (Keeps : X → Row → X →
 
 -- ---- one test after the other
 
--- a test that failed
-pub first_fails : (a b : State) (P Q : Trees → Type 0) → Tests a b (Ok false) P → Tests a b (Ok false) (λ db. P db × Q db)
-first_fails a b P Q t = record { looks = t.looks; same = t.same; answer = λ clean has. (λ h. absurd (true≢false (sym h)), λ both. (t.answer clean has).1 both.0) }
+-- a test that failed, of a part
+pub fails_for : (a b : State) (P Q : Trees → Type 0) → ((db : Trees) → Q db → P db) → Tests a b (Ok false) P → Tests a b (Ok false) Q
+fails_for a b P Q part t = record { looks = t.looks; same = t.same; answer = λ clean has. (λ h. absurd (true≢false (sym h)), λ whole. (t.answer clean has).1 (part _ whole)) }
 
 -- a test that was not made
-pub first_errs : (a b : State) (e : Error) (P Q : Trees → Type 0) → Tests a b (Err e) P → Tests a b (Err e) Q
-first_errs a b e P Q t = record { looks = t.looks; same = λ _ _. tt; answer = λ _ _. tt }
+pub errs_for : (a b : State) (e : Error) (P Q : Trees → Type 0) → Tests a b (Err e) P → Tests a b (Err e) Q
+errs_for a b e P Q t = record { looks = t.looks; same = λ _ _. tt; answer = λ _ _. tt }
+
+-- a test of the same in other words
+pub tests_same : (a b : State) (r : Result Bool Error) (P Q : Trees → Type 0) → ((db : Trees) → P db → Q db) → ((db : Trees) → Q db → P db) → Tests a b r P → Tests a b r Q
+tests_same a b (Ok x) P Q to from t = record { looks = t.looks; same = t.same; answer = λ clean has. let d = t.answer clean has in (λ h. to _ (d.0 h), λ q. d.1 (from _ q)) }
+tests_same a b (Err e) P Q to from t = errs_for a b e P Q t
 
 looks_then : (a b c : State) → Looks a b → (HasCleanDisk b → a.now.schema ≡ store_schema → IsUnchanged a b) → Looks b c → Looks a c
 looks_then a b c p same q = record {

@@ -254,3 +254,19 @@ fn has_entries<S: Alter>(alloc: Global, conn: &mut Connection<S>) -> Result<bool
         &mut rows,
     )
 }
+
+/// Whether the rows of all tables stand for a world.
+pub(crate) fn is_fit<S: Alter>(alloc: Global, conn: &mut Connection<S>) -> Result<bool, Error>
+    ensures { Tests (state S.Store conn.old) (state S.Store conn.new) result AreFit }
+{
+    if !has_schema(conn)? {
+        return Ok(false);
+    }
+    if !has_shelves(conn)? {
+        return Ok(false);
+    }
+    if !has_keys(alloc, conn)? {
+        return Ok(false);
+    }
+    has_entries(alloc, conn)
+}

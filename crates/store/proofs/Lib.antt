@@ -13,6 +13,8 @@ pub mod Ascending
 pub mod ListingLemmas
 pub mod RunLemmas
 pub mod AsciiLemmas
+pub mod JoinLemmas
+pub mod RowMapLemmas
 pub mod FitTests
 pub mod RowFits
 pub mod ShelfLemmas

@@ -14,6 +14,7 @@ pub mod ListingLemmas
 pub mod RunLemmas
 pub mod AsciiLemmas
 pub mod JoinLemmas
+pub mod SoundLemmas
 pub mod RowMapLemmas
 pub mod FitTests
 pub mod RowFits

@@ -124,7 +124,7 @@ once_each (a ∷ bodies) few = (
     tail true b h = omega (arith, h)
     tail false b h = h
 
-fewer : {X : Type 0} (p q : X → Bool) (xs : List X) → ((x : X) → Has xs x → p x ≡ true → q x ≡ true) → length (filter p xs) ≤ length (filter q xs)
+pub fewer : {X : Type 0} (p q : X → Bool) (xs : List X) → ((x : X) → Has xs x → p x ≡ true → q x ≡ true) → length (filter p xs) ≤ length (filter q xs)
 fewer p q [] gives = omega arith
 fewer {X} p q (x ∷ xs) gives = go (p x) (q x) (gives x (inl refl)) (fewer p q xs (λ y h. gives y (inr h)))
   where

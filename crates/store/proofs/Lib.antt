@@ -16,6 +16,8 @@ pub mod AsciiLemmas
 pub mod JoinLemmas
 pub mod SoundLemmas
 pub mod RowMapLemmas
+pub mod WorldOf
+pub mod WorldFits
 pub mod FitTests
 pub mod RowFits
 pub mod ShelfLemmas

@@ -54,7 +54,7 @@ module _ {X : Type 0} (P : X → X → Type 0) where
   unfolding Along
   ascends_permuted turned xs ys same =
       let along = along_permutation Along (λ xs. (λ x all. all, λ up. up)) (λ x xs ys r. (λ z all. (all.0, r.0 z all.1), λ up. (r.0 x up.0, r.1 up.1)))
-          (λ x y xs. (λ z all. (all.1.0, (all.0, all.1.1)), λ up. ((turned x y up.0.0, up.1.0), (up.0.1, up.1.1)))) (λ xs ys zs p q. (λ x all. q.0 x (p.0 x all), λ up. q.1 (p.1 up))) xs ys same in
+      (λ x y xs. (λ z all. (all.1.0, (all.0, all.1.1)), λ up. ((turned x y up.0.0, up.1.0), (up.0.1, up.1.1)))) (λ xs ys zs p q. (λ x all. q.0 x (p.0 x all), λ up. q.1 (p.1 up))) xs ys same in
       along.1
 
 pub adjacent_both : {X : Type 0} (P Q R : X → X → Type 0) → ((x y : X) → P x y → Q x y → R x y) → (xs : List X) → Adjacent P xs → Adjacent Q xs → Adjacent R xs

@@ -32,3 +32,5 @@ pub mod FirstWorld
 pub mod FlagLemmas
 pub mod CreateLemmas
 pub mod StoreLemmas
+pub mod OpenLemmas
+pub mod OneWorld

@@ -141,8 +141,8 @@ pub of_entries : (db : Trees) → map (eval_all entry_columns) (matches db [] wi
 of_entries db =
     map-flat_map (eval_all entry_columns) _ (db 6)
     ∙ flat_map_same_on _ _ (λ row.
-      map_singles (eval_all entry_columns) (λ body. [] ∷ row ∷ body ∷ []) _
-      ∙ ap (λ (p : Row → Bool). map (entry_shown row) (or_nulls (filter p (db 8)))) (λ i body. and_true (is_numbered_as body row) i)) (db 6)
+    map_singles (eval_all entry_columns) (λ body. [] ∷ row ∷ body ∷ []) _
+    ∙ ap (λ (p : Row → Bool). map (entry_shown row) (or_nulls (filter p (db 8)))) (λ i body. and_true (is_numbered_as body row) i)) (db 6)
 
 module _ (sql : List ℕ) (from : Join) (project : List Term) (order : List (Term × Key)) (names : List (List ℕ)) (is : command_of (understood store_schema sql) ≡ Select (record { lets = []; body = listing from project order }) names) (db : Database) where
   pub all_listed : (rows : List Row) → Reads (command_of (understood store_schema sql)) db [] rows → IsListing (listing from project order) (overlay db.trees []) rows

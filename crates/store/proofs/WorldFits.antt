@@ -61,15 +61,18 @@ module _ (db : Trees) (w : World) (means : Means db w) (is : IsWorld w) where
   unfolding one
   entry_row row there =
       let it = means.entries.each row there in
-      let body : body_of (db 8) row ≡ it.1.body = let b = one row there in body_is (db 8) row b.0 b.1 in
-      (it.0.0, it.0.1, record {
-        shelf = it.1.place.0;
-        path = it.1.place.1;
-        version = it.1.place.2;
-        files = record { time = it.1.time; gomod = it.1.gomod; zip = ap (λ (b : Row). column b 2) body ∙ it.1.zip };
-        utf8 = shelf_utf8 it.0.0.shelf (is.team_names it.0.0.shelf (is.entries_stand it.0.0 it.0.1 it.2));
-        may = is.entries_fit it.0.0 it.0.1 it.2;
-      })
+      let body : body_of (db 8) row ≡ it.1.body = let b = one row there in body_is (db 8) row b.0 b.1 in (
+        it.0.0,
+        it.0.1,
+        record {
+          shelf = it.1.place.0;
+          path = it.1.place.1;
+          version = it.1.place.2;
+          files = record { time = it.1.time; gomod = it.1.gomod; zip = ap (λ (b : Row). column b 2) body ∙ it.1.zip };
+          utf8 = shelf_utf8 it.0.0.shelf (is.team_names it.0.0.shelf (is.entries_stand it.0.0 it.0.1 it.2));
+          may = is.entries_fit it.0.0 it.0.1 it.2;
+        },
+      )
 
   own_place : (row : Row) → Has (db 6) row → IsAt row (place_in (shown row))
   own_place row there = let at = (means.entries.each row there).1.place in (held_text (column row 2) _ at.0, held_text (column row 3) _ at.1, held_text (column row 4) _ at.2)

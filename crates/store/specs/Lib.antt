@@ -8,3 +8,5 @@ pub mod Added
 pub mod Made
 pub mod Walks
 pub mod Fit
+pub mod Opened
+pub mod Laws

@@ -29,14 +29,17 @@
 //! `Memory` where memory was wanted, and otherwise `Device`, which is counted.
 #![tactic(auto)]
 
+mod adopt;
 mod create;
 mod entries;
 mod entry_test;
 mod fit;
+pub mod laws;
 pub mod open;
+pub mod refusal;
 mod schema;
 mod shelves;
 pub mod store;
-mod walk;
 #[cfg(test)]
 mod tests;
+mod walk;

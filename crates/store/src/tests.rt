@@ -1,3 +1,6 @@
+mod adopting;
+mod files;
+
 use crate::store::SqlShelves;
 use modpath::ModulePath;
 use modver::Version;

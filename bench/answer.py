@@ -31,8 +31,12 @@ def publish(path, version, zip_length=0):
         zip_length -= len(BLOCK)
 
 
+def ask(rest):
+    yield f"GET /k/{KEY}/{rest} HTTP/1.1\r\n\r\n".encode()
+
+
 def get(path, version, kind):
-    yield f"GET /k/{KEY}/{path}/@v/{version}.{kind} HTTP/1.1\r\n\r\n".encode()
+    return ask(f"{path}/@v/{version}.{kind}")
 
 
 def place(n):
@@ -81,6 +85,45 @@ def gets_on_a_store(entries, gets):
     return seconds
 
 
+def on_one_path(name, versions, count, rest):
+    """Requests a second of one question about a path of so many versions, without the time of the publishes."""
+    made = lambda: (publish("example.com/many", f"v1.{n // 64}.{n % 64}") for n in range(versions))
+    before, _, _, _ = run(made())
+    after, memory, _, _ = run(itertools.chain(made(), (ask(rest) for _ in range(count))))
+    seconds = max(after - before, 1e-9)
+    print(f"{count:,} {name} of {versions:,} versions: {count / seconds:,.0f} requests/s, peak {memory / 2**20:,.1f} MiB")
+
+
+def in_pieces(length, requests):
+    """Seconds and peak memory of the program on a stream that comes through a pipe in pieces of so many bytes."""
+    stream = b"".join(itertools.chain.from_iterable(requests))
+    with tempfile.TemporaryFile() as target:
+        started = time.monotonic()
+        child = subprocess.Popen([PROGRAM] + WORDS, stdin=subprocess.PIPE, stdout=target, bufsize=0)
+        for place in range(0, len(stream), length):
+            child.stdin.write(stream[place : place + length])
+        child.stdin.close()
+        _, status, usage = os.wait4(child.pid, 0)
+        seconds = time.monotonic() - started
+    if status != 0:
+        sys.exit(f"the program ended with wait status {status}")
+    print(
+        f"a stream of {len(stream):,} bytes in pieces of {length:,}: {len(stream) / seconds / 1e6:,.2f} MB/s, "
+        f"peak {usage.ru_maxrss / 1024:,.1f} MiB"
+    )
+
+
+def streams(scale):
+    """One stream in pieces of several lengths, and memory by the length of a stream."""
+    one = lambda: publish("example.com/lib", "v1.0.0")
+    asked = lambda count: (get("example.com/lib", "v1.0.0", "mod") for _ in range(count))
+    for length in (1, 1_000, 65_536):
+        in_pieces(length, itertools.chain([one()], asked(10_000 // scale)))
+    short = run(itertools.chain([one()], asked(1_000 // scale)))[1]
+    long = run(itertools.chain([one()], asked(100_000 // scale)))[1]
+    print(f"peak memory of {100_000 // scale:,} requests: {long / 2**20:,.1f} MiB; of {1_000 // scale:,}: {short / 2**20:,.1f} MiB")
+
+
 def main():
     scale = 10 if "--quick" in sys.argv else 1
     if not os.path.exists(PROGRAM):
@@ -102,6 +145,12 @@ def main():
     few = gets_on_a_store(1_000, gets)
     many = gets_on_a_store(100_000 // scale, gets)
     print(f"  the larger store costs {many / few:.2f} times the smaller")
+
+    asked = (get("example.com/lib", "v1.0.0", "info") for _ in range(gets))
+    measure(f"{gets:,} GETs of one .info", gets, itertools.chain([publish("example.com/lib", "v1.0.0")], asked))
+    on_one_path("lists", 4_096 // scale, 100, "example.com/many/@v/list")
+    on_one_path("latest versions", 4_096 // scale, 100, "example.com/many/@latest")
+    streams(scale)
 
 
 if __name__ == "__main__":

@@ -2,9 +2,7 @@
 use Rattle.std.proofs.Common.{◌≡◌, List, [], ◌∷◌, ◌++◌, refl, sym, subst}
 use Rattle.shelf.specs.World.{World}
 use Rattle.shelf.specs.Store.{Shown}
-use Rattle.engine.specs.Outcome.{Exchange, AllUnmet}
-use Rattle.engine.specs.declared.outcome.Outcome.{Outcome}
-use Rattle.engine.specs.declared.outcome.Outcome.TheVariants.{Unasked, Met, Told}
+use Rattle.engine.specs.Exchange.{Exchange, Outcome, Unserved, Met, Told, AllUnmet}
 use Rattle.engine.specs.Store.{LeavesTwo, world_at}
 
 -- what holds of the store's worlds before holds of its worlds now
@@ -19,7 +17,7 @@ world_step w x xs = by_outcome x.outcome
   where
     by_outcome : (o : Outcome)
         → world_at (world_at w (record { message = x.message; outcome = o } ∷ [])) xs ≡ world_at w (record { message = x.message; outcome = o } ∷ xs)
-    by_outcome Unasked = refl
+    by_outcome Unserved = refl
     by_outcome (Met fault) = refl
     by_outcome (Told reply) = refl
 

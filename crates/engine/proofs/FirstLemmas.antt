@@ -9,7 +9,7 @@ use Rattle.wire.specs.declared.reply.Fixed.{Fixed}
 use Rattle.wire.proofs.StreamLemmas.{ReadsMessage-append}
 use Rattle.shelf.specs.Store.{Shown}
 use Rattle.engine.specs.First.{First, Answers, Closes, IsFirst, TakesFirst, ServesFirst, first_bytes, first_status, first_exchanges}
-use Rattle.engine.specs.Outcome.{Exchange}
+use Rattle.engine.specs.Exchange.{Exchange}
 use Rattle.engine.specs.Store.{GoesThrough}
 use Rattle.engine.specs.Turn.{ReadsOn, Takes, Delivers}
 use Rattle.engine.specs.declared.fault.Io.{Io}

@@ -13,8 +13,7 @@ use Rattle.shelf.proofs.Blind.{blind}
 use Rattle.engine.specs.Ask.{ask_of}
 use Rattle.engine.specs.First.{First, Answers, Closes, TakesFirst, ServesFirst, first_bytes, first_status, first_exchanges}
 use Rattle.engine.specs.Isolated.{IsToldByItsShelf, AnswersByItsShelf}
-use Rattle.engine.specs.declared.outcome.Outcome.{Outcome}
-use Rattle.engine.specs.declared.outcome.Outcome.TheVariants.{Unasked, Met, Told}
+use Rattle.engine.specs.Exchange.{Outcome, Unserved, Met, Told}
 use Rattle.engine.specs.Reply.{bytes_of}
 use Rattle.engine.specs.Served.{IsClosing, closing_status}
 use Rattle.engine.specs.Store.{GoesThrough}
@@ -50,7 +49,7 @@ module _
   outcome_alike : (m : Request) (outcome : Outcome) (status : ℕ) → let first = Answers (record { message = m; outcome = outcome }) in
       GoesThrough old new before now (first_exchanges first) → Some status ≡ first_status first → Appends written written_new (first_bytes first)
       → status ≢ 503 → IsToldByItsShelf old new written written_new m
-  outcome_alike m Unasked status through is appends other = absurd (other (some_inside status 503 is))
+  outcome_alike m Unserved status through is appends other = absurd (other (some_inside status 503 is))
   outcome_alike m (Met fault) status through is appends other = absurd (other (some_inside status 503 is))
   outcome_alike m (Told reply) status through is appends other = reply_alike m reply through appends
 

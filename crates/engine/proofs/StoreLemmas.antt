@@ -1,16 +1,18 @@
 -- A store goes through messages: none, one, and more after others.
-use Rattle.std.proofs.Common.{◌≡◌, ℕ, ◌≤◌, List, [], ◌∷◌, ◌++◌, map, refl, sym, subst, ap, ◌∙◌, inl, inr, Ok, Err, arith, append-nil}
+use Rattle.std.proofs.Common.{◌≡◌, ℕ, ◌≤◌, List, [], ◌∷◌, ◌++◌, map, refl, sym, subst, ap, ◌∙◌, inl, inr, Result, Ok, Err, arith, append-nil}
 use Rattle.std.proofs.lemmas.List.{map-append}
 use Rattle.wire.specs.Message.{Request}
 use Rattle.shelf.specs.declared.ask.Ask.{Ask}
 use Rattle.shelf.specs.declared.reply.Reply.{Reply}
+use Rattle.shelf.specs.declared.reply.Reply.TheVariants.{Info, Versions, Paths}
 use Rattle.shelf.specs.declared.reply.StoreFault.{StoreFault}
 use Rattle.shelf.specs.World.{World}
-use Rattle.shelf.specs.Machine.{ask_reply, after_ask}
+use Rattle.shelf.specs.Machine.{ask_reply, after_ask, HasBody}
 use Rattle.shelf.specs.Store.{Shown, Does, HasCause, GrewOrFull}
+use Rattle.shelf.proofs.Changes.{bodies_change_nothing}
 use Rattle.engine.specs.Ask.{ask_of}
-use Rattle.engine.specs.Outcome.{Exchange, event_of, answer_of, AllUnmet}
-use Rattle.engine.specs.declared.outcome.Outcome.TheVariants.{Unasked, Met, Told}
+use Rattle.engine.specs.Exchange.{Exchange, Outcome, Unserved, Met, Told, event_of, answer_of, AllUnmet}
+use Rattle.engine.specs.Reply.{IsComposed, IsOutcome}
 use Rattle.engine.specs.Store.{GoesThrough, LeavesTwo, world_at}
 use Rattle.engine.proofs.CrashLemmas.{leaves_kept, leaves_more}
 use Rattle.engine.proofs.RunLemmas.{runs_more, world_more, met_either}
@@ -27,6 +29,13 @@ grown_first before mid now (inr full) more = inr (omega arith)
 grown_next : (before mid now : ℕ) → before ≤ mid → GrewOrFull mid now → GrewOrFull before now
 grown_next before mid now less (inl grew) = inl (omega arith)
 grown_next before mid now less (inr full) = inr full
+
+-- a body that is composed is one
+composed_body : (r : Reply) → IsComposed r → HasBody r
+composed_body (Info v time) composed = tt
+composed_body (Versions vs) composed = tt
+composed_body (Paths ps) composed = tt
+composed_body other composed = absurd composed
 
 -- ---- none
 
@@ -47,7 +56,7 @@ through_none shown count = record {
 
 -- the machine was not asked
 pub through_unasked : (shown : Shown) (count : ℕ) (m : Request) → ((w x : World) → shown.leaves w w → shown.leaves w x)
-    → GoesThrough shown shown count count (record { message = m; outcome = Unasked } ∷ [])
+    → GoesThrough shown shown count count (record { message = m; outcome = Unserved } ∷ [])
 through_unasked shown count m wider = record {
   runs = record {
     honest = λ h. h;
@@ -101,6 +110,42 @@ module _ (old new : Shown) (before now : ℕ) (m : Request) (ask : Ask) (is : as
     where
       kept : (w : World) → new.leaves (after_ask w ask) (after_ask w ask) → new.leaves (after_ask w (ask_of m)) (after_ask w (ask_of m))
       kept w leaves = subst (λ x. new.leaves x x) (ap (after_ask w) is) leaves
+
+  -- it replied with a body that there was no memory for: the world is as it was
+  pub through_unshown : (reply : Reply) → HasBody reply → Does {T = Reply} old new (Ok reply) (λ w. ask_reply w ask) (λ w. after_ask w ask)
+      → HasCause {T = Reply} before now (Ok reply) → GoesThrough old new before now (record { message = m; outcome = Unserved } ∷ [])
+  through_unshown reply body does cause = record {
+    runs = record {
+      honest = λ h. does.honest h;
+      at = λ h w stands. let at = does.at h w stands tt in record {
+        run = refl;
+        ends = subst new.stands (same h w stands) at.ok;
+        left = λ idle was. kept h w stands was;
+      };
+    };
+    left = λ h w stands was. subst (λ x. new.leaves w x) (ap (after_ask w) is) ((does.at h w stands tt).left was);
+    settled = λ unmet h w stands was. kept h w stands was;
+    untouched = λ none. cc;
+    no_fewer = cause.no_fewer;
+    device = λ met. elim met [ inl other ↦ cc | inr never ↦ absurd never ];
+  }
+    where
+      same : new.is_honest → (w : World) → old.stands w → after_ask w ask ≡ w
+      same h w stands = bodies_change_nothing w ask (subst HasBody (does.at h w stands tt).answer body)
+
+      kept : new.is_honest → (w : World) → old.stands w → old.leaves w w → new.leaves w w
+      kept h w stands was = subst (λ x. new.leaves x x) (same h w stands) ((does.at h w stands tt).kept was)
+
+  -- it answered
+  pub through_asked : (told : Result Reply StoreFault) (outcome : Outcome) → IsOutcome told outcome
+      → Does {T = Reply} old new told (λ w. ask_reply w ask) (λ w. after_ask w ask) → HasCause {T = Reply} before now told
+      → GoesThrough old new before now (record { message = m; outcome = outcome } ∷ [])
+  through_asked (Ok reply) (Told r) same does cause = rw same (through_told reply does cause)
+  through_asked (Ok reply) Unserved composed does cause = through_unshown reply (composed_body reply composed) does cause
+  through_asked (Ok reply) (Met f) wrong does cause = absurd wrong
+  through_asked (Err fault) (Met f) same does cause = rw same (through_met fault does cause)
+  through_asked (Err fault) Unserved wrong does cause = absurd wrong
+  through_asked (Err fault) (Told r) wrong does cause = absurd wrong
 
 -- ---- more after others
 

@@ -11,11 +11,14 @@ use Rattle.wire.specs.declared.request.Target.{Target}
 use Rattle.wire.specs.declared.request.Target.TheVariants as target
 use Rattle.shelf.specs.declared.ask.Query.{Query}
 use Rattle.shelf.specs.declared.ask.Query.TheVariants as query
+use Rattle.shelf.specs.declared.ask.GivenTime.{GivenTime}
+use Rattle.shelf.specs.declared.ask.GivenTime.TheVariants.{Absent, At, Malformed}
 use Rattle.shelf.specs.declared.ask.Body.{Body}
 use Rattle.shelf.specs.declared.ask.Ask.{Ask}
 use Rattle.shelf.specs.declared.ask.Ask.TheVariants as ask
 use Rattle.shelf.specs.declared.ask.Event.{Event}
 use Rattle.shelf.specs.declared.ask.Event.TheVariants.{Asked}
+use Rattle.shelf.specs.Forms.{is_time}
 
 -- `0`, or one to ten decimal digits of which the first is not 0
 abbrev pub is_length : List ℕ → Bool
@@ -47,14 +50,29 @@ split_at body (Some n) = Some (record { gomod = take n body; zip = drop n body }
 abbrev pub body_of : Request → Option Body
 body_of m = split_at m.body (gomod_len m.mod_lengths (length m.body))
 
+-- the time that a value writes
+abbrev pub time_in : List ℕ → GivenTime
+time_in text = if is_time text then At text else Malformed
+
+-- the time that the values of `Version-Time` give: none, the one that a single value writes, or what is no time
+abbrev pub given_time : List (List ℕ) → GivenTime
+given_time [] = Absent
+given_time (text ∷ []) = time_in text
+given_time (text ∷ other ∷ more) = Malformed
+
 abbrev pub query_of : Wanted → Query
+query_of (wanted.Info path version) = query.Info path version
 query_of (wanted.GoMod path version) = query.GoMod path version
 query_of (wanted.Zip path version) = query.Zip path version
+query_of (wanted.List path) = query.List path
+query_of (wanted.Latest path) = query.Latest path
+query_of wanted.Modules = query.Modules
 
 abbrev pub ask_at : Request → Target → Ask
 ask_at m target.Unreadable = ask.Unreadable
 ask_at m (target.Get key wanted) = ask.Get key (query_of wanted)
-ask_at m (target.Put key path version) = ask.Put key (record { path = path; version = version; body = body_of m })
+ask_at m (target.Put key path version) =
+    ask.Put key (record { path = path; version = version; body = body_of m; time = given_time m.version_times })
 
 abbrev pub ask_of : Request → Ask
 ask_of m = ask_at m (target_of m.method m.target)

@@ -6,7 +6,7 @@ use Rattle.wire.specs.Framing.{IsUnfinished}
 use Rattle.wire.specs.Reply.{status_number}
 use Rattle.wire.specs.declared.reply.Fixed.{Fixed}
 use Rattle.shelf.specs.Store.{Shown}
-use Rattle.engine.specs.Outcome.{Exchange, answer_of}
+use Rattle.engine.specs.Exchange.{Exchange}
 use Rattle.engine.specs.Reply.{text_of, status_of}
 use Rattle.engine.specs.Store.{GoesThrough}
 use Rattle.engine.specs.Written.{WritesPart}
@@ -30,7 +30,7 @@ first_bytes (Closes closing) = closing_bytes closing
 
 -- the number of the status written, or none where nothing is
 abbrev pub first_status : First → Option ℕ
-first_status (Answers x) = Some (status_number (status_of (answer_of x)))
+first_status (Answers x) = Some (status_number (status_of x))
 first_status (Closes closing) = closing_status closing
 
 abbrev pub first_exchanges : First → List Exchange

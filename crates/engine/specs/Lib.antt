@@ -1,7 +1,7 @@
 pub mod Ask
+pub mod Exchange
 pub mod First
 pub mod Isolated
-pub mod Outcome
 pub mod Reply
 pub mod Served
 pub mod Store

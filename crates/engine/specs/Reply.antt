@@ -1,19 +1,35 @@
 -- The bytes and the status of an answer to a request.
-use Rattle.std.specs.Prelude.{ℕ, List}
+use Rattle.std.specs.Prelude.{◌≡◌, ℕ, List, map, Result, Ok, Err}
+use Rattle.modver.specs.SemanticVersion.{version_text}
 use Rattle.wire.specs.Message.{Request}
-use Rattle.wire.specs.Reply.{reply_bytes, fixed_bytes, fixed_status}
+use Rattle.wire.specs.Reply.{reply_bytes, fixed_bytes, fixed_status, info_bytes}
 use Rattle.wire.specs.declared.reply.Fixed.{Fixed}
 use Rattle.wire.specs.declared.reply.Fixed.TheVariants as fixed
 use Rattle.wire.specs.declared.reply.Kind.TheVariants as kind
 use Rattle.wire.specs.declared.reply.Status.{Status}
 use Rattle.wire.specs.declared.reply.Status.TheVariants as status
+use Rattle.shelf.specs.Lines.{in_order, lines_of}
 use Rattle.shelf.specs.declared.reply.Answer.{Answer}
 use Rattle.shelf.specs.declared.reply.Answer.TheVariants.{Replied, Failed}
 use Rattle.shelf.specs.declared.reply.Decision.{Decision}
 use Rattle.shelf.specs.declared.reply.Decision.TheVariants as decision
+use Rattle.shelf.specs.declared.reply.Refusal.{Refusal}
+use Rattle.shelf.specs.declared.reply.Refusal.TheVariants as refusal
 use Rattle.shelf.specs.declared.reply.Reply.{Reply}
 use Rattle.shelf.specs.declared.reply.Reply.TheVariants as reply
-use Rattle.engine.specs.Outcome.{Exchange, answer_of}
+use Rattle.shelf.specs.declared.reply.StoreFault.{StoreFault}
+use Rattle.engine.specs.Exchange.{Exchange, Outcome, Unserved, Met, Told, answer_of}
+use Rattle.engine.specs.declared.page.Page.{Page}
+use Rattle.engine.specs.declared.page.Page.TheVariants as page
+
+-- the fixed reply that refuses the content of a publish
+abbrev pub refusal_of : Refusal → Fixed
+refusal_of refusal.MajorMismatch = fixed.MajorMismatch
+refusal_of refusal.BadTime = fixed.BadTime
+refusal_of refusal.TimeMismatch = fixed.TimeMismatch
+refusal_of (refusal.BadGoMod line) = fixed.BadGoMod line
+refusal_of refusal.ModulePath = fixed.ModulePath
+refusal_of refusal.IncompatibleGoMod = fixed.IncompatibleGoMod
 
 -- the fixed reply of a decision on a publish
 abbrev pub fixed_of : Decision → Fixed
@@ -23,33 +39,60 @@ fixed_of decision.NotFound = fixed.NotFound
 fixed_of decision.Forbidden = fixed.Forbidden
 fixed_of decision.BadLength = fixed.BadModLength
 fixed_of decision.TooLarge = fixed.TooLarge
+fixed_of (decision.Refused why) = refusal_of why
 fixed_of decision.Conflict = fixed.Conflict
 fixed_of decision.Full = fixed.Full
 
--- the bytes of a reply to a request; the outcome of a command, which no request gets, reads as not found
-abbrev pub shown_bytes : Request → Reply → List ℕ
-shown_bytes m reply.NotFound = fixed_bytes fixed.NotFound
-shown_bytes m (reply.Decided decision) = fixed_bytes (fixed_of decision)
-shown_bytes m (reply.GoMod text) = reply_bytes status.Ok kind.TextPlain text
-shown_bytes m (reply.Zip zip) = reply_bytes status.Ok kind.Zip zip
-shown_bytes m (reply.Registry outcome) = fixed_bytes fixed.NotFound
+-- A reply to a request as it is written; the outcome of a command, which no request gets, reads as not found. A version is told
+-- by its info object, and versions and paths by one line each.
+abbrev pub page_of : Request → Reply → Page
+page_of m reply.NotFound = page.Fixed fixed.NotFound
+page_of m (reply.Decided decision) = page.Fixed (fixed_of decision)
+page_of m (reply.GoMod text) = page.Body kind.TextPlain text
+page_of m (reply.Zip zip) = page.Body kind.Zip zip
+page_of m (reply.Info version time) = page.Body kind.Json (info_bytes version time)
+page_of m (reply.Versions versions) = page.Body kind.TextPlain (lines_of (map version_text (in_order versions)))
+page_of m (reply.Paths paths) = page.Body kind.TextPlain (lines_of (in_order paths))
+page_of m (reply.Registry outcome) = page.Fixed fixed.NotFound
 
-abbrev pub shown_status : Reply → Status
-shown_status reply.NotFound = status.NotFound
-shown_status (reply.Decided decision) = fixed_status (fixed_of decision)
-shown_status (reply.GoMod text) = status.Ok
-shown_status (reply.Zip zip) = status.Ok
-shown_status (reply.Registry outcome) = status.NotFound
+-- a reply whose body is composed, and is no file as it was received
+abbrev pub IsComposed : Reply → Type 0
+IsComposed (reply.Info version time) = Unit {0}
+IsComposed (reply.Versions versions) = Unit {0}
+IsComposed (reply.Paths paths) = Unit {0}
+IsComposed other = ⊥
 
--- the bytes of an answer to a request: those of the reply, or the 503
+-- What becomes of a message, by what the machine answered: its reply is told, or it is not for want of memory for a body that
+-- is composed; or the store met a fault.
+abbrev pub IsOutcome : Result Reply StoreFault → Outcome → Type 0
+IsOutcome (Ok reply) (Told told) = told ≡ reply
+IsOutcome (Ok reply) Unserved = IsComposed reply
+IsOutcome (Err fault) (Met met) = met ≡ fault
+IsOutcome answer outcome = ⊥
+
+-- an answer to a request as it is written: the reply, or the 503
+abbrev pub page_for : Request → Answer → Page
+page_for m (Replied reply) = page_of m reply
+page_for m (Failed fault) = page.Fixed fixed.Unavailable
+
+abbrev pub page_bytes : Page → List ℕ
+page_bytes (page.Fixed answer) = fixed_bytes answer
+page_bytes (page.Body kind text) = reply_bytes status.Ok kind text
+
+abbrev pub page_status : Page → Status
+page_status (page.Fixed answer) = fixed_status answer
+page_status (page.Body kind text) = status.Ok
+
+-- the bytes of an answer to a request
 abbrev pub bytes_of : Request → Answer → List ℕ
-bytes_of m (Replied reply) = shown_bytes m reply
-bytes_of m (Failed fault) = fixed_bytes fixed.Unavailable
+bytes_of m answer = page_bytes (page_for m answer)
 
-abbrev pub status_of : Answer → Status
-status_of (Replied reply) = shown_status reply
-status_of (Failed fault) = status.ServiceUnavailable
+-- what is written for an exchange, and its status
+abbrev pub page_to : Exchange → Page
+page_to x = page_for x.message (answer_of x)
 
--- what is written for an exchange
 abbrev pub text_of : Exchange → List ℕ
-text_of x = bytes_of x.message (answer_of x)
+text_of x = page_bytes (page_to x)
+
+abbrev pub status_of : Exchange → Status
+status_of x = page_status (page_to x)

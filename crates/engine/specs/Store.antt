@@ -3,7 +3,7 @@ use Rattle.std.specs.Prelude.{◌≡◌, ℕ, ◌≤◌, List, [], ◌∷◌, ma
 use Rattle.shelf.specs.Machine.{after, world_after, MetDevice}
 use Rattle.shelf.specs.World.{World}
 use Rattle.shelf.specs.Store.{Shown, Runs, GrewOrFull}
-use Rattle.engine.specs.Outcome.{Exchange, event_of, answer_of, IsUnmet, AllUnmet}
+use Rattle.engine.specs.Exchange.{Exchange, event_of, answer_of, IsUnmet, AllUnmet}
 
 -- where the machine is after the exchanges
 abbrev pub world_at : World → List Exchange → World

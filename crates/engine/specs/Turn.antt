@@ -5,7 +5,7 @@ use Rattle.wire.specs.Message.{ReadsMessage, ReadsMessages}
 use Rattle.wire.specs.Framing.{Framing, IsUnfinished, HasMessage, view}
 use Rattle.wire.specs.declared.reply.Fixed.TheVariants as fixed
 use Rattle.shelf.specs.Store.{Shown}
-use Rattle.engine.specs.Outcome.{Exchange, message_of}
+use Rattle.engine.specs.Exchange.{Exchange, message_of}
 use Rattle.engine.specs.Reply.{text_of}
 use Rattle.engine.specs.Store.{GoesThrough}
 use Rattle.engine.specs.Written.{IsBeginning, WritesPart}

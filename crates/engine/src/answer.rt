@@ -3,41 +3,20 @@ ghost use Rattle.std.specs.Prelude.{◌≡◌, ◌∷◌, [], None, IfOk, IfErr}
 ghost use Rattle.wire.specs.Framing.{view};
 ghost use Rattle.engine.specs.First.{ServesFirst, first_bytes, first_status, Answers};
 ghost use Rattle.engine.specs.Isolated.{AnswersByItsShelf};
-ghost use Rattle.engine.specs.Outcome.{Exchange, answer_of};
-ghost use Rattle.engine.specs.declared.outcome.Outcome.{Outcome};
-ghost use Rattle.engine.specs.Reply.{text_of, status_of};
+ghost use Rattle.engine.specs.Exchange.{Exchange, Outcome};
 ghost use Rattle.engine.specs.Served.{Serves};
 ghost use Rattle.engine.specs.Store.{GoesThrough};
 ghost use Rattle.engine.specs.Turn.{AnswersHeld, Delivers};
-ghost use Rattle.engine.specs.Written.{Writes};
 
+use crate::exchange::answer_message;
 use crate::fault::Io;
-use crate::outcome::{ask_machine, tell};
 use crate::read::read_more;
 use crate::turn::{Taken, Turn, take};
 use crate::write::{close, close_first, flush};
 use shelf::shelves::Shelves;
 use std::alloc::Global;
 use std::io::{Read, Write};
-use wire::reply::Status;
 use wire::{Framer, Message};
-
-/// Answers one message: by the machine, or by 503 where there is no memory to read what it asks, or the machine met a fault.
-fn answer_message<W: Write, S: Shelves>(
-    alloc: Global,
-    writer: &mut W,
-    shelves: &mut S,
-    message: Message,
-) -> Result<Status, Io>
-    ensures { (outcome : Outcome)
-        × (let x : Exchange = record { message = view message; outcome = outcome } in
-        GoesThrough (S.shown shelves.old) (S.shown shelves.new) (S.failure_count shelves.old) (S.failure_count shelves.new) (x ∷ [])
-        × Writes (W.contents writer.old) (W.contents writer.new) (text_of x) result
-        × IfOk result (λ status. status ≡ status_of (answer_of x))) }
-{
-    let outcome = ask_machine(alloc, shelves, message);
-    tell(writer, &outcome)
-}
 
 /// Answers all whole messages that the framer holds.
 fn answer_held<W: Write, S: Shelves>(

@@ -5,13 +5,15 @@ ghost use Rattle.std.specs.List.{list_all};
 ghost use Rattle.wire.specs.Framing.{view, texts};
 ghost use Rattle.engine.specs.Ask as spec;
 
-use shelf::ask::{Ask, Body, Publish, Query};
+use modver::read_time;
+use shelf::ask::{Ask, Body, GivenTime, Publish, Query};
 use shelf::bytes::Bytes;
 use shelf::text::Text;
 use std::alloc::{AllocError, Global};
 use wire::{Memory, Message, Query as Wanted, Target, target};
 
-/// What the message asks. The go.mod of a publish is the first bytes of its body, as many as `Mod-Length` says.
+/// What the message asks. The go.mod of a publish is the first bytes of its body, as many as `Mod-Length` says, and its time
+/// is that of its `Version-Time`.
 pub(crate) fn ask_of(alloc: Global, message: Message) -> Result<Ask, Memory>
     ensures { IfOk result (λ ask. ask ≡ spec.ask_of (view message)) }
 {
@@ -22,6 +24,7 @@ pub(crate) fn ask_of(alloc: Global, message: Message) -> Result<Ask, Memory>
             query: query_of(query),
         }),
         Target::Put { key, path, version } => {
+            let time = given_time(&message.version_times);
             let body = body_of(message)?;
             Ok(Ask::Put {
                 key: Text::new(key.into_string()),
@@ -29,6 +32,7 @@ pub(crate) fn ask_of(alloc: Global, message: Message) -> Result<Ask, Memory>
                     path,
                     version,
                     body,
+                    time,
                 },
             })
         }
@@ -39,8 +43,39 @@ fn query_of(wanted: Wanted) -> Query
     ensures { result ≡ spec.query_of wanted }
 {
     match wanted {
+        Wanted::Info { path, version } => Query::Info { path, version },
         Wanted::GoMod { path, version } => Query::GoMod { path, version },
         Wanted::Zip { path, version } => Query::Zip { path, version },
+        Wanted::List { path } => Query::List { path },
+        Wanted::Latest { path } => Query::Latest { path },
+        Wanted::Modules => Query::Modules,
+    }
+}
+
+/// The time that the values of `Version-Time` give.
+#[tactic(auto, using(crate::proofs::AskLemmas::many_times))]
+fn given_time(values: &[Vec<u8>]) -> GivenTime
+    ensures { result ≡ spec.given_time (texts values.now) }
+{
+    if values.len() > 1 {
+        return GivenTime::Malformed;
+    }
+    match values {
+        [text] => time_in(text),
+        _ => GivenTime::Absent,
+    }
+}
+
+/// The time that a value writes.
+fn time_in(text: &[u8]) -> GivenTime
+    ensures { result ≡ spec.time_in text.now }
+{
+    let Ok(text) = std::str::from_utf8(text) else {
+        return GivenTime::Malformed;
+    };
+    match read_time(text) {
+        Ok(time) => GivenTime::At(time),
+        Err(_) => GivenTime::Malformed,
     }
 }
 

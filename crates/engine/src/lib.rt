@@ -20,9 +20,19 @@
 //! | the same | `0` | nothing; the whole body |
 //! | the same | `23`, `021`, `+21`, two headers, or none | none: 400 `bad mod-length` |
 //!
-//! A message is answered 503 where there is no memory to read what it asks, or where the store met a fault; then it changed
-//! nothing. A reply is written from the stack, so nothing but the writer can fail once the machine has answered: a publish that
-//! the store accepted is never answered 503.
+//! Its time is that of the one header `Version-Time`, or none without that header; a value that is no time, and two such
+//! headers, are a bad time, which the machine's checks answer.
+//!
+//! | the machine's reply | what is written |
+//! |---|---|
+//! | a go.mod or a zip | 200 and its bytes as they were received |
+//! | a version and its time | 200 and `{"Time":"..","Version":".."}`, or `{"Version":".."}` without a time |
+//! | versions, or paths | 200 and one a line, each ended by a newline |
+//! | not found, or the outcome of a publish | a fixed text |
+//!
+//! A message is answered 503 where there is no memory to read what it asks or to compose the body of its reply, or where the
+//! store met a fault; then it changed nothing. Files and fixed texts are written with no more memory, so nothing but the writer
+//! can fail once the machine has decided on a publish: one that the store accepted is never answered 503.
 //!
 //! A read or a write that is interrupted is made anew, a thousand times at most. A reader or a writer that fails gives
 //! [`Io`]: what was done before stays, and the contracts of [`answer_all`] and [`answer_one`] say what was written.
@@ -30,10 +40,10 @@
 
 mod answer;
 mod ask;
+mod exchange;
 pub mod fault;
-pub mod outcome;
+pub mod page;
 mod read;
-mod show;
 mod turn;
 mod write;
 

@@ -2,11 +2,13 @@
 ghost use Rattle.std.specs.Prelude.{◌≡◌, ◌≢◌, ◌<◌, ◌≤◌, ◌++◌, ℕ, [], length, take, IfOk, IfErr, OnErr};
 ghost use Rattle.std.specs.Io.KnownBytes.{Appends, Keeps};
 ghost use Rattle.wire.specs.Reply.{fixed_bytes, fixed_status, reply_bytes};
+ghost use Rattle.engine.specs.Reply.{page_bytes, page_status};
 ghost use Rattle.engine.specs.Served.{closing_bytes, closing_status};
 ghost use Rattle.engine.specs.Turn.{Delivers};
 ghost use Rattle.engine.specs.Written.{Writes};
 
 use crate::fault::Io;
+use crate::page::Page;
 use crate::read::TRIES;
 use std::io::{ErrorKind, Write};
 use wire::reply::{Fixed, Kind, Status};
@@ -52,7 +54,7 @@ fn write_both<W: Write>(writer: &mut W, first: &[u8], second: &[u8]) -> Result<(
 }
 
 /// Writes a fixed reply, with no memory, and answers its status.
-pub(crate) fn write_fixed<W: Write>(writer: &mut W, answer: Fixed) -> Result<Status, Io>
+fn write_fixed<W: Write>(writer: &mut W, answer: Fixed) -> Result<Status, Io>
     ensures bytes { Writes (W.contents writer.old) (W.contents writer.new) (fixed_bytes answer) result }
     ensures status { IfOk result (λ status. status ≡ fixed_status answer) }
 {
@@ -63,7 +65,7 @@ pub(crate) fn write_fixed<W: Write>(writer: &mut W, answer: Fixed) -> Result<Sta
 }
 
 /// Writes a 200 with a body, with no memory and no copy of the body, and answers its status.
-pub(crate) fn write_body<W: Write>(writer: &mut W, kind: Kind, body: &[u8]) -> Result<Status, Io>
+fn write_body<W: Write>(writer: &mut W, kind: Kind, body: &[u8]) -> Result<Status, Io>
     ensures bytes { Writes (W.contents writer.old) (W.contents writer.new) (reply_bytes Status.Ok kind body.now) result }
     ensures status { IfOk result (λ status. status ≡ Status.Ok) }
 {
@@ -71,6 +73,17 @@ pub(crate) fn write_body<W: Write>(writer: &mut W, kind: Kind, body: &[u8]) -> R
     let len = put_head(kind, body.len(), &mut buf);
     write_both(writer, &buf[..len], body)?;
     Ok(Status::Ok)
+}
+
+/// Writes a reply, with no memory, and answers its status.
+pub(crate) fn write_page<W: Write>(writer: &mut W, page: &Page) -> Result<Status, Io>
+    ensures bytes { Writes (W.contents writer.old) (W.contents writer.new) (page_bytes page.now) result }
+    ensures status { IfOk result (λ status. status ≡ page_status page.now) }
+{
+    match page {
+        Page::Fixed(answer) => write_fixed(writer, *answer),
+        Page::Body(kind, body) => write_body(writer, *kind, body.as_slice()),
+    }
 }
 
 /// Flushes what was written.

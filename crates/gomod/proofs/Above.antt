@@ -1,18 +1,18 @@
 -- The lines above a line: what is computed of them is what their directives are and mean.
-use Rattle.std.proofs.Common.{◌≡◌, ℕ, suc, zero, ◌+◌, ◌<◌, ◌≤◌, Bool, true, false, ◌&&◌, cond, List, [], ◌∷◌, ◌++◌, map, filter, length, refl, ap, sym, ◌∙◌, subst, arith, append_assoc, append-nil, Option, Some, None, Result, Ok, Err, ◌⊎◌, inl, inr, ⊎_elim}
-use Rattle.std.specs.List.{flat_map, list_all, list_any}
+use Rattle.std.proofs.Common.{◌≡◌, ℕ, suc, zero, ◌+◌, Bool, true, false, ◌&&◌, cond, List, [], ◌∷◌, ◌++◌, map, length, refl, ap, sym, ◌∙◌, subst, arith, append_assoc, append-nil, Option, Some, None, Ok, Err, ◌⊎◌, inl, inr, ⊎_elim}
+use Rattle.std.specs.List.{flat_map, list_all}
 use Rattle.std.proofs.lemmas.Bool.{cases_Bool, or_parts}
 use Rattle.gomod.specs.declared.keyword.Keyword.{Keyword}
 use Rattle.gomod.specs.declared.keyword.Keyword.TheVariants.{Module, Require, Retract}
 use Rattle.gomod.specs.declared.fault.GoModFault.{GoModFault}
 use Rattle.gomod.specs.Lexer.{Lexeme}
 use Rattle.gomod.specs.Tokens.{AreTokens, AreTokensOf}
-use Rattle.gomod.specs.Symbols.{Symbol, symbol_of, Keywords, is_module}
+use Rattle.gomod.specs.Symbols.{symbol_of, Keywords, is_module}
 use Rattle.gomod.specs.Entries.{IsModuleEntry, IsPair}
-use Rattle.gomod.specs.Grammar.{Row, row, rows_from, Directive, one, block, OpenBlock, keyword_of, keywords_in, Item, item, items_of, items, is_keyword, entries_under, rows_of, rows_of_open, AreWritten}
+use Rattle.gomod.specs.Grammar.{Row, row, Directive, one, block, OpenBlock, keyword_of, keywords_in, Item, item, items_of, items, is_keyword, entries_under, rows_of, rows_of_open, AreWritten}
 use Rattle.gomod.specs.Reads.{Pointwise, rows_of_tokens}
 use Rattle.gomod.specs.Faults.{AreRead, HasFirstFault}
-use Rattle.gomod.specs.Reading.{Context, Parts, nothing, at_start, last_path, ◌⊕◌, ◌>>=◌, line_says, bytes_say, lines_say}
+use Rattle.gomod.specs.Reading.{Context, Parts, nothing, at_start, last_path, ◌⊕◌, ◌>>=◌, bytes_say, lines_say}
 use Rattle.gomod.proofs.Steps.{bound, fails, ok_same}
 use Rattle.gomod.proofs.Lists.{pointwise-append, last_of, empty_list, length-join}
 use Rattle.gomod.proofs.Moves.{Move, blank, single, begins, inside, closes, IsFresh, keywords_more, items_more, keywords_in-move, items-move}
@@ -21,7 +21,7 @@ use Rattle.gomod.proofs.Unwritten.{written-back}
 use Rattle.gomod.proofs.Contexts.{context_at, stands, IsAlone, module_same, written-alone}
 use Rattle.gomod.proofs.EntryMeaning.{IsPlaced, AreMeant, path_list}
 use Rattle.gomod.proofs.LineLaw.{Says, move_says, says_move}
-use Rattle.gomod.proofs.LineTokens.{moved, tokens_plain, bytes_ok, bytes_say-tokens, bytes_fault}
+use Rattle.gomod.proofs.LineTokens.{tokens_plain, bytes_ok, bytes_say-tokens, bytes_fault}
 use Rattle.gomod.proofs.Appends.{joined, lines_say-append, place_behind, tokens_of-append, tokens_of-length, tokens_of-last, rows_of-append}
 use Rattle.gomod.proofs.Pass.{join_assoc, join_nothing}
 

@@ -1,12 +1,12 @@
 -- What stands above a line, by its directives.
-use Rattle.std.proofs.Common.{◌≡◌, ℕ, ◌+◌, ◌<◌, ◌≤◌, Bool, true, false, not, ◌&&◌, ◌||◌, List, [], ◌∷◌, ◌++◌, map, filter, length, refl, ap, sym, ◌∙◌, arith, append-nil, Option, Some, None, ◌⊎◌, inl, inr, ⊎_elim}
+use Rattle.std.proofs.Common.{◌≡◌, ℕ, ◌<◌, ◌≤◌, Bool, true, false, not, ◌&&◌, ◌||◌, List, [], ◌∷◌, ◌++◌, map, filter, length, refl, ap, sym, ◌∙◌, arith, Option, Some, None}
 use Rattle.std.specs.List.{list_any}
 use Rattle.std.proofs.lemmas.List.Folds.{list_any-append}
 use Rattle.gomod.specs.declared.keyword.Keyword.{Keyword}
 use Rattle.gomod.specs.declared.keyword.Keyword.TheVariants.{Module, Go, Require, Exclude, Replace, Retract}
 use Rattle.gomod.specs.Symbols.{Keywords, is_module, is_go, has_block}
 use Rattle.gomod.specs.Reading.{Context, has_stood, with_entry}
-use Rattle.gomod.specs.Grammar.{Row, Directive, OpenBlock, keyword_of, keywords_in, is_keyword, is_single, AreWritten, IsOpenBlock}
+use Rattle.gomod.specs.Grammar.{Row, Directive, OpenBlock, keyword_of, is_keyword, is_single, AreWritten}
 use Rattle.gomod.specs.Faults.{HasRoom, IsFilled}
 use Rattle.gomod.proofs.Lists.{map-join, filter-join, none-any, length-join}
 use Rattle.gomod.proofs.Moves.{IsFresh, closed, with_row}

@@ -1,5 +1,5 @@
 -- What an entry asks of its words, computed.
-use Rattle.std.proofs.Common.{◌≡◌, ℕ, Bool, true, false, not, ◌&&◌, cond, List, [], ◌∷◌, ◌++◌, refl, ap, sym, ◌∙◌, Option, Some, None, Result, Ok, Err, ◌⊎◌, inl, inr, ⊎_elim}
+use Rattle.std.proofs.Common.{◌≡◌, ℕ, Bool, true, false, not, cond, List, [], ◌∷◌, ◌++◌, refl, ap, ◌∙◌, Option, Some, None, Result, Ok, Err, ⊎_elim}
 use Rattle.std.specs.Option.{is_some}
 use Rattle.std.specs.List.{AllByRecursion}
 use Rattle.std.proofs.lemmas.Bool.{not-true, both_ways, false_from_ne_true, not_from_false}
@@ -9,7 +9,7 @@ use Rattle.gomod.specs.Paths.{Version, is_path, is_loose_path, version_of, fits_
 use Rattle.gomod.specs.GoVersion.{is_go_version, is_file_path}
 use Rattle.gomod.specs.Entries.{Demand, module_path, loose_path, file_path, go_version, version, fitting_version, interval, IsMet, fault_of, FailsFirst}
 use Rattle.gomod.proofs.Orders.{is_below-true, is_below-from}
-use Rattle.gomod.proofs.Steps.{chosen, ok_err}
+use Rattle.gomod.proofs.Steps.{chosen}
 
 -- the test of a demand
 abbrev pub fits_some : List ℕ → Option Version → Bool

@@ -1,22 +1,20 @@
 -- What is computed of an entry is what its shape asks, and what its words stand for.
-use Rattle.std.proofs.Common.{◌≡◌, ℕ, Bool, true, false, not, ◌&&◌, cond, List, [], ◌∷◌, ◌++◌, refl, ap, sym, ◌∙◌, subst, Option, Some, None, Result, Ok, Err, ◌⊎◌, inl, inr, ⊎_elim}
+use Rattle.std.proofs.Common.{◌≡◌, ℕ, Bool, true, false, not, cond, List, [], ◌∷◌, ◌++◌, refl, ap, sym, ◌∙◌, Option, Some, None, Result, Ok, Err}
 use Rattle.std.specs.Option.{is_some}
-use Rattle.gomod.specs.declared.lexer.Kind.{Kind}
 use Rattle.gomod.specs.declared.keyword.Keyword.{Keyword}
 use Rattle.gomod.specs.declared.keyword.Keyword.TheVariants.{Module, Go, Require, Exclude, Replace, Retract}
 use Rattle.gomod.specs.declared.fault.GoModFault.{GoModFault}
 use Rattle.gomod.specs.declared.fault.GoModFault.TheVariants as faults
 use Rattle.gomod.specs.declared.entries.Retraction.{Retraction}
-use Rattle.gomod.specs.Paths.{Version, is_path, is_loose_path, version_of, fits_path, is_below, IsBelow}
+use Rattle.gomod.specs.Paths.{Version, is_path, is_loose_path, version_of, fits_path, is_below}
 use Rattle.gomod.specs.GoVersion.{is_go_version, is_file_path}
-use Rattle.gomod.specs.Symbols.{Symbol, is_word, is_arrow_kind, is_word_kind}
+use Rattle.gomod.specs.Symbols.{Symbol}
 use Rattle.gomod.specs.Words.{value_of}
-use Rattle.gomod.specs.Reading.{Parts, ◌>>=◌, version_found, path_word, version_word, fitting_word, pair, old_path, old_version, new_file, new_version, module_entry, go_entry, pair_entry, replace_entry, replace_three, replace_four, replace_five, interval, retract_entry, are_interval_kinds, entry}
+use Rattle.gomod.specs.Reading.{◌>>=◌, version_found, path_word, version_word, fitting_word, pair, old_path, old_version, new_file, new_version, module_entry, go_entry, pair_entry, replace_entry, replace_three, replace_four, replace_five, interval, retract_entry, entry}
 use Rattle.gomod.specs.Entries.{Demand, fault_of, old_demands, old_version_demands, new_file_demands, new_version_demands}
 use Rattle.gomod.specs.Entries as asks
 use Rattle.gomod.proofs.Demands.{meets, fits_some, not_above, check, outcome}
 use Rattle.gomod.proofs.Shapes.{when, demands_of}
-use Rattle.gomod.proofs.Steps.{chosen, bound}
 
 -- whether a step fails, and how
 abbrev pub success : {A : Type 0} → Result A GoModFault → Result (Unit {0}) GoModFault

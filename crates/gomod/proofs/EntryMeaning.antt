@@ -1,9 +1,7 @@
 -- What is computed of an entry is what its words stand for.
-use Rattle.std.proofs.Common.{◌≡◌, ℕ, Bool, true, ◌&&◌, cond, List, [], ◌∷◌, refl, ap, sym, ◌∙◌, subst, Option, Some, None, Result, Ok, Err, ◌⊎◌, inl, inr, ⊎_elim}
-use Rattle.gomod.specs.declared.lexer.Kind.{Kind}
+use Rattle.std.proofs.Common.{◌≡◌, ℕ, Bool, true, ◌&&◌, cond, List, [], ◌∷◌, refl, ap, sym, ◌∙◌, subst, Option, Some, None, Ok, Err, inl, inr, ⊎_elim}
 use Rattle.gomod.specs.declared.keyword.Keyword.{Keyword}
 use Rattle.gomod.specs.declared.keyword.Keyword.TheVariants.{Module, Go, Require, Exclude, Replace, Retract}
-use Rattle.gomod.specs.declared.fault.GoModFault.{GoModFault}
 use Rattle.gomod.specs.declared.fault.GoModFault.TheVariants as faults
 use Rattle.gomod.specs.declared.entries.Requirement.{Requirement}
 use Rattle.gomod.specs.declared.entries.Retraction.{Retraction}
@@ -12,7 +10,7 @@ use Rattle.gomod.specs.Symbols.{Symbol, is_word}
 use Rattle.gomod.specs.Words.{value_of}
 use Rattle.gomod.specs.Module.{interval_of}
 use Rattle.gomod.specs.Reading.{Parts, nothing, ◌>>=◌, version_found, path_word, version_word, fitting_word, pair, module_entry, go_entry, pair_entry, replace_entry, interval, retract_entry, are_interval_kinds, entry}
-use Rattle.gomod.specs.Entries.{IsModuleEntry, IsPair, IsSpan, IsVersionOf}
+use Rattle.gomod.specs.Entries.{IsModuleEntry, IsPair, IsSpan}
 use Rattle.gomod.specs.Grammar.{Row, row, Item, item, entries_under}
 use Rattle.gomod.specs.Reads.{Pointwise}
 use Rattle.gomod.proofs.Steps.{chosen, guarded, bound, ok_same}

@@ -1,8 +1,7 @@
 -- What is computed of a file is what it says by the grammar, and its fault is its first.
-use Rattle.std.proofs.Common.{◌≡◌, ℕ, suc, zero, ◌+◌, ◌<◌, ◌≤◌, Bool, true, false, ◌&&◌, ◌||◌, cond, List, [], ◌∷◌, ◌++◌, map, filter, length, refl, ap, sym, ◌∙◌, subst, arith, append-nil, Option, Some, None, Result, Ok, Err, ◌⊎◌, inl, inr, ⊎_elim, ◌↔◌, IsUtf8}
-use Rattle.std.specs.Option.{is_some}
+use Rattle.std.proofs.Common.{◌≡◌, ℕ, ◌+◌, ◌<◌, Bool, true, false, ◌&&◌, ◌||◌, List, [], ◌∷◌, ◌++◌, map, filter, length, refl, ap, sym, ◌∙◌, subst, arith, append-nil, Option, Some, None, Ok, Err, inl, inr, ⊎_elim, ◌↔◌, IsUtf8}
 use Rattle.std.specs.Str.{is_utf8}
-use Rattle.std.specs.List.{flat_map, list_all, list_any, AllByRecursion}
+use Rattle.std.specs.List.{flat_map, list_all, AllByRecursion}
 use Rattle.std.proofs.lemmas.Bool.{cases_Bool, and_parts, and_from, both_ways, false_from_ne_true}
 use Rattle.std.proofs.lemmas.Str.{IsUtf8-from_is_utf8, is_utf8-from_IsUtf8}
 use Rattle.gomod.specs.declared.keyword.Keyword.{Keyword}
@@ -19,17 +18,16 @@ use Rattle.gomod.specs.Module.{GoModule, Interval, interval_of}
 use Rattle.gomod.specs.Entries.{IsModuleEntry, IsPair, IsSpan, IsVersionOf}
 use Rattle.gomod.specs.Grammar.{Row, Directive, OpenBlock, Item, items_of, keyword_of, keywords_in, items, is_keyword, entries_under, AreWritten}
 use Rattle.gomod.specs.Reads.{Pointwise, FitsPath, Reads, rows_of_tokens}
-use Rattle.gomod.specs.Faults.{AreRead, HasFirstFault, HasLastFault, IsFirstUnfit, IsLastFault, Faulty}
+use Rattle.gomod.specs.Faults.{HasFirstFault, IsFirstUnfit, IsLastFault, Faulty}
 use Rattle.gomod.specs.FileLaws.{ReadsOrIsFaulty}
 use Rattle.gomod.specs.Reading.{Context, Parts, nothing, at_start, ◌⊕◌, ◌>>=◌, bytes_say, lines_say, fits_retraction, first_unfit, fitting_module, module_of, file_says, text_says, reading}
 use Rattle.gomod.proofs.Steps.{chosen, bound, fails, ok_same, err_same, ok_err, ok_or_err}
-use Rattle.gomod.proofs.Lists.{none-any}
 use Rattle.gomod.proofs.Contexts.{context_at, stands, module_same, written-alone}
 use Rattle.gomod.proofs.EntryMeaning.{IsPlaced, AreMeant, path_list}
 use Rattle.gomod.proofs.LineTokens.{fault_bytes}
 use Rattle.gomod.proofs.Appends.{joined, lines_say-append}
 use Rattle.gomod.proofs.Pass.{join_start}
-use Rattle.gomod.proofs.Above.{Above, above_start, above_lines, above_fault, Next, Computed, computed, none_entries}
+use Rattle.gomod.proofs.Above.{Above, above_start, above_lines, above_fault, Next, computed, none_entries}
 
 -- ---- what entries stand for is determined
 

@@ -1,13 +1,12 @@
 -- The test of a Go version passes just those that are ones by their parts.
-use Rattle.std.proofs.Common.{◌≡◌, ◌↔◌, ℕ, zero, suc, ◌+◌, ◌<◌, ◌≤◌, Bool, true, false, ◌&&◌, ◌||◌, ◌==◌, cond, List, [], ◌∷◌, ◌++◌, length, take, drop, codes, arith, add-one, refl, ap, sym, ◌∙◌, subst, append_assoc, length-append, ◌⊎◌, inl, inr, ⊎_elim, nat_eq, rules, tests}
+use Rattle.std.proofs.Common.{◌≡◌, ◌↔◌, ℕ, zero, suc, ◌+◌, ◌<◌, true, false, ◌==◌, List, [], ◌∷◌, ◌++◌, length, take, drop, codes, arith, add-one, refl, ap, sym, ◌∙◌, subst, append_assoc, length-append, inl, inr, ⊎_elim, nat_eq, rules, tests}
 use Rattle.std.specs.List.{list_all, starts_with}
 use Rattle.std.specs.Char.{is_ascii_digit}
-use Rattle.std.specs.Str.{bytes_eq}
 use Rattle.std.proofs.lemmas.Slice.Eq.{bytes_eq-Decides}
 use Rattle.std.proofs.lemmas.List.{take_at, drop_at}
 use Rattle.std.proofs.lemmas.Bool.{and_parts, and_from, or_cases, cases_Bool, ltb-true, lt-ltb, eqb-true}
 use Rattle.gomod.specs.GoVersion.{is_decimal, is_tail, is_minor, digits_len, dot_at, is_go_version}
-use Rattle.gomod.specs.GoVersions.{IsDecimal, IsTail, IsGoVersion}
+use Rattle.gomod.specs.GoVersions.{IsTail, IsGoVersion}
 
 split_at : (n : ℕ) (xs : List ℕ) → take n xs ++ drop n xs ≡ xs
 split_at zero [] = refl

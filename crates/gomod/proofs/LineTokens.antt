@@ -1,8 +1,7 @@
 -- The tokens of a line do not depend on where the line stands, but for their places.
-use Rattle.std.proofs.Common.{◌≡◌, ℕ, zero, suc, ◌+◌, ◌-◌, take, Bool, true, false, List, [], ◌∷◌, ◌++◌, map, length, refl, ap, sym, ◌∙◌, subst, arith, Option, Some, None, Result, Ok, Err, codes, ◌⊎◌, inl, inr, ⊎_elim}
+use Rattle.std.proofs.Common.{◌≡◌, ℕ, zero, suc, ◌+◌, ◌-◌, take, List, [], ◌∷◌, map, length, refl, ap, sym, ◌∙◌, subst, arith, Option, Some, None, Result, Ok, Err, ◌⊎◌, inl, inr, ⊎_elim}
 use Rattle.std.specs.List.{AllByRecursion}
 use Rattle.gomod.specs.declared.lexer.Kind.{Kind}
-use Rattle.gomod.specs.declared.lexer.Kind.TheVariants as kinds
 use Rattle.gomod.specs.declared.lexer.TokenFault.{TokenFault}
 use Rattle.gomod.specs.declared.lexer.TokenFault.TheVariants as token_faults
 use Rattle.gomod.specs.declared.fault.GoModFault.{GoModFault}
@@ -10,7 +9,7 @@ use Rattle.gomod.specs.declared.fault.GoModFault.TheVariants as faults
 use Rattle.gomod.specs.Bytes.{is_blank, is_slash_and}
 use Rattle.gomod.specs.Lexer.{Lexeme, lexeme, lexeme_at, line_tokens, tokens_behind, tokens_then}
 use Rattle.gomod.specs.Tokens.{AreTokens, IsLexeme}
-use Rattle.gomod.specs.Symbols.{Symbol, symbol_of, Keywords}
+use Rattle.gomod.specs.Symbols.{symbol_of, Keywords}
 use Rattle.gomod.specs.Reading.{Context, Parts, ◌>>=◌, as_reader, line_says, bytes_say}
 use Rattle.gomod.specs.Grammar.{Directive, OpenBlock}
 use Rattle.gomod.specs.Faults.{IsLineFault}

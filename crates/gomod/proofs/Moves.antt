@@ -1,12 +1,12 @@
 -- One line more: how the directives of the lines above go on.
-use Rattle.std.proofs.Common.{◌≡◌, ℕ, ◌+◌, ◌<◌, ◌≤◌, Bool, true, false, List, [], ◌∷◌, ◌++◌, map, filter, length, refl, ap, sym, ◌∙◌, subst, arith, append_assoc, append-nil, Option, Some, None, ◌⊎◌, inl, inr, ⊎_elim}
-use Rattle.std.specs.List.{flat_map, AllByRecursion, list_any}
+use Rattle.std.proofs.Common.{◌≡◌, ℕ, true, false, List, [], ◌∷◌, ◌++◌, map, filter, ap, sym, ◌∙◌, append_assoc, append-nil, Option, Some, None}
+use Rattle.std.specs.List.{flat_map, list_any}
 use Rattle.gomod.specs.declared.keyword.Keyword.{Keyword}
-use Rattle.gomod.specs.Symbols.{Symbol, Keywords, is_module, has_block}
+use Rattle.gomod.specs.Symbols.{Symbol, Keywords, has_block}
 use Rattle.gomod.specs.Entries.{IsRight}
-use Rattle.gomod.specs.Grammar.{Row, row, rows_from, has_any, has_symbols, keyword_symbol, left, right, Directive, one, block, OpenBlock, opening, closing, rows_of, rows_of_open, keyword_of, keyword_of_open, keywords_in, Item, item, items_of, items_of_open, items, is_keyword, is_single, IsKnown, IsBlock, IsOpenBlock, AreWritten}
+use Rattle.gomod.specs.Grammar.{Row, row, has_symbols, keyword_symbol, Directive, one, block, OpenBlock, opening, closing, rows_of, rows_of_open, keyword_of, keywords_in, Item, item, items_of, items, is_keyword, is_single, IsKnown}
 use Rattle.gomod.specs.Faults.{HasRoom, IsFilled}
-use Rattle.gomod.proofs.Lists.{all-append, all-front, all-back, map-join, flat_map-join, filter-join, last_of, last_same, any-none, none-any}
+use Rattle.gomod.proofs.Lists.{map-join, flat_map-join}
 
 -- an open block with one entry more
 abbrev pub with_row : OpenBlock → Row → OpenBlock

@@ -1,23 +1,23 @@
 -- A line has one fault at most, and none where it reads.
-use Rattle.std.proofs.Common.{◌≡◌, ℕ, Bool, true, false, List, [], ◌∷◌, ◌++◌, refl, ap, sym, ◌∙◌, subst, Option, Some, None, Result, Ok, Err, ◌⊎◌, inl, inr, ⊎_elim}
+use Rattle.std.proofs.Common.{◌≡◌, ℕ, true, List, [], ◌∷◌, refl, ap, sym, ◌∙◌, subst, Option, Some, None, Err, ◌⊎◌, inl, inr, ⊎_elim}
 use Rattle.std.specs.List.{AllByRecursion}
 use Rattle.std.proofs.lemmas.Bool.{both_ways}
 use Rattle.gomod.specs.declared.keyword.Keyword.{Keyword}
 use Rattle.gomod.specs.declared.keyword.Keyword.TheVariants.{Module, Go, Require, Exclude, Replace, Retract}
 use Rattle.gomod.specs.declared.fault.GoModFault.{GoModFault}
 use Rattle.gomod.specs.declared.fault.GoModFault.TheVariants as faults
-use Rattle.gomod.specs.Symbols.{Symbol, Keywords, keyword_named}
-use Rattle.gomod.specs.Reading.{Context, Parts, is_opening, is_closing, line_says}
+use Rattle.gomod.specs.Symbols.{Symbol, Keywords}
+use Rattle.gomod.specs.Reading.{line_says}
 use Rattle.gomod.specs.Entries.{Demand, IsMet, IsRight, HasShape, FailsFirst, fault_of}
-use Rattle.gomod.specs.Grammar.{Row, row, keyword_symbol, left, right, Directive, OpenBlock, opening, IsKnown, is_single}
-use Rattle.gomod.specs.Faults.{IsKeyword, IsUnknown, IsRepeated, Asks, Delimits, IsAllowed, IsRowFault}
-use Rattle.gomod.proofs.Steps.{ok_or_err, err_same, ok_err}
+use Rattle.gomod.specs.Grammar.{Row, keyword_symbol, left, right, Directive, OpenBlock, IsKnown, is_single}
+use Rattle.gomod.specs.Faults.{IsUnknown, IsRepeated, Asks, IsAllowed, IsRowFault}
+use Rattle.gomod.proofs.Steps.{ok_or_err, err_same}
 use Rattle.gomod.proofs.Demands.{check, check-all, check-first}
-use Rattle.gomod.proofs.Shapes.{demands_of, demands-from_shape}
+use Rattle.gomod.proofs.Shapes.{demands-from_shape}
 use Rattle.gomod.proofs.Moves.{Move, blank, single, begins, inside, closes, IsFresh}
 use Rattle.gomod.proofs.EntryRight.{shape_same, shape_no_opening, shape_no_closing}
 use Rattle.gomod.proofs.Contexts.{context_at, stands, IsAlone}
-use Rattle.gomod.proofs.LineLaw.{IsPlain, Moves, says_move}
+use Rattle.gomod.proofs.LineLaw.{IsPlain, says_move}
 use Rattle.gomod.proofs.RowFaults.{keyword_name, keyword_same, says_fault}
 
 -- ---- at most one

@@ -1,5 +1,5 @@
 -- The test whether one version is below another decides it, and the version of a text is that which modver reads.
-use Rattle.std.proofs.Common.{◌≡◌, ℕ, true, refl, ap, ◌∙◌, List, Option, Some, None, Ok, Err, ◌⊎◌, ⊎_elim}
+use Rattle.std.proofs.Common.{◌≡◌, ℕ, true, refl, ap, List, Option, Some, None, Ok, Err, ◌⊎◌, ⊎_elim}
 use Rattle.std.specs.Ordering.{is_lt}
 use Rattle.std.specs.declared.cmp.Ordering.{Ordering}
 use Rattle.std.specs.declared.cmp.Ordering.TheVariants.{Less, Equal, Greater}
@@ -8,7 +8,6 @@ use Rattle.modver.specs.Reading.{IsCanonical, IsFault, IsHeld}
 use Rattle.modver.specs.declared.version.VersionFault.{VersionFault}
 use Rattle.modver.specs.declared.version.VersionFault.TheVariants as version_faults
 use Rattle.modver.proofs.Readings as modver
-use Rattle.gomod.specs.declared.fault.GoModFault.{GoModFault}
 use Rattle.gomod.specs.declared.fault.GoModFault.TheVariants as faults
 use Rattle.gomod.specs.Paths.{Version, is_below, IsBelow, version_of}
 use Rattle.gomod.specs.Reading.{Fails, version_fault, version_found}

@@ -1,9 +1,9 @@
 -- The test whether a version is retracted decides it.
-use Rattle.std.proofs.Common.{◌≡◌, Bool, true, false, not, List, [], ◌∷◌, map, refl, ap, ◌||◌, ◌↔◌}
+use Rattle.std.proofs.Common.{◌≡◌, Bool, true, List, [], ◌∷◌, map, refl, ap, ◌||◌, ◌↔◌}
 use Rattle.std.specs.List.{list_any}
 use Rattle.std.proofs.lemmas.Bool.{and_parts, and_from, not-true, not_from_false, false_from_ne_true, both_ways}
 use Rattle.std.proofs.lemmas.List.Folds.{Any-from_list_any, list_any-from_Any}
-use Rattle.gomod.specs.Paths.{Version, is_below, IsBelow}
+use Rattle.gomod.specs.Paths.{Version}
 use Rattle.gomod.specs.Module.{Interval, GoModule, covers, Covers, is_retracted, IsRetracted}
 use Rattle.gomod.proofs.Orders.{is_below-true, is_below-from}
 

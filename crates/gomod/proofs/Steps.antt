@@ -1,5 +1,5 @@
 -- Chains of steps that may fail, and tests, taken apart.
-use Rattle.std.proofs.Common.{◌≡◌, ℕ, Bool, true, false, cond, refl, Option, Some, None, Result, Ok, Err, ◌⊎◌, inl, inr, ap}
+use Rattle.std.proofs.Common.{◌≡◌, Bool, true, false, cond, refl, Result, Ok, Err, ◌⊎◌, inl, inr, ap}
 use Rattle.gomod.specs.declared.fault.GoModFault.{GoModFault}
 use Rattle.gomod.specs.Reading.{◌>>=◌}
 

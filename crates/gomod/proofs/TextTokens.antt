@@ -1,15 +1,14 @@
 -- The tokens of a text: those of its lines, in order, each with its slice of the text.
-use Rattle.std.proofs.Common.{◌≡◌, ℕ, zero, suc, ◌+◌, ◌-◌, ◌<◌, ◌≤◌, Bool, true, false, ◌==◌, cond, List, [], ◌∷◌, ◌++◌, length, take, drop, arith, refl, ap, sym, ◌∙◌, subst, append_assoc, append-nil, length-append, Option, Some, None, Result, Ok, Err, ◌⊎◌, inl, inr, ⊎_elim, ◌↔◌, slice_range, rules, tests}
+use Rattle.std.proofs.Common.{◌≡◌, ℕ, ◌+◌, ◌-◌, ◌<◌, ◌≤◌, true, ◌==◌, List, [], ◌∷◌, ◌++◌, length, take, arith, refl, ap, sym, ◌∙◌, subst, append_assoc, append-nil, length-append, Result, Ok, Err, ⊎_elim, ◌↔◌, slice_range, rules, tests}
 use Rattle.std.specs.List.{flat_map}
 use Rattle.std.proofs.lemmas.List.{take_at, drop_at}
 use Rattle.std.proofs.lemmas.Bool.{cases_Bool}
 use Rattle.gomod.specs.declared.lexer.TokenFault.{TokenFault}
 use Rattle.gomod.specs.declared.lexer.TokenFault.TheVariants as faults
 use Rattle.gomod.specs.Lines.{onto_first, lines}
-use Rattle.gomod.specs.Lexer.{Lexeme, lexeme, tokens_then, line_tokens, lines_tokens, text_tokens}
+use Rattle.gomod.specs.Lexer.{Lexeme, tokens_then, line_tokens, lines_tokens, text_tokens}
 use Rattle.gomod.specs.Tokens.{AreTokens, AreTokensOf, AreTextTokens, IsFirstWithout, AreInOrder}
 use Rattle.gomod.proofs.TokenLaw.{tokens_behind-all, lexeme_begins}
-use Rattle.gomod.proofs.TokenSound.{tokens_behind-sound}
 use Rattle.gomod.proofs.LineTokens.{tokens_are, tokens_fault, moved}
 
 abbrev all_of : List (List Lexeme) → List Lexeme

@@ -1,13 +1,12 @@
 -- The lines before the last one, and what the last one made of them.
-use Rattle.std.proofs.Common.{◌≡◌, ℕ, ◌+◌, ◌<◌, ◌≤◌, Bool, true, false, cond, List, [], ◌∷◌, ◌++◌, map, filter, length, refl, ap, sym, ◌∙◌, subst, arith, append_assoc, append-nil, Option, Some, None, ◌⊎◌, inl, inr, ⊎_elim}
-use Rattle.std.specs.List.{flat_map, AllByRecursion, list_any}
+use Rattle.std.proofs.Common.{◌≡◌, ℕ, ◌≤◌, true, List, [], ◌∷◌, ◌++◌, map, filter, length, refl, ap, sym, ◌∙◌, subst, arith, append_assoc, append-nil, Option, Some, None, ⊎_elim}
+use Rattle.std.specs.List.{flat_map, AllByRecursion}
 use Rattle.gomod.specs.declared.keyword.Keyword.{Keyword}
-use Rattle.gomod.specs.Symbols.{Symbol, Keywords, is_module, has_block}
+use Rattle.gomod.specs.Symbols.{Symbol, Keywords}
 use Rattle.gomod.specs.Entries.{IsRight}
-use Rattle.gomod.specs.Grammar.{Row, row, has_symbols, keyword_symbol, Directive, one, block, OpenBlock, opening, closing, rows_of, rows_of_open, keyword_of, keywords_in, Item, item, items_of, items, is_keyword, is_single, IsKnown, IsBlock, IsOpenBlock, AreWritten}
-use Rattle.gomod.specs.Faults.{HasRoom, IsFilled}
-use Rattle.gomod.proofs.Lists.{all-append, all-front, all-back, map-join, flat_map-join, filter-join, last_of, last_same, any-none, none-any, empty_list, length-join}
-use Rattle.gomod.proofs.Moves.{Move, blank, single, begins, inside, closes, with_row, closed, IsFresh, keywords_more, items_more, keywords_in-move, items-move, rows-move, keywords_in-single, items-single, items-inside}
+use Rattle.gomod.specs.Grammar.{Row, row, has_symbols, keyword_symbol, Directive, one, block, OpenBlock, opening, closing, rows_of, rows_of_open, keyword_of, keywords_in, item, items, is_keyword, is_single, IsKnown, IsBlock, IsOpenBlock, AreWritten}
+use Rattle.gomod.proofs.Lists.{all-front, all-back, flat_map-join, filter-join, last_of, last_same, none-any, empty_list, length-join}
+use Rattle.gomod.proofs.Moves.{Move, blank, single, begins, inside, closes, with_row, closed, IsFresh, keywords_more, items_more, keywords_in-move, items-move, keywords_in-single, items-single, items-inside}
 use Rattle.gomod.proofs.Written.{is_keyword-itself}
 
 -- the directives above a last line, and its move

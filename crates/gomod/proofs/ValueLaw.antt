@@ -1,12 +1,11 @@
 -- The value that is computed of a token is the one that it stands for.
-use Rattle.std.proofs.Common.{◌≡◌, ◌≢◌, ◌↔◌, ℕ, ◌+◌, Bool, true, false, ◌==◌, cond, List, [], ◌∷◌, ◌++◌, length, refl, ap, sym, ◌∙◌, subst, MatchBool, rules, tests}
+use Rattle.std.proofs.Common.{◌≡◌, ◌↔◌, ℕ, ◌+◌, Bool, true, false, ◌==◌, cond, List, [], ◌∷◌, ◌++◌, length, refl, ap, sym, ◌∙◌, subst, MatchBool, rules, tests}
 use Rattle.std.specs.List.{AllByRecursion}
 use Rattle.gomod.specs.declared.lexer.Kind.{Kind}
 use Rattle.gomod.specs.declared.lexer.Kind.TheVariants.{Name, Quoted, Raw, Arrow, Comma, ParenLeft, ParenRight, BracketLeft, BracketRight}
 use Rattle.gomod.specs.Bytes.{is_string_byte}
 use Rattle.gomod.specs.Lexer.{Lexeme}
-use Rattle.gomod.specs.Tokens.{IsQuoted, IsRaw, IsLexeme, AreTokens}
-use Rattle.gomod.specs.Symbols.{symbol_of}
+use Rattle.gomod.specs.Tokens.{IsQuoted, IsLexeme, AreTokens}
 use Rattle.gomod.specs.Words.{without_last, inside, plain_text, value_of_text, value_of}
 use Rattle.gomod.specs.Values.{Spells, HasValue, ValueIsExact}
 use Rattle.gomod.proofs.WordLemmas.{without_first-there, without_last-there}

@@ -1,15 +1,13 @@
 -- The lines above a line, and what the line makes of them.
-use Rattle.std.proofs.Common.{◌≡◌, ℕ, ◌+◌, ◌<◌, ◌≤◌, Bool, true, false, cond, List, [], ◌∷◌, ◌++◌, map, filter, length, refl, ap, sym, ◌∙◌, subst, arith, append_assoc, append-nil, Option, Some, None, ◌⊎◌, inl, inr, ⊎_elim}
-use Rattle.std.specs.List.{flat_map, AllByRecursion, list_any}
-use Rattle.std.proofs.lemmas.Bool.{cases_Bool}
+use Rattle.std.proofs.Common.{◌≡◌, ◌≤◌, Bool, true, false, List, [], ◌∷◌, ◌++◌, map, filter, length, refl, ap, sym, ◌∙◌, subst, arith, append-nil, Option}
+use Rattle.std.specs.List.{AllByRecursion, list_any}
 use Rattle.gomod.specs.declared.keyword.Keyword.{Keyword}
 use Rattle.gomod.specs.declared.keyword.Keyword.TheVariants.{Module, Go, Require, Exclude, Replace, Retract}
-use Rattle.gomod.specs.Symbols.{Symbol, Keywords, is_module, has_block}
+use Rattle.gomod.specs.Symbols.{Keywords}
 use Rattle.gomod.specs.Entries.{IsRight}
-use Rattle.gomod.specs.Grammar.{Row, row, has_symbols, keyword_symbol, Directive, one, block, OpenBlock, opening, closing, rows_of, rows_of_open, keyword_of, keywords_in, Item, item, items_of, items, is_keyword, is_single, IsKnown, IsBlock, IsOpenBlock, AreWritten}
-use Rattle.gomod.specs.Faults.{HasRoom, IsFilled}
-use Rattle.gomod.proofs.Lists.{all-append, all-front, all-back, map-join, flat_map-join, filter-join, last_of, last_same, any-none, none-any, empty_list, length-join}
-use Rattle.gomod.proofs.Moves.{Move, blank, single, begins, inside, closes, with_row, closed, IsFresh, keywords_more, items_more, keywords_in-move, items-move, rows-move}
+use Rattle.gomod.specs.Grammar.{Row, row, has_symbols, Directive, one, OpenBlock, keyword_of, keywords_in, items, is_keyword, is_single, IsKnown, IsBlock, IsOpenBlock, AreWritten}
+use Rattle.gomod.proofs.Lists.{all-append, filter-join, any-none, length-join}
+use Rattle.gomod.proofs.Moves.{Move, blank, single, begins, inside, closes, closed, IsFresh, keywords_more, items_more, keywords_in-move, items-move, rows-move}
 
 pub same_keyword : (j k : Keyword) → is_keyword j k ≡ true → j ≡ k
 same_keyword Module Module h = refl

@@ -1,5 +1,5 @@
 -- What a go.mod file says by its grammar.
-use Rattle.std.specs.Prelude.{◌≡◌, ℕ, Bool, true, List, [], ◌∷◌, length, map, None, IsUtf8, ◌↔◌}
+use Rattle.std.specs.Prelude.{◌≡◌, ℕ, true, List, [], ◌∷◌, length, map, None, IsUtf8, ◌↔◌}
 use Rattle.std.specs.List.{AllByRecursion}
 use Rattle.gomod.specs.declared.keyword.Keyword.TheVariants.{Module, Require, Retract}
 use Rattle.gomod.specs.Paths.{fits_path}

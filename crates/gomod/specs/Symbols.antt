@@ -1,5 +1,5 @@
 -- The tokens of a line without their places, and the keywords among them.
-use Rattle.std.specs.Prelude.{ℕ, Bool, true, false, ◌==◌, not, List, [], ◌∷◌, map, codes, Option, Some, None, if◌then◌else◌}
+use Rattle.std.specs.Prelude.{ℕ, Bool, true, false, List, [], ◌∷◌, map, codes, Option, Some, None, if◌then◌else◌}
 use Rattle.std.specs.Str.{bytes_eq}
 use Rattle.gomod.specs.declared.lexer.Kind.{Kind}
 use Rattle.gomod.specs.declared.lexer.Kind.TheVariants as kinds

@@ -1,6 +1,5 @@
 -- What a word stands for, by its spelling.
-use Rattle.std.specs.Prelude.{◌≡◌, ◌↔◌, ℕ, ◌==◌, true, List, [], ◌∷◌, ◌++◌, MatchBool}
-use Rattle.std.specs.List.{AllByRecursion}
+use Rattle.std.specs.Prelude.{◌≡◌, ◌↔◌, ℕ, ◌==◌, List, [], ◌∷◌, ◌++◌, MatchBool}
 use Rattle.gomod.specs.declared.lexer.Kind.{Kind}
 use Rattle.gomod.specs.declared.lexer.Kind.TheVariants.{Quoted, Raw}
 use Rattle.gomod.specs.Lexer.{Lexeme}

@@ -6,7 +6,7 @@ use Rattle.std.specs.Cmp.{tied_itself}
 use Rattle.std.specs.Ordering.{is_eq}
 use Rattle.std.specs.FinMap as map
 use Rattle.std.specs.FinSet as set
-use Rattle.std.proofs.lemmas.Bool.{true≢false, false_from_ne_true, not-true}
+use Rattle.std.proofs.lemmas.Bool.{and_parts, false_from_ne_true, not-true}
 use Rattle.shelf.specs.InMemory.{in_memory}
 use Rattle.shelf.specs.Machine.{team_added, after_team_add, key_added, after_key_add}
 use Rattle.shelf.specs.Names.{begins_lower, is_lower, is_digit}
@@ -17,7 +17,6 @@ use Rattle.shelf.specs.declared.entry.Holder.{Holder}
 use Rattle.shelf.specs.declared.reply.Registered.{Registered}
 use Rattle.shelf.specs.declared.reply.Registered.TheVariants.{Done, Name, Taken, NoTeam}
 use Rattle.shelf.specs.declared.reply.StoreFault.{StoreFault}
-use Rattle.shelf.proofs.Checks.{both_true}
 use Rattle.shelf.proofs.MapsDone.{team_done, key_done}
 use Rattle.shelf.proofs.MapsAnchor.{only_common_stands, has_nothing_else}
 use Rattle.shelf.proofs.Sound.{sound}
@@ -30,7 +29,7 @@ use Rattle.goshelf.specs.Opening.{ServedFrom, opening}
 -- a team has another name than common
 not_common : (t : List ℕ) → is_team_name t ≡ true → t ≡ common → ⊥
 not_common t named =
-    let last = (both_true (nat_le (length t) 32 && begins_lower t && list_all (λ c. is_lower c || is_digit c || nat_eq c 45) t) (not (bytes_eq t common)) named).1 in
+    let last = (and_parts (nat_le (length t) 32 && begins_lower t && list_all (λ c. is_lower c || is_digit c || nat_eq c 45) t) (not (bytes_eq t common)) named).1 in
     text_apart t common (not-true (bytes_eq t common) last)
 
 is_new : (t : List ℕ) → is_team_name t ≡ true → set.contains only_common.shelves t ≡ false

@@ -1,8 +1,7 @@
 -- The computed test of what fits, by cases.
 use Rattle.std.proofs.Common.{◌≡◌, ◌≢◌, ◌⊎◌, ◌==◌, ◌&&◌, ◌||◌, ◌<◌, ◌≤◌, ℕ, List, [], ◌∷◌, Bool, true, false, not, refl, inl, inr, nat_lt}
 use Rattle.std.proofs.lemmas.Bool.{eq-eqb, eqb-true, lt-ltb, ltb-true}
-use Rattle.std.specs.Prelude.{◌↔◌, if◌then◌else◌, nat_le}
-use Rattle.modpath.specs.declared.major.Suffix.{Suffix}
+use Rattle.std.specs.Prelude.{if◌then◌else◌, nat_le}
 use Rattle.modpath.specs.declared.major.Suffix.TheVariants as suffix
 use Rattle.modver.specs.Fits.{Fits, IsZeroPreRelease, fits, has_identifiers, is_zero_pre_release}
 use Rattle.modver.specs.Laws.{FitsIsExact}

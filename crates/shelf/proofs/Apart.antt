@@ -12,18 +12,19 @@ use Rattle.shelf.specs.declared.ask.Query.{Query}
 use Rattle.shelf.specs.declared.ask.Publish.{Publish}
 use Rattle.shelf.specs.declared.ask.Ask.TheVariants.{Unreadable, Get, Put}
 use Rattle.shelf.specs.declared.ask.Event.{Event}
-use Rattle.shelf.specs.declared.ask.Event.TheVariants.{Asked, TeamAdd, KeyAdd}
+use Rattle.shelf.specs.declared.ask.Event.TheVariants.{Asked, TeamAdd, KeyAdd, KeyRevoke}
 use Rattle.shelf.specs.declared.reply.Decision.{Decision}
 use Rattle.shelf.specs.declared.reply.Decision.TheVariants.{Published}
 use Rattle.shelf.specs.declared.reply.Registered.{Registered}
-use Rattle.shelf.specs.declared.reply.Registered.TheVariants.{Done, Name, Taken, NoTeam}
+use Rattle.shelf.specs.declared.reply.Registered.TheVariants.{Done, Name, Taken, NoTeam, NoKey}
 use Rattle.shelf.specs.declared.reply.Reply.{Reply}
 use Rattle.shelf.specs.declared.reply.Reply.TheVariants as reply
 use Rattle.shelf.specs.World.{World, IsWorld, place, is_team_name, is_key}
-use Rattle.shelf.specs.Machine.{decision, keyed_reply, after_decision, stored, offered, place_of, team_added, key_added, after_team_add, after_key_add, reply_to, after}
+use Rattle.shelf.specs.Machine.{decision, keyed_reply, after_decision, stored, offered, place_of, team_added, key_added, key_revoked, after_team_add, after_key_add, after_key_revoke, reply_to, after}
 use Rattle.shelf.specs.Isolation.{is_among, is_near, is_kept}
 use Rattle.shelf.proofs.Orders.{places_total, places_exact, get_put_both, get_elsewhere}
-use Rattle.shelf.proofs.Views.{SameOn, SameSeen, decision_same, query_same}
+use Rattle.shelf.proofs.Views.{SameOn, SameSeen}
+use Rattle.shelf.proofs.Alike.{decision_same, query_same}
 use Rattle.shelf.proofs.Chains.{Reaches}
 
 pub record Agree (w x : World) (ss : List (List ℕ)) : Type 0 where
@@ -92,7 +93,7 @@ put_alike w x ss (Some h) p near stands all agree =
 
 get_alike : (w x : World) (ss : List (List ℕ)) (h : Option Holder) (q : Query) → is_near ss h ≡ true → HolderStands w h → Reaches w ss → Agree w x ss → keyed_reply w h q ≡ keyed_reply x h q
 get_alike w x ss None q near stands all agree = refl
-get_alike w x ss (Some h) q near stands all agree = query_same w x h.shelf q refl (agree_seen w x ss h.shelf agree all (stands h refl) near)
+get_alike w x ss (Some h) q near stands all agree = query_same w x h.shelf refl (agree_seen w x ss h.shelf agree all (stands h refl) near) q
 
 both_add_team : (w x : World) (ss : List (List ℕ)) (t : List ℕ) (r : Registered) → Agree w x ss → Agree (after_team_add w t r) (after_team_add x t r) ss
 both_add_team w x ss t Done agree = record { keys = agree.keys; shelves = ap (λ m. set.insert m t) agree.shelves; seen = agree.seen }
@@ -101,6 +102,10 @@ both_add_team w x ss t r agree = agree
 both_add_key : (w x : World) (ss : List (List ℕ)) (t k : List ℕ) (right : Right) (r : Registered) → Agree w x ss → Agree (after_key_add w t k right r) (after_key_add x t k right r) ss
 both_add_key w x ss t k right Done agree = record { keys = ap (λ m. map.insert m k (record { shelf = t; right = right })) agree.keys; shelves = agree.shelves; seen = agree.seen }
 both_add_key w x ss t k right r agree = agree
+
+both_revoke : (w x : World) (ss : List (List ℕ)) (k : List ℕ) (r : Registered) → Agree w x ss → Agree (after_key_revoke w k r) (after_key_revoke x k r) ss
+both_revoke w x ss k Done agree = record { keys = ap (λ m. map.remove m k) agree.keys; shelves = agree.shelves; seen = agree.seen }
+both_revoke w x ss k r agree = agree
 
 team_alike : (w x : World) (t : List ℕ) → w.shelves ≡ x.shelves → team_added w t ≡ team_added x t
 team_alike w x t e = ap (λ m. if not (is_team_name t) then Name else if set.contains m t then Taken else Done) e
@@ -131,6 +136,12 @@ event_alike w x ss (KeyAdd t k right) near is all agree =
       reply = ap reply.Registry same;
       worlds = subst (λ r. Agree (after w (KeyAdd t k right)) (after_key_add x t k right r) ss) same (both_add_key w x ss t k right (key_added w t k) agree);
     }
+event_alike w x ss (KeyRevoke k) near is all agree =
+    let same : key_revoked w k ≡ key_revoked x k = ap (λ m. if map.contains_key m k then Done else NoKey) agree.keys in
+    record {
+      reply = ap reply.Registry same;
+      worlds = subst (λ r. Agree (after w (KeyRevoke k)) (after_key_revoke x k r) ss) same (both_revoke w x ss k (key_revoked w k) agree);
+    }
 
 -- worlds that agree keep the same events
 pub kept_alike : (w x : World) (ss : List (List ℕ)) (e : Event) → Agree w x ss → is_kept w ss e ≡ is_kept x ss e
@@ -151,3 +162,4 @@ event_far w x ss (Asked (Get k q)) far agree = agree
 event_far w x ss (Asked (Put k p)) far agree = far_put w x ss (map.get w.keys k) p (decision w (map.get w.keys k) p) far agree
 event_far w x ss (TeamAdd t) far agree = absurd (true≢false far)
 event_far w x ss (KeyAdd t k right) far agree = absurd (true≢false far)
+event_far w x ss (KeyRevoke k) far agree = absurd (true≢false far)

@@ -16,7 +16,8 @@ use Rattle.shelf.specs.World.{World, IsWorld, place, on_shelf}
 use Rattle.shelf.specs.Machine.{decision, keyed_reply, after_decision, stored, offered, place_of, after_ask}
 use Rattle.shelf.specs.Isolation.{sees, belongs, Low, IsBlind}
 use Rattle.shelf.proofs.Orders.{places_total, places_exact, get_put_both, text_self, text_same}
-use Rattle.shelf.proofs.Views.{SameOn, SameSeen, guarded, test_alike, sees_through, decision_same, query_same}
+use Rattle.shelf.proofs.Views.{SameOn, SameSeen, guarded, test_alike, sees_through}
+use Rattle.shelf.proofs.Alike.{decision_same, query_same}
 
 -- ---- the entries of one shelf, whole and place by place
 
@@ -70,7 +71,7 @@ known w x s t k own is low st =
 
 get_known : (w x : World) (k : List ℕ) (h : Holder) (q : Query) → Known w x k h → keyed_reply w (map.get w.keys k) q ≡ keyed_reply x (map.get x.keys k) q
 get_known w x k h q both =
-    ap (λ o. keyed_reply w o q) both.first ∙ query_same w x h.shelf q refl both.seen ∙ sym (ap (λ o. keyed_reply x o q) both.second)
+    ap (λ o. keyed_reply w o q) both.first ∙ query_same w x h.shelf refl both.seen q ∙ sym (ap (λ o. keyed_reply x o q) both.second)
 
 put_known : (w x : World) (k : List ℕ) (h : Holder) (p : Publish) → Known w x k h → decision w (map.get w.keys k) p ≡ decision x (map.get x.keys k) p
 put_known w x k h p both = ap (λ o. decision w o p) both.first ∙ decision_same w x h p refl both.seen ∙ sym (ap (λ o. decision x o p) both.second)

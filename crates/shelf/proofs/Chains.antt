@@ -9,7 +9,7 @@ use Rattle.shelf.specs.declared.entry.Holder.{Holder}
 use Rattle.shelf.specs.declared.ask.Publish.{Publish}
 use Rattle.shelf.specs.declared.ask.Ask.TheVariants.{Unreadable, Get, Put}
 use Rattle.shelf.specs.declared.ask.Event.{Event}
-use Rattle.shelf.specs.declared.ask.Event.TheVariants.{Asked, TeamAdd, KeyAdd}
+use Rattle.shelf.specs.declared.ask.Event.TheVariants.{Asked, TeamAdd, KeyAdd, KeyRevoke}
 use Rattle.shelf.specs.declared.reply.Decision.{Decision}
 use Rattle.shelf.specs.declared.reply.Decision.TheVariants.{Published}
 use Rattle.shelf.specs.declared.reply.Registered.{Registered}
@@ -17,7 +17,7 @@ use Rattle.shelf.specs.declared.reply.Registered.TheVariants.{Done}
 use Rattle.shelf.specs.declared.reply.Answer.{Answer}
 use Rattle.shelf.specs.declared.reply.Answer.TheVariants.{Replied, Failed}
 use Rattle.shelf.specs.World.{World, IsWorld, chain}
-use Rattle.shelf.specs.Machine.{decision, stored, offered, place_of, after_decision, team_added, key_added, after_team_add, after_key_add, after, Run}
+use Rattle.shelf.specs.Machine.{decision, stored, offered, place_of, after_decision, team_added, key_added, key_revoked, after_team_add, after_key_add, after_key_revoke, after, Run}
 use Rattle.shelf.specs.Isolation.{sees, is_among}
 use Rattle.shelf.proofs.Views.{sees_through}
 use Rattle.shelf.proofs.Sound.{still, world_through}
@@ -46,12 +46,17 @@ stands_key : (w : World) (s t k : List ℕ) (right : Right) (r : Registered) →
 stands_key w s t k right Done stands = record { stands = stands; chains = refl }
 stands_key w s t k right r stands = same_registry w w s stands refl
 
+stands_revoke : (w : World) (s k : List ℕ) (r : Registered) → set.contains w.shelves s ≡ true → Stands w (after_key_revoke w k r) s
+stands_revoke w s k Done stands = record { stands = stands; chains = refl }
+stands_revoke w s k r stands = same_registry w w s stands refl
+
 pub stands_after : (w : World) (s : List ℕ) (e : Event) → set.contains w.shelves s ≡ true → Stands w (after w e) s
 stands_after w s (Asked Unreadable) stands = same_registry w w s stands refl
 stands_after w s (Asked (Get k q)) stands = same_registry w w s stands refl
 stands_after w s (Asked (Put k p)) stands = stands_decided w s (map.get w.keys k) p (decision w (map.get w.keys k) p) stands
 stands_after w s (TeamAdd t) stands = stands_team w s t (team_added w t) stands
 stands_after w s (KeyAdd t k right) stands = stands_key w s t k right (key_added w t k) stands
+stands_after w s (KeyRevoke k) stands = stands_revoke w s k (key_revoked w k) stands
 
 -- a run takes no shelf away, and leaves its chain
 pub stands_through : (w new : World) (s : List ℕ) (es : List Event) (answers : List Answer) → set.contains w.shelves s ≡ true → Run w es answers new → Stands w new s

@@ -6,7 +6,7 @@ use Rattle.shelf.specs.declared.entry.Right.{Right}
 use Rattle.shelf.specs.declared.entry.Holder.{Holder}
 use Rattle.shelf.specs.declared.ask.Publish.{Publish}
 use Rattle.shelf.specs.declared.ask.Ask.TheVariants.{Unreadable, Get, Put}
-use Rattle.shelf.specs.declared.ask.Event.TheVariants.{Asked, TeamAdd, KeyAdd}
+use Rattle.shelf.specs.declared.ask.Event.TheVariants.{Asked, TeamAdd, KeyAdd, KeyRevoke}
 use Rattle.shelf.specs.declared.reply.Decision.{Decision}
 use Rattle.shelf.specs.declared.reply.Decision.TheVariants.{Published}
 use Rattle.shelf.specs.declared.reply.Registered.{Registered}
@@ -14,7 +14,7 @@ use Rattle.shelf.specs.declared.reply.Registered.TheVariants.{Done}
 use Rattle.shelf.specs.declared.reply.Reply.TheVariants as reply
 use Rattle.shelf.specs.declared.reply.Answer.TheVariants.{Replied, Failed}
 use Rattle.shelf.specs.World.{World}
-use Rattle.shelf.specs.Machine.{decision, after_decision, team_added, key_added, after_team_add, after_key_add, after}
+use Rattle.shelf.specs.Machine.{decision, after_decision, team_added, key_added, key_revoked, after_team_add, after_key_add, after_key_revoke, after}
 use Rattle.shelf.specs.Laws.{BodiesChangeNothing, IsChange, OnlyChangesChange, RunsAreCut, RunsAreJoined}
 use Rattle.shelf.proofs.Runs.{run_more}
 
@@ -36,12 +36,17 @@ key_changes : (w : World) (s k : List ℕ) (right : Right) (r : Registered) → 
 key_changes w s k right Done = inl tt
 key_changes w s k right r = inr refl
 
+revoke_changes : (w : World) (k : List ℕ) (r : Registered) → IsChange (reply.Registry r) ⊎ (after_key_revoke w k r ≡ w)
+revoke_changes w k Done = inl tt
+revoke_changes w k r = inr refl
+
 pub only_changes_change : OnlyChangesChange
 only_changes_change w (Asked Unreadable) = inr refl
 only_changes_change w (Asked (Get k q)) = inr refl
 only_changes_change w (Asked (Put k p)) = put_changes w (map.get w.keys k) p (decision w (map.get w.keys k) p)
 only_changes_change w (TeamAdd t) = team_changes w t (team_added w t)
 only_changes_change w (KeyAdd t k right) = key_changes w t k right (key_added w t k)
+only_changes_change w (KeyRevoke k) = revoke_changes w k (key_revoked w k)
 
 pub runs_are_cut : RunsAreCut
 runs_are_cut old new [] more [] last long run = (old, refl, run)

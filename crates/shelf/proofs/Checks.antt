@@ -1,27 +1,38 @@
 -- What the outcome of the checks of a publish says of each of them.
-use Rattle.std.proofs.Common.{◌≡◌, ℕ, ◌≤◌, ◌<◌, List, [], ◌∷◌, ◌++◌, Bool, true, false, cond, refl, ◌∙◌, sym, ap, Option, Some, None, arith, length}
-use Rattle.std.specs.Prelude.{◌&&◌, ◌||◌, not, is_none, is_some, is_ok, Ok, Err, Result, ⊤, option_map, unwrap_or, nat_lt, nat_le, ◌^◌}
-use Rattle.std.specs.List.{list_any, list_all}
+use Rattle.std.proofs.Common.{◌≡◌, ℕ, ◌<◌, List, [], ◌∷◌, ◌++◌, Bool, true, false, cond, refl, ◌∙◌, sym, ap, subst, Option, Some, None, length}
+use Rattle.std.specs.Prelude.{bytes_eq, ◌&&◌, not, is_none, is_some, is_ok, Ok, Err, Result, ⊤, option_map, unwrap_or, nat_lt, nat_le}
+use Rattle.std.specs.List.{list_any}
 use Rattle.std.specs.Option.{option_or}
 use Rattle.std.specs.FinMap as map
 use Rattle.std.specs.FinSet as set
-use Rattle.std.proofs.lemmas.Bool.{true≢false}
-use Rattle.std.proofs.lemmas.Bool.Decides.{nat_tests}
+use Rattle.std.proofs.lemmas.Bool.{true≢false, and_parts, or_parts, not-false, ltb-false, leb-false}
 use Rattle.modpath.specs.declared.path.PathFault.{PathFault}
 use Rattle.modpath.specs.Path.{path_check, passed, IsPath, is_path}
-use Rattle.modver.specs.SemanticVersion.{SemanticVersion, is_identifier, is_version, version_text}
-use Rattle.modver.specs.Reading.{IsCanonical}
+use Rattle.modver.specs.SemanticVersion.{is_version, version_text}
+use Rattle.modver.proofs.Readings.{is-version}
+use Rattle.modver.specs.Class.{class_of}
+use Rattle.modver.specs.Time.{has_time_form, is_moment}
+use Rattle.modver.specs.declared.version.Class.{Class}
+use Rattle.modver.specs.declared.version.Class.TheVariants as class
 use Rattle.shelf.specs.declared.entry.Entry.{Entry}
 use Rattle.shelf.specs.declared.entry.Seen.{Seen}
 use Rattle.shelf.specs.declared.entry.Holder.{Holder}
 use Rattle.shelf.specs.declared.entry.Right.{Right}
-use Rattle.shelf.specs.declared.entry.Right.TheVariants.{Publishes}
+use Rattle.shelf.specs.declared.entry.Right.TheVariants.{Reads, Publishes}
+use Rattle.shelf.specs.declared.ask.Body.{Body}
+use Rattle.shelf.specs.declared.ask.GivenTime.{GivenTime}
+use Rattle.shelf.specs.declared.ask.GivenTime.TheVariants.{Absent, At, Malformed}
 use Rattle.shelf.specs.declared.ask.Publish.{Publish}
+use Rattle.shelf.specs.declared.reading.Reading.{Reading}
+use Rattle.shelf.specs.declared.reading.Reading.TheVariants.{Module, Fault}
 use Rattle.shelf.specs.declared.reply.Decision.{Decision}
-use Rattle.shelf.specs.declared.reply.Decision.TheVariants.{Published, Same, NotFound, BadLength, TooLarge, Conflict, Full}
-use Rattle.shelf.specs.World.{World, IsEntry, common, seen_at, first_on, view, count, gomod_limit, zip_limit, version_limit}
-use Rattle.shelf.specs.Machine.{first_failing, is_readable, may_publish, is_too_large, is_same, offered, request_checks, shelf_checks, decided, entry_seen, decision, place_of}
+use Rattle.shelf.specs.declared.reply.Decision.TheVariants.{Published, Same, Conflict, Full}
+use Rattle.shelf.specs.Forms.{is_time, fits, suffix_of}
+use Rattle.shelf.specs.GoMods.{reading_of, IsGoModOf}
+use Rattle.shelf.specs.World.{World, IsEntry, IsTimeOf, common, seen_at, first_on, view, count, gomod_limit, zip_limit, version_limit}
+use Rattle.shelf.specs.Machine.{first_failing, is_readable, may_publish, is_too_large, is_bad_time, entry_time, entry_of, has_fault, names_other, has_more, gomod_of, is_same, offered, request_checks, gomod_checks, shelf_checks, decided, entry_seen, decision, place_of}
 use Rattle.shelf.specs.Store.{IsRoomFor}
+use Rattle.shelf.proofs.Orders.{text_same}
 
 -- ---- one list of checks after another
 
@@ -32,15 +43,33 @@ failing_after (c ∷ cs) ds = elim c.0 as (λ b. cond b (Some c.1) (first_failin
   | false ↦ failing_after cs ds
 ]
 
--- a publish that is refused for itself is refused whatever stands
-pub refused : (p : Publish) (right : Option Right) (seen : Option Entry) (n : ℕ) (d : Decision) → first_failing (request_checks p right) ≡ Some d → decided p right seen n ≡ d
-refused p right seen n d e =
-    ap (λ o. unwrap_or o Published) (failing_after (request_checks p right) (shelf_checks p seen n) ∙ ap (λ o. option_or o (first_failing (shelf_checks p seen n))) e)
+-- a publish that is refused for itself is refused whatever its go.mod says and whatever stands
+pub refused : (p : Publish) (right : Option Right) (reading : Option Reading) (seen : Option Entry) (n : ℕ) (d : Decision)
+    → first_failing (request_checks p right) ≡ Some d → decided p right reading seen n ≡ d
+refused p right reading seen n d e =
+    ap (λ o. unwrap_or o Published) (failing_after (request_checks p right) (gomod_checks p reading ++ shelf_checks p seen n)
+    ∙ ap (λ o. option_or o (first_failing (gomod_checks p reading ++ shelf_checks p seen n))) e)
 
--- and else it is judged by what stands
-pub compared : (p : Publish) (right : Option Right) (seen : Option Entry) (n : ℕ) → first_failing (request_checks p right) ≡ None → decided p right seen n ≡ unwrap_or (first_failing (shelf_checks p seen n)) Published
-compared p right seen n e =
-    ap (λ o. unwrap_or o Published) (failing_after (request_checks p right) (shelf_checks p seen n) ∙ ap (λ o. option_or o (first_failing (shelf_checks p seen n))) e)
+-- else it is judged by its go.mod
+judged : (p : Publish) (right : Option Right) (reading : Option Reading) (seen : Option Entry) (n : ℕ)
+    → first_failing (request_checks p right) ≡ None
+    → first_failing (request_checks p right ++ gomod_checks p reading ++ shelf_checks p seen n) ≡ option_or (first_failing (gomod_checks p reading)) (first_failing (shelf_checks p seen n))
+judged p right reading seen n e =
+    failing_after (request_checks p right) (gomod_checks p reading ++ shelf_checks p seen n)
+    ∙ ap (λ o. option_or o (first_failing (gomod_checks p reading ++ shelf_checks p seen n))) e
+    ∙ failing_after (gomod_checks p reading) (shelf_checks p seen n)
+
+pub refused_by_gomod : (p : Publish) (right : Option Right) (reading : Option Reading) (seen : Option Entry) (n : ℕ) (d : Decision)
+    → first_failing (request_checks p right) ≡ None → first_failing (gomod_checks p reading) ≡ Some d → decided p right reading seen n ≡ d
+refused_by_gomod p right reading seen n d e f =
+    ap (λ o. unwrap_or o Published) (judged p right reading seen n e ∙ ap (λ o. option_or o (first_failing (shelf_checks p seen n))) f)
+
+-- and then by what stands
+pub compared : (p : Publish) (right : Option Right) (reading : Option Reading) (seen : Option Entry) (n : ℕ)
+    → first_failing (request_checks p right) ≡ None → first_failing (gomod_checks p reading) ≡ None
+    → decided p right reading seen n ≡ unwrap_or (first_failing (shelf_checks p seen n)) Published
+compared p right reading seen n e f =
+    ap (λ o. unwrap_or o Published) (judged p right reading seen n e ∙ ap (λ o. option_or o (first_failing (shelf_checks p seen n))) f)
 
 -- ---- checks that were passed
 
@@ -48,20 +77,20 @@ abbrev pub Passed : List (Bool × Decision) → Type 0
 Passed [] = Unit {0}
 Passed (c ∷ cs) = (c.0 ≡ false) × Passed cs
 
+pub passed_none : (cs : List (Bool × Decision)) → Passed cs → first_failing cs ≡ None
+passed_none [] all = refl
+passed_none (c ∷ cs) all = ap (λ b. cond b (Some c.1) (first_failing cs)) all.0 ∙ passed_none cs all.1
+
 -- where the outcome is no answer of the first checks, these were passed
 pub passed_before : (test : Decision → Bool) (cs ds : List (Bool × Decision)) (d : Decision) → test d ≡ true → list_any (λ c. test c.1) cs ≡ false
     → unwrap_or (first_failing (cs ++ ds)) Published ≡ d → Passed cs × (unwrap_or (first_failing ds) Published ≡ d)
 passed_before test [] ds d is apart e = (tt, e)
 passed_before test (c ∷ cs) ds d is apart e =
-    let parts = neither (test c.1) (list_any (λ x. test x.1) cs) apart in
+    let parts = or_parts (test c.1) (list_any (λ x. test x.1) cs) apart in
     elim c.0 as (λ b. c.0 ≡ b → unwrap_or (cond b (Some c.1) (first_failing (cs ++ ds))) Published ≡ d → ((c.0 ≡ false) × Passed cs) × (unwrap_or (first_failing ds) Published ≡ d)) [
       | true ↦ λ _ here. absurd (true≢false (sym is ∙ ap test (sym here) ∙ parts.0))
       | false ↦ λ passes rest. let more = passed_before test cs ds d is parts.1 rest in ((passes, more.0), more.1)
     ] refl e
-  where
-    neither : (a b : Bool) → (a || b) ≡ false → (a ≡ false) × (b ≡ false)
-    neither true b e = absurd (true≢false e)
-    neither false b e = (refl, e)
 
 abbrev pub is_published : Decision → Bool
 is_published Published = true
@@ -73,64 +102,70 @@ is_same_answer d = false
 
 -- ---- forms
 
-pub both_true : (a b : Bool) → (a && b) ≡ true → (a ≡ true) × (b ≡ true)
-both_true true b e = (refl, e)
-both_true false b e = absurd (true≢false (sym e))
-
-not_false : (a : Bool) → not a ≡ false → a ≡ true
-not_false true e = refl
-not_false false e = absurd (true≢false e)
-
 passes : (c : Result ⊤ PathFault) → is_ok c ≡ true → c ≡ passed
 passes (Ok tt) e = refl
 passes (Err f) e = absurd (true≢false (sym e))
 
-below : (m n : ℕ) → nat_lt m n ≡ true → m < n
-below m n e = grind (arith, nat_tests)
-
-at_most : (m n : ℕ) → nat_le m n ≡ true → m ≤ n
-at_most m n e = grind (arith, nat_tests)
-
-at_most_not : (m n : ℕ) → nat_lt m n ≡ false → n ≤ m
-at_most_not m n e = grind (arith, nat_tests)
-
-below_not : (m n : ℕ) → nat_le m n ≡ false → n < m
-below_not m n e = grind (arith, nat_tests)
-
 pub path_form : (t : List ℕ) → is_path t ≡ true → IsPath t
 path_form t e = passes (path_check t) e
 
-pub version_form : (v : SemanticVersion) → is_version v ≡ true → IsCanonical (version_text v) v
-unfolding is_version
-version_form v e =
-    let numbers : Bool = nat_lt v.major (2 ^ 64) && nat_lt v.minor (2 ^ 64) && nat_lt v.patch (2 ^ 64) in
-    let a = both_true (numbers && list_all is_identifier v.identifiers) (nat_le (length (version_text v)) 128) e in
-    let b = both_true numbers (list_all is_identifier v.identifiers) a.0 in
-    let c = both_true (nat_lt v.major (2 ^ 64) && nat_lt v.minor (2 ^ 64)) (nat_lt v.patch (2 ^ 64)) b.0 in
-    let d = both_true (nat_lt v.major (2 ^ 64)) (nat_lt v.minor (2 ^ 64)) c.0 in
-    record {
-      valid = record { major = below v.major (2 ^ 64) d.0; minor = below v.minor (2 ^ 64) d.1; patch = below v.patch (2 ^ 64) c.1; identifiers = b.1 };
-      same = refl;
-      short = at_most (length (version_text v)) 128 a.1;
-    }
+-- the time of an entry is that of its version
+time_form : (c : Class) (given : GivenTime) → is_bad_time given ≡ false → IsTimeOf c (entry_time c given)
+time_form (class.Pseudo stamp) given well = refl
+time_form c Absent well = tt
+time_form c Malformed well = tt
+time_form c (At time) well = let both = and_parts (has_time_form time) (is_moment time) (not-false (is_time time) well) in record { form = both.0; moment = both.1 }
 
-neither : (a b : Bool) → (a || b) ≡ false → (a ≡ false) × (b ≡ false)
-neither true b e = absurd (true≢false e)
-neither false b e = (refl, e)
+-- a go.mod that was read
+gomod_form : (path : List ℕ) (is_marked : Bool) (bytes : List ℕ) (r : Reading) → reading_of bytes ≡ r
+    → has_fault (Some r) ≡ false → names_other path (Some r) ≡ false → (is_marked && has_more (Some r)) ≡ false → IsGoModOf path is_marked bytes
+gomod_form path is_marked bytes (Fault line) read sound named bare = absurd (true≢false sound)
+gomod_form path is_marked bytes (Module m) read sound named bare = record {
+  says = m;
+  reads = read;
+  names = text_same m.path path (not-false (bytes_eq m.path path) named);
+  bare = λ is. not-false m.bare (ap (λ b. b && not m.bare) (sym is) ∙ bare);
+}
 
--- what passed the checks of the path, the version and the files
-pub entry_form : (s : List ℕ) (p : Publish) (e : Entry) → is_readable p ≡ true → is_too_large (Some e) ≡ false → IsEntry (place_of s p) e
-entry_form s p e readable small =
-    let forms = both_true (is_path p.path) (is_version p.version) readable in
-    let sizes = neither (nat_lt gomod_limit (length e.gomod)) (nat_lt zip_limit (length e.zip)) small in
+-- ---- a publish that passed the checks of itself and of its go.mod
+
+pub record Passing (p : Publish) (right : Option Right) (reading : Option Reading) : Type 0 where
+  pub own : Passed (request_checks p right)
+  pub gomod : Passed (gomod_checks p reading)
+
+passing : (p : Publish) (right : Option Right) (reading : Option Reading) (rest : List (Bool × Decision)) → Passed (request_checks p right ++ gomod_checks p reading ++ rest) → Passing p right reading
+passing p right reading rest all =
+    let own = passed_front (request_checks p right) (gomod_checks p reading ++ rest) all in
+    record { own = own.0; gomod = (passed_front (gomod_checks p reading) rest own.1).0 }
+  where
+    passed_front : (cs ds : List (Bool × Decision)) → Passed (cs ++ ds) → Passed cs × Passed ds
+    passed_front [] ds all = (tt, all)
+    passed_front (c ∷ cs) ds all = let more = passed_front cs ds all.1 in ((all.0, more.0), more.1)
+
+-- the files were told apart
+pub files_told : (p : Publish) (right : Option Right) (reading : Option Reading) → Passing p right reading → is_none p.body ≡ false
+files_told p right reading is = is.own.1.1.1.0
+
+-- the entry that they make may stand
+entry_form : (s : List ℕ) (p : Publish) (right : Option Right) (b : Body) → p.body ≡ Some b → Passing p right (gomod_of p) → IsEntry (place_of s p) (entry_of p b)
+entry_form s p right b body is =
+    let forms = and_parts (is_path p.path) (is_version p.version) (not-false (is_readable p) is.own.0) in
+    let files = is.own.1.1.1.1 in
+    let small : is_too_large (Some (entry_of p b)) ≡ false = ap (λ o. is_too_large (option_map (entry_of p) o)) (sym body) ∙ files.0 in
+    let sizes = or_parts (nat_lt gomod_limit (length b.gomod)) (nat_lt zip_limit (length b.zip)) small in
+    let read : gomod_of p ≡ Some (reading_of b.gomod) = ap (option_map (λ (x : Body). reading_of x.gomod)) body in
+    let gomod : Passed (gomod_checks p (Some (reading_of b.gomod))) = subst (λ o. Passed (gomod_checks p o)) read is.gomod in
     record {
       path = path_form p.path forms.0;
-      version = (p.version, version_form p.version forms.1);
-      gomod = at_most_not gomod_limit (length e.gomod) sizes.0;
-      zip = at_most_not zip_limit (length e.zip) sizes.1;
+      version = (p.version, (is-version p.version).0 forms.1);
+      fits = not-false (fits (suffix_of p.path) p.version) files.1.0;
+      gomod = ltb-false gomod_limit (length b.gomod) sizes.0;
+      zip = ltb-false zip_limit (length b.zip) sizes.1;
+      time = time_form (class_of p.version) p.time files.1.1.0;
+      reads = gomod_form p.path p.version.marked b.gomod (reading_of b.gomod) refl gomod.0 gomod.1.0 gomod.1.1.0;
     }
 
--- ---- a publish that passed
+-- ---- a publish that was stored
 
 nothing_from : {A : Type 0} (o : Option A) → is_some o ≡ false → o ≡ None
 nothing_from None e = refl
@@ -145,44 +180,43 @@ nothing_at None s rest e = refl
 nothing_at (Some x) s rest e = cc
 
 -- what a publish was that passed all checks
-pub record Accepted (p : Publish) (right : Option Right) (seen : Option Entry) (n : ℕ) : Type 0 where
-  pub readable : is_readable p ≡ true
-  pub may : may_publish right ≡ true
-  pub told : is_none p.body ≡ false
-  pub small : is_too_large (offered p) ≡ false
+pub record Accepted (p : Publish) (right : Option Right) (reading : Option Reading) (seen : Option Entry) (n : ℕ) : Type 0 where
+  pub passing : Passing p right reading
   pub unseen : seen ≡ None
   pub room : n < version_limit
 
-pub accepted : (p : Publish) (right : Option Right) (seen : Option Entry) (n : ℕ) → decided p right seen n ≡ Published → Accepted p right seen n
-accepted p right seen n e =
-    let all = (passed_before is_published (request_checks p right ++ shelf_checks p seen n) [] Published refl refl e).0 in
-    let c = all.1.1.1.1 in
+pub accepted : (p : Publish) (right : Option Right) (reading : Option Reading) (seen : Option Entry) (n : ℕ) → decided p right reading seen n ≡ Published → Accepted p right reading seen n
+accepted p right reading seen n e =
+    let all = passed_before is_published (request_checks p right ++ gomod_checks p reading) (shelf_checks p seen n) Published refl refl e in
+    let shelf = (passed_before is_published (shelf_checks p seen n) [] Published refl refl all.1).0 in
     record {
-      readable = not_false (is_readable p) all.0;
-      may = not_false (may_publish right) all.1.1.0;
-      told = all.1.1.1.0;
-      small = c.0;
-      unseen = nothing_from seen c.1.1.0;
-      room = below_not version_limit n c.1.1.1.0;
+      passing = passing p right reading [] all.0;
+      unseen = nothing_from seen shelf.1.0;
+      room = leb-false version_limit n shelf.1.1.0;
     }
 
 pub unseen : (w : World) (h : Holder) (p : Publish) → decision w (Some h) p ≡ Published → view w h.shelf p.path (version_text p.version) ≡ None
-unseen w h p e = not_mapped _ _ (accepted p (Some h.right) (entry_seen w h.shelf p) (count w h.shelf p.path) e).unseen
+unseen w h p e = not_mapped _ _ (accepted p (Some h.right) (gomod_of p) (entry_seen w h.shelf p) (count w h.shelf p.path) e).unseen
+
+pub body_of : (p : Publish) (o : Option Body) (e : Entry) → option_map (entry_of p) o ≡ Some e → (b : Body) × (o ≡ Some b) × (entry_of p b ≡ e)
+body_of p None e is = cc
+body_of p (Some b) e is = (b, refl, cc)
 
 pub room_for : (w : World) (h : Holder) (p : Publish) (e : Entry) → set.contains w.shelves h.shelf ≡ true → decision w (Some h) p ≡ Published → offered p ≡ Some e → IsRoomFor w (place_of h.shelf p) e
 room_for w h p e stands is_published is_offered =
-    let is = accepted p (Some h.right) (entry_seen w h.shelf p) (count w h.shelf p.path) is_published in
+    let is = accepted p (Some h.right) (gomod_of p) (entry_seen w h.shelf p) (count w h.shelf p.path) is_published in
+    let body = body_of p p.body e is_offered in
     record {
       stands = stands;
       free = nothing_at (map.get w.entries (place_of h.shelf p)) h.shelf (first_on w (common ∷ []) p.path (version_text p.version)) (unseen w h p is_published);
       room = is.room;
-      entry = entry_form h.shelf p e is.readable (ap is_too_large (sym is_offered) ∙ is.small);
+      entry = subst (IsEntry (place_of h.shelf p)) body.2 (entry_form h.shelf p (Some h.right) body.0 body.1 is.passing);
     }
 
--- what a publish was whose like is there already
-pub record Again (p : Publish) (right : Option Right) (seen : Option Entry) : Type 0 where
-  pub readable : is_readable p ≡ true
-  pub small : is_too_large (offered p) ≡ false
+-- ---- a publish whose like is there already
+
+pub record Again (p : Publish) (right : Option Right) (reading : Option Reading) (seen : Option Entry) : Type 0 where
+  pub passing : Passing p right reading
   pub same : is_same seen (offered p) ≡ true
 
 only_same : (x y z : Bool) → cond x Same (cond y Conflict (cond z Full Published)) ≡ Same → x ≡ true
@@ -197,21 +231,26 @@ outcome_of false true z = refl
 outcome_of false false true = refl
 outcome_of false false false = refl
 
-pub same_again : (p : Publish) (right : Option Right) (seen : Option Entry) (n : ℕ) → decided p right seen n ≡ Same → Again p right seen
-same_again p right seen n e =
-    let parts = passed_before is_same_answer (request_checks p right) (shelf_checks p seen n) Same refl refl e in
+pub same_again : (p : Publish) (right : Option Right) (reading : Option Reading) (seen : Option Entry) (n : ℕ) → decided p right reading seen n ≡ Same → Again p right reading seen
+same_again p right reading seen n e =
+    let parts = passed_before is_same_answer (request_checks p right ++ gomod_checks p reading) (shelf_checks p seen n) Same refl refl e in
     record {
-      readable = not_false (is_readable p) parts.0.0;
-      small = parts.0.1.1.1.1.0;
+      passing = passing p right reading [] parts.0;
       same = only_same (is_same seen (offered p)) (is_some seen) (nat_le version_limit n) (sym (outcome_of (is_same seen (offered p)) (is_some seen) (nat_le version_limit n)) ∙ parts.1);
     }
 
--- and of such a publish, by a key that may publish, the like is there
-row_of_same : (a b c d : Bool) (rest : Option Decision) → a ≡ true → b ≡ false → c ≡ false → d ≡ true
-    → unwrap_or (cond (not a) (Some NotFound) (cond b (Some BadLength) (cond c (Some TooLarge) (cond d (Some Same) rest)))) Published ≡ Same
-row_of_same a b c d rest ea eb ec ed = simp (ea, eb, ec, ed) refl
+-- the right of a key whose publish was accepted
+publishes : (right : Right) → not (may_publish (Some right)) ≡ false → right ≡ Publishes
+publishes Publishes may = refl
+publishes Reads may = absurd (true≢false may)
 
-pub same_decided : (p : Publish) (seen : Option Entry) (n : ℕ) → is_readable p ≡ true → is_none p.body ≡ false → is_too_large (offered p) ≡ false → is_same seen (offered p) ≡ true
-    → decided p (Some Publishes) seen n ≡ Same
-same_decided p seen n readable told small same =
-    row_of_same (is_readable p) (is_none p.body) (is_too_large (offered p)) (is_same seen (offered p)) _ readable told small same
+-- whoever may publish passes the same checks
+pub passes_again : (p : Publish) (right : Right) (reading : Option Reading) → Passing p (Some right) reading → Passing p (Some Publishes) reading
+passes_again p right reading is = subst (λ r. Passing p (Some r) reading) (publishes right is.own.1.1.0) is
+
+-- and of such a publish, by a key that may publish, the like is there
+pub same_decided : (p : Publish) (right : Option Right) (reading : Option Reading) (seen : Option Entry) (n : ℕ) → Passing p right reading → is_same seen (offered p) ≡ true
+    → decided p right reading seen n ≡ Same
+same_decided p right reading seen n is same =
+    compared p right reading seen n (passed_none (request_checks p right) is.own) (passed_none (gomod_checks p reading) is.gomod)
+    ∙ ap (λ b. unwrap_or (cond b (Some Same) (first_failing ((is_some seen, Conflict) ∷ (nat_le version_limit n, Full) ∷ []))) Published) same

@@ -180,15 +180,12 @@ put_at_place m s p v e = map.same_map places_total places_exact _ _ (λ q.
     ∙ sym (one_place (text_cmp q.shelf s) (text_cmp q.path p) (text_cmp q.version v) (Some e) (get_at m q))
     ∙ sym (map.get-insert places_total (by_place m) (place s p v) e q ∙ ap (cond (eq_by_cmp place_cmp q (place s p v)) (Some e)) (get_by_place m q)))
 
+-- the steps of an insertion
 module _ (m : Nested) (s p v : List ℕ) (e : Entry) {n : Nested} {after : map.FinMap text_cmp (map.FinMap text_cmp Entry)} where
   -- an entry put among the paths that a shelf has
-  pub put_on_shelf : {paths : map.FinMap text_cmp (map.FinMap text_cmp Entry)} → Some paths ≡ map.get m s → n ≡ map.insert m s after → after ≡ put_under paths p v e → by_place n ≡ map.insert (by_place m) (place s p v) e
-  put_on_shelf found lent put =
-      ap by_place (lent ∙ ap (map.insert m s) (put ∙ ap (λ (o : Option (map.FinMap text_cmp (map.FinMap text_cmp Entry))). put_under (unwrap_or o map.empty) p v e) found))
-      ∙ put_at_place m s p v e
+  pub put_on_shelf : {paths : map.FinMap text_cmp (map.FinMap text_cmp Entry)} → Some paths ≡ map.get m s → n ≡ map.insert m s after → after ≡ put_under paths p v e → n ≡ put_at m s p v e
+  put_on_shelf found lent put = lent ∙ ap (map.insert m s) (put ∙ ap (λ (o : Option (map.FinMap text_cmp (map.FinMap text_cmp Entry))). put_under (unwrap_or o map.empty) p v e) found)
 
   -- the first entry of a shelf
-  pub put_on_new : None ≡ map.get m s → n ≡ map.insert m s after → after ≡ put_under map.empty p v e → by_place n ≡ map.insert (by_place m) (place s p v) e
-  put_on_new free new put =
-      ap by_place (new ∙ ap (map.insert m s) (put ∙ ap (λ (o : Option (map.FinMap text_cmp (map.FinMap text_cmp Entry))). put_under (unwrap_or o map.empty) p v e) free))
-      ∙ put_at_place m s p v e
+  pub put_on_new : None ≡ map.get m s → n ≡ map.insert m s after → after ≡ put_under map.empty p v e → n ≡ put_at m s p v e
+  put_on_new free new put = new ∙ ap (map.insert m s) (put ∙ ap (λ (o : Option (map.FinMap text_cmp (map.FinMap text_cmp Entry))). put_under (unwrap_or o map.empty) p v e) free)

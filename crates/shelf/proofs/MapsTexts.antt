@@ -12,10 +12,15 @@ use Rattle.std.specs.Ordering.{eq_by_cmp, is_eq, nat_cmp}
 use Rattle.std.specs.Cmp.{eq_by_cmp_equiv}
 use Rattle.std.specs.Cmp.Lexicographic.{slice_cmp}
 use Rattle.std.specs.FinMap as map
+use Rattle.std.specs.FinMap.Entries.{below_all}
+use Rattle.std.specs.List.Sorted.{IsStrictlySortedBy}
+use Rattle.std.specs.declared.cmp.Ordering.TheVariants.{Less}
+use lib.Dec.{T}
 use Rattle.std.proofs.lemmas.Map.Text.{is_eq-slice_cmp, btree_map_updates_text}
 use Rattle.std.proofs.lemmas.Map.Keys.{IsDistinct-head, IsDistinct-tail, IsDistinct-from_sorted}
 use Rattle.shelf.specs.World.{text_cmp}
 use Rattle.shelf.specs.Kept.{by_text}
+use Rattle.shelf.proofs.InOrder.{both, less_is}
 use Rattle.shelf.proofs.Orders.{texts_total, texts_exact}
 
 -- whether two texts are equal, either way round
@@ -60,6 +65,28 @@ module _ {Y X : Type 0} where
   -- how many texts it has
   pub len_text : (m : BTreeMap (String Y) X) → IsOrdered string_cmp m → map.len (by_text m.entries) ≡ length m.entries
   len_text m ordered = len_distinct m.entries (IsDistinct-from_sorted string_cmp _ ordered)
+
+  -- ---- its texts in order
+
+  all_below : (k : String Y) (es : List (String Y × X)) → AllByRecursion (λ y. string_cmp k y ≡ Less) (keys_of es) → T (below_all text_cmp (string_bytes k) (each (λ e. (string_bytes e.0, e.1)) es))
+  all_below k [] above = tt
+  all_below k (e ∷ es) above = both _ _ (less_is (string_cmp k e.0) above.0) (all_below k es above.1)
+
+  rising_texts : (es : List (String Y × X)) → IsStrictlySortedBy string_cmp (keys_of es) → T (map.is_sorted text_cmp (each (λ e. (string_bytes e.0, e.1)) es))
+  unfolding IsStrictlySortedBy
+  rising_texts [] up = tt
+  rising_texts (e ∷ es) up = both _ _ (all_below e.0 es up.0) (rising_texts es up.1)
+
+  first_parts : (es : List (String Y × X)) → each {A = List ℕ × X} (λ e. e.0) (each (λ e. (string_bytes e.0, e.1)) es) ≡ each string_bytes (keys_of es)
+  first_parts [] = refl
+  first_parts (e ∷ es) = ap (λ ts. string_bytes e.0 ∷ ts) (first_parts es)
+
+  pub keys_text : (m : BTreeMap (String Y) X) → IsOrdered string_cmp m → map.keys (by_text m.entries) ≡ each string_bytes (keys_of m.entries)
+  keys_text m ordered =
+      let es = each (λ e. (string_bytes e.0, e.1)) m.entries in
+      let up : T (map.is_sorted text_cmp es) = rising_texts m.entries ordered in
+      ap map.keys (map.same_map texts_total texts_exact (map.from_entries es) (map.from_sorted es) (λ t. map.get-from_entries texts_total es t ∙ sym (map.get-from_sorted text_cmp es t up)))
+      ∙ ap (each (λ e. e.0)) (map.entries-from_sorted text_cmp es up) ∙ first_parts m.entries
 
   pub same_entries : (m n : BTreeMap (String Y) X) → n ≡ m → by_text n.entries ≡ by_text m.entries
   same_entries m n e = ap (λ (t : BTreeMap (String Y) X). by_text t.entries) e

@@ -1,14 +1,14 @@
 -- A list of publishes that was accepted changes nothing when it comes again.
-use Rattle.std.proofs.Common.{◌≡◌, ℕ, List, [], ◌∷◌, true, false, refl, ◌∙◌, sym, ap, subst, Option, Some, None, inl, inr}
-use Rattle.std.specs.Prelude.{bytes_eq, ◌&&◌, option_map, is_none}
+use Rattle.std.proofs.Common.{◌≡◌, ℕ, List, [], ◌∷◌, true, refl, ◌∙◌, sym, ap, subst, Option, Some, None, inl, inr}
+use Rattle.std.specs.Prelude.{option_map}
 use Rattle.std.specs.FinMap as map
 use Rattle.std.specs.FinSet as set
+use Rattle.std.proofs.lemmas.Bool.{and_from}
 use Rattle.shelf.specs.declared.entry.Place.{Place}
 use Rattle.shelf.specs.declared.entry.Entry.{Entry}
 use Rattle.shelf.specs.declared.entry.Seen.{Seen}
 use Rattle.shelf.specs.declared.entry.Holder.{Holder}
 use Rattle.shelf.specs.declared.entry.Right.TheVariants.{Publishes}
-use Rattle.shelf.specs.declared.ask.Body.{Body}
 use Rattle.shelf.specs.declared.ask.Publish.{Publish}
 use Rattle.shelf.specs.declared.ask.Ask.TheVariants.{Put}
 use Rattle.shelf.specs.declared.ask.Event.{Event}
@@ -20,7 +20,7 @@ use Rattle.shelf.specs.declared.reply.Reply.TheVariants as reply
 use Rattle.shelf.specs.declared.reply.Answer.{Answer}
 use Rattle.shelf.specs.declared.reply.Answer.TheVariants.{Replied, Failed}
 use Rattle.shelf.specs.World.{World, IsWorld, count}
-use Rattle.shelf.specs.Machine.{decision, same_entry, is_same, offered, entry_of, entry_seen, after_decision, stored, place_of, after, Run}
+use Rattle.shelf.specs.Machine.{decision, gomod_of, same_time, same_entry, is_same, offered, entry_seen, after_decision, stored, place_of, after, Run}
 use Rattle.shelf.specs.Isolation.{belongs}
 use Rattle.shelf.specs.Immutability.{IsAccepted, IsAcceptance, AllAccepted, AllSameOrFailed, puts, RepeatedListChangesNothing}
 use Rattle.shelf.proofs.Orders.{text_self}
@@ -31,19 +31,19 @@ use Rattle.shelf.proofs.Served.{Kept, kept_first, kept_through, shelf_stands}
 
 -- ---- one publish
 
-same_itself : (e : Entry) → same_entry e e ≡ true
-same_itself e = ap (λ b. b && bytes_eq e.zip e.zip) (text_self e.gomod) ∙ text_self e.zip
+same_time_itself : (t : Option (List ℕ)) → same_time t t ≡ true
+same_time_itself None = refl
+same_time_itself (Some t) = text_self t
 
-told_of : (p : Publish) (o : Option Body) (e : Entry) → option_map (entry_of p) o ≡ Some e → is_none o ≡ false
-told_of p None e is = cc
-told_of p (Some b) e is = refl
+same_itself : (e : Entry) → same_entry e e ≡ true
+same_itself e = and_from _ _ (and_from _ _ (text_self e.gomod) (text_self e.zip)) (same_time_itself e.time)
 
 kept_is_same : (w : World) (s : List ℕ) (p : Publish) → Kept w s p → decision w (Some (record { shelf = s; right = Publishes })) p ≡ Same
 kept_is_same w s p kept =
     let seen : entry_seen w s p ≡ Some kept.seen.entry = ap (option_map (λ (x : Seen). x.entry)) kept.is_seen in
     let same : is_same (entry_seen w s p) (offered p) ≡ true =
     ap (λ o. is_same o (offered p)) seen ∙ ap (is_same (Some kept.seen.entry)) kept.is_offered ∙ same_itself kept.seen.entry in
-    same_decided p (entry_seen w s p) (count w s p.path) kept.readable (told_of p p.body kept.seen.entry kept.is_offered) kept.small same
+    same_decided p (Some Publishes) (gomod_of p) (entry_seen w s p) (count w s p.path) kept.passing same
 
 -- ---- the list for the first time
 

@@ -4,14 +4,15 @@ use Rattle.std.specs.Prelude.{bytes_eq, ◌&&◌, option_map, is_none}
 use Rattle.std.specs.Option.{option_or}
 use Rattle.std.specs.FinMap as map
 use Rattle.std.specs.FinSet as set
-use Rattle.std.proofs.lemmas.Bool.{true≢false}
+use Rattle.std.proofs.lemmas.Bool.{true≢false, and_parts}
 use Rattle.modver.specs.SemanticVersion.{version_text}
 use Rattle.shelf.specs.declared.entry.Entry.{Entry}
 use Rattle.shelf.specs.declared.entry.Seen.{Seen}
 use Rattle.shelf.specs.declared.entry.Holder.{Holder}
+use Rattle.shelf.specs.declared.entry.Right.TheVariants.{Publishes}
 use Rattle.shelf.specs.declared.ask.Body.{Body}
 use Rattle.shelf.specs.declared.ask.Query.{Query}
-use Rattle.shelf.specs.declared.ask.Query.TheVariants.{GoMod, Zip}
+use Rattle.shelf.specs.declared.ask.Query.TheVariants as query
 use Rattle.shelf.specs.declared.ask.Publish.{Publish}
 use Rattle.shelf.specs.declared.ask.Ask.TheVariants.{Put}
 use Rattle.shelf.specs.declared.ask.Event.{Event}
@@ -23,11 +24,11 @@ use Rattle.shelf.specs.declared.reply.Reply.TheVariants as reply
 use Rattle.shelf.specs.declared.reply.Answer.{Answer}
 use Rattle.shelf.specs.declared.reply.Answer.TheVariants.{Replied, Failed}
 use Rattle.shelf.specs.World.{World, IsWorld, common, seen_at, first_on, view}
-use Rattle.shelf.specs.Machine.{decision, is_readable, is_too_large, is_same, offered, entry_of, entry_seen, gomod_reply, zip_reply, query_reply, keyed_reply, after_decision, stored, place_of, after, Run}
+use Rattle.shelf.specs.Machine.{decision, gomod_of, same_time, same_entry, is_same, offered, entry_of, entry_seen, gomod_reply, zip_reply, info_reply, query_reply, keyed_reply, after_decision, stored, place_of, after, Run}
 use Rattle.shelf.specs.Isolation.{belongs}
-use Rattle.shelf.specs.Immutability.{IsFound, StaysServed, IsAccepted, asks_back, AcceptedIsServed}
+use Rattle.shelf.specs.Immutability.{IsOfVersion, IsFound, StaysServed, IsAccepted, asks_back, AcceptedIsServed}
 use Rattle.shelf.proofs.Orders.{places_total, get_put, text_same}
-use Rattle.shelf.proofs.Checks.{accepted, same_again}
+use Rattle.shelf.proofs.Checks.{Passing, files_told, accepted, same_again, passes_again}
 use Rattle.shelf.proofs.Chains.{stands_after}
 use Rattle.shelf.proofs.Stays.{stays_through}
 
@@ -43,48 +44,59 @@ shelf_stands w s k is b = ap (set.contains w.shelves) (sym b.2) ∙ is.keys_stan
 
 -- what a query found once it finds after a run
 found_again : (old mid : World) (s : List ℕ) (q : Query) (r : Reply) (events : List Event) (answers : List Answer)
-    → set.contains old.shelves s ≡ true → IsFound r → r ≡ query_reply old s q → Run old events answers mid → query_reply mid s q ≡ r
-found_again old mid s (GoMod p v) r events answers stands found is run =
+    → set.contains old.shelves s ≡ true → IsOfVersion q → IsFound r → r ≡ query_reply old s q → Run old events answers mid → query_reply mid s q ≡ r
+found_again old mid s (query.GoMod p v) r events answers stands single found is run =
     elim (view old s p (version_text v)) as (λ o. view old s p (version_text v) ≡ o → r ≡ gomod_reply o → gomod_reply (view mid s p (version_text v)) ≡ r) [
       | None ↦ λ _ e. absurd (subst IsFound e found)
       | Some seen ↦ λ here e. ap gomod_reply (stays_through old mid s p (version_text v) events answers seen stands run here) ∙ sym e
     ] refl is
-found_again old mid s (Zip p v) r events answers stands found is run =
+found_again old mid s (query.Zip p v) r events answers stands single found is run =
     elim (view old s p (version_text v)) as (λ o. view old s p (version_text v) ≡ o → r ≡ zip_reply o → zip_reply (view mid s p (version_text v)) ≡ r) [
       | None ↦ λ _ e. absurd (subst IsFound e found)
       | Some seen ↦ λ here e. ap zip_reply (stays_through old mid s p (version_text v) events answers seen stands run here) ∙ sym e
     ] refl is
+found_again old mid s (query.Info p v) r events answers stands single found is run =
+    elim (view old s p (version_text v)) as (λ o. view old s p (version_text v) ≡ o → r ≡ info_reply v o → info_reply v (view mid s p (version_text v)) ≡ r) [
+      | None ↦ λ _ e. absurd (subst IsFound e found)
+      | Some seen ↦ λ here e. ap (info_reply v) (stays_through old mid s p (version_text v) events answers seen stands run here) ∙ sym e
+    ] refl is
+found_again old mid s q r events answers stands single found is run = absurd single
 
 pub stays_served : StaysServed
-stays_served old mid new s k later q r events answers (Failed fault) world own found run own_later again = inr tt
-stays_served old mid new s k later q r events answers (Replied x) world own found run own_later again =
-    inl (ap Replied (again.0 ∙ by_key mid s later q own_later ∙ found_again old mid s q r events answers (shelf_stands old s k world own) found (run.0 ∙ by_key old s k q own) run.1))
+stays_served old mid new s k later q r events answers (Failed fault) world own single found run own_later again = inr tt
+stays_served old mid new s k later q r events answers (Replied x) world own single found run own_later again =
+    inl (ap Replied (again.0 ∙ by_key mid s later q own_later ∙ found_again old mid s q r events answers (shelf_stands old s k world own) single found (run.0 ∙ by_key old s k q own) run.1))
 
 -- ---- what was accepted
 
 -- what was handed in is what the shelf sees
 pub record Kept (w : World) (s : List ℕ) (p : Publish) : Type 0 where
-  pub readable : is_readable p ≡ true
-  pub small : is_too_large (offered p) ≡ false
+  pub passing : Passing p (Some Publishes) (gomod_of p)
   pub seen : Seen
   pub is_seen : view w s p.path (version_text p.version) ≡ Some seen
   pub is_offered : offered p ≡ Some seen.entry
 
-both_equal : (a b c d : List ℕ) → (bytes_eq a b && bytes_eq c d) ≡ true → (a ≡ b) × (c ≡ d)
-both_equal a b c d e =
-    elim (bytes_eq a b) as (λ x. bytes_eq a b ≡ x → (x && bytes_eq c d) ≡ true → (a ≡ b) × (c ≡ d)) [
-      | true ↦ λ ab cd. (text_same a b ab, text_same c d cd)
-      | false ↦ λ _ never. absurd (true≢false (sym never))
-    ] refl e
+same_times : (t u : Option (List ℕ)) → same_time t u ≡ true → t ≡ u
+same_times None None e = refl
+same_times None (Some u) e = absurd (true≢false (sym e))
+same_times (Some t) None e = absurd (true≢false (sym e))
+same_times (Some t) (Some u) e = ap Some (text_same t u e)
 
-same_whole : (d e : Entry) → (d.gomod ≡ e.gomod) × (d.zip ≡ e.zip) → e ≡ d
-same_whole d e both = λ i. record { gomod = sym both.0 i; zip = sym both.1 i }
+same_whole : (d e : Entry) → same_entry d e ≡ true → e ≡ d
+same_whole d e same =
+    let parts = and_parts (bytes_eq d.gomod e.gomod && bytes_eq d.zip e.zip) (same_time d.time e.time) same in
+    let files = and_parts (bytes_eq d.gomod e.gomod) (bytes_eq d.zip e.zip) parts.0 in
+    λ i. record {
+      gomod = sym (text_same d.gomod e.gomod files.0) i;
+      zip = sym (text_same d.zip e.zip files.1) i;
+      time = sym (same_times d.time e.time parts.1) i;
+    }
 
 -- an entry that is the same as the one that is handed in
 same_offer : (seen offer : Option Entry) → is_same seen offer ≡ true → (e : Entry) × (seen ≡ Some e) × (offer ≡ Some e)
 same_offer None offer e = absurd (true≢false (sym e))
 same_offer (Some d) None e = absurd (true≢false (sym e))
-same_offer (Some d) (Some f) e = (d, refl, ap Some (same_whole d f (both_equal d.gomod f.gomod d.zip f.zip e)))
+same_offer (Some d) (Some f) e = (d, refl, ap Some (same_whole d f e))
 
 entry_is_seen : (o : Option Seen) (e : Entry) → option_map (λ (x : Seen). x.entry) o ≡ Some e → (seen : Seen) × (o ≡ Some seen) × (seen.entry ≡ e)
 entry_is_seen None e is = cc
@@ -96,8 +108,8 @@ body_there (Some b) e = (b, refl)
 
 kept_published : (w : World) (h : Holder) (p : Publish) → decision w (Some h) p ≡ Published → Kept (after_decision w (Some h) p Published) h.shelf p
 kept_published w h p is =
-    let checks = accepted p (Some h.right) (entry_seen w h.shelf p) _ is in
-    let there = body_there p.body checks.told in
+    let checks = accepted p (Some h.right) (gomod_of p) (entry_seen w h.shelf p) _ is in
+    let there = body_there p.body (files_told p (Some h.right) (gomod_of p) checks.passing) in
     let b = there.0 in
     let body = there.1 in
     let offer : offered p ≡ Some (entry_of p b) = ap (option_map (entry_of p)) body in
@@ -106,8 +118,7 @@ kept_published w h p is =
     let here : view after h.shelf p.path (version_text p.version) ≡ Some mine =
     ap (λ o. option_or (seen_at o h.shelf) (first_on after (common ∷ []) p.path (version_text p.version))) (get_put places_total w.entries (place_of h.shelf p) (entry_of p b)) in
     record {
-      readable = checks.readable;
-      small = checks.small;
+      passing = passes_again p h.right (gomod_of p) checks.passing;
       seen = mine;
       is_seen = subst (λ o. view (stored w (place_of h.shelf p) o) h.shelf p.path (version_text p.version) ≡ Some mine) (sym offer) here;
       is_offered = offer;
@@ -115,12 +126,11 @@ kept_published w h p is =
 
 kept_same : (w : World) (h : Holder) (p : Publish) → decision w (Some h) p ≡ Same → Kept w h.shelf p
 kept_same w h p is =
-    let checks = same_again p (Some h.right) (entry_seen w h.shelf p) _ is in
+    let checks = same_again p (Some h.right) (gomod_of p) (entry_seen w h.shelf p) _ is in
     let entry = same_offer (entry_seen w h.shelf p) (offered p) checks.same in
     let seen = entry_is_seen (view w h.shelf p.path (version_text p.version)) entry.0 entry.1 in
     record {
-      readable = checks.readable;
-      small = checks.small;
+      passing = passes_again p h.right (gomod_of p) checks.passing;
       seen = seen.0;
       is_seen = seen.1;
       is_offered = entry.2 ∙ ap Some (sym seen.2);
@@ -133,8 +143,7 @@ kept_accepted w h p d is yes_it_is = absurd yes_it_is
 
 pub kept_through : (w new : World) (s : List ℕ) (p : Publish) (es : List Event) (answers : List Answer) → set.contains w.shelves s ≡ true → Run w es answers new → Kept w s p → Kept new s p
 kept_through w new s p es answers stands run kept = record {
-  readable = kept.readable;
-  small = kept.small;
+  passing = kept.passing;
   seen = kept.seen;
   is_seen = stays_through w new s p.path (version_text p.version) es answers kept.seen stands run kept.is_seen;
   is_offered = kept.is_offered;
@@ -161,12 +170,16 @@ same_body p b e body offer = some_same _ _ (sym offer ∙ ap (option_map (entry_
     some_same x y e = cc
 
 answered_with : (w : World) (s : List ℕ) (p : Publish) (b : Body) (q : Query) (r : Reply) → Kept w s p → p.body ≡ Some b → asks_back p b q r → query_reply w s q ≡ r
-answered_with w s p b (GoMod path version) r kept body back =
+answered_with w s p b (query.GoMod path version) r kept body back =
     ap (λ x. gomod_reply (view w s x (version_text version))) back.0 ∙ ap (λ x. gomod_reply (view w s p.path (version_text x))) back.1 ∙ ap gomod_reply kept.is_seen
     ∙ ap (λ (e : Entry). reply.GoMod e.gomod) (same_body p b kept.seen.entry body kept.is_offered) ∙ sym back.2
-answered_with w s p b (Zip path version) r kept body back =
+answered_with w s p b (query.Zip path version) r kept body back =
     ap (λ x. zip_reply (view w s x (version_text version))) back.0 ∙ ap (λ x. zip_reply (view w s p.path (version_text x))) back.1 ∙ ap zip_reply kept.is_seen
     ∙ ap (λ (e : Entry). reply.Zip e.zip) (same_body p b kept.seen.entry body kept.is_offered) ∙ sym back.2
+answered_with w s p b (query.Info path version) r kept body back =
+    ap (λ x. info_reply version (view w s x (version_text version))) back.0 ∙ ap (λ x. info_reply version (view w s p.path (version_text x))) back.1 ∙ ap (info_reply version) kept.is_seen
+    ∙ ap (λ (e : Entry). reply.Info version e.time) (same_body p b kept.seen.entry body kept.is_offered) ∙ sym back.2
+answered_with w s p b q r kept body back = absurd back
 
 pub accepted_is_served : AcceptedIsServed
 accepted_is_served old mid new s k later p b d q r events answers (Failed fault) world own body yes_it_is run own_later back again = inr tt

@@ -6,7 +6,7 @@ use Rattle.std.specs.declared.cmp.Ordering.{Ordering}
 use Rattle.std.specs.Cmp.{IsTotalOrder}
 use Rattle.std.specs.FinMap as map
 use Rattle.std.specs.FinSet as set
-use Rattle.std.proofs.lemmas.Bool.{true≢false}
+use Rattle.std.proofs.lemmas.Bool.{true≢false, and_parts, or_cases, or_right}
 use Rattle.std.proofs.lemmas.Map.Views.{tells_apart}
 use Rattle.shelf.specs.declared.entry.Place.{Place}
 use Rattle.shelf.specs.declared.entry.Entry.{Entry}
@@ -14,18 +14,17 @@ use Rattle.shelf.specs.declared.entry.Holder.{Holder}
 use Rattle.shelf.specs.declared.entry.Right.{Right}
 use Rattle.shelf.specs.declared.ask.Publish.{Publish}
 use Rattle.shelf.specs.declared.ask.Ask.TheVariants.{Unreadable, Get, Put}
-use Rattle.shelf.specs.declared.ask.Event.TheVariants.{Asked, TeamAdd, KeyAdd}
+use Rattle.shelf.specs.declared.ask.Event.TheVariants.{Asked, TeamAdd, KeyAdd, KeyRevoke}
 use Rattle.shelf.specs.declared.reply.Decision.{Decision}
 use Rattle.shelf.specs.declared.reply.Decision.TheVariants.{Published}
 use Rattle.shelf.specs.declared.reply.Registered.{Registered}
 use Rattle.shelf.specs.declared.reply.Registered.TheVariants.{Done, Name, Taken, NoTeam}
 use Rattle.shelf.specs.declared.reply.Answer.TheVariants.{Replied, Failed}
-use Rattle.shelf.specs.World.{World, IsWorld, IsEntry, common, is_team_name, is_key, version_limit, text_cmp, count, with_entry, with_key, with_team}
-use Rattle.shelf.specs.Machine.{decision, after_decision, stored, offered, place_of, team_added, key_added, after_team_add, after_key_add, after}
+use Rattle.shelf.specs.World.{World, IsWorld, IsEntry, common, is_team_name, is_key, version_limit, text_cmp, count, with_entry, with_key, without_key, with_team}
+use Rattle.shelf.specs.Machine.{decision, after_decision, stored, offered, place_of, team_added, key_added, key_revoked, after_team_add, after_key_add, after_key_revoke, after}
 use Rattle.shelf.specs.Laws.{WorldStays, RunsKeepWorlds}
 use Rattle.shelf.specs.Store.{IsRoomFor}
 use Rattle.shelf.proofs.Orders.{texts_total, texts_exact, places_total, places_exact, text_same}
-use Rattle.shelf.proofs.Views.{or_right, or_cases, and_both}
 use Rattle.shelf.proofs.Retained.{stays, goes}
 use Rattle.shelf.proofs.Checks.{room_for}
 
@@ -60,7 +59,7 @@ count_after w q e s p room few =
     let test : Place → Bool = λ r. bytes_eq r.shelf s && bytes_eq r.path p in
     elim (test q) as (λ b. test q ≡ b → count (with_entry w q e) s p ≤ version_limit) [
       | true ↦ λ passes.
-          let same = and_both (bytes_eq q.shelf s) (bytes_eq q.path p) passes in
+          let same = and_parts (bytes_eq q.shelf s) (bytes_eq q.path p) passes in
           let here : count w s p < version_limit = subst (λ x. count w x p < version_limit) (text_same q.shelf s same.0) (subst (λ x. count w q.shelf x < version_limit) (text_same q.path p same.1) room) in
           let grown : count (with_entry w q e) s p ≡ cond (map.contains_key (map.retain_keys w.entries test) q) (count w s p) (count w s p + 1) =
           ap map.len (stays places_total places_exact test w.entries q e passes) ∙ map.len-insert places_total (map.retain_keys w.entries test) q e in
@@ -100,6 +99,25 @@ key_stands w k h is named stands = record {
     | inl here ↦ ap (λ (y : Holder). set.contains w.shelves y.shelf) (sym here.1) ∙ stands
     | inr before ↦ is.keys_stand j g before
   ];
+  entries_fit = is.entries_fit;
+  entries_stand = is.entries_stand;
+  few = is.few;
+}
+
+-- what stands after a key is gone stood before
+left_before : {X : Type 0} (b : Bool) (old : Option X) (y : X) → cond b None old ≡ Some y → old ≡ Some y
+left_before true old y e = cc
+left_before false old y e = e
+
+key_before : (w : World) (k j : List ℕ) (h : Holder) → map.get (without_key w k).keys j ≡ Some h → map.get w.keys j ≡ Some h
+key_before w k j h at = left_before (eq_by_cmp text_cmp j k) (map.get w.keys j) h (sym (map.get-remove texts_total w.keys k j) ∙ at)
+
+pub key_gone : (w : World) (k : List ℕ) → IsWorld w → IsWorld (without_key w k)
+key_gone w k is = record {
+  has_common = is.has_common;
+  team_names = is.team_names;
+  key_names = λ j h at. is.key_names j h (key_before w k j h at);
+  keys_stand = λ j h at. is.keys_stand j h (key_before w k j h at);
   entries_fit = is.entries_fit;
   entries_stand = is.entries_stand;
   few = is.few;
@@ -162,12 +180,17 @@ sound_key w t k right Done is e =
     let fit = key_is_fit (is_key k) (set.contains w.shelves t) (map.contains_key w.keys k) e in key_stands w k (record { shelf = t; right = right }) is fit.0 fit.1
 sound_key w t k right r is e = is
 
+sound_revoke : (w : World) (k : List ℕ) (r : Registered) → IsWorld w → IsWorld (after_key_revoke w k r)
+sound_revoke w k Done is = key_gone w k is
+sound_revoke w k r is = is
+
 pub sound : WorldStays
 sound w (Asked Unreadable) is = is
 sound w (Asked (Get k q)) is = is
 sound w (Asked (Put k p)) is = sound_put w (map.get w.keys k) p is (λ h e. is.keys_stand k h e)
 sound w (TeamAdd t) is = sound_team w t (team_added w t) is refl
 sound w (KeyAdd t k right) is = sound_key w t k right (key_added w t k) is refl
+sound w (KeyRevoke k) is = sound_revoke w k (key_revoked w k) is
 
 pub world_through : RunsKeepWorlds
 world_through w new [] [] is run = subst IsWorld (sym run) is

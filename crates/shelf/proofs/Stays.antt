@@ -4,7 +4,7 @@ use Rattle.std.specs.Prelude.{bytes_eq, ◌||◌}
 use Rattle.std.specs.Option.{option_or}
 use Rattle.std.specs.FinMap as map
 use Rattle.std.specs.FinSet as set
-use Rattle.std.proofs.lemmas.Bool.{true≢false}
+use Rattle.std.proofs.lemmas.Bool.{true≢false, or_right}
 use Rattle.modver.specs.SemanticVersion.{version_text}
 use Rattle.shelf.specs.declared.entry.Place.{Place}
 use Rattle.shelf.specs.declared.entry.Entry.{Entry}
@@ -14,7 +14,7 @@ use Rattle.shelf.specs.declared.entry.Right.{Right}
 use Rattle.shelf.specs.declared.ask.Publish.{Publish}
 use Rattle.shelf.specs.declared.ask.Ask.TheVariants.{Unreadable, Get, Put}
 use Rattle.shelf.specs.declared.ask.Event.{Event}
-use Rattle.shelf.specs.declared.ask.Event.TheVariants.{Asked, TeamAdd, KeyAdd}
+use Rattle.shelf.specs.declared.ask.Event.TheVariants.{Asked, TeamAdd, KeyAdd, KeyRevoke}
 use Rattle.shelf.specs.declared.reply.Decision.{Decision}
 use Rattle.shelf.specs.declared.reply.Decision.TheVariants.{Published}
 use Rattle.shelf.specs.declared.reply.Registered.{Registered}
@@ -22,10 +22,10 @@ use Rattle.shelf.specs.declared.reply.Registered.TheVariants.{Done}
 use Rattle.shelf.specs.declared.reply.Answer.{Answer}
 use Rattle.shelf.specs.declared.reply.Answer.TheVariants.{Replied, Failed}
 use Rattle.shelf.specs.World.{World, chain, place, seen_at, first_on, view, with_entry}
-use Rattle.shelf.specs.Machine.{decision, after_decision, stored, offered, place_of, team_added, key_added, after_team_add, after_key_add, after, Run}
+use Rattle.shelf.specs.Machine.{decision, after_decision, stored, offered, place_of, team_added, key_added, key_revoked, after_team_add, after_key_add, after_key_revoke, after, Run}
 use Rattle.shelf.specs.Isolation.{is_among, sees}
 use Rattle.shelf.proofs.Orders.{places_total, places_exact, get_elsewhere, text_self, text_same, text_apart}
-use Rattle.shelf.proofs.Views.{or_right, sees_itself, sees_common, only_common, view_same}
+use Rattle.shelf.proofs.Views.{sees_itself, sees_common, only_common, view_same}
 use Rattle.shelf.proofs.Chains.{stands_after}
 use Rattle.shelf.proofs.Checks.{unseen}
 
@@ -143,12 +143,17 @@ entries_key : (w : World) (t k : List ℕ) (right : Right) (r : Registered) → 
 entries_key w t k right Done = refl
 entries_key w t k right r = refl
 
+entries_revoke : (w : World) (k : List ℕ) (r : Registered) → w.entries ≡ (after_key_revoke w k r).entries
+entries_revoke w k Done = refl
+entries_revoke w k r = refl
+
 pub stays_seen : (w : World) (s p v : List ℕ) (e : Event) (seen : Seen) → set.contains w.shelves s ≡ true → view w s p v ≡ Some seen → view (after w e) s p v ≡ Some seen
 stays_seen w s p v (Asked Unreadable) seen stands found = found
 stays_seen w s p v (Asked (Get k q)) seen stands found = found
 stays_seen w s p v (Asked (Put k a)) seen stands found = stays_put w s p v (map.get w.keys k) a seen found
 stays_seen w s p v (TeamAdd t) seen stands found = stays_registry w (after w (TeamAdd t)) s p v seen (entries_team w t (team_added w t)) (stands_after w s (TeamAdd t) stands).chains found
 stays_seen w s p v (KeyAdd t k right) seen stands found = stays_registry w (after w (KeyAdd t k right)) s p v seen (entries_key w t k right (key_added w t k)) (stands_after w s (KeyAdd t k right) stands).chains found
+stays_seen w s p v (KeyRevoke k) seen stands found = stays_registry w (after w (KeyRevoke k)) s p v seen (entries_revoke w k (key_revoked w k)) (stands_after w s (KeyRevoke k) stands).chains found
 
 -- ---- a run
 

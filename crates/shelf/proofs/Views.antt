@@ -1,35 +1,16 @@
--- Which shelves a shelf sees, and what two worlds that agree on these answer to it.
-use Rattle.std.proofs.Common.{◌≡◌, ℕ, List, [], ◌∷◌, Bool, true, false, cond, refl, ◌∙◌, sym, ap, subst, Option, Some, None, inl, inr, ◌⊎◌}
-use Rattle.std.specs.Prelude.{bytes_eq, ◌&&◌, ◌||◌, option_map}
+-- Which shelves a shelf sees, and what two worlds that agree on these show to it.
+use Rattle.std.proofs.Common.{◌≡◌, ℕ, List, [], ◌∷◌, Bool, true, false, cond, refl, ◌∙◌, sym, ap, subst, Option, None, inl, inr, ◌⊎◌}
+use Rattle.std.specs.Prelude.{bytes_eq, ◌&&◌, ◌||◌}
 use Rattle.std.specs.Option.{option_or}
 use Rattle.std.specs.declared.cmp.Ordering.TheVariants.{Equal}
 use Rattle.std.specs.FinMap as map
-use Rattle.std.proofs.lemmas.Bool.{true≢false}
-use Rattle.modver.specs.SemanticVersion.{version_text}
+use Rattle.std.proofs.lemmas.Bool.{true≢false, and_parts, or_cases, or_right}
 use Rattle.shelf.specs.declared.entry.Place.{Place}
-use Rattle.shelf.specs.declared.entry.Seen.{Seen}
-use Rattle.shelf.specs.declared.entry.Holder.{Holder}
-use Rattle.shelf.specs.declared.ask.Query.{Query}
-use Rattle.shelf.specs.declared.ask.Query.TheVariants.{GoMod, Zip}
-use Rattle.shelf.specs.declared.ask.Publish.{Publish}
 use Rattle.shelf.specs.World.{World, IsWorld, common, chain, place, place_cmp, seen_at, first_on, view, count}
-use Rattle.shelf.specs.Machine.{decided, decision, entry_seen, query_reply, gomod_reply, zip_reply}
 use Rattle.shelf.specs.Isolation.{is_among, sees}
 use Rattle.shelf.proofs.Orders.{places_total, places_exact, text_self, text_same}
 
 -- ---- which shelves a shelf sees
-
-pub or_cases : (a b : Bool) → (a || b) ≡ true → (a ≡ true) ⊎ (b ≡ true)
-or_cases true b e = inl refl
-or_cases false b e = inr e
-
-pub or_right : (a b : Bool) → b ≡ true → (a || b) ≡ true
-or_right true b e = refl
-or_right false b e = e
-
-pub and_both : (a b : Bool) → (a && b) ≡ true → (a ≡ true) × (b ≡ true)
-and_both true b e = (refl, e)
-and_both false b e = absurd (true≢false (sym e))
 
 pub sees_itself : (w : World) (s : List ℕ) → sees w s s ≡ true
 sees_itself w s = ap (λ b. b || is_among (common ∷ []) s) (text_self s)
@@ -79,24 +60,13 @@ pub guarded : {A : Type 0} (b : Bool) (x y : Option A) → (b ≡ true → x ≡
 guarded true x y same = same refl
 guarded false x y same = refl
 
-count_same : (w x : World) (s p : List ℕ) → SameOn w x s → count w s p ≡ count x s p
+pub count_same : (w x : World) (s p : List ℕ) → SameOn w x s → count w s p ≡ count x s p
 count_same w x s p same =
     let test : Place → Bool = λ q. bytes_eq q.shelf s && bytes_eq q.path p in
     ap map.len (map.same_map places_total places_exact _ _ (λ q.
     map.get-retain_keys w.entries test q (test_alike test q)
     ∙ guarded (test q) (map.get w.entries q) (map.get x.entries q) (λ e.
-    let both = and_both (bytes_eq q.shelf s) (bytes_eq q.path p) e in
+    let both = and_parts (bytes_eq q.shelf s) (bytes_eq q.path p) e in
     let here : place s p q.version ≡ q = λ i. record { shelf = sym (text_same q.shelf s both.0) i; path = sym (text_same q.path p both.1) i; version = q.version } in
     subst (λ r. map.get w.entries r ≡ map.get x.entries r) here (same p q.version))
     ∙ sym (map.get-retain_keys x.entries test q (test_alike test q))))
-
--- ---- what they decide and answer
-
-pub decision_same : (w x : World) (h : Holder) (p : Publish) → chain w h.shelf ≡ chain x h.shelf → SameSeen w x h.shelf → decision w (Some h) p ≡ decision x (Some h) p
-decision_same w x h p chains same =
-    ap (λ seen. decided p (Some h.right) (option_map (λ (o : Seen). o.entry) seen) (count w h.shelf p.path)) (view_same w x h.shelf p.path (version_text p.version) chains same)
-    ∙ ap (λ n. decided p (Some h.right) (entry_seen x h.shelf p) n) (count_same w x h.shelf p.path (same h.shelf (sees_itself w h.shelf)))
-
-pub query_same : (w x : World) (s : List ℕ) (q : Query) → chain w s ≡ chain x s → SameSeen w x s → query_reply w s q ≡ query_reply x s q
-query_same w x s (GoMod p v) chains same = ap gomod_reply (view_same w x s p (version_text v) chains same)
-query_same w x s (Zip p v) chains same = ap zip_reply (view_same w x s p (version_text v) chains same)

@@ -3,7 +3,7 @@ use Rattle.std.specs.Prelude.{ℕ, ◌≡◌, ◌⊎◌, List, [], ◌∷◌, So
 use Rattle.std.specs.FinMap as map
 use Rattle.shelf.specs.declared.entry.Right.TheVariants.{Publishes}
 use Rattle.shelf.specs.declared.ask.Query.{Query}
-use Rattle.shelf.specs.declared.ask.Query.TheVariants.{GoMod, Zip}
+use Rattle.shelf.specs.declared.ask.Query.TheVariants as query
 use Rattle.shelf.specs.declared.ask.Body.{Body}
 use Rattle.shelf.specs.declared.ask.Publish.{Publish}
 use Rattle.shelf.specs.declared.ask.Ask.TheVariants.{Get, Put}
@@ -16,26 +16,34 @@ use Rattle.shelf.specs.declared.reply.Reply.TheVariants as reply
 use Rattle.shelf.specs.declared.reply.Answer.{Answer}
 use Rattle.shelf.specs.declared.reply.Answer.TheVariants.{Replied, Failed}
 use Rattle.shelf.specs.World.{World, IsWorld}
-use Rattle.shelf.specs.Machine.{Run}
+use Rattle.shelf.specs.Machine.{Run, entry_of}
 use Rattle.shelf.specs.Isolation.{belongs}
 
 abbrev pub IsFailed : Answer → Type 0
 IsFailed (Replied r) = ⊥
 IsFailed (Failed fault) = Unit {0}
 
+-- a query of one version
+abbrev pub IsOfVersion : Query → Type 0
+IsOfVersion (query.GoMod path version) = Unit {0}
+IsOfVersion (query.Zip path version) = Unit {0}
+IsOfVersion (query.Info path version) = Unit {0}
+IsOfVersion q = ⊥
+
 -- what is told of one version that was found
 abbrev pub IsFound : Reply → Type 0
 IsFound (reply.GoMod b) = Unit {0}
 IsFound (reply.Zip b) = Unit {0}
+IsFound (reply.Info v time) = Unit {0}
 IsFound r = ⊥
 
--- Once a query by a key of s found a version, then after any events the same query by any key that then
+-- Once a query of one version by a key of s found it, then after any events the same query by any key that then
 -- belongs to s is answered the same, or meets a fault. A run may be cut at any event, so this holds from
 -- each event of a run on.
 abbrev pub StaysServed : Type 0
 StaysServed =
     (old mid new : World) (s k later : List ℕ) (q : Query) (r : Reply) (events : List Event) (answers : List Answer) (a : Answer)
-    → IsWorld old → belongs old k s → IsFound r
+    → IsWorld old → belongs old k s → IsOfVersion q → IsFound r
     → Run old (Asked (Get k q) ∷ events) (Replied r ∷ answers) mid
     → belongs mid later s → Run mid (Asked (Get later q) ∷ []) (a ∷ []) new
     → (a ≡ Replied r) ⊎ IsFailed a
@@ -46,13 +54,15 @@ IsAccepted Published = Unit {0}
 IsAccepted Same = Unit {0}
 IsAccepted d = ⊥
 
--- what a query of the path and version of a publish asks of its files
+-- what a query of the path and version of a publish asks of what it handed in
 abbrev pub asks_back : Publish → Body → Query → Reply → Type 0
-asks_back p b (GoMod path version) r = (path ≡ p.path) × (version ≡ p.version) × (r ≡ reply.GoMod b.gomod)
-asks_back p b (Zip path version) r = (path ≡ p.path) × (version ≡ p.version) × (r ≡ reply.Zip b.zip)
+asks_back p b (query.GoMod path version) r = (path ≡ p.path) × (version ≡ p.version) × (r ≡ reply.GoMod b.gomod)
+asks_back p b (query.Zip path version) r = (path ≡ p.path) × (version ≡ p.version) × (r ≡ reply.Zip b.zip)
+asks_back p b (query.Info path version) r = (path ≡ p.path) × (version ≡ p.version) × (r ≡ reply.Info version (entry_of p b).time)
+asks_back p b q r = ⊥
 
--- Once a publish by a key of s was accepted, then after any events each key that belongs to s gets its go.mod
--- and its zip, or meets a fault.
+-- Once a publish by a key of s was accepted, then after any events each key that belongs to s gets its go.mod,
+-- its zip and its time, or meets a fault.
 abbrev pub AcceptedIsServed : Type 0
 AcceptedIsServed =
     (old mid new : World) (s k later : List ℕ) (p : Publish) (b : Body) (d : Decision) (q : Query) (r : Reply) (events : List Event) (answers : List Answer) (a : Answer)

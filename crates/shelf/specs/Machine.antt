@@ -10,24 +10,38 @@ use Rattle.shelf.specs.declared.entry.Holder.{Holder}
 use Rattle.shelf.specs.declared.entry.Right.{Right}
 use Rattle.shelf.specs.declared.entry.Right.TheVariants.{Reads, Publishes}
 use Rattle.shelf.specs.declared.ask.Query.{Query}
-use Rattle.shelf.specs.declared.ask.Query.TheVariants.{GoMod, Zip}
+use Rattle.shelf.specs.declared.ask.Query.TheVariants as query
+use Rattle.shelf.specs.declared.ask.GivenTime.{GivenTime}
+use Rattle.shelf.specs.declared.ask.GivenTime.TheVariants.{Absent, At, Malformed}
 use Rattle.shelf.specs.declared.ask.Body.{Body}
 use Rattle.shelf.specs.declared.ask.Publish.{Publish}
 use Rattle.shelf.specs.declared.ask.Ask.{Ask}
 use Rattle.shelf.specs.declared.ask.Ask.TheVariants.{Unreadable, Get, Put}
 use Rattle.shelf.specs.declared.ask.Event.{Event}
-use Rattle.shelf.specs.declared.ask.Event.TheVariants.{Asked, TeamAdd, KeyAdd}
+use Rattle.shelf.specs.declared.ask.Event.TheVariants.{Asked, TeamAdd, KeyAdd, KeyRevoke}
 use Rattle.shelf.specs.declared.reply.Decision.{Decision}
-use Rattle.shelf.specs.declared.reply.Decision.TheVariants.{Published, Same, NotFound, Forbidden, BadLength, TooLarge, Conflict, Full}
+use Rattle.shelf.specs.declared.reply.Decision.TheVariants.{Published, Same, NotFound, Forbidden, BadLength, TooLarge, Refused, Conflict, Full}
+use Rattle.shelf.specs.declared.reply.Refusal.TheVariants as refusal
 use Rattle.shelf.specs.declared.reply.Registered.{Registered}
-use Rattle.shelf.specs.declared.reply.Registered.TheVariants.{Done, Name, Taken, NoTeam}
+use Rattle.shelf.specs.declared.reply.Registered.TheVariants.{Done, Name, Taken, NoTeam, NoKey}
 use Rattle.shelf.specs.declared.reply.Reply.TheVariants as reply
 use Rattle.shelf.specs.declared.reply.Reply.{Reply}
 use Rattle.shelf.specs.declared.reply.Answer.{Answer}
 use Rattle.shelf.specs.declared.reply.Answer.TheVariants.{Replied, Failed}
 use Rattle.shelf.specs.declared.reply.StoreFault.TheVariants.{Device}
-use Rattle.shelf.specs.Forms.{is_path, is_version}
-use Rattle.shelf.specs.World.{World, is_team_name, is_key, gomod_limit, zip_limit, version_limit, place, view, count, with_entry, with_key, with_team}
+use Rattle.gomod.specs.Module.{GoModule}
+use Rattle.modver.specs.Class.{class_of}
+use Rattle.modver.specs.SemanticVersion.{SemanticVersion}
+use Rattle.modver.specs.declared.version.Class.{Class}
+use Rattle.modver.specs.declared.version.Class.TheVariants as class
+use Rattle.shelf.specs.declared.reading.Reading.{Reading}
+use Rattle.shelf.specs.declared.reading.Reading.TheVariants.{Module, Fault}
+use Rattle.shelf.specs.Forms.{is_path, is_version, is_time, fits, suffix_of}
+use Rattle.shelf.specs.GoMods.{reading_of, module_told}
+use Rattle.shelf.specs.Lines.{in_order}
+use Rattle.shelf.specs.Versions.{named, listed, highest, unretracted}
+use Rattle.shelf.specs.Visible.{versions_seen, paths_seen}
+use Rattle.shelf.specs.World.{World, is_team_name, is_key, gomod_limit, zip_limit, version_limit, place, view, count, with_entry, with_key, without_key, with_team}
 
 -- ---- the checks of a publish
 
@@ -45,9 +59,15 @@ may_publish None = false
 may_publish (Some Reads) = false
 may_publish (Some Publishes) = true
 
+-- the time of an entry: of a pseudo-version that of its stamp, of another version the given one
+abbrev pub entry_time : Class → GivenTime → Option (List ℕ)
+entry_time (class.Pseudo stamp) given = Some stamp
+entry_time c (At time) = Some time
+entry_time c given = None
+
 -- the entry that its files make
 abbrev pub entry_of : Publish → Body → Entry
-entry_of p b = record { gomod = b.gomod; zip = b.zip }
+entry_of p b = record { gomod = b.gomod; zip = b.zip; time = entry_time (class_of p.version) p.time }
 
 -- the entry that is handed in, if the files are told apart
 abbrev pub offered : Publish → Option Entry
@@ -57,6 +77,25 @@ abbrev pub is_too_large : Option Entry → Bool
 is_too_large None = false
 is_too_large (Some e) = nat_lt gomod_limit (length e.gomod) || nat_lt zip_limit (length e.zip)
 
+-- what is given is no time
+abbrev pub is_bad_time : GivenTime → Bool
+is_bad_time Absent = false
+is_bad_time (At time) = not (is_time time)
+is_bad_time Malformed = true
+
+-- the time that is given is not that of the stamp
+abbrev pub is_other_time : Class → GivenTime → Bool
+is_other_time (class.Pseudo stamp) (At time) = not (bytes_eq stamp time)
+is_other_time c given = false
+
+-- the checks of the version and of the time that is given, each with its answer
+abbrev pub version_checks : Publish → List (Bool × Decision)
+version_checks p =
+    (not (fits (suffix_of p.path) p.version), Refused refusal.MajorMismatch)
+    ∷ (is_bad_time p.time, Refused refusal.BadTime)
+    ∷ (is_other_time (class_of p.version) p.time, Refused refusal.TimeMismatch)
+    ∷ []
+
 -- the checks of a publish alone, by a key with this right (none: an unknown key), each with its answer
 abbrev pub request_checks : Publish → Option Right → List (Bool × Decision)
 request_checks p right =
@@ -65,10 +104,50 @@ request_checks p right =
     ∷ (not (may_publish right), Forbidden)
     ∷ (is_none p.body, BadLength)
     ∷ (is_too_large (offered p), TooLarge)
+    ∷ version_checks p
+
+-- ---- the go.mod of a publish, if it was read
+
+abbrev pub has_fault : Option Reading → Bool
+has_fault (Some (Fault line)) = true
+has_fault reading = false
+
+abbrev pub fault_line : Option Reading → ℕ
+fault_line (Some (Fault line)) = line
+fault_line reading = 0
+
+-- it names another path
+abbrev pub names_other : List ℕ → Option Reading → Bool
+names_other p (Some (Module m)) = not (bytes_eq m.path p)
+names_other p reading = false
+
+-- it has more than its module directive
+abbrev pub has_more : Option Reading → Bool
+has_more (Some (Module m)) = not m.bare
+has_more reading = false
+
+-- its checks, each with its answer
+abbrev pub gomod_checks : Publish → Option Reading → List (Bool × Decision)
+gomod_checks p reading =
+    (has_fault reading, Refused (refusal.BadGoMod (fault_line reading)))
+    ∷ (names_other p.path reading, Refused refusal.ModulePath)
+    ∷ (p.version.marked && has_more reading, Refused refusal.IncompatibleGoMod)
     ∷ []
 
+-- what reading the go.mod of a publish gives
+abbrev pub gomod_of : Publish → Option Reading
+gomod_of p = option_map (λ b. reading_of b.gomod) p.body
+
+-- ---- what stands already
+
+abbrev pub same_time : Option (List ℕ) → Option (List ℕ) → Bool
+same_time None None = true
+same_time None (Some u) = false
+same_time (Some t) None = false
+same_time (Some t) (Some u) = bytes_eq t u
+
 abbrev pub same_entry : Entry → Entry → Bool
-same_entry d e = bytes_eq d.gomod e.gomod && bytes_eq d.zip e.zip
+same_entry d e = bytes_eq d.gomod e.gomod && bytes_eq d.zip e.zip && same_time d.time e.time
 
 -- whether two entries are there and the same
 abbrev pub is_same : Option Entry → Option Entry → Bool
@@ -84,8 +163,8 @@ shelf_checks p seen n =
     ∷ []
 
 -- the outcome of the checks in their order
-abbrev pub decided : Publish → Option Right → Option Entry → ℕ → Decision
-decided p right seen n = unwrap_or (first_failing (request_checks p right ++ shelf_checks p seen n)) Published
+abbrev pub decided : Publish → Option Right → Option Reading → Option Entry → ℕ → Decision
+decided p right reading seen n = unwrap_or (first_failing (request_checks p right ++ gomod_checks p reading ++ shelf_checks p seen n)) Published
 
 -- ---- a publish
 
@@ -95,8 +174,8 @@ entry_seen w s p = option_map (λ seen. seen.entry) (view w s p.path (version_te
 
 -- the decision on a publish in a world, by what its key holds
 abbrev pub decision : World → Option Holder → Publish → Decision
-decision w None p = decided p None None 0
-decision w (Some h) p = decided p (Some h.right) (entry_seen w h.shelf p) (count w h.shelf p.path)
+decision w None p = decided p None None None 0
+decision w (Some h) p = decided p (Some h.right) (gomod_of p) (entry_seen w h.shelf p) (count w h.shelf p.path)
 
 -- where a publish to a shelf is stored
 abbrev pub place_of : List ℕ → Publish → Place
@@ -121,10 +200,52 @@ abbrev pub zip_reply : Option Seen → Reply
 zip_reply None = reply.NotFound
 zip_reply (Some seen) = reply.Zip seen.entry.zip
 
+-- the name and the time of a version
+abbrev pub info_reply : SemanticVersion → Option Seen → Reply
+info_reply v None = reply.NotFound
+info_reply v (Some seen) = reply.Info v seen.entry.time
+
+-- the releases and pre-releases among the versions of a path, if it has any
+abbrev pub list_reply : List SemanticVersion → Reply
+list_reply [] = reply.NotFound
+list_reply (v ∷ vs) = reply.Versions (listed (v ∷ vs))
+
+-- the versions of a path that a shelf sees
+abbrev pub versions_of : World → List ℕ → List ℕ → List SemanticVersion
+versions_of w s p = named (in_order (versions_seen w s p))
+
+-- what the go.mod of a version says
+abbrev pub module_of : Option Seen → Option GoModule
+module_of None = None
+module_of (Some seen) = module_told (reading_of seen.entry.gomod)
+
+-- the highest of some versions that this go.mod does not retract
+abbrev pub highest_left : Option GoModule → List SemanticVersion → Option SemanticVersion
+highest_left None vs = None
+highest_left (Some m) vs = highest (unretracted m vs)
+
+-- the same by the go.mod of this version, the highest
+abbrev pub latest_by : World → List ℕ → List ℕ → Option SemanticVersion → Option SemanticVersion
+latest_by w s p None = None
+latest_by w s p (Some top) = highest_left (module_of (view w s p (version_text top))) (versions_of w s p)
+
+-- the latest version of a path: the highest that the go.mod of the highest does not retract
+abbrev pub latest_of : World → List ℕ → List ℕ → Option SemanticVersion
+latest_of w s p = latest_by w s p (highest (versions_of w s p))
+
+-- the name and the time of the latest version
+abbrev pub latest_reply : World → List ℕ → List ℕ → Option SemanticVersion → Reply
+latest_reply w s p None = reply.NotFound
+latest_reply w s p (Some v) = info_reply v (view w s p (version_text v))
+
 -- the reply to a query by a key of a shelf
 abbrev pub query_reply : World → List ℕ → Query → Reply
-query_reply w s (GoMod p v) = gomod_reply (view w s p (version_text v))
-query_reply w s (Zip p v) = zip_reply (view w s p (version_text v))
+query_reply w s (query.GoMod p v) = gomod_reply (view w s p (version_text v))
+query_reply w s (query.Zip p v) = zip_reply (view w s p (version_text v))
+query_reply w s (query.Info p v) = info_reply v (view w s p (version_text v))
+query_reply w s (query.List p) = list_reply (versions_of w s p)
+query_reply w s (query.Latest p) = latest_reply w s p (latest_of w s p)
+query_reply w s query.Modules = reply.Paths (paths_seen w s)
 
 -- the reply to a query by what its key holds
 abbrev pub keyed_reply : World → Option Holder → Query → Reply
@@ -151,6 +272,9 @@ team_added w t = if not (is_team_name t) then Name else if set.contains w.shelve
 abbrev pub key_added : World → List ℕ → List ℕ → Registered
 key_added w s k = if not (is_key k) then Name else if not (set.contains w.shelves s) then NoTeam else if map.contains_key w.keys k then Taken else Done
 
+abbrev pub key_revoked : World → List ℕ → Registered
+key_revoked w k = if map.contains_key w.keys k then Done else NoKey
+
 abbrev pub after_team_add : World → List ℕ → Registered → World
 after_team_add w t Done = with_team w t
 after_team_add w t r = w
@@ -159,17 +283,23 @@ abbrev pub after_key_add : World → List ℕ → List ℕ → Right → Registe
 after_key_add w s k right Done = with_key w k (record { shelf = s; right = right })
 after_key_add w s k right r = w
 
+abbrev pub after_key_revoke : World → List ℕ → Registered → World
+after_key_revoke w k Done = without_key w k
+after_key_revoke w k r = w
+
 -- ---- an event
 
 abbrev pub reply_to : World → Event → Reply
 reply_to w (Asked a) = ask_reply w a
 reply_to w (TeamAdd t) = reply.Registry (team_added w t)
 reply_to w (KeyAdd s k right) = reply.Registry (key_added w s k)
+reply_to w (KeyRevoke k) = reply.Registry (key_revoked w k)
 
 abbrev pub after : World → Event → World
 after w (Asked a) = after_ask w a
 after w (TeamAdd t) = after_team_add w t (team_added w t)
 after w (KeyAdd s k right) = after_key_add w s k right (key_added w s k)
+after w (KeyRevoke k) = after_key_revoke w k (key_revoked w k)
 
 -- ---- a list of events
 
@@ -223,4 +353,7 @@ MetDevice (a ∷ answers) = (a ≡ Failed Device) ⊎ MetDevice answers
 abbrev pub HasBody : Reply → Type 0
 HasBody (reply.GoMod b) = Unit {0}
 HasBody (reply.Zip b) = Unit {0}
+HasBody (reply.Info v time) = Unit {0}
+HasBody (reply.Versions vs) = Unit {0}
+HasBody (reply.Paths ps) = Unit {0}
 HasBody r = ⊥

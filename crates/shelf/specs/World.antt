@@ -10,7 +10,12 @@ use Rattle.shelf.specs.declared.entry.Place.{Place}
 use Rattle.shelf.specs.declared.entry.Entry.{Entry}
 use Rattle.shelf.specs.declared.entry.Seen.{Seen}
 use Rattle.shelf.specs.declared.entry.Holder.{Holder}
-use Rattle.shelf.specs.Forms.{IsPath, IsVersionText}
+use Rattle.shelf.specs.Forms.{IsPath, IsVersionText, fits, suffix_of}
+use Rattle.shelf.specs.GoMods.{IsGoModOf}
+use Rattle.modver.specs.Class.{class_of}
+use Rattle.modver.specs.Time.{IsTime}
+use Rattle.modver.specs.declared.version.Class.{Class}
+use Rattle.modver.specs.declared.version.Class.TheVariants as class
 pub use Rattle.shelf.specs.Names.{common, is_team_name, is_key}
 
 -- the order of texts: byte by byte
@@ -58,7 +63,7 @@ on_shelf w s = map.retain_keys w.entries (λ q. bytes_eq q.shelf s)
 abbrev pub count : World → List ℕ → List ℕ → ℕ
 count w s p = map.len (map.retain_keys w.entries (λ q. bytes_eq q.shelf s && bytes_eq q.path p))
 
--- ---- one more
+-- ---- one more, or one less
 
 -- one more entry
 abbrev pub with_entry : World → Place → Entry → World
@@ -67,6 +72,10 @@ with_entry w q e = record { keys = w.keys; shelves = w.shelves; entries = map.in
 -- one more key
 abbrev pub with_key : World → List ℕ → Holder → World
 with_key w k h = record { keys = map.insert w.keys k h; shelves = w.shelves; entries = w.entries }
+
+-- one key less
+abbrev pub without_key : World → List ℕ → World
+without_key w k = record { keys = map.remove w.keys k; shelves = w.shelves; entries = w.entries }
 
 -- one more team
 abbrev pub with_team : World → List ℕ → World
@@ -90,12 +99,22 @@ zip_limit = 16777216
 abbrev pub version_limit : ℕ
 version_limit = 4096
 
--- an entry may stand at a place: path and version are well formed, and the files are within the limits
+-- the time of a pseudo-version is that of its stamp; another version has a time, or none
+abbrev pub IsTimeOf : Class → Option (List ℕ) → Type 0
+IsTimeOf (class.Pseudo stamp) time = time ≡ Some stamp
+IsTimeOf c None = Unit {0}
+IsTimeOf c (Some time) = IsTime time
+
+-- an entry may stand at a place: path and version are well formed and go together, the files are within
+-- the limits, the time is that of the version, and the go.mod is that of the path
 pub record IsEntry (q : Place) (e : Entry) : Type 0 where
   pub path : IsPath q.path
   pub version : IsVersionText q.version
+  pub fits : fits (suffix_of q.path) version.0 ≡ true
   pub gomod : length e.gomod ≤ gomod_limit
   pub zip : length e.zip ≤ zip_limit
+  pub time : IsTimeOf (class_of version.0) e.time
+  pub reads : IsGoModOf q.path version.0.marked e.gomod
 
 pub record IsWorld (w : World) : Type 0 where
   -- common is there, and each other shelf has the name of a team

@@ -1,12 +1,13 @@
 //! What may be asked.
 ghost use Rattle.std.specs.Prelude.{◌≡◌};
-ghost use Rattle.shelf.specs.Machine.{offered};
+ghost use Rattle.modver.specs.Class.{class_of};
+ghost use Rattle.shelf.specs.Machine.{offered, entry_time};
 
 use crate::bytes::Bytes;
 use crate::entry::{EntryRef, Right};
 use crate::text::Text;
 use modpath::ModulePath;
-use modver::Version;
+use modver::{Class, TimeText, Version, class};
 
 /// What a GET asks for. (Go Modules Reference, "GOPROXY protocol".)
 #[derive(Drop)]
@@ -15,6 +16,25 @@ pub enum Query {
     GoMod { path: ModulePath, version: Version },
     /// The zip of a version.
     Zip { path: ModulePath, version: Version },
+    /// The name and the time of a version.
+    Info { path: ModulePath, version: Version },
+    /// The releases and pre-releases of a path.
+    List { path: ModulePath },
+    /// The name and the time of the latest version of a path.
+    Latest { path: ModulePath },
+    /// The paths that the shelf sees.
+    Modules,
+}
+
+/// What a PUT says of the time of its version.
+#[derive(Clone, Copy, Drop)]
+pub enum GivenTime {
+    /// Nothing.
+    Absent,
+    /// One time.
+    At(TimeText),
+    /// What is no time, or more than one.
+    Malformed,
 }
 
 /// The files of a publish.
@@ -31,6 +51,7 @@ pub struct Publish {
     pub version: Version,
     /// None where no length of the go.mod was given that splits the bytes of the request.
     pub body: Option<Body>,
+    pub time: GivenTime,
 }
 
 /// A request.
@@ -56,6 +77,10 @@ pub enum Event {
         key: Text,
         right: Right,
     },
+    /// Takes a key away.
+    KeyRevoke {
+        key: Text,
+    },
 }
 
 impl Publish {
@@ -67,8 +92,20 @@ impl Publish {
             Some(body) => Some(EntryRef {
                 gomod: body.gomod.as_slice(),
                 zip: body.zip.as_slice(),
+                time: self.entry_time(),
             }),
             None => None,
+        }
+    }
+
+    /// The time of the entry: of a pseudo-version that of its stamp, of another version the given one.
+    pub fn entry_time(&self) -> Option<TimeText>
+        ensures { result ≡ entry_time (class_of self.now.version) self.now.time }
+    {
+        match (class(&self.version), self.time) {
+            (Class::Pseudo(time), _) => Some(time),
+            (_, GivenTime::At(time)) => Some(time),
+            _ => None,
         }
     }
 }

@@ -4,6 +4,7 @@ ghost use Rattle.shelf.specs.World.{place};
 
 use crate::bytes::Bytes;
 use crate::text::Text;
+use modver::TimeText;
 use std::alloc::{AllocError, Global};
 use std::marker::Model;
 
@@ -20,6 +21,7 @@ pub struct Place {
 pub struct Entry {
     pub gomod: Bytes,
     pub zip: Bytes,
+    pub time: Option<TimeText>,
 }
 
 /// An entry, with the shelf that it stands on.
@@ -29,11 +31,12 @@ pub struct Seen {
     pub entry: Entry,
 }
 
-/// The files of an entry, borrowed from whoever holds them.
+/// An entry whose files are borrowed from whoever holds them.
 #[derive(Drop)]
 pub struct EntryRef<'a> {
     pub gomod: &'a [u8],
     pub zip: &'a [u8],
+    pub time: Option<TimeText>,
 }
 
 impl<'a> Model for EntryRef<'a> {
@@ -41,7 +44,7 @@ impl<'a> Model for EntryRef<'a> {
 
     ghost Value = { Entry };
 
-    ghost view = { λ e. record { gomod = e.gomod.now; zip = e.zip.now } };
+    ghost view = { λ e. record { gomod = e.gomod.now; zip = e.zip.now; time = e.time } };
 }
 
 /// What a key may do.
@@ -83,7 +86,11 @@ impl Entry {
     {
         let gomod = Bytes::copy_of(alloc, entry.gomod)?;
         let zip = Bytes::copy_of(alloc, entry.zip)?;
-        Ok(Entry { gomod, zip })
+        Ok(Entry {
+            gomod,
+            zip,
+            time: entry.time,
+        })
     }
 
     /// Its files.
@@ -93,6 +100,7 @@ impl Entry {
         EntryRef {
             gomod: self.gomod.as_slice(),
             zip: self.zip.as_slice(),
+            time: self.time,
         }
     }
 }

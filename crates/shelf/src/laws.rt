@@ -1,12 +1,19 @@
 //! What holds of the machine and of every run of it.
+ghost use Rattle.shelf.specs.EntryTest.{EntryTestIsExact};
 ghost use Rattle.shelf.specs.Laws.{WorldStays, RunsKeepWorlds, OnlyChangesChange, BodiesChangeNothing, RunsAreCut, RunsAreJoined};
 ghost use Rattle.shelf.specs.Immutability.{StaysServed, AcceptedIsServed, RepeatedListChangesNothing};
+ghost use Rattle.shelf.specs.PathLaws.{VersionsAreSeen, PathsAreSeen, PathsAreTold, ListIsTold, ListIsNotFound, LatestIsTheTop, NoneIsLatest, LatestIsTold, LatestIsNotFound};
 ghost use Rattle.shelf.specs.Isolation.{IsIsolated, PurgedRunsAgree, FaultyRunsAgree, MarksAreAsLong, MarksAreAtTheirMoment, OnlyOthersGo, PurgeIsTheSame, IsBlind};
 
 /// Each event leads from a world to a world.
 pub fn soundness()
     ensures event { WorldStays }
     ensures run { RunsKeepWorlds }
+{}
+
+/// The test of an entry passes exactly those that may stand at their place.
+pub fn entry_tests()
+    ensures { EntryTestIsExact }
 {}
 
 /// A shelf is told what it would be told if no request with a key of another team had come.
@@ -58,4 +65,25 @@ pub fn changes()
 pub fn runs()
     ensures cut { RunsAreCut }
     ensures joined { RunsAreJoined }
+{}
+
+/// The versions and the paths that a shelf sees are those at which it sees an entry.
+pub fn sight()
+    ensures versions { VersionsAreSeen }
+    ensures paths { PathsAreSeen }
+    ensures told { PathsAreTold }
+{}
+
+/// A shelf is told the releases and pre-releases of a path that it sees, each below the next.
+pub fn listing()
+    ensures told { ListIsTold }
+    ensures not_found { ListIsNotFound }
+{}
+
+/// The latest version of a path is the highest that the go.mod of the highest does not retract.
+pub fn latest_version()
+    ensures top { LatestIsTheTop }
+    ensures none { NoneIsLatest }
+    ensures told { LatestIsTold }
+    ensures not_found { LatestIsNotFound }
 {}

@@ -10,12 +10,12 @@ use crate::ask::Event;
 use crate::entry::{Entry, EntryRef, Holder, Right, Seen};
 use crate::maps::entry_map::EntryMap;
 use crate::maps::text_map::TextMap;
-use crate::maps::text_set::TextSet;
 use crate::names;
 use crate::reply::{Answer, Registered, StoreFault};
 use crate::run::run;
 use crate::shelves::Shelves;
 use crate::text::Text;
+use crate::text_set::TextSet;
 use modpath::ModulePath;
 use modver::Version;
 use std::alloc::{AllocError, Global};
@@ -115,6 +115,23 @@ impl Shelves for MapShelves {
         Ok(self.seen_on(COMMON, path, version)?)
     }
 
+    fn versions(&mut self, shelf: &str, path: &ModulePath) -> Result<TextSet, StoreFault> {
+        let mut versions = TextSet::new(self.alloc);
+        let path = path.as_str();
+        self.entries
+            .add_versions(self.alloc, shelf, path, &mut versions)?;
+        self.entries
+            .add_versions(self.alloc, COMMON, path, &mut versions)?;
+        Ok(versions)
+    }
+
+    fn paths(&mut self, shelf: &str) -> Result<TextSet, StoreFault> {
+        let mut paths = TextSet::new(self.alloc);
+        self.entries.add_paths(self.alloc, shelf, &mut paths)?;
+        self.entries.add_paths(self.alloc, COMMON, &mut paths)?;
+        Ok(paths)
+    }
+
     fn count(&mut self, shelf: &str, path: &ModulePath) -> Result<u64, StoreFault> {
         Ok(self.entries.count(shelf, path.as_str()) as u64)
     }
@@ -159,6 +176,14 @@ impl Shelves for MapShelves {
         self.keys.insert(key, holder)?;
         Ok(Registered::Done)
     }
+
+    fn key_revoke(&mut self, key: &str) -> Result<Registered, StoreFault> {
+        if !self.keys.contains_key(key) {
+            return Ok(Registered::NoKey);
+        }
+        self.keys.remove(key);
+        Ok(Registered::Done)
+    }
 }
 
 /// Does a list of events on shelves in memory that begin with `common` alone. Where there is no
@@ -178,6 +203,9 @@ pub fn run_in_memory(
     let answers = run(alloc, &mut shelves, events)?;
     Ok((shelves, answers))
 }
+
+#[cfg(test)]
+mod calls;
 
 #[cfg(test)]
 mod tests;

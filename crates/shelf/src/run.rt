@@ -10,13 +10,14 @@ use crate::step::step;
 use std::alloc::{AllocError, Global};
 
 /// Does what one event says.
-pub fn apply<S: Shelves>(shelves: &mut S, event: &Event) -> Result<Reply, StoreFault>
+pub fn apply<S: Shelves>(alloc: Global, shelves: &mut S, event: &Event) -> Result<Reply, StoreFault>
     ensures does { Does (S.shown shelves.old) (S.shown shelves.new) result (λ w. reply_to w event.now) (λ w. after w event.now) }
     ensures cause { HasCause (S.failure_count shelves.old) (S.failure_count shelves.new) result }
 {
     match event {
-        Event::Asked(ask) => step(shelves, ask),
+        Event::Asked(ask) => step(alloc, shelves, ask),
         Event::TeamAdd { name } => Ok(Reply::Registry(shelves.team_add(name.as_str())?)),
+        Event::KeyRevoke { key } => { Ok(Reply::Registry(shelves.key_revoke(key.as_str())?)) }
         Event::KeyAdd { shelf, key, right } => Ok(Reply::Registry(shelves.key_add(
             shelf.as_str(),
             key.as_str(),
@@ -26,12 +27,12 @@ pub fn apply<S: Shelves>(shelves: &mut S, event: &Event) -> Result<Reply, StoreF
 }
 
 /// Does what one event says, and tells what became of it.
-fn answer<S: Shelves>(shelves: &mut S, event: &Event) -> Answer
+fn answer<S: Shelves>(alloc: Global, shelves: &mut S, event: &Event) -> Answer
     ensures runs { Runs (S.shown shelves.old) (S.shown shelves.new) (event.now ∷ []) (result ∷ []) }
     ensures no_fewer { S.failure_count shelves.old ≤ S.failure_count shelves.new }
     ensures device { result ≡ Answer.Failed StoreFault.Device → GrewOrFull (S.failure_count shelves.old) (S.failure_count shelves.new) }
 {
-    match apply(shelves, event) {
+    match apply(alloc, shelves, event) {
         Ok(reply) => Answer::Replied(reply),
         Err(fault) => Answer::Failed(fault),
     }
@@ -51,7 +52,7 @@ pub fn run<S: Shelves>(
 {
     let mut answers = Vec::with_capacity(alloc, events.len())?;
     for event in events {
-        let answer = answer(shelves, event);
+        let answer = answer(alloc, shelves, event);
         answers.push(answer)?;
     }
     Ok(answers)

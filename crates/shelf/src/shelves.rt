@@ -1,6 +1,7 @@
 //! A store of shelves.
 use crate::entry::{EntryRef, Holder, Right, Seen};
 use crate::reply::{Registered, StoreFault};
+use crate::text_set::TextSet;
 use modpath::ModulePath;
 use modver::Version;
 
@@ -11,7 +12,8 @@ pub trait Shelves {
     ghost use Rattle.std.specs.FinMap as map;
     ghost use Rattle.modver.specs.SemanticVersion.{version_text};
     ghost use Rattle.shelf.specs.World.{World, IsWorld, place, view, count, with_entry};
-    ghost use Rattle.shelf.specs.Machine.{team_added, after_team_add, key_added, after_key_add};
+    ghost use Rattle.shelf.specs.Machine.{team_added, after_team_add, key_added, after_key_add, key_revoked, after_key_revoke};
+    ghost use Rattle.shelf.specs.Visible.{versions_seen, paths_seen};
     ghost use Rattle.shelf.specs.Store.{Shown, Does, DoesWhere, Reads, IsRoomFor, HasCause};
 
     /// What is known of it.
@@ -39,6 +41,16 @@ pub trait Shelves {
         ensures reads { Reads (shown self.old) (shown self.new) result (λ w. view w shelf.now path.now (version_text version.now)) }
         ensures cause { HasCause (failure_count self.old) (failure_count self.new) result };
 
+    /// The texts of the versions of the path that the shelf sees.
+    fn versions(&mut self, shelf: &str, path: &ModulePath) -> Result<TextSet, StoreFault>
+        ensures reads { Reads (shown self.old) (shown self.new) result (λ w. versions_seen w shelf.now path.now) }
+        ensures cause { HasCause (failure_count self.old) (failure_count self.new) result };
+
+    /// The paths that the shelf sees.
+    fn paths(&mut self, shelf: &str) -> Result<TextSet, StoreFault>
+        ensures reads { Reads (shown self.old) (shown self.new) result (λ w. paths_seen w shelf.now) }
+        ensures cause { HasCause (failure_count self.old) (failure_count self.new) result };
+
     /// How many versions of the path stand on the shelf.
     fn count(&mut self, shelf: &str, path: &ModulePath) -> Result<u64, StoreFault>
         ensures reads { Reads (shown self.old) (shown self.new) result (λ w. count w shelf.now path.now) }
@@ -64,6 +76,11 @@ pub trait Shelves {
     /// Adds a key to a shelf.
     fn key_add(&mut self, shelf: &str, key: &str, right: Right) -> Result<Registered, StoreFault>
         ensures does { Does (shown self.old) (shown self.new) result (λ w. key_added w shelf.now key.now) (λ w. after_key_add w shelf.now key.now right (key_added w shelf.now key.now)) }
+        ensures cause { HasCause (failure_count self.old) (failure_count self.new) result };
+
+    /// Takes a key away.
+    fn key_revoke(&mut self, key: &str) -> Result<Registered, StoreFault>
+        ensures does { Does (shown self.old) (shown self.new) result (λ w. key_revoked w key.now) (λ w. after_key_revoke w key.now (key_revoked w key.now)) }
         ensures cause { HasCause (failure_count self.old) (failure_count self.new) result };
 
     // What it stands for is a world.

@@ -1,5 +1,5 @@
 //! The machine over any store.
-ghost use Rattle.std.specs.Prelude.{◌≡◌, true};
+ghost use Rattle.std.specs.Prelude.{◌≡◌, true, IfOk};
 ghost use Rattle.std.specs.FinSet as set;
 ghost use Rattle.std.specs.FinMap as map;
 ghost use Rattle.shelf.specs.Machine as spec;
@@ -7,21 +7,28 @@ ghost use Rattle.shelf.specs.Machine.{ask_reply, after_ask, keyed_reply, decisio
 ghost use Rattle.shelf.specs.Store.{Does, DoesWhere, Reads, HasCause};
 ghost use Rattle.shelf.specs.declared.reply.Decision.TheVariants.{Published};
 
-use crate::ask::{Ask, Publish, Query};
-use crate::decide::{decide, refusal};
-use crate::entry::{Holder, Seen};
+#[cfg(test)]
+mod tests;
+
+use crate::ask::{Ask, Publish};
+use crate::decide::{decide, gomod_refusal, refusal};
+use crate::entry::Holder;
+use crate::queries::answer_query;
+use crate::reading::Reading;
 use crate::reply::{Decision, Reply, StoreFault};
 use crate::shelves::Shelves;
+use std::alloc::{AllocError, Global};
 
 /// Answers a request.
-pub fn step<S: Shelves>(shelves: &mut S, ask: &Ask) -> Result<Reply, StoreFault>
+pub fn step<S: Shelves>(alloc: Global, shelves: &mut S, ask: &Ask) -> Result<Reply, StoreFault>
     ensures does { Does (S.shown shelves.old) (S.shown shelves.new) result (λ w. ask_reply w ask.now) (λ w. after_ask w ask.now) }
     ensures cause { HasCause (S.failure_count shelves.old) (S.failure_count shelves.new) result }
 {
     match ask {
         Ask::Unreadable => Ok(Reply::NotFound),
-        Ask::Get { key, query } => answer_query(shelves, key.as_str(), query),
+        Ask::Get { key, query } => answer_query(alloc, shelves, key.as_str(), query),
         Ask::Put { key, publish } => Ok(Reply::Decided(answer_publish(
+            alloc,
             shelves,
             key.as_str(),
             publish,
@@ -29,53 +36,9 @@ pub fn step<S: Shelves>(shelves: &mut S, ask: &Ask) -> Result<Reply, StoreFault>
     }
 }
 
-/// Answers a GET.
-fn answer_query<S: Shelves>(shelves: &mut S, key: &str, query: &Query) -> Result<Reply, StoreFault>
-    ensures reads { Reads (S.shown shelves.old) (S.shown shelves.new) result (λ w. keyed_reply w (map.get w.keys key.now) query.now) }
-    ensures cause { HasCause (S.failure_count shelves.old) (S.failure_count shelves.new) result }
-{
-    let Some(holder) = shelves.key(key)? else {
-        return Ok(Reply::NotFound);
-    };
-    let shelf = holder.shelf.as_str();
-    match query {
-        Query::GoMod { path, version } => {
-            let seen = shelves.entry(shelf, path, version)?;
-            Ok(gomod_reply(seen))
-        }
-        Query::Zip { path, version } => {
-            let seen = shelves.entry(shelf, path, version)?;
-            Ok(zip_reply(seen))
-        }
-    }
-}
-
-fn gomod_reply(seen: Option<Seen>) -> Reply
-    ensures { result ≡ spec.gomod_reply seen }
-{
-    match seen {
-        None => Reply::NotFound,
-        Some(seen) => {
-            let entry = seen.entry;
-            Reply::GoMod(entry.gomod)
-        }
-    }
-}
-
-fn zip_reply(seen: Option<Seen>) -> Reply
-    ensures { result ≡ spec.zip_reply seen }
-{
-    match seen {
-        None => Reply::NotFound,
-        Some(seen) => {
-            let entry = seen.entry;
-            Reply::Zip(entry.zip)
-        }
-    }
-}
-
 /// Answers a PUT.
 fn answer_publish<S: Shelves>(
+    alloc: Global,
     shelves: &mut S,
     key: &str,
     publish: &Publish,
@@ -84,13 +47,14 @@ fn answer_publish<S: Shelves>(
     ensures cause { HasCause (S.failure_count shelves.old) (S.failure_count shelves.new) result }
 {
     let Some(holder) = shelves.key(key)? else {
-        return Ok(decide(publish, None, None, 0));
+        return Ok(decide(publish, None, None, None, 0));
     };
-    publish_to(shelves, &holder, publish)
+    publish_to(alloc, shelves, &holder, publish)
 }
 
 /// Answers a PUT by a key of a shelf.
 fn publish_to<S: Shelves>(
+    alloc: Global,
     shelves: &mut S,
     holder: &Holder,
     publish: &Publish,
@@ -98,7 +62,7 @@ fn publish_to<S: Shelves>(
     ensures does { DoesWhere (λ w. set.contains w.shelves holder.now.shelf ≡ true) (S.shown shelves.old) (S.shown shelves.new) result (λ w. decision w (Some holder.now) publish.now) (λ w. after_decision w (Some holder.now) publish.now (decision w (Some holder.now) publish.now)) }
     ensures cause { HasCause (S.failure_count shelves.old) (S.failure_count shelves.new) result }
 {
-    let decision = judge(shelves, holder, publish)?;
+    let decision = judge(alloc, shelves, holder, publish)?;
     if decision == Decision::Published {
         store(shelves, holder, publish)?;
     }
@@ -108,6 +72,7 @@ fn publish_to<S: Shelves>(
 /// The outcome of the checks of a publish by a key of a shelf. One that is refused for itself looks
 /// at no entry.
 fn judge<S: Shelves>(
+    alloc: Global,
     shelves: &mut S,
     holder: &Holder,
     publish: &Publish,
@@ -118,6 +83,10 @@ fn judge<S: Shelves>(
     if let Some(refused) = refusal(publish, Some(holder.right)) {
         return Ok(refused);
     }
+    let gomod = read_gomod(alloc, publish)?;
+    if let Some(refused) = gomod_refusal(publish, gomod.as_ref()) {
+        return Ok(refused);
+    }
     let shelf = holder.shelf.as_str();
     let seen = shelves.entry(shelf, &publish.path, &publish.version)?;
     let count = shelves.count(shelf, &publish.path)?;
@@ -125,7 +94,7 @@ fn judge<S: Shelves>(
         Some(seen) => Some(&seen.entry),
         None => None,
     };
-    Ok(decide(publish, Some(holder.right), entry, count))
+    Ok(decide(publish, Some(holder.right), gomod.as_ref(), entry, count))
 }
 
 /// Stores a publish that passed the checks.
@@ -142,4 +111,14 @@ fn store<S: Shelves>(shelves: &mut S, holder: &Holder, publish: &Publish) -> Res
         &publish.version,
         &entry,
     )
+}
+
+/// What reading the go.mod of a publish gives.
+fn read_gomod(alloc: Global, publish: &Publish) -> Result<Option<Reading>, AllocError>
+    ensures { IfOk result (λ r. r ≡ spec.gomod_of publish.now) }
+{
+    match &publish.body {
+        None => Ok(None),
+        Some(body) => Ok(Some(Reading::of(alloc, body.gomod.as_slice())?)),
+    }
 }

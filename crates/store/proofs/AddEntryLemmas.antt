@@ -2,6 +2,9 @@
 use Rattle.std.proofs.Common.{◌≡◌, ℕ, ℤ, List, [], ◌∷◌, Option, Some, None, unwrap_or, Ok, refl, ap, subst, ◌∙◌}
 use Rattle.sqlite.specs.declared.types.Value.TheVariants.{Null, Int, Text, Blob}
 use Rattle.sqlite.specs.Order.{Row}
+use Rattle.sqlite.specs.Values.{or_null, bound_value}
+use Rattle.sqlite.specs.Cast.{cast}
+use Rattle.sqlite.specs.Kind.TheVariants as kind
 use Rattle.sqlite.specs.Term.{Term, lit, col}
 use Rattle.sqlite.specs.Effect.{Database}
 use Rattle.sqlite.specs.Edit.{next_rowid}
@@ -20,7 +23,7 @@ use Rattle.store.proofs.Texts.{add_version_text, add_body_text}
 use Rattle.store.proofs.InsertLemmas.{inserted, enforced, cast_null, cast_int}
 
 abbrev pub version_terms : List Term
-version_terms = lit Null ∷ lit Null ∷ col 0 0 ∷ col 0 1 ∷ col 0 2 ∷ lit Null ∷ col 0 3 ∷ []
+version_terms = lit Null ∷ lit Null ∷ col 0 0 ∷ col 0 1 ∷ col 0 2 ∷ col 0 3 ∷ col 0 4 ∷ []
 
 abbrev pub body_terms : List Term
 body_terms = col 0 0 ∷ lit Null ∷ col 0 1 ∷ []
@@ -41,8 +44,17 @@ body_plain : IsPlain (understood store_schema add_body_text)
 unfolding understood everything
 body_plain = (refl, refl)
 
+-- a time is bound as it is, and a column of texts takes it as it is
+pub time_bound : (time : Option (List ℕ)) → bound_value (or_null Text time) ≡ or_null Text time
+time_bound None = refl
+time_bound (Some t) = refl
+
+cast_time : (time : Option (List ℕ)) → cast kind.Text (or_null Text time) ≡ or_null Text time
+cast_time None = refl
+cast_time (Some t) = refl
+
 abbrev pub version_params : Place → Entry → Row
-version_params p e = Text p.shelf ∷ Text p.path ∷ Text p.version ∷ Blob e.gomod ∷ []
+version_params p e = Text p.shelf ∷ Text p.path ∷ Text p.version ∷ or_null Text e.time ∷ Blob e.gomod ∷ []
 
 abbrev pub body_params : ℤ → Entry → Row
 body_params id e = Int id ∷ Blob e.zip ∷ []
@@ -51,8 +63,8 @@ module _ (limit : Option ℕ) (p : Place) (e : Entry) where
   version_added : (db : Database) (tally : Tally) (after : Database) → db.schema ≡ store_schema → Does limit enforced (version_params p e) db [] None (Insert 3 (Values version_terms 7)) (Ok (tally, after))
       → (after.schema ≡ store_schema) × Inserted db.trees after.trees version_table (version_row (next_rowid (db.trees 6)) p e) × (tally.last ≡ Some (next_rowid (db.trees 6)))
   version_added db tally after has h =
-      let it = inserted limit version_table refl (version_params p e) version_terms 7 (Null ∷ Null ∷ Text p.shelf ∷ Text p.path ∷ Text p.version ∷ Null ∷ Blob e.gomod ∷ []) refl (λ _. refl) 3 refl db [] tally after has h in
-      (it.0, rw cast_null at it.1, rw cast_null at it.2)
+      let it = inserted limit version_table refl (version_params p e) version_terms 7 (Null ∷ Null ∷ Text p.shelf ∷ Text p.path ∷ Text p.version ∷ or_null Text e.time ∷ Blob e.gomod ∷ []) refl (λ _. refl) 3 refl db [] tally after has h in
+      (it.0, rw (cast_null, cast_time e.time) at it.1, rw cast_null at it.2)
 
   body_added : (id : ℤ) (db : Database) (tally : Tally) (after : Database) → db.schema ≡ store_schema → Does limit enforced (body_params id e) db [] None (Insert 4 (Values body_terms 3)) (Ok (tally, after))
       → (after.schema ≡ store_schema) × Inserted db.trees after.trees body_table (body_row id e)

@@ -19,7 +19,7 @@ use Rattle.std.specs.FinSet as set
 use Rattle.shelf.specs.declared.entry.Holder.{Holder}
 use Rattle.shelf.specs.declared.entry.Right.{Right}
 use Rattle.shelf.specs.declared.reply.Registered.{Registered}
-use Rattle.shelf.specs.declared.reply.Registered.TheVariants.{Done, Name, Taken, NoTeam}
+use Rattle.shelf.specs.declared.reply.Registered.TheVariants.{Done, Name, Taken, NoTeam, NoKey}
 use Rattle.shelf.specs.World.{World, with_key, is_key}
 use Rattle.shelf.specs.Machine.{key_added, after_key_add}
 use Rattle.shelf.proofs.Orders.{texts_total, texts_exact, get_put}
@@ -27,8 +27,8 @@ use Rattle.store.specs.Means.{Holds, IsAccess, Tabulates}
 use Rattle.store.proofs.Texts.{add_key_text}
 use Rattle.store.specs.Views.{may_publish, with_key_added}
 use Rattle.store.proofs.InsertLemmas.{Inserted, inserted, cast_null, cast_int}
-use Rattle.store.proofs.WriteLemmas.{Rewrites}
-use Rattle.store.proofs.TabulateLemmas.{tabulates_put, put_apart}
+use Rattle.store.proofs.WriteLemmas.{Rewrites, inserting}
+use Rattle.store.proofs.TabulateLemmas.{tabulates_put, numbered_put, put_apart}
 use Rattle.sqlite_rules.specs.Lists.{Has}
 use Rattle.sqlite_rules.proofs.ListLemmas.{all_from}
 use Rattle.store.proofs.Maps.{put_keeps, put_splits}
@@ -65,7 +65,7 @@ module _ (w : World) (token : List ℕ) (g : Holder) (unused : map.get w.keys to
       let same : it.0.0 ≡ token = let e = sym it.1.0 ∙ (also ∙ sym is) in cc in
       let none : ◌≡◌ {A = Option Holder} (Some it.0.1) None = sym it.2 ∙ (ap (map.get w.keys) same ∙ unused) in absurd (cc)
 
-  pub add_key_turns : (old : State) → Holds old w → Rewrites add_key_text (key_params token g) 2 (Values terms 4) add_key_is add_key_plain old old w (with_key w token g)
+  pub add_key_turns : (old : State) → Holds old w → Rewrites add_key_text (key_params token g) (Insert 2 (Values terms 4)) add_key_is add_key_plain (inserting 2 (Values terms 4)) old old w (with_key w token g)
   add_key_turns old h tally after does =
       let it = added old.step_limit token g old.now [] tally after h.schema does in
       let means = h.trees.means in (
@@ -74,6 +74,7 @@ module _ (w : World) (token : List ℕ) (g : Holder) (unused : map.get w.keys to
           named = rw (it.1.tables.0 (λ e. omega (arith, e))) means.named;
           shelves = rw (it.1.tables.1.0 (λ e. omega (arith, e))) means.shelves;
           access = rw it.1.rows (tabulates_put IsAccess (old.now.trees 4) _ (token, g) _ _ it.1.fresh (refl, refl, refl) (λ y. put_keeps texts_total texts_exact w.keys token g unused y.0 y.1) (get_put texts_total w.keys token g) (put_splits texts_total texts_exact w.keys token g) means.access);
+          numbered = rw it.1.rows (numbered_put (old.now.trees 4) (next_rowid (old.now.trees 4)) _ refl it.1.fresh means.numbered);
           entries = rw (it.1.tables.1.1.1.0 (λ e. omega (arith, e)), it.1.tables.1.1.1.1.0 (λ e. omega (arith, e))) means.entries;
           tokens = rw it.1.rows (put_apart (λ a b. (t : List ℕ) → column a 1 ≡ Text t → column b 1 ≡ Text t → ⊥) (λ a b apart t also is. apart t is also) _ (old.now.trees 4) (all_from _ (old.now.trees 4) (token_free (old.now.trees 4) means.access (Int (next_rowid (old.now.trees 4))))) means.tokens);
           bodies = rw (it.1.tables.1.1.1.1.0 (λ e. omega (arith, e))) means.bodies;
@@ -94,6 +95,7 @@ module _ (w : World) (shelf token : List ℕ) (right : Right) where
       go Name other = refl
       go Taken other = refl
       go NoTeam other = refl
+      go NoKey other = refl
 
   pub added_new : key_added w shelf token ≡ Done → with_key_added shelf token right w ≡ with_key w token (record { shelf = shelf; right = right })
   added_new h = ap (λ (q : Registered). after_key_add w shelf token right q) h

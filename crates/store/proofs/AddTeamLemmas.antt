@@ -22,7 +22,7 @@ use Rattle.store.specs.Means.{Holds, IsShelf}
 use Rattle.store.specs.Views.{with_team_added}
 use Rattle.store.proofs.Texts.{add_shelf_text}
 use Rattle.store.proofs.InsertLemmas.{Inserted, inserted, enforced, cast_null}
-use Rattle.store.proofs.WriteLemmas.{Rewrites}
+use Rattle.store.proofs.WriteLemmas.{Rewrites, inserting}
 use Rattle.store.proofs.TabulateLemmas.{tabulates_put}
 use Rattle.store.proofs.Maps.{text_put, text_splits}
 
@@ -47,7 +47,7 @@ added limit name db text tally after has h =
     (it.0, rw cast_null at it.1)
 
 module _ (w : World) (name : List ℕ) where
-  pub add_shelf_turns : (old : State) → Holds old w → Rewrites add_shelf_text (shelf_params name) 1 (Values terms 2) add_shelf_is add_shelf_plain old old w (with_team w name)
+  pub add_shelf_turns : (old : State) → Holds old w → Rewrites add_shelf_text (shelf_params name) (Insert 1 (Values terms 2)) add_shelf_is add_shelf_plain (inserting 1 (Values terms 2)) old old w (with_team w name)
   add_shelf_turns old h tally after does =
       let it = added old.step_limit name old.now [] tally after h.schema does in
       let means = h.trees.means in (
@@ -56,6 +56,7 @@ module _ (w : World) (name : List ℕ) where
           named = rw (it.1.tables.0 (λ e. omega (arith, e))) means.named;
           shelves = rw it.1.rows (tabulates_put IsShelf (old.now.trees 2) _ name _ _ it.1.fresh refl (λ y. still w.shelves name y) (text_put w.shelves name) (text_splits w.shelves name) means.shelves);
           access = rw (it.1.tables.1.1.0 (λ e. omega (arith, e))) means.access;
+          numbered = rw (it.1.tables.1.1.0 (λ e. omega (arith, e))) means.numbered;
           entries = rw (it.1.tables.1.1.1.0 (λ e. omega (arith, e)), it.1.tables.1.1.1.1.0 (λ e. omega (arith, e))) means.entries;
           tokens = rw (it.1.tables.1.1.0 (λ e. omega (arith, e))) means.tokens;
           bodies = rw (it.1.tables.1.1.1.1.0 (λ e. omega (arith, e))) means.bodies;

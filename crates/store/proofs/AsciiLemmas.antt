@@ -1,5 +1,5 @@
 -- Names, keys, paths and versions are ASCII, so each is a text in UTF-8.
-use Rattle.std.proofs.Common.{◌≡◌, ◌<◌, ◌&&◌, ◌||◌, ◌==◌, ◌++◌, ◌⊎◌, ℕ, Bool, true, false, List, [], ◌∷◌, length, inl, inr, refl, sym, subst, arith, nat_lt, nat_eq, ltb-true}
+use Rattle.std.proofs.Common.{◌≡◌, ◌<◌, ◌&&◌, ◌||◌, ◌==◌, ◌++◌, ◌⊎◌, ℕ, Bool, true, false, List, [], ◌∷◌, length, inl, inr, refl, sym, subst, arith, nat_lt, nat_eq, ltb-true, true≢false}
 use Rattle.std.specs.List.{list_all, join_with_byte}
 use Rattle.std.specs.Str.{IsAscii, IsUtf8}
 use Rattle.std.specs.Fmt.{decimal}
@@ -13,6 +13,7 @@ use Rattle.modpath.proofs.PathLaw.{paths_are_loose}
 use Rattle.modpath.proofs.BytesLaw.{is_path_byte, all_path_bytes}
 use Rattle.modver.specs.SemanticVersion.{SemanticVersion, is_identifier, is_identifier_byte, pre_release_text, build_text, mark_of, version_text}
 use Rattle.modver.specs.Reading.{IsCanonical}
+use Rattle.modver.specs.Time.{IsTime, fits_byte, fits_form}
 use Rattle.shelf.specs.Names.{common, is_team_name, is_key, is_lower, is_digit}
 
 ascii_by : (p : ℕ → Bool) → ((b : ℕ) → p b ≡ true → b < 128) → (t : List ℕ) → list_all p t ≡ true → IsAscii t
@@ -43,6 +44,21 @@ key_utf8 key h = IsUtf8-from_ascii key (ascii_by _ key_byte key (and_parts _ _ h
 
 pub path_utf8 : (path : List ℕ) → IsPath path → IsUtf8 path
 path_utf8 path h = IsUtf8-from_ascii path (ascii_by is_path_byte path_byte path (all_path_bytes path (paths_are_loose path h)))
+
+digit_or_hex : (f c : ℕ) → f < 128 → fits_byte f c ≡ true → c < 128
+digit_or_hex f c small h = grind (arith, nat_tests)
+
+formed_ascii : (form t : List ℕ) → list_all (λ b. nat_lt b 128) form ≡ true → fits_form form t ≡ true → IsAscii t
+formed_ascii [] [] small h = IsAscii-nil
+formed_ascii [] (b ∷ t) small h = absurd (true≢false (sym h))
+formed_ascii (f ∷ form) [] small h = absurd (true≢false (sym h))
+formed_ascii (f ∷ form) (b ∷ t) small h =
+    let first = and_parts _ _ small in
+    let parts = and_parts _ _ h in
+    IsAscii-cons b t (digit_or_hex f b (below f first.0) parts.0) (formed_ascii form t first.1 parts.1)
+
+pub time_utf8 : (t : List ℕ) → IsTime t → IsUtf8 t
+time_utf8 t is = IsUtf8-from_ascii t (formed_ascii _ t refl is.form)
 
 joined_ascii : (is : List (List ℕ)) → list_all is_identifier is ≡ true → IsAscii (join_with_byte 46 is)
 joined_ascii [] h = IsAscii-nil

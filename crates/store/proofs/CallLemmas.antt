@@ -1,8 +1,8 @@
 -- What a statement that writes nothing leaves of the store.
-use Rattle.std.proofs.Common.{◌≡◌, ◌≤◌, ◌⊎◌, ℕ, false, List, [], Option, Some, None, Ok, Err, Result, inl, inr, refl, sym, ap, subst, ◌∙◌, arith, IsTrue}
+use Rattle.std.proofs.Common.{◌≡◌, ◌≤◌, ◌⊎◌, ℕ, IfOk, IfErr, false, List, [], Option, Some, None, Ok, Err, Result, inl, inr, refl, sym, ap, subst, ◌∙◌, arith, IsTrue}
 use Rattle.sqlite_trees.specs.View.{doubt}
 use Rattle.sqlite.specs.Order.{Row}
-use Rattle.sqlite.specs.Effect.{Database, RefusesToRead}
+use Rattle.sqlite.specs.Effect.{Database, Reads, RefusesToRead}
 use Rattle.sqlite.specs.Command.{Command}
 use Rattle.sqlite.specs.Command.TheVariants.{Select, Rows}
 use Rattle.sqlite_trees.specs.declared.error.StoreError.{StoreError}
@@ -14,7 +14,7 @@ use Rattle.sqlite_schema.specs.declared.command.Returning.{Returning}
 use Rattle.sqlite.specs.Clock.{timed}
 use Rattle.sqlite.specs.Listing.{understood, reads_listing}
 use Rattle.sqlite.specs.State.{State, HasCleanDisk, IsUnchanged, IsRolledBack, IsNotRun, FailsToQuery, FailsToShow, store_error, QueriesRow, Shown, Survives, CommitsShowing, Fails, ShowsRows}
-use Rattle.sqlite.proofs.Callers.{IsPlain, never_commits, first_as, reads_as}
+use Rattle.sqlite.proofs.Callers.{IsPlain, command_of, never_commits, first_as, reads_as}
 use Rattle.shelf.specs.World.{World}
 use Rattle.store.specs.Schema.{store_schema}
 use Rattle.store.specs.Means.{Holds, Stands, StandFor}
@@ -155,15 +155,21 @@ module _ (sql : List ℕ) (params : Row) (plain : IsPlain (understood store_sche
   mid_spares : Spares old mid
   mid_spares = quiet_spares old mid quiet (λ clean. inl (prepared clean))
 
-  last_spares : (r : Result Row Error) → (HasCleanDisk new → QueriesRow sql params mid new r) → Spares mid new
-  last_spares r ran = record {
+  last_spares : (HasCleanDisk new → IsPlain (understood mid.now.schema sql) → Kept mid new) → Spares mid new
+  last_spares kept = record {
     clean = survives.clean;
-    stays = λ w h clean shown. let was = mid_holds w h clean in kept_holds mid new w (row_kept sql params mid new (mid_plain w was) r (ran clean)) shown was;
+    stays = λ w h clean shown. let was = mid_holds w h clean in kept_holds mid new w (kept clean (mid_plain w was)) shown was;
     left = λ clean w h db may. elim (survives.crash clean db may) [ inl was ↦ was | inr commits ↦ absurd (never_commits sql params mid db (mid_plain w (mid_holds w h clean)) commits) ];
   }
 
   pub row_spares : (r : Result Row Error) → (HasCleanDisk new → QueriesRow sql params mid new r) → Spares old new
-  row_spares r ran = spares_then old mid new mid_spares (last_spares r ran)
+  row_spares r ran = spares_then old mid new mid_spares (last_spares (λ clean plain. row_kept sql params mid new plain r (ran clean)))
+
+  -- as much of all rows
+  pub rows_spares : {X : Type 0} (r : Result X Error) (items : X → List Row) → (HasCleanDisk new → IfOk r (λ rows. Shown sql params mid new (items rows)))
+      → (HasCleanDisk new → IfErr r (FailsToQuery sql params mid new)) → Spares old new
+  rows_spares (Ok rows) items shown failed = spares_then old mid new mid_spares (last_spares (λ clean plain. inl (shown_unchanged sql params mid new plain (items rows) (shown clean))))
+  rows_spares (Err e) items shown failed = spares_then old mid new mid_spares (last_spares (λ clean plain. failed_query sql params mid new e (failed clean)))
 
   module _ (unlisted : reads_listing store_schema sql ≡ false) (clean : HasCleanDisk new) (w : World) (stands : Stands old w) where
     pub was_open : IsTrue old.is_open
@@ -189,6 +195,9 @@ module _ (sql : List ℕ) (params : Row) (plain : IsPlain (understood store_sche
 
     pub first_selected : (row : Row) → QueriesRow sql params mid new (Ok row) → Selects sql params old.now (Some row)
     first_selected row ran = subst (λ db. Selects sql params db (Some row)) same_now (first_as sql params mid new store_schema held.schema _ refl plain unlisted row ran)
+
+    pub all_selected : (rows : List Row) → Shown sql params mid new rows → Reads (command_of (understood store_schema sql)) old.now params rows
+    all_selected rows shown = subst (λ db. Reads (command_of (understood store_schema sql)) db params rows) same_now (reads_as sql params mid new store_schema held.schema _ refl plain unlisted rows shown)
 
     pub none_selected : QueriesRow sql params mid new (Err QueryReturnedNoRows) → Selects sql params old.now None
     none_selected ran =

@@ -1,5 +1,5 @@
 -- Calls one after another.
-use Rattle.std.proofs.Common.{◌≡◌, ◌≤◌, Bool, true, false, inl, inr, refl, sym, subst, ◌∙◌, arith, IsTrue, true≢false, Result, Ok, Err, IsErr, is_ok, IfOk, Option, Some, None, is_some, option_map}
+use Rattle.std.proofs.Common.{◌≡◌, ◌≤◌, Bool, true, false, inl, inr, refl, sym, subst, ◌∙◌, arith, IsTrue, true≢false, Result, Ok, Err, IsErr, is_ok, IfOk, OnOk, Option, Some, None, is_some, option_map}
 use Rattle.sqlite_trees.specs.View.{doubt}
 use Rattle.sqlite.specs.Tree.{Trees}
 use Rattle.sqlite.specs.State.{State, HasCleanDisk, KeepsCommit}
@@ -63,6 +63,10 @@ some_mapped f (Some x) = refl
 pub undone_now : (begun last exit : State) (e : Error) → KeepsCommit begun last → IsTrue last.in_transaction → FailsToCommit last exit e → IsTrue exit.is_open → IsTrue begun.is_open × (exit.now ≡ begun.committed)
 undone_now begun last exit e keeps inside (inl fails) shown = (keeps.was_open (fails.3.was_open shown), (fails.3.undone shown).0 ∙ keeps.committed (fails.3.was_open shown))
 undone_now begun last exit e keeps inside (inr late) shown = absurd (true≢false (sym inside ∙ late.1))
+
+pub on_weaker : {A E : Type 0} {P Q : Type 0} (r : Result A E) → (P → Q) → OnOk r P → OnOk r Q
+on_weaker (Ok x) then h = then h
+on_weaker (Err e) then h = tt
 
 pub weaker : {A E : Type 0} {P Q : A → Type 0} (r : Result A E) → ((x : A) → P x → Q x) → IfOk r P → IfOk r Q
 weaker (Ok x) then h = then x h

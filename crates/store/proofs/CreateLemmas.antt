@@ -209,6 +209,7 @@ means db r = record {
     found = λ name holds. (Int r.id ∷ Text (codes "common") ∷ [], inl refl, ap Text (only_name name holds));
   });
   access = rw r.access (record { each = λ row none. absurd none; found = λ x some. absurd (none_in_empty text_cmp x.0 x.1 some) });
+  numbered = rw r.access (record { number = λ row none. absurd none; own = λ a b none. absurd none });
   entries = rw r.version (record { each = λ row none. absurd none; found = λ x some. absurd (none_in_empty place_cmp x.0 x.1 some) });
   tokens = rw r.access tt;
   bodies = rw r.body tt;

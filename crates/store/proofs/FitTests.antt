@@ -1,8 +1,9 @@
 -- What the walks over the rows of the tables tell.
 use Rattle.std.proofs.Common.{◌≡◌, ◌≤◌, ◌<◌, ◌+◌, ◌++◌, ◌||◌, ◌⊎◌, ℕ, Bool, true, false, List, [], ◌∷◌, length, map, filter, Option, Some, None, Ok, Err, Result, OnOk, IfOk, inl, inr, refl, sym, ap, subst, subst₂, ◌∙◌, arith, Decides, true≢false, append_assoc, Less, Equal, cond, IsPermutation}
-use Rattle.std.specs.Ordering.{is_lt, ordering_then}
+use Rattle.std.specs.Ordering.{is_lt, ordering_then, int_cmp}
 use Rattle.std.specs.declared.cmp.Ordering.{Ordering}
-use Rattle.std.specs.Cmp.{IsTotalOrder, tied_itself}
+use Rattle.std.specs.Cmp.{IsTotalOrder, tied_itself, int_cmp_total}
+use Rattle.std.specs.FinMap.{IsAntisymmetric, int_cmp-IsAntisymmetric}
 use Rattle.std.specs.Str.{IsUtf8}
 use Rattle.std.proofs.lemmas.Bool.{cases_Bool}
 use Rattle.std.proofs.lemmas.List.Sorted.{IsPermutation-sym}
@@ -16,7 +17,7 @@ use Rattle.sqlite.specs.declared.error.Error.{Error}
 use Rattle.sqlite.specs.State.{State, HasCleanDisk, IsUnchanged}
 use Rattle.sqlite.specs.Collation.TheVariants.{Binary}
 use Rattle.sqlite_value.specs.Keys.{ascending}
-use Rattle.sqlite_value.proofs.OrderLemmas.{value_cmp-Text, then-Equal}
+use Rattle.sqlite_value.proofs.OrderLemmas.{value_cmp-Text, value_cmp-Int, then-Equal}
 use Rattle.sqlite_trees.specs.Tree.{IsAscending}
 use Rattle.sqlite_trees.proofs.ListLemmas.{ascending_weaker}
 use Rattle.sqlite_rules.specs.Lists.{Has}
@@ -31,11 +32,12 @@ use Rattle.store.specs.Fit.{joined}
 use Rattle.store.specs.declared.fit.MetaRows.{MetaRows}
 use Rattle.store.specs.declared.fit.ShelfRows.{ShelfRows}
 use Rattle.store.specs.declared.fit.KeyRows.{KeyRows}
+use Rattle.store.specs.declared.fit.NumberRows.{NumberRows}
 use Rattle.store.specs.declared.fit.EntryRows.{EntryRows}
-use Rattle.store.proofs.Texts.{meta_rows_text, shelf_rows_text, key_rows_text, entry_rows_text}
+use Rattle.store.proofs.Texts.{meta_rows_text, shelf_rows_text, key_rows_text, number_rows_text, entry_rows_text}
 use Rattle.store.proofs.LookupLemmas.{has_permuted}
 use Rattle.store.proofs.Ascending.{Adjacent, adjacent_both, adjacent_among, ascends, ascends_permuted, across, apart_below, filter_permuted}
-use Rattle.store.proofs.ListingLemmas.{all_listed, first_listed, meta_rows_is, shelf_rows_is, key_rows_is, entry_rows_is, meta_listed, shelves_listed, keys_listed, entries_listed, keys_in_order, entries_in_order, place_columns}
+use Rattle.store.proofs.ListingLemmas.{all_listed, first_listed, meta_rows_is, shelf_rows_is, key_rows_is, number_rows_is, entry_rows_is, meta_listed, shelves_listed, keys_listed, numbers_listed, entries_listed, InOrder, keys_in_order, numbers_in_order, entries_in_order, place_columns}
 use Rattle.store.proofs.RunLemmas.{adjacent_apart, last_of, many_on, many_more, push_on, run_within, few_in_all}
 
 -- ---- a walk as a test
@@ -162,7 +164,57 @@ module _ (db : Database) (start end : ShelfRows) where
       let same = shelves_listed db.trees _ first.1 in
       w.5 (fit.each w.1 (has_permuted _ _ w.1 same (at_place w.0 first.0 w.1)))
 
--- ---- access
+-- ---- access: rows in the order of a key, each with a key of its own
+
+not_itself : {K : Type 0} {R : K → K → Ordering} → IsTotalOrder R → (a b : K) → R a b ≡ Less → a ≡ b → ⊥
+not_itself {K} {R} o a b less same = let e : Less ≡ Equal = sym less ∙ (ap (R a) (sym same) ∙ tied_itself o a) in absurd (cc)
+
+module _ {T K : Type 0} {R : K → K → Ordering} (total : IsTotalOrder R) (exact : IsAntisymmetric R) (IsRow : Row → Type 0) (key : Row → K) (last : T → Option K)
+    (in_order : (a b : Row) → IsRow a → IsRow b → key_cmp 0 (ascending Binary ∷ []) (column a 0 ∷ []) (column b 0 ∷ []) ≡ R (key a) (key b)) where
+  abbrev OnceFits : T → Row → Type 0
+  OnceFits x row = IsRow row × (last x ≡ Some (key row) → ⊥)
+
+  abbrev OnceKeeps : T → Row → T → Type 0
+  OnceKeeps x row next = last next ≡ Some (key row)
+
+  abbrev KeysApart : Row → Row → Type 0
+  KeysApart a b = key a ≡ key b → ⊥
+
+  turned : (a b : Row) → KeysApart a b → KeysApart b a
+  turned a b apart same = apart (sym same)
+
+  rise : (start end : T) (rows : List Row) → InOrder rows → Pass OnceFits OnceKeeps start rows end → IsAscending (λ a b. R (key a) (key b) ≡ Less) rows
+  rise start end rows sorted p =
+      let apart = adjacent_apart OnceFits OnceKeeps last key (λ x row next keeps. keeps) (λ x row fits. fits.1) start rows end p in
+      let each = λ (r : Row) (there : Has rows r). (pass_each OnceFits OnceKeeps start rows end p r there).1.0 in
+      let upto = adjacent_among _ (λ a b. is_lt (R (key b) (key a)) ≡ false) rows (λ a b here there h. ap is_lt (sym (in_order b a (each b there) (each a here))) ∙ h) sorted in
+      ascends (λ a b. R (key a) (key b) ≡ Less) (λ a b c. total.trans (key a) (key b) (key c)) rows (adjacent_both _ _ _ (λ a b upto apart. apart_below total exact (key a) (key b) upto apart) rows upto apart)
+
+  once_true : (start end : T) (rows all : List Row) → IsPermutation all rows → InOrder rows → Pass OnceFits OnceKeeps start rows end → Fit.AreOnce IsRow key all
+  once_true start end rows all same sorted p =
+      let back = IsPermutation-sym _ _ same in
+      record {
+        each = λ row there. (pass_each OnceFits OnceKeeps start rows end p row (has_permuted rows all row back there)).1.0;
+        once = ascends_permuted KeysApart turned rows all back (ascending_weaker _ KeysApart (λ a b less tie. not_itself total (key a) (key b) less tie) rows (rise start end rows sorted p));
+      }
+
+  once_false : (start kept : T) → last start ≡ None → (rows : List Row) (row : Row) (tail all : List Row) → IsPermutation all ((rows ++ row ∷ []) ++ tail) → Pass OnceFits OnceKeeps start rows kept → (OnceFits kept row → ⊥) → Fit.AreOnce IsRow key all → ⊥
+  once_false start kept new rows row tail all same p unfit fit =
+      let once = ascends_permuted KeysApart turned all _ same fit.once in
+      unfit (
+        fit.each row (has_permuted all _ row same (at_place rows tail row)),
+        λ is. elim (last_of OnceFits OnceKeeps last key (λ x row next keeps. keeps) start rows kept p (key row) is) [
+          | inl old ↦ absurd (let e = sym new ∙ old in cc)
+          | inr it ↦ after_all KeysApart rows tail row it.0 once it.1 it.2
+        ],
+      )
+
+-- texts in SQL's order are in ours
+texts_in_order : (a b : Row) → Fit.IsKeyRow a → Fit.IsKeyRow b → key_cmp 0 (ascending Binary ∷ []) (column a 0 ∷ []) (column b 0 ∷ []) ≡ text_cmp (Fit.key_in a) (Fit.key_in b)
+texts_in_order a b one two = rw (one.1, two.1) (then-Equal _ ∙ value_cmp-Text one.0 two.0)
+
+ints_in_order : (a b : Row) → Fit.IsNumberRow a → Fit.IsNumberRow b → key_cmp 0 (ascending Binary ∷ []) (column a 0 ∷ []) (column b 0 ∷ []) ≡ int_cmp (Fit.number_in a) (Fit.number_in b)
+ints_in_order a b one two = rw (one.1, two.1) (then-Equal _ ∙ value_cmp-Int one.0 two.0)
 
 abbrev pub KeyFits : KeyRows → Row → Type 0
 KeyFits rows row = Fit.IsKeyRow row × (rows.last ≡ Some (Fit.key_in row) → ⊥)
@@ -170,56 +222,32 @@ KeyFits rows row = Fit.IsKeyRow row × (rows.last ≡ Some (Fit.key_in row) → 
 abbrev pub KeyKeeps : KeyRows → Row → KeyRows → Type 0
 KeyKeeps rows row next = next.last ≡ Some (Fit.key_in row)
 
-abbrev KeysApart : Row → Row → Type 0
-KeysApart a b = Fit.key_in a ≡ Fit.key_in b → ⊥
+abbrev pub NumberFits : NumberRows → Row → Type 0
+NumberFits rows row = Fit.IsNumberRow row × (rows.last ≡ Some (Fit.number_in row) → ⊥)
 
-keys_turned : (a b : Row) → KeysApart a b → KeysApart b a
-keys_turned a b apart same = apart (sym same)
+abbrev pub NumberKeeps : NumberRows → Row → NumberRows → Type 0
+NumberKeeps rows row next = next.last ≡ Some (Fit.number_in row)
 
-key_text : (row : Row) → Fit.IsKeyRow row → column row 0 ≡ Text (Fit.key_in row)
-key_text row it = it.1 ∙ ap (λ v. Text (Fit.text_in v)) (sym it.1)
-
--- texts in SQL's order are in ours
-texts_in_order : (v w : Value) (s t : List ℕ) → v ≡ Text s → w ≡ Text t → key_cmp 0 (ascending Binary ∷ []) (v ∷ []) (w ∷ []) ≡ text_cmp s t
-texts_in_order v w s t one two = rw (one, two) (then-Equal _ ∙ value_cmp-Text s t)
-
-not_itself : {K : Type 0} {R : K → K → Ordering} → IsTotalOrder R → (a b : K) → R a b ≡ Less → a ≡ b → ⊥
-not_itself {K} {R} o a b less same = let e : Less ≡ Equal = sym less ∙ (ap (R a) (sym same) ∙ tied_itself o a) in absurd (cc)
-
-module _ (db : Database) (start end : KeyRows) where
-  -- the keys rise
-  keys_rise : (rows : List Row) → Adjacent (λ a b. is_lt (key_cmp 0 (ascending Binary ∷ []) (column b 0 ∷ []) (column a 0 ∷ [])) ≡ false) rows → Pass KeyFits KeyKeeps start rows end
-      → IsAscending (λ a b. text_cmp (Fit.key_in a) (Fit.key_in b) ≡ Less) rows
-  keys_rise rows sorted p =
-      let apart = adjacent_apart KeyFits KeyKeeps (λ (x : KeyRows). x.last) Fit.key_in (λ x row next keeps. keeps) (λ x row fits. fits.1) start rows end p in
-      let each = λ (r : Row) (there : Has rows r). key_text r (pass_each KeyFits KeyKeeps start rows end p r there).1.0 in
-      let upto = adjacent_among _ (λ a b. is_lt (text_cmp (Fit.key_in b) (Fit.key_in a)) ≡ false) rows (λ a b here there h. ap is_lt (sym (texts_in_order (column b 0) (column a 0) (Fit.key_in b) (Fit.key_in a) (each b there) (each a here))) ∙ h) sorted in
-      ascends (λ a b. text_cmp (Fit.key_in a) (Fit.key_in b) ≡ Less) (λ a b c. texts_total.trans (Fit.key_in a) (Fit.key_in b) (Fit.key_in c)) rows
-      (adjacent_both _ _ _ (λ a b upto apart. apart_below texts_total texts_exact (Fit.key_in a) (Fit.key_in b) upto apart) rows upto apart)
-
-  pub keys_true : Walks KeyFits KeyKeeps key_rows_text db start end true → Fit.AreKeysFit (map Fit.name_shown (db.trees 4))
-  keys_true w =
+module _ (db : Database) where
+  pub keys_true : (start end : KeyRows) → Walks KeyFits KeyKeeps key_rows_text db start end true → Fit.AreKeysFit (map Fit.name_shown (db.trees 4))
+  keys_true start end w =
       let it = all_listed key_rows_text _ _ _ _ key_rows_is db w.0 w.1 in
-      let same = keys_listed db.trees w.0 it in
-      let back = IsPermutation-sym _ _ same in
-      let rise = keys_rise w.0 (keys_in_order db.trees w.0 it) w.2 in
-      record {
-        each = λ row there. (pass_each KeyFits KeyKeeps start w.0 end w.2 row (has_permuted w.0 _ row back there)).1.0;
-        once = ascends_permuted KeysApart keys_turned w.0 _ back (ascending_weaker _ KeysApart (λ a b less same. not_itself texts_total (Fit.key_in a) (Fit.key_in b) less same) w.0 rise);
-      }
+      once_true texts_total texts_exact Fit.IsKeyRow Fit.key_in (λ (x : KeyRows). x.last) texts_in_order start end w.0 _ (keys_listed db.trees w.0 it) (keys_in_order db.trees w.0 it) w.2
 
-  pub keys_false : start.last ≡ None → Walks KeyFits KeyKeeps key_rows_text db start end false → Fit.AreKeysFit (map Fit.name_shown (db.trees 4)) → ⊥
-  keys_false new w fit =
+  pub keys_false : (start end : KeyRows) → start.last ≡ None → Walks KeyFits KeyKeeps key_rows_text db start end false → Fit.AreKeysFit (map Fit.name_shown (db.trees 4)) → ⊥
+  keys_false start end new w =
       let first = first_listed key_rows_text _ _ _ _ key_rows_is db (w.0 ++ w.1 ∷ []) w.3 in
-      let same = keys_listed db.trees _ first.1 in
-      let once = ascends_permuted KeysApart keys_turned _ _ same fit.once in
-      w.5 (
-        fit.each w.1 (has_permuted _ _ w.1 same (at_place w.0 first.0 w.1)),
-        λ last. elim (last_of KeyFits KeyKeeps (λ (x : KeyRows). x.last) Fit.key_in (λ x row next keeps. keeps) start w.0 w.2 w.4 (Fit.key_in w.1) last) [
-          | inl old ↦ absurd (let e = sym new ∙ old in cc)
-          | inr it ↦ after_all KeysApart w.0 first.0 w.1 it.0 once it.1 it.2
-        ],
-      )
+      once_false texts_total texts_exact Fit.IsKeyRow Fit.key_in (λ (x : KeyRows). x.last) texts_in_order start w.2 new w.0 w.1 first.0 _ (keys_listed db.trees _ first.1) w.4 w.5
+
+  pub numbers_true : (start end : NumberRows) → Walks NumberFits NumberKeeps number_rows_text db start end true → Fit.AreNumbersFit (map Fit.number_shown (db.trees 4))
+  numbers_true start end w =
+      let it = all_listed number_rows_text _ _ _ _ number_rows_is db w.0 w.1 in
+      once_true int_cmp_total int_cmp-IsAntisymmetric Fit.IsNumberRow Fit.number_in (λ (x : NumberRows). x.last) ints_in_order start end w.0 _ (numbers_listed db.trees w.0 it) (numbers_in_order db.trees w.0 it) w.2
+
+  pub numbers_false : (start end : NumberRows) → start.last ≡ None → Walks NumberFits NumberKeeps number_rows_text db start end false → Fit.AreNumbersFit (map Fit.number_shown (db.trees 4)) → ⊥
+  numbers_false start end new w =
+      let first = first_listed number_rows_text _ _ _ _ number_rows_is db (w.0 ++ w.1 ∷ []) w.3 in
+      once_false int_cmp_total int_cmp-IsAntisymmetric Fit.IsNumberRow Fit.number_in (λ (x : NumberRows). x.last) ints_in_order start w.2 new w.0 w.1 first.0 _ (numbers_listed db.trees _ first.1) w.4 w.5
 
 -- ---- version and body
 

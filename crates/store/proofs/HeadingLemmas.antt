@@ -8,6 +8,7 @@ use Rattle.sqlite.specs.Collation.TheVariants.{Binary}
 use Rattle.sqlite_sql.specs.declared.ops.BinaryOp.TheVariants.{Compare}
 use Rattle.sqlite_sql.specs.declared.ops.CompareOp.TheVariants.{Eq}
 use Rattle.sqlite.specs.Order.{Row, column}
+use Rattle.sqlite.specs.Values.{or_null}
 use Rattle.sqlite.specs.Tree.{Trees, rowid}
 use Rattle.sqlite.specs.Term.{Term, col, op2}
 use Rattle.sqlite.specs.Effect.{Database}
@@ -35,9 +36,9 @@ abbrev pub by_place : List Term
 by_place = op2 (Compare Eq Binary) (col 1 2) (col 0 0) ∷ op2 (Compare Eq Binary) (col 1 3) (col 0 1) ∷ op2 (Compare Eq Binary) (col 1 4) (col 0 2) ∷ []
 
 abbrev pub heading : List Term
-heading = col 1 0 ∷ col 1 2 ∷ col 1 6 ∷ []
+heading = col 1 0 ∷ col 1 2 ∷ col 1 5 ∷ col 1 6 ∷ []
 
-heading_is : command_of (understood store_schema heading_text) ≡ Select (record { lets = []; body = lookup 6 by_place heading }) (codes "id" ∷ codes "shelf" ∷ codes "mod" ∷ [])
+heading_is : command_of (understood store_schema heading_text) ≡ Select (record { lets = []; body = lookup 6 by_place heading }) (codes "id" ∷ codes "shelf" ∷ codes "time" ∷ codes "mod" ∷ [])
 unfolding understood everything
 heading_is = refl
 
@@ -64,6 +65,13 @@ pub zip_tables : reads_listing store_schema zip_text ≡ false
 unfolding understood everything
 zip_tables = refl
 
+-- a value is of one time
+same_time : (a b : Option (List ℕ)) → or_null Text a ≡ or_null Text b → a ≡ b
+same_time None None e = refl
+same_time None (Some t) e = absurd (cc)
+same_time (Some s) None e = absurd (cc)
+same_time (Some s) (Some t) e = let same : s ≡ t = cc in ap Some same
+
 abbrev pub place_params : Place → Row
 place_params p = Text p.shelf ∷ Text p.path ∷ Text p.version ∷ []
 
@@ -78,13 +86,13 @@ module _ (p : Place) (db : Database) (w : World) (means : Means db.trees w) wher
   passes_own : (row : Row) → IsAt row p → passes by_place (place_params p) row ≡ true
   passes_own row at = rw (at.0, at.1, at.2, equals_itself p.shelf, equals_itself p.path, equals_itself p.version) refl
 
-  heading_some : (out : Row) (h : Heading) → FirstFound (db.trees 6) by_place heading (place_params p) (Some out) → column out 0 ≡ Int h.id → column out 1 ≡ Text h.shelf → column out 2 ≡ Blob h.gomod → IsHeading db.trees w p h
-  heading_some out h found id shelf gomod =
+  heading_some : (out : Row) (h : Heading) → FirstFound (db.trees 6) by_place heading (place_params p) (Some out) → column out 0 ≡ Int h.id → column out 1 ≡ Text h.shelf → column out 2 ≡ or_null Text h.time → column out 3 ≡ Blob h.gomod → IsHeading db.trees w p h
+  heading_some out h found id shelf time gomod =
       let it = means.entries.each found.0 found.1 in
       let at = passes_at found.0 found.2 in
       let same : it.0.0 ≡ p = same_place found.0 it.0.0 p it.1.place at in
       let shelves : h.shelf ≡ p.shelf = let e = sym shelf ∙ (ap (λ (r : Row). column r 1) found.3 ∙ at.0) in cc in
-      let mods : h.gomod ≡ it.0.1.gomod = let e = sym gomod ∙ (ap (λ (r : Row). column r 2) found.3 ∙ it.1.gomod) in cc in
+      let mods : h.gomod ≡ it.0.1.gomod = let e = sym gomod ∙ (ap (λ (r : Row). column r 3) found.3 ∙ it.1.gomod) in cc in
       record {
         row = found.0;
         entry = it.0.1;
@@ -92,6 +100,7 @@ module _ (p : Place) (db : Database) (w : World) (means : Means db.trees w) wher
         is = subst (λ q. IsVersion (db.trees 8) found.0 (q, it.0.1)) same it.1;
         id = sym (ap (λ (r : Row). column r 0) found.3) ∙ id;
         shelf = shelves;
+        time = same_time h.time it.0.1.time (sym time ∙ (ap (λ (r : Row). column r 2) found.3 ∙ it.1.time));
         gomod = mods;
       }
 
@@ -102,7 +111,7 @@ module _ (p : Place) (db : Database) (w : World) (means : Means db.trees w) wher
       go None is = is
       go (Some e) is = absurd (let it = means.entries.found (p, e) is in true≢false (sym (passes_own it.0 it.2.place) ∙ h it.0 it.1))
 
-  pub heading_read : (row : Row) (h : Heading) → Selects heading_text (place_params p) db (Some row) → column row 0 ≡ Int h.id → column row 1 ≡ Text h.shelf → column row 2 ≡ Blob h.gomod → IsHeading db.trees w p h
+  pub heading_read : (row : Row) (h : Heading) → Selects heading_text (place_params p) db (Some row) → column row 0 ≡ Int h.id → column row 1 ≡ Text h.shelf → column row 2 ≡ or_null Text h.time → column row 3 ≡ Blob h.gomod → IsHeading db.trees w p h
   heading_read row h picked = heading_some row h (selected_found heading_text (place_params p) db 6 by_place heading _ heading_is (λ _. refl) (Some row) picked)
 
   pub heading_lacks : Selects heading_text (place_params p) db None → map.get w.entries p ≡ None
@@ -123,12 +132,13 @@ module _ (id : ℤ) (db : Database) where
 
 -- the two rows are the entry
 pub entry_whole : (db : Trees) (w : World) (p : Place) (h : Heading) (zip : List ℕ) → IsHeading db w p h → HasZip db h.id (Some zip)
-    → Some (record { shelf = h.shelf; entry = record { gomod = h.gomod; zip = zip } }) ≡ seen_at (map.get w.entries p) p.shelf
+    → Some (record { shelf = h.shelf; entry = record { gomod = h.gomod; zip = zip; time = h.time } }) ≡ seen_at (map.get w.entries p) p.shelf
 entry_whole db w p h zip it found =
     let zips : it.entry.zip ≡ zip = let e = sym (it.is.only found.0 found.1 (ap (λ v. equal Binary (rowid found.0) v) it.id ∙ found.2)) ∙ found.3 in cc in
     let mods = it.gomod in
+    let times = it.time in
     let shelves = it.shelf in
-    ap Some (λ i. record { shelf = shelves i; entry = record { gomod = mods i; zip = sym zips i } }) ∙ sym (ap (λ o. seen_at o p.shelf) it.kept)
+    ap Some (λ i. record { shelf = shelves i; entry = record { gomod = mods i; zip = sym zips i; time = times i } }) ∙ sym (ap (λ o. seen_at o p.shelf) it.kept)
 
 pub entry_lacks : (w : World) (p : Place) → map.get w.entries p ≡ None → None ≡ seen_at (map.get w.entries p) p.shelf
 entry_lacks w p none = sym (ap (λ o. seen_at o p.shelf) none)

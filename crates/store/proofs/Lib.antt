@@ -18,6 +18,7 @@ pub mod SoundLemmas
 pub mod RowMapLemmas
 pub mod WorldOf
 pub mod WorldFits
+pub mod EntryTests
 pub mod FitTests
 pub mod RowFits
 pub mod ShelfLemmas
@@ -34,3 +35,5 @@ pub mod CreateLemmas
 pub mod StoreLemmas
 pub mod OpenLemmas
 pub mod OneWorld
+pub mod VisibleLemmas
+pub mod RevokeLemmas

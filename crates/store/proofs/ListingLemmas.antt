@@ -24,8 +24,8 @@ use Rattle.sqlite_rules.specs.Lists.{Has}
 use Rattle.sqlite_rules.proofs.ProbeLemmas.{has_mapped}
 use Rattle.store.specs.Schema.{store_schema}
 use Rattle.store.specs.Means.{is_numbered_as}
-use Rattle.store.specs.Fit.{joined, meta_shown, name_shown, entry_shown}
-use Rattle.store.proofs.Texts.{meta_rows_text, shelf_rows_text, key_rows_text, entry_rows_text}
+use Rattle.store.specs.Fit.{joined, meta_shown, name_shown, number_shown, entry_shown}
+use Rattle.store.proofs.Texts.{meta_rows_text, shelf_rows_text, key_rows_text, number_rows_text, entry_rows_text}
 use Rattle.store.proofs.LookupLemmas.{has_permuted}
 use Rattle.store.proofs.Ascending.{Adjacent, adjacent_map, adjacent_among, sorted_adjacent}
 
@@ -95,6 +95,21 @@ key_rows_plain = (refl, refl)
 pub key_rows_tables : reads_listing store_schema key_rows_text ≡ false
 unfolding understood everything
 key_rows_tables = refl
+
+abbrev pub by_number : List (Term × Key)
+by_number = (col 1 0, ascending Binary) ∷ []
+
+pub number_rows_is : command_of (understood store_schema number_rows_text) ≡ Select (record { lets = []; body = listing (inner 4 end) (col 1 0 ∷ []) by_number }) (codes "rowid" ∷ [])
+unfolding understood everything
+number_rows_is = refl
+
+pub number_rows_plain : IsPlain (understood store_schema number_rows_text)
+unfolding understood everything
+number_rows_plain = (refl, refl)
+
+pub number_rows_tables : reads_listing store_schema number_rows_text ≡ false
+unfolding understood everything
+number_rows_tables = refl
 
 abbrev pub with_bodies : Join
 with_bodies = inner 6 (left 8 (op2 (Compare Eq Binary) (col 2 0) (col 1 0) ∷ []) end)
@@ -186,15 +201,28 @@ KeysListed db out = IsListing (listing (inner 4 end) (col 1 1 ∷ []) by_token) 
 pub keys_listed : (db : Trees) (out : List Row) → KeysListed db out → IsPermutation (map name_shown (db 4)) out
 keys_listed db out it = subst (λ l. IsPermutation l out) (of_table 4 (col 1 1 ∷ []) (overlay db [])) (listed_rows (inner 4 end) (col 1 1 ∷ []) by_token (overlay db []) out it)
 
+abbrev pub NumbersListed : Trees → List Row → Type 0
+NumbersListed db out = IsListing (listing (inner 4 end) (col 1 0 ∷ []) by_number) (overlay db []) out
+
+pub numbers_listed : (db : Trees) (out : List Row) → NumbersListed db out → IsPermutation (map number_shown (db 4)) out
+numbers_listed db out it = subst (λ l. IsPermutation l out) (of_table 4 (col 1 0 ∷ []) (overlay db [])) (listed_rows (inner 4 end) (col 1 0 ∷ []) by_number (overlay db []) out it)
+
 abbrev pub EntriesListed : Trees → List Row → Type 0
 EntriesListed db out = IsListing (listing with_bodies entry_columns by_place) (overlay db []) out
 
 pub entries_listed : (db : Trees) (out : List Row) → EntriesListed db out → IsPermutation (joined (db 6) (db 8)) out
 entries_listed db out it = subst (λ l. IsPermutation l out) (of_entries (overlay db [])) (listed_rows with_bodies entry_columns by_place (overlay db []) out it)
 
+-- rows of one column in its order
+abbrev pub InOrder : List Row → Type 0
+InOrder = Adjacent (λ a b. is_lt (key_cmp 0 (ascending Binary ∷ []) (column b 0 ∷ []) (column a 0 ∷ [])) ≡ false)
+
 -- the keys come in their order
-pub keys_in_order : (db : Trees) (out : List Row) → KeysListed db out → Adjacent (λ a b. is_lt (key_cmp 0 (ascending Binary ∷ []) (column b 0 ∷ []) (column a 0 ∷ [])) ≡ false) out
+pub keys_in_order : (db : Trees) (out : List Row) → KeysListed db out → InOrder out
 keys_in_order db out it = listed_in_order (listing (inner 4 end) (col 1 1 ∷ []) by_token) (overlay db []) out it (λ row. column row 0 ∷ []) (λ env. refl)
+
+pub numbers_in_order : (db : Trees) (out : List Row) → NumbersListed db out → InOrder out
+numbers_in_order db out it = listed_in_order (listing (inner 4 end) (col 1 0 ∷ []) by_number) (overlay db []) out it (λ row. column row 0 ∷ []) (λ env. refl)
 
 abbrev pub place_columns : Row → Row
 place_columns row = column row 0 ∷ column row 1 ∷ column row 2 ∷ []

@@ -18,6 +18,7 @@ use Rattle.shelf.proofs.Orders.{texts_total, texts_exact, places_total, places_e
 use Rattle.store.specs.Views.{may_publish}
 use Rattle.store.specs.Means.{Means, Tabulates, IsAccess, IsVersion, IsShelf}
 use Rattle.store.specs.Laws.{StandForOne}
+use Rattle.store.proofs.RowFits.{time_told}
 use Rattle.store.proofs.TransactionLemmas.{same_place}
 
 -- where a row is of one thing alone, the things of a table are the same however they are named
@@ -64,7 +65,8 @@ one_version bodies row x y one two =
     let place = same_place row y.0 x.0 two.place one.place in
     let gomod = blobs_same (column row 6) x.1.gomod y.1.gomod one.gomod two.gomod in
     let zip = blobs_same (column one.body 2) x.1.zip y.1.zip one.zip (two.only one.body one.there one.same) in
-    λ i. (place i, record { gomod = gomod i; zip = zip i })
+    let time : y.1.time ≡ x.1.time = time_told (column row 5) y.1.time two.time ∙ sym (time_told (column row 5) x.1.time one.time) in
+    λ i. (place i, record { gomod = gomod i; zip = zip i; time = time i })
 
 one_shelf : (row : Row) (x y : List ℕ) → IsShelf row x → IsShelf row y → y ≡ x
 one_shelf row = texts_same (column row 1)
@@ -72,10 +74,10 @@ one_shelf row = texts_same (column row 1)
 pub stand_for_one : StandForOne
 stand_for_one db w x one two =
     let keys = map.same_map texts_total texts_exact w.keys x.keys (λ k. same_got w.keys x.keys k (λ h. carried IsAccess (db 4) (λ it. map.get w.keys it.0 ≡ Some it.1) (λ it. map.get x.keys it.0 ≡ Some it.1) one_access one.access two.access (k, h))
-        (λ h. carried IsAccess (db 4) (λ it. map.get x.keys it.0 ≡ Some it.1) (λ it. map.get w.keys it.0 ≡ Some it.1) one_access two.access one.access (k, h))) in
+    (λ h. carried IsAccess (db 4) (λ it. map.get x.keys it.0 ≡ Some it.1) (λ it. map.get w.keys it.0 ≡ Some it.1) one_access two.access one.access (k, h))) in
     let shelves = set.same_set texts_total texts_exact w.shelves x.shelves (λ s. same_test _ _ (carried IsShelf (db 2) (λ s. IsTrue (set.contains w.shelves s)) (λ s. IsTrue (set.contains x.shelves s)) one_shelf one.shelves two.shelves s)
-        (carried IsShelf (db 2) (λ s. IsTrue (set.contains x.shelves s)) (λ s. IsTrue (set.contains w.shelves s)) one_shelf two.shelves one.shelves s)) in
+    (carried IsShelf (db 2) (λ s. IsTrue (set.contains x.shelves s)) (λ s. IsTrue (set.contains w.shelves s)) one_shelf two.shelves one.shelves s)) in
     let entries = map.same_map places_total places_exact w.entries x.entries
-        (λ q. same_got w.entries x.entries q (λ e. carried (IsVersion (db 8)) (db 6) (λ it. map.get w.entries it.0 ≡ Some it.1) (λ it. map.get x.entries it.0 ≡ Some it.1) (one_version (db 8)) one.entries two.entries (q, e))
-        (λ e. carried (IsVersion (db 8)) (db 6) (λ it. map.get x.entries it.0 ≡ Some it.1) (λ it. map.get w.entries it.0 ≡ Some it.1) (one_version (db 8)) two.entries one.entries (q, e))) in
+    (λ q. same_got w.entries x.entries q (λ e. carried (IsVersion (db 8)) (db 6) (λ it. map.get w.entries it.0 ≡ Some it.1) (λ it. map.get x.entries it.0 ≡ Some it.1) (one_version (db 8)) one.entries two.entries (q, e))
+    (λ e. carried (IsVersion (db 8)) (db 6) (λ it. map.get x.entries it.0 ≡ Some it.1) (λ it. map.get w.entries it.0 ≡ Some it.1) (one_version (db 8)) two.entries one.entries (q, e))) in
     λ i. record { keys = keys i; shelves = shelves i; entries = entries i }

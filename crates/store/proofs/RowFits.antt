@@ -1,7 +1,9 @@
 -- What a row that fits has in its columns.
-use Rattle.std.proofs.Common.{◌≡◌, Bool, List, [], ℕ, Decides, sym, subst, ◌∙◌}
+use Rattle.std.proofs.Common.{◌≡◌, Bool, List, [], ℕ, Option, Some, None, Decides, option_map, refl, sym, ap, subst, ◌∙◌}
 use Rattle.std.specs.Str.{IsUtf8}
-use Rattle.sqlite.specs.declared.types.Value.TheVariants.{Text}
+use Rattle.sqlite.specs.declared.types.Value.{Value}
+use Rattle.sqlite.specs.declared.types.Value.TheVariants.{Null, Int, Real, Text, Blob}
+use Rattle.sqlite.specs.Values.{or_null}
 use Rattle.sqlite.specs.Order.{Row, column}
 use Rattle.shelf.specs.declared.entry.Place.{Place}
 use Rattle.shelf.specs.declared.entry.Entry.{Entry}
@@ -30,12 +32,32 @@ place_shown row s p v one two three = λ i. record { shelf = text_in (sym one i)
 pub entry_shown : (row : Row) (s p v : List ℕ) (e : Entry) → column row 0 ≡ Text s → IsUtf8 s → column row 1 ≡ Text p → column row 2 ≡ Text v → ShowsFiles row e → IsEntry (place s p v) e → IsEntryRow row
 entry_shown row s p v e one utf8 two three files may = (place s p v, e, record { shelf = one; path = two; version = three; files = files; utf8 = utf8; may = may })
 
+-- the text that a value is, or none
+abbrev pub time_in : Value → Option (List ℕ)
+time_in Null = None
+time_in (Int n) = None
+time_in (Real x) = None
+time_in (Text t) = Some t
+time_in (Blob b) = None
+
+pub time_told : (v : Value) (time : Option (List ℕ)) → v ≡ or_null Text time → time ≡ time_in v
+time_told v None is = ap time_in (sym is)
+time_told v (Some t) is = ap time_in (sym is)
+
 pub same_entry : (row : Row) (d e : Entry) → ShowsFiles row d → ShowsFiles row e → d ≡ e
 same_entry row d e one two =
     let gomod : d.gomod ≡ e.gomod = let f = sym one.gomod ∙ two.gomod in cc in
     let zip : d.zip ≡ e.zip = let f = sym one.zip ∙ two.zip in cc in
-    λ i. record { gomod = gomod i; zip = zip i }
+    let time : d.time ≡ e.time = time_told (column row 3) d.time one.time ∙ sym (time_told (column row 3) e.time two.time) in
+    λ i. record { gomod = gomod i; zip = zip i; time = time i }
 
 -- the files of a row tell whether it shows an entry that may stand there
 pub entry_told : (row : Row) (p v : List ℕ) (e : Entry) (b : Bool) → ShowsFiles row e → ((s : List ℕ) → Decides b (IsEntry (place s p v) e)) → Decides b ((x : Entry) × ShowsFiles row x × ((s : List ℕ) → IsEntry (place s p v) x))
 entry_told row p v e b files told = (λ t. (e, files, λ s. (told s).0 t), λ x. (told []).1 (subst (IsEntry (place [] p v)) (same_entry row x.0 e x.1 files) (x.2 [])))
+
+pub times_mapped : {X : Type 0} (f : X → List ℕ) (time : Option X) → or_null (λ t. Text (f t)) time ≡ or_null Text (option_map f time)
+times_mapped f None = refl
+times_mapped f (Some t) = refl
+
+pub no_time : (row : Row) (p v : List ℕ) → ((t : Option (List ℕ)) → column row 3 ≡ or_null Text t → ⊥) → ((e : Entry) × ShowsFiles row e × ((s : List ℕ) → IsEntry (place s p v) e)) → ⊥
+no_time row p v none it = none it.0.time it.1.time

@@ -14,7 +14,7 @@ abbrev pub add_shelf_text : List ℕ
 add_shelf_text = codes "INSERT INTO shelf (name) VALUES (?1)"
 
 abbrev pub heading_text : List ℕ
-heading_text = codes "SELECT id, shelf, mod FROM version WHERE shelf = ?1 AND path = ?2 AND version = ?3"
+heading_text = codes "SELECT id, shelf, time, mod FROM version WHERE shelf = ?1 AND path = ?2 AND version = ?3"
 
 abbrev pub zip_text : List ℕ
 zip_text = codes "SELECT zip FROM body WHERE id = ?1"
@@ -23,10 +23,19 @@ abbrev pub count_text : List ℕ
 count_text = codes "SELECT count(*) FROM version WHERE shelf = ?1 AND path = ?2"
 
 abbrev pub add_version_text : List ℕ
-add_version_text = codes "INSERT INTO version (shelf, path, version, mod) VALUES (?1, ?2, ?3, ?4)"
+add_version_text = codes "INSERT INTO version (shelf, path, version, time, mod) VALUES (?1, ?2, ?3, ?4, ?5)"
 
 abbrev pub add_body_text : List ℕ
 add_body_text = codes "INSERT INTO body (id, zip) VALUES (?1, ?2)"
+
+abbrev pub versions_text : List ℕ
+versions_text = codes "SELECT version FROM version WHERE shelf = ?1 AND path = ?2"
+
+abbrev pub paths_text : List ℕ
+paths_text = codes "SELECT path FROM version WHERE shelf = ?1"
+
+abbrev pub revoke_key_text : List ℕ
+revoke_key_text = codes "DELETE FROM access WHERE token = ?1"
 
 -- ---- all rows
 
@@ -38,6 +47,9 @@ shelf_rows_text = codes "SELECT name FROM shelf"
 
 abbrev pub key_rows_text : List ℕ
 key_rows_text = codes "SELECT token FROM access ORDER BY token"
+
+abbrev pub number_rows_text : List ℕ
+number_rows_text = codes "SELECT rowid FROM access ORDER BY rowid"
 
 abbrev pub entry_rows_text : List ℕ
 entry_rows_text = codes "SELECT v.shelf, v.path, v.version, v.time, v.mod, b.zip FROM version AS v LEFT JOIN body AS b ON b.id = v.id ORDER BY v.shelf, v.path, v.version"

@@ -107,6 +107,7 @@ module _ (w : World) (p : Place) (e : Entry) (unused : map.get w.entries p ≡ N
         named = rw (second.tables.0 (λ f. omega (arith, f)), first.tables.0 (λ f. omega (arith, f))) means.named;
         shelves = rw (second.tables.1.0 (λ f. omega (arith, f)), first.tables.1.0 (λ f. omega (arith, f))) means.shelves;
         access = rw (second.tables.1.1.0 (λ f. omega (arith, f)), first.tables.1.1.0 (λ f. omega (arith, f))) means.access;
+        numbered = rw (second.tables.1.1.0 (λ f. omega (arith, f)), first.tables.1.1.0 (λ f. omega (arith, f))) means.numbered;
         entries = rw (rows, first.rows) (tabulates_put (IsVersion (after 8)) (db 6) (version_row a.id p e) (p, e) _ _ first.fresh new_is kept (get_put places_total w.entries p e) split wider);
         tokens = rw (second.tables.1.1.0 (λ f. omega (arith, f)), first.tables.1.1.0 (λ f. omega (arith, f))) means.tokens;
         bodies = rw (second.rows, same_bodies) (put_apart (λ a b. is_numbered_as a b ≡ false) (λ a b apart. equal_turned (rowid b) (rowid a) ∙ apart) (body_row a.id e) (db 8) (all_from _ (db 8) (λ r there. fresh_after a.id (body_row a.id e) (db 8) refl (subst (λ l. are_fresh l (body_row a.id e ∷ []) ≡ true) same_bodies second.fresh) r there)) means.bodies);

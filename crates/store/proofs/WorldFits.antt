@@ -1,6 +1,6 @@
 -- Rows that stand for a world fit.
 use Rattle.std.proofs.Common.{◌≡◌, ◌≤◌, Bool, true, List, [], ◌∷◌, length, map as mapped, filter, inl, inr, refl, sym, ap, subst, ◌∙◌, arith}
-use Rattle.sqlite.specs.declared.types.Value.TheVariants.{Text}
+use Rattle.sqlite.specs.declared.types.Value.TheVariants.{Int, Text}
 use Rattle.sqlite.specs.Order.{Row, column}
 use Rattle.sqlite.specs.Tree.{Trees}
 use Rattle.sqlite_trees.specs.Tree.{IsAscending}
@@ -11,7 +11,7 @@ use Rattle.shelf.specs.World.{World, IsWorld, common, version_limit}
 use Rattle.shelf.proofs.Orders.{text_self}
 use Rattle.store.specs.Lookup.{passes}
 use Rattle.store.specs.Means.{Means, IsMeta, IsAt, schema_named}
-use Rattle.store.specs.Fit.{key_in, place_in, is_on, is_common, joined, entry_shown, meta_shown, name_shown, IsSchemaRow, IsShelfRow, IsKeyRow, IsEntryRow, IsMetaFit, AreShelvesFit, AreKeysFit, AreEntriesFit, AreFit}
+use Rattle.store.specs.Fit.{key_in, int_in, number_in, place_in, is_on, is_common, joined, entry_shown, meta_shown, name_shown, number_shown, IsSchemaRow, IsShelfRow, IsKeyRow, IsNumberRow, IsEntryRow, IsMetaFit, AreShelvesFit, AreKeysFit, AreNumbersFit, AreEntriesFit, AreFit}
 use Rattle.store.proofs.AsciiLemmas.{shelf_utf8}
 use Rattle.store.proofs.CountLemmas.{by_path, path_params, passes_own, all_counted}
 use Rattle.store.proofs.JoinLemmas.{HasOneBody, body_of, body_is, joined_is, one_of, fewer}
@@ -51,6 +51,16 @@ module _ (db : Trees) (w : World) (means : Means db w) (is : IsWorld w) where
     once = ascending_shown _ (λ a b. key_in a ≡ key_in b → ⊥) name_shown (db 4) (λ a b here there apart same. apart (key_in (name_shown b)) (own_key a here ∙ ap Text same) (own_key b there)) means.tokens;
   }
 
+  numbers_fit : AreNumbersFit (mapped number_shown (db 4))
+  numbers_fit = record {
+    each = each_shown IsNumberRow number_shown (db 4) means.numbered.number;
+    once = ascending_shown _ (λ a b. number_in a ≡ number_in b → ⊥) number_shown (db 4) (λ a b here there apart same.
+        let m = means.numbered.number a here in
+        let n = means.numbered.number b there in
+        let one : a ≡ b = means.numbered.own a b here there (m.1 ∙ (ap Int (ap int_in (sym m.1) ∙ (same ∙ ap int_in n.1)) ∙ sym n.1)) in
+        apart (key_in (name_shown a)) (own_key a here) (subst (λ (r : Row). column r 1 ≡ Text (key_in (name_shown a))) one (own_key a here))) means.tokens;
+  }
+
   one : HasOneBody (db 6) (db 8)
   one row there = let it = means.entries.each row there in (it.1.body, one_of (db 8) row it.1.body means.bodies it.1.there it.1.same)
 
@@ -88,4 +98,4 @@ module _ (db : Trees) (w : World) (means : Means db w) (is : IsWorld w) where
   })
 
   pub world_fits : AreFit db
-  world_fits = record { named = meta_fit; shelves = shelves_fit; access = keys_fit; entries = entries_fit }
+  world_fits = record { named = meta_fit; shelves = shelves_fit; access = keys_fit; numbers = numbers_fit; entries = entries_fit }

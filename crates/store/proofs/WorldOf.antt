@@ -8,7 +8,8 @@ use Rattle.std.proofs.lemmas.Map.Views.{tells_apart}
 use Rattle.sqlite.specs.declared.types.Value.{Value}
 use Rattle.sqlite.specs.declared.types.Value.TheVariants.{Null, Int, Real, Text, Blob}
 use Rattle.sqlite.specs.Order.{Row, column}
-use Rattle.sqlite.specs.Tree.{Trees}
+use Rattle.sqlite.specs.Tree.{Trees, rowid}
+use Rattle.sqlite.specs.Values.{or_null}
 use Rattle.sqlite_catalog.specs.Listing.{IsSound}
 use Rattle.sqlite_trees.specs.Tree.{IsAscending}
 use Rattle.sqlite_trees.proofs.ListLemmas.{ascending_weaker}
@@ -24,10 +25,11 @@ use Rattle.shelf.specs.World.{World, IsWorld, IsEntry, common, count, text_cmp, 
 use Rattle.shelf.proofs.Orders.{texts_total, texts_exact, places_total, places_exact, text_same}
 use Rattle.store.specs.Schema.{store_schema}
 use Rattle.store.specs.Views.{may_publish}
-use Rattle.store.specs.Means.{Means, IsMeta, IsAccess, IsVersion, schema_named, flag}
-use Rattle.store.specs.Fit.{text_in, place_in, is_on, joined, entry_shown, meta_shown, name_shown, ShowsEntry, AreFit}
+use Rattle.store.specs.Means.{Means, IsMeta, IsAccess, IsNumbered, IsVersion, schema_named}
+use Rattle.store.specs.Fit.{text_in, int_in, place_in, is_on, joined, entry_shown, meta_shown, name_shown, number_shown, ShowsEntry, AreFit}
 use Rattle.store.proofs.JoinLemmas.{HasOneBody, body_of, one_body, joined_is, its_body, no_other, bodies_once}
 use Rattle.store.proofs.RowMapLemmas.{made_of, made_from, made_has, entries_of, len_part}
+use Rattle.store.proofs.RowFits.{time_in, time_told}
 use Rattle.store.proofs.SoundLemmas.{access_row, key_shelf, version_shelf}
 
 -- ---- lists
@@ -95,7 +97,7 @@ abbrev place_of : Row → Place
 place_of row = record { shelf = text_in (column row 2); path = text_in (column row 3); version = text_in (column row 4) }
 
 abbrev entry_of : List Row → Row → Entry
-entry_of bodies row = record { gomod = blob_in (column row 6); zip = blob_in (column (body_of bodies row) 2) }
+entry_of bodies row = record { gomod = blob_in (column row 6); zip = blob_in (column (body_of bodies row) 2); time = time_in (column row 5) }
 
 pub world_of : Trees → World
 world_of db = record {
@@ -142,6 +144,13 @@ module _ (db : Trees) (sound : IsSound store_schema db) (fit : AreFit db) where
   key_named : (row : Row) → Has (db 4) row → (key : List ℕ) × (column row 1 ≡ Text key) × (is_key key ≡ true)
   key_named row there = fit.access.each (name_shown row) (mapped_has name_shown (db 4) row there)
 
+  -- each key has a number of its own
+  numbers_own : IsNumbered (db 4)
+  numbers_own = record {
+    number = λ row there. fit.numbers.each (number_shown row) (mapped_has number_shown (db 4) row there);
+    own = λ a b here there same. one_by_key (λ row. int_in (rowid row)) (db 4) (ascending_from_map _ number_shown (db 4) fit.numbers.once) a b here there (ap int_in same);
+  }
+
   access_is : (row : Row) → Has (db 4) row → IsAccess row (token_of row, holder_of row)
   access_is row there =
       let it = key_named row there in
@@ -177,7 +186,7 @@ module _ (db : Trees) (sound : IsSound store_schema db) (fit : AreFit db) where
       let zip = held_blob (column body 2) it.1.zip shows.files.zip in
       record {
         place = (held_text (column row 2) it.0.shelf shows.shelf, held_text (column row 3) it.0.path shows.path, held_text (column row 4) it.0.version shows.version);
-        time = shows.files.time;
+        time = shows.files.time ∙ ap (or_null Text) (time_told (column row 5) it.1.time shows.files.time);
         gomod = held_blob (column row 6) it.1.gomod shows.files.gomod;
         body = b.0;
         there = its.0;
@@ -191,7 +200,7 @@ module _ (db : Trees) (sound : IsSound store_schema db) (fit : AreFit db) where
       let it = entry_shown_at row there in
       let shows = it.2 in
       let q : it.0 ≡ place_of row = λ i. record { shelf = ap text_in (sym shows.shelf) i; path = ap text_in (sym shows.path) i; version = ap text_in (sym shows.version) i } in
-      let e : it.1 ≡ entry_of (db 8) row = λ i. record { gomod = ap blob_in (sym shows.files.gomod) i; zip = ap blob_in (sym shows.files.zip) i } in
+      let e : it.1 ≡ entry_of (db 8) row = λ i. record { gomod = ap blob_in (sym shows.files.gomod) i; zip = ap blob_in (sym shows.files.zip) i; time = time_told (column row 5) it.1.time shows.files.time i } in
       subst₂ IsEntry q e shows.may
 
   -- ---- the world
@@ -224,6 +233,7 @@ module _ (db : Trees) (sound : IsSound store_schema db) (fit : AreFit db) where
           let same : (place_of it.0, entry_of (db 8) it.0) ≡ x = λ i. (sym it.2 i, sym it.3 i) in
           (it.0, it.1, subst (IsVersion (db 8) it.0) same (version_is it.0 it.1));
     };
+    numbered = numbers_own;
     tokens = ascending_weaker _ _ (λ a b apart token one two. apart (ap text_in (one ∙ sym two))) (db 4) tokens_once;
     bodies = bodies_once db sound one;
     places = ascending_weaker _ _ (λ a b apart p at by. apart (λ i. record { shelf = ap text_in (at.0 ∙ sym by.0) i; path = ap text_in (at.1 ∙ sym by.1) i; version = ap text_in (at.2 ∙ sym by.2) i })) (db 6) places_once;

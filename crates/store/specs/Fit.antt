@@ -1,15 +1,19 @@
 -- What the rows of the tables have to be to stand for a world.
-use Rattle.std.specs.Prelude.{◌≡◌, ◌≤◌, ◌<◌, ◌⊎◌, ◌&&◌, ◌||◌, ◌+◌, ℕ, pos, Bool, true, false, if◌then◌else◌, List, [], ◌∷◌, length, map, filter, flat_map, Option, Some, None, bytes_eq, codes, IsUtf8}
+use Rattle.std.specs.Prelude.{◌≡◌, ◌≤◌, ◌<◌, ◌⊎◌, ◌&&◌, ◌||◌, ◌+◌, ℕ, ℤ, pos, Bool, true, false, if◌then◌else◌, List, [], ◌∷◌, length, map, filter, flat_map, Option, Some, None, bytes_eq, codes, IsUtf8}
 use Rattle.sqlite.specs.declared.types.Value.{Value}
 use Rattle.sqlite.specs.declared.types.Value.TheVariants.{Null, Int, Real, Text, Blob}
 use Rattle.sqlite.specs.Order.{Row, column}
 use Rattle.sqlite.specs.Tree.{Trees}
 use Rattle.sqlite.specs.Query.{or_nulls}
+use Rattle.sqlite.specs.Values.{or_null}
 use Rattle.sqlite_trees.specs.Tree.{IsAscending}
 use Rattle.sqlite_rules.specs.Lists.{Has}
 use Rattle.shelf.specs.declared.entry.Place.{Place}
 use Rattle.shelf.specs.declared.entry.Entry.{Entry}
-use Rattle.shelf.specs.World.{IsEntry, common, is_team_name, is_key, version_limit}
+use Rattle.shelf.specs.Forms.{fits, suffix_of}
+use Rattle.shelf.specs.World.{IsEntry, IsTimeOf, common, is_team_name, is_key, gomod_limit, zip_limit, version_limit}
+use Rattle.modver.specs.Class.{class_of}
+use Rattle.modver.specs.SemanticVersion.{SemanticVersion}
 use Rattle.store.specs.Means.{is_numbered_as}
 use Rattle.store.specs.Schema.{meta_table, shelf_table, access_table, version_table, body_table}
 
@@ -20,6 +24,13 @@ text_in (Real x) = []
 text_in (Text t) = t
 text_in (Blob b) = []
 
+abbrev pub int_in : Value → ℤ
+int_in Null = pos 0
+int_in (Int n) = n
+int_in (Real x) = pos 0
+int_in (Text t) = pos 0
+int_in (Blob b) = pos 0
+
 -- ---- what is read of each row
 
 abbrev pub meta_shown : Row → Row
@@ -27,6 +38,9 @@ meta_shown row = column row 1 ∷ column row 2 ∷ []
 
 abbrev pub name_shown : Row → Row
 name_shown row = column row 1 ∷ []
+
+abbrev pub number_shown : Row → Row
+number_shown row = column row 0 ∷ []
 
 -- the row of a version with the row of a body, or with none
 abbrev pub entry_shown : Row → Row → Row
@@ -53,9 +67,22 @@ IsKeyRow row = (key : List ℕ) × (column row 0 ≡ Text key) × (is_key key �
 abbrev pub key_in : Row → List ℕ
 key_in row = text_in (column row 0)
 
+abbrev pub IsNumberRow : Row → Type 0
+IsNumberRow row = (n : ℤ) × (column row 0 ≡ Int n)
+
+abbrev pub number_in : Row → ℤ
+number_in row = int_in (column row 0)
+
+-- the version goes with the path, the time with the version, and the files are within the limits
+pub record Suits (path : List ℕ) (v : SemanticVersion) (e : Entry) : Type 0 where
+  pub fits : fits (suffix_of path) v ≡ true
+  pub time : IsTimeOf (class_of v) e.time
+  pub gomod : length e.gomod ≤ gomod_limit
+  pub zip : length e.zip ≤ zip_limit
+
 -- the row shows the entry but for its place
 pub record ShowsFiles (row : Row) (e : Entry) : Type 0 where
-  pub time : column row 3 ≡ Null
+  pub time : column row 3 ≡ or_null Text e.time
   pub gomod : column row 4 ≡ Blob e.gomod
   pub zip : column row 5 ≡ Blob e.zip
 
@@ -88,10 +115,16 @@ pub record AreShelvesFit (rows : List Row) : Type 0 where
   pub each : (row : Row) → Has rows row → IsShelfRow row
   pub has_common : (row : Row) × Has rows row × (is_common (column row 0) ≡ true)
 
--- each key once
-pub record AreKeysFit (rows : List Row) : Type 0 where
-  pub each : (row : Row) → Has rows row → IsKeyRow row
-  pub once : IsAscending (λ a b. key_in a ≡ key_in b → ⊥) rows
+-- each row is so, and no two have one key
+pub record AreOnce {K : Type 0} (IsRow : Row → Type 0) (key : Row → K) (rows : List Row) : Type 0 where
+  pub each : (row : Row) → Has rows row → IsRow row
+  pub once : IsAscending (λ a b. key a ≡ key b → ⊥) rows
+
+abbrev pub AreKeysFit : List Row → Type 0
+AreKeysFit = AreOnce IsKeyRow key_in
+
+abbrev pub AreNumbersFit : List Row → Type 0
+AreNumbersFit = AreOnce IsNumberRow number_in
 
 -- each place once, and not too many of a path on a shelf
 pub record AreEntriesFit (rows : List Row) : Type 0 where
@@ -103,6 +136,7 @@ pub record AreFit (db : Trees) : Type 0 where
   pub named : IsMetaFit (map meta_shown (db meta_table.tree))
   pub shelves : AreShelvesFit (map name_shown (db shelf_table.tree))
   pub access : AreKeysFit (map name_shown (db access_table.tree))
+  pub numbers : AreNumbersFit (map number_shown (db access_table.tree))
   pub entries : AreEntriesFit (joined (db version_table.tree) (db body_table.tree))
 
 -- ---- one place after another, in order

@@ -6,6 +6,7 @@ pub mod Calls
 pub mod Reading
 pub mod Added
 pub mod Made
+pub mod Lists
 pub mod Walks
 pub mod Fit
 pub mod Opened

@@ -1,7 +1,8 @@
 -- The world that the tables stand for. No row number and no order of rows occurs here.
 use Rattle.std.specs.Prelude.{ℕ, ℤ, Bool, true, false, pos, if◌then◌else◌, List, Some, IsTrue, codes, ◌≡◌}
-use Rattle.sqlite.specs.declared.types.Value.TheVariants.{Null, Int, Text, Blob}
+use Rattle.sqlite.specs.declared.types.Value.TheVariants.{Int, Text, Blob}
 use Rattle.sqlite.specs.Order.{Row, column}
+use Rattle.sqlite.specs.Values.{or_null}
 use Rattle.sqlite.specs.Collation.TheVariants.{Binary}
 use Rattle.sqlite.specs.Tree.{Trees, rowid}
 use Rattle.sqlite_trees.specs.Tree.{IsAscending}
@@ -43,6 +44,11 @@ IsAccess row it = (column row 1 ≡ Text it.0) × (column row 2 ≡ Text it.1.sh
 abbrev pub is_numbered_as : Row → Row → Bool
 is_numbered_as a b = equal Binary (rowid a) (rowid b)
 
+-- each row has a number, and no other row has it
+pub record IsNumbered (rows : List Row) : Type 0 where
+  pub number : (row : Row) → Has rows row → (n : ℤ) × (rowid row ≡ Int n)
+  pub own : (a b : Row) → Has rows a → Has rows b → rowid a ≡ rowid b → a ≡ b
+
 -- the place that a row of `version` names
 abbrev pub IsAt : Row → Place → Type 0
 IsAt row p = (column row 2 ≡ Text p.shelf) × (column row 3 ≡ Text p.path) × (column row 4 ≡ Text p.version)
@@ -62,7 +68,7 @@ IsEachPlaceOnce = IsAscending (λ a b. (p : Place) → IsAt a p → IsAt b p →
 -- a row of `version`, with a row of `body` that has its number, whose zip is that of each that has it
 pub record IsVersion (bodies : List Row) (row : Row) (it : Place × Entry) : Type 0 where
   pub place : IsAt row it.0
-  pub time : column row 5 ≡ Null
+  pub time : column row 5 ≡ or_null Text it.1.time
   pub gomod : column row 6 ≡ Blob it.1.gomod
   pub body : Row
   pub there : Has bodies body
@@ -74,6 +80,7 @@ pub record Means (db : Trees) (w : World) : Type 0 where
   pub named : Tabulates IsMeta (db meta_table.tree) (λ it. it ≡ schema_named)
   pub shelves : Tabulates IsShelf (db shelf_table.tree) (λ name. IsTrue (set.contains w.shelves name))
   pub access : Tabulates IsAccess (db access_table.tree) (λ it. map.get w.keys it.0 ≡ Some it.1)
+  pub numbered : IsNumbered (db access_table.tree)
   pub entries : Tabulates (IsVersion (db body_table.tree)) (db version_table.tree) (λ it. map.get w.entries it.0 ≡ Some it.1)
   -- each key, each body and each place has one row
   pub tokens : IsEachTokenOnce (db access_table.tree)

@@ -22,6 +22,7 @@ pub record IsHeading (db : Trees) (w : World) (p : Place) (h : Heading) : Type 0
   pub is : IsVersion (db body_table.tree) row (p, entry)
   pub id : rowid row ≡ Int h.id
   pub shelf : h.shelf ≡ p.shelf
+  pub time : h.time ≡ entry.time
   pub gomod : h.gomod ≡ entry.gomod
 
 abbrev pub HasHeading : Trees → World → Place → Option Heading → Type 0

@@ -3,7 +3,7 @@ use Rattle.std.specs.Prelude.{ℕ, List, Bool, true, false}
 use Rattle.shelf.specs.declared.entry.Right.{Right}
 use Rattle.shelf.specs.declared.entry.Right.TheVariants.{Reads, Publishes}
 use Rattle.shelf.specs.World.{World}
-use Rattle.shelf.specs.Machine.{key_added, after_key_add, team_added, after_team_add}
+use Rattle.shelf.specs.Machine.{key_added, after_key_add, key_revoked, after_key_revoke, team_added, after_team_add}
 
 abbrev pub may_publish : Right → Bool
 may_publish Reads = false
@@ -12,6 +12,10 @@ may_publish Publishes = true
 -- the world once a key was asked for
 abbrev pub with_key_added : List ℕ → List ℕ → Right → World → World
 with_key_added shelf key right w = after_key_add w shelf key right (key_added w shelf key)
+
+-- the world once a key was asked to be taken away
+abbrev pub with_key_revoked : List ℕ → World → World
+with_key_revoked key w = after_key_revoke w key (key_revoked w key)
 
 -- the world once a team was asked for
 abbrev pub with_team_added : List ℕ → World → World

@@ -1,9 +1,10 @@
 //! Entries over SQL tables.
 
-ghost use Rattle.std.specs.Prelude.{◌≡◌, ◌≤◌, pos, true, IfOk, OnOk, is_ok, IsTrue};
+ghost use Rattle.std.specs.Prelude.{◌≡◌, ◌≤◌, pos, true, string_bytes, option_map, IfOk, OnOk, is_ok, IsTrue};
 ghost use Rattle.std.specs.FinMap as map;
 ghost use Rattle.sqlite.specs.declared.types.Value.TheVariants.{Int, Text as StoredText, Blob};
 ghost use Rattle.sqlite.specs.Order.{column};
+ghost use Rattle.sqlite.specs.Values.{or_null};
 ghost use Rattle.sqlite.specs.Held.{state};
 ghost use Rattle.sqlite.specs.State.{HasCleanDisk, KeepsCommit, Survives};
 ghost use Rattle.sqlite_trees.specs.View.{doubt};
@@ -15,8 +16,9 @@ ghost use Rattle.store.specs.Reading.{HasHeading, HasZip};
 ghost use Rattle.store.specs.Added.{HasAdded};
 
 use crate::shelves::{find_row, has_shelf};
+use modver::{TimeText, read_time};
 use shelf::bytes::Bytes;
-use shelf::entry::{Entry, Seen};
+use shelf::entry::{Entry, EntryRef, Seen};
 use shelf::text::Text;
 use sqlite::{Alter, Connection, Error, ErrorCode, Row, Transaction, params};
 
@@ -25,18 +27,41 @@ use sqlite::{Alter, Connection, Error, ErrorCode, Row, Transaction, params};
 pub(crate) struct Heading {
     pub(crate) id: i64,
     pub(crate) shelf: Text,
+    pub(crate) time: Option<TimeText>,
     pub(crate) gomod: Bytes,
 }
 
+/// The time that a text writes. A text that writes none is a corrupt row.
+fn time_of(text: Option<String>) -> Result<Option<TimeText>, Error>
+    ensures { IfOk result (λ time. time ≡ option_map string_bytes text) }
+{
+    let Some(text) = text else {
+        return Ok(None);
+    };
+    match read_time(text.as_str()) {
+        Ok(time) => Ok(Some(time)),
+        Err(_) => Err(Error::SqliteFailure(ErrorCode::DatabaseCorrupt)),
+    }
+}
+
+fn read_stamp(row: &Row) -> Result<Option<TimeText>, Error>
+    ensures { IfOk result (λ time. column row.now 2 ≡ or_null StoredText time) }
+{
+    let time: Option<String> = row.get(2)?;
+    time_of(time)
+}
+
 fn read_heading(row: &Row) -> Result<Heading, Error>
-    ensures { IfOk result (λ h. (column row.now 0 ≡ Int h.id) × (column row.now 1 ≡ StoredText h.shelf) × (column row.now 2 ≡ Blob h.gomod)) }
+    ensures { IfOk result (λ h. (column row.now 0 ≡ Int h.id) × (column row.now 1 ≡ StoredText h.shelf) × (column row.now 2 ≡ or_null StoredText h.time) × (column row.now 3 ≡ Blob h.gomod)) }
 {
     let id: i64 = row.get(0)?;
     let shelf: String = row.get(1)?;
-    let gomod: Vec<u8> = row.get(2)?;
+    let time = read_stamp(row)?;
+    let gomod: Vec<u8> = row.get(3)?;
     Ok(Heading {
         id,
         shelf: Text::new(shelf),
+        time,
         gomod: Bytes::new(gomod),
     })
 }
@@ -55,7 +80,7 @@ fn find_heading<S: Alter>(
 {
     match find_row(
         conn,
-        "SELECT id, shelf, mod FROM version WHERE shelf = ?1 AND path = ?2 AND version = ?3",
+        "SELECT id, shelf, time, mod FROM version WHERE shelf = ?1 AND path = ?2 AND version = ?3",
         params![shelf, path, version],
     )? {
         Some(row) => Ok(Some(read_heading(&row)?)),
@@ -104,6 +129,7 @@ fn entry_at<S: Alter>(
         entry: Entry {
             gomod: heading.gomod,
             zip,
+            time: heading.time,
         },
     }))
 }
@@ -153,29 +179,39 @@ pub(crate) fn count_entries<S: Alter>(
     }
 }
 
+/// The text of a time, if there is one.
+fn time_text(time: &Option<TimeText>) -> Option<&str>
+    ensures { or_null (λ text. StoredText text.now) result ≡ or_null StoredText time.now }
+{
+    match time {
+        Some(time) => Some(time.as_str()),
+        None => None,
+    }
+}
+
 /// Writes the two rows of an entry.
 fn insert_rows<'p, S: Alter>(
     tx: &mut Transaction<'_, S>,
     shelf: &'p str,
     path: &'p str,
     version: &'p str,
-    gomod: &'p [u8],
-    zip: &'p [u8],
+    entry: &'p EntryRef<'p>,
 ) -> Result<(), Error>
     ensures same_reference { tx.new.conn.ghost_name ≡ tx.old.conn.ghost_name }
     ensures survives { Survives (state S.Store tx.old.conn.now) (state S.Store tx.new.conn.now) (λ _. ⊥) }
     ensures kept { HasCleanDisk (state S.Store tx.new.conn.now) → IsTrue (state S.Store tx.old.conn.now).in_transaction → KeepsCommit (state S.Store tx.old.conn.now) (state S.Store tx.new.conn.now) }
     ensures added { HasCleanDisk (state S.Store tx.new.conn.now) → IsTrue (state S.Store tx.old.conn.now).in_transaction → (state S.Store tx.old.conn.now).now.schema ≡ store_schema
-        → OnOk result (HasAdded (state S.Store tx.old.conn.now) (state S.Store tx.new.conn.now) (place shelf.now path.now version.now) (record { gomod = gomod.now; zip = zip.now })) }
+        → OnOk result (HasAdded (state S.Store tx.old.conn.now) (state S.Store tx.new.conn.now) (place shelf.now path.now version.now) entry.now) }
 {
+    let time = time_text(&entry.time);
     tx.execute(
-        "INSERT INTO version (shelf, path, version, mod) VALUES (?1, ?2, ?3, ?4)",
-        params![shelf, path, version, gomod],
+        "INSERT INTO version (shelf, path, version, time, mod) VALUES (?1, ?2, ?3, ?4, ?5)",
+        params![shelf, path, version, time, entry.gomod],
     )?;
     let id = tx.last_insert_rowid();
     tx.execute(
         "INSERT INTO body (id, zip) VALUES (?1, ?2)",
-        params![id, zip],
+        params![id, entry.zip],
     )?;
     Ok(())
 }
@@ -186,18 +222,17 @@ fn insert_entry<S: Alter>(
     shelf: &str,
     path: &str,
     version: &str,
-    gomod: &[u8],
-    zip: &[u8],
+    entry: &EntryRef,
 ) -> Result<(), Error>
     ensures clean { doubt (state S.Store conn.old).is_clean ≤ doubt (state S.Store conn.new).is_clean }
     ensures changes { (HasCleanDisk (state S.Store conn.old) → IsTrue (state S.Store conn.old).is_open) → (w : _) → map.get w.entries (place shelf.now path.now version.now) ≡ None
-        → ChangesAt (state S.Store conn.old) (state S.Store conn.new) (is_ok result) w (with_entry w (place shelf.now path.now version.now) (record { gomod = gomod.now; zip = zip.now })) }
+        → ChangesAt (state S.Store conn.old) (state S.Store conn.new) (is_ok result) w (with_entry w (place shelf.now path.now version.now) entry.now) }
 {
     if !conn.is_autocommit() {
         return Err(Error::SqliteFailure(ErrorCode::TransactionState));
     }
     let mut tx = conn.transaction();
-    insert_rows(&mut tx, shelf, path, version, gomod, zip)?;
+    insert_rows(&mut tx, shelf, path, version, entry)?;
     tx.commit()?;
     Ok(())
 }
@@ -208,14 +243,13 @@ pub(crate) fn add_entry<S: Alter>(
     shelf: &str,
     path: &str,
     version: &str,
-    gomod: &[u8],
-    zip: &[u8],
+    entry: &EntryRef,
 ) -> Result<(), Error>
     ensures clean { doubt (state S.Store conn.old).is_clean ≤ doubt (state S.Store conn.new).is_clean }
     ensures changes { HasCleanDisk (state S.Store conn.new) → (w : _) → Stands (state S.Store conn.old) w → map.get w.entries (place shelf.now path.now version.now) ≡ None
-        → ChangesAt (state S.Store conn.old) (state S.Store conn.new) (is_ok result) w (with_entry w (place shelf.now path.now version.now) (record { gomod = gomod.now; zip = zip.now })) }
+        → ChangesAt (state S.Store conn.old) (state S.Store conn.new) (is_ok result) w (with_entry w (place shelf.now path.now version.now) entry.now) }
 {
     // A connection that is shut refuses this, so the next line finds the tables.
     has_shelf(conn, shelf)?;
-    insert_entry(conn, shelf, path, version, gomod, zip)
+    insert_entry(conn, shelf, path, version, entry)
 }

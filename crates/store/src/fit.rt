@@ -1,16 +1,17 @@
 //! Whether the rows of the tables stand for a world.
 
 ghost use Rattle.std.specs.Prelude.{◌≡◌, ◌||◌, ◌⊎◌, pos, map, true, false, IfOk, OnOk, IsTrue, Decides, MatchOption, IsUtf8, Some};
-ghost use Rattle.sqlite.specs.declared.types.Value.TheVariants.{Null, Int, Text as StoredText, Blob};
+ghost use Rattle.sqlite.specs.declared.types.Value.TheVariants.{Int, Text as StoredText, Blob};
 ghost use Rattle.sqlite.specs.Order.{Row as Shown, column};
+ghost use Rattle.sqlite.specs.Values.{or_null};
 ghost use Rattle.sqlite.specs.Held.{state};
 ghost use Rattle.store.specs.Walks.{Tests};
 ghost use Rattle.shelf.specs.World.{place, IsEntry};
-ghost use Rattle.store.specs.Fit.{IsSchemaRow, IsShelfRow, IsKeyRow, IsEntryRow, ShowsFiles, is_common, key_in, place_in, is_on, MayFollow, run_with, IsMetaFit, AreShelvesFit, AreKeysFit, AreEntriesFit, AreFit, meta_shown, name_shown, joined};
+ghost use Rattle.store.specs.Fit.{IsSchemaRow, IsShelfRow, IsKeyRow, IsNumberRow, IsEntryRow, ShowsFiles, is_common, key_in, number_in, place_in, is_on, MayFollow, run_with, IsMetaFit, AreShelvesFit, AreKeysFit, AreNumbersFit, AreEntriesFit, AreFit, meta_shown, name_shown, number_shown, joined};
 
-use crate::entry_test::is_entry;
+use crate::entry_test::{Stored, is_entry};
 use crate::walk::{RowTest, rows_pass};
-use shelf::entry::{EntryRef, Place};
+use shelf::entry::Place;
 use shelf::names::{is_key, is_team_name};
 use shelf::text::Text;
 use sqlite::types::ValueRef;
@@ -40,11 +41,25 @@ fn blob_at(row: &Row, at: usize) -> Result<Option<&[u8]>, Error>
     }
 }
 
-/// Whether a column is NULL.
-fn is_null_at(row: &Row, at: usize) -> Result<bool, Error>
-    ensures { IfOk result (λ b. Decides b (column row.now at ≡ Null)) }
+/// The text of a column, or none where it is NULL, if it is one of the two.
+fn text_or_null_at(row: &Row, at: usize) -> Result<Option<Option<&[u8]>>, Error>
+    ensures { IfOk result (λ found. MatchOption found ((t : _) → column row.now at ≡ or_null StoredText t → ⊥) (λ t. column row.now at ≡ or_null (λ bytes. StoredText bytes.now) t)) }
 {
-    Ok(matches!(row.get_ref(at)?, ValueRef::Null))
+    match row.get_ref(at)? {
+        ValueRef::Null => Ok(Some(None)),
+        ValueRef::Text(bytes) => Ok(Some(Some(bytes))),
+        _ => Ok(None),
+    }
+}
+
+/// The number of a column, if it is one.
+fn int_at(row: &Row, at: usize) -> Result<Option<i64>, Error>
+    ensures { IfOk result (λ found. MatchOption found ((n : _) → column row.now at ≡ Int n → ⊥) (λ n. column row.now at ≡ Int n)) }
+{
+    match row.get_ref(at)? {
+        ValueRef::Int(n) => Ok(Some(n)),
+        _ => Ok(None),
+    }
 }
 
 /// Whether a column is the number 1.
@@ -130,6 +145,29 @@ fn is_last(last: &Option<Text>, text: &str) -> bool
     }
 }
 
+/// The rows of `access` in the order of their numbers: each has one, and no other has it.
+#[derive(Drop)]
+struct NumberRows {
+    last: Option<i64>,
+}
+
+impl RowTest for NumberRows {
+    ghost Fits = { λ rows row. IsNumberRow row × (rows.last ≡ Some (number_in row) → ⊥) };
+
+    ghost Keeps = { λ _ row next. next.last ≡ Some (number_in row) };
+
+    fn passes(&mut self, row: &Row) -> Result<bool, Error> {
+        let Some(number) = int_at(row, 0)? else {
+            return Ok(false);
+        };
+        if self.last == Some(number) {
+            return Ok(false);
+        }
+        self.last = Some(number);
+        Ok(true)
+    }
+}
+
 /// The rows of entries in the order of their places: each entry may stand at its place, no place comes
 /// twice, and no path too often on a shelf.
 #[derive(Drop)]
@@ -186,10 +224,10 @@ fn shows_entry(alloc: Global, row: &Row, path: &str, version: &str) -> Result<bo
     let Some(zip) = blob_at(row, 5)? else {
         return Ok(false);
     };
-    if !is_null_at(row, 3)? {
+    let Some(time) = text_or_null_at(row, 3)? else {
         return Ok(false);
-    }
-    Ok(is_entry(alloc, path, version, &EntryRef { gomod, zip })?)
+    };
+    Ok(is_entry(alloc, path, version, &Stored { time, gomod, zip })?)
 }
 
 /// How many of a path on its shelf have come with this place, if it may follow the last one.
@@ -238,6 +276,14 @@ fn has_keys<S: Alter>(alloc: Global, conn: &mut Connection<S>) -> Result<bool, E
     rows_pass(conn, "SELECT token FROM access ORDER BY token", &mut rows)
 }
 
+/// Whether each key has a number of its own.
+fn has_numbers<S: Alter>(conn: &mut Connection<S>) -> Result<bool, Error>
+    ensures { Tests (state S.Store conn.old) (state S.Store conn.new) result (λ db. AreNumbersFit (map number_shown (db 4))) }
+{
+    let mut rows = NumberRows { last: None };
+    rows_pass(conn, "SELECT rowid FROM access ORDER BY rowid", &mut rows)
+}
+
 /// Whether each version with its body is an entry that may stand at its place, each place comes once,
 /// and no path too often on a shelf.
 fn has_entries<S: Alter>(alloc: Global, conn: &mut Connection<S>) -> Result<bool, Error>
@@ -266,6 +312,9 @@ pub(crate) fn is_fit<S: Alter>(alloc: Global, conn: &mut Connection<S>) -> Resul
         return Ok(false);
     }
     if !has_keys(alloc, conn)? {
+        return Ok(false);
+    }
+    if !has_numbers(conn)? {
         return Ok(false);
     }
     has_entries(alloc, conn)

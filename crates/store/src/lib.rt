@@ -7,7 +7,7 @@
 //! | `meta` | the number of the schema, 1, under the name `schema` | `name`, `value` |
 //! | `shelf` | a shelf; `common` is always there | `name` |
 //! | `access` | a key, the shelf that it belongs to and whether it may publish | `token`, `shelf`, `publish` |
-//! | `version` | a version of a module on a shelf, and its go.mod | `id`, `shelf`, `path`, `version`, `time`, `mod` |
+//! | `version` | a version of a module on a shelf, its time and its go.mod | `id`, `shelf`, `path`, `version`, `time`, `mod` |
 //! | `body` | the zip of the version that has the same number | `id`, `zip` |
 //!
 //! The tables stand for one world: each row of `shelf` is a shelf, each row of `access` a key, and
@@ -21,9 +21,11 @@
 //! |---|---|
 //! | `key` | the row of `access` that has the key |
 //! | `entry` | the row of `version` on the own shelf, or else on `common`, then its row of `body` |
+//! | `versions`, `paths` | the rows of `version` on the own shelf, then those on `common` |
 //! | `count` | how many rows of `version` the path has on the shelf |
 //! | `insert` | in one transaction a row of `version` and a row of `body` |
 //! | `team_add`, `key_add` | a row of `shelf`; a row of `access` |
+//! | `key_revoke` | the row of `access` is taken away |
 //!
 //! What is said of values holds where each answer of the disk was what had been written. A fault is
 //! `Memory` where memory was wanted, and otherwise `Device`, which is counted.
@@ -37,9 +39,11 @@ mod fit;
 pub mod laws;
 pub mod open;
 pub mod refusal;
+mod revoke;
 mod schema;
 mod shelves;
 pub mod store;
 #[cfg(test)]
 mod tests;
+mod visible;
 mod walk;

@@ -10,13 +10,16 @@ ghost use Rattle.store.specs.Opened.{Opens, IsBad, LeavesFirst};
 use crate::adopt::open_tables;
 use crate::entries::{add_entry, count_entries, find_entry};
 use crate::refusal::Refusal;
+use crate::revoke::revoke_key;
 use crate::shelves::{add_key, add_team, find_key};
+use crate::visible::{find_paths, find_versions};
 use modpath::ModulePath;
 use modver::Version;
 use shelf::entry::{EntryRef, Holder, Right, Seen};
 use shelf::names::{is_key, is_team_name};
 use shelf::reply::{Registered, StoreFault};
 use shelf::shelves::Shelves;
+use shelf::text_set::TextSet;
 use sqlite::{Alter, Connection, Error, ErrorCode};
 use std::alloc::Global;
 
@@ -25,6 +28,7 @@ use std::alloc::Global;
 pub struct SqlShelves<S: Alter> {
     conn: Connection<S>,
     failures: u64,
+    alloc: Global,
 }
 
 /// Counts a failure that is no want of memory.
@@ -75,6 +79,20 @@ impl<S: Alter> Shelves for SqlShelves<S> {
         }
     }
 
+    fn versions(&mut self, shelf: &str, path: &ModulePath) -> Result<TextSet, StoreFault> {
+        match find_versions(self.alloc, &mut self.conn, shelf, path.as_str()) {
+            Ok(versions) => Ok(versions),
+            Err(error) => Err(fault(&mut self.failures, error)),
+        }
+    }
+
+    fn paths(&mut self, shelf: &str) -> Result<TextSet, StoreFault> {
+        match find_paths(self.alloc, &mut self.conn, shelf) {
+            Ok(paths) => Ok(paths),
+            Err(error) => Err(fault(&mut self.failures, error)),
+        }
+    }
+
     fn count(&mut self, shelf: &str, path: &ModulePath) -> Result<u64, StoreFault> {
         match count_entries(&mut self.conn, shelf, path.as_str()) {
             Ok(count) => Ok(count),
@@ -94,8 +112,7 @@ impl<S: Alter> Shelves for SqlShelves<S> {
             shelf,
             path.as_str(),
             version.as_str(),
-            entry.gomod,
-            entry.zip,
+            entry,
         ) {
             Ok(()) => Ok(()),
             Err(error) => Err(fault(&mut self.failures, error)),
@@ -121,6 +138,13 @@ impl<S: Alter> Shelves for SqlShelves<S> {
             Err(error) => Err(fault(&mut self.failures, error)),
         }
     }
+
+    fn key_revoke(&mut self, key: &str) -> Result<Registered, StoreFault> {
+        match revoke_key(&mut self.conn, key) {
+            Ok(registered) => Ok(registered),
+            Err(error) => Err(fault(&mut self.failures, error)),
+        }
+    }
 }
 
 impl<S: Alter> SqlShelves<S> {
@@ -142,7 +166,11 @@ impl<S: Alter> SqlShelves<S> {
         ensures bad { IfErr result (λ e. HasCleanDisk (state S.Store e.1) → e.0 ≡ Refusal.BadSchema → IsBad (state S.Store conn).now) }
     {
         match open_tables(alloc, &mut conn) {
-            Ok(()) => Ok(SqlShelves { conn, failures: 0 }),
+            Ok(()) => Ok(SqlShelves {
+                conn,
+                failures: 0,
+                alloc,
+            }),
             Err(refusal) => Err((refusal, conn)),
         }
     }

@@ -3,14 +3,15 @@ mod files;
 
 use crate::store::SqlShelves;
 use modpath::ModulePath;
-use modver::Version;
-use shelf::ask::{Ask, Body, Event, Publish, Query};
+use modver::{TimeText, Version, read_time};
+use shelf::ask::{Ask, Body, Event, GivenTime, Publish, Query};
 use shelf::bytes::Bytes;
 use shelf::entry::{EntryRef, Right};
 use shelf::reply::{Answer, Decision, Registered, Reply, StoreFault};
 use shelf::run::run;
 use shelf::shelves::Shelves;
 use shelf::text::Text;
+use sqlite::MemStore;
 use std::alloc::Global;
 use std::test::Fail;
 
@@ -35,6 +36,7 @@ const UNKNOWN: &str = "nosuchkey0000001";
 enum Step {
     Team(&'static str),
     Key(&'static str, &'static str, Right),
+    Revoke(&'static str),
     Put(&'static str, &'static str, &'static [u8], &'static [u8]),
     Mod(&'static str, &'static str, &'static str),
     Zip(&'static str, &'static str, &'static str),
@@ -59,6 +61,9 @@ fn event(alloc: Global, step: &Step) -> Result<Event, Fail> {
             shelf: Text::copy_of(alloc, shelf)?,
             key: Text::copy_of(alloc, key)?,
             right: *right,
+        }),
+        Step::Revoke(key) => Ok(Event::KeyRevoke {
+            key: Text::copy_of(alloc, key)?,
         }),
         Step::Put(key, path, gomod, zip) => Ok(Event::Asked(Ask::Put {
             key: Text::copy_of(alloc, key)?,
@@ -90,6 +95,7 @@ fn publish(alloc: Global, path: &str, gomod: &[u8], zip: &[u8]) -> Result<Publis
         path: ModulePath::parse(alloc, path)?,
         version: Version::parse(alloc, "v1.0.0")?,
         body: Some(body),
+        time: GivenTime::Absent,
     })
 }
 
@@ -195,6 +201,24 @@ fn answers_as_the_machine_does(rt: HostRuntime) -> Result<(), Fail> {
             Step::Put(READER, "example.com/lib", LIB, b""),
             Want::Decided(Decision::Forbidden),
         ),
+        (Step::Revoke(READER), Want::Registry(Registered::Done)),
+        (
+            Step::Mod(READER, "example.com/lib", "v1.0.0"),
+            Want::NotFound,
+        ),
+        (
+            Step::Mod(ALPHA, "example.com/lib", "v1.0.0"),
+            Want::GoMod(LIB),
+        ),
+        (Step::Revoke(READER), Want::Registry(Registered::NoKey)),
+        (
+            Step::Key("alpha", READER, Right::Reads),
+            Want::Registry(Registered::Done),
+        ),
+        (
+            Step::Mod(READER, "example.com/lib", "v1.0.0"),
+            Want::GoMod(LIB),
+        ),
     ];
     let alloc = rt.alloc();
     let mut events = Vec::new(alloc);
@@ -225,6 +249,7 @@ fn a_second_row_is_refused_and_counted(rt: HostRuntime) -> Result<(), Fail> {
     let entry = EntryRef {
         gomod: LIB,
         zip: b"",
+        time: None,
     };
     assert_eq!(rt; shelves.insert("common", &path, &version, &entry), Ok(()));
     assert_eq!(rt; shelves.count("common", &path), Ok(1));
@@ -235,5 +260,114 @@ fn a_second_row_is_refused_and_counted(rt: HostRuntime) -> Result<(), Fail> {
     );
     assert_eq!(rt; shelves.failures(), 1);
     assert_eq!(rt; shelves.count("common", &path), Ok(1));
+    Ok(())
+}
+
+/// Puts a version with an empty zip on a shelf.
+fn put(
+    alloc: Global,
+    shelves: &mut SqlShelves<MemStore>,
+    shelf: &str,
+    path: &str,
+    version: &str,
+    time: Option<&str>,
+) -> Result<bool, Fail> {
+    let time = match time {
+        Some(text) => Some(read_time(text)?),
+        None => None,
+    };
+    let entry = EntryRef {
+        gomod: b"module example.com/lib\n",
+        zip: b"",
+        time,
+    };
+    let path = ModulePath::parse(alloc, path)?;
+    let version = Version::parse(alloc, version)?;
+    Ok(shelves.insert(shelf, &path, &version, &entry) == Ok(()))
+}
+
+#[test]
+fn a_shelf_sees_its_own_and_common(rt: HostRuntime) -> Result<(), Fail> {
+    let table = [
+        ("alpha", "example.com/lib", "v1.10.0"),
+        ("alpha", "example.com/lib", "v1.2.0"),
+        ("common", "example.com/lib", "v1.2.0"),
+        ("common", "example.com/lib", "v0.1.0"),
+        ("common", "example.com/tool", "v1.0.0"),
+        ("beta", "example.com/lib", "v1.5.0"),
+        ("beta", "example.com/own", "v1.0.0"),
+    ];
+    let alloc = rt.alloc();
+    let Ok(mut shelves) = SqlShelves::open_memory(alloc) else {
+        panic!(rt; "a store opens in memory");
+    };
+    assert_eq!(rt; shelves.team_add("alpha"), Ok(Registered::Done));
+    assert_eq!(rt; shelves.team_add("beta"), Ok(Registered::Done));
+    for (shelf, path, version) in &table {
+        assert!(rt;
+            put(alloc, &mut shelves, shelf, path, version, None)?,
+            "{shelf} takes {version}"
+        );
+    }
+    let lib = ModulePath::parse(alloc, "example.com/lib")?;
+    let Ok(versions) = shelves.versions("alpha", &lib) else {
+        panic!(rt; "versions are read");
+    };
+    assert_eq!(rt;
+        versions.lines(alloc)?.as_slice(),
+        b"v0.1.0\nv1.10.0\nv1.2.0\n".as_slice()
+    );
+    let Ok(paths) = shelves.paths("alpha") else {
+        panic!(rt; "paths are read");
+    };
+    assert_eq!(rt;
+        paths.lines(alloc)?.as_slice(),
+        b"example.com/lib\nexample.com/tool\n".as_slice()
+    );
+    let Ok(own) = shelves.paths("common") else {
+        panic!(rt; "paths are read");
+    };
+    assert_eq!(rt;
+        own.lines(alloc)?.as_slice(),
+        b"example.com/lib\nexample.com/tool\n".as_slice()
+    );
+    Ok(())
+}
+
+fn is_time(told: &Option<TimeText>, want: Option<&str>) -> bool {
+    match (told, want) {
+        (Some(told), Some(want)) => told.as_str() == want,
+        (None, None) => true,
+        _ => false,
+    }
+}
+
+/// Whether a version of `common` is seen with this time.
+fn has_time(
+    alloc: Global,
+    shelves: &mut SqlShelves<MemStore>,
+    version: &str,
+    time: Option<&str>,
+) -> Result<bool, Fail> {
+    let path = ModulePath::parse(alloc, "example.com/lib")?;
+    let version = Version::parse(alloc, version)?;
+    match shelves.entry("common", &path, &version) {
+        Ok(Some(seen)) => Ok(is_time(&seen.entry.time, time)),
+        _ => Ok(false),
+    }
+}
+
+#[test]
+fn an_entry_keeps_its_time(rt: HostRuntime) -> Result<(), Fail> {
+    let alloc = rt.alloc();
+    let Ok(mut shelves) = SqlShelves::open_memory(alloc) else {
+        panic!(rt; "a store opens in memory");
+    };
+    let path = "example.com/lib";
+    let leap = Some("2024-02-29T12:34:56Z");
+    assert!(rt; put(alloc, &mut shelves, "common", path, "v1.0.0", leap)?);
+    assert!(rt; put(alloc, &mut shelves, "common", path, "v1.1.0", None)?);
+    assert!(rt; has_time(alloc, &mut shelves, "v1.0.0", leap)?);
+    assert!(rt; has_time(alloc, &mut shelves, "v1.1.0", None)?);
     Ok(())
 }

@@ -5,7 +5,8 @@ use Rattle.std.proofs.lemmas.Str.{IsUtf8-from_is_utf8, is_utf8-from_IsUtf8}
 use Rattle.std.specs.Cmp.Lexicographic.{pointwise}
 use Rattle.std.specs.List.{position, position_or_len}
 use Rattle.std.specs.Str.{IsUtf8, is_utf8}
-use Rattle.wire.specs.Target.{around, split_of}
+use Rattle.wire.specs.Place.{around}
+use Rattle.wire.specs.Target.{split_of}
 use Rattle.wire.proofs.BegunLemmas.{slice_to_end}
 
 -- a text around what a search found

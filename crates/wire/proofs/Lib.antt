@@ -8,6 +8,9 @@ pub mod CutLemmas
 pub mod PlainLemmas
 pub mod VersionLemmas
 pub mod PlainBytes
+pub mod InfoLemmas
 pub mod TargetLemmas
+pub mod PlaceReadings
+pub mod QueryReadings
 pub mod TargetReadings
 pub mod TextTargets

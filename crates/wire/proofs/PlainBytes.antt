@@ -1,10 +1,9 @@
 -- The bytes of module paths and versions.
-use Rattle.std.proofs.Common.{◌≡◌, ◌==◌, ◌&&◌, ◌+◌, ◌%◌, ◌<◌, ◌^◌, ℕ, List, [], ◌∷◌, ◌++◌, Bool, true, false, not, nat_lt, refl, subst, inl, inr, arith, decimal}
+use Rattle.std.proofs.Common.{◌≡◌, ◌==◌, ◌&&◌, ◌+◌, ◌%◌, ◌<◌, ◌^◌, ℕ, List, [], ◌∷◌, ◌++◌, Bool, true, false, not, nat_lt, refl, inl, inr, arith, decimal}
 use Rattle.std.proofs.lemmas.Bool.{cases_Bool, and_parts, and_from}
 use Rattle.std.proofs.lemmas.Bool.Decides.{nat_tests}
 use Rattle.std.proofs.lemmas.Fmt.{decimal_by_steps}
 use Rattle.std.proofs.lemmas.List.Folds.{list_all-append}
-use Rattle.std.proofs.lemmas.List.Splits.{join_with_byte-slice_split}
 use Rattle.std.proofs.lemmas.Str.{IsUtf8-from_ascii}
 use Rattle.std.proofs.lemmas.Str.Ascii.{IsAscii-nil, IsAscii-cons}
 use Rattle.std.specs.Char.{is_ascii_uppercase}
@@ -16,9 +15,9 @@ use Rattle.modpath.specs.Escape.{escaped, has_bang}
 use Rattle.modpath.specs.Path.{IsPath}
 use Rattle.modver.specs.SemanticVersion.{IsVersion, SemanticVersion, build_text, is_identifier, is_identifier_byte, mark_of, pre_release_text, version_text}
 
--- ASCII, and neither a `!` nor an `@`
+-- visible ASCII, and none of `!`, `"`, `@` and the backslash
 abbrev pub is_plain_byte : ℕ → Bool
-is_plain_byte b = nat_lt b 128 && not (b == 33) && not (b == 64)
+is_plain_byte b = nat_lt 34 b && nat_lt b 127 && not (b == 64) && not (b == 92)
 
 all-append : (p : ℕ → Bool) (xs ys : List ℕ) → list_all p xs ≡ true → list_all p ys ≡ true → list_all p (xs ++ ys) ≡ true
 all-append p xs ys h k = rw (list_all-append p xs ys, h, k) refl

@@ -9,7 +9,7 @@ use Rattle.modpath.specs.declared.escaping.EscapeFault.{EscapeFault}
 use Rattle.modpath.specs.declared.escaping.EscapeFault.TheVariants as refused
 use Rattle.modpath.specs.Escape.{IsUnescaped, escape_fault, escaped, has_bang}
 use Rattle.modpath.proofs.EscapeLaw.{faults_are_exact}
-use Rattle.wire.specs.Target.{plain_of, unescaped}
+use Rattle.wire.specs.Place.{plain_of, unescaped}
 
 -- the escaped form undone
 pub unescaped-escaped : (plain : List ℕ) → has_bang plain ≡ false → unescaped (escaped plain) ≡ plain

@@ -10,7 +10,8 @@ use Rattle.std.specs.Cmp.Lexicographic.{pointwise, pointwise_decides}
 use Rattle.std.specs.List.{after_first, before_first, list_any, position_or_len}
 use Rattle.std.specs.Option.{option_and_then, option_map}
 use Rattle.std.specs.Str.{IsUtf8, is_utf8}
-use Rattle.wire.specs.Target.{IsKeyed, around, cut_of, split_of, with_key, without_end, without_ends, without_start}
+use Rattle.wire.specs.Place.{around, cut_of, without_end, without_slash, without_start}
+use Rattle.wire.specs.Target.{IsKeyed, split_of, with_key}
 
 -- ---- options
 
@@ -132,22 +133,21 @@ keyed-taken text key rest is =
     let some : (length key == 0) ≡ false = let len = is.some in grind (arith, nat_tests) in
     rw (is.whole, around-taken 47 key rest is.no_slash, some, is_utf8-from_IsUtf8 key is.is_text) refl
 
--- ---- a path and a version around `/@v/`
+-- ---- a text around `/@`
 
-pub cut-is : (text path name : List ℕ) → cut_of text ≡ Some (path, name) → text ≡ path ++ (codes "/@v/" ++ name)
+pub cut-is : (text path behind : List ℕ) → cut_of text ≡ Some (path, behind) → text ≡ path ++ (codes "/@" ++ behind)
 unfolding cut_of
-cut-is text path name h =
-    let outer = then-some without_ends (around 64 text) (path, name) h in
+cut-is text path behind h =
+    let outer = then-some without_slash (around 64 text) (path, behind) h in
     let cut = around-is 64 text (outer.0).0 (outer.0).1 outer.1 in
-    let front = then-some (λ (front : List ℕ). option_map (λ (back : List ℕ). (front, back)) (without_start (codes "v/") (outer.0).1)) (without_end (codes "/") (outer.0).0) (path, name) outer.2 in
-    let back = map-some (λ (back : List ℕ). (front.0, back)) (without_start (codes "v/") (outer.0).1) (path, name) front.2 in
-    let before : (outer.0).0 ≡ path ++ codes "/" = end-is (codes "/") (outer.0).0 front.0 front.1 ∙ ap (λ (x : List ℕ × List ℕ). x.0 ++ codes "/") back.2 in
-    let behind : (outer.0).1 ≡ codes "v/" ++ name = start-is (codes "v/") (outer.0).1 back.0 back.1 ∙ ap (λ (x : List ℕ × List ℕ). codes "v/" ++ x.1) back.2 in
-    cut.0 ∙ (λ i. before i ++ (64 ∷ behind i)) ∙ append_assoc path (codes "/") (64 ∷ codes "v/" ++ name)
+    let front = map-some (λ (front : List ℕ). (front, (outer.0).1)) (without_end (codes "/") (outer.0).0) (path, behind) outer.2 in
+    let before : (outer.0).0 ≡ path ++ codes "/" = end-is (codes "/") (outer.0).0 front.0 front.1 ∙ ap (λ (x : List ℕ × List ℕ). x.0 ++ codes "/") front.2 in
+    let after : (outer.0).1 ≡ behind = ap (λ (x : List ℕ × List ℕ). x.1) front.2 in
+    cut.0 ∙ (λ i. before i ++ (64 ∷ after i)) ∙ append_assoc path (codes "/") (64 ∷ behind)
 
-pub cut-taken : (path name : List ℕ) → list_any (λ b. b == 64) path ≡ false → cut_of (path ++ (codes "/@v/" ++ name)) ≡ Some (path, name)
+pub cut-taken : (path behind : List ℕ) → list_any (λ b. b == 64) path ≡ false → cut_of (path ++ (codes "/@" ++ behind)) ≡ Some (path, behind)
 unfolding cut_of
-cut-taken path name h =
-    let apart : path ++ (codes "/@v/" ++ name) ≡ (path ++ codes "/") ++ (64 ∷ (codes "v/" ++ name)) = sym (append_assoc path (codes "/") (64 ∷ (codes "v/" ++ name))) in
+cut-taken path behind h =
+    let apart : path ++ (codes "/@" ++ behind) ≡ (path ++ codes "/") ++ (64 ∷ behind) = sym (append_assoc path (codes "/") (64 ∷ behind)) in
     let none : list_any (λ b. b == 64) (path ++ codes "/") ≡ false = rw (list_any-append (λ b. b == 64) path (codes "/"), h) refl in
-    rw (apart, around-taken 64 (path ++ codes "/") (codes "v/" ++ name) none, end-taken (codes "/") path) refl
+    rw (apart, around-taken 64 (path ++ codes "/") behind none, end-taken (codes "/") path) refl

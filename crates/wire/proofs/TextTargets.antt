@@ -1,5 +1,5 @@
 -- Targets that can be read are text.
-use Rattle.std.proofs.Common.{◌≡◌, ◌==◌, ◌&&◌, ◌+◌, ◌*◌, ◌<◌, ℕ, suc, zero, List, [], ◌∷◌, ◌++◌, codes, nat_lt, Option, Some, Bool, true, false, refl, sym, ap, ◌∙◌, subst, inl, inr, arith, lit<}
+use Rattle.std.proofs.Common.{◌≡◌, ◌+◌, ◌*◌, ◌<◌, ℕ, suc, List, [], ◌∷◌, ◌++◌, codes, nat_lt, true, false, refl, sym, ap, ◌∙◌, subst, inl, inr, arith}
 use Rattle.std.proofs.lemmas.Bool.{cases_Bool, and_parts, eqb-true, ltb-true}
 use Rattle.std.proofs.lemmas.Bool.Decides.{nat_tests}
 use Rattle.std.proofs.lemmas.Str.{IsUtf8-append, IsUtf8-from_ascii, IsAscii-append}
@@ -10,11 +10,14 @@ use Rattle.std.specs.Str.{IsAscii, IsUtf8}
 use Rattle.percent_encoding.specs.Percent.{is_escape, percent_decode}
 use Rattle.modpath.specs.Escape.{escaped}
 use Rattle.modver.specs.SemanticVersion.{SemanticVersion, version_text}
-use Rattle.wire.specs.Target.{Asks, IsKeyed, IsPlace, IsTextThroughout}
+use Rattle.wire.specs.Place.{IsPathWith, IsPlace}
+use Rattle.wire.specs.Query.{IsOwn, IsQuery}
+use Rattle.wire.specs.Target.{Asks, IsKeyed, IsTextThroughout}
 use Rattle.wire.specs.declared.request.Query.{Query}
 use Rattle.wire.specs.declared.request.Query.TheVariants as query
 use Rattle.wire.specs.declared.request.Target.{Target}
 use Rattle.wire.specs.declared.request.Target.TheVariants as target
+use Rattle.wire.proofs.QueryReadings.{dash-decoded}
 use Rattle.wire.proofs.PlainBytes.{escaped-ascii, path-plain, version-plain}
 use Rattle.wire.proofs.TargetLemmas.{keyed-taken}
 
@@ -74,11 +77,26 @@ throughout text key rest keyed plain =
           IsUtf8-from_ascii (percent_decode after) (subst (λ (l : List ℕ × List ℕ). IsAscii (percent_decode l.1)) same plain),
     )
 
+-- what decodes to a path and an ending
+path-ascii : (text path ending : List ℕ) → IsAscii ending → IsPathWith text path ending → IsAscii text
+path-ascii text path ending plain is = subst IsAscii (sym is.whole) (IsAscii-append (escaped path) ending (escaped-ascii path (path-plain path is.path_is)) plain)
+
+-- what is behind a plain dash and decodes to ASCII
+own-ascii : (rest text : List ℕ) → IsAscii text → IsOwn rest text → IsAscii (percent_decode rest)
+own-ascii rest text plain is =
+    let decoded : percent_decode rest ≡ codes "-/" ++ text = ap percent_decode is.whole ∙ dash-decoded is.behind ∙ (λ i. codes "-/" ++ is.decodes i) in
+    subst IsAscii (sym decoded) (IsAscii-append (codes "-/") text (ascii-from (codes "-/") refl) plain)
+
+query-ascii : (rest : List ℕ) (asked : Query) → IsQuery rest asked → IsAscii (percent_decode rest)
+query-ascii rest (query.Info path version) is = place-ascii (percent_decode rest) path version (codes ".info") (ascii-from (codes ".info") refl) is
+query-ascii rest (query.GoMod path version) is = place-ascii (percent_decode rest) path version (codes ".mod") (ascii-from (codes ".mod") refl) is
+query-ascii rest (query.Zip path version) is = place-ascii (percent_decode rest) path version (codes ".zip") (ascii-from (codes ".zip") refl) is
+query-ascii rest (query.List path) is = path-ascii (percent_decode rest) path (codes "/@v/list") (ascii-from (codes "/@v/list") refl) is
+query-ascii rest (query.Latest path) is = path-ascii (percent_decode rest) path (codes "/@latest") (ascii-from (codes "/@latest") refl) is
+query-ascii rest query.Modules is = own-ascii rest (codes "modules") (ascii-from (codes "modules") refl) is
+
 pub readable-text : (method text : List ℕ) (asked : Target) → Asks method text asked → IsTextThroughout text
 readable-text method text target.Unreadable a = absurd a
-readable-text method text (target.Get key (query.GoMod path version)) a =
-    throughout text key a.1.0 a.1.1 (place-ascii (percent_decode a.1.0) path version (codes ".mod") (ascii-from (codes ".mod") refl) a.1.2)
-readable-text method text (target.Get key (query.Zip path version)) a =
-    throughout text key a.1.0 a.1.1 (place-ascii (percent_decode a.1.0) path version (codes ".zip") (ascii-from (codes ".zip") refl) a.1.2)
+readable-text method text (target.Get key asked) a = throughout text key a.1.0 a.1.1 (query-ascii a.1.0 asked a.1.2)
 readable-text method text (target.Put key path version) a =
     throughout text key a.1.0 a.1.1 (place-ascii (percent_decode a.1.0) path version [] IsAscii-nil a.1.2)

@@ -2,5 +2,8 @@ pub mod Framing
 pub mod Message
 pub mod Never
 pub mod Reply
+pub mod Info
 pub mod Values
+pub mod Place
+pub mod Query
 pub mod Target

@@ -7,12 +7,17 @@
 //! ends well at its last byte, or badly: with a good head whose length is too large (413), or with any other rest (400).
 //!
 //! A target is `/k/`, a key, `/` and a rest, which is percent-decoded once (RFC 3986, section 2.1) and holds a module
-//! path and a version in the escaped form of the Go Modules Reference ("GOPROXY protocol"). Anything else is unreadable.
+//! path and a version in the escaped form of the Go Modules Reference ("GOPROXY protocol"). Of a GET below `/@v/` the last
+//! `.info`, `.mod` or `.zip` is taken off once, and what is left is the version. Anything else is unreadable.
 //!
 //! | request | asks for |
 //! |---|---|
-//! | `GET /k/key/example.com/lib/@v/v1.0.0.mod` | the go.mod of `example.com/lib` at `v1.0.0` |
+//! | `GET /k/key/example.com/lib/@v/v1.0.0.info` | `v1.0.0` of `example.com/lib` with its time |
+//! | `GET /k/key/example.com/lib/@v/v1.0.0.mod` | its go.mod |
 //! | `GET /k/key/example.com/%21lib/@v/v1.0.0.zip` | the zip of `example.com/Lib` at `v1.0.0` |
+//! | `GET /k/key/example.com/lib/@v/list` | the versions of `example.com/lib` |
+//! | `GET /k/key/example.com/lib/@latest` | its latest version |
+//! | `GET /k/key/-/modules` | the paths; the dash and its slash are spelled plainly |
 //! | `PUT /k/key/example.com/lib/@v/v1.0.0` | to publish `example.com/lib` at `v1.0.0` |
 //! | `GET /k/key/example.com/Lib/@v/v1.0.0.mod` | nothing: upper-case letters are escaped |
 //!
@@ -20,20 +25,24 @@
 //! a fixed body take no memory.
 #![tactic(auto)]
 
+pub mod bodies;
 mod cut;
 pub mod framer;
 mod head;
 pub mod laws;
 pub mod message;
+mod places;
 pub mod put;
+mod queries;
 pub mod reply;
 pub mod request;
 pub mod targets;
 pub mod text;
 
+pub use bodies::{info_body, paths_body, push_line, versions_body};
 pub use framer::{Bad, Framer, Next};
 pub use message::{Memory, Message};
-pub use put::{fixed, fixed_line, info_body, put_head, reply_head};
+pub use put::{fixed, fixed_line, put_head, reply_head};
 pub use reply::{Fixed, Kind, Status};
 pub use request::{Query, Target};
 pub use targets::target;

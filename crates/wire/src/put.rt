@@ -1,11 +1,10 @@
 //! Writing replies: into buffers on the stack, which takes no memory, and heads into memory.
 ghost use Rattle.std.specs.Prelude.{◌≡◌, ◌+◌, ◌≤◌, ◌++◌, length, take, IfOk};
-ghost use Rattle.wire.specs.Reply.{head_with, head_bytes, fixed_text, fixed_bytes, line_bytes, info_bytes};
+ghost use Rattle.wire.specs.Reply.{head_with, head_bytes, fixed_text, fixed_bytes, line_bytes};
 
 use crate::message::Memory;
 use crate::reply::{Fixed, Kind, Status};
 use itoa::Buffer;
-use modver::{TimeText, Version};
 use std::alloc::Global;
 
 /// The head of a reply whose body has that many bytes, with the empty line that ends it (RFC 9112, sections 4 and 5).
@@ -19,28 +18,6 @@ pub fn reply_head(alloc: Global, status: Status, kind: Kind, len: usize) -> Resu
         kind.text(),
         len,
     )?;
-    Ok(text.into_bytes())
-}
-
-/// The body that tells a version and its time, where it has one, as `{"Version":"v1.0.0"}`. `Memory` where there is no
-/// room for it.
-pub fn info_body(
-    alloc: Global,
-    version: &Version,
-    time: Option<TimeText>,
-) -> Result<Vec<u8>, Memory>
-    ensures { IfOk result (λ body. body.items ≡ info_bytes version.now time) }
-{
-    let text = match time {
-        Some(time) => {
-            format!(in alloc;
-                "{{\"Time\":\"{}\",\"Version\":\"{}\"}}",
-                time.as_str(),
-                version.as_str()
-            )?
-        }
-        None => format!(in alloc; "{{\"Version\":\"{}\"}}", version.as_str())?,
-    };
     Ok(text.into_bytes())
 }
 

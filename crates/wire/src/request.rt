@@ -6,10 +6,18 @@ use modver::Version;
 /// What a GET asks for.
 #[derive(Drop)]
 pub enum Query {
+    /// A version with its time.
+    Info { path: ModulePath, version: Version },
     /// The go.mod of a version.
     GoMod { path: ModulePath, version: Version },
     /// The zip of a version.
     Zip { path: ModulePath, version: Version },
+    /// The versions of a path.
+    List { path: ModulePath },
+    /// The latest version of a path.
+    Latest { path: ModulePath },
+    /// The paths.
+    Modules,
 }
 
 /// What a request asks for.

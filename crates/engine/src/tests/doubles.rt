@@ -7,12 +7,21 @@ use std::alloc::Global;
 use std::io;
 use std::io::{Error, ErrorKind, Read, Write};
 
-/// The shelf of team alpha, with a key that may publish.
+/// The shelf `common` and the teams alpha and beta, with their keys.
 pub fn shelves(alloc: Global) -> Result<MapShelves, StoreFault> {
     let mut shelves = MapShelves::new(alloc)?;
-    shelves.team_add("alpha")?;
-    shelves.key_add("alpha", "alphakey00000001", Right::Publishes)?;
+    register(&mut shelves)?;
     Ok(shelves)
+}
+
+fn register(shelves: &mut MapShelves) -> Result<(), StoreFault> {
+    shelves.team_add("alpha")?;
+    shelves.team_add("beta")?;
+    shelves.key_add("alpha", "alphakey00000001", Right::Publishes)?;
+    shelves.key_add("alpha", "alphareader00001", Right::Reads)?;
+    shelves.key_add("beta", "betakey000000001", Right::Publishes)?;
+    shelves.key_add("common", "commonkey0000001", Right::Publishes)?;
+    Ok(())
 }
 
 /// Gives its bytes in pieces; the read after so many fails.
@@ -22,6 +31,17 @@ pub struct Source<'a> {
     pub piece: usize,
     pub reads: u64,
     pub failure: ErrorKind,
+}
+
+impl<'a> Source<'a> {
+    pub fn new(rest: &'a [u8], piece: usize) -> Source<'a> {
+        Source {
+            rest,
+            piece,
+            reads: u64::MAX,
+            failure: ErrorKind::Interrupted,
+        }
+    }
 }
 
 impl<'a> Read for Source<'a> {
@@ -46,6 +66,18 @@ pub struct Sink {
     pub room: usize,
     pub interrupts: bool,
     pub flushes: bool,
+}
+
+impl Sink {
+    pub fn new(alloc: Global, room: usize) -> Sink {
+        Sink {
+            taken: Vec::new(alloc),
+            piece: 7,
+            room,
+            interrupts: true,
+            flushes: true,
+        }
+    }
 }
 
 impl Write for Sink {

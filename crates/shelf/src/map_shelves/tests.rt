@@ -1,6 +1,6 @@
 //! The machine on shelves in memory.
 use super::{MapShelves, run_in_memory};
-use crate::ask::{Ask, Body, Event, Publish, Query};
+use crate::ask::{Ask, Body, Event, GivenTime, Publish, Query};
 use crate::bytes::Bytes;
 use crate::entry::Right;
 use crate::reply::{Answer, Decision, Registered, Reply};
@@ -85,6 +85,7 @@ fn put(alloc: Global, path: &str, gomod: &[u8], zip: &[u8]) -> Result<Publish, F
         path,
         version,
         body: Some(Body { gomod, zip }),
+        time: GivenTime::Absent,
     })
 }
 

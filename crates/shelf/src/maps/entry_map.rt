@@ -1,10 +1,13 @@
 //! Entries by their places.
 ghost use Rattle.std.specs.Prelude.{◌≡◌, ◌&&◌, OnOk, OnErr, option_copied, bytes_eq};
 ghost use Rattle.std.specs.FinMap as map;
+ghost use Rattle.std.specs.FinSet as set;
+ghost use Rattle.shelf.specs.Visible.{versions_among, paths_among};
 ghost use Rattle.shelf.specs.World.{place};
 
 use crate::entry::Entry;
 use crate::maps::text_map::TextMap;
+use crate::text_set::TextSet;
 use std::alloc::{AllocError, Global};
 use std::marker::Model;
 
@@ -24,9 +27,11 @@ impl Model for EntryMap {
 
     ghost coded = { map.code place_code entry_code };
 
-    ghost use Rattle.shelf.specs.Kept.{by_place};
+    ghost use Rattle.shelf.specs.Kept.{by_place, EachHasVersion};
 
     ghost view = { λ m. by_place m.shelves };
+
+    ghost invariant = { λ m. EachHasVersion m.shelves };
 }
 
 impl EntryMap {
@@ -52,6 +57,37 @@ impl EntryMap {
         match self.shelves.get_under(shelf, path) {
             None => 0,
             Some(versions) => versions.len(),
+        }
+    }
+
+    /// Puts the versions of a path on a shelf into a set.
+    pub fn add_versions(
+        &self,
+        alloc: Global,
+        shelf: &str,
+        path: &str,
+        versions: &mut TextSet,
+    ) -> Result<(), AllocError>
+        ensures { OnOk result (versions.new ≡ set.union versions.old (versions_among shelf.now path.now (map.entries self.now))) }
+    {
+        match self.shelves.get_under(shelf, path) {
+            None => Ok(()),
+            Some(found) => found.add_keys(alloc, versions),
+        }
+    }
+
+    /// Puts the paths on a shelf into a set.
+    pub fn add_paths(
+        &self,
+        alloc: Global,
+        shelf: &str,
+        paths: &mut TextSet,
+    ) -> Result<(), AllocError>
+        ensures { OnOk result (paths.new ≡ set.union paths.old (paths_among shelf.now (map.entries self.now))) }
+    {
+        match self.shelves.get(shelf) {
+            None => Ok(()),
+            Some(found) => found.add_keys(alloc, paths),
         }
     }
 

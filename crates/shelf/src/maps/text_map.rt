@@ -5,8 +5,9 @@ ghost use Rattle.std.specs.Option.{option_copied_mut};
 ghost use Rattle.std.specs.Borrow.{sem};
 ghost use Rattle.shelf.specs.World.{text_cmp};
 ghost use Rattle.shelf.specs.MapsLend.{LendsValue};
-ghost use Rattle.shelf.specs.Kept.{get_under, put_under};
+ghost use Rattle.shelf.specs.Kept.{get_under, put_under, with_texts};
 
+use crate::text_set::TextSet;
 use std::alloc::{AllocError, Global};
 use std::collections::BTreeMap;
 use std::marker::Model;
@@ -56,6 +57,16 @@ impl<V> TextMap<V> {
         ensures { result ≡ map.len self.now }
     {
         self.tree.len()
+    }
+
+    /// Puts its texts into a set.
+    pub fn add_keys(&self, alloc: Global, texts: &mut TextSet) -> Result<(), AllocError>
+        ensures { OnOk result (texts.new ≡ with_texts texts.old (map.keys self.now)) }
+    {
+        for key in self.tree.keys() {
+            texts.insert(String::from_str(alloc, key.as_str())?)?;
+        }
+        Ok(())
     }
 }
 

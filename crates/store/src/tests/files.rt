@@ -17,6 +17,7 @@ fn fill(rt: &HostRuntime, file: &str) -> Result<bool, Fail> {
     let entry = EntryRef {
         gomod: b"module example.com/lib\n",
         zip: b"Z",
+        time: None,
     };
     let Ok(mut shelves) = SqlShelves::open_file(rt, file) else {
         return Ok(false);

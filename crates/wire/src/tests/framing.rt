@@ -30,6 +30,77 @@ fn a_message_is_handed_out_with_its_last_byte(rt: HostRuntime) {
     assert_eq!(rt; (waits, messages), (120, 1));
 }
 
+/// A publish and its fetches: 121 bytes, and three GETs.
+const RUN: &[u8] =
+    b"PUT /k/alphakey00000001/example.com/lib/@v/v1.0.0 HTTP/1.1\r\nMod-Length: 23\r\nContent-Length: 23\r\n\r\nmodule example.com/lib\nGET /k/alphakey00000001/example.com/lib/@v/v1.0.0.mod HTTP/1.1\r\n\r\nGET /k/alphakey00000001/example.com/lib/@v/v1.0.0.zip HTTP/1.1\r\n\r\nGET /k/nosuchkey0000001/example.com/lib/@v/v1.0.0.mod HTTP/1.1\r\n\r\n";
+
+/// The method, the target and the body of each of its messages.
+const MESSAGES: &[u8] =
+    b"PUT /k/alphakey00000001/example.com/lib/@v/v1.0.0 module example.com/lib\n|GET /k/alphakey00000001/example.com/lib/@v/v1.0.0.mod |GET /k/alphakey00000001/example.com/lib/@v/v1.0.0.zip |GET /k/nosuchkey0000001/example.com/lib/@v/v1.0.0.mod |";
+
+/// Puts the messages that the framer has behind the text, and says whether it then holds nothing.
+fn put_messages(framer: &mut Framer, text: &mut Vec<u8>) -> Result<bool, Memory> {
+    for _ in 0..8u8 {
+        match framer.next()? {
+            Next::Message(message) => {
+                text.extend_from_slice(&message.method)?;
+                text.push(b' ')?;
+                text.extend_from_slice(&message.target)?;
+                text.push(b' ')?;
+                text.extend_from_slice(&message.body)?;
+                text.push(b'|')?;
+            }
+            _ => return Ok(framer.is_empty()),
+        }
+    }
+    Ok(false)
+}
+
+/// The messages of a stream that comes in two pieces, where none of it is left.
+fn in_pieces(alloc: Global, front: &[u8], back: &[u8]) -> Result<Option<Vec<u8>>, Memory> {
+    let mut framer = Framer::new(alloc);
+    let mut text = Vec::new(alloc);
+    framer.feed(front)?;
+    put_messages(&mut framer, &mut text)?;
+    framer.feed(back)?;
+    if put_messages(&mut framer, &mut text)? {
+        Ok(Some(text))
+    } else {
+        Ok(None)
+    }
+}
+
+/// However the stream is cut in two.
+#[test]
+fn messages_do_not_hang_on_the_cut(rt: HostRuntime) {
+    for cut in 0..=RUN.len() {
+        let (front, back) = RUN.split_at(cut.min(RUN.len()));
+        match in_pieces(rt.alloc(), front, back) {
+            Ok(Some(text)) => assert!(rt; text.as_slice() == MESSAGES, "cut at {cut}"),
+            _ => assert!(rt; false, "cut at {cut}"),
+        }
+    }
+}
+
+/// The values in their order, without the spaces and tabs around them; a name's case does not count.
+#[test]
+fn headers_are_handed_out(rt: HostRuntime) {
+    let mut framer = Framer::new(rt.alloc());
+    let bytes =
+        b"PUT / HTTP/1.1\r\nmod-length: 1\r\nVersion-Time: \t2024-02-29T23:59:59Z \r\nMOD-LENGTH:2\r\nVersion-Times: x\r\n\r\n";
+    assert!(rt; framer.feed(bytes).is_ok());
+    match framer.next() {
+        Ok(Next::Message(message)) => {
+            assert!(rt; message.mod_lengths.len() == 2);
+            assert!(rt; message.mod_lengths[0].as_slice() == b"1".as_slice());
+            assert!(rt; message.mod_lengths[1].as_slice() == b"2".as_slice());
+            assert!(rt; message.version_times.len() == 1);
+            assert!(rt; message.version_times[0].as_slice() == b"2024-02-29T23:59:59Z".as_slice());
+        }
+        _ => assert!(rt; false),
+    }
+}
+
 /// What the first bytes of a stream give, as a word.
 fn answer(alloc: Global, bytes: &[u8]) -> Result<&'static str, Memory> {
     let mut framer = Framer::new(alloc);
@@ -87,7 +158,19 @@ fn fronts_are_what_they_are(rt: HostRuntime) {
             "400",
         ),
         (
-            b"GET / HTTP/1.1\r\nContent-Length: +1\r\n\r\na".as_slice(),
+            b"GET / HTTP/1.1\r\nContent-Length: +23\r\n\r\n".as_slice(),
+            "400",
+        ),
+        (
+            b"GET / HTTP/1.1\r\nContent-Length: 023\r\n\r\n".as_slice(),
+            "400",
+        ),
+        (
+            b"GET / HTTP/1.1\r\nContent-Length: 0x17\r\n\r\n".as_slice(),
+            "400",
+        ),
+        (
+            b"GET / HTTP/1.1\r\nContent-Length: 99999999999\r\n\r\n".as_slice(),
             "400",
         ),
         (
@@ -95,7 +178,7 @@ fn fronts_are_what_they_are(rt: HostRuntime) {
             "400",
         ),
         (
-            b"GET / HTTP/1.1\r\nTransfer-Encoding: chunked\r\n\r\n".as_slice(),
+            b"GET / HTTP/1.1\r\nTransfer-Encoding: identity\r\n\r\n".as_slice(),
             "400",
         ),
         (

@@ -1,5 +1,10 @@
-use crate::{Fixed, Kind, Status, fixed, fixed_line, info_body, put_head, reply_head};
+use crate::{
+    Fixed, Kind, Memory, Status, fixed, fixed_line, info_body, paths_body, push_line, put_head,
+    reply_head, versions_body,
+};
+use modpath::ModulePath;
 use modver::{Version, read_time};
+use std::test::Fail;
 
 /// The whole replies in bytes, and the lines of two of them.
 #[test]
@@ -77,4 +82,26 @@ fn info_bodies_have_their_texts(rt: HostRuntime) {
             Err(_) => assert!(rt; false),
         }
     }
+}
+
+/// Each item and a newline; none is the empty body.
+#[test]
+fn lists_have_their_texts(rt: HostRuntime) -> Result<(), Fail> {
+    let versions = [
+        Version::parse(rt.alloc(), "v1.0.0-rc.2").map_err(|_| Memory)?,
+        Version::parse(rt.alloc(), "v1.0.0-rc.10").map_err(|_| Memory)?,
+        Version::parse(rt.alloc(), "v1.0.0").map_err(|_| Memory)?,
+    ];
+    let body = versions_body(rt.alloc(), &versions)?;
+    assert!(rt; body.as_slice() == b"v1.0.0-rc.2\nv1.0.0-rc.10\nv1.0.0\n".as_slice());
+    let paths = [
+        ModulePath::parse(rt.alloc(), "example.com/x").map_err(|_| Memory)?,
+        ModulePath::parse(rt.alloc(), "example.com/y").map_err(|_| Memory)?,
+    ];
+    let mut body = paths_body(rt.alloc(), &paths)?;
+    assert!(rt; body.as_slice() == b"example.com/x\nexample.com/y\n".as_slice());
+    push_line(&mut body, "z")?;
+    assert!(rt; body.as_slice() == b"example.com/x\nexample.com/y\nz\n".as_slice());
+    assert!(rt; paths_body(rt.alloc(), &[])?.is_empty());
+    Ok(())
 }

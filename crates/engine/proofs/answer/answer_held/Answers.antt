@@ -1,5 +1,5 @@
 use Rattle.wire.specs.Framing.{view}
-use Rattle.engine.specs.Outcome.{Exchange}
+use Rattle.engine.specs.Exchange.{Exchange}
 use Rattle.std.proofs.lemmas.Result.{err_from_is_err_and}
 use Rattle.engine.proofs.MessageLemmas.{message_shortens}
 use Rattle.engine.proofs.TurnLemmas.{answered_one, answered_more, cut_one, cut_more}

@@ -3,7 +3,7 @@ use Rattle.std.proofs.KnownBytes.{Consumes-nil}
 use Rattle.wire.specs.Framing.{view}
 use Rattle.wire.proofs.StreamLemmas.{unfinished_nothing}
 use Rattle.engine.specs.First.{Answers, Closes}
-use Rattle.engine.specs.Outcome.{Exchange}
+use Rattle.engine.specs.Exchange.{Exchange}
 use Rattle.engine.proofs.FirstLemmas.{first_served, closes_reading, takes_message, takes_closing}
 use Rattle.engine.proofs.StoreLemmas.{through_none}
 use Rattle.engine.proofs.answer.serve_first.Goals as goal

@@ -1,4 +1,4 @@
-use Rattle.std.proofs.Common.{◌≡◌, ℕ, List, ap, sym, ◌∙◌, subst, string_bytes}
+use Rattle.std.proofs.Common.{◌≡◌, ap, sym, ◌∙◌, subst}
 use Rattle.gomod.specs.Paths.{version_of}
 use Rattle.gomod.specs.Reading.{Fails, version_fault, version_found, version_word}
 use Rattle.gomod.specs.Symbols.{symbol}

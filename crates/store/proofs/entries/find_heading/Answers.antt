@@ -21,7 +21,7 @@ returns-in_ok-read_heading-in-Some-clause-answer g c clean w stands =
     let picked = subst (Selects heading_text (place_params p) old.now) c.in-Some.is h.2 in
     let holds = stands (was_clean old (state g.S.Store c.find_row.new.conn) c.find_row.ensures.spares.clean clean) h.0 in
     let read = c.in_ok-read_heading-in-Some.ensures in
-    (h.0, h.1, heading_read p old.now w holds.trees.means c.in-Some.row c.in_ok-read_heading-in-Some.field-0 picked read.0 read.1 read.2)
+    (h.0, h.1, heading_read p old.now w holds.trees.means c.in-Some.row c.in_ok-read_heading-in-Some.field-0 picked read.0 read.1 read.2 read.3)
 
 pub returns-in-None-clause-answer : goal.returns-in-None-clause-answer
 returns-in-None-clause-answer g c clean w stands =

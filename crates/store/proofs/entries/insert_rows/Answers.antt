@@ -1,11 +1,11 @@
-use Rattle.std.proofs.Common.{Ok, to_z-of_z, w64, SFits, rules}
+use Rattle.std.proofs.Common.{Ok, ap, to_z-of_z, w64, SFits, rules}
 use Rattle.sqlite.specs.Held.{state}
 use Rattle.sqlite.specs.State.{ExecutesInside}
 use Rattle.shelf.specs.declared.entry.Place.{Place}
 use Rattle.shelf.specs.declared.entry.Entry.{Entry}
 use Rattle.store.proofs.Texts.{add_version_text, add_body_text}
 use Rattle.store.proofs.CallLemmas.{was_clean}
-use Rattle.store.proofs.AddEntryLemmas.{both_added, version_params, body_params}
+use Rattle.store.proofs.AddEntryLemmas.{both_added, time_bound, version_params, body_params}
 use Rattle.store.proofs.entries.insert_rows.Goals as goal
 
 pub returns-clause-added : goal.returns-clause-added
@@ -14,12 +14,12 @@ returns-clause-added g c clean inside has =
     let mid = state g.S.Store c.execute.new.self.conn.now in
     let new = state g.S.Store c.execute-2.new.self.conn.now in
     let p : Place = record { shelf = c.args.shelf.now; path = c.args.path.now; version = c.args.version.now } in
-    let e : Entry = record { gomod = c.args.gomod.now; zip = c.args.zip.now } in
+    let e : Entry = c.args.entry.now in
     let first = c.in_ok-execute.ensures.runs (was_clean mid new c.execute-2.ensures.survives.clean clean) inside in
     let one : ExecutesInside 0 add_version_text (version_params p e) old mid (Ok c.in_ok-execute.field-0) =
-    rw (c.params-to_sql.ensures, c.params-to_sql-2.ensures, c.params-to_sql-3.ensures, c.params-to_sql-4.ensures) at first in
+    rw (c.params-to_sql.ensures, c.params-to_sql-2.ensures, c.params-to_sql-3.ensures, c.params-to_sql-4.ensures, c.time_text-time.ensures, ap (λ (x : Entry). x.time) c.entry.view_is, time_bound e.time, c.params-to_sql-5.ensures, ap (λ (x : Entry). x.gomod) c.entry.view_is) at first in
     let second = c.in_ok-execute-2.ensures.runs clean first.1.mode in
     let range : SFits w64 c.last_insert_rowid-id.result = search rules in
-    let told = rw (c.params-to_sql-5.ensures, c.params-to_sql-6.ensures, to_z-of_z {w = w64} {z = c.last_insert_rowid-id.result} range) at second in
+    let told = rw (c.params-to_sql-6.ensures, c.params-to_sql-7.ensures, ap (λ (x : Entry). x.zip) c.entry.view_is, to_z-of_z {w = w64} {z = c.last_insert_rowid-id.result} range) at second in
     let two : ExecutesInside 0 add_body_text (body_params mid.last_rowid e) mid new (Ok c.in_ok-execute-2.field-0) = rw c.last_insert_rowid-id.ensures at told in
     both_added p e old mid new c.in_ok-execute.field-0 c.in_ok-execute-2.field-0 has one two

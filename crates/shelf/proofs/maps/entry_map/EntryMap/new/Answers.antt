@@ -1,7 +1,11 @@
-use Rattle.std.proofs.Common.{◌∙◌, ap}
-use Rattle.shelf.specs.Kept.{by_place}
+use Rattle.std.proofs.Common.{◌∙◌, ap, sym, subst}
+use Rattle.shelf.specs.Kept.{EachHasVersion, by_place}
 use Rattle.shelf.proofs.MapsPlaces.{by_place-empty}
+use Rattle.shelf.proofs.MapsSeen.{none_without}
 use Rattle.shelf.proofs.maps.entry_map.EntryMap.new.Goals as goal
+
+pub invariant_of-result : goal.invariant_of-result
+invariant_of-result c = subst EachHasVersion (sym c.new.ensures) none_without
 
 pub returns : goal.returns
 returns c = ap by_place c.new.ensures ∙ by_place-empty

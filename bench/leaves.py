@@ -1,0 +1,146 @@
+#!/usr/bin/env python3
+"""Speed of the calls that need no store: checks of paths, the order of versions, and the reading of go.mod files.
+
+Build the program first (`cd crates/measure && rt run -- gomod 0 </dev/null`). It does the same work in rounds, and each
+line tells what a round costs in processor time, beside a run with no rounds, which only makes the input ready. Of a
+go.mod it also tells how many times dearer the text is than one half as long, and the status is 1 where that is more
+than 2.5 times. With --quick the inputs are a tenth as long.
+"""
+
+import os
+import random
+import subprocess
+import sys
+import tempfile
+
+ROOT = os.path.dirname(os.path.dirname(os.path.abspath(__file__)))
+PROGRAM = os.path.join(ROOT, "crates", "measure", "out", "measure")
+HOSTS = ["github.com", "github.com", "github.com", "golang.org/x", "google.golang.org", "gitlab.com", "k8s.io"]
+WORDS = "api auth cloud client config core data event go grpc http kit log metrics net proto sdk Store test tools".split()
+TWICE_COSTS_AT_MOST = 2.5
+
+
+def run(what, rounds, text):
+    """The processor seconds of a run, and the number that it prints."""
+    with tempfile.TemporaryFile() as source, tempfile.TemporaryFile() as target:
+        source.write(text)
+        source.seek(0)
+        child = subprocess.Popen([PROGRAM, what, str(rounds)], stdin=source, stdout=target)
+        _, status, usage = os.wait4(child.pid, 0)
+        if status != 0:
+            sys.exit(f"the program ended with wait status {status}")
+        target.seek(0)
+        return usage.ru_utime + usage.ru_stime, int(target.read())
+
+
+def rounds_of(what, *texts):
+    """Of each text the processor seconds of a round, by the best of five runs in turn, and the number that it makes."""
+    plans = []
+    for text in texts:
+        idle = min(run(what, 0, text)[0] for _ in range(3))
+        rounds = 1
+        while run(what, rounds, text)[0] - idle < 0.5:
+            rounds *= 2
+        plans.append((text, idle, rounds))
+    turns = [[run(what, rounds, text) for text, _, rounds in plans] for _ in range(5)]
+    return [
+        ((min(runs)[0] - idle) / rounds, runs[0][1] / rounds)
+        for (_, idle, rounds), runs in zip(plans, zip(*turns))
+    ]
+
+
+def lines(count, line):
+    return "".join(f"{line(n)}\n" for n in range(count)).encode()
+
+
+def path(chance):
+    """A path like those of public modules, of 20 to 60 bytes."""
+    while True:
+        elements = [chance.choice(HOSTS)]
+        elements += ["-".join(chance.choices(WORDS, k=chance.randint(1, 3))) for _ in range(chance.randint(1, 3))]
+        if chance.random() < 0.2:
+            elements.append(f"v{chance.randint(2, 9)}")
+        made = "/".join(elements)
+        if 20 <= len(made) <= 60:
+            return made
+
+
+def version(chance):
+    """A version of a path without a major version suffix: half of them releases, then pre-releases and pseudo-versions."""
+    base = f"v{chance.randint(0, 1)}.{chance.randint(0, 40)}.{chance.randint(1, 20)}"
+    kind = chance.random()
+    if kind < 0.5:
+        return base
+    if kind < 0.75:
+        return f"{base}-{chance.choice(['alpha', 'beta', 'rc'])}.{chance.randint(1, 12)}"
+    day = f"20{chance.randint(10, 25)}{chance.randint(1, 12):02}{chance.randint(1, 28):02}"
+    stamp = f"{day}{chance.randint(0, 23):02}{chance.randint(0, 59):02}{chance.randint(0, 59):02}"
+    return f"{base}-0.{stamp}-{chance.randrange(16**12):012x}"
+
+
+def comment(size):
+    head = b"module example.com/a\nrequire example.com/b v1.0.0\n// "
+    return head + b"c" * (size - len(head)), 1
+
+
+def requirements(count):
+    head = b"module example.com/a\n\nrequire (\n"
+    entry = lambda n: f"\tgithub.com/owner{n % 97}/mod-{n} v1.{n % 50}.{n % 20} // indirect"
+    return head + lines(count, entry) + b")\n", count
+
+
+def short_lines(count):
+    """Blocks without entries, as short as lines with a keyword are."""
+    head = b"module example.com/a\nrequire example.com/b v1.0.0\n"
+    return head + b"require (\n)\n" * (count // 2 - 1), 1
+
+
+def measure_paths(count):
+    chance = random.Random(1)
+    [(seconds, passed)] = rounds_of("paths", lines(count, lambda _: path(chance)))
+    if passed != count:
+        sys.exit(f"{passed} of {count} paths are module paths")
+    print(f"{count:,} paths: {count / seconds:,.0f} paths/s of check ({seconds:.3f} s)")
+
+
+def measure_versions(count):
+    chance = random.Random(2)
+    [(seconds, comparisons)] = rounds_of("versions", lines(count, lambda _: version(chance)))
+    print(
+        f"{count:,} versions sorted by rank: {comparisons / seconds:,.0f} comparisons/s "
+        f"({comparisons:,.0f} in {seconds * 1e3:.2f} ms)"
+    )
+
+
+def measure_gomod(name, size, make):
+    """Whether the text costs no more than it may beside one half as long."""
+    texts, wanted = zip(make(size), make(size // 2))
+    whole, half = rounds_of("gomod", *texts)
+    if (whole[1], half[1]) != wanted:
+        sys.exit(f"{whole[1]} and {half[1]} requirements were read, and not {wanted}")
+    seconds, length = whole[0], len(texts[0])
+    times = seconds / half[0]
+    print(
+        f"a go.mod of {name}, {length:,} bytes: {length / seconds / 1e6:,.1f} MB/s ({seconds * 1e3:.2f} ms), "
+        f"{times:.2f} times one half as long"
+    )
+    return times <= TWICE_COSTS_AT_MOST
+
+
+def main():
+    scale = 10 if "--quick" in sys.argv else 1
+    if not os.path.exists(PROGRAM):
+        sys.exit("build the program first: cd crates/measure && rt run -- gomod 0 </dev/null")
+    measure_paths(1_000_000 // scale)
+    measure_versions(4_096 // scale)
+    linear = [
+        measure_gomod("one comment", 2**20 // scale, comment),
+        measure_gomod(f"{20_000 // scale:,} requirements", 20_000 // scale, requirements),
+        measure_gomod(f"{80_000 // scale:,} lines", 80_000 // scale, short_lines),
+    ]
+    if not all(linear):
+        sys.exit(f"twice the text costs more than {TWICE_COSTS_AT_MOST} times as much")
+
+
+if __name__ == "__main__":
+    main()

@@ -1,0 +1,48 @@
+-- A message, and what became of it.
+use Rattle.std.specs.Prelude.{List, [], ◌∷◌}
+use Rattle.wire.specs.Message.{Request}
+use Rattle.shelf.specs.declared.ask.Event.{Event}
+use Rattle.shelf.specs.declared.reply.Answer.{Answer}
+use Rattle.shelf.specs.declared.reply.Answer.TheVariants.{Replied, Failed}
+use Rattle.shelf.specs.declared.reply.Reply.{Reply}
+use Rattle.shelf.specs.declared.reply.StoreFault.{StoreFault}
+use Rattle.shelf.specs.declared.reply.StoreFault.TheVariants.{Memory}
+use Rattle.engine.specs.Ask as spec
+
+pub data Outcome : Type 0 where
+  -- there was no memory outside the store: to read what the message asks, or for the body of the reply
+  Unserved : Outcome
+  -- the store met a fault
+  Met : StoreFault → Outcome
+  -- the machine replied
+  Told : Reply → Outcome
+
+-- the machine's answer: want of memory outside the store is a fault that changes nothing
+abbrev pub answer_to : Outcome → Answer
+answer_to Unserved = Failed Memory
+answer_to (Met fault) = Failed fault
+answer_to (Told reply) = Replied reply
+
+-- a message, and what became of it
+pub record Exchange : Type 0 where
+  pub message : Request
+  pub outcome : Outcome
+
+abbrev pub message_of : Exchange → Request
+message_of x = x.message
+
+abbrev pub event_of : Exchange → Event
+event_of x = spec.event_of x.message
+
+abbrev pub answer_of : Exchange → Answer
+answer_of x = answer_to x.outcome
+
+-- the store met no fault
+abbrev pub IsUnmet : Outcome → Type 0
+IsUnmet Unserved = Unit {0}
+IsUnmet (Met fault) = ⊥
+IsUnmet (Told reply) = Unit {0}
+
+abbrev pub AllUnmet : List Exchange → Type 0
+AllUnmet [] = Unit {0}
+AllUnmet (x ∷ xs) = IsUnmet x.outcome × AllUnmet xs

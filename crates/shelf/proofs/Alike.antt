@@ -1,0 +1,74 @@
+-- What two worlds that agree on the shelves that a shelf sees decide and answer to it.
+use Rattle.std.proofs.Common.{◌≡◌, ℕ, List, Bool, true, false, refl, ◌∙◌, sym, ap, Option, Some, None}
+use Rattle.std.specs.Prelude.{option_map, is_some}
+use Rattle.std.specs.FinSet as set
+use Rattle.modver.specs.SemanticVersion.{SemanticVersion, version_text}
+use Rattle.shelf.specs.declared.entry.Seen.{Seen}
+use Rattle.shelf.specs.declared.entry.Holder.{Holder}
+use Rattle.shelf.specs.declared.ask.Query.{Query}
+use Rattle.shelf.specs.declared.ask.Query.TheVariants as query
+use Rattle.shelf.specs.declared.ask.Publish.{Publish}
+use Rattle.shelf.specs.declared.reply.Reply.TheVariants as reply
+use Rattle.shelf.specs.World.{World, chain, view, count}
+use Rattle.shelf.specs.Lines.{in_order}
+use Rattle.shelf.specs.Visible.{versions_seen, paths_seen}
+use Rattle.shelf.specs.Versions.{named, highest}
+use Rattle.shelf.specs.Machine.{decided, decision, gomod_of, entry_seen, versions_of, module_of, highest_left, latest_by, latest_of, latest_reply, query_reply, gomod_reply, zip_reply, info_reply, list_reply}
+use Rattle.shelf.proofs.Orders.{texts_total, texts_exact}
+use Rattle.shelf.proofs.Seen.{contains_versions, contains_paths}
+use Rattle.shelf.proofs.Views.{SameSeen, sees_itself, view_same, count_same}
+
+module _ (w x : World) (s : List ℕ) (chains : chain w s ≡ chain x s) (same : SameSeen w x s) where
+  -- ---- a publish
+
+  entry_same : (p : Publish) → entry_seen w s p ≡ entry_seen x s p
+  entry_same p = ap (option_map (λ (o : Seen). o.entry)) (view_same w x s p.path (version_text p.version) chains same)
+
+  -- ---- the versions and the paths
+
+  pub versions_same : (p : List ℕ) → versions_seen w s p ≡ versions_seen x s p
+  versions_same p = set.same_set texts_total texts_exact _ _ (λ v.
+      contains_versions w s p v ∙ ap is_some (view_same w x s p v chains same) ∙ sym (contains_versions x s p v))
+
+  both_or_none : (a b : Bool) → (a ≡ true → b ≡ true) → (b ≡ true → a ≡ true) → a ≡ b
+  both_or_none true b to back = sym (to refl)
+  both_or_none false true to back = back refl
+  both_or_none false false to back = refl
+
+  pub paths_same : paths_seen w s ≡ paths_seen x s
+  paths_same = set.same_set texts_total texts_exact _ _ (λ p.
+      let one = contains_paths w s p in
+      let other = contains_paths x s p in
+      both_or_none _ _
+      (λ at. let found = one.0 at in other.1 (found.0, ap is_some (sym (view_same w x s p found.0 chains same)) ∙ found.1))
+      (λ at. let found = other.0 at in one.1 (found.0, ap is_some (view_same w x s p found.0 chains same) ∙ found.1)))
+
+  -- ---- the latest version
+
+  latest_by_same : (p : List ℕ) (top : Option SemanticVersion) → latest_by w s p top ≡ latest_by x s p top
+  latest_by_same p None = refl
+  latest_by_same p (Some top) =
+      ap (λ o. highest_left (module_of o) (versions_of w s p)) (view_same w x s p (version_text top) chains same)
+      ∙ ap (λ vs. highest_left (module_of (view x s p (version_text top))) (named (in_order vs))) (versions_same p)
+
+  latest_same : (p : List ℕ) → latest_of w s p ≡ latest_of x s p
+  latest_same p = ap (λ vs. latest_by w s p (highest (named (in_order vs)))) (versions_same p) ∙ latest_by_same p (highest (versions_of x s p))
+
+  told_of : (p : List ℕ) (v : Option SemanticVersion) → latest_reply w s p v ≡ latest_reply x s p v
+  told_of p None = refl
+  told_of p (Some v) = ap (info_reply v) (view_same w x s p (version_text v) chains same)
+
+  -- ---- a query
+
+  pub query_same : (q : Query) → query_reply w s q ≡ query_reply x s q
+  query_same (query.GoMod p v) = ap gomod_reply (view_same w x s p (version_text v) chains same)
+  query_same (query.Zip p v) = ap zip_reply (view_same w x s p (version_text v) chains same)
+  query_same (query.Info p v) = ap (info_reply v) (view_same w x s p (version_text v) chains same)
+  query_same (query.List p) = ap (λ vs. list_reply (named (in_order vs))) (versions_same p)
+  query_same (query.Latest p) = ap (latest_reply w s p) (latest_same p) ∙ told_of p (latest_of x s p)
+  query_same query.Modules = ap reply.Paths paths_same
+
+pub decision_same : (w x : World) (h : Holder) (p : Publish) → chain w h.shelf ≡ chain x h.shelf → SameSeen w x h.shelf → decision w (Some h) p ≡ decision x (Some h) p
+decision_same w x h p chains same =
+    ap (λ seen. decided p (Some h.right) (gomod_of p) seen (count w h.shelf p.path)) (entry_same w x h.shelf chains same p)
+    ∙ ap (λ n. decided p (Some h.right) (gomod_of p) (entry_seen x h.shelf p) n) (count_same w x h.shelf p.path (same h.shelf (sees_itself w h.shelf)))

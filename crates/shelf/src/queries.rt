@@ -1,0 +1,171 @@
+//! Answers to GETs over any store. (Go Modules Reference, "GOPROXY protocol".)
+ghost use Rattle.std.specs.Prelude.{◌≡◌, ℕ, List, IfOk};
+ghost use Rattle.std.specs.FinMap as map;
+ghost use Rattle.shelf.specs.Machine as spec;
+ghost use Rattle.shelf.specs.Machine.{keyed_reply, latest_of, latest_reply};
+ghost use Rattle.shelf.specs.Store.{Reads, HasCause};
+ghost use Rattle.shelf.specs.Versions.{AllOf};
+
+use crate::ask::Query;
+use crate::entry::Seen;
+use crate::reading::Reading;
+use crate::reply::{Reply, StoreFault};
+use crate::shelves::Shelves;
+use crate::versions::{highest, highest_left, listed, named};
+use gomod::GoMod;
+use modpath::ModulePath;
+use modver::Version;
+use std::alloc::{AllocError, Global};
+
+/// Answers a GET.
+pub fn answer_query<S: Shelves>(
+    alloc: Global,
+    shelves: &mut S,
+    key: &str,
+    query: &Query,
+) -> Result<Reply, StoreFault>
+    ensures reads { Reads (S.shown shelves.old) (S.shown shelves.new) result (λ w. keyed_reply w (map.get w.keys key.now) query.now) }
+    ensures cause { HasCause (S.failure_count shelves.old) (S.failure_count shelves.new) result }
+{
+    let Some(holder) = shelves.key(key)? else {
+        return Ok(Reply::NotFound);
+    };
+    let shelf = holder.shelf.as_str();
+    match query {
+        Query::GoMod { path, version } => {
+            let seen = shelves.entry(shelf, path, version)?;
+            Ok(gomod_reply(seen))
+        }
+        Query::Zip { path, version } => {
+            let seen = shelves.entry(shelf, path, version)?;
+            Ok(zip_reply(seen))
+        }
+        Query::Info { path, version } => {
+            let seen = shelves.entry(shelf, path, version)?;
+            Ok(info_reply(version.copy(alloc)?, seen))
+        }
+        Query::List { path } => {
+            let texts = shelves.versions(shelf, path)?;
+            let versions = named(alloc, &texts)?;
+            Ok(list_reply(alloc, versions)?)
+        }
+        Query::Latest { path } => answer_latest(alloc, shelves, shelf, path),
+        Query::Modules => Ok(Reply::Paths(shelves.paths(shelf)?)),
+    }
+}
+
+fn info_reply(version: Version, seen: Option<Seen>) -> Reply
+    ensures { result ≡ spec.info_reply version seen }
+{
+    match seen {
+        None => Reply::NotFound,
+        Some(seen) => {
+            let entry = seen.entry;
+            Reply::Info {
+                version,
+                time: entry.time,
+            }
+        }
+    }
+}
+
+fn gomod_reply(seen: Option<Seen>) -> Reply
+    ensures { result ≡ spec.gomod_reply seen }
+{
+    match seen {
+        None => Reply::NotFound,
+        Some(seen) => {
+            let entry = seen.entry;
+            Reply::GoMod(entry.gomod)
+        }
+    }
+}
+
+fn zip_reply(seen: Option<Seen>) -> Reply
+    ensures { result ≡ spec.zip_reply seen }
+{
+    match seen {
+        None => Reply::NotFound,
+        Some(seen) => {
+            let entry = seen.entry;
+            Reply::Zip(entry.zip)
+        }
+    }
+}
+
+/// The releases and pre-releases among the versions of a path, if it has any version.
+fn list_reply(alloc: Global, versions: Vec<Version>) -> Result<Reply, AllocError>
+    ensures { IfOk result (λ r. r ≡ spec.list_reply versions.items) }
+{
+    if versions.is_empty() {
+        return Ok(Reply::NotFound);
+    }
+    Ok(Reply::Versions(listed(alloc, versions)?))
+}
+
+/// Answers a GET of the latest version of a path.
+fn answer_latest<S: Shelves>(
+    alloc: Global,
+    shelves: &mut S,
+    shelf: &str,
+    path: &ModulePath,
+) -> Result<Reply, StoreFault>
+    ensures reads { Reads (S.shown shelves.old) (S.shown shelves.new) result (λ w. latest_reply w shelf.now path.now (latest_of w shelf.now path.now)) }
+    ensures cause { HasCause (S.failure_count shelves.old) (S.failure_count shelves.new) result }
+{
+    let Some(version) = latest_version(alloc, shelves, shelf, path)? else {
+        return Ok(Reply::NotFound);
+    };
+    let seen = shelves.entry(shelf, path, &version)?;
+    Ok(info_reply(version, seen))
+}
+
+/// The highest version of a path that the go.mod of the highest does not retract.
+fn latest_version<S: Shelves>(
+    alloc: Global,
+    shelves: &mut S,
+    shelf: &str,
+    path: &ModulePath,
+) -> Result<Option<Version>, StoreFault>
+    ensures reads { Reads (S.shown shelves.old) (S.shown shelves.new) result (λ w. latest_of w shelf.now path.now) }
+    ensures cause { HasCause (S.failure_count shelves.old) (S.failure_count shelves.new) result }
+{
+    let texts = shelves.versions(shelf, path)?;
+    let versions = named(alloc, &texts)?;
+    let Some(newest) = highest(versions.as_slice()) else {
+        return Ok(None);
+    };
+    let seen = shelves.entry(shelf, path, newest)?;
+    let gomod = gomod_seen(alloc, seen)?;
+    Ok(latest_left(alloc, versions.as_slice(), gomod)?)
+}
+
+/// The highest of some versions of a path that a go.mod does not retract.
+fn latest_left(
+    alloc: Global,
+    versions: &[Version],
+    gomod: Option<GoMod>,
+) -> Result<Option<Version>, AllocError>
+    ensures { IfOk result (λ v. (path : List ℕ) → AllOf path versions.now → v ≡ spec.highest_left gomod versions.now) }
+{
+    let Some(gomod) = gomod else {
+        return Ok(None);
+    };
+    match highest_left(versions, &gomod) {
+        None => Ok(None),
+        Some(version) => Ok(Some(version.copy(alloc)?)),
+    }
+}
+
+/// What the go.mod of a version says.
+fn gomod_seen(alloc: Global, seen: Option<Seen>) -> Result<Option<GoMod>, AllocError>
+    ensures { IfOk result (λ m. m ≡ spec.module_of seen) }
+{
+    let Some(seen) = seen else {
+        return Ok(None);
+    };
+    match Reading::of(alloc, seen.entry.gomod.as_slice())? {
+        Reading::Module(gomod) => Ok(Some(gomod)),
+        Reading::Fault(_) => Ok(None),
+    }
+}

@@ -1,0 +1,227 @@
+-- What a GET asks for by the rest behind the key, computed, is what it asks for.
+use Rattle.std.proofs.Common.{◌≡◌, ◌≢◌, ◌==◌, ℕ, ◌+◌, List, [], ◌∷◌, ◌++◌, length, drop, codes, Option, Some, None, true, false, get_or, refl, sym, ap, ◌∙◌, subst, inl, inr, arith, append_assoc, length-append}
+use Rattle.std.proofs.lemmas.Bool.{cases_Bool}
+use Rattle.std.proofs.lemmas.Bool.Decides.{Decides-eqb}
+use Rattle.std.proofs.lemmas.List.{drop_at}
+use Rattle.std.specs.Char.{is_ascii_uppercase}
+use Rattle.std.specs.Cmp.Lexicographic.{pointwise_decides}
+use Rattle.std.specs.List.{onto_first, slice_split}
+use Rattle.std.specs.Option.{option_and_then, option_map}
+use Rattle.percent_encoding.proofs.PercentLemmas.{percent_decode_not_percent}
+use Rattle.percent_encoding.specs.Percent.{percent_decode}
+use Rattle.modpath.proofs.PathLaw.{check_is_exact}
+use Rattle.modpath.specs.Escape.{escaped}
+use Rattle.modpath.specs.ModulePath.{BeginsWith}
+use Rattle.modpath.specs.Path.{IsPath, check_of, first_element}
+use Rattle.modver.specs.SemanticVersion.{SemanticVersion, version_text}
+use Rattle.wire.specs.Place.{IsPlace, cut_of, path_of, version_from, without_end, without_start}
+use Rattle.wire.specs.Query.{IsQuery, asked_by, asked_of, ending_of, first_some, of_path, own_of, own_or_asked, part_of, query_for, query_of, split_part, text_eq, without_ending}
+use Rattle.wire.specs.declared.queries.Part.{Part}
+use Rattle.wire.specs.declared.queries.Part.TheVariants as part
+use Rattle.wire.specs.declared.request.Query.{Query}
+use Rattle.wire.specs.declared.request.Query.TheVariants as query
+use Rattle.wire.proofs.PlaceReadings.{path-cut, path-is, path-taken, version-is, version-taken}
+use Rattle.wire.proofs.TargetLemmas.{cut-is, end-is, end-taken, if-some, map-some, start-is, then-some}
+
+pub same-text : (xs ys : List ℕ) → text_eq xs ys ≡ true → xs ≡ ys
+same-text xs ys h = (pointwise_decides Decides-eqb xs ys).0 h
+
+-- ---- a plain dash
+
+-- what a text that begins with a dash and a slash decodes to
+pub dash-decoded : (behind : List ℕ) → percent_decode (codes "-/" ++ behind) ≡ codes "-/" ++ percent_decode behind
+dash-decoded behind =
+    let dash : 45 ≢ 37 = omega arith in
+    let slash : 47 ≢ 37 = omega arith in
+    percent_decode_not_percent 45 (47 ∷ behind) dash ∙ ap (λ (l : List ℕ). 45 ∷ l) (percent_decode_not_percent 47 behind slash)
+
+dash-first : (es : List (List ℕ)) → BeginsWith (first_element (onto_first 45 es)) (codes "-")
+dash-first [] = ([], refl)
+dash-first (e ∷ es) = (e, refl)
+
+-- no path begins with a dash
+no-dash : (path : List ℕ) → IsPath (45 ∷ path) → ⊥
+no-dash path is = ((check_is_exact (45 ∷ path)).0 is).first.no_dash (dash-first (slice_split (λ b. b == 47) path))
+
+-- no path is empty
+no-empty : IsPath [] → ⊥
+unfolding check_of
+no-empty is = cc is
+
+-- and neither does its escaped form
+escaped-dash : (path behind rest : List ℕ) → IsPath path → escaped path ++ (47 ∷ behind) ≡ codes "-/" ++ rest → ⊥
+escaped-dash [] behind rest is e = no-empty is
+escaped-dash (b ∷ path) behind rest is e = elim (cases_Bool (is_ascii_uppercase b)) [
+  | inl upper ↦
+      let same : 33 ∷ ((b + 32) ∷ (escaped path ++ (47 ∷ behind))) ≡ 45 ∷ (47 ∷ rest) = rw upper at e in
+      absurd (omega (arith, ap (λ (l : List ℕ). get_or l 0 0) same))
+  | inr lower ↦
+      let same : b ∷ (escaped path ++ (47 ∷ behind)) ≡ 45 ∷ (47 ∷ rest) = rw lower at e in
+      let dash : b ≡ 45 = ap (λ (l : List ℕ). get_or l 0 0) same in
+      no-dash path (subst (λ (c : ℕ). IsPath (c ∷ path)) dash is)
+]
+
+-- a rest that decodes to a path begins with no plain dash
+no-own : (rest path behind : List ℕ) → percent_decode rest ≡ escaped path ++ (47 ∷ behind) → IsPath path → (found : Option (List ℕ))
+    → without_start (codes "-/") rest ≡ found → found ≡ None
+no-own rest path behind whole is None e = refl
+no-own rest path behind whole is (Some after) e =
+    let begins = start-is (codes "-/") rest after e in
+    absurd (escaped-dash path behind (percent_decode after) is (sym whole ∙ ap percent_decode begins ∙ dash-decoded after))
+
+-- ---- parts of a version
+
+asked-by-is : (p q : Part) (name version : List ℕ) → asked_by p name ≡ Some (version, q) → (name ≡ version ++ ending_of q)
+asked-by-is p q name version h =
+    let found = map-some (λ (v : List ℕ). (v, p)) (without_end (ending_of p) name) (version, q) h in
+    let versions : found.0 ≡ version = ap (λ (x : List ℕ × Part). x.0) found.2 in
+    let parts : p ≡ q = ap (λ (x : List ℕ × Part). x.1) found.2 in
+    end-is (ending_of p) name found.0 found.1 ∙ (λ i. versions i ++ ending_of (parts i))
+
+either-is : (A : Type 0) (P : A → Type 0) (a b : Option A) (x : A) → first_some a b ≡ Some x → (a ≡ Some x → P x) → (b ≡ Some x → P x) → P x
+either-is A P (Some y) b x h left right = left h
+either-is A P None b x h left right = right h
+
+without-ending-is : (name version : List ℕ) (p : Part) → without_ending name ≡ Some (version, p) → name ≡ version ++ ending_of p
+without-ending-is name version p h =
+    let Named : List ℕ × Part → Type 0 = λ found. name ≡ found.0 ++ ending_of found.1 in
+    either-is (List ℕ × Part) Named (asked_by part.Info name) (first_some (asked_by part.GoMod name) (asked_by part.Zip name)) (version, p) h
+    (asked-by-is part.Info p name version)
+    (λ later. either-is (List ℕ × Part) Named (asked_by part.GoMod name) (asked_by part.Zip name) (version, p) later
+    (asked-by-is part.GoMod p name version) (asked-by-is part.Zip p name version))
+
+split-is : (asked version : List ℕ) (p : Part) → split_part asked ≡ Some (version, p) → asked ≡ codes "v/" ++ (version ++ ending_of p)
+split-is asked version p h =
+    let outer = then-some without_ending (without_start (codes "v/") asked) (version, p) h in
+    start-is (codes "v/") asked outer.0 outer.1 ∙ ap (λ (l : List ℕ). codes "v/" ++ l) (without-ending-is outer.0 version p outer.2)
+
+-- texts with other endings of one length
+other-ends : (front other x y : List ℕ) → front ++ x ≡ other ++ y → length x ≡ length y → x ≡ y
+other-ends front other x y e l =
+    let fronts : length front ≡ length other = omega (arith, ap length e, length-append front x, length-append other y, l) in
+    sym (drop_at front x (length front) refl) ∙ ap (drop (length front)) e ∙ drop_at other y (length front) (sym fronts)
+
+-- the last bytes of two texts that are the same
+same-last : (front other x y : List ℕ) (a b : ℕ) → front ++ (x ++ a ∷ []) ≡ other ++ (y ++ b ∷ []) → a ≡ b
+same-last front other x y a b e =
+    let same : (front ++ x) ++ a ∷ [] ≡ (other ++ y) ++ b ∷ [] = append_assoc front x (a ∷ []) ∙ e ∙ sym (append_assoc other y (b ∷ [])) in
+    ap (λ (l : List ℕ). get_or l 0 0) (other-ends (front ++ x) (other ++ y) (a ∷ []) (b ∷ []) same refl)
+
+-- an ending that a name does not have
+no-end : (ending name : List ℕ) → ((front : List ℕ) → name ≡ front ++ ending → ⊥) → (found : Option (List ℕ)) → without_end ending name ≡ found → found ≡ None
+no-end ending name never None e = refl
+no-end ending name never (Some front) e = absurd (never front (end-is ending name front e))
+
+no-info : (front x : List ℕ) (b : ℕ) → b ≢ 111 → without_end (codes ".info") (front ++ (x ++ b ∷ [])) ≡ None
+no-info front x b other = no-end (codes ".info") (front ++ (x ++ b ∷ [])) (λ f e. other (same-last front f x (codes ".inf") b 111 e)) _ refl
+
+without-ending-taken : (version : List ℕ) (p : Part) → without_ending (version ++ ending_of p) ≡ Some (version, p)
+without-ending-taken version part.Info = rw (end-taken (codes ".info") version) refl
+without-ending-taken version part.GoMod = rw (no-info version (codes ".mo") 100 (omega arith), end-taken (codes ".mod") version) refl
+without-ending-taken version part.Zip =
+    let other : 112 ≢ 100 = omega arith in
+    let no-mod = no-end (codes ".mod") (version ++ codes ".zip") (λ f e. other (same-last version f (codes ".zi") (codes ".mo") 112 100 e)) _ refl in
+    rw (no-info version (codes ".zi") 112 (omega arith), no-mod, end-taken (codes ".zip") version) refl
+
+-- such a name is no list
+no-list : (version : List ℕ) (p : Part) → text_eq (version ++ ending_of p) (codes "list") ≡ false
+no-list version p = elim (cases_Bool (text_eq (version ++ ending_of p) (codes "list"))) [
+  | inl same ↦ absurd (apart p (same-text (version ++ ending_of p) (codes "list") same))
+  | inr other ↦ other
+]
+  where
+    apart : (q : Part) → version ++ ending_of q ≡ codes "list" → ⊥
+    apart part.Info e = omega (arith, same-last version [] (codes ".inf") (codes "lis") 111 116 e)
+    apart part.GoMod e = omega (arith, same-last version [] (codes ".mo") (codes "lis") 100 116 e)
+    apart part.Zip e = omega (arith, same-last version [] (codes ".zi") (codes "lis") 112 116 e)
+
+part-taken : (path name : List ℕ) (v : SemanticVersion) (p : Part) → version_from name ≡ Some v
+    → of_path path (codes "v/" ++ (name ++ ending_of p)) ≡ Some (query_for p path v)
+part-taken path name v p is = rw (no-list name p, without-ending-taken name p, is) refl
+
+-- ---- what is asked of a path
+
+of-path-taken : (rest path behind : List ℕ) (asked : Query) → percent_decode rest ≡ escaped path ++ (codes "/@" ++ behind) → IsPath path
+    → of_path path behind ≡ Some asked → query_of rest ≡ Some asked
+unfolding query_of asked_of
+of-path-taken rest path behind asked whole is h =
+    rw (no-own rest path (64 ∷ behind) whole is _ refl, whole, path-cut path behind is, path-taken path is) h
+
+place-taken : (rest path : List ℕ) (v : SemanticVersion) (p : Part) → IsPlace (percent_decode rest) path v (ending_of p)
+    → query_of rest ≡ Some (query_for p path v)
+place-taken rest path v p is =
+    of-path-taken rest path (codes "v/" ++ (escaped (version_text v) ++ ending_of p)) (query_for p path v) is.whole is.path_is (part-taken path (escaped (version_text v)) v p (version-taken v is.version_is))
+
+own-taken : (rest behind : List ℕ) → rest ≡ codes "-/" ++ behind → percent_decode behind ≡ codes "modules" → query_of rest ≡ Some query.Modules
+unfolding query_of
+own-taken rest behind whole decodes = rw (whole, decodes) refl
+
+pub query-taken : (rest : List ℕ) (asked : Query) → IsQuery rest asked → query_of rest ≡ Some asked
+query-taken rest (query.Info path v) is = place-taken rest path v part.Info is
+query-taken rest (query.GoMod path v) is = place-taken rest path v part.GoMod is
+query-taken rest (query.Zip path v) is = place-taken rest path v part.Zip is
+query-taken rest (query.List path) is = of-path-taken rest path (codes "v/list") (query.List path) is.whole is.path_is refl
+query-taken rest (query.Latest path) is = of-path-taken rest path (codes "latest") (query.Latest path) is.whole is.path_is refl
+query-taken rest query.Modules is = own-taken rest is.behind is.whole is.decodes
+
+-- ---- and back
+
+part-query : (rest path : List ℕ) (v : SemanticVersion) (p : Part) → IsPlace (percent_decode rest) path v (ending_of p) → IsQuery rest (query_for p path v)
+part-query rest path v part.Info is = is
+part-query rest path v part.GoMod is = is
+part-query rest path v part.Zip is = is
+
+part-is : (rest path behind : List ℕ) (asked : Query) → percent_decode rest ≡ escaped path ++ (codes "/@" ++ behind) → IsPath path
+    → part_of path behind ≡ Some asked → IsQuery rest asked
+part-is rest path behind asked whole is h =
+    let outer = then-some (λ (found : List ℕ × Part). option_map (λ (v : SemanticVersion). query_for found.1 path v) (version_from found.0)) (split_part behind) asked h in
+    let name = (outer.0).0 in
+    let p = (outer.0).1 in
+    let inner = map-some (λ (v : SemanticVersion). query_for p path v) (version_from name) asked outer.2 in
+    let version = version-is name inner.0 inner.1 in
+    let named = split-is behind name p outer.1 in
+    let place : IsPlace (percent_decode rest) path inner.0 (ending_of p) = record {
+      whole = whole ∙ (λ i. escaped path ++ (codes "/@" ++ named i)) ∙ (λ i. escaped path ++ (codes "/@v/" ++ (version.0 i ++ ending_of p)));
+      path_is = is;
+      version_is = version.1;
+    } in
+    subst (IsQuery rest) inner.2 (part-query rest path inner.0 p place)
+
+of-path-is : (rest path behind : List ℕ) (asked : Query) → percent_decode rest ≡ escaped path ++ (codes "/@" ++ behind) → IsPath path
+    → of_path path behind ≡ Some asked → IsQuery rest asked
+of-path-is rest path behind asked whole is h = elim (cases_Bool (text_eq behind (codes "latest"))) [
+  | inl latest ↦
+      let same : query.Latest path ≡ asked = cc (rw latest at h) in
+      let behinds = same-text behind (codes "latest") latest in
+      subst (IsQuery rest) same (record { whole = whole ∙ (λ i. escaped path ++ (codes "/@" ++ behinds i)); path_is = is })
+  | inr other ↦ elim (cases_Bool (text_eq behind (codes "v/list"))) [
+    | inl list ↦
+        let same : query.List path ≡ asked = cc (rw (other, list) at h) in
+        let behinds = same-text behind (codes "v/list") list in
+        subst (IsQuery rest) same (record { whole = whole ∙ (λ i. escaped path ++ (codes "/@" ++ behinds i)); path_is = is })
+    | inr part ↦ part-is rest path behind asked whole is (rw (other, part) at h)
+  ]
+]
+
+asked-is : (rest : List ℕ) (asked : Query) → asked_of (percent_decode rest) ≡ Some asked → IsQuery rest asked
+unfolding asked_of
+asked-is rest asked h =
+    let text = percent_decode rest in
+    let outer = then-some (λ (parts : List ℕ × List ℕ). option_and_then (λ path. of_path path parts.1) (path_of parts.0)) (cut_of text) asked h in
+    let inner = then-some (λ path. of_path path (outer.0).1) (path_of (outer.0).0) asked outer.2 in
+    let path = path-is (outer.0).0 inner.0 inner.1 in
+    let whole = cut-is text (outer.0).0 (outer.0).1 outer.1 ∙ (λ i. path.0 i ++ (codes "/@" ++ (outer.0).1)) in
+    of-path-is rest inner.0 (outer.0).1 asked whole path.1 inner.2
+
+own-is : (rest behind : List ℕ) (asked : Query) → rest ≡ codes "-/" ++ behind → own_of (percent_decode behind) ≡ Some asked → IsQuery rest asked
+own-is rest behind asked whole h =
+    let found = if-some (text_eq (percent_decode behind) (codes "modules")) query.Modules asked h in
+    subst (IsQuery rest) found.1 (record { behind = behind; whole = whole; decodes = same-text (percent_decode behind) (codes "modules") found.0 })
+
+query-by : (rest : List ℕ) (asked : Query) (found : Option (List ℕ)) → without_start (codes "-/") rest ≡ found → own_or_asked rest found ≡ Some asked → IsQuery rest asked
+query-by rest asked (Some behind) e h = own-is rest behind asked (start-is (codes "-/") rest behind e) h
+query-by rest asked None e h = asked-is rest asked h
+
+pub query-is : (rest : List ℕ) (asked : Query) → query_of rest ≡ Some asked → IsQuery rest asked
+unfolding query_of
+query-is rest asked h = query-by rest asked (without_start (codes "-/") rest) refl h

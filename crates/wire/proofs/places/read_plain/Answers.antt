@@ -1,0 +1,22 @@
+use Rattle.std.proofs.Common.{sym}
+use Rattle.wire.proofs.PlainLemmas.{plain-no_text, plain-some, plain-refused}
+use Rattle.wire.proofs.places.read_plain.Goals as goal
+
+pub returns-in_default : goal.returns-in_default
+returns-in_default c = sym (plain-no_text c.args.bytes.now c.in_default.ensures.cases.0)
+
+pub returns-in-Ok-unescape : goal.returns-in-Ok-unescape
+returns-in-Ok-unescape c =
+    let text = c.in-Ok.ensures.cases in
+    let is = c.in-Ok-unescape.ensures.ok in
+    sym (plain-some c.args.bytes.now _ text.1 (rw text.0 at is))
+
+pub returns-in-Err-Upper : goal.returns-in-Err-Upper
+returns-in-Err-Upper c =
+    let is = c.in-Err-Upper.field-0-is in
+    sym (plain-refused c.args.bytes.now _ c.in-Err-Upper.field-0 c.in-Ok.ensures.cases.0 c.in-Err-Upper.ensures.err (λ memory. cc (is, memory)))
+
+pub returns-in-Err-Bang : goal.returns-in-Err-Bang
+returns-in-Err-Bang c =
+    let is = c.in-Err-Bang.field-0-is in
+    sym (plain-refused c.args.bytes.now _ c.in-Err-Bang.field-0 c.in-Ok.ensures.cases.0 c.in-Err-Bang.ensures.err (λ memory. cc (is, memory)))

@@ -1,0 +1,75 @@
+-- Module paths and versions in their escaped forms, around `/@`. (Go Modules Reference, "GOPROXY protocol".)
+use Rattle.std.specs.Prelude.{◌≡◌, ◌==◌, ℕ, ◌-◌, nat_eq, nat_lt, Bool, true, false, ◌&&◌, List, [], ◌∷◌, ◌++◌, length, take, drop, codes, Option, Some, None, is_none, option_map, if◌then◌else◌}
+use Rattle.std.specs.Option.{option_and_then}
+use Rattle.std.specs.Cmp.Lexicographic.{pointwise}
+use Rattle.std.specs.List.{before_first, after_first, position_or_len}
+use Rattle.std.specs.Str.{is_utf8}
+use Rattle.modpath.specs.Escape.{escape_fault, escaped}
+use Rattle.modpath.specs.Path.{IsPath, is_path}
+use Rattle.modver.specs.Reading.{IsCanonical, version_of}
+use Rattle.modver.specs.SemanticVersion.{SemanticVersion, version_text}
+use Rattle.wire.specs.declared.places.Place.{Place}
+
+-- the text is a path in its escaped form and this ending
+pub record IsPathWith (text path ending : List ℕ) : Type 0 where
+  pub whole : text ≡ escaped path ++ ending
+  pub path_is : IsPath path
+
+-- the text is a path, `/@v/`, a version and an ending, the path and the version in their escaped forms
+pub record IsPlace (text path : List ℕ) (version : SemanticVersion) (ending : List ℕ) : Type 0 where
+  pub whole : text ≡ escaped path ++ (codes "/@v/" ++ (escaped (version_text version) ++ ending))
+  pub path_is : IsPath path
+  pub version_is : IsCanonical (version_text version) version
+
+-- ---- the same, computed
+
+-- a text without its first or its last part
+abbrev pub without_start : List ℕ → List ℕ → Option (List ℕ)
+without_start start text = if pointwise nat_eq (take (length start) text) start then Some (drop (length start) text) else None
+
+abbrev pub without_end : List ℕ → List ℕ → Option (List ℕ)
+without_end ending text =
+    if pointwise nat_eq (drop (length text - length ending) text) ending then Some (take (length text - length ending) text) else None
+
+-- a text around the first of these bytes in it
+unfoldable pub around : ℕ → List ℕ → Option (List ℕ × List ℕ)
+around byte text =
+    if nat_lt (position_or_len (λ b. b == byte) text) (length text)
+    then Some (before_first (λ b. b == byte) text, after_first (λ b. b == byte) text) else None
+
+abbrev pub without_slash : List ℕ × List ℕ → Option (List ℕ × List ℕ)
+without_slash parts = option_map (λ front. (front, parts.1)) (without_end (codes "/") parts.0)
+
+-- a text around `/@`, where no other `@` stands before it
+unfoldable pub cut_of : List ℕ → Option (List ℕ × List ℕ)
+cut_of text = option_and_then without_slash (around 64 text)
+
+-- the text without each `!`, with an upper-case letter behind it
+abbrev pub unescaped_after : Bool → List ℕ → List ℕ
+unescaped_after bang [] = []
+unescaped_after true (b ∷ rest) = (b - 32) ∷ unescaped_after false rest
+unescaped_after false (b ∷ rest) = if b == 33 then unescaped_after true rest else b ∷ unescaped_after false rest
+
+abbrev pub unescaped : List ℕ → List ℕ
+unescaped text = unescaped_after false text
+
+-- the text whose escaped form this is
+unfoldable pub plain_of : List ℕ → Option (List ℕ)
+plain_of text = if is_utf8 text && is_none (escape_fault text) then Some (unescaped text) else None
+
+-- the module path whose escaped form this is
+abbrev pub path_of : List ℕ → Option (List ℕ)
+path_of text = option_and_then (λ plain. if is_path plain then Some plain else None) (plain_of text)
+
+-- the version whose escaped form this is
+abbrev pub version_from : List ℕ → Option SemanticVersion
+version_from text = option_and_then version_of (plain_of text)
+
+-- a path and a version
+abbrev pub pair : Option (List ℕ) → Option SemanticVersion → Option Place
+pair path version = option_and_then (λ p. option_map (λ v. record { path = p; version = v }) version) path
+
+-- the path and the version around `/@v/`
+unfoldable pub place_of : List ℕ → Option Place
+place_of text =
+    option_and_then (λ (parts : List ℕ × List ℕ). option_and_then (λ name. pair (path_of parts.0) (version_from name)) (without_start (codes "v/") parts.1)) (cut_of text)

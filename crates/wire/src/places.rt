@@ -1,0 +1,99 @@
+//! Module paths and versions as they stand in targets: in their escaped form, around `/@`.
+ghost use Rattle.std.specs.Prelude.{◌≡◌, None, Some, IfOk, MatchOption, option_map, string_bytes};
+ghost use Rattle.wire.specs.Place.{around, cut_of, plain_of, path_of, version_from, place_of};
+
+use crate::message::Memory;
+use modpath::{EscapeFault, ModulePath, PathError, unescape};
+use modver::{Version, VersionFault};
+use std::alloc::Global;
+
+/// A module path and a version of it.
+#[derive(Drop)]
+pub(crate) struct Place {
+    pub(crate) path: ModulePath,
+    pub(crate) version: Version,
+}
+
+/// A text around the first of these bytes in it.
+#[tactic(auto, unfolding(crate::specs::Place::around))]
+pub(crate) fn split_at_byte(text: &[u8], byte: u8) -> Option<(&[u8], &[u8])>
+    ensures { MatchOption result (around byte text.now ≡ None) (λ parts. around byte text.now ≡ Some (parts.0.now, parts.1.now)) }
+{
+    let at = text.iter().position(|b| *b == byte)?;
+    Some((&text[..at], &text[at + 1..]))
+}
+
+/// What stands before and behind `/@`.
+#[tactic(auto, unfolding(crate::specs::Place::cut_of))]
+pub(crate) fn cut(text: &[u8]) -> Option<(&[u8], &[u8])>
+    ensures { MatchOption result (cut_of text.now ≡ None) (λ parts. cut_of text.now ≡ Some (parts.0.now, parts.1.now)) }
+{
+    let (front, back) = split_at_byte(text, b'@')?;
+    let path = front.strip_suffix(b"/")?;
+    Some((path, back))
+}
+
+/// The module path and the version around `/@v/`.
+#[tactic(auto, unfolding(crate::specs::Place::place_of))]
+pub(crate) fn read_place(alloc: Global, text: &[u8]) -> Result<Option<Place>, Memory>
+    ensures { IfOk result (λ found. found ≡ place_of text.now) }
+{
+    let Some((path, asked)) = cut(text) else {
+        return Ok(None);
+    };
+    let Some(version) = asked.strip_prefix(b"v/") else {
+        return Ok(None);
+    };
+    let Some(path) = read_path(alloc, path)? else {
+        return Ok(None);
+    };
+    let Some(version) = read_version(alloc, version)? else {
+        return Ok(None);
+    };
+    Ok(Some(Place { path, version }))
+}
+
+/// The module path whose escaped form the bytes are.
+pub(crate) fn read_path(alloc: Global, bytes: &[u8]) -> Result<Option<ModulePath>, Memory>
+    ensures { IfOk result (λ found. found ≡ path_of bytes.now) }
+{
+    let Some(plain) = read_plain(alloc, bytes)? else {
+        return Ok(None);
+    };
+    match ModulePath::parse(alloc, plain.as_str()) {
+        Ok(path) => Ok(Some(path)),
+        Err(PathError::Memory) => Err(Memory),
+        Err(PathError::Fault(_)) => Ok(None),
+    }
+}
+
+/// The version whose escaped form the bytes are.
+pub(crate) fn read_version(alloc: Global, bytes: &[u8]) -> Result<Option<Version>, Memory>
+    ensures { IfOk result (λ found. found ≡ version_from bytes.now) }
+{
+    let Some(plain) = read_plain(alloc, bytes)? else {
+        return Ok(None);
+    };
+    match Version::parse(alloc, plain.as_str()) {
+        Ok(version) => Ok(Some(version)),
+        Err(VersionFault::Form) => Ok(None),
+        Err(VersionFault::Build) => Ok(None),
+        Err(VersionFault::TooLong) => Ok(None),
+        Err(VersionFault::Memory) => Err(Memory),
+    }
+}
+
+/// The text whose escaped form the bytes are.
+fn read_plain(alloc: Global, bytes: &[u8]) -> Result<Option<String>, Memory>
+    ensures { IfOk result (λ found. option_map string_bytes found ≡ plain_of bytes.now) }
+{
+    let Ok(text) = str::from_utf8(bytes) else {
+        return Ok(None);
+    };
+    match unescape(alloc, text) {
+        Ok(plain) => Ok(Some(plain)),
+        Err(EscapeFault::Upper) => Ok(None),
+        Err(EscapeFault::Bang) => Ok(None),
+        Err(EscapeFault::Memory) => Err(Memory),
+    }
+}

@@ -1,0 +1,109 @@
+//! What a GET asks for, by the rest of its target.
+ghost use Rattle.std.specs.Prelude.{◌≡◌, None, Some, IfOk, MatchOption};
+ghost use Rattle.percent_encoding.specs.Percent.{percent_decode as percent_decoded};
+ghost use Rattle.wire.specs.Query as spec;
+
+use crate::message::Memory;
+use crate::places::{cut, read_path, read_version};
+use crate::request::Query;
+use modpath::ModulePath;
+use modver::Version;
+use percent_encoding::percent_decode;
+use std::alloc::Global;
+
+/// A part of a version, which the ending of a name asks for.
+#[derive(Clone, Copy, Drop)]
+pub(crate) enum Part {
+    Info,
+    GoMod,
+    Zip,
+}
+
+/// The bytes, percent-decoded once.
+pub(crate) fn decoded(alloc: Global, bytes: &[u8]) -> Result<Vec<u8>, Memory>
+    ensures { IfOk result (λ text. text.items ≡ percent_decoded bytes.now) }
+{
+    let mut text = Vec::new(alloc);
+    percent_decode(bytes).append_to(&mut text)?;
+    Ok(text)
+}
+
+/// What a GET asks for by the rest behind the key. What follows a plain `-/` is asked of the shelf itself, all else of a
+/// module path.
+#[tactic(auto, unfolding(crate::specs::Query::query_of))]
+pub(crate) fn read_query(alloc: Global, rest: &[u8]) -> Result<Option<Query>, Memory>
+    ensures { IfOk result (λ found. found ≡ spec.query_of rest.now) }
+{
+    match rest.strip_prefix(b"-/") {
+        Some(behind) => Ok(read_own(&decoded(alloc, behind)?)),
+        None => read_asked(alloc, &decoded(alloc, rest)?),
+    }
+}
+
+/// What is asked of the shelf itself.
+fn read_own(text: &[u8]) -> Option<Query>
+    ensures { result ≡ spec.own_of text.now }
+{
+    if text == b"modules".as_slice() {
+        Some(Query::Modules)
+    } else {
+        None
+    }
+}
+
+/// What is asked of a module path.
+#[tactic(auto, unfolding(crate::specs::Query::asked_of))]
+fn read_asked(alloc: Global, text: &[u8]) -> Result<Option<Query>, Memory>
+    ensures { IfOk result (λ found. found ≡ spec.asked_of text.now) }
+{
+    let Some((path, asked)) = cut(text) else {
+        return Ok(None);
+    };
+    let Some(path) = read_path(alloc, path)? else {
+        return Ok(None);
+    };
+    match asked {
+        b"latest" => Ok(Some(Query::Latest { path })),
+        b"v/list" => Ok(Some(Query::List { path })),
+        _ => read_part(alloc, path, asked),
+    }
+}
+
+/// What is asked of a version.
+fn read_part(alloc: Global, path: ModulePath, asked: &[u8]) -> Result<Option<Query>, Memory>
+    ensures { IfOk result (λ found. found ≡ spec.part_of path asked.now) }
+{
+    let Some((name, part)) = split_part(asked) else {
+        return Ok(None);
+    };
+    let Some(version) = read_version(alloc, name)? else {
+        return Ok(None);
+    };
+    Ok(Some(query_for(part, path, version)))
+}
+
+/// A name behind `v/` without its last ending, and the part of a version that the ending asks for.
+fn split_part(asked: &[u8]) -> Option<(&[u8], Part)>
+    ensures { MatchOption result (spec.split_part asked.now ≡ None) (λ found. spec.split_part asked.now ≡ Some (found.0.now, found.1)) }
+{
+    let name = asked.strip_prefix(b"v/")?;
+    if let Some(version) = name.strip_suffix(b".info") {
+        return Some((version, Part::Info));
+    }
+    if let Some(version) = name.strip_suffix(b".mod") {
+        return Some((version, Part::GoMod));
+    }
+    let version = name.strip_suffix(b".zip")?;
+    Some((version, Part::Zip))
+}
+
+/// The query for a part of a version.
+fn query_for(part: Part, path: ModulePath, version: Version) -> Query
+    ensures { result ≡ spec.query_for part path version }
+{
+    match part {
+        Part::Info => Query::Info { path, version },
+        Part::GoMod => Query::GoMod { path, version },
+        Part::Zip => Query::Zip { path, version },
+    }
+}

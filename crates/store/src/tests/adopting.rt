@@ -108,7 +108,11 @@ fn rows_that_stand_for_no_world_are_refused(rt: HostRuntime) -> Result<(), Fail>
         "INSERT INTO access VALUES ('shortkey1234567', 'common', 0)",
         "UPDATE version SET path = 'example.com//lib'",
         "UPDATE version SET version = 'v1.0'",
+        "UPDATE version SET version = 'v2.0.0'",
+        "UPDATE version SET version = 'v0.0.0-20240229123456-0123456789ab'",
         "UPDATE version SET time = '2024-02-30T12:34:56Z'",
+        "UPDATE version SET mod = X''",
+        "UPDATE version SET path = 'example.com/other'",
         "DELETE FROM body",
     ];
     for sql in &table {
@@ -119,6 +123,23 @@ fn rows_that_stand_for_no_world_are_refused(rt: HostRuntime) -> Result<(), Fail>
             "{sql}"
         );
     }
+    Ok(())
+}
+
+/// The versions of a path doubled twelve times, which makes 4,096.
+const MOST: &str =
+    "INSERT INTO version SELECT id + 1, shelf, path, 'v1.' || (id + 1) || '.0', NULL, mod FROM version;INSERT INTO version SELECT id + 2, shelf, path, 'v1.' || (id + 2) || '.0', NULL, mod FROM version;INSERT INTO version SELECT id + 4, shelf, path, 'v1.' || (id + 4) || '.0', NULL, mod FROM version;INSERT INTO version SELECT id + 8, shelf, path, 'v1.' || (id + 8) || '.0', NULL, mod FROM version;INSERT INTO version SELECT id + 16, shelf, path, 'v1.' || (id + 16) || '.0', NULL, mod FROM version;INSERT INTO version SELECT id + 32, shelf, path, 'v1.' || (id + 32) || '.0', NULL, mod FROM version;INSERT INTO version SELECT id + 64, shelf, path, 'v1.' || (id + 64) || '.0', NULL, mod FROM version;INSERT INTO version SELECT id + 128, shelf, path, 'v1.' || (id + 128) || '.0', NULL, mod FROM version;INSERT INTO version SELECT id + 256, shelf, path, 'v1.' || (id + 256) || '.0', NULL, mod FROM version;INSERT INTO version SELECT id + 512, shelf, path, 'v1.' || (id + 512) || '.0', NULL, mod FROM version;INSERT INTO version SELECT id + 1024, shelf, path, 'v1.' || (id + 1024) || '.0', NULL, mod FROM version;INSERT INTO version SELECT id + 2048, shelf, path, 'v1.' || (id + 2048) || '.0', NULL, mod FROM version;INSERT INTO body SELECT id, X'' FROM version WHERE id <> 7";
+
+const ONE_MORE: &str =
+    "INSERT INTO version SELECT 1, shelf, path, 'v1.1.0', NULL, mod FROM version WHERE id = 7;INSERT INTO body VALUES (1, X'')";
+
+#[test]
+fn at_most_4096_versions_of_a_path_are_taken(rt: HostRuntime) -> Result<(), Fail> {
+    let alloc = rt.alloc();
+    let most = connection(alloc, &[TABLES, ROWS, MOST])?;
+    assert_eq!(rt; refusal(alloc, most), None);
+    let too_many = connection(alloc, &[TABLES, ROWS, MOST, ONE_MORE])?;
+    assert_eq!(rt; refusal(alloc, too_many), Some(Refusal::BadSchema));
     Ok(())
 }
 

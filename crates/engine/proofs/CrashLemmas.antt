@@ -1,7 +1,7 @@
 -- What a crash leaves after more messages.
 use Rattle.std.proofs.Common.{◌≡◌, List, [], ◌∷◌, ◌++◌, refl, sym, subst}
-use Rattle.shelf.specs.World.{World}
-use Rattle.shelf.specs.Store.{Shown}
+use Rattle.world.specs.World.{World}
+use Rattle.world.specs.Store.{Shown}
 use Rattle.engine.specs.Exchange.{Exchange, Outcome, Unserved, Met, Told, AllUnmet}
 use Rattle.engine.specs.Store.{LeavesTwo, world_at}
 

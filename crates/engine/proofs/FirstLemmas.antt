@@ -7,7 +7,7 @@ use Rattle.wire.specs.Framing.{Framing, IsUnfinished, view}
 use Rattle.wire.specs.declared.message.Message.{Message}
 use Rattle.wire.specs.declared.reply.Fixed.{Fixed}
 use Rattle.wire.proofs.StreamLemmas.{ReadsMessage-append}
-use Rattle.shelf.specs.Store.{Shown}
+use Rattle.world.specs.Store.{Shown}
 use Rattle.engine.specs.First.{First, Answers, Closes, IsFirst, TakesFirst, ServesFirst, first_bytes, first_status, first_exchanges}
 use Rattle.engine.specs.Exchange.{Exchange}
 use Rattle.engine.specs.Store.{GoesThrough}

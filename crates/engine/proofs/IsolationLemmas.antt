@@ -7,8 +7,8 @@ use Rattle.wire.specs.declared.reply.Fixed.TheVariants.{TooLarge, BadRequest, Un
 use Rattle.wire.proofs.StreamLemmas.{message_unique, no_message_at_end}
 use Rattle.shelf.specs.declared.reply.Reply.{Reply}
 use Rattle.shelf.specs.declared.reply.Answer.TheVariants.{Replied}
-use Rattle.shelf.specs.World.{World, IsWorld}
-use Rattle.shelf.specs.Store.{Shown}
+use Rattle.world.specs.World.{World, IsWorld}
+use Rattle.world.specs.Store.{Shown}
 use Rattle.shelf.proofs.Blind.{blind}
 use Rattle.engine.specs.Ask.{ask_of}
 use Rattle.engine.specs.First.{First, Answers, Closes, TakesFirst, ServesFirst, first_bytes, first_status, first_exchanges}

@@ -3,9 +3,10 @@ use Rattle.std.proofs.Common.{◌≡◌, ◌⊎◌, List, [], ◌∷◌, ◌++�
 use Rattle.shelf.specs.declared.ask.Event.{Event}
 use Rattle.shelf.specs.declared.reply.Answer.{Answer}
 use Rattle.shelf.specs.declared.reply.Answer.TheVariants.{Replied, Failed}
-use Rattle.shelf.specs.World.{World}
+use Rattle.world.specs.World.{World}
 use Rattle.shelf.specs.Machine.{after, Run, AnsweredOrIdle, MetDevice, world_after}
-use Rattle.shelf.specs.Store.{Shown, Runs, RunsAt}
+use Rattle.world.specs.Store.{Shown}
+use Rattle.shelf.specs.Runs.{Runs, RunsAt}
 
 run_more : (old mid new : World) (events more : List Event) (answers last : List Answer) → Run old events answers mid
     → Run mid more last new → Run old (events ++ more) (answers ++ last) new

@@ -5,7 +5,7 @@ use Rattle.std.proofs.KnownBytes.{Appends-trans, Consumes-trans, Consumes-nil}
 use Rattle.wire.specs.Framing.{Framing}
 use Rattle.wire.specs.declared.reply.Fixed.{Fixed}
 use Rattle.wire.proofs.StreamLemmas.{unfinished_nothing}
-use Rattle.shelf.specs.Store.{Shown}
+use Rattle.world.specs.Store.{Shown}
 use Rattle.engine.specs.Served.{Tells, IsClosing, closing_bytes, texts_of, Serves}
 use Rattle.engine.specs.Turn.{ReadsOn, Answered, CutShort, AnswersHeld, SoFar, Delivers}
 use Rattle.engine.specs.declared.fault.Io.{Io}

@@ -5,10 +5,10 @@ use Rattle.wire.specs.Message.{Request}
 use Rattle.shelf.specs.declared.ask.Ask.{Ask}
 use Rattle.shelf.specs.declared.reply.Reply.{Reply}
 use Rattle.shelf.specs.declared.reply.Reply.TheVariants.{Info, Versions, Paths}
-use Rattle.shelf.specs.declared.reply.StoreFault.{StoreFault}
-use Rattle.shelf.specs.World.{World}
+use Rattle.world.specs.declared.registry.StoreFault.{StoreFault}
+use Rattle.world.specs.World.{World}
 use Rattle.shelf.specs.Machine.{ask_reply, after_ask, HasBody}
-use Rattle.shelf.specs.Store.{Shown, Does, HasCause, GrewOrFull}
+use Rattle.world.specs.Store.{Shown, Does, HasCause, GrewOrFull}
 use Rattle.shelf.proofs.Changes.{bodies_change_nothing}
 use Rattle.engine.specs.Ask.{ask_of}
 use Rattle.engine.specs.Exchange.{Exchange, Outcome, Unserved, Met, Told, event_of, answer_of, AllUnmet}

@@ -5,7 +5,7 @@ use Rattle.std.proofs.KnownBytes.{Appends-trans, Appends-nil}
 use Rattle.std.proofs.lemmas.List.{map-append}
 use Rattle.std.proofs.lemmas.Grind.{flat_map-append}
 use Rattle.wire.specs.Message.{ReadsMessage, ReadsMessages}
-use Rattle.shelf.specs.Store.{Shown}
+use Rattle.world.specs.Store.{Shown}
 use Rattle.engine.specs.Exchange.{Exchange, message_of}
 use Rattle.engine.specs.Reply.{text_of}
 use Rattle.engine.specs.Served.{texts_of}

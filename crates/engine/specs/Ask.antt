@@ -18,7 +18,7 @@ use Rattle.shelf.specs.declared.ask.Ask.{Ask}
 use Rattle.shelf.specs.declared.ask.Ask.TheVariants as ask
 use Rattle.shelf.specs.declared.ask.Event.{Event}
 use Rattle.shelf.specs.declared.ask.Event.TheVariants.{Asked}
-use Rattle.shelf.specs.Forms.{is_time}
+use Rattle.world.specs.Forms.{is_time}
 
 -- `0`, or one to ten decimal digits of which the first is not 0
 abbrev pub is_length : List ℕ → Bool

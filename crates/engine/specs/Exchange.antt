@@ -5,8 +5,8 @@ use Rattle.shelf.specs.declared.ask.Event.{Event}
 use Rattle.shelf.specs.declared.reply.Answer.{Answer}
 use Rattle.shelf.specs.declared.reply.Answer.TheVariants.{Replied, Failed}
 use Rattle.shelf.specs.declared.reply.Reply.{Reply}
-use Rattle.shelf.specs.declared.reply.StoreFault.{StoreFault}
-use Rattle.shelf.specs.declared.reply.StoreFault.TheVariants.{Memory}
+use Rattle.world.specs.declared.registry.StoreFault.{StoreFault}
+use Rattle.world.specs.declared.registry.StoreFault.TheVariants.{Memory}
 use Rattle.engine.specs.Ask as spec
 
 pub data Outcome : Type 0 where

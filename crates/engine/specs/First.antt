@@ -5,7 +5,7 @@ use Rattle.wire.specs.Message.{ReadsMessage}
 use Rattle.wire.specs.Framing.{IsUnfinished}
 use Rattle.wire.specs.Reply.{status_number}
 use Rattle.wire.specs.declared.reply.Fixed.{Fixed}
-use Rattle.shelf.specs.Store.{Shown}
+use Rattle.world.specs.Store.{Shown}
 use Rattle.engine.specs.Exchange.{Exchange}
 use Rattle.engine.specs.Reply.{text_of, status_of}
 use Rattle.engine.specs.Store.{GoesThrough}

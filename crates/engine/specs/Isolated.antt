@@ -3,10 +3,10 @@ use Rattle.std.specs.Prelude.{◌≡◌, ◌≢◌, ℕ, List, Option, Some, tru
 use Rattle.std.specs.Io.KnownBytes.{Appends}
 use Rattle.wire.specs.Message.{Request, ReadsMessage}
 use Rattle.shelf.specs.declared.reply.Answer.TheVariants.{Replied}
-use Rattle.shelf.specs.World.{World, IsWorld}
+use Rattle.world.specs.World.{World, IsWorld}
 use Rattle.shelf.specs.Machine.{ask_reply, after_ask}
 use Rattle.shelf.specs.Isolation.{sees, belongs, key_of, Low}
-use Rattle.shelf.specs.Store.{Shown}
+use Rattle.world.specs.Store.{Shown}
 use Rattle.engine.specs.Ask.{ask_of}
 use Rattle.engine.specs.Reply.{bytes_of}
 use Rattle.engine.specs.declared.fault.Io.{Io}

@@ -8,7 +8,7 @@ use Rattle.wire.specs.declared.reply.Fixed.TheVariants as fixed
 use Rattle.wire.specs.declared.reply.Kind.TheVariants as kind
 use Rattle.wire.specs.declared.reply.Status.{Status}
 use Rattle.wire.specs.declared.reply.Status.TheVariants as status
-use Rattle.shelf.specs.Lines.{in_order, lines_of}
+use Rattle.world.specs.Lines.{in_order, lines_of}
 use Rattle.shelf.specs.declared.reply.Answer.{Answer}
 use Rattle.shelf.specs.declared.reply.Answer.TheVariants.{Replied, Failed}
 use Rattle.shelf.specs.declared.reply.Decision.{Decision}
@@ -17,7 +17,7 @@ use Rattle.shelf.specs.declared.reply.Refusal.{Refusal}
 use Rattle.shelf.specs.declared.reply.Refusal.TheVariants as refusal
 use Rattle.shelf.specs.declared.reply.Reply.{Reply}
 use Rattle.shelf.specs.declared.reply.Reply.TheVariants as reply
-use Rattle.shelf.specs.declared.reply.StoreFault.{StoreFault}
+use Rattle.world.specs.declared.registry.StoreFault.{StoreFault}
 use Rattle.engine.specs.Exchange.{Exchange, Outcome, Unserved, Met, Told, answer_of}
 use Rattle.engine.specs.declared.page.Page.{Page}
 use Rattle.engine.specs.declared.page.Page.TheVariants as page

@@ -7,7 +7,7 @@ use Rattle.wire.specs.Framing.{IsUnfinished}
 use Rattle.wire.specs.Reply.{fixed_bytes, fixed_status, status_number}
 use Rattle.wire.specs.declared.reply.Fixed.{Fixed}
 use Rattle.wire.specs.declared.reply.Fixed.TheVariants.{TooLarge, BadRequest, Unavailable}
-use Rattle.shelf.specs.Store.{Shown}
+use Rattle.world.specs.Store.{Shown}
 use Rattle.engine.specs.Exchange.{Exchange, message_of}
 use Rattle.engine.specs.Reply.{text_of}
 use Rattle.engine.specs.Store.{GoesThrough}

@@ -1,8 +1,9 @@
 -- What a store goes through while messages are answered.
 use Rattle.std.specs.Prelude.{◌≡◌, ℕ, ◌≤◌, List, [], ◌∷◌, map}
 use Rattle.shelf.specs.Machine.{after, world_after, MetDevice}
-use Rattle.shelf.specs.World.{World}
-use Rattle.shelf.specs.Store.{Shown, Runs, GrewOrFull}
+use Rattle.world.specs.World.{World}
+use Rattle.world.specs.Store.{Shown, GrewOrFull}
+use Rattle.shelf.specs.Runs.{Runs}
 use Rattle.engine.specs.Exchange.{Exchange, event_of, answer_of, IsUnmet, AllUnmet}
 
 -- where the machine is after the exchanges

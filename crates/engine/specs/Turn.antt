@@ -4,7 +4,7 @@ use Rattle.std.specs.Io.KnownBytes.{Consumes, Appends, Keeps}
 use Rattle.wire.specs.Message.{ReadsMessage, ReadsMessages}
 use Rattle.wire.specs.Framing.{Framing, IsUnfinished, HasMessage, view}
 use Rattle.wire.specs.declared.reply.Fixed.TheVariants as fixed
-use Rattle.shelf.specs.Store.{Shown}
+use Rattle.world.specs.Store.{Shown}
 use Rattle.engine.specs.Exchange.{Exchange, message_of}
 use Rattle.engine.specs.Reply.{text_of}
 use Rattle.engine.specs.Store.{GoesThrough}

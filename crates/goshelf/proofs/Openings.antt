@@ -7,21 +7,21 @@ use Rattle.std.specs.Ordering.{is_eq}
 use Rattle.std.specs.FinMap as map
 use Rattle.std.specs.FinSet as set
 use Rattle.std.proofs.lemmas.Bool.{and_parts, false_from_ne_true, not-true}
-use Rattle.shelf.specs.InMemory.{in_memory}
-use Rattle.shelf.specs.Machine.{team_added, after_team_add, key_added, after_key_add}
-use Rattle.shelf.specs.Names.{begins_lower, is_lower, is_digit}
-use Rattle.shelf.specs.Store.{Does}
-use Rattle.shelf.specs.World.{World, IsWorld, only_common, with_team, is_team_name, is_key, common, text_cmp}
-use Rattle.shelf.specs.declared.entry.Right.TheVariants.{Publishes}
-use Rattle.shelf.specs.declared.entry.Holder.{Holder}
-use Rattle.shelf.specs.declared.reply.Registered.{Registered}
-use Rattle.shelf.specs.declared.reply.Registered.TheVariants.{Done, Name, Taken, NoTeam}
-use Rattle.shelf.specs.declared.reply.StoreFault.{StoreFault}
-use Rattle.shelf.proofs.MapsDone.{team_done, key_done}
-use Rattle.shelf.proofs.MapsAnchor.{only_common_stands, has_nothing_else}
+use Rattle.world.specs.InMemory.{in_memory}
+use Rattle.world.specs.Registry.{team_added, after_team_add, key_added, after_key_add}
+use Rattle.world.specs.Names.{begins_lower, is_lower, is_digit}
+use Rattle.world.specs.Store.{Does}
+use Rattle.world.specs.World.{World, IsWorld, only_common, with_team, is_team_name, is_key, common, text_cmp}
+use Rattle.world.specs.declared.entry.Right.TheVariants.{Publishes}
+use Rattle.world.specs.declared.entry.Holder.{Holder}
+use Rattle.world.specs.declared.registry.Registered.{Registered}
+use Rattle.world.specs.declared.registry.Registered.TheVariants.{Done, Name, Taken, NoTeam}
+use Rattle.world.specs.declared.registry.StoreFault.{StoreFault}
+use Rattle.world.proofs.MapsDone.{team_done, key_done}
+use Rattle.world.proofs.OnlyCommon.{only_common_stands, has_nothing_else}
 use Rattle.shelf.proofs.Sound.{sound}
 use Rattle.shelf.specs.declared.ask.Event.TheVariants.{TeamAdd}
-use Rattle.shelf.proofs.Orders.{texts_total, text_apart}
+use Rattle.world.proofs.Orders.{texts_total, text_apart}
 use Rattle.engine.specs.Served.{Serves}
 use Rattle.engine.specs.declared.fault.Io.{Io as Failure}
 use Rattle.goshelf.specs.Opening.{ServedFrom, opening}

@@ -3,9 +3,9 @@ use Rattle.std.specs.Prelude.{ℕ, List, ◌≡◌, true, Option, Result, Ok, Er
 use Rattle.std.specs.Io.KnownBytes.{Keeps}
 use Rattle.engine.specs.Served.{Serves}
 use Rattle.engine.specs.declared.fault.Io.{Io as Failure}
-use Rattle.shelf.specs.InMemory.{in_memory}
-use Rattle.shelf.specs.World.{World, only_common, with_team, with_key, is_team_name, is_key}
-use Rattle.shelf.specs.declared.entry.Right.TheVariants.{Publishes}
+use Rattle.world.specs.InMemory.{in_memory}
+use Rattle.world.specs.World.{World, only_common, with_team, with_key, is_team_name, is_key}
+use Rattle.world.specs.declared.entry.Right.TheVariants.{Publishes}
 use Rattle.goshelf.specs.declared.refusal.Refusal.{Refusal}
 use Rattle.goshelf.specs.declared.refusal.Refusal.TheVariants.{Name, Memory, Io}
 

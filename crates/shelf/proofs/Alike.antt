@@ -3,19 +3,19 @@ use Rattle.std.proofs.Common.{◌≡◌, ℕ, List, Bool, true, false, refl, ◌
 use Rattle.std.specs.Prelude.{option_map, is_some}
 use Rattle.std.specs.FinSet as set
 use Rattle.modver.specs.SemanticVersion.{SemanticVersion, version_text}
-use Rattle.shelf.specs.declared.entry.Seen.{Seen}
-use Rattle.shelf.specs.declared.entry.Holder.{Holder}
+use Rattle.world.specs.declared.entry.Seen.{Seen}
+use Rattle.world.specs.declared.entry.Holder.{Holder}
 use Rattle.shelf.specs.declared.ask.Query.{Query}
 use Rattle.shelf.specs.declared.ask.Query.TheVariants as query
 use Rattle.shelf.specs.declared.ask.Publish.{Publish}
 use Rattle.shelf.specs.declared.reply.Reply.TheVariants as reply
-use Rattle.shelf.specs.World.{World, chain, view, count}
-use Rattle.shelf.specs.Lines.{in_order}
-use Rattle.shelf.specs.Visible.{versions_seen, paths_seen}
+use Rattle.world.specs.World.{World, chain, view, count}
+use Rattle.world.specs.Lines.{in_order}
+use Rattle.world.specs.Visible.{versions_seen, paths_seen}
 use Rattle.shelf.specs.Versions.{named, highest}
 use Rattle.shelf.specs.Machine.{decided, decision, gomod_of, entry_seen, versions_of, module_of, highest_left, latest_by, latest_of, latest_reply, query_reply, gomod_reply, zip_reply, info_reply, list_reply}
-use Rattle.shelf.proofs.Orders.{texts_total, texts_exact}
-use Rattle.shelf.proofs.Seen.{contains_versions, contains_paths}
+use Rattle.world.proofs.Orders.{texts_total, texts_exact}
+use Rattle.world.proofs.Seen.{contains_versions, contains_paths}
 use Rattle.shelf.proofs.Views.{SameSeen, sees_itself, view_same, count_same}
 
 module _ (w x : World) (s : List ℕ) (chains : chain w s ≡ chain x s) (same : SameSeen w x s) where

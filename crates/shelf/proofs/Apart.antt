@@ -4,10 +4,10 @@ use Rattle.std.specs.Prelude.{not, if◌then◌else◌}
 use Rattle.std.specs.FinMap as map
 use Rattle.std.specs.FinSet as set
 use Rattle.std.proofs.lemmas.Bool.{true≢false}
-use Rattle.shelf.specs.declared.entry.Place.{Place}
-use Rattle.shelf.specs.declared.entry.Entry.{Entry}
-use Rattle.shelf.specs.declared.entry.Holder.{Holder}
-use Rattle.shelf.specs.declared.entry.Right.{Right}
+use Rattle.world.specs.declared.entry.Place.{Place}
+use Rattle.world.specs.declared.entry.Entry.{Entry}
+use Rattle.world.specs.declared.entry.Holder.{Holder}
+use Rattle.world.specs.declared.entry.Right.{Right}
 use Rattle.shelf.specs.declared.ask.Query.{Query}
 use Rattle.shelf.specs.declared.ask.Publish.{Publish}
 use Rattle.shelf.specs.declared.ask.Ask.TheVariants.{Unreadable, Get, Put}
@@ -15,14 +15,15 @@ use Rattle.shelf.specs.declared.ask.Event.{Event}
 use Rattle.shelf.specs.declared.ask.Event.TheVariants.{Asked, TeamAdd, KeyAdd, KeyRevoke}
 use Rattle.shelf.specs.declared.reply.Decision.{Decision}
 use Rattle.shelf.specs.declared.reply.Decision.TheVariants.{Published}
-use Rattle.shelf.specs.declared.reply.Registered.{Registered}
-use Rattle.shelf.specs.declared.reply.Registered.TheVariants.{Done, Name, Taken, NoTeam, NoKey}
+use Rattle.world.specs.declared.registry.Registered.{Registered}
+use Rattle.world.specs.declared.registry.Registered.TheVariants.{Done, Name, Taken, NoTeam, NoKey}
 use Rattle.shelf.specs.declared.reply.Reply.{Reply}
 use Rattle.shelf.specs.declared.reply.Reply.TheVariants as reply
-use Rattle.shelf.specs.World.{World, IsWorld, place, is_team_name, is_key}
-use Rattle.shelf.specs.Machine.{decision, keyed_reply, after_decision, stored, offered, place_of, team_added, key_added, key_revoked, after_team_add, after_key_add, after_key_revoke, reply_to, after}
+use Rattle.world.specs.World.{World, IsWorld, place, is_team_name, is_key}
+use Rattle.shelf.specs.Machine.{decision, keyed_reply, after_decision, stored, offered, place_of, reply_to, after}
+use Rattle.world.specs.Registry.{team_added, key_added, key_revoked, after_team_add, after_key_add, after_key_revoke}
 use Rattle.shelf.specs.Isolation.{is_among, is_near, is_kept}
-use Rattle.shelf.proofs.Orders.{places_total, places_exact, get_put_both, get_elsewhere}
+use Rattle.world.proofs.Orders.{places_total, places_exact, get_put_both, get_elsewhere}
 use Rattle.shelf.proofs.Views.{SameOn, SameSeen}
 use Rattle.shelf.proofs.Alike.{decision_same, query_same}
 use Rattle.shelf.proofs.Chains.{Reaches}

@@ -3,20 +3,21 @@ use Rattle.std.proofs.Common.{◌≡◌, ℕ, List, true, cond, refl, ◌∙◌,
 use Rattle.std.specs.Prelude.{bytes_eq, is_some}
 use Rattle.std.specs.FinMap as map
 use Rattle.std.proofs.lemmas.Bool.{true≢false}
-use Rattle.shelf.specs.declared.entry.Place.{Place}
-use Rattle.shelf.specs.declared.entry.Entry.{Entry}
-use Rattle.shelf.specs.declared.entry.Holder.{Holder}
+use Rattle.world.specs.declared.entry.Place.{Place}
+use Rattle.world.specs.declared.entry.Entry.{Entry}
+use Rattle.world.specs.declared.entry.Holder.{Holder}
 use Rattle.shelf.specs.declared.ask.Query.{Query}
 use Rattle.shelf.specs.declared.ask.Publish.{Publish}
 use Rattle.shelf.specs.declared.ask.Ask.TheVariants.{Unreadable, Get, Put}
 use Rattle.shelf.specs.declared.reply.Decision.{Decision}
 use Rattle.shelf.specs.declared.reply.Decision.TheVariants.{Published}
 use Rattle.shelf.specs.declared.reply.Reply.TheVariants as reply
-use Rattle.shelf.specs.World.{World, IsWorld, place, on_shelf}
+use Rattle.world.specs.World.{World, IsWorld, place, on_shelf}
 use Rattle.shelf.specs.Machine.{decision, keyed_reply, after_decision, stored, offered, place_of, after_ask}
 use Rattle.shelf.specs.Isolation.{sees, belongs, Low, IsBlind}
-use Rattle.shelf.proofs.Orders.{places_total, places_exact, get_put_both, text_self, text_same}
-use Rattle.shelf.proofs.Views.{SameOn, SameSeen, guarded, test_alike, sees_through}
+use Rattle.world.proofs.Orders.{places_total, places_exact, get_put_both, text_self, text_same}
+use Rattle.shelf.proofs.Views.{SameOn, SameSeen, guarded, sees_through}
+use Rattle.world.proofs.Orders.{test_alike}
 use Rattle.shelf.proofs.Alike.{decision_same, query_same}
 
 -- ---- the entries of one shelf, whole and place by place

@@ -2,19 +2,20 @@
 use Rattle.std.proofs.Common.{◌≡◌, ℕ, List, [], ◌∷◌, refl, ap, Option, Some, None, inl, inr, ◌⊎◌}
 use Rattle.std.specs.Prelude.{pred}
 use Rattle.std.specs.FinMap as map
-use Rattle.shelf.specs.declared.entry.Right.{Right}
-use Rattle.shelf.specs.declared.entry.Holder.{Holder}
+use Rattle.world.specs.declared.entry.Right.{Right}
+use Rattle.world.specs.declared.entry.Holder.{Holder}
 use Rattle.shelf.specs.declared.ask.Publish.{Publish}
 use Rattle.shelf.specs.declared.ask.Ask.TheVariants.{Unreadable, Get, Put}
 use Rattle.shelf.specs.declared.ask.Event.TheVariants.{Asked, TeamAdd, KeyAdd, KeyRevoke}
 use Rattle.shelf.specs.declared.reply.Decision.{Decision}
 use Rattle.shelf.specs.declared.reply.Decision.TheVariants.{Published}
-use Rattle.shelf.specs.declared.reply.Registered.{Registered}
-use Rattle.shelf.specs.declared.reply.Registered.TheVariants.{Done}
+use Rattle.world.specs.declared.registry.Registered.{Registered}
+use Rattle.world.specs.declared.registry.Registered.TheVariants.{Done}
 use Rattle.shelf.specs.declared.reply.Reply.TheVariants as reply
 use Rattle.shelf.specs.declared.reply.Answer.TheVariants.{Replied, Failed}
-use Rattle.shelf.specs.World.{World}
-use Rattle.shelf.specs.Machine.{decision, after_decision, team_added, key_added, key_revoked, after_team_add, after_key_add, after_key_revoke, after}
+use Rattle.world.specs.World.{World}
+use Rattle.shelf.specs.Machine.{decision, after_decision, after}
+use Rattle.world.specs.Registry.{team_added, key_added, key_revoked, after_team_add, after_key_add, after_key_revoke}
 use Rattle.shelf.specs.Laws.{BodiesChangeNothing, IsChange, OnlyChangesChange, RunsAreCut, RunsAreJoined}
 use Rattle.shelf.proofs.Runs.{run_more}
 

@@ -1,38 +1,38 @@
 -- What the outcome of the checks of a publish says of each of them.
 use Rattle.std.proofs.Common.{◌≡◌, ℕ, ◌<◌, List, [], ◌∷◌, ◌++◌, Bool, true, false, cond, refl, ◌∙◌, sym, ap, subst, Option, Some, None, length}
-use Rattle.std.specs.Prelude.{bytes_eq, ◌&&◌, not, is_none, is_some, is_ok, Ok, Err, Result, ⊤, option_map, unwrap_or, nat_lt, nat_le}
+use Rattle.std.specs.Prelude.{bytes_eq, ◌&&◌, not, is_none, is_some, option_map, unwrap_or, nat_lt, nat_le}
 use Rattle.std.specs.List.{list_any}
 use Rattle.std.specs.Option.{option_or}
 use Rattle.std.specs.FinMap as map
 use Rattle.std.specs.FinSet as set
 use Rattle.std.proofs.lemmas.Bool.{true≢false, and_parts, or_parts, not-false, ltb-false, leb-false}
-use Rattle.modpath.specs.declared.path.PathFault.{PathFault}
-use Rattle.modpath.specs.Path.{path_check, passed, IsPath, is_path}
+use Rattle.modpath.specs.Path.{is_path}
 use Rattle.modver.specs.SemanticVersion.{is_version, version_text}
 use Rattle.modver.proofs.Readings.{is-version}
 use Rattle.modver.specs.Class.{class_of}
 use Rattle.modver.specs.Time.{has_time_form, is_moment}
 use Rattle.modver.specs.declared.version.Class.{Class}
 use Rattle.modver.specs.declared.version.Class.TheVariants as class
-use Rattle.shelf.specs.declared.entry.Entry.{Entry}
-use Rattle.shelf.specs.declared.entry.Seen.{Seen}
-use Rattle.shelf.specs.declared.entry.Holder.{Holder}
-use Rattle.shelf.specs.declared.entry.Right.{Right}
-use Rattle.shelf.specs.declared.entry.Right.TheVariants.{Reads, Publishes}
+use Rattle.world.specs.declared.entry.Entry.{Entry}
+use Rattle.world.specs.declared.entry.Seen.{Seen}
+use Rattle.world.specs.declared.entry.Holder.{Holder}
+use Rattle.world.specs.declared.entry.Right.{Right}
+use Rattle.world.specs.declared.entry.Right.TheVariants.{Reads, Publishes}
 use Rattle.shelf.specs.declared.ask.Body.{Body}
 use Rattle.shelf.specs.declared.ask.GivenTime.{GivenTime}
 use Rattle.shelf.specs.declared.ask.GivenTime.TheVariants.{Absent, At, Malformed}
 use Rattle.shelf.specs.declared.ask.Publish.{Publish}
-use Rattle.shelf.specs.declared.reading.Reading.{Reading}
-use Rattle.shelf.specs.declared.reading.Reading.TheVariants.{Module, Fault}
+use Rattle.world.specs.declared.reading.Reading.{Reading}
+use Rattle.world.specs.declared.reading.Reading.TheVariants.{Module, Fault}
 use Rattle.shelf.specs.declared.reply.Decision.{Decision}
 use Rattle.shelf.specs.declared.reply.Decision.TheVariants.{Published, Same, Conflict, Full}
-use Rattle.shelf.specs.Forms.{is_time, fits, suffix_of}
-use Rattle.shelf.specs.GoMods.{reading_of, IsGoModOf}
-use Rattle.shelf.specs.World.{World, IsEntry, IsTimeOf, common, seen_at, first_on, view, count, gomod_limit, zip_limit, version_limit}
+use Rattle.world.specs.Forms.{is_time, fits, suffix_of}
+use Rattle.world.specs.GoMods.{reading_of, IsGoModOf}
+use Rattle.world.specs.World.{World, IsEntry, IsTimeOf, common, seen_at, first_on, view, count, gomod_limit, zip_limit, version_limit}
 use Rattle.shelf.specs.Machine.{first_failing, is_readable, may_publish, is_too_large, is_bad_time, entry_time, entry_of, has_fault, names_other, has_more, gomod_of, is_same, offered, request_checks, gomod_checks, shelf_checks, decided, entry_seen, decision, place_of}
-use Rattle.shelf.specs.Store.{IsRoomFor}
-use Rattle.shelf.proofs.Orders.{text_same}
+use Rattle.world.specs.Store.{IsRoomFor}
+use Rattle.world.proofs.PathForm.{path_form}
+use Rattle.world.proofs.Orders.{text_same}
 
 -- ---- one list of checks after another
 
@@ -101,13 +101,6 @@ is_same_answer Same = true
 is_same_answer d = false
 
 -- ---- forms
-
-passes : (c : Result ⊤ PathFault) → is_ok c ≡ true → c ≡ passed
-passes (Ok tt) e = refl
-passes (Err f) e = absurd (true≢false (sym e))
-
-pub path_form : (t : List ℕ) → is_path t ≡ true → IsPath t
-path_form t e = passes (path_check t) e
 
 -- the time of an entry is that of its version
 time_form : (c : Class) (given : GivenTime) → is_bad_time given ≡ false → IsTimeOf c (entry_time c given)

@@ -3,12 +3,12 @@ use Rattle.std.proofs.Common.{◌≡◌, ℕ, List, [], ◌∷◌, Bool, true, f
 use Rattle.std.specs.Prelude.{suc}
 use Rattle.std.specs.FinMap as map
 use Rattle.std.proofs.lemmas.Bool.{true≢false}
-use Rattle.shelf.specs.declared.entry.Holder.{Holder}
+use Rattle.world.specs.declared.entry.Holder.{Holder}
 use Rattle.shelf.specs.declared.ask.Event.{Event}
 use Rattle.shelf.specs.declared.reply.Reply.{Reply}
 use Rattle.shelf.specs.declared.reply.Answer.{Answer}
 use Rattle.shelf.specs.declared.reply.Answer.TheVariants.{Replied, Failed}
-use Rattle.shelf.specs.World.{World, IsWorld, chain}
+use Rattle.world.specs.World.{World, IsWorld, chain}
 use Rattle.shelf.specs.Machine.{reply_to, after, replies, Run, answered, replies_of}
 use Rattle.shelf.specs.Isolation.{is_among, is_near, is_near_key, asking_key, is_kept, kept, marked, purge, IsAnsweredIfKept, KeptAnswered, AllReplied, IsIsolated, PurgeIsTheSame, PurgedRunsAgree, FaultyRunsAgree, MarksAreAsLong, MarksAreAtTheirMoment, OnlyOthersGo}
 use Rattle.shelf.proofs.Sound.{sound}

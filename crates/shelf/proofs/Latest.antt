@@ -10,16 +10,16 @@ use Rattle.latest.specs.Latest.{Versions, IsTop, among}
 use Rattle.latest.specs.Latest as latest
 use Rattle.latest.proofs.Scans.{top_one}
 use Rattle.modver.specs.SemanticVersion.{SemanticVersion, version_text}
-use Rattle.shelf.specs.declared.entry.Seen.{Seen}
+use Rattle.world.specs.declared.entry.Seen.{Seen}
 use Rattle.shelf.specs.declared.ask.Query.TheVariants as query
-use Rattle.shelf.specs.declared.reading.Reading.{Reading}
-use Rattle.shelf.specs.declared.reading.Reading.TheVariants.{Module, Fault}
+use Rattle.world.specs.declared.reading.Reading.{Reading}
+use Rattle.world.specs.declared.reading.Reading.TheVariants.{Module, Fault}
 use Rattle.shelf.specs.declared.reply.Reply.TheVariants as reply
-use Rattle.shelf.specs.GoMods.{Says, told, reading_of, module_told}
+use Rattle.world.specs.GoMods.{Says, told, reading_of, module_told}
 use Rattle.shelf.specs.Machine.{versions_of, module_of, highest_left, latest_by, latest_of, latest_reply, info_reply, query_reply}
 use Rattle.shelf.specs.PathLaws.{IsSeen, seen_versions, HighestSays, unretracted_versions, LatestIsTheTop, NoneIsLatest, HasTime, LatestIsTold, LatestIsNotFound}
 use Rattle.shelf.specs.Versions.{AllOf, highest, unretracted}
-use Rattle.shelf.specs.World.{World, IsWorld, view}
+use Rattle.world.specs.World.{World, IsWorld, view}
 use Rattle.shelf.proofs.Members.{no_member}
 use Rattle.shelf.proofs.Highest.{none_highest, highest_top, left}
 use Rattle.shelf.proofs.Told.{entry_at, seen_members, versions_fit}

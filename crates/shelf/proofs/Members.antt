@@ -10,9 +10,9 @@ use Rattle.std.specs.declared.cmp.Ordering.TheVariants.{Less, Equal, Greater}
 use Rattle.std.proofs.lemmas.List.Folds.{Any-from_list_any, list_any-from_Any}
 use Rattle.std.proofs.lemmas.Map.Views.{tells_apart}
 use lib.Dec.{T}
-use Rattle.shelf.specs.Lines.{in_order}
+use Rattle.world.specs.Lines.{in_order}
 use Rattle.shelf.specs.PathLaws.{EachToNext}
-use Rattle.shelf.proofs.InOrder.{in_order-members}
+use Rattle.world.proofs.InOrder.{in_order-members}
 
 -- ---- lists
 

@@ -1,14 +1,14 @@
 -- The latest version of a path, by what was read of a world.
-use Rattle.std.proofs.Common.{◌≡◌, ℕ, List, refl, sym, ap, subst, ◌∙◌, Option, Some, None}
+use Rattle.std.proofs.Common.{◌≡◌, ℕ, List, sym, ap, subst, ◌∙◌, Option, Some, None}
 use Rattle.std.specs.FinSet as set
 use Rattle.gomod.specs.Module.{GoModule}
 use Rattle.modver.specs.SemanticVersion.{SemanticVersion, version_text}
-use Rattle.shelf.specs.declared.entry.Seen.{Seen}
-use Rattle.shelf.specs.Lines.{in_order}
+use Rattle.world.specs.declared.entry.Seen.{Seen}
+use Rattle.world.specs.Lines.{in_order}
 use Rattle.shelf.specs.Machine.{versions_of, module_of, highest_left, latest_by, latest_of}
 use Rattle.shelf.specs.Versions.{AllOf, named, highest}
-use Rattle.shelf.specs.Visible.{versions_seen}
-use Rattle.shelf.specs.World.{World, IsWorld, text_cmp, view}
+use Rattle.world.specs.Visible.{versions_seen}
+use Rattle.world.specs.World.{World, IsWorld, text_cmp, view}
 use Rattle.shelf.proofs.Told.{versions_fit}
 
 -- the versions of a path were read

@@ -4,11 +4,11 @@ use Rattle.std.specs.Prelude.{option_map}
 use Rattle.std.specs.FinMap as map
 use Rattle.std.specs.FinSet as set
 use Rattle.std.proofs.lemmas.Bool.{and_from}
-use Rattle.shelf.specs.declared.entry.Place.{Place}
-use Rattle.shelf.specs.declared.entry.Entry.{Entry}
-use Rattle.shelf.specs.declared.entry.Seen.{Seen}
-use Rattle.shelf.specs.declared.entry.Holder.{Holder}
-use Rattle.shelf.specs.declared.entry.Right.TheVariants.{Publishes}
+use Rattle.world.specs.declared.entry.Place.{Place}
+use Rattle.world.specs.declared.entry.Entry.{Entry}
+use Rattle.world.specs.declared.entry.Seen.{Seen}
+use Rattle.world.specs.declared.entry.Holder.{Holder}
+use Rattle.world.specs.declared.entry.Right.TheVariants.{Publishes}
 use Rattle.shelf.specs.declared.ask.Publish.{Publish}
 use Rattle.shelf.specs.declared.ask.Ask.TheVariants.{Put}
 use Rattle.shelf.specs.declared.ask.Event.{Event}
@@ -19,11 +19,11 @@ use Rattle.shelf.specs.declared.reply.Reply.{Reply}
 use Rattle.shelf.specs.declared.reply.Reply.TheVariants as reply
 use Rattle.shelf.specs.declared.reply.Answer.{Answer}
 use Rattle.shelf.specs.declared.reply.Answer.TheVariants.{Replied, Failed}
-use Rattle.shelf.specs.World.{World, IsWorld, count}
+use Rattle.world.specs.World.{World, IsWorld, count}
 use Rattle.shelf.specs.Machine.{decision, gomod_of, same_time, same_entry, is_same, offered, entry_seen, after_decision, stored, place_of, after, Run}
 use Rattle.shelf.specs.Isolation.{belongs}
 use Rattle.shelf.specs.Immutability.{IsAccepted, IsAcceptance, AllAccepted, AllSameOrFailed, puts, RepeatedListChangesNothing}
-use Rattle.shelf.proofs.Orders.{text_self}
+use Rattle.world.proofs.Orders.{text_self}
 use Rattle.shelf.proofs.Checks.{same_decided}
 use Rattle.shelf.proofs.Sound.{sound}
 use Rattle.shelf.proofs.Chains.{stands_after, stands_through}

@@ -4,10 +4,11 @@ use Rattle.std.proofs.lemmas.List.{take_more}
 use Rattle.shelf.specs.declared.ask.Event.{Event}
 use Rattle.shelf.specs.declared.reply.Answer.{Answer}
 use Rattle.shelf.specs.declared.reply.Answer.TheVariants.{Replied, Failed}
-use Rattle.shelf.specs.World.{World}
-use Rattle.shelf.specs.declared.reply.StoreFault.TheVariants.{Device}
+use Rattle.world.specs.World.{World}
+use Rattle.world.specs.declared.registry.StoreFault.TheVariants.{Device}
 use Rattle.shelf.specs.Machine.{after, Run, AnsweredOrIdle, MetDevice, world_after}
-use Rattle.shelf.specs.Store.{Shown, Runs, RunsAt, GrewOrFull}
+use Rattle.world.specs.Store.{Shown, GrewOrFull}
+use Rattle.shelf.specs.Runs.{Runs, RunsAt}
 
 pub run_more : (old mid new : World) (events more : List Event) (answers last : List Answer) → Run old events answers mid → Run mid more last new → Run old (events ++ more) (answers ++ last) new
 run_more old mid new [] more [] last run next = subst (λ w. Run w more last new) run next

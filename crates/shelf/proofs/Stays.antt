@@ -6,25 +6,26 @@ use Rattle.std.specs.FinMap as map
 use Rattle.std.specs.FinSet as set
 use Rattle.std.proofs.lemmas.Bool.{true≢false, or_right}
 use Rattle.modver.specs.SemanticVersion.{version_text}
-use Rattle.shelf.specs.declared.entry.Place.{Place}
-use Rattle.shelf.specs.declared.entry.Entry.{Entry}
-use Rattle.shelf.specs.declared.entry.Seen.{Seen}
-use Rattle.shelf.specs.declared.entry.Holder.{Holder}
-use Rattle.shelf.specs.declared.entry.Right.{Right}
+use Rattle.world.specs.declared.entry.Place.{Place}
+use Rattle.world.specs.declared.entry.Entry.{Entry}
+use Rattle.world.specs.declared.entry.Seen.{Seen}
+use Rattle.world.specs.declared.entry.Holder.{Holder}
+use Rattle.world.specs.declared.entry.Right.{Right}
 use Rattle.shelf.specs.declared.ask.Publish.{Publish}
 use Rattle.shelf.specs.declared.ask.Ask.TheVariants.{Unreadable, Get, Put}
 use Rattle.shelf.specs.declared.ask.Event.{Event}
 use Rattle.shelf.specs.declared.ask.Event.TheVariants.{Asked, TeamAdd, KeyAdd, KeyRevoke}
 use Rattle.shelf.specs.declared.reply.Decision.{Decision}
 use Rattle.shelf.specs.declared.reply.Decision.TheVariants.{Published}
-use Rattle.shelf.specs.declared.reply.Registered.{Registered}
-use Rattle.shelf.specs.declared.reply.Registered.TheVariants.{Done}
+use Rattle.world.specs.declared.registry.Registered.{Registered}
+use Rattle.world.specs.declared.registry.Registered.TheVariants.{Done}
 use Rattle.shelf.specs.declared.reply.Answer.{Answer}
 use Rattle.shelf.specs.declared.reply.Answer.TheVariants.{Replied, Failed}
-use Rattle.shelf.specs.World.{World, chain, place, seen_at, first_on, view, with_entry}
-use Rattle.shelf.specs.Machine.{decision, after_decision, stored, offered, place_of, team_added, key_added, key_revoked, after_team_add, after_key_add, after_key_revoke, after, Run}
+use Rattle.world.specs.World.{World, chain, place, seen_at, first_on, view, with_entry}
+use Rattle.shelf.specs.Machine.{decision, after_decision, stored, offered, place_of, after, Run}
+use Rattle.world.specs.Registry.{team_added, key_added, key_revoked, after_team_add, after_key_add, after_key_revoke}
 use Rattle.shelf.specs.Isolation.{is_among, sees}
-use Rattle.shelf.proofs.Orders.{places_total, places_exact, get_elsewhere, text_self, text_same, text_apart}
+use Rattle.world.proofs.Orders.{places_total, places_exact, get_elsewhere, text_self, text_same, text_apart}
 use Rattle.shelf.proofs.Views.{sees_itself, sees_common, only_common, view_same}
 use Rattle.shelf.proofs.Chains.{stands_after}
 use Rattle.shelf.proofs.Checks.{unseen}

@@ -20,18 +20,18 @@ use Rattle.modver.specs.declared.version.Class.TheVariants as class
 use Rattle.modver.proofs.Readings.{text-one, version-of}
 use Rattle.modver.proofs.StrictOrders.{precedence-tied}
 use Rattle.modpath.specs.Path.{suffix_of}
-use Rattle.shelf.specs.declared.entry.Seen.{Seen}
+use Rattle.world.specs.declared.entry.Seen.{Seen}
 use Rattle.shelf.specs.declared.reply.Reply.TheVariants as reply
-use Rattle.shelf.specs.Lines.{in_order}
+use Rattle.world.specs.Lines.{in_order}
 use Rattle.shelf.specs.Machine.{versions_of, list_reply}
 use Rattle.shelf.specs.PathLaws.{IsSeen, VersionsAreSeen, PathsAreSeen, PathsAreTold, EachToNext, seen_versions, IsListed, AreListed, ListIsTold, ListIsNotFound}
 use Rattle.shelf.specs.Versions.{AllOf, with_version, named, version_cmp, versions_total, is_listed, listed}
-use Rattle.shelf.specs.Visible.{versions_seen, paths_seen}
-use Rattle.shelf.specs.World.{World, IsWorld, IsEntry, chain, place, seen_at, first_on, view, text_cmp}
-use Rattle.shelf.proofs.Orders.{texts_total, texts_exact}
+use Rattle.world.specs.Visible.{versions_seen, paths_seen}
+use Rattle.world.specs.World.{World, IsWorld, IsEntry, chain, place, seen_at, first_on, view, text_cmp}
+use Rattle.world.proofs.Orders.{texts_total, texts_exact}
 use Rattle.shelf.proofs.VersionOrder.{versions_exact}
 use Rattle.shelf.proofs.Members.{no_member, first_member, later_member, member_cases, in_order_rises, in_order_of, in_set_of}
-use Rattle.shelf.proofs.Seen.{contains_versions, contains_paths}
+use Rattle.world.proofs.Seen.{contains_versions, contains_paths}
 
 -- ---- what is seen
 

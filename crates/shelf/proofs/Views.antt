@@ -2,13 +2,12 @@
 use Rattle.std.proofs.Common.{◌≡◌, ℕ, List, [], ◌∷◌, Bool, true, false, cond, refl, ◌∙◌, sym, ap, subst, Option, None, inl, inr, ◌⊎◌}
 use Rattle.std.specs.Prelude.{bytes_eq, ◌&&◌, ◌||◌}
 use Rattle.std.specs.Option.{option_or}
-use Rattle.std.specs.declared.cmp.Ordering.TheVariants.{Equal}
 use Rattle.std.specs.FinMap as map
 use Rattle.std.proofs.lemmas.Bool.{true≢false, and_parts, or_cases, or_right}
-use Rattle.shelf.specs.declared.entry.Place.{Place}
-use Rattle.shelf.specs.World.{World, IsWorld, common, chain, place, place_cmp, seen_at, first_on, view, count}
+use Rattle.world.specs.declared.entry.Place.{Place}
+use Rattle.world.specs.World.{World, IsWorld, common, chain, place, seen_at, first_on, view, count}
 use Rattle.shelf.specs.Isolation.{is_among, sees}
-use Rattle.shelf.proofs.Orders.{places_total, places_exact, text_self, text_same}
+use Rattle.world.proofs.Orders.{places_total, places_exact, test_alike, text_self, text_same}
 
 -- ---- which shelves a shelf sees
 
@@ -51,10 +50,6 @@ first_on_same w x (s ∷ ss) p v same =
 
 pub view_same : (w x : World) (s p v : List ℕ) → chain w s ≡ chain x s → SameSeen w x s → view w s p v ≡ view x s p v
 view_same w x s p v chains same = first_on_same w x (chain w s) p v same ∙ ap (λ ss. first_on x ss p v) chains
-
--- places that tie are one, so a test answers alike at both
-pub test_alike : (f : Place → Bool) (q x : Place) → place_cmp q x ≡ Equal → f x ≡ f q
-test_alike f q x e = ap f (sym (places_exact q x e))
 
 pub guarded : {A : Type 0} (b : Bool) (x y : Option A) → (b ≡ true → x ≡ y) → cond b x None ≡ cond b y None
 guarded true x y same = same refl

@@ -1,7 +1,7 @@
 -- What was served or accepted once is served for good.
 use Rattle.std.specs.Prelude.{ℕ, ◌≡◌, ◌⊎◌, List, [], ◌∷◌, Some}
 use Rattle.std.specs.FinMap as map
-use Rattle.shelf.specs.declared.entry.Right.TheVariants.{Publishes}
+use Rattle.world.specs.declared.entry.Right.TheVariants.{Publishes}
 use Rattle.shelf.specs.declared.ask.Query.{Query}
 use Rattle.shelf.specs.declared.ask.Query.TheVariants as query
 use Rattle.shelf.specs.declared.ask.Body.{Body}
@@ -15,7 +15,7 @@ use Rattle.shelf.specs.declared.reply.Reply.{Reply}
 use Rattle.shelf.specs.declared.reply.Reply.TheVariants as reply
 use Rattle.shelf.specs.declared.reply.Answer.{Answer}
 use Rattle.shelf.specs.declared.reply.Answer.TheVariants.{Replied, Failed}
-use Rattle.shelf.specs.World.{World, IsWorld}
+use Rattle.world.specs.World.{World, IsWorld}
 use Rattle.shelf.specs.Machine.{Run, entry_of}
 use Rattle.shelf.specs.Isolation.{belongs}
 

@@ -2,14 +2,14 @@
 use Rattle.std.specs.Prelude.{ℕ, ◌≡◌, List, [], ◌∷◌, ◌++◌, length, Bool, true, false, Option, Some, None, bytes_eq, ◌↔◌}
 use Rattle.std.specs.List.{list_any}
 use Rattle.std.specs.FinMap as map
-use Rattle.shelf.specs.declared.entry.Holder.{Holder}
+use Rattle.world.specs.declared.entry.Holder.{Holder}
 use Rattle.shelf.specs.declared.ask.Ask.{Ask}
 use Rattle.shelf.specs.declared.ask.Ask.TheVariants.{Unreadable, Get, Put}
 use Rattle.shelf.specs.declared.ask.Event.{Event}
 use Rattle.shelf.specs.declared.ask.Event.TheVariants.{Asked}
 use Rattle.shelf.specs.declared.reply.Answer.{Answer}
 use Rattle.shelf.specs.declared.reply.Answer.TheVariants.{Replied, Failed}
-use Rattle.shelf.specs.World.{World, IsWorld, chain, on_shelf}
+use Rattle.world.specs.World.{World, IsWorld, chain, on_shelf}
 use Rattle.shelf.specs.Machine.{after, after_all, ask_reply, after_ask, replies, Run, answered, replies_of}
 
 -- ---- whose a request is

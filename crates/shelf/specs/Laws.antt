@@ -3,11 +3,11 @@ use Rattle.std.specs.Prelude.{◌≡◌, ◌⊎◌, List, ◌++◌, length}
 use Rattle.shelf.specs.declared.ask.Ask.{Ask}
 use Rattle.shelf.specs.declared.ask.Event.{Event}
 use Rattle.shelf.specs.declared.reply.Decision.TheVariants.{Published}
-use Rattle.shelf.specs.declared.reply.Registered.TheVariants.{Done}
+use Rattle.world.specs.declared.registry.Registered.TheVariants.{Done}
 use Rattle.shelf.specs.declared.reply.Reply.{Reply}
 use Rattle.shelf.specs.declared.reply.Reply.TheVariants as reply
 use Rattle.shelf.specs.declared.reply.Answer.{Answer}
-use Rattle.shelf.specs.World.{World, IsWorld}
+use Rattle.world.specs.World.{World, IsWorld}
 use Rattle.shelf.specs.Machine.{ask_reply, after_ask, reply_to, after, HasBody, Run}
 
 -- Each event leads from a world to a world.

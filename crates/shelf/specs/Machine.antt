@@ -1,14 +1,13 @@
 -- The machine: the reply to each event and the world after it, alone and in a list.
 use Rattle.std.specs.Prelude.{ℕ, ◌≡◌, ◌⊎◌, List, [], ◌∷◌, ◌++◌, Bool, true, false, not, ◌&&◌, ◌||◌, if◌then◌else◌, nat_le, nat_lt, length, Option, Some, None, is_some, is_none, option_map, unwrap_or, bytes_eq}
 use Rattle.std.specs.FinMap as map
-use Rattle.std.specs.FinSet as set
 use Rattle.modver.specs.SemanticVersion.{version_text}
-use Rattle.shelf.specs.declared.entry.Place.{Place}
-use Rattle.shelf.specs.declared.entry.Entry.{Entry}
-use Rattle.shelf.specs.declared.entry.Seen.{Seen}
-use Rattle.shelf.specs.declared.entry.Holder.{Holder}
-use Rattle.shelf.specs.declared.entry.Right.{Right}
-use Rattle.shelf.specs.declared.entry.Right.TheVariants.{Reads, Publishes}
+use Rattle.world.specs.declared.entry.Place.{Place}
+use Rattle.world.specs.declared.entry.Entry.{Entry}
+use Rattle.world.specs.declared.entry.Seen.{Seen}
+use Rattle.world.specs.declared.entry.Holder.{Holder}
+use Rattle.world.specs.declared.entry.Right.{Right}
+use Rattle.world.specs.declared.entry.Right.TheVariants.{Reads, Publishes}
 use Rattle.shelf.specs.declared.ask.Query.{Query}
 use Rattle.shelf.specs.declared.ask.Query.TheVariants as query
 use Rattle.shelf.specs.declared.ask.GivenTime.{GivenTime}
@@ -22,26 +21,25 @@ use Rattle.shelf.specs.declared.ask.Event.TheVariants.{Asked, TeamAdd, KeyAdd, K
 use Rattle.shelf.specs.declared.reply.Decision.{Decision}
 use Rattle.shelf.specs.declared.reply.Decision.TheVariants.{Published, Same, NotFound, Forbidden, BadLength, TooLarge, Refused, Conflict, Full}
 use Rattle.shelf.specs.declared.reply.Refusal.TheVariants as refusal
-use Rattle.shelf.specs.declared.reply.Registered.{Registered}
-use Rattle.shelf.specs.declared.reply.Registered.TheVariants.{Done, Name, Taken, NoTeam, NoKey}
 use Rattle.shelf.specs.declared.reply.Reply.TheVariants as reply
 use Rattle.shelf.specs.declared.reply.Reply.{Reply}
 use Rattle.shelf.specs.declared.reply.Answer.{Answer}
 use Rattle.shelf.specs.declared.reply.Answer.TheVariants.{Replied, Failed}
-use Rattle.shelf.specs.declared.reply.StoreFault.TheVariants.{Device}
+use Rattle.world.specs.declared.registry.StoreFault.TheVariants.{Device}
 use Rattle.gomod.specs.Module.{GoModule}
 use Rattle.modver.specs.Class.{class_of}
 use Rattle.modver.specs.SemanticVersion.{SemanticVersion}
 use Rattle.modver.specs.declared.version.Class.{Class}
 use Rattle.modver.specs.declared.version.Class.TheVariants as class
-use Rattle.shelf.specs.declared.reading.Reading.{Reading}
-use Rattle.shelf.specs.declared.reading.Reading.TheVariants.{Module, Fault}
-use Rattle.shelf.specs.Forms.{is_path, is_version, is_time, fits, suffix_of}
-use Rattle.shelf.specs.GoMods.{reading_of, module_told}
-use Rattle.shelf.specs.Lines.{in_order}
+use Rattle.world.specs.declared.reading.Reading.{Reading}
+use Rattle.world.specs.declared.reading.Reading.TheVariants.{Module, Fault}
+use Rattle.world.specs.Forms.{is_path, is_version, is_time, fits, suffix_of}
+use Rattle.world.specs.GoMods.{reading_of, module_told}
+use Rattle.world.specs.Lines.{in_order}
+use Rattle.world.specs.Registry.{team_added, key_added, key_revoked, after_team_add, after_key_add, after_key_revoke}
 use Rattle.shelf.specs.Versions.{named, listed, highest, unretracted}
-use Rattle.shelf.specs.Visible.{versions_seen, paths_seen}
-use Rattle.shelf.specs.World.{World, is_team_name, is_key, gomod_limit, zip_limit, version_limit, place, view, count, with_entry, with_key, without_key, with_team}
+use Rattle.world.specs.Visible.{versions_seen, paths_seen}
+use Rattle.world.specs.World.{World, gomod_limit, zip_limit, version_limit, place, view, count, with_entry}
 
 -- ---- the checks of a publish
 
@@ -263,29 +261,6 @@ abbrev pub after_ask : World → Ask → World
 after_ask w Unreadable = w
 after_ask w (Get k q) = w
 after_ask w (Put k p) = after_decision w (map.get w.keys k) p (decision w (map.get w.keys k) p)
-
--- ---- the registry
-
-abbrev pub team_added : World → List ℕ → Registered
-team_added w t = if not (is_team_name t) then Name else if set.contains w.shelves t then Taken else Done
-
-abbrev pub key_added : World → List ℕ → List ℕ → Registered
-key_added w s k = if not (is_key k) then Name else if not (set.contains w.shelves s) then NoTeam else if map.contains_key w.keys k then Taken else Done
-
-abbrev pub key_revoked : World → List ℕ → Registered
-key_revoked w k = if map.contains_key w.keys k then Done else NoKey
-
-abbrev pub after_team_add : World → List ℕ → Registered → World
-after_team_add w t Done = with_team w t
-after_team_add w t r = w
-
-abbrev pub after_key_add : World → List ℕ → List ℕ → Right → Registered → World
-after_key_add w s k right Done = with_key w k (record { shelf = s; right = right })
-after_key_add w s k right r = w
-
-abbrev pub after_key_revoke : World → List ℕ → Registered → World
-after_key_revoke w k Done = without_key w k
-after_key_revoke w k r = w
 
 -- ---- an event
 

@@ -8,15 +8,15 @@ use Rattle.modver.specs.Class.{class_of}
 use Rattle.modver.specs.Precedence.{IsBelow}
 use Rattle.modver.specs.SemanticVersion.{SemanticVersion, IsVersion, version_text}
 use Rattle.modver.specs.declared.version.Class.TheVariants as class
-use Rattle.shelf.specs.declared.entry.Seen.{Seen}
+use Rattle.world.specs.declared.entry.Seen.{Seen}
 use Rattle.shelf.specs.declared.ask.Query.TheVariants as query
 use Rattle.shelf.specs.declared.reply.Reply.TheVariants as reply
-use Rattle.shelf.specs.GoMods.{Says}
-use Rattle.shelf.specs.Lines.{in_order}
+use Rattle.world.specs.GoMods.{Says}
+use Rattle.world.specs.Lines.{in_order}
 use Rattle.shelf.specs.Machine.{query_reply, latest_of}
 use Rattle.shelf.specs.Versions.{version_cmp}
-use Rattle.shelf.specs.Visible.{versions_seen, paths_seen}
-use Rattle.shelf.specs.World.{World, IsWorld, text_cmp, view}
+use Rattle.world.specs.Visible.{versions_seen, paths_seen}
+use Rattle.world.specs.World.{World, IsWorld, text_cmp, view}
 
 -- ---- what a shelf sees
 

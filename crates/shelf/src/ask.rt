@@ -3,11 +3,11 @@ ghost use Rattle.std.specs.Prelude.{◌≡◌};
 ghost use Rattle.modver.specs.Class.{class_of};
 ghost use Rattle.shelf.specs.Machine.{offered, entry_time};
 
-use crate::bytes::Bytes;
-use crate::entry::{EntryRef, Right};
-use crate::text::Text;
 use modpath::ModulePath;
 use modver::{Class, TimeText, Version, class};
+use world::bytes::Bytes;
+use world::entry::{EntryRef, Right};
+use world::text::Text;
 
 /// What a GET asks for. (Go Modules Reference, "GOPROXY protocol".)
 #[derive(Drop)]

@@ -7,17 +7,11 @@ ghost use Rattle.shelf.specs.declared.reply.Decision.TheVariants.{Published};
 mod tests;
 
 use crate::ask::{GivenTime, Publish};
-use crate::entry::{Entry, EntryRef, Right};
-use crate::reading::Reading;
 use crate::reply::{Decision, Refusal};
 use gomod::GoMod;
 use modver::{Class, TimeText, class, fits};
-
-/// The most bytes of a go.mod.
-pub const MAX_GOMOD: usize = 1_048_576;
-
-/// The most bytes of a zip.
-pub const MAX_ZIP: usize = 16_777_216;
+use world::entry::{Entry, EntryRef, MAX_GOMOD, MAX_ZIP, Right};
+use world::reading::Reading;
 
 /// The most versions of one path on one shelf.
 pub const MAX_VERSIONS: u64 = 4096;

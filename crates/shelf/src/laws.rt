@@ -1,5 +1,4 @@
 //! What holds of the machine and of every run of it.
-ghost use Rattle.shelf.specs.EntryTest.{EntryTestIsExact};
 ghost use Rattle.shelf.specs.Laws.{WorldStays, RunsKeepWorlds, OnlyChangesChange, BodiesChangeNothing, RunsAreCut, RunsAreJoined};
 ghost use Rattle.shelf.specs.Immutability.{StaysServed, AcceptedIsServed, RepeatedListChangesNothing};
 ghost use Rattle.shelf.specs.PathLaws.{VersionsAreSeen, PathsAreSeen, PathsAreTold, ListIsTold, ListIsNotFound, LatestIsTheTop, NoneIsLatest, LatestIsTold, LatestIsNotFound};
@@ -9,11 +8,6 @@ ghost use Rattle.shelf.specs.Isolation.{IsIsolated, PurgedRunsAgree, FaultyRunsA
 pub fn soundness()
     ensures event { WorldStays }
     ensures run { RunsKeepWorlds }
-{}
-
-/// The test of an entry passes exactly those that may stand at their place.
-pub fn entry_tests()
-    ensures { EntryTestIsExact }
 {}
 
 /// A shelf is told what it would be told if no request with a key of another team had come.

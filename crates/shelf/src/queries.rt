@@ -3,19 +3,19 @@ ghost use Rattle.std.specs.Prelude.{◌≡◌, ℕ, List, IfOk};
 ghost use Rattle.std.specs.FinMap as map;
 ghost use Rattle.shelf.specs.Machine as spec;
 ghost use Rattle.shelf.specs.Machine.{keyed_reply, latest_of, latest_reply};
-ghost use Rattle.shelf.specs.Store.{Reads, HasCause};
+ghost use Rattle.world.specs.Store.{Reads, HasCause};
 ghost use Rattle.shelf.specs.Versions.{AllOf};
 
 use crate::ask::Query;
-use crate::entry::Seen;
-use crate::reading::Reading;
 use crate::reply::{Reply, StoreFault};
-use crate::shelves::Shelves;
 use crate::versions::{highest, highest_left, listed, named};
 use gomod::GoMod;
 use modpath::ModulePath;
 use modver::Version;
 use std::alloc::{AllocError, Global};
+use world::entry::Seen;
+use world::reading::Reading;
+use world::shelves::Shelves;
 
 /// Answers a GET.
 pub fn answer_query<S: Shelves>(

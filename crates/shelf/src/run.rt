@@ -1,13 +1,17 @@
 //! Lists of events over any store.
 ghost use Rattle.std.specs.Prelude.{◌≡◌, ◌≤◌, [], ◌∷◌, IfOk, OnErr};
-ghost use Rattle.shelf.specs.Machine.{reply_to, after, MetDevice};
-ghost use Rattle.shelf.specs.Store.{Does, Runs, HasCause, GrewOrFull};
+ghost use Rattle.shelf.specs.Machine.{reply_to, after, Run, MetDevice};
+ghost use Rattle.shelf.specs.Runs.{Runs};
+ghost use Rattle.world.specs.InMemory.{IsJust};
+ghost use Rattle.world.specs.Store.{Does, HasCause, GrewOrFull};
+ghost use Rattle.world.specs.World.{only_common};
 
 use crate::ask::Event;
 use crate::reply::{Answer, Reply, StoreFault};
-use crate::shelves::Shelves;
 use crate::step::step;
 use std::alloc::{AllocError, Global};
+use world::map_shelves::MapShelves;
+use world::shelves::Shelves;
 
 /// Does what one event says.
 pub fn apply<S: Shelves>(alloc: Global, shelves: &mut S, event: &Event) -> Result<Reply, StoreFault>
@@ -57,3 +61,24 @@ pub fn run<S: Shelves>(
     }
     Ok(answers)
 }
+
+/// Does a list of events on shelves in memory that begin with `common` alone. Where there is no
+/// room for the shelves or for the answers, nothing is done.
+pub fn run_in_memory(
+    alloc: Global,
+    events: &[Event],
+) -> Result<(MapShelves, Vec<Answer>), AllocError>
+    // The answers are those of a run of the machine, which leaves the world that the shelves hold.
+    ensures run { IfOk result (λ r. Run only_common events.now r.1.items r.0) }
+    // No device fails.
+    ensures no_device { IfOk result (λ r. ¬ MetDevice r.1.items) }
+    // The trait's contracts speak of that world alone, and a crash leaves just it.
+    ensures shown { IfOk result (λ r. IsJust (⟦<MapShelves as Shelves>⟧.shown r.0) r.0) }
+{
+    let mut shelves = MapShelves::new(alloc)?;
+    let answers = run(alloc, &mut shelves, events)?;
+    Ok((shelves, answers))
+}
+
+#[cfg(test)]
+mod tests;

@@ -4,17 +4,17 @@ ghost use Rattle.std.specs.FinSet as set;
 ghost use Rattle.std.specs.FinMap as map;
 ghost use Rattle.shelf.specs.Machine as spec;
 ghost use Rattle.shelf.specs.Machine.{ask_reply, after_ask, keyed_reply, decision, after_decision, stored, place_of, offered};
-ghost use Rattle.shelf.specs.Store.{Does, DoesWhere, Reads, HasCause};
+ghost use Rattle.world.specs.Store.{Does, DoesWhere, Reads, HasCause};
 ghost use Rattle.shelf.specs.declared.reply.Decision.TheVariants.{Published};
 
 use crate::ask::{Ask, Publish};
 use crate::decide::{decide, gomod_refusal, refusal};
-use crate::entry::Holder;
 use crate::queries::answer_query;
-use crate::reading::Reading;
 use crate::reply::{Decision, Reply, StoreFault};
-use crate::shelves::Shelves;
 use std::alloc::{AllocError, Global};
+use world::entry::Holder;
+use world::reading::Reading;
+use world::shelves::Shelves;
 
 /// Answers a request.
 pub fn step<S: Shelves>(alloc: Global, shelves: &mut S, ask: &Ask) -> Result<Reply, StoreFault>

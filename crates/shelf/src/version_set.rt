@@ -2,18 +2,18 @@
 ghost use Rattle.std.specs.Prelude.{◌≡◌, ◌↔◌, IsTrue, IfOk, OnOk, OnErr, map as each};
 ghost use Rattle.std.specs.FinSet as set;
 ghost use Rattle.modver.specs.SemanticVersion.{version_text};
-ghost use Rattle.shelf.specs.Lines.{in_order, lines_of};
+ghost use Rattle.world.specs.Lines.{in_order, lines_of};
 
 #[cfg(test)]
 mod tests;
 
-use crate::bytes::Bytes;
 use modver::{Version, compare};
 use std::alloc::{AllocError, Global};
 use std::cmp::Ordering;
 use std::collections::BTreeSet;
 use std::collections::btree_set::Iter;
 use std::marker::Model;
+use world::bytes::Bytes;
 
 /// A version that is compared by precedence, and where that is equal by its text.
 /// (SemVer 2.0.0, section 11.)

@@ -1,17 +1,17 @@
 //! The versions that texts name, those of them that are listed, and the highest.
 ghost use Rattle.std.specs.Prelude.{◌≡◌, ℕ, List, IfOk, option_copied};
 ghost use Rattle.modver.specs.Class.{class_of};
-ghost use Rattle.modver.specs.Reading.{version_of};
-ghost use Rattle.shelf.specs.Lines.{in_order};
+ghost use Rattle.world.specs.Lines.{in_order};
 ghost use Rattle.shelf.specs.Versions as spec;
 ghost use Rattle.shelf.specs.Versions.{AllOf};
 
-use crate::text_set::TextSet;
 use crate::version_set::VersionSet;
 use gomod::GoMod;
 use latest::{latest, top};
-use modver::{Class, Version, VersionFault, class};
+use modver::{Class, Version, class};
 use std::alloc::{AllocError, Global};
+use world::text_set::TextSet;
+use world::version_text::version_of;
 
 /// The versions that texts name, in the order of the texts.
 pub fn named(alloc: Global, texts: &TextSet) -> Result<Vec<Version>, AllocError>
@@ -24,17 +24,6 @@ pub fn named(alloc: Global, texts: &TextSet) -> Result<Vec<Version>, AllocError>
         }
     }
     Ok(versions)
-}
-
-/// The version that a text names, if it names one.
-pub fn version_of(alloc: Global, text: &str) -> Result<Option<Version>, AllocError>
-    ensures { IfOk result (λ v. v ≡ version_of text.now) }
-{
-    match Version::parse(alloc, text) {
-        Ok(version) => Ok(Some(version)),
-        Err(VersionFault::Memory) => Err(AllocError),
-        Err(_) => Ok(None),
-    }
 }
 
 /// The releases and pre-releases of a list.

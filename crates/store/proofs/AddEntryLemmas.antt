@@ -16,8 +16,8 @@ use Rattle.sqlite.specs.State.{State, ExecutesInside}
 use Rattle.sqlite.proofs.Callers.{IsPlain, command_of, runs_as}
 use Rattle.sqlite_tied.specs.Compute.{everything}
 use Rattle.store.specs.Schema.{store_schema, version_table, body_table}
-use Rattle.shelf.specs.declared.entry.Place.{Place}
-use Rattle.shelf.specs.declared.entry.Entry.{Entry}
+use Rattle.world.specs.declared.entry.Place.{Place}
+use Rattle.world.specs.declared.entry.Entry.{Entry}
 use Rattle.store.specs.Added.{Inserted, HasAdded, version_row, body_row}
 use Rattle.store.proofs.Texts.{add_version_text, add_body_text}
 use Rattle.store.proofs.InsertLemmas.{inserted, enforced, cast_null, cast_int}

@@ -15,13 +15,13 @@ use Rattle.sqlite_tied.specs.Compute.{everything}
 use Rattle.store.specs.Schema.{store_schema, access_table}
 use Rattle.std.specs.FinMap as map
 use Rattle.std.specs.FinSet as set
-use Rattle.shelf.specs.declared.entry.Holder.{Holder}
-use Rattle.shelf.specs.declared.entry.Right.{Right}
-use Rattle.shelf.specs.declared.reply.Registered.{Registered}
-use Rattle.shelf.specs.declared.reply.Registered.TheVariants.{Done, Name, Taken, NoTeam, NoKey}
-use Rattle.shelf.specs.World.{World, with_key, is_key}
-use Rattle.shelf.specs.Machine.{key_added, after_key_add}
-use Rattle.shelf.proofs.Orders.{texts_total, texts_exact, get_put}
+use Rattle.world.specs.declared.entry.Holder.{Holder}
+use Rattle.world.specs.declared.entry.Right.{Right}
+use Rattle.world.specs.declared.registry.Registered.{Registered}
+use Rattle.world.specs.declared.registry.Registered.TheVariants.{Done, Name, Taken, NoTeam, NoKey}
+use Rattle.world.specs.World.{World, with_key, is_key}
+use Rattle.world.specs.Registry.{key_added, after_key_add}
+use Rattle.world.proofs.Orders.{texts_total, texts_exact, get_put}
 use Rattle.store.specs.Means.{Holds, IsAccess}
 use Rattle.store.proofs.Texts.{add_key_text}
 use Rattle.store.specs.Views.{may_publish, with_key_added}

@@ -12,11 +12,11 @@ use Rattle.sqlite.specs.Does.{Tally, Does}
 use Rattle.sqlite.specs.State.{State}
 use Rattle.sqlite.proofs.Callers.{IsPlain, command_of}
 use Rattle.sqlite_tied.specs.Compute.{everything}
-use Rattle.shelf.specs.declared.reply.Registered.{Registered}
-use Rattle.shelf.specs.declared.reply.Registered.TheVariants.{Done, Name}
-use Rattle.shelf.specs.World.{World, with_team, is_team_name}
-use Rattle.shelf.specs.Machine.{team_added, after_team_add}
-use Rattle.shelf.proofs.Sound.{still}
+use Rattle.world.specs.declared.registry.Registered.{Registered}
+use Rattle.world.specs.declared.registry.Registered.TheVariants.{Done, Name}
+use Rattle.world.specs.World.{World, with_team, is_team_name}
+use Rattle.world.specs.Registry.{team_added, after_team_add}
+use Rattle.world.proofs.Sound.{still}
 use Rattle.store.specs.Schema.{store_schema, shelf_table}
 use Rattle.store.specs.Means.{Holds, IsShelf}
 use Rattle.store.specs.Views.{with_team_added}

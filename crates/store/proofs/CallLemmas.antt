@@ -15,7 +15,7 @@ use Rattle.sqlite.specs.Clock.{timed}
 use Rattle.sqlite.specs.Listing.{understood, reads_listing}
 use Rattle.sqlite.specs.State.{State, HasCleanDisk, IsUnchanged, IsRolledBack, IsNotRun, FailsToQuery, FailsToShow, store_error, QueriesRow, Shown, Survives, CommitsShowing, Fails, ShowsRows}
 use Rattle.sqlite.proofs.Callers.{IsPlain, command_of, never_commits, first_as, reads_as}
-use Rattle.shelf.specs.World.{World}
+use Rattle.world.specs.World.{World}
 use Rattle.store.specs.Schema.{store_schema}
 use Rattle.store.specs.Means.{Holds, Stands, StandFor}
 use Rattle.store.specs.Calls.{Spares, Selects}

@@ -5,7 +5,7 @@ use Rattle.sqlite.specs.Tree.{Trees}
 use Rattle.sqlite.specs.State.{State, HasCleanDisk, KeepsCommit}
 use Rattle.sqlite.specs.Steps.{FailsToCommit}
 use Rattle.sqlite.specs.declared.error.Error.{Error}
-use Rattle.shelf.specs.World.{World}
+use Rattle.world.specs.World.{World}
 use Rattle.store.specs.Means.{Holds, Stands}
 use Rattle.store.specs.Calls.{Spares, LeavesOnly, ChangesAt, Changes}
 use Rattle.store.proofs.CallLemmas.{was_clean}

@@ -29,11 +29,11 @@ use Rattle.sqlite_trees.specs.Tree.{IsAscending}
 use Rattle.sqlite_rules.specs.Lists.{Has}
 use Rattle.sqlite_rules.proofs.ListLemmas.{all_has, all_from, has_filtered, has_kept}
 use Rattle.sqlite_rules.proofs.ProbeLemmas.{has_mapped}
-use Rattle.shelf.specs.declared.entry.Place.{Place}
-use Rattle.shelf.specs.declared.entry.Entry.{Entry}
-use Rattle.shelf.specs.World.{World, IsWorld, count, version_limit}
-use Rattle.shelf.proofs.Orders.{places_total, places_exact, text_self, text_same}
-use Rattle.shelf.proofs.Views.{test_alike}
+use Rattle.world.specs.declared.entry.Place.{Place}
+use Rattle.world.specs.declared.entry.Entry.{Entry}
+use Rattle.world.specs.World.{World, IsWorld, count, version_limit}
+use Rattle.world.proofs.Orders.{places_total, places_exact, text_self, text_same}
+use Rattle.world.proofs.Orders.{test_alike}
 use Rattle.store.specs.Schema.{store_schema}
 use Rattle.store.specs.Lookup.{passes}
 use Rattle.store.specs.Calls.{Selects}

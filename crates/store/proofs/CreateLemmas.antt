@@ -28,7 +28,7 @@ use Rattle.sqlite.specs.Order.{column}
 use Rattle.sqlite.specs.Edit.{put_all}
 use Rattle.store.specs.Means.{Means, schema_named}
 use Rattle.std.specs.FinSet as set
-use Rattle.shelf.specs.World.{only_common, common, text_cmp, place_cmp}
+use Rattle.world.specs.World.{only_common, common, text_cmp, place_cmp}
 use Rattle.store.proofs.Maps.{none_in_empty, text_put, text_splits, no_text}
 use Rattle.store.specs.Made.{IsMade}
 use Rattle.store.proofs.InsertLemmas.{went, same_value, inserted, cast_null, cast_int}

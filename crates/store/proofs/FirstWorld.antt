@@ -3,11 +3,11 @@ use Rattle.std.proofs.Common.{◌≡◌, ◌≤◌, ◌&&◌, ◌∙◌, ℕ, Li
 use Rattle.std.specs.Prelude.{bytes_eq}
 use Rattle.std.specs.FinMap as map
 use Rattle.std.specs.FinSet as set
-use Rattle.shelf.specs.declared.entry.Entry.{Entry}
-use Rattle.shelf.specs.declared.entry.Place.{Place}
-use Rattle.shelf.specs.World.{IsWorld, only_common, common, count, text_cmp, place_cmp, version_limit}
-use Rattle.shelf.proofs.Orders.{places_total, places_exact}
-use Rattle.shelf.proofs.Views.{test_alike}
+use Rattle.world.specs.declared.entry.Entry.{Entry}
+use Rattle.world.specs.declared.entry.Place.{Place}
+use Rattle.world.specs.World.{IsWorld, only_common, common, count, text_cmp, place_cmp, version_limit}
+use Rattle.world.proofs.Orders.{places_total, places_exact}
+use Rattle.world.proofs.Orders.{test_alike}
 use Rattle.store.specs.Means.{IsAt}
 use Rattle.store.proofs.CountLemmas.{rows_counted}
 use Rattle.store.proofs.TransactionLemmas.{same_place}

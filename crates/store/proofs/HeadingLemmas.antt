@@ -17,10 +17,10 @@ use Rattle.sqlite.specs.Command.TheVariants.{Select}
 use Rattle.sqlite.proofs.Callers.{IsPlain, command_of}
 use Rattle.sqlite_tied.specs.Compute.{everything}
 use Rattle.sqlite_schema.specs.Rules.{equal}
-use Rattle.shelf.specs.declared.entry.Place.{Place}
-use Rattle.shelf.specs.declared.entry.Entry.{Entry}
-use Rattle.shelf.specs.declared.entry.Seen.{Seen}
-use Rattle.shelf.specs.World.{World, common, place, seen_at, view}
+use Rattle.world.specs.declared.entry.Place.{Place}
+use Rattle.world.specs.declared.entry.Entry.{Entry}
+use Rattle.world.specs.declared.entry.Seen.{Seen}
+use Rattle.world.specs.World.{World, common, place, seen_at, view}
 use Rattle.store.specs.Schema.{store_schema}
 use Rattle.store.specs.declared.entries.Heading.{Heading}
 use Rattle.store.specs.Means.{Means, IsVersion, IsAt}

@@ -15,10 +15,10 @@ use Rattle.sqlite.proofs.Callers.{IsPlain, command_of}
 use Rattle.sqlite_tied.specs.Compute.{everything}
 use Rattle.store.specs.Schema.{store_schema}
 use Rattle.std.specs.FinMap as map
-use Rattle.shelf.specs.declared.entry.Holder.{Holder}
-use Rattle.shelf.specs.declared.entry.Right.{Right}
-use Rattle.shelf.specs.declared.entry.Right.TheVariants.{Reads, Publishes}
-use Rattle.shelf.specs.World.{World}
+use Rattle.world.specs.declared.entry.Holder.{Holder}
+use Rattle.world.specs.declared.entry.Right.{Right}
+use Rattle.world.specs.declared.entry.Right.TheVariants.{Reads, Publishes}
+use Rattle.world.specs.World.{World}
 use Rattle.store.specs.Views.{may_publish}
 use Rattle.store.specs.Means.{Means}
 use Rattle.store.specs.Lookup.{lookup, passes, FirstFound}

@@ -7,9 +7,9 @@ use Rattle.std.specs.declared.cmp.Ordering.{Ordering}
 use Rattle.std.specs.Cmp.{IsTotalOrder, tied_itself}
 use Rattle.std.proofs.lemmas.Map.Views.{tells_apart}
 use Rattle.std.proofs.lemmas.Bool.{cases_Bool}
-use Rattle.shelf.specs.World.{text_cmp}
-use Rattle.shelf.proofs.Orders.{texts_total, texts_exact, get_elsewhere}
-use Rattle.shelf.proofs.Sound.{at_or_before}
+use Rattle.world.specs.World.{text_cmp}
+use Rattle.world.proofs.Orders.{texts_total, texts_exact, get_elsewhere}
+use Rattle.world.proofs.Sound.{at_or_before}
 
 module _ {K X : Type 0} {R : K → K → Ordering} (o : IsTotalOrder R) (exact : map.IsAntisymmetric R) (m : map.FinMap R X) (k : K) (x : X) where
   -- where nothing was, what was there stays

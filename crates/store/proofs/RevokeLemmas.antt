@@ -33,11 +33,11 @@ use Rattle.sqlite_schema.specs.declared.schema.Keys.TheVariants.{Enforced}
 use Rattle.sqlite_value.proofs.OrderLemmas.{value_cmp-Int, value_cmp_total}
 use Rattle.sqlite_value.specs.Order.{value_cmp}
 use Rattle.sqlite_tied.specs.Compute.{everything}
-use Rattle.shelf.specs.declared.entry.Holder.{Holder}
-use Rattle.shelf.specs.declared.reply.Registered.TheVariants.{Done, NoKey}
-use Rattle.shelf.specs.World.{World, text_cmp, without_key}
-use Rattle.shelf.specs.Machine.{after_key_revoke}
-use Rattle.shelf.proofs.Orders.{texts_total, texts_exact}
+use Rattle.world.specs.declared.entry.Holder.{Holder}
+use Rattle.world.specs.declared.registry.Registered.TheVariants.{Done, NoKey}
+use Rattle.world.specs.World.{World, text_cmp, without_key}
+use Rattle.world.specs.Registry.{after_key_revoke}
+use Rattle.world.proofs.Orders.{texts_total, texts_exact}
 use Rattle.store.specs.Schema.{store_schema, access_table}
 use Rattle.store.specs.Means.{Holds, Means, IsAccess, IsNumbered, Tabulates}
 use Rattle.store.specs.Views.{with_key_revoked}

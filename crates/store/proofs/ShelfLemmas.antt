@@ -14,7 +14,7 @@ use Rattle.sqlite.proofs.Callers.{IsPlain, command_of}
 use Rattle.sqlite_tied.specs.Compute.{everything}
 use Rattle.store.specs.Schema.{store_schema}
 use Rattle.std.specs.FinSet as set
-use Rattle.shelf.specs.World.{World}
+use Rattle.world.specs.World.{World}
 use Rattle.store.specs.Means.{Means}
 use Rattle.store.specs.Lookup.{lookup, FirstFound}
 use Rattle.store.specs.Calls.{Selects}

@@ -3,9 +3,9 @@ use Rattle.std.proofs.Common.{◌≡◌, ◌≤◌, Result, Ok, Err, inl, inr, r
 use Rattle.std.specs.Prelude.{IfOk}
 use Rattle.sqlite_trees.specs.View.{doubt}
 use Rattle.sqlite.specs.State.{State, HasCleanDisk}
-use Rattle.shelf.specs.declared.reply.StoreFault.{StoreFault}
-use Rattle.shelf.specs.World.{World, IsWorld}
-use Rattle.shelf.specs.Store.{Does, DoesWhere, DoesAt, Reads}
+use Rattle.world.specs.declared.registry.StoreFault.{StoreFault}
+use Rattle.world.specs.World.{World, IsWorld}
+use Rattle.world.specs.Store.{Does, DoesWhere, DoesAt, Reads}
 use Rattle.store.specs.Means.{StandsFor}
 use Rattle.store.specs.Calls.{Spares, LeavesOnly, LeavesEither, ChangesAt, shown_of}
 use Rattle.store.proofs.CallLemmas.{was_clean}

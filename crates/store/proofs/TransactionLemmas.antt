@@ -14,10 +14,10 @@ use Rattle.sqlite_catalog.specs.Listing.{IsSound}
 use Rattle.sqlite_rules.specs.Lists.{Has}
 use Rattle.sqlite_rules.proofs.TableLemmas.{put_all_has, put_all_keeps, put_all_adds}
 use Rattle.store.specs.Schema.{store_schema, version_table, body_table}
-use Rattle.shelf.specs.declared.entry.Place.{Place}
-use Rattle.shelf.specs.declared.entry.Entry.{Entry}
-use Rattle.shelf.specs.World.{World, with_entry}
-use Rattle.shelf.proofs.Orders.{places_total, places_exact, get_put}
+use Rattle.world.specs.declared.entry.Place.{Place}
+use Rattle.world.specs.declared.entry.Entry.{Entry}
+use Rattle.world.specs.World.{World, with_entry}
+use Rattle.world.proofs.Orders.{places_total, places_exact, get_put}
 use Rattle.store.specs.Means.{Means, Holds, Stands, StandFor, Tabulates, IsVersion, IsAt, is_numbered_as}
 use Rattle.sqlite.specs.Edit.{are_fresh, put_all}
 use Rattle.sqlite_rules.proofs.ListLemmas.{all_from}

@@ -19,12 +19,12 @@ use Rattle.sqlite.proofs.Callers.{IsPlain, command_of}
 use Rattle.sqlite_rules.specs.Lists.{Has}
 use Rattle.sqlite_rules.proofs.ListLemmas.{has_left, has_right, has_either}
 use Rattle.sqlite_tied.specs.Compute.{everything}
-use Rattle.shelf.specs.declared.entry.Entry.{Entry}
-use Rattle.shelf.specs.World.{World, common, place, text_cmp, seen_at, view}
-use Rattle.shelf.specs.Visible.{versions_seen, paths_seen}
-use Rattle.shelf.proofs.Orders.{texts_total, texts_exact}
-use Rattle.shelf.proofs.Sound.{still}
-use Rattle.shelf.proofs.Seen.{contains_versions, contains_paths}
+use Rattle.world.specs.declared.entry.Entry.{Entry}
+use Rattle.world.specs.World.{World, common, place, text_cmp, seen_at, view}
+use Rattle.world.specs.Visible.{versions_seen, paths_seen}
+use Rattle.world.proofs.Orders.{texts_total, texts_exact}
+use Rattle.world.proofs.Sound.{still}
+use Rattle.world.proofs.Seen.{contains_versions, contains_paths}
 use Rattle.store.specs.Schema.{store_schema}
 use Rattle.store.specs.Means.{Means, IsAt}
 use Rattle.store.specs.Lookup.{lookup, passes, AreFound}

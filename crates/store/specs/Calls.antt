@@ -7,9 +7,9 @@ use Rattle.sqlite.specs.Effect.{Database, Reads, ReadsFirst}
 use Rattle.sqlite.specs.Listing.{understood}
 use Rattle.sqlite.specs.State.{State, HasCleanDisk}
 use Rattle.sqlite.proofs.Callers.{command_of}
-use Rattle.shelf.specs.World.{World}
+use Rattle.world.specs.World.{World}
 use Rattle.store.specs.Schema.{store_schema}
-use Rattle.shelf.specs.Store.{Shown}
+use Rattle.world.specs.Store.{Shown}
 use Rattle.store.specs.Means.{Stands, StandsFor, StandFor}
 
 -- it shows the same world, and a crash leaves nothing that it did not leave before

@@ -5,8 +5,8 @@ use Rattle.std.specs.FinSet as set
 use Rattle.sqlite.specs.declared.types.Value.TheVariants.{Text}
 use Rattle.sqlite.specs.Order.{Row, column}
 use Rattle.sqlite_rules.specs.Lists.{Has}
-use Rattle.shelf.specs.declared.entry.Entry.{Entry}
-use Rattle.shelf.specs.World.{World, place, text_cmp}
+use Rattle.world.specs.declared.entry.Entry.{Entry}
+use Rattle.world.specs.World.{World, place, text_cmp}
 
 -- one set has the members of another, and those that are so
 abbrev pub Adds : (List ℕ → Type 0) → set.FinSet text_cmp → set.FinSet text_cmp → Type 0

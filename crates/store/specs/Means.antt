@@ -12,10 +12,10 @@ use Rattle.sqlite_catalog.specs.Listing.{IsSound}
 use Rattle.sqlite.specs.State.{State, HasCleanDisk}
 use Rattle.std.specs.FinMap as map
 use Rattle.std.specs.FinSet as set
-use Rattle.shelf.specs.declared.entry.Holder.{Holder}
-use Rattle.shelf.specs.declared.entry.Place.{Place}
-use Rattle.shelf.specs.declared.entry.Entry.{Entry}
-use Rattle.shelf.specs.World.{World, IsWorld}
+use Rattle.world.specs.declared.entry.Holder.{Holder}
+use Rattle.world.specs.declared.entry.Place.{Place}
+use Rattle.world.specs.declared.entry.Entry.{Entry}
+use Rattle.world.specs.World.{World, IsWorld}
 use Rattle.store.specs.Views.{may_publish}
 use Rattle.store.specs.Schema.{store_schema, meta_table, shelf_table, access_table, version_table, body_table}
 

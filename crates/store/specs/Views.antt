@@ -1,9 +1,9 @@
 -- Values of the program as the definitions see them.
 use Rattle.std.specs.Prelude.{ℕ, List, Bool, true, false}
-use Rattle.shelf.specs.declared.entry.Right.{Right}
-use Rattle.shelf.specs.declared.entry.Right.TheVariants.{Reads, Publishes}
-use Rattle.shelf.specs.World.{World}
-use Rattle.shelf.specs.Machine.{key_added, after_key_add, key_revoked, after_key_revoke, team_added, after_team_add}
+use Rattle.world.specs.declared.entry.Right.{Right}
+use Rattle.world.specs.declared.entry.Right.TheVariants.{Reads, Publishes}
+use Rattle.world.specs.World.{World}
+use Rattle.world.specs.Registry.{key_added, after_key_add, key_revoked, after_key_revoke, team_added, after_team_add}
 
 abbrev pub may_publish : Right → Bool
 may_publish Reads = false

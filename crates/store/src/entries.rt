@@ -8,7 +8,7 @@ ghost use Rattle.sqlite.specs.Values.{or_null};
 ghost use Rattle.sqlite.specs.Held.{state};
 ghost use Rattle.sqlite.specs.State.{HasCleanDisk, KeepsCommit, Survives};
 ghost use Rattle.sqlite_trees.specs.View.{doubt};
-ghost use Rattle.shelf.specs.World.{place, seen_at, view, count, with_entry};
+ghost use Rattle.world.specs.World.{place, seen_at, view, count, with_entry};
 ghost use Rattle.store.specs.Schema.{store_schema};
 ghost use Rattle.store.specs.Means.{Stands, StandsFor};
 ghost use Rattle.store.specs.Calls.{Spares, ChangesAt};

@@ -3,7 +3,7 @@
 ghost use Rattle.std.specs.Prelude.{◌≡◌, ◌≢◌, IfOk, IfErr};
 ghost use Rattle.sqlite.specs.Held.{state};
 ghost use Rattle.sqlite.specs.Steps.{over_memory};
-ghost use Rattle.shelf.specs.World.{only_common};
+ghost use Rattle.world.specs.World.{only_common};
 ghost use Rattle.store.specs.Calls.{shown_of, BeginsAt};
 
 use crate::store::{Refusal, SqlShelves};

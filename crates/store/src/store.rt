@@ -3,8 +3,8 @@
 ghost use Rattle.std.specs.Prelude.{◌≡◌, ◌≢◌, ◌≤◌, ◌⊎◌, IfOk, IfErr, IsTrue};
 ghost use Rattle.sqlite.specs.Held.{state};
 ghost use Rattle.sqlite.specs.State.{HasCleanDisk};
-ghost use Rattle.shelf.specs.World.{only_common};
-ghost use Rattle.shelf.specs.Store.{GrewOrFull};
+ghost use Rattle.world.specs.World.{only_common};
+ghost use Rattle.world.specs.Store.{GrewOrFull};
 ghost use Rattle.store.specs.Schema.{no_schema};
 ghost use Rattle.store.specs.Means.{StandFor};
 ghost use Rattle.store.specs.Calls.{shown_of, BeginsAt};

@@ -1,14 +1,14 @@
 //! The checks of a publish, row by row.
 use super::decide;
 use crate::ask::{Body, GivenTime, Publish};
-use crate::bytes::Bytes;
-use crate::entry::{Entry, Right};
-use crate::reading::Reading;
 use crate::reply::{Decision, Refusal};
 use modpath::ModulePath;
 use modver::{Version, read_time};
 use std::alloc::{AllocError, Global};
 use std::test::Fail;
+use world::bytes::Bytes;
+use world::entry::{Entry, Right};
+use world::reading::Reading;
 
 const GOMOD: &[u8] = b"module example.com/lib\n";
 

@@ -1,4 +1,4 @@
-use Rattle.std.proofs.Common.{◌≡◌, ℕ, List, Option, Some, None}
+use Rattle.std.proofs.Common.{◌≡◌, ℕ, List, Some, None}
 use Rattle.shelf.specs.Versions.{AllOf, highest}
 use Rattle.shelf.proofs.Newest.{all_fit, no_latest, the_latest}
 use Rattle.shelf.proofs.queries.latest_version.Goals as goal

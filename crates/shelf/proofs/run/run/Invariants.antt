@@ -1,7 +1,8 @@
 use Rattle.std.proofs.Common.{◌≡◌, ◌≤◌, length, take}
 use Rattle.std.specs.Prelude.{vec_len, vec_capacity}
 use Rattle.shelf.specs.Machine.{MetDevice}
-use Rattle.shelf.specs.Store.{Runs, GrewOrFull}
+use Rattle.world.specs.Store.{GrewOrFull}
+use Rattle.shelf.specs.Runs.{Runs}
 use Rattle.shelf.proofs.run.run.Given as goal
 
 -- the events so far were answered by a run, and there is room for each answer

@@ -1,7 +1,7 @@
 use Rattle.std.proofs.Common.{◌≡◌, sym, subst, ◌∙◌, Some}
 use Rattle.std.specs.FinMap as map
 use Rattle.shelf.specs.Machine.{decision, after_decision}
-use Rattle.shelf.specs.Store.{DoesAt}
+use Rattle.world.specs.Store.{DoesAt}
 use Rattle.shelf.proofs.step.answer_publish.Goals as goal
 
 pub returns-clause-does : goal.returns-clause-does

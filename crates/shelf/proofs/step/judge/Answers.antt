@@ -1,6 +1,6 @@
 use Rattle.std.proofs.Common.{◌≡◌, ◌∙◌, sym, ap, Some}
 use Rattle.std.specs.Option.{option_copied}
-use Rattle.shelf.specs.World.{count}
+use Rattle.world.specs.World.{count}
 use Rattle.shelf.specs.Machine.{entry_seen, first_failing, gomod_checks, gomod_of}
 use Rattle.shelf.proofs.Checks.{refused, refused_by_gomod}
 use Rattle.shelf.proofs.step.judge.Goals as goal

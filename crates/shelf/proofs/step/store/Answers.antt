@@ -1,6 +1,6 @@
 use Rattle.std.proofs.Common.{◌≡◌, ◌∙◌, sym, subst, Some}
 use Rattle.shelf.specs.Machine.{stored, place_of, offered}
-use Rattle.shelf.specs.Store.{DoesAt}
+use Rattle.world.specs.Store.{DoesAt}
 use Rattle.shelf.proofs.Checks.{room_for}
 use Rattle.shelf.proofs.step.store.Goals as goal
 

@@ -1,6 +1,6 @@
 use Rattle.std.proofs.Common.{◌≡◌, ◌++◌}
 use Rattle.std.specs.Prelude.{map as each, string_bytes}
-use Rattle.shelf.specs.Lines.{in_order}
+use Rattle.world.specs.Lines.{in_order}
 use Rattle.shelf.specs.Versions.{named}
 use Rattle.shelf.proofs.versions.named.Given as goal
 

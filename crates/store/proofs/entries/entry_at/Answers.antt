@@ -1,7 +1,7 @@
 use Rattle.std.proofs.Common.{Some, subst, to_z-of_z, w64, SFits, rules}
 use Rattle.sqlite.specs.Held.{state}
 use Rattle.sqlite.specs.Effect.{Database}
-use Rattle.shelf.specs.declared.entry.Place.{Place}
+use Rattle.world.specs.declared.entry.Place.{Place}
 use Rattle.store.specs.Reading.{HasHeading, HasZip}
 use Rattle.store.proofs.CallLemmas.{spares_then, was_clean}
 use Rattle.store.proofs.HeadingLemmas.{entry_whole, entry_lacks}

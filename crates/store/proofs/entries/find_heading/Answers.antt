@@ -1,6 +1,6 @@
 use Rattle.std.proofs.Common.{subst}
 use Rattle.sqlite.specs.Held.{state}
-use Rattle.shelf.specs.declared.entry.Place.{Place}
+use Rattle.world.specs.declared.entry.Place.{Place}
 use Rattle.store.specs.Calls.{Selects}
 use Rattle.store.proofs.Texts.{heading_text}
 use Rattle.store.proofs.CallLemmas.{was_clean}

@@ -1,8 +1,8 @@
 use Rattle.std.proofs.Common.{Ok, ap, to_z-of_z, w64, SFits, rules}
 use Rattle.sqlite.specs.Held.{state}
 use Rattle.sqlite.specs.State.{ExecutesInside}
-use Rattle.shelf.specs.declared.entry.Place.{Place}
-use Rattle.shelf.specs.declared.entry.Entry.{Entry}
+use Rattle.world.specs.declared.entry.Place.{Place}
+use Rattle.world.specs.declared.entry.Entry.{Entry}
 use Rattle.store.proofs.Texts.{add_version_text, add_body_text}
 use Rattle.store.proofs.CallLemmas.{was_clean}
 use Rattle.store.proofs.AddEntryLemmas.{both_added, time_bound, version_params, body_params}

@@ -1,6 +1,6 @@
 use Rattle.sqlite.specs.Command.TheVariants.{Delete}
 use Rattle.sqlite.specs.Held.{state}
-use Rattle.shelf.specs.World.{without_key}
+use Rattle.world.specs.World.{without_key}
 use Rattle.store.proofs.Texts.{revoke_key_text}
 use Rattle.store.proofs.WriteLemmas.{deleting, done_changes, failed_changes}
 use Rattle.store.proofs.RevokeLemmas.{keys_of, revoke_is, revoke_plain, revoke_params, revoke_turns}

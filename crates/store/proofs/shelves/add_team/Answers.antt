@@ -1,12 +1,12 @@
 use Rattle.std.proofs.Common.{◌≡◌, false, true, sym, subst, ◌∙◌, rules}
 use Rattle.sqlite.specs.Held.{state}
-use Rattle.shelf.specs.declared.reply.Registered.TheVariants.{Done}
-use Rattle.shelf.specs.Machine.{team_added}
+use Rattle.world.specs.declared.registry.Registered.TheVariants.{Done}
+use Rattle.world.specs.Registry.{team_added}
 use Rattle.store.specs.Calls.{ChangesAt, Changes}
 use Rattle.store.specs.Views.{with_team_added}
 use Rattle.store.proofs.CallLemmas.{was_clean}
 use Rattle.store.proofs.AddTeamLemmas.{team_same, team_new}
-use Rattle.shelf.proofs.Sound.{new_team}
+use Rattle.world.proofs.Sound.{new_team}
 use Rattle.store.proofs.ChangeLemmas.{spared, refused, spares_changes, not_ok}
 use Rattle.store.proofs.shelves.add_team.Goals as goal
 

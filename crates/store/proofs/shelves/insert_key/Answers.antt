@@ -1,8 +1,8 @@
 use Rattle.sqlite.specs.Held.{state}
 use Rattle.sqlite.specs.Command.TheVariants.{Insert}
 use Rattle.sqlite.specs.Source.TheVariants.{Values}
-use Rattle.shelf.specs.declared.entry.Holder.{Holder}
-use Rattle.shelf.specs.World.{with_key}
+use Rattle.world.specs.declared.entry.Holder.{Holder}
+use Rattle.world.specs.World.{with_key}
 use Rattle.store.proofs.Texts.{add_key_text}
 use Rattle.store.proofs.WriteLemmas.{inserting, done_changes, failed_changes}
 use Rattle.store.proofs.AddKeyLemmas.{terms, add_key_is, add_key_plain, key_params, add_key_turns}

@@ -1,7 +1,7 @@
 use Rattle.sqlite.specs.Held.{state}
 use Rattle.sqlite.specs.Command.TheVariants.{Insert}
 use Rattle.sqlite.specs.Source.TheVariants.{Values}
-use Rattle.shelf.specs.World.{with_team}
+use Rattle.world.specs.World.{with_team}
 use Rattle.store.proofs.Texts.{add_shelf_text}
 use Rattle.store.proofs.WriteLemmas.{inserting, done_changes, failed_changes}
 use Rattle.store.proofs.AddTeamLemmas.{terms, add_shelf_is, add_shelf_plain, shelf_params, add_shelf_turns}

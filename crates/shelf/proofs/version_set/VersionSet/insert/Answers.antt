@@ -1,7 +1,7 @@
 use Rattle.std.proofs.Common.{◌∙◌, ap}
 use Rattle.std.specs.FinSet as set
 use Rattle.shelf.specs.Versions.{versions_total}
-use Rattle.shelf.proofs.InOrder.{one_more_key}
+use Rattle.world.proofs.InOrder.{one_more_key}
 use Rattle.shelf.proofs.VersionOrder.{versions_exact}
 use Rattle.shelf.proofs.version_set.VersionSet.insert.Goals as goal
 

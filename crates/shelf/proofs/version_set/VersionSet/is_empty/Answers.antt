@@ -1,6 +1,6 @@
 use Rattle.std.proofs.Common.{◌∙◌, sym}
 use Rattle.shelf.specs.Versions.{versions_total}
-use Rattle.shelf.proofs.InOrder.{no_keys, nothing_there}
+use Rattle.world.proofs.InOrder.{no_keys, nothing_there}
 use Rattle.shelf.proofs.version_set.VersionSet.is_empty.Goals as goal
 
 pub returns : goal.returns

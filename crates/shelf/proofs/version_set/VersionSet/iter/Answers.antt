@@ -1,7 +1,7 @@
 use Rattle.std.proofs.Common.{◌∙◌, sym, ap}
-use Rattle.shelf.specs.Lines.{in_order}
+use Rattle.world.specs.Lines.{in_order}
 use Rattle.shelf.specs.Versions.{version_cmp, versions_total}
-use Rattle.shelf.proofs.InOrder.{in_order-from_list, risen}
+use Rattle.world.proofs.InOrder.{in_order-from_list, risen}
 use Rattle.shelf.proofs.VersionOrder.{versions_exact}
 use Rattle.shelf.proofs.version_set.VersionSet.iter.Goals as goal
 

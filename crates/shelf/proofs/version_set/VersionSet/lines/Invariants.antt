@@ -1,7 +1,7 @@
 use Rattle.std.proofs.Common.{◌≡◌, ◌++◌}
 use Rattle.std.proofs.Common.{map as each}
 use Rattle.modver.specs.SemanticVersion.{version_text}
-use Rattle.shelf.specs.Lines.{in_order, lines_of}
+use Rattle.world.specs.Lines.{in_order, lines_of}
 use Rattle.shelf.proofs.version_set.VersionSet.lines.Given as goal
 
 abbrev pub invariant-loop-ranked : goal.invariant-loop-ranked

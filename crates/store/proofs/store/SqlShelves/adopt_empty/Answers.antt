@@ -1,6 +1,6 @@
 use Rattle.std.proofs.Common.{refl, sym, ◌∙◌, inl}
 use Rattle.sqlite.specs.Held.{state}
-use Rattle.shelf.specs.World.{only_common}
+use Rattle.world.specs.World.{only_common}
 use Rattle.store.proofs.FirstWorld.{first_world}
 use Rattle.store.proofs.WriteLemmas.{open_leaves}
 use Rattle.store.proofs.store.SqlShelves.adopt_empty.Goals as goal

@@ -1,6 +1,6 @@
 use Rattle.std.proofs.Common.{Ok, Err, refl}
 use Rattle.sqlite.specs.Held.{state}
-use Rattle.shelf.proofs.Sound.{entry_added}
+use Rattle.world.proofs.Sound.{entry_added}
 use Rattle.store.proofs.StoreLemmas.{changes}
 use Rattle.store.proofs.store.SqlShelvesShelves.insert.Goals as goal
 

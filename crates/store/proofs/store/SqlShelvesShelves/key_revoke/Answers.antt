@@ -1,16 +1,15 @@
 use Rattle.std.proofs.Common.{Ok, Err}
 use Rattle.sqlite.specs.Held.{state}
-use Rattle.shelf.specs.declared.ask.Event.TheVariants.{KeyRevoke}
-use Rattle.shelf.proofs.Sound.{sound}
+use Rattle.world.proofs.Sound.{sound_revoke}
 use Rattle.store.proofs.StoreLemmas.{changes}
 use Rattle.store.proofs.store.SqlShelvesShelves.key_revoke.Goals as goal
 
 pub returns-in-Ok-clause-does : goal.returns-in-Ok-clause-does
 returns-in-Ok-clause-does g c =
     changes (state g.S.Store c.args.self.now.conn) (state g.S.Store c.revoke_key.new.conn) (Ok c.in-Ok.registered) _ _ _ c.revoke_key.ensures.changes.clean
-    (λ clean w stands _. (c.in-Ok.ensures.answer clean w stands.0, c.in-Ok.ensures.changes.at w, sound w (KeyRevoke c.args.key.now) stands.1))
+    (λ clean w stands _. (c.in-Ok.ensures.answer clean w stands.0, c.in-Ok.ensures.changes.at w, sound_revoke w c.args.key.now _ stands.1))
 
 pub returns-in-Err-clause-does : goal.returns-in-Err-clause-does
 returns-in-Err-clause-does g c =
     changes (state g.S.Store c.args.self.now.conn) (state g.S.Store c.revoke_key.new.conn) (Err c.fault.result) _ _ _ c.revoke_key.ensures.changes.clean
-    (λ clean w stands _. (tt, c.in-Err.ensures.changes.at w, sound w (KeyRevoke c.args.key.now) stands.1))
+    (λ clean w stands _. (tt, c.in-Err.ensures.changes.at w, sound_revoke w c.args.key.now _ stands.1))

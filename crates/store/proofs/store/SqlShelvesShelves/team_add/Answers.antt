@@ -1,11 +1,10 @@
-use Rattle.std.proofs.Common.{◌≡◌, false, ap, Ok, Err, rules}
+use Rattle.std.proofs.Common.{◌≡◌, false, ap, refl, Ok, Err, rules}
 use Rattle.sqlite.specs.Held.{state}
-use Rattle.shelf.specs.declared.ask.Event.TheVariants.{TeamAdd}
-use Rattle.shelf.specs.declared.reply.Registered.{Registered}
-use Rattle.shelf.specs.declared.reply.Registered.TheVariants.{Name}
-use Rattle.shelf.specs.World.{is_team_name}
-use Rattle.shelf.specs.Machine.{after_team_add}
-use Rattle.shelf.proofs.Sound.{sound}
+use Rattle.world.specs.declared.registry.Registered.{Registered}
+use Rattle.world.specs.declared.registry.Registered.TheVariants.{Name}
+use Rattle.world.specs.World.{is_team_name}
+use Rattle.world.specs.Registry.{after_team_add}
+use Rattle.world.proofs.Sound.{sound_team}
 use Rattle.store.proofs.StoreLemmas.{changes, refused}
 use Rattle.store.proofs.AddTeamLemmas.{misnamed_team}
 use Rattle.store.proofs.store.SqlShelvesShelves.team_add.Goals as goal
@@ -19,9 +18,9 @@ returns-then-not-is_team_name-clause-does g c =
 pub returns-in-Ok-clause-does : goal.returns-in-Ok-clause-does
 returns-in-Ok-clause-does g c =
     changes (state g.S.Store c.args.self.now.conn) (state g.S.Store c.add_team.new.conn) (Ok c.in-Ok.registered) _ _ _ c.add_team.ensures.changes.clean
-    (λ clean w stands _. (c.in-Ok.ensures.answer clean w stands.0, c.in-Ok.ensures.changes.at w, sound w (TeamAdd c.args.name.now) stands.1))
+    (λ clean w stands _. (c.in-Ok.ensures.answer clean w stands.0, c.in-Ok.ensures.changes.at w, sound_team w c.args.name.now _ stands.1 refl))
 
 pub returns-in-Err-clause-does : goal.returns-in-Err-clause-does
 returns-in-Err-clause-does g c =
     changes (state g.S.Store c.args.self.now.conn) (state g.S.Store c.add_team.new.conn) (Err c.fault.result) _ _ _ c.add_team.ensures.changes.clean
-    (λ clean w stands _. (tt, c.in-Err.ensures.changes.at w, sound w (TeamAdd c.args.name.now) stands.1))
+    (λ clean w stands _. (tt, c.in-Err.ensures.changes.at w, sound_team w c.args.name.now _ stands.1 refl))

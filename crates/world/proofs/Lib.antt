@@ -1,0 +1,16 @@
+pub mod OnlyCommon
+pub mod MapsDone
+pub mod MapsTexts
+pub mod MapsNested
+pub mod MapsPlaces
+pub mod MapsCounts
+pub mod MapsSets
+pub mod MapsSeen
+pub mod Orders
+pub mod Named
+pub mod InOrder
+pub mod PathForm
+pub mod EntryTests
+pub mod Retained
+pub mod Seen
+pub mod Sound

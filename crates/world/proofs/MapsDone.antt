@@ -1,0 +1,32 @@
+-- A change of a store in memory, which stands for one world.
+use Rattle.std.proofs.Common.{◌≡◌, ℕ, List, true, false, refl, Ok, inl, inr}
+use Rattle.std.specs.FinMap as map
+use Rattle.std.specs.FinSet as set
+use Rattle.world.specs.declared.registry.Registered.TheVariants.{Done}
+use Rattle.world.specs.World.{World, IsWorld, is_team_name, is_key}
+use Rattle.world.specs.Registry.{team_added, key_added, key_revoked}
+use Rattle.world.specs.Store.{DoesAt, ReadsAt}
+use Rattle.world.specs.InMemory.{in_memory}
+
+-- the answer is the value, and the store holds the next world
+pub done : {T : Type 0} (old new w : World) (x value : T) (next : World) → x ≡ value → new ≡ next → IsWorld next → DoesAt (in_memory old) (in_memory new) w (Ok x) value next
+done old new w x value next answer same is = record {
+  answer = answer;
+  ok = (same, is);
+  err = tt;
+  left = λ _. inr same;
+  kept = λ _. inl same;
+}
+
+-- the answer is the value, and nothing changes
+pub told : {T : Type 0} (m w : World) (x value : T) → ((m ≡ w) × IsWorld w) → x ≡ value → ReadsAt (in_memory m) (in_memory m) w (Ok x) value
+told m w x value is answer = record { answer = answer; stays = is; left = λ left. left }
+
+pub team_done : (w : World) (t : List ℕ) → is_team_name t ≡ true → set.contains w.shelves t ≡ false → team_added w t ≡ Done
+team_done w t named free = rw (named, free) refl
+
+pub key_done : (w : World) (s k : List ℕ) → is_key k ≡ true → set.contains w.shelves s ≡ true → map.contains_key w.keys k ≡ false → key_added w s k ≡ Done
+key_done w s k named there free = rw (named, there, free) refl
+
+pub key_gone : (w : World) (k : List ℕ) → map.contains_key w.keys k ≡ true → key_revoked w k ≡ Done
+key_gone w k there = rw there refl

@@ -1,0 +1,35 @@
+-- What a go.mod says to a publish, and when it goes with a path and a version.
+use Rattle.std.specs.Prelude.{ℕ, ◌≡◌, Bool, true, List, Option, Some, None, Result, Ok, Err}
+use Rattle.gomod.specs.Faults.{line_of}
+use Rattle.gomod.specs.Module.{GoModule}
+use Rattle.gomod.specs.Reading as gomod
+use Rattle.gomod.specs.Reads.{Reads}
+use Rattle.gomod.specs.Symbols.{profile_1}
+use Rattle.gomod.specs.declared.fault.GoModFault.{GoModFault}
+use Rattle.world.specs.declared.reading.Reading.{Reading}
+use Rattle.world.specs.declared.reading.Reading.TheVariants.{Module, Fault}
+
+-- the file with these bytes says this
+abbrev pub Says : List ℕ → GoModule → Type 0
+Says bytes m = Reads profile_1 bytes m
+
+-- the same computed: what a file says, or the line of its fault
+abbrev pub told : Result GoModule GoModFault → Reading
+told (Ok m) = Module m
+told (Err f) = Fault (line_of f)
+
+-- what reading a go.mod gives
+abbrev pub reading_of : List ℕ → Reading
+reading_of bytes = told (gomod.reading profile_1 bytes)
+
+-- what a go.mod says, if it reads
+abbrev pub module_told : Reading → Option GoModule
+module_told (Module m) = Some m
+module_told (Fault line) = None
+
+-- a go.mod reads, names the path, and is bare where the version has the mark
+pub record IsGoModOf (path : List ℕ) (is_marked : Bool) (bytes : List ℕ) : Type 0 where
+  pub says : GoModule
+  pub reads : reading_of bytes ≡ Module says
+  pub names : says.path ≡ path
+  pub bare : is_marked ≡ true → says.bare ≡ true

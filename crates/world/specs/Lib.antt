@@ -1,0 +1,13 @@
+pub mod MapsLend
+pub mod InMemory
+pub mod Names
+pub mod Lines
+pub mod Forms
+pub mod GoMods
+pub mod World
+pub mod Registry
+pub mod EntryTest
+pub mod Code
+pub mod Visible
+pub mod Store
+pub mod Kept

@@ -1,0 +1,129 @@
+//! What stands on a shelf, and who may ask for it.
+ghost use Rattle.std.specs.Prelude.{◌≡◌, IfOk};
+ghost use Rattle.world.specs.World.{place};
+
+use crate::bytes::Bytes;
+use crate::text::Text;
+use modver::TimeText;
+use std::alloc::{AllocError, Global};
+use std::marker::Model;
+
+/// The most bytes of a go.mod.
+pub const MAX_GOMOD: usize = 1_048_576;
+
+/// The most bytes of a zip.
+pub const MAX_ZIP: usize = 16_777_216;
+
+/// Where an entry stands. The path and the version are their texts.
+#[derive(PartialEq, Eq, PartialOrd, Ord, Drop)]
+pub struct Place {
+    pub shelf: Text,
+    pub path: Text,
+    pub version: Text,
+}
+
+/// A published version.
+#[derive(Drop)]
+pub struct Entry {
+    pub gomod: Bytes,
+    pub zip: Bytes,
+    pub time: Option<TimeText>,
+}
+
+/// An entry, with the shelf that it stands on.
+#[derive(Drop)]
+pub struct Seen {
+    pub shelf: Text,
+    pub entry: Entry,
+}
+
+/// An entry whose files are borrowed from whoever holds them.
+#[derive(Drop)]
+pub struct EntryRef<'a> {
+    pub gomod: &'a [u8],
+    pub zip: &'a [u8],
+    pub time: Option<TimeText>,
+}
+
+impl<'a> Model for EntryRef<'a> {
+    ghost use Rattle.world.specs.declared.entry.Entry.{Entry};
+
+    ghost Value = { Entry };
+
+    ghost view = { λ e. record { gomod = e.gomod.now; zip = e.zip.now; time = e.time } };
+}
+
+/// What a key may do.
+#[derive(Clone, Copy, Debug, PartialEq, Eq)]
+pub enum Right {
+    /// It may read.
+    Reads,
+    /// It may read, and publish to its own shelf.
+    Publishes,
+}
+
+/// What a key belongs to and may do.
+#[derive(Drop)]
+pub struct Holder {
+    pub shelf: Text,
+    pub right: Right,
+}
+
+impl Place {
+    /// The place of a shelf, a path and a version.
+    pub fn new(alloc: Global, shelf: &str, path: &str, version: &str) -> Result<Place, AllocError>
+        ensures { IfOk result (λ q. q ≡ place shelf.now path.now version.now) }
+    {
+        let shelf = Text::copy_of(alloc, shelf)?;
+        let path = Text::copy_of(alloc, path)?;
+        let version = Text::copy_of(alloc, version)?;
+        Ok(Place {
+            shelf,
+            path,
+            version,
+        })
+    }
+}
+
+impl Entry {
+    /// A copy of borrowed files.
+    pub fn copy_of(alloc: Global, entry: &EntryRef) -> Result<Entry, AllocError>
+        ensures { IfOk result (λ e. e ≡ entry.now) }
+    {
+        let gomod = Bytes::copy_of(alloc, entry.gomod)?;
+        let zip = Bytes::copy_of(alloc, entry.zip)?;
+        Ok(Entry {
+            gomod,
+            zip,
+            time: entry.time,
+        })
+    }
+
+    /// Its files.
+    pub fn as_ref(&self) -> EntryRef
+        ensures { result ≡ self.now }
+    {
+        EntryRef {
+            gomod: self.gomod.as_slice(),
+            zip: self.zip.as_slice(),
+            time: self.time,
+        }
+    }
+}
+
+impl Holder {
+    /// A shelf and a right.
+    pub fn new(alloc: Global, shelf: &str, right: Right) -> Result<Holder, AllocError>
+        ensures { IfOk result (λ h. h ≡ record { shelf = shelf.now; right = right }) }
+    {
+        let shelf = Text::copy_of(alloc, shelf)?;
+        Ok(Holder { shelf, right })
+    }
+
+    /// A copy of it.
+    pub fn copy(&self, alloc: Global) -> Result<Holder, AllocError>
+        ensures { IfOk result (λ h. h ≡ self.now) }
+    {
+        Holder::new(alloc, self.shelf.as_str(), self.right)
+    }
+}

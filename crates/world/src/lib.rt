@@ -1,0 +1,32 @@
+//! What stands on the shelves and whose the keys are; what a store of them has to do; and the store in memory.
+//!
+//! There is the shelf `common`, and one shelf for each team. An entry stands at a shelf, a module path and a
+//! version, and holds the go.mod and the zip as they were received, and a time where it has one. A key belongs to
+//! one shelf, and may read, or read and publish. A shelf sees of each version its own entry if there is one, else
+//! that of `common`.
+//!
+//! | on the shelves | `alpha` sees | `beta` sees |
+//! |---|---|---|
+//! | nothing of `example.com/y` `v1.0.0` | nothing | nothing |
+//! | `alpha` has it with the zip `a` | `a` | nothing |
+//! | `common` has it too, with the zip `c` | `a` | `c` |
+//!
+//! Nothing here knows of requests: the crate `shelf` answers them over any [`shelves::Shelves`]. A contract says
+//! what a call does in each world that the store stands for, and to what a crash may leave.
+//! [`map_shelves::MapShelves`] keeps the shelves in ordered maps. [`entry_test::may_stand`] is the test of an entry
+//! for a store that takes over tables, and [`laws`] says that it is exact.
+#![tactic(auto)]
+
+pub mod bytes;
+pub mod entry;
+pub mod entry_test;
+pub mod laws;
+pub mod map_shelves;
+mod maps;
+pub mod names;
+pub mod reading;
+pub mod registry;
+pub mod shelves;
+pub mod text;
+pub mod text_set;
+pub mod version_text;

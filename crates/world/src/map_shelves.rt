@@ -1,0 +1,186 @@
+//! Shelves in memory.
+ghost use Rattle.std.specs.Prelude.{◌≡◌, IfOk};
+ghost use Rattle.std.specs.FinMap as map;
+ghost use Rattle.modver.specs.SemanticVersion.{version_text};
+ghost use Rattle.world.specs.World.{only_common, place, seen_at};
+
+use crate::entry::{Entry, EntryRef, Holder, Right, Seen};
+use crate::maps::entry_map::EntryMap;
+use crate::maps::text_map::TextMap;
+use crate::names;
+use crate::registry::{Registered, StoreFault};
+use crate::shelves::Shelves;
+use crate::text::Text;
+use crate::text_set::TextSet;
+use modpath::ModulePath;
+use modver::Version;
+use std::alloc::{AllocError, Global};
+use std::marker::Model;
+
+/// The shelf that every shelf sees.
+pub const COMMON: &str = "common";
+
+/// Shelves in ordered maps, which contracts see as their world.
+#[derive(Drop)]
+pub struct MapShelves {
+    alloc: Global,
+    keys: TextMap<Holder>,
+    shelves: TextSet,
+    entries: EntryMap,
+}
+
+impl Model for MapShelves {
+    ghost use Rattle.world.specs.World.{World};
+    ghost use Rattle.world.specs.Code.{world_code};
+
+    ghost Value = { World };
+
+    ghost coded = { world_code };
+
+    ghost view = { λ m. record { keys = m.keys; shelves = m.shelves; entries = m.entries } };
+}
+
+impl MapShelves {
+    /// The shelf `common` alone.
+    pub fn new(alloc: Global) -> Result<MapShelves, AllocError>
+        ensures { IfOk result (λ m. m ≡ only_common) }
+    {
+        let mut shelves = TextSet::new(alloc);
+        shelves.insert(String::from_str(alloc, COMMON)?)?;
+        Ok(MapShelves {
+            alloc,
+            keys: TextMap::new(alloc),
+            shelves,
+            entries: EntryMap::new(alloc),
+        })
+    }
+
+    /// A copy of what stands on a shelf.
+    fn seen_on(
+        &self,
+        shelf: &str,
+        path: &ModulePath,
+        version: &Version,
+    ) -> Result<Option<Seen>, AllocError>
+        ensures { IfOk result (λ seen. seen ≡ seen_at (map.get self.now.entries (place shelf.now path.now (version_text version.now))) shelf.now) }
+    {
+        match self.entries.get(shelf, path.as_str(), version.as_str()) {
+            None => Ok(None),
+            Some(entry) => {
+                let shelf = Text::copy_of(self.alloc, shelf)?;
+                let entry = Entry::copy_of(self.alloc, &entry.as_ref())?;
+                Ok(Some(Seen { shelf, entry }))
+            }
+        }
+    }
+}
+
+impl Shelves for MapShelves {
+    ghost use Rattle.std.proofs.Common.{inl, inr};
+    ghost use Rattle.world.specs.InMemory.{in_memory};
+
+    ghost shown = { in_memory };
+
+    ghost failure_count = { λ m. 0 };
+
+    ghost sound = { λ m w stands. stands.1 };
+
+    ghost wider = { λ m w x left. inl (elim left [ inl e ↦ e | inr e ↦ e ]) };
+
+    fn failures(&self) -> u64 {
+        0
+    }
+
+    fn key(&mut self, key: &str) -> Result<Option<Holder>, StoreFault> {
+        match self.keys.get(key) {
+            None => Ok(None),
+            Some(holder) => Ok(Some(holder.copy(self.alloc)?)),
+        }
+    }
+
+    fn entry(
+        &mut self,
+        shelf: &str,
+        path: &ModulePath,
+        version: &Version,
+    ) -> Result<Option<Seen>, StoreFault> {
+        let own = self.seen_on(shelf, path, version)?;
+        if own.is_some() {
+            return Ok(own);
+        }
+        Ok(self.seen_on(COMMON, path, version)?)
+    }
+
+    fn versions(&mut self, shelf: &str, path: &ModulePath) -> Result<TextSet, StoreFault> {
+        let mut versions = TextSet::new(self.alloc);
+        let path = path.as_str();
+        self.entries
+            .add_versions(self.alloc, shelf, path, &mut versions)?;
+        self.entries
+            .add_versions(self.alloc, COMMON, path, &mut versions)?;
+        Ok(versions)
+    }
+
+    fn paths(&mut self, shelf: &str) -> Result<TextSet, StoreFault> {
+        let mut paths = TextSet::new(self.alloc);
+        self.entries.add_paths(self.alloc, shelf, &mut paths)?;
+        self.entries.add_paths(self.alloc, COMMON, &mut paths)?;
+        Ok(paths)
+    }
+
+    fn count(&mut self, shelf: &str, path: &ModulePath) -> Result<u64, StoreFault> {
+        Ok(self.entries.count(shelf, path.as_str()) as u64)
+    }
+
+    fn insert(
+        &mut self,
+        shelf: &str,
+        path: &ModulePath,
+        version: &Version,
+        entry: &EntryRef,
+    ) -> Result<(), StoreFault> {
+        let entry = Entry::copy_of(self.alloc, entry)?;
+        let (path, version) = (path.as_str(), version.as_str());
+        self.entries
+            .insert(self.alloc, shelf, path, version, entry)?;
+        Ok(())
+    }
+
+    fn team_add(&mut self, name: &str) -> Result<Registered, StoreFault> {
+        if !names::is_team_name(name) {
+            return Ok(Registered::Name);
+        }
+        if self.shelves.contains(name) {
+            return Ok(Registered::Taken);
+        }
+        self.shelves.insert(String::from_str(self.alloc, name)?)?;
+        Ok(Registered::Done)
+    }
+
+    fn key_add(&mut self, shelf: &str, key: &str, right: Right) -> Result<Registered, StoreFault> {
+        if !names::is_key(key) {
+            return Ok(Registered::Name);
+        }
+        if !self.shelves.contains(shelf) {
+            return Ok(Registered::NoTeam);
+        }
+        if self.keys.contains_key(key) {
+            return Ok(Registered::Taken);
+        }
+        let holder = Holder::new(self.alloc, shelf, right)?;
+        let key = String::from_str(self.alloc, key)?;
+        self.keys.insert(key, holder)?;
+        Ok(Registered::Done)
+    }
+
+    fn key_revoke(&mut self, key: &str) -> Result<Registered, StoreFault> {
+        if !self.keys.contains_key(key) {
+            return Ok(Registered::NoKey);
+        }
+        self.keys.remove(key);
+        Ok(Registered::Done)
+    }
+}
+
+#[cfg(test)]
+mod tests;

@@ -1,0 +1,59 @@
+//! The rules of names.
+ghost use Rattle.std.specs.Prelude.{◌≡◌, ◌||◌, nat_eq};
+ghost use Rattle.std.specs.List.{list_all};
+ghost use Rattle.world.specs.Names as spec;
+
+/// 1 to 32 bytes of `a-z0-9-`, the first a letter, and not `common`.
+pub fn is_team_name(name: &str) -> bool
+    ensures { result ≡ spec.is_team_name name.now }
+{
+    let bytes = name.as_bytes();
+    bytes.len() <= 32 && begins_lower(bytes) && all_name_bytes(bytes) && name != "common"
+}
+
+/// 16 to 64 bytes of `a-z0-9`.
+pub fn is_key(key: &str) -> bool
+    ensures { result ≡ spec.is_key key.now }
+{
+    let bytes = key.as_bytes();
+    16 <= bytes.len() && bytes.len() <= 64 && all_key_bytes(bytes)
+}
+
+fn begins_lower(bytes: &[u8]) -> bool
+    ensures { result ≡ spec.begins_lower bytes.now }
+{
+    match bytes {
+        [] => false,
+        [first, ..] => is_lower(*first),
+    }
+}
+
+fn is_lower(byte: u8) -> bool
+    ensures { result ≡ spec.is_lower byte }
+{
+    97 <= byte && byte <= 122
+}
+
+fn is_key_byte(byte: u8) -> bool
+    ensures { result ≡ (spec.is_lower byte || spec.is_digit byte) }
+{
+    is_lower(byte) || (48 <= byte && byte <= 57)
+}
+
+fn is_name_byte(byte: u8) -> bool
+    ensures { result ≡ (spec.is_lower byte || spec.is_digit byte || nat_eq byte 45) }
+{
+    is_key_byte(byte) || byte == b'-'
+}
+
+fn all_key_bytes(bytes: &[u8]) -> bool
+    ensures { result ≡ list_all (λ c. spec.is_lower c || spec.is_digit c) bytes.now }
+{
+    bytes.iter().all(|b| is_key_byte(*b))
+}
+
+fn all_name_bytes(bytes: &[u8]) -> bool
+    ensures { result ≡ list_all (λ c. spec.is_lower c || spec.is_digit c || nat_eq c 45) bytes.now }
+{
+    bytes.iter().all(|b| is_name_byte(*b))
+}

@@ -1,6 +1,6 @@
 -- The first team and its key are accepted.
-use Rattle.std.proofs.Common.{◌≡◌, ℕ, List, Bool, true, false, refl, ◌∙◌, sym, ap, subst, Ok, Option, Result}
-use Rattle.std.specs.Prelude.{◌&&◌, ◌||◌, not, nat_le, nat_eq, length, bytes_eq, if◌then◌else◌, is_some}
+use Rattle.std.proofs.Common.{◌≡◌, ℕ, List, true, false, ◌∙◌, ap, subst, Ok, Option, Result}
+use Rattle.std.specs.Prelude.{◌&&◌, ◌||◌, not, nat_le, nat_eq, length, bytes_eq, is_some}
 use Rattle.std.specs.List.{list_all}
 use Rattle.std.specs.Cmp.{tied_itself}
 use Rattle.std.specs.Ordering.{is_eq}
@@ -13,10 +13,8 @@ use Rattle.world.specs.Names.{begins_lower, is_lower, is_digit}
 use Rattle.world.specs.Store.{Does}
 use Rattle.world.specs.World.{World, IsWorld, only_common, with_team, is_team_name, is_key, common, text_cmp}
 use Rattle.world.specs.declared.entry.Right.TheVariants.{Publishes}
-use Rattle.world.specs.declared.entry.Holder.{Holder}
 use Rattle.world.specs.declared.registry.Registered.{Registered}
-use Rattle.world.specs.declared.registry.Registered.TheVariants.{Done, Name, Taken, NoTeam}
-use Rattle.world.specs.declared.registry.StoreFault.{StoreFault}
+use Rattle.world.specs.declared.registry.Registered.TheVariants.{Done}
 use Rattle.world.proofs.MapsDone.{team_done, key_done}
 use Rattle.world.proofs.OnlyCommon.{only_common_stands, has_nothing_else}
 use Rattle.shelf.proofs.Sound.{sound}

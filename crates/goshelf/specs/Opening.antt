@@ -1,6 +1,5 @@
 -- What a run over shelves in memory begins with, and how it ends.
 use Rattle.std.specs.Prelude.{ℕ, List, ◌≡◌, true, Option, Result, Ok, Err}
-use Rattle.std.specs.Io.KnownBytes.{Keeps}
 use Rattle.engine.specs.Served.{Serves}
 use Rattle.engine.specs.declared.fault.Io.{Io as Failure}
 use Rattle.world.specs.InMemory.{in_memory}

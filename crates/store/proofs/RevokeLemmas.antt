@@ -3,14 +3,14 @@ use Rattle.std.proofs.Common.{◌≡◌, ◌≢◌, ◌∙◌, ℕ, ℤ, Bool, t
 use Rattle.std.specs.List.{AllByRecursion}
 use Rattle.std.specs.FinMap as map
 use Rattle.std.specs.Ordering.{eq_by_cmp}
-use Rattle.std.proofs.lemmas.Bool.{cases_Bool, false_from_ne_true}
+use Rattle.std.proofs.lemmas.Bool.{false_from_ne_true}
 use Rattle.std.proofs.lemmas.Bool.Decides.{nat_tests}
 use Rattle.std.proofs.lemmas.Cmp.{tied_itself}
 use Rattle.std.proofs.lemmas.Int.{ints}
 use Rattle.std.proofs.lemmas.Map.Views.{tells_apart}
 use Rattle.sqlite.specs.declared.types.Value.TheVariants.{Int, Text}
 use Rattle.sqlite.specs.Order.{Row, column}
-use Rattle.sqlite.specs.Term.{Term, col, eval_all}
+use Rattle.sqlite.specs.Term.{col}
 use Rattle.sqlite.specs.Tree.{Trees, rowid}
 use Rattle.sqlite.specs.Effect.{Database}
 use Rattle.sqlite.specs.Edit.{edit_of, without_all}
@@ -33,13 +33,12 @@ use Rattle.sqlite_schema.specs.declared.schema.Keys.TheVariants.{Enforced}
 use Rattle.sqlite_value.proofs.OrderLemmas.{value_cmp-Int, value_cmp_total}
 use Rattle.sqlite_value.specs.Order.{value_cmp}
 use Rattle.sqlite_tied.specs.Compute.{everything}
-use Rattle.world.specs.declared.entry.Holder.{Holder}
 use Rattle.world.specs.declared.registry.Registered.TheVariants.{Done, NoKey}
 use Rattle.world.specs.World.{World, text_cmp, without_key}
 use Rattle.world.specs.Registry.{after_key_revoke}
 use Rattle.world.proofs.Orders.{texts_total, texts_exact}
 use Rattle.store.specs.Schema.{store_schema, access_table}
-use Rattle.store.specs.Means.{Holds, Means, IsAccess, IsNumbered, Tabulates}
+use Rattle.store.specs.Means.{Holds, IsAccess, IsNumbered, Tabulates}
 use Rattle.store.specs.Views.{with_key_revoked}
 use Rattle.store.specs.Lookup.{lookup, AreFound}
 use Rattle.store.proofs.Texts.{revoke_key_text}

@@ -17,10 +17,10 @@ ghost use Rattle.store.specs.Added.{HasAdded};
 
 use crate::shelves::{find_row, has_shelf};
 use modver::{TimeText, read_time};
-use shelf::bytes::Bytes;
-use shelf::entry::{Entry, EntryRef, Seen};
-use shelf::text::Text;
 use sqlite::{Alter, Connection, Error, ErrorCode, Row, Transaction, params};
+use world::bytes::Bytes;
+use world::entry::{Entry, EntryRef, Seen};
+use world::text::Text;
 
 /// What the row of a version shows, with its number.
 #[derive(Drop)]

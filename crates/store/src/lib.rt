@@ -1,4 +1,4 @@
-//! Team shelves as rows of SQL tables, behind the trait `shelf::shelves::Shelves`.
+//! Team shelves as rows of SQL tables, behind the trait `world::shelves::Shelves`.
 //!
 //! A store holds five STRICT tables, schema 1:
 //!

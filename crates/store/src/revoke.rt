@@ -11,8 +11,8 @@ ghost use Rattle.store.specs.Calls.{ChangesAt, Changes};
 ghost use Rattle.store.specs.Views.{with_key_revoked};
 
 use crate::shelves::find_key;
-use shelf::reply::Registered;
 use sqlite::{Alter, Connection, Error, params};
+use world::registry::Registered;
 
 /// Takes the row of a key away.
 fn delete_key<S: Alter>(conn: &mut Connection<S>, token: &str) -> Result<(), Error>

@@ -19,11 +19,11 @@ ghost use Rattle.store.specs.Means.{Stands};
 ghost use Rattle.store.specs.Calls.{Spares, Selects, ChangesAt, Changes};
 ghost use Rattle.store.specs.Views.{may_publish, with_key_added, with_team_added};
 
-use shelf::entry::{Holder, Right};
-use shelf::reply::Registered;
-use shelf::text::Text;
 use sqlite::types::ValueRef;
 use sqlite::{Alter, Connection, Error, Row, params};
+use world::entry::{Holder, Right};
+use world::registry::Registered;
+use world::text::Text;
 
 fn may_publish(right: Right) -> bool
     ensures { result ≡ may_publish right }

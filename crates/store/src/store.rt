@@ -17,13 +17,13 @@ use crate::shelves::{add_key, add_team, find_key};
 use crate::visible::{find_paths, find_versions};
 use modpath::ModulePath;
 use modver::Version;
-use shelf::entry::{EntryRef, Holder, Right, Seen};
-use shelf::names::{is_key, is_team_name};
-use shelf::reply::{Registered, StoreFault};
-use shelf::shelves::Shelves;
-use shelf::text_set::TextSet;
 use sqlite::{Alter, Connection, Error, ErrorCode};
 use std::alloc::Global;
+use world::entry::{EntryRef, Holder, Right, Seen};
+use world::names::{is_key, is_team_name};
+use world::registry::{Registered, StoreFault};
+use world::shelves::Shelves;
+use world::text_set::TextSet;
 
 /// Shelves whose entries and keys are rows of SQL tables.
 #[derive(Drop)]

@@ -1,16 +1,16 @@
 use crate::store::SqlShelves;
 use modpath::ModulePath;
 use modver::{TimeText, Version, read_time};
-use shelf::ask::{Ask, Body, Event, GivenTime, Publish, Query};
-use shelf::bytes::Bytes;
-use shelf::entry::{EntryRef, Right};
-use shelf::reply::{Answer, Decision, Registered, Reply, StoreFault};
-use shelf::run::run;
-use shelf::shelves::Shelves;
-use shelf::text::Text;
 use sqlite::MemStore;
 use std::alloc::Global;
 use std::test::Fail;
+use world::ask::{Ask, Body, Event, GivenTime, Publish, Query};
+use world::bytes::Bytes;
+use world::entry::{EntryRef, Right};
+use world::registry::{Answer, Decision, Registered, Reply, StoreFault};
+use world::run::run;
+use world::shelves::Shelves;
+use world::text::Text;
 
 const LIB: &[u8] = b"module example.com/lib\n";
 

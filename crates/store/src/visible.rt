@@ -14,10 +14,10 @@ ghost use Rattle.store.specs.Means.{Stands};
 ghost use Rattle.store.specs.Calls.{Spares};
 ghost use Rattle.store.specs.Lists.{AddsTexts, AddsVersions, AddsPaths};
 
-use shelf::text_set::TextSet;
 use sqlite::types::ValueRef;
 use sqlite::{Alter, Connection, Error, Row, params};
 use std::alloc::Global;
+use world::text_set::TextSet;
 
 /// The rows of the answer to a query.
 fn find_rows<S: Alter>(

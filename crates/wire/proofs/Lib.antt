@@ -9,7 +9,10 @@ pub mod PlainLemmas
 pub mod VersionLemmas
 pub mod PlainBytes
 pub mod InfoLemmas
+pub mod RouteLemmas
+pub mod WalkLemmas
 pub mod TargetLemmas
+pub mod RouteReadings
 pub mod PlaceReadings
 pub mod QueryReadings
 pub mod TargetReadings

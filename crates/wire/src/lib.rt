@@ -36,6 +36,7 @@ pub mod put;
 mod queries;
 pub mod reply;
 pub mod request;
+mod routes;
 pub mod targets;
 pub mod text;
 

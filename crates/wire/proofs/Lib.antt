@@ -3,7 +3,6 @@ pub mod FramingLemmas
 pub mod HeadLemmas
 pub mod StreamLemmas
 pub mod ValuesLemmas
-pub mod StatusLemmas
 pub mod CutLemmas
 pub mod PlainLemmas
 pub mod VersionLemmas

@@ -8,6 +8,7 @@ pub mod PlainLemmas
 pub mod VersionLemmas
 pub mod PlainBytes
 pub mod InfoLemmas
+pub mod InsertLemmas
 pub mod RouteLemmas
 pub mod WalkLemmas
 pub mod TargetLemmas

@@ -1,5 +1,5 @@
 //! The routes of targets.
-ghost use Rattle.std.specs.Prelude.{◌≡◌, None, Some, IfOk, MatchOption};
+ghost use Rattle.std.specs.Prelude.{◌≡◌, None, Some, IfOk, IfErr, MatchOption};
 ghost use Rattle.wire.specs.Route as spec;
 
 use crate::message::Memory;
@@ -23,9 +23,10 @@ pub(crate) struct Routed<'t> {
     pub(crate) rest: &'t str,
 }
 
-/// The router of both routes.
+/// The router of both routes. They do not conflict, so only memory can be refused.
 fn routes(alloc: Global) -> Result<Router<Area>, InsertError>
-    ensures { IfOk result (λ routes. routes ≡ spec.routes) }
+    ensures ok { IfOk result (λ routes. routes ≡ spec.routes) }
+    ensures memory { IfErr result (λ e. e ≡ InsertError.OutOfMemory) }
 {
     let mut routes = Router::new(alloc);
     routes.insert("/k/{key}/-/{*rest}", Area::Shelf)?;
@@ -33,7 +34,7 @@ fn routes(alloc: Global) -> Result<Router<Area>, InsertError>
     Ok(routes)
 }
 
-/// A target by its route, if it has one. The routes are fixed and do not conflict, so memory alone can be refused.
+/// A target by its route, if it has one.
 pub(crate) fn route_of<'t>(alloc: Global, target: &'t str) -> Result<Option<Routed<'t>>, Memory>
     ensures { IfOk result (λ found. MatchOption found (spec.routed_of target.now ≡ None)
         (λ r. spec.routed_of target.now ≡ Some (r.area, r.key.now, r.rest.now))) }

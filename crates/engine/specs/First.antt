@@ -3,7 +3,6 @@ use Rattle.std.specs.Prelude.{◌≡◌, ℕ, ◌≤◌, ◌⊎◌, List, [], �
 use Rattle.std.specs.Io.KnownBytes.{Consumes, Appends, Keeps}
 use Rattle.wire.specs.Message.{ReadsMessage}
 use Rattle.wire.specs.Framing.{IsUnfinished}
-use Rattle.wire.specs.Reply.{status_number}
 use Rattle.wire.specs.declared.reply.Fixed.{Fixed}
 use Rattle.world.specs.Store.{Shown}
 use Rattle.engine.specs.Exchange.{Exchange}
@@ -30,7 +29,7 @@ first_bytes (Closes closing) = closing_bytes closing
 
 -- the number of the status written, or none where nothing is
 abbrev pub first_status : First → Option ℕ
-first_status (Answers x) = Some (status_number (status_of x))
+first_status (Answers x) = Some (status_of x)
 first_status (Closes closing) = closing_status closing
 
 abbrev pub first_exchanges : First → List Exchange

@@ -6,8 +6,6 @@ use Rattle.wire.specs.Reply.{reply_bytes, fixed_bytes, fixed_status, info_bytes}
 use Rattle.wire.specs.declared.reply.Fixed.{Fixed}
 use Rattle.wire.specs.declared.reply.Fixed.TheVariants as fixed
 use Rattle.wire.specs.declared.reply.Kind.TheVariants as kind
-use Rattle.wire.specs.declared.reply.Status.{Status}
-use Rattle.wire.specs.declared.reply.Status.TheVariants as status
 use Rattle.world.specs.Lines.{in_order, lines_of}
 use Rattle.shelf.specs.declared.reply.Answer.{Answer}
 use Rattle.shelf.specs.declared.reply.Answer.TheVariants.{Replied, Failed}
@@ -77,11 +75,11 @@ page_for m (Failed fault) = page.Fixed fixed.Unavailable
 
 abbrev pub page_bytes : Page → List ℕ
 page_bytes (page.Fixed answer) = fixed_bytes answer
-page_bytes (page.Body kind text) = reply_bytes status.Ok kind text
+page_bytes (page.Body kind text) = reply_bytes 200 kind text
 
-abbrev pub page_status : Page → Status
+abbrev pub page_status : Page → ℕ
 page_status (page.Fixed answer) = fixed_status answer
-page_status (page.Body kind text) = status.Ok
+page_status (page.Body kind text) = 200
 
 -- the bytes of an answer to a request
 abbrev pub bytes_of : Request → Answer → List ℕ
@@ -94,5 +92,5 @@ page_to x = page_for x.message (answer_of x)
 abbrev pub text_of : Exchange → List ℕ
 text_of x = page_bytes (page_to x)
 
-abbrev pub status_of : Exchange → Status
+abbrev pub status_of : Exchange → ℕ
 status_of x = page_status (page_to x)

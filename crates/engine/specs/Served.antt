@@ -4,7 +4,7 @@ use Rattle.std.specs.List.{flat_map}
 use Rattle.std.specs.Io.KnownBytes.{Consumes, Appends}
 use Rattle.wire.specs.Message.{ReadsMessages, Ends, clean, too_large, bad}
 use Rattle.wire.specs.Framing.{IsUnfinished}
-use Rattle.wire.specs.Reply.{fixed_bytes, fixed_status, status_number}
+use Rattle.wire.specs.Reply.{fixed_bytes, fixed_status}
 use Rattle.wire.specs.declared.reply.Fixed.{Fixed}
 use Rattle.wire.specs.declared.reply.Fixed.TheVariants.{TooLarge, BadRequest, Unavailable}
 use Rattle.world.specs.Store.{Shown}
@@ -35,7 +35,7 @@ closing_bytes (Some closing) = fixed_bytes closing
 
 abbrev pub closing_status : Option Fixed → Option ℕ
 closing_status None = None
-closing_status (Some closing) = Some (status_number (fixed_status closing))
+closing_status (Some closing) = Some (fixed_status closing)
 
 -- all that is written for the exchanges
 abbrev pub texts_of : List Exchange → List ℕ

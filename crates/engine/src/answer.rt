@@ -81,7 +81,7 @@ fn answer_first<W: Write, S: Shelves>(
 {
     let status = answer_message(alloc, writer, shelves, message)?;
     flush(writer)?;
-    Ok(Some(status.number()))
+    Ok(Some(status.as_u16()))
 }
 
 /// Serves the first message of a stream.

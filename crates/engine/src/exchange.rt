@@ -17,7 +17,7 @@ use shelf::step::step;
 use std::alloc::Global;
 use std::io::Write;
 use wire::Message;
-use wire::reply::{Fixed, Status};
+use wire::reply::{Fixed, StatusCode};
 
 /// What is written for what the machine answered: its reply, or 503 where the store met a fault, or where there is no memory
 /// for the body of the reply.
@@ -53,7 +53,7 @@ pub(crate) fn answer_message<W: Write, S: Shelves>(
     writer: &mut W,
     shelves: &mut S,
     message: Message,
-) -> Result<Status, Io>
+) -> Result<StatusCode, Io>
     ensures { (outcome : Outcome)
         × (let x : Exchange = record { message = view message; outcome = outcome } in
         GoesThrough (S.shown shelves.old) (S.shown shelves.new) (S.failure_count shelves.old) (S.failure_count shelves.new) (x ∷ [])

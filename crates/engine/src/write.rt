@@ -11,7 +11,7 @@ use crate::fault::Io;
 use crate::page::Page;
 use crate::read::TRIES;
 use std::io::{ErrorKind, Write};
-use wire::reply::{Fixed, Kind, Status};
+use wire::reply::{Fixed, Kind, StatusCode};
 use wire::{fixed, put_head};
 
 /// Writes some of the bytes; a call that is interrupted is made anew.
@@ -54,7 +54,7 @@ fn write_both<W: Write>(writer: &mut W, first: &[u8], second: &[u8]) -> Result<(
 }
 
 /// Writes a fixed reply, with no memory, and answers its status.
-fn write_fixed<W: Write>(writer: &mut W, answer: Fixed) -> Result<Status, Io>
+fn write_fixed<W: Write>(writer: &mut W, answer: Fixed) -> Result<StatusCode, Io>
     ensures bytes { Writes (W.contents writer.old) (W.contents writer.new) (fixed_bytes answer) result }
     ensures status { IfOk result (λ status. status ≡ fixed_status answer) }
 {
@@ -65,18 +65,18 @@ fn write_fixed<W: Write>(writer: &mut W, answer: Fixed) -> Result<Status, Io>
 }
 
 /// Writes a 200 with a body, with no memory and no copy of the body, and answers its status.
-fn write_body<W: Write>(writer: &mut W, kind: Kind, body: &[u8]) -> Result<Status, Io>
-    ensures bytes { Writes (W.contents writer.old) (W.contents writer.new) (reply_bytes Status.Ok kind body.now) result }
-    ensures status { IfOk result (λ status. status ≡ Status.Ok) }
+fn write_body<W: Write>(writer: &mut W, kind: Kind, body: &[u8]) -> Result<StatusCode, Io>
+    ensures bytes { Writes (W.contents writer.old) (W.contents writer.new) (reply_bytes 200 kind body.now) result }
+    ensures status { IfOk result (λ status. status ≡ 200) }
 {
     let mut buf = [0; 160];
     let len = put_head(kind, body.len(), &mut buf);
     write_both(writer, &buf[..len], body)?;
-    Ok(Status::Ok)
+    Ok(StatusCode::OK)
 }
 
 /// Writes a reply, with no memory, and answers its status.
-pub(crate) fn write_page<W: Write>(writer: &mut W, page: &Page) -> Result<Status, Io>
+pub(crate) fn write_page<W: Write>(writer: &mut W, page: &Page) -> Result<StatusCode, Io>
     ensures bytes { Writes (W.contents writer.old) (W.contents writer.new) (page_bytes page.now) result }
     ensures status { IfOk result (λ status. status ≡ page_status page.now) }
 {
@@ -117,7 +117,7 @@ pub(crate) fn close_first<W: Write>(
 {
     close(writer, closing)?;
     match closing {
-        Some(closing) => Ok(Some(closing.status().number())),
+        Some(closing) => Ok(Some(closing.status().as_u16())),
         None => Ok(None),
     }
 }

@@ -3,13 +3,16 @@ pub mod FramingLemmas
 pub mod HeadLemmas
 pub mod StreamLemmas
 pub mod ValuesLemmas
-pub mod StatusLemmas
 pub mod CutLemmas
 pub mod PlainLemmas
 pub mod VersionLemmas
 pub mod PlainBytes
 pub mod InfoLemmas
+pub mod InsertLemmas
+pub mod RouteLemmas
+pub mod WalkLemmas
 pub mod TargetLemmas
+pub mod RouteReadings
 pub mod PlaceReadings
 pub mod QueryReadings
 pub mod TargetReadings

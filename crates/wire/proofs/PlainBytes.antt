@@ -1,6 +1,6 @@
 -- The bytes of module paths and versions.
 use Rattle.std.proofs.Common.{◌≡◌, ◌==◌, ◌&&◌, ◌+◌, ◌%◌, ◌<◌, ◌^◌, ℕ, List, [], ◌∷◌, ◌++◌, Bool, true, false, not, nat_lt, refl, inl, inr, arith, decimal}
-use Rattle.std.proofs.lemmas.Bool.{cases_Bool, and_parts, and_from}
+use Rattle.std.proofs.lemmas.Bool.{cases_Bool, and_parts, and_from, ltb-true}
 use Rattle.std.proofs.lemmas.Bool.Decides.{nat_tests}
 use Rattle.std.proofs.lemmas.Fmt.{decimal_by_steps}
 use Rattle.std.proofs.lemmas.List.Folds.{list_all-append}
@@ -113,3 +113,10 @@ escaped-ascii (b ∷ rest) h =
 
 pub escaped-utf8 : (text : List ℕ) → list_all is_plain_byte text ≡ true → IsUtf8 (escaped text)
 escaped-utf8 text h = IsUtf8-from_ascii (escaped text) (escaped-ascii text h)
+
+-- a text of ASCII
+pub ascii-from : (bytes : List ℕ) → list_all (λ b. nat_lt b 128) bytes ≡ true → IsAscii bytes
+ascii-from [] h = IsAscii-nil
+ascii-from (b ∷ bytes) h =
+    let parts = and_parts (nat_lt b 128) (list_all (λ x. nat_lt x 128) bytes) h in
+    IsAscii-cons b bytes (ltb-true b 128 parts.0) (ascii-from bytes parts.1)

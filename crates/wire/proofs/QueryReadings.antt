@@ -1,13 +1,13 @@
 -- What a GET asks for by the rest behind the key, computed, is what it asks for.
-use Rattle.std.proofs.Common.{◌≡◌, ◌≢◌, ◌==◌, ℕ, ◌+◌, List, [], ◌∷◌, ◌++◌, length, drop, codes, Option, Some, None, true, false, get_or, refl, sym, ap, ◌∙◌, subst, inl, inr, arith, append_assoc, length-append}
-use Rattle.std.proofs.lemmas.Bool.{cases_Bool}
+use Rattle.std.proofs.Common.{◌≡◌, ◌≢◌, ◌==◌, ℕ, ◌+◌, ◌<◌, nat_lt, List, [], ◌∷◌, ◌++◌, length, drop, codes, Option, Some, None, true, false, get_or, refl, sym, ap, ◌∙◌, subst, inl, inr, arith, append_assoc, length-append}
+use Rattle.std.proofs.lemmas.Bool.{cases_Bool, false_from_ne_true, lt-ltb}
 use Rattle.std.proofs.lemmas.Bool.Decides.{Decides-eqb}
 use Rattle.std.proofs.lemmas.List.{drop_at}
 use Rattle.std.specs.Char.{is_ascii_uppercase}
 use Rattle.std.specs.Cmp.Lexicographic.{pointwise_decides}
 use Rattle.std.specs.List.{onto_first, slice_split}
 use Rattle.std.specs.Option.{option_and_then, option_map}
-use Rattle.percent_encoding.proofs.PercentLemmas.{percent_decode_not_percent}
+use Rattle.percent_encoding.proofs.PercentLemmas.{percent_decode-nil, percent_decode_not_percent}
 use Rattle.percent_encoding.specs.Percent.{percent_decode}
 use Rattle.modpath.proofs.PathLaw.{check_is_exact}
 use Rattle.modpath.specs.Escape.{escaped}
@@ -15,12 +15,16 @@ use Rattle.modpath.specs.ModulePath.{BeginsWith}
 use Rattle.modpath.specs.Path.{IsPath, check_of, first_element}
 use Rattle.modver.specs.SemanticVersion.{SemanticVersion, version_text}
 use Rattle.wire.specs.Place.{IsPlace, cut_of, path_of, version_from, without_end, without_start}
-use Rattle.wire.specs.Query.{IsQuery, asked_by, asked_of, ending_of, first_some, of_path, own_of, own_or_asked, part_of, query_for, query_of, split_part, text_eq, without_ending}
+use Rattle.wire.specs.Query.{IsQuery, asked_by, asked_of, ending_of, first_some, of_path, own_of, part_of, query_for, query_in, split_part, text_eq, without_ending}
+use Rattle.wire.specs.Route.{area_of, is_own}
+use Rattle.wire.specs.declared.routes.Area.{Area}
+use Rattle.wire.specs.declared.routes.Area.TheVariants as area
 use Rattle.wire.specs.declared.queries.Part.{Part}
 use Rattle.wire.specs.declared.queries.Part.TheVariants as part
 use Rattle.wire.specs.declared.request.Query.{Query}
 use Rattle.wire.specs.declared.request.Query.TheVariants as query
 use Rattle.wire.proofs.PlaceReadings.{path-cut, path-is, path-taken, version-is, version-taken}
+use Rattle.wire.proofs.RouteReadings.{StandsIn, area-is, area-path, own-is}
 use Rattle.wire.proofs.TargetLemmas.{cut-is, end-is, end-taken, if-some, map-some, start-is, then-some}
 
 pub same-text : (xs ys : List ℕ) → text_eq xs ys ≡ true → xs ≡ ys
@@ -61,13 +65,16 @@ escaped-dash (b ∷ path) behind rest is e = elim (cases_Bool (is_ascii_uppercas
       no-dash path (subst (λ (c : ℕ). IsPath (c ∷ path)) dash is)
 ]
 
--- a rest that decodes to a path begins with no plain dash
-no-own : (rest path behind : List ℕ) → percent_decode rest ≡ escaped path ++ (47 ∷ behind) → IsPath path → (found : Option (List ℕ))
-    → without_start (codes "-/") rest ≡ found → found ≡ None
-no-own rest path behind whole is None e = refl
-no-own rest path behind whole is (Some after) e =
-    let begins = start-is (codes "-/") rest after e in
-    absurd (escaped-dash path behind (percent_decode after) is (sym whole ∙ ap percent_decode begins ∙ dash-decoded after))
+-- a rest that decodes to a path is asked of that path
+pub path-area : (rest path behind : List ℕ) → percent_decode rest ≡ escaped path ++ (47 ∷ behind) → IsPath path → area_of rest ≡ Some (area.Path, rest)
+path-area rest path behind whole is = area-path rest (false_from_ne_true (is_own rest) never) (some rest whole)
+  where
+    never : is_own rest ≡ true → ⊥
+    never own = escaped-dash path behind (percent_decode (drop 2 rest)) is (sym whole ∙ ap percent_decode (own-is rest own).0 ∙ dash-decoded (drop 2 rest))
+
+    some : (r : List ℕ) → percent_decode r ≡ escaped path ++ (47 ∷ behind) → 0 < length r
+    some [] e = absurd (omega (arith, ap length (sym percent_decode-nil ∙ e), length-append (escaped path) (47 ∷ behind)))
+    some (b ∷ r) e = omega arith
 
 -- ---- parts of a version
 
@@ -141,22 +148,36 @@ part-taken path name v p is = rw (no-list name p, without-ending-taken name p, i
 
 -- ---- what is asked of a path
 
+-- the area and what is asked there give the query
+pub record IsTaken (rest : List ℕ) (asked : Query) : Type 0 where
+  pub where_is : Area
+  pub behind : List ℕ
+  pub found : area_of rest ≡ Some (where_is, behind)
+  pub taken : query_in where_is behind ≡ Some asked
+
 of-path-taken : (rest path behind : List ℕ) (asked : Query) → percent_decode rest ≡ escaped path ++ (codes "/@" ++ behind) → IsPath path
-    → of_path path behind ≡ Some asked → query_of rest ≡ Some asked
-unfolding query_of asked_of
-of-path-taken rest path behind asked whole is h =
-    rw (no-own rest path (64 ∷ behind) whole is _ refl, whole, path-cut path behind is, path-taken path is) h
+    → of_path path behind ≡ Some asked → IsTaken rest asked
+unfolding asked_of
+of-path-taken rest path behind asked whole is h = record {
+  where_is = area.Path;
+  behind = rest;
+  found = path-area rest path (64 ∷ behind) whole is;
+  taken = rw (whole, path-cut path behind is, path-taken path is) h;
+}
 
 place-taken : (rest path : List ℕ) (v : SemanticVersion) (p : Part) → IsPlace (percent_decode rest) path v (ending_of p)
-    → query_of rest ≡ Some (query_for p path v)
+    → IsTaken rest (query_for p path v)
 place-taken rest path v p is =
-    of-path-taken rest path (codes "v/" ++ (escaped (version_text v) ++ ending_of p)) (query_for p path v) is.whole is.path_is (part-taken path (escaped (version_text v)) v p (version-taken v is.version_is))
+    of-path-taken rest path (codes "v/" ++ (escaped (version_text v) ++ ending_of p)) (query_for p path v) is.whole is.path_is
+    (part-taken path (escaped (version_text v)) v p (version-taken v is.version_is))
 
-own-taken : (rest behind : List ℕ) → rest ≡ codes "-/" ++ behind → percent_decode behind ≡ codes "modules" → query_of rest ≡ Some query.Modules
-unfolding query_of
-own-taken rest behind whole decodes = rw (whole, decodes) refl
+own-taken : (rest behind : List ℕ) → rest ≡ codes "-/" ++ behind → percent_decode behind ≡ codes "modules" → IsTaken rest query.Modules
+own-taken rest [] whole decodes = cc (percent_decode-nil, decodes)
+own-taken rest (b ∷ behind) whole decodes =
+    let long : nat_lt 2 (length (codes "-/" ++ (b ∷ behind))) ≡ true = lt-ltb 2 _ (omega arith) in
+    record { where_is = area.Shelf; behind = b ∷ behind; found = rw (whole, long) refl; taken = rw decodes refl }
 
-pub query-taken : (rest : List ℕ) (asked : Query) → IsQuery rest asked → query_of rest ≡ Some asked
+pub query-taken : (rest : List ℕ) (asked : Query) → IsQuery rest asked → IsTaken rest asked
 query-taken rest (query.Info path v) is = place-taken rest path v part.Info is
 query-taken rest (query.GoMod path v) is = place-taken rest path v part.GoMod is
 query-taken rest (query.Zip path v) is = place-taken rest path v part.Zip is
@@ -213,15 +234,14 @@ asked-is rest asked h =
     let whole = cut-is text (outer.0).0 (outer.0).1 outer.1 ∙ (λ i. path.0 i ++ (codes "/@" ++ (outer.0).1)) in
     of-path-is rest inner.0 (outer.0).1 asked whole path.1 inner.2
 
-own-is : (rest behind : List ℕ) (asked : Query) → rest ≡ codes "-/" ++ behind → own_of (percent_decode behind) ≡ Some asked → IsQuery rest asked
-own-is rest behind asked whole h =
+own-query : (rest behind : List ℕ) (asked : Query) → rest ≡ codes "-/" ++ behind → own_of (percent_decode behind) ≡ Some asked → IsQuery rest asked
+own-query rest behind asked whole h =
     let found = if-some (text_eq (percent_decode behind) (codes "modules")) query.Modules asked h in
     subst (IsQuery rest) found.1 (record { behind = behind; whole = whole; decodes = same-text (percent_decode behind) (codes "modules") found.0 })
 
-query-by : (rest : List ℕ) (asked : Query) (found : Option (List ℕ)) → without_start (codes "-/") rest ≡ found → own_or_asked rest found ≡ Some asked → IsQuery rest asked
-query-by rest asked (Some behind) e h = own-is rest behind asked (start-is (codes "-/") rest behind e) h
-query-by rest asked None e h = asked-is rest asked h
+query-by : (rest behind : List ℕ) (a : Area) (asked : Query) → StandsIn a rest behind → query_in a behind ≡ Some asked → IsQuery rest asked
+query-by rest behind area.Shelf asked stands h = own-query rest behind asked stands h
+query-by rest behind area.Path asked stands h = asked-is rest asked (subst (λ (l : List ℕ). asked_of (percent_decode l) ≡ Some asked) (sym stands) h)
 
-pub query-is : (rest : List ℕ) (asked : Query) → query_of rest ≡ Some asked → IsQuery rest asked
-unfolding query_of
-query-is rest asked h = query-by rest asked (without_start (codes "-/") rest) refl h
+pub query-is : (rest behind : List ℕ) (a : Area) (asked : Query) → area_of rest ≡ Some (a, behind) → query_in a behind ≡ Some asked → IsQuery rest asked
+query-is rest behind a asked found h = query-by rest behind a asked (area-is rest behind a found) h

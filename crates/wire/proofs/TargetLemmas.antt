@@ -1,17 +1,14 @@
 -- Targets cut into their parts.
 use Rattle.std.proofs.Common.{◌≡◌, ◌==◌, ◌+◌, ◌-◌, ◌<◌, ℕ, suc, List, [], ◌∷◌, ◌++◌, length, take, drop, codes, Option, Some, None, Bool, true, false, nat_lt, nat_eq, cond, get_or, refl, sym, ap, ◌∙◌, subst, inl, inr, arith, append_assoc, length-append}
 use Rattle.std.proofs.lemmas.Bool.{cases_Bool, eq-eqb, eqb-true, lt-ltb, ltb-true, or_parts}
-use Rattle.std.proofs.lemmas.Bool.Decides.{Decides-eqb, nat_tests}
+use Rattle.std.proofs.lemmas.Bool.Decides.{Decides-eqb}
 use Rattle.std.proofs.lemmas.List.{take_at, drop_at, take-append-drop}
 use Rattle.std.proofs.lemmas.List.Folds.{list_any-append}
 use Rattle.std.proofs.lemmas.List.Sums.{passes_at_first, split_at_first}
-use Rattle.std.proofs.lemmas.Str.{IsUtf8-from_is_utf8, is_utf8-from_IsUtf8}
 use Rattle.std.specs.Cmp.Lexicographic.{pointwise, pointwise_decides}
 use Rattle.std.specs.List.{after_first, before_first, list_any, position_or_len}
 use Rattle.std.specs.Option.{option_and_then, option_map}
-use Rattle.std.specs.Str.{IsUtf8, is_utf8}
 use Rattle.wire.specs.Place.{around, cut_of, without_end, without_slash, without_start}
-use Rattle.wire.specs.Target.{IsKeyed, split_of, with_key}
 
 -- ---- options
 
@@ -97,41 +94,6 @@ around-is byte text front rest h =
       whole ∙ (λ i. fronts i ++ (same i ∷ rests i)),
       subst (λ (l : List ℕ). list_any (λ b. b == byte) l ≡ false) fronts (none-passes byte text),
     )
-
--- ---- keys
-
-with-key-is : (parts out : List ℕ × List ℕ) → with_key parts ≡ Some out → (0 < length parts.0) × IsUtf8 parts.0 × (parts ≡ out)
-with-key-is parts out h = elim (cases_Bool (length parts.0 == 0)) [
-  | inl none ↦ cc (rw none at h)
-  | inr some ↦
-      let found = if-some (is_utf8 parts.0) parts out (rw some at h) in (
-        grind (arith, nat_tests),
-        IsUtf8-from_is_utf8 parts.0 found.0,
-        found.1,
-      )
-]
-
-pub keyed-is : (text key rest : List ℕ) → split_of text ≡ Some (key, rest) → IsKeyed text key rest
-unfolding split_of
-keyed-is text key rest h =
-    let outer = then-some with_key (option_and_then (around 47) (without_start (codes "/k/") text)) (key, rest) h in
-    let inner = then-some (around 47) (without_start (codes "/k/") text) outer.0 outer.1 in
-    let found = with-key-is outer.0 (key, rest) outer.2 in
-    let keys : (outer.0).0 ≡ key = ap (λ (x : List ℕ × List ℕ). x.0) found.2 in
-    let rests : (outer.0).1 ≡ rest = ap (λ (x : List ℕ × List ℕ). x.1) found.2 in
-    let cut = around-is 47 inner.0 (outer.0).0 (outer.0).1 inner.2 in
-    record {
-      whole = start-is (codes "/k/") text inner.0 inner.1 ∙ ap (λ (l : List ℕ). codes "/k/" ++ l) (cut.0 ∙ (λ i. keys i ++ (47 ∷ rests i)));
-      some = subst (λ (l : List ℕ). 0 < length l) keys found.0;
-      no_slash = subst (λ (l : List ℕ). list_any (λ b. b == 47) l ≡ false) keys cut.1;
-      is_text = subst IsUtf8 keys found.1;
-    }
-
-pub keyed-taken : (text key rest : List ℕ) → IsKeyed text key rest → split_of text ≡ Some (key, rest)
-unfolding split_of
-keyed-taken text key rest is =
-    let some : (length key == 0) ≡ false = let len = is.some in grind (arith, nat_tests) in
-    rw (is.whole, around-taken 47 key rest is.no_slash, some, is_utf8-from_IsUtf8 key is.is_text) refl
 
 -- ---- a text around `/@`
 

@@ -1,19 +1,27 @@
 -- What a request asks for, computed, is what it asks for.
-use Rattle.std.proofs.Common.{◌≡◌, ℕ, List, codes, Option, Some, None, Ok, Err, IfOk, Result, nat_eq, refl, sym, ◌∙◌, subst, inl, inr}
-use Rattle.std.proofs.lemmas.Bool.{cases_Bool}
+use Rattle.std.proofs.Common.{◌≡◌, ℕ, List, [], ◌∷◌, ◌++◌, codes, Option, Some, None, Ok, Err, IfOk, Result, nat_eq, refl, sym, ◌∙◌, subst, inl, inr}
+use Rattle.std.proofs.lemmas.Bool.{cases_Bool, false_from_ne_true}
+use Rattle.std.proofs.lemmas.Str.{IsUtf8-from_is_utf8, is_utf8-from_IsUtf8}
 use Rattle.std.specs.Cmp.Lexicographic.{pointwise}
+use Rattle.std.specs.Str.{IsUtf8, is_utf8}
 use Rattle.percent_encoding.specs.Percent.{percent_decode}
+use Rattle.modpath.specs.Escape.{escaped}
+use Rattle.modver.specs.SemanticVersion.{version_text}
 use Rattle.wire.specs.Place.{place_of}
-use Rattle.wire.specs.Query.{query_of}
-use Rattle.wire.specs.Target.{Asks, IsKeyed, ReadsTarget, asked_or, get_of, put_of, split_of, target_of}
+use Rattle.wire.specs.Query.{query_in}
+use Rattle.wire.specs.Route.{area_of, routed_of}
+use Rattle.wire.specs.Target.{Asks, IsKeyed, ReadsTarget, asked_or, get_of, place_in, put_of, target_of}
+use Rattle.wire.specs.declared.routes.Area.{Area}
+use Rattle.wire.specs.declared.routes.Area.TheVariants as area
 use Rattle.wire.specs.declared.message.Memory.{Memory}
 use Rattle.wire.specs.declared.places.Place.{Place}
 use Rattle.wire.specs.declared.request.Query.{Query}
 use Rattle.wire.specs.declared.request.Target.{Target}
 use Rattle.wire.specs.declared.request.Target.TheVariants as target
 use Rattle.wire.proofs.PlaceReadings.{place-is, place-taken}
-use Rattle.wire.proofs.QueryReadings.{query-is, query-taken, same-text}
-use Rattle.wire.proofs.TargetLemmas.{keyed-is, keyed-taken}
+use Rattle.wire.proofs.QueryReadings.{path-area, query-is, query-taken, same-text}
+use Rattle.wire.proofs.RouteReadings.{area-is, routed-is, routed-taken, split-utf8}
+use Rattle.wire.proofs.TextTargets.{keyed-split, readable-text}
 
 -- it asks for this, if this can be asked for
 abbrev AsksAny : List ℕ → List ℕ → Target → Type 0
@@ -21,39 +29,55 @@ AsksAny method text target.Unreadable = Unit {0}
 AsksAny method text (target.Get key asked) = Asks method text (target.Get key asked)
 AsksAny method text (target.Put key path version) = Asks method text (target.Put key path version)
 
-get-asks : (method text key rest : List ℕ) → method ≡ codes "GET" → IsKeyed text key rest → (found : Option Query)
-    → query_of rest ≡ found → AsksAny method text (get_of key found)
-get-asks method text key rest m keyed None e = tt
-get-asks method text key rest m keyed (Some asked) e = (m, (rest, keyed, query-is rest asked e))
+get-asks : (method text key behind rest : List ℕ) (a : Area) → method ≡ codes "GET" → IsKeyed text key behind → area_of behind ≡ Some (a, rest)
+    → (found : Option Query) → query_in a rest ≡ found → AsksAny method text (get_of key found)
+get-asks method text key behind rest a m keyed in_area None e = tt
+get-asks method text key behind rest a m keyed in_area (Some asked) e = (m, (behind, keyed, query-is behind rest a asked in_area e))
 
-put-asks : (method text key rest : List ℕ) → method ≡ codes "PUT" → IsKeyed text key rest → (found : Option Place)
-    → place_of (percent_decode rest) ≡ found → AsksAny method text (put_of key found)
-put-asks method text key rest m keyed None e = tt
-put-asks method text key rest m keyed (Some place) e = (m, (rest, keyed, place-is (percent_decode rest) place e))
+put-asks : (method text key behind rest : List ℕ) (a : Area) → method ≡ codes "PUT" → IsKeyed text key behind → area_of behind ≡ Some (a, rest)
+    → (found : Option Place) → place_in a rest ≡ found → AsksAny method text (put_of key found)
+put-asks method text key behind rest a m keyed in_area None e = tt
+put-asks method text key behind rest area.Shelf m keyed in_area (Some place) e = cc e
+put-asks method text key behind rest area.Path m keyed in_area (Some place) e =
+    let same = area-is behind rest area.Path in_area in
+    (m, (behind, keyed, place-is (percent_decode behind) place (subst (λ (l : List ℕ). place_of (percent_decode l) ≡ Some place) (sym same) e)))
 
-parts-ask : (method text : List ℕ) (parts : Option (List ℕ × List ℕ)) → split_of text ≡ parts → AsksAny method text (asked_or method parts)
-parts-ask method text None e = tt
-parts-ask method text (Some (key, rest)) e =
-    let keyed = keyed-is text key rest e in
+route-asks : (method text : List ℕ) → IsUtf8 text → (found : Option (Area × List ℕ × List ℕ)) → routed_of text ≡ found → AsksAny method text (asked_or method found)
+route-asks method text utf8 None e = tt
+route-asks method text utf8 (Some (a, key, rest)) e =
+    let is = routed-is text key rest a e in
+    let split = is.1 in
+    let keyed : IsKeyed text key is.0 = record { whole = split.whole; some = split.some; no_slash = split.no_slash; is_text = (split-utf8 text key is.0 split utf8).0 } in
     elim (cases_Bool (pointwise nat_eq method (codes "GET"))) [
-      | inl get ↦ rw get (get-asks method text key rest (same-text method (codes "GET") get) keyed (query_of rest) refl)
+      | inl get ↦ rw get (get-asks method text key is.0 rest a (same-text method (codes "GET") get) keyed is.2 (query_in a rest) refl)
       | inr other ↦ elim (cases_Bool (pointwise nat_eq method (codes "PUT"))) [
-        | inl put ↦ rw (other, put) (put-asks method text key rest (same-text method (codes "PUT") put) keyed (place_of (percent_decode rest)) refl)
+        | inl put ↦ rw (other, put) (put-asks method text key is.0 rest a (same-text method (codes "PUT") put) keyed is.2 (place_in a rest) refl)
         | inr neither ↦ rw (other, neither) tt
       ]
     ]
 
 target-asks : (method text : List ℕ) → AsksAny method text (target_of method text)
 unfolding target_of
-target-asks method text = parts-ask method text (split_of text) refl
+target-asks method text = elim (cases_Bool (is_utf8 text)) [
+  | inl utf8 ↦ rw utf8 (route-asks method text (IsUtf8-from_is_utf8 text utf8) (routed_of text) refl)
+  | inr other ↦ rw other tt
+]
 
 pub target-taken : (method text : List ℕ) (asked : Target) → Asks method text asked → target_of method text ≡ asked
 unfolding target_of
 target-taken method text target.Unreadable a = absurd a
 target-taken method text (target.Get key asked) a =
-    rw (a.0, keyed-taken text key a.1.0 a.1.1, query-taken a.1.0 asked a.1.2) refl
+    let utf8 = is_utf8-from_IsUtf8 text (readable-text method text (target.Get key asked) a).0 in
+    let taken = query-taken a.1.0 asked a.1.2 in
+    let routed = routed-taken text key a.1.0 (taken.where_is, taken.behind) (keyed-split text key a.1.0 a.1.1) taken.found in
+    rw (a.0, utf8, routed, taken.taken) refl
 target-taken method text (target.Put key path version) a =
-    rw (a.0, keyed-taken text key a.1.0 a.1.1, place-taken (percent_decode a.1.0) path version a.1.2) refl
+    let utf8 = is_utf8-from_IsUtf8 text (readable-text method text (target.Put key path version) a).0 in
+    let rest = a.1.0 in
+    let place = a.1.2 in
+    let in_area = path-area rest path (64 ∷ (codes "v/" ++ (escaped (version_text version) ++ []))) place.whole place.path_is in
+    let routed = routed-taken text key rest (area.Path, rest) (keyed-split text key rest a.1.1) in_area in
+    rw (a.0, utf8, routed, place-taken (percent_decode rest) path version place) refl
 
 unreadable : (method text : List ℕ) (asked : Target) → target_of method text ≡ target.Unreadable → ¬ (Asks method text asked)
 unreadable method text asked e a = subst (Asks method text) (sym (target-taken method text asked a) ∙ e) a
@@ -85,3 +109,13 @@ pub reads-if_ok : (method text : List ℕ) (found : Result Target Memory) → If
     → IfOk found (ReadsTarget method text)
 reads-if_ok method text (Ok asked) e = subst (ReadsTarget method text) (sym e) (target-reads method text)
 reads-if_ok method text (Err memory) e = tt
+
+-- ---- targets that are text, and others
+
+pub of-text : (method text : List ℕ) → IsUtf8 text → target_of method text ≡ asked_or method (routed_of text)
+unfolding target_of
+of-text method text utf8 = rw (is_utf8-from_IsUtf8 text utf8) refl
+
+pub of-no-text : (method text : List ℕ) → ¬ (IsUtf8 text) → target_of method text ≡ target.Unreadable
+unfolding target_of
+of-no-text method text none = rw (false_from_ne_true (is_utf8 text) (λ e. none (IsUtf8-from_is_utf8 text e))) refl

@@ -5,7 +5,6 @@ use Rattle.std.proofs.lemmas.Bool.Decides.{nat_tests}
 use Rattle.std.proofs.lemmas.Str.{IsUtf8-append, IsUtf8-from_ascii, IsAscii-append}
 use Rattle.std.proofs.lemmas.Str.Ascii.{IsAscii-nil, IsAscii-cons}
 use Rattle.std.specs.Char.{digit_value, is_digit}
-use Rattle.std.specs.List.{list_all}
 use Rattle.std.specs.Str.{IsAscii, IsUtf8}
 use Rattle.percent_encoding.specs.Percent.{is_escape, percent_decode}
 use Rattle.modpath.specs.Escape.{escaped}
@@ -18,8 +17,8 @@ use Rattle.wire.specs.declared.request.Query.TheVariants as query
 use Rattle.wire.specs.declared.request.Target.{Target}
 use Rattle.wire.specs.declared.request.Target.TheVariants as target
 use Rattle.wire.proofs.QueryReadings.{dash-decoded}
-use Rattle.wire.proofs.PlainBytes.{escaped-ascii, path-plain, version-plain}
-use Rattle.wire.proofs.TargetLemmas.{keyed-taken}
+use Rattle.wire.proofs.PlainBytes.{ascii-from, escaped-ascii, path-plain, version-plain}
+use Rattle.wire.proofs.RouteReadings.{IsSplit, split-taken}
 
 digit-ascii : (c : ℕ) → is_digit c 16 ≡ true → c < 128
 digit-ascii c h = elim (cases_Bool (nat_lt c 128)) [
@@ -33,12 +32,6 @@ digit-ascii c h = elim (cases_Bool (nat_lt c 128)) [
       let g : nat_lt c 123 ≡ false = grind (arith, nat_tests) in
       cc (rw (a, b, d, e, f, g) at h)
 ]
-
-ascii-from : (bytes : List ℕ) → list_all (λ b. nat_lt b 128) bytes ≡ true → IsAscii bytes
-ascii-from [] h = IsAscii-nil
-ascii-from (b ∷ bytes) h =
-    let parts = and_parts (nat_lt b 128) (list_all (λ x. nat_lt x 128) bytes) h in
-    IsAscii-cons b bytes (ltb-true b 128 parts.0) (ascii-from bytes parts.1)
 
 -- percent-decoding keeps a byte that is not ASCII
 decoded-from : (bytes : List ℕ) → IsAscii (percent_decode bytes) → IsAscii bytes
@@ -66,6 +59,9 @@ place-ascii text path version ending plain is =
     let behind = IsAscii-append (codes "/@v/") (escaped (version_text version) ++ ending) (ascii-from (codes "/@v/") refl) name in
     subst IsAscii (sym is.whole) (IsAscii-append (escaped path) (codes "/@v/" ++ (escaped (version_text version) ++ ending)) (escaped-ascii path (path-plain path is.path_is)) behind)
 
+pub keyed-split : (text key rest : List ℕ) → IsKeyed text key rest → IsSplit text key rest
+keyed-split text key rest is = record { whole = is.whole; some = is.some; no_slash = is.no_slash }
+
 -- a key, and a rest that decodes to ASCII
 throughout : (text key rest : List ℕ) → IsKeyed text key rest → IsAscii (percent_decode rest) → IsTextThroughout text
 throughout text key rest keyed plain =
@@ -73,7 +69,7 @@ throughout text key rest keyed plain =
     let back = IsUtf8-append key (47 ∷ rest) keyed.is_text (IsUtf8-from_ascii (47 ∷ rest) behind) in (
       subst IsUtf8 (sym keyed.whole) (IsUtf8-append (codes "/k/") (key ++ (47 ∷ rest)) (IsUtf8-from_ascii (codes "/k/") (ascii-from (codes "/k/") refl)) back),
       λ other after is.
-          let same : (key, rest) ≡ (other, after) = cc (keyed-taken text key rest keyed, keyed-taken text other after is) in
+          let same : (key, rest) ≡ (other, after) = cc (split-taken text key rest (keyed-split text key rest keyed), split-taken text other after (keyed-split text other after is)) in
           IsUtf8-from_ascii (percent_decode after) (subst (λ (l : List ℕ × List ℕ). IsAscii (percent_decode l.1)) same plain),
     )
 

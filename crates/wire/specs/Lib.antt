@@ -5,5 +5,6 @@ pub mod Reply
 pub mod Info
 pub mod Values
 pub mod Place
+pub mod Route
 pub mod Query
 pub mod Target

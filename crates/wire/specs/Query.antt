@@ -7,6 +7,8 @@ use Rattle.modver.specs.SemanticVersion.{SemanticVersion}
 use Rattle.wire.specs.Place.{IsPathWith, IsPlace, cut_of, path_of, version_from, without_end, without_start}
 use Rattle.wire.specs.declared.queries.Part.{Part}
 use Rattle.wire.specs.declared.queries.Part.TheVariants as part
+use Rattle.wire.specs.declared.routes.Area.{Area}
+use Rattle.wire.specs.declared.routes.Area.TheVariants as area
 use Rattle.wire.specs.declared.request.Query.{Query}
 use Rattle.wire.specs.declared.request.Query.TheVariants as query
 
@@ -79,10 +81,7 @@ asked_of text =
 abbrev pub own_of : List ℕ → Option Query
 own_of text = if text_eq text (codes "modules") then Some query.Modules else None
 
-abbrev pub own_or_asked : List ℕ → Option (List ℕ) → Option Query
-own_or_asked rest (Some behind) = own_of (percent_decode behind)
-own_or_asked rest None = asked_of (percent_decode rest)
-
--- what a GET asks for
-unfoldable pub query_of : List ℕ → Option Query
-query_of rest = own_or_asked rest (without_start (codes "-/") rest)
+-- what a GET asks for in an area
+abbrev pub query_in : Area → List ℕ → Option Query
+query_in area.Shelf rest = own_of (percent_decode rest)
+query_in area.Path rest = asked_of (percent_decode rest)

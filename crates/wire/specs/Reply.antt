@@ -1,43 +1,20 @@
 -- The bytes of replies. (RFC 9112, sections 4 and 5, in this server's own profile.)
-use Rattle.std.specs.Prelude.{◌≡◌, ℕ, List, ◌++◌, length, codes, decimal, nat_eq, true, Option, Some, None}
-use Rattle.std.specs.List.{flat_map, starts_with}
+use Rattle.std.specs.Prelude.{ℕ, List, [], ◌++◌, length, codes, decimal, unwrap_or, Option, Some, None}
+use Rattle.std.specs.List.{flat_map}
+use Rattle.http.specs.StatusCode.{code_digits, reason_phrase}
 use Rattle.modver.specs.SemanticVersion.{SemanticVersion, version_text}
-use Rattle.wire.specs.declared.reply.Status.{Status}
-use Rattle.wire.specs.declared.reply.Status.TheVariants as status
 use Rattle.wire.specs.declared.reply.Kind.{Kind}
 use Rattle.wire.specs.declared.reply.Kind.TheVariants as kind
 use Rattle.wire.specs.declared.reply.Fixed.{Fixed}
 use Rattle.wire.specs.declared.reply.Fixed.TheVariants as fixed
 
--- the number of a status
-abbrev pub status_number : Status → ℕ
-status_number status.Ok = 200
-status_number status.Created = 201
-status_number status.BadRequest = 400
-status_number status.Forbidden = 403
-status_number status.NotFound = 404
-status_number status.Conflict = 409
-status_number status.PayloadTooLarge = 413
-status_number status.UnprocessableEntity = 422
-status_number status.ServiceUnavailable = 503
-status_number status.InsufficientStorage = 507
+-- the phrase of a status code; one that has none is given no text
+unfoldable pub phrase : ℕ → List ℕ
+phrase code = unwrap_or (reason_phrase code) []
 
--- a status with its phrase, as a status line has them
-abbrev pub status_text : Status → List ℕ
-status_text status.Ok = codes "200 OK"
-status_text status.Created = codes "201 Created"
-status_text status.BadRequest = codes "400 Bad Request"
-status_text status.Forbidden = codes "403 Forbidden"
-status_text status.NotFound = codes "404 Not Found"
-status_text status.Conflict = codes "409 Conflict"
-status_text status.PayloadTooLarge = codes "413 Payload Too Large"
-status_text status.UnprocessableEntity = codes "422 Unprocessable Entity"
-status_text status.ServiceUnavailable = codes "503 Service Unavailable"
-status_text status.InsufficientStorage = codes "507 Insufficient Storage"
-
--- it begins with the number in decimal and a space
-abbrev pub IsNumbered : Status → Type 0
-IsNumbered s = starts_with nat_eq (status_text s) (decimal (status_number s) ++ codes " ") ≡ true
+-- a status code with its phrase, as a status line has them
+abbrev pub status_text : ℕ → List ℕ
+status_text code = code_digits code ++ codes " " ++ phrase code
 
 -- what a body is
 abbrev pub kind_text : Kind → List ℕ
@@ -46,7 +23,7 @@ kind_text kind.Json = codes "application/json"
 kind_text kind.Zip = codes "application/zip"
 
 -- a head with this text as its length, with the empty line that ends it
-abbrev pub head_with : Status → Kind → List ℕ → List ℕ
+abbrev pub head_with : ℕ → Kind → List ℕ → List ℕ
 head_with s k digits =
     codes "HTTP/1.1 " ++ status_text s
     ++ codes "\r\nContent-Type: " ++ kind_text k
@@ -54,31 +31,31 @@ head_with s k digits =
     ++ codes "\r\nConnection: close\r\n\r\n"
 
 -- the head of a reply whose body has that many bytes
-abbrev pub head_bytes : Status → Kind → ℕ → List ℕ
+abbrev pub head_bytes : ℕ → Kind → ℕ → List ℕ
 head_bytes s k len = head_with s k (decimal len)
 
 -- a reply with that body
-abbrev pub reply_bytes : Status → Kind → List ℕ → List ℕ
+abbrev pub reply_bytes : ℕ → Kind → List ℕ → List ℕ
 reply_bytes s k body = head_bytes s k (length body) ++ body
 
 -- the status of a fixed reply
-abbrev pub fixed_status : Fixed → Status
-fixed_status fixed.AlreadyPublished = status.Ok
-fixed_status fixed.Published = status.Created
-fixed_status fixed.BadRequest = status.BadRequest
-fixed_status fixed.BadModLength = status.BadRequest
-fixed_status fixed.Forbidden = status.Forbidden
-fixed_status fixed.NotFound = status.NotFound
-fixed_status fixed.Conflict = status.Conflict
-fixed_status fixed.TooLarge = status.PayloadTooLarge
-fixed_status fixed.MajorMismatch = status.UnprocessableEntity
-fixed_status fixed.BadTime = status.UnprocessableEntity
-fixed_status fixed.TimeMismatch = status.UnprocessableEntity
-fixed_status (fixed.BadGoMod line) = status.UnprocessableEntity
-fixed_status fixed.ModulePath = status.UnprocessableEntity
-fixed_status fixed.IncompatibleGoMod = status.UnprocessableEntity
-fixed_status fixed.Unavailable = status.ServiceUnavailable
-fixed_status fixed.Full = status.InsufficientStorage
+abbrev pub fixed_status : Fixed → ℕ
+fixed_status fixed.AlreadyPublished = 200
+fixed_status fixed.Published = 201
+fixed_status fixed.BadRequest = 400
+fixed_status fixed.BadModLength = 400
+fixed_status fixed.Forbidden = 403
+fixed_status fixed.NotFound = 404
+fixed_status fixed.Conflict = 409
+fixed_status fixed.TooLarge = 413
+fixed_status fixed.MajorMismatch = 422
+fixed_status fixed.BadTime = 422
+fixed_status fixed.TimeMismatch = 422
+fixed_status (fixed.BadGoMod line) = 422
+fixed_status fixed.ModulePath = 422
+fixed_status fixed.IncompatibleGoMod = 422
+fixed_status fixed.Unavailable = 503
+fixed_status fixed.Full = 507
 
 -- its body without the newline
 abbrev pub fixed_text : Fixed → List ℕ
@@ -105,7 +82,7 @@ fixed_bytes answer = reply_bytes (fixed_status answer) kind.TextPlain (fixed_tex
 
 -- its line in a list of outcomes: the number of its status, a space and its body without the newline
 abbrev pub line_bytes : Fixed → List ℕ
-line_bytes answer = decimal (status_number (fixed_status answer)) ++ codes " " ++ fixed_text answer
+line_bytes answer = code_digits (fixed_status answer) ++ codes " " ++ fixed_text answer
 
 -- the body that tells a version and its time, where it has one (Go Modules Reference, "GOPROXY protocol", `.info`)
 abbrev pub info_bytes : SemanticVersion → Option (List ℕ) → List ℕ

@@ -1,13 +1,15 @@
 -- What a request asks for, by its method and its target. (Go Modules Reference, "GOPROXY protocol"; PUT is this server's own.)
 use Rattle.std.specs.Prelude.{◌≡◌, ◌==◌, ℕ, ◌<◌, nat_eq, false, List, [], ◌∷◌, ◌++◌, length, codes, Option, Some, None, if◌then◌else◌}
-use Rattle.std.specs.Option.{option_and_then}
 use Rattle.std.specs.Cmp.Lexicographic.{pointwise}
 use Rattle.std.specs.List.{list_any}
 use Rattle.std.specs.Str.{IsUtf8, is_utf8}
 use Rattle.percent_encoding.specs.Percent.{percent_decode}
-use Rattle.wire.specs.Place.{IsPlace, around, place_of, without_start}
-use Rattle.wire.specs.Query.{IsQuery, query_of}
+use Rattle.wire.specs.Place.{IsPlace, place_of}
+use Rattle.wire.specs.Query.{IsQuery, query_in}
+use Rattle.wire.specs.Route.{routed_of}
 use Rattle.wire.specs.declared.places.Place.{Place}
+use Rattle.wire.specs.declared.routes.Area.{Area}
+use Rattle.wire.specs.declared.routes.Area.TheVariants as area
 use Rattle.wire.specs.declared.request.Query.{Query}
 use Rattle.wire.specs.declared.request.Target.{Target}
 use Rattle.wire.specs.declared.request.Target.TheVariants as target
@@ -38,14 +40,6 @@ IsTextThroughout text = IsUtf8 text × ((key rest : List ℕ) → IsKeyed text k
 
 -- ---- the same, computed
 
--- a key is text that is not empty
-abbrev pub with_key : List ℕ × List ℕ → Option (List ℕ × List ℕ)
-with_key parts = if length parts.0 == 0 then None else if is_utf8 parts.0 then Some parts else None
-
--- the key of a target and the rest
-unfoldable pub split_of : List ℕ → Option (List ℕ × List ℕ)
-split_of text = option_and_then with_key (option_and_then (around 47) (without_start (codes "/k/") text))
-
 abbrev pub get_of : List ℕ → Option Query → Target
 get_of key (Some asked) = target.Get key asked
 get_of key None = target.Unreadable
@@ -54,17 +48,22 @@ abbrev pub put_of : List ℕ → Option Place → Target
 put_of key (Some place) = target.Put key place.path place.version
 put_of key None = target.Unreadable
 
--- what a request with that method asks for behind a key
-abbrev pub asked_of : List ℕ → List ℕ × List ℕ → Target
-asked_of method parts =
-    if pointwise nat_eq method (codes "GET") then get_of parts.0 (query_of parts.1)
-    else if pointwise nat_eq method (codes "PUT") then put_of parts.0 (place_of (percent_decode parts.1))
+-- the publish that a PUT asks for in an area
+abbrev pub place_in : Area → List ℕ → Option Place
+place_in area.Shelf rest = None
+place_in area.Path rest = place_of (percent_decode rest)
+
+-- what a request with that method asks for by its route
+abbrev pub asked_at : List ℕ → Area × List ℕ × List ℕ → Target
+asked_at method route =
+    if pointwise nat_eq method (codes "GET") then get_of route.1 (query_in route.0 route.2)
+    else if pointwise nat_eq method (codes "PUT") then put_of route.1 (place_in route.0 route.2)
     else target.Unreadable
 
-abbrev pub asked_or : List ℕ → Option (List ℕ × List ℕ) → Target
-asked_or method (Some parts) = asked_of method parts
+abbrev pub asked_or : List ℕ → Option (Area × List ℕ × List ℕ) → Target
+asked_or method (Some route) = asked_at method route
 asked_or method None = target.Unreadable
 
 -- what a request asks for
 unfoldable pub target_of : List ℕ → List ℕ → Target
-target_of method text = asked_or method (split_of text)
+target_of method text = if is_utf8 text then asked_or method (routed_of text) else target.Unreadable

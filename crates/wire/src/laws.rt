@@ -1,9 +1,7 @@
 //! Laws of messages, streams, targets and replies, over the definitions alone.
 ghost use Rattle.std.specs.Prelude.{◌≡◌, ℕ, List, [], ◌++◌};
 ghost use Rattle.wire.specs.Message.{Request, ReadsMessage, End, IsStream};
-ghost use Rattle.wire.specs.Reply.{IsNumbered};
 ghost use Rattle.wire.specs.Target.{Asks, IsTextThroughout, ReadsTarget, target_of};
-ghost use Rattle.wire.specs.declared.reply.Status.{Status};
 ghost use Rattle.wire.specs.declared.request.Target.{Target};
 
 /// No message begins another.
@@ -14,11 +12,6 @@ pub fn no_message_begins_another()
 /// A stream is one list of messages, and has one end.
 pub fn one_stream()
     ensures { (bytes : List ℕ) (a b : List Request) (x y : End) → IsStream bytes a x → IsStream bytes b y → (a ≡ b) × (x ≡ y) }
-{}
-
-/// A status line has the number of its status.
-pub fn a_status_is_written_by_its_number()
-    ensures { (s : Status) → IsNumbered s }
 {}
 
 /// What is computed of a request is what it asks for.

@@ -36,6 +36,7 @@ pub mod put;
 mod queries;
 pub mod reply;
 pub mod request;
+mod routes;
 pub mod targets;
 pub mod text;
 
@@ -43,7 +44,7 @@ pub use bodies::{info_body, paths_body, push_line, versions_body};
 pub use framer::{Bad, Framer, Next};
 pub use message::{Memory, Message};
 pub use put::{fixed, fixed_line, put_head, reply_head};
-pub use reply::{Fixed, Kind, Status};
+pub use reply::{Fixed, Kind, StatusCode};
 pub use request::{Query, Target};
 pub use targets::target;
 pub use text::Text;

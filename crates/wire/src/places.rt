@@ -16,7 +16,7 @@ pub(crate) struct Place {
 
 /// A text around the first of these bytes in it.
 #[tactic(auto, unfolding(crate::specs::Place::around))]
-pub(crate) fn split_at_byte(text: &[u8], byte: u8) -> Option<(&[u8], &[u8])>
+fn split_at_byte(text: &[u8], byte: u8) -> Option<(&[u8], &[u8])>
     ensures { MatchOption result (around byte text.now ≡ None) (λ parts. around byte text.now ≡ Some (parts.0.now, parts.1.now)) }
 {
     let at = text.iter().position(|b| *b == byte)?;

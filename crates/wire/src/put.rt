@@ -1,20 +1,27 @@
 //! Writing replies: into buffers on the stack, which takes no memory, and heads into memory.
 ghost use Rattle.std.specs.Prelude.{◌≡◌, ◌+◌, ◌≤◌, ◌++◌, length, take, IfOk};
-ghost use Rattle.wire.specs.Reply.{head_with, head_bytes, fixed_text, fixed_bytes, line_bytes};
+ghost use Rattle.wire.specs.Reply.{phrase, head_with, head_bytes, fixed_text, fixed_bytes, line_bytes};
 
 use crate::message::Memory;
-use crate::reply::{Fixed, Kind, Status};
+use crate::reply::{Fixed, Kind, phrase_of};
+use http::StatusCode;
 use itoa::Buffer;
 use std::alloc::Global;
 
 /// The head of a reply whose body has that many bytes, with the empty line that ends it (RFC 9112, sections 4 and 5).
 /// `Memory` where there is no room for it.
-pub fn reply_head(alloc: Global, status: Status, kind: Kind, len: usize) -> Result<Vec<u8>, Memory>
+pub fn reply_head(
+    alloc: Global,
+    status: StatusCode,
+    kind: Kind,
+    len: usize,
+) -> Result<Vec<u8>, Memory>
     ensures { IfOk result (λ head. head.items ≡ head_bytes status kind len) }
 {
     let text = format!(in alloc;
-        "HTTP/1.1 {}\r\nContent-Type: {}\r\nContent-Length: {}\r\nConnection: close\r\n\r\n",
-        status.text(),
+        "HTTP/1.1 {} {}\r\nContent-Type: {}\r\nContent-Length: {}\r\nConnection: close\r\n\r\n",
+        status.as_str(),
+        phrase_of(status),
         kind.text(),
         len,
     )?;
@@ -22,12 +29,13 @@ pub fn reply_head(alloc: Global, status: Status, kind: Kind, len: usize) -> Resu
 }
 
 /// Puts the head of a 200 whose body has that many bytes at the front of the buffer, and answers the head's length.
+#[tactic(auto, unfolding(crate::specs::Reply::phrase))]
 pub fn put_head(kind: Kind, len: usize, buf: &mut [u8; 160]) -> usize
-    ensures text { take result buf.new ≡ head_bytes Status.Ok kind len }
+    ensures text { take result buf.new ≡ head_bytes 200 kind len }
     ensures short { result ≤ 160 }
 {
     let mut digits = Buffer::new();
-    put_head_with(Status::Ok, kind, digits.format(len).as_bytes(), buf)
+    put_head_with(StatusCode::OK, kind, digits.format(len).as_bytes(), buf)
 }
 
 /// Puts the whole reply at the front of the buffer, and answers its length.
@@ -54,8 +62,7 @@ pub fn fixed_line(answer: Fixed, buf: &mut [u8; 40]) -> usize
     ensures text { take result buf.new ≡ line_bytes answer }
     ensures short { result ≤ 40 }
 {
-    let mut digits = Buffer::new();
-    let at = put(buf, 0, digits.format(answer.status().number()).as_bytes());
+    let at = put(buf, 0, answer.status().as_str().as_bytes());
     let at = put(buf, at, b" ");
     put_text(answer, buf, at)
 }
@@ -72,13 +79,16 @@ fn put(buf: &mut [u8], at: usize, text: &[u8]) -> usize
 }
 
 /// Puts a head with these digits as the length at the front of the buffer, and answers the head's length.
-fn put_head_with(status: Status, kind: Kind, digits: &[u8], buf: &mut [u8]) -> usize
-    requires { 115 + length digits.now ≤ length buf.old }
+fn put_head_with(status: StatusCode, kind: Kind, digits: &[u8], buf: &mut [u8]) -> usize
+    requires phrase { length (phrase status) ≤ 20 }
+    requires room { 115 + length digits.now ≤ length buf.old }
     ensures text { take result buf.new ≡ head_with status kind digits.now }
     ensures short { result ≤ 115 + length digits.now }
 {
     let at = put(buf, 0, b"HTTP/1.1 ");
-    let at = put(buf, at, status.text().as_bytes());
+    let at = put(buf, at, status.as_str().as_bytes());
+    let at = put(buf, at, b" ");
+    let at = put(buf, at, phrase_of(status).as_bytes());
     let at = put(buf, at, b"\r\nContent-Type: ");
     let at = put(buf, at, kind.text().as_bytes());
     let at = put(buf, at, b"\r\nContent-Length: ");

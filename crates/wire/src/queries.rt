@@ -6,6 +6,7 @@ ghost use Rattle.wire.specs.Query as spec;
 use crate::message::Memory;
 use crate::places::{cut, read_path, read_version};
 use crate::request::Query;
+use crate::routes::Area;
 use modpath::ModulePath;
 use modver::Version;
 use percent_encoding::percent_decode;
@@ -19,24 +20,23 @@ pub(crate) enum Part {
     Zip,
 }
 
-/// The bytes, percent-decoded once.
-pub(crate) fn decoded(alloc: Global, bytes: &[u8]) -> Result<Vec<u8>, Memory>
-    ensures { IfOk result (λ text. text.items ≡ percent_decoded bytes.now) }
+/// A rest, percent-decoded once.
+pub(crate) fn decoded(alloc: Global, rest: &str) -> Result<Vec<u8>, Memory>
+    ensures { IfOk result (λ text. text.items ≡ percent_decoded rest.now) }
 {
     let mut text = Vec::new(alloc);
-    percent_decode(bytes).append_to(&mut text)?;
+    percent_decode(rest.as_bytes()).append_to(&mut text)?;
     Ok(text)
 }
 
-/// What a GET asks for by the rest behind the key. What follows a plain `-/` is asked of the shelf itself, all else of a
-/// module path.
-#[tactic(auto, unfolding(crate::specs::Query::query_of))]
-pub(crate) fn read_query(alloc: Global, rest: &[u8]) -> Result<Option<Query>, Memory>
-    ensures { IfOk result (λ found. found ≡ spec.query_of rest.now) }
+/// What a GET asks for in an area.
+pub(crate) fn read_query(alloc: Global, area: Area, rest: &str) -> Result<Option<Query>, Memory>
+    ensures { IfOk result (λ found. found ≡ spec.query_in area rest.now) }
 {
-    match rest.strip_prefix(b"-/") {
-        Some(behind) => Ok(read_own(&decoded(alloc, behind)?)),
-        None => read_asked(alloc, &decoded(alloc, rest)?),
+    let text = decoded(alloc, rest)?;
+    match area {
+        Area::Shelf => Ok(read_own(&text)),
+        Area::Path => read_asked(alloc, &text),
     }
 }
 

@@ -1,20 +1,15 @@
 //! Replies: their statuses, the kinds of their bodies, and those whose body is fixed.
 ghost use Rattle.std.specs.Prelude.{◌≡◌, ◌≤◌, length};
-ghost use Rattle.wire.specs.Reply.{status_number, status_text, kind_text, fixed_status};
+ghost use Rattle.wire.specs.Reply.{kind_text, fixed_status, phrase};
 
-/// The status of a reply (RFC 9110, section 15).
-#[derive(Clone, Copy, Debug, Drop, PartialEq, Eq)]
-pub enum Status {
-    Ok,
-    Created,
-    BadRequest,
-    Forbidden,
-    NotFound,
-    Conflict,
-    PayloadTooLarge,
-    UnprocessableEntity,
-    ServiceUnavailable,
-    InsufficientStorage,
+pub use http::StatusCode;
+
+/// The phrase of a status, as a status line has it (RFC 9112, section 4); none is the empty one.
+#[tactic(auto, unfolding(crate::specs::Reply::phrase))]
+pub(crate) fn phrase_of(status: StatusCode) -> &'static str
+    ensures { result.now ≡ phrase status }
+{
+    status.canonical_reason().unwrap_or("")
 }
 
 /// What a body is: the value of `Content-Type`.
@@ -50,45 +45,6 @@ pub enum Fixed {
     Full,
 }
 
-impl Status {
-    /// Its number, as `404`.
-    pub fn number(self) -> u16
-        ensures { result ≡ status_number self }
-    {
-        match self {
-            Status::Ok => 200,
-            Status::Created => 201,
-            Status::BadRequest => 400,
-            Status::Forbidden => 403,
-            Status::NotFound => 404,
-            Status::Conflict => 409,
-            Status::PayloadTooLarge => 413,
-            Status::UnprocessableEntity => 422,
-            Status::ServiceUnavailable => 503,
-            Status::InsufficientStorage => 507,
-        }
-    }
-
-    /// Its number and its phrase, as they stand in a status line.
-    pub(crate) fn text(self) -> &'static str
-        ensures text { result.now ≡ status_text self }
-        ensures short { length result.now ≤ 24 }
-    {
-        match self {
-            Status::Ok => "200 OK",
-            Status::Created => "201 Created",
-            Status::BadRequest => "400 Bad Request",
-            Status::Forbidden => "403 Forbidden",
-            Status::NotFound => "404 Not Found",
-            Status::Conflict => "409 Conflict",
-            Status::PayloadTooLarge => "413 Payload Too Large",
-            Status::UnprocessableEntity => "422 Unprocessable Entity",
-            Status::ServiceUnavailable => "503 Service Unavailable",
-            Status::InsufficientStorage => "507 Insufficient Storage",
-        }
-    }
-}
-
 impl Kind {
     /// The value of `Content-Type`.
     pub(crate) fn text(self) -> &'static str
@@ -105,25 +61,27 @@ impl Kind {
 
 impl Fixed {
     /// Its status.
-    pub fn status(self) -> Status
-        ensures { result ≡ fixed_status self }
+    #[tactic(auto, unfolding(crate::specs::Reply::phrase))]
+    pub fn status(self) -> StatusCode
+        ensures status { result ≡ fixed_status self }
+        ensures short { length (phrase result) ≤ 20 }
     {
         match self {
-            Fixed::AlreadyPublished => Status::Ok,
-            Fixed::Published => Status::Created,
-            Fixed::BadRequest | Fixed::BadModLength => Status::BadRequest,
-            Fixed::Forbidden => Status::Forbidden,
-            Fixed::NotFound => Status::NotFound,
-            Fixed::Conflict => Status::Conflict,
-            Fixed::TooLarge => Status::PayloadTooLarge,
+            Fixed::AlreadyPublished => StatusCode::OK,
+            Fixed::Published => StatusCode::CREATED,
+            Fixed::BadRequest | Fixed::BadModLength => StatusCode::BAD_REQUEST,
+            Fixed::Forbidden => StatusCode::FORBIDDEN,
+            Fixed::NotFound => StatusCode::NOT_FOUND,
+            Fixed::Conflict => StatusCode::CONFLICT,
+            Fixed::TooLarge => StatusCode::PAYLOAD_TOO_LARGE,
             Fixed::MajorMismatch
             | Fixed::BadTime
             | Fixed::TimeMismatch
             | Fixed::BadGoMod(_)
             | Fixed::ModulePath
-            | Fixed::IncompatibleGoMod => Status::UnprocessableEntity,
-            Fixed::Unavailable => Status::ServiceUnavailable,
-            Fixed::Full => Status::InsufficientStorage,
+            | Fixed::IncompatibleGoMod => StatusCode::UNPROCESSABLE_ENTITY,
+            Fixed::Unavailable => StatusCode::SERVICE_UNAVAILABLE,
+            Fixed::Full => StatusCode::INSUFFICIENT_STORAGE,
         }
     }
 }

@@ -1,14 +1,14 @@
 //! Reading targets.
-ghost use Rattle.std.specs.Prelude.{◌≡◌, None, Some, IfOk, MatchOption};
-ghost use Rattle.percent_encoding.specs.Percent as percent;
-ghost use Rattle.wire.specs.Place.{place_of};
-ghost use Rattle.wire.specs.Query.{query_of};
-ghost use Rattle.wire.specs.Target.{split_of, get_of, put_of, target_of, ReadsTarget};
+ghost use Rattle.std.specs.Prelude.{◌≡◌, IfOk};
+ghost use Rattle.wire.specs.Query.{query_in};
+ghost use Rattle.wire.specs.Route.{routed_of};
+ghost use Rattle.wire.specs.Target.{asked_or, get_of, place_in, put_of, target_of, ReadsTarget};
 
 use crate::message::Memory;
-use crate::places::{Place, read_place, split_at_byte};
+use crate::places::{Place, read_place};
 use crate::queries::{decoded, read_query};
 use crate::request::Target;
+use crate::routes::{Area, Routed, route_of};
 use crate::text::Text;
 use std::alloc::Global;
 
@@ -23,56 +23,52 @@ pub fn target(alloc: Global, method: &[u8], target: &[u8]) -> Result<Target, Mem
 }
 
 /// The same, as it is computed.
-#[tactic(auto, unfolding(crate::specs::Target::target_of))]
 fn read_target(alloc: Global, method: &[u8], target: &[u8]) -> Result<Target, Memory>
     ensures { IfOk result (λ asked. asked ≡ target_of method.now target.now) }
 {
-    let Some((key, rest)) = split_key(target) else {
+    match str::from_utf8(target) {
+        Ok(text) => read_text(alloc, method, text),
+        Err(_) => Ok(Target::Unreadable),
+    }
+}
+
+/// What a request with this method asks for by a target that is text.
+fn read_text(alloc: Global, method: &[u8], text: &str) -> Result<Target, Memory>
+    ensures { IfOk result (λ asked. asked ≡ asked_or method.now (routed_of text.now)) }
+{
+    let Some(route) = route_of(alloc, text)? else {
         return Ok(Target::Unreadable);
     };
     match method {
-        b"GET" => get(alloc, key, rest),
-        b"PUT" => put(alloc, key, rest),
+        b"GET" => get(alloc, route),
+        b"PUT" => put(alloc, route),
         _ => Ok(Target::Unreadable),
     }
 }
 
-/// The key of a target, and what stands behind it.
-#[tactic(auto, unfolding(crate::specs::Target::split_of))]
-fn split_key(target: &[u8]) -> Option<(&str, &[u8])>
-    ensures { MatchOption result (split_of target.now ≡ None) (λ parts. split_of target.now ≡ Some (parts.0.now, parts.1.now)) }
+/// What a GET asks for by its route.
+fn get(alloc: Global, route: Routed<'_>) -> Result<Target, Memory>
+    ensures { IfOk result (λ asked. asked ≡ get_of route.entry.key.now (query_in route.entry.area route.entry.rest.now)) }
 {
-    let text = target.strip_prefix(b"/k/")?;
-    let (key, rest) = split_at_byte(text, b'/')?;
-    if key.is_empty() {
-        return None;
-    }
-    match str::from_utf8(key) {
-        Ok(key) => Some((key, rest)),
-        Err(_) => None,
-    }
-}
-
-/// What a GET asks for by a key and what stands behind it.
-fn get(alloc: Global, key: &str, rest: &[u8]) -> Result<Target, Memory>
-    ensures { IfOk result (λ asked. asked ≡ get_of key.now (query_of rest.now)) }
-{
-    match read_query(alloc, rest)? {
+    match read_query(alloc, route.area, route.rest)? {
         Some(query) => Ok(Target::Get {
-            key: Text::new(String::from_str(alloc, key)?),
+            key: Text::new(String::from_str(alloc, route.key)?),
             query,
         }),
         None => Ok(Target::Unreadable),
     }
 }
 
-/// What a PUT asks for by a key and what stands behind it.
-fn put(alloc: Global, key: &str, rest: &[u8]) -> Result<Target, Memory>
-    ensures { IfOk result (λ asked. asked ≡ put_of key.now (place_of (percent.percent_decode rest.now))) }
+/// What a PUT asks for by its route: a publish to a module path.
+fn put(alloc: Global, route: Routed<'_>) -> Result<Target, Memory>
+    ensures { IfOk result (λ asked. asked ≡ put_of route.entry.key.now (place_in route.entry.area route.entry.rest.now)) }
 {
-    match read_place(alloc, &decoded(alloc, rest)?)? {
+    let Area::Path = route.area else {
+        return Ok(Target::Unreadable);
+    };
+    match read_place(alloc, &decoded(alloc, route.rest)?)? {
         Some(Place { path, version }) => Ok(Target::Put {
-            key: Text::new(String::from_str(alloc, key)?),
+            key: Text::new(String::from_str(alloc, route.key)?),
             path,
             version,
         }),

@@ -1,10 +1,10 @@
-//! Streams as they stand, and the one reply to each.
+//! Streams as they stand, and the replies to each.
 use crate::tests::doubles::shelves;
 use crate::tests::rows::{answered, column, push_lines, reply};
 use std::alloc::{AllocError, Global};
 
-/// Streams on one store, one a line: the bytes; status, kind and body of the reply. `;` stands for the end of a line. A line
-/// without columns names those below it.
+/// Streams on one store, one a line: the bytes; status, kind and body of each reply, of which `&` stands before the second. `;`
+/// stands for the end of a line. A line without columns names those below it.
 const STREAMS: &str = "\
 bad-fronts, each with a message behind it
 GET / HTTP/1.1;a:b;a:b;a:b;a:b;a:b;a:b;a:b;a:b;a:b;a:b;a:b;a:b;a:b;a:b;a:b;a:b;a:b;a:b;a:b;a:b;a:b;a:b;a:b;a:b;a:b;a:b;a:b;a:b;a:b;a:b;a:b;a:b;a:b;a:b;a:b;a:b;a:b;a:b;a:b;a:b;a:b;a:b;a:b;a:b;a:b;a:b;a:b;a:b;a:b;a:b;a:b;a:b;a:b;a:b;a:b;a:b;a:b;a:b;a:b;a:b;a:b;a:b;a:b;a:b;a:b;;GET / HTTP/1.1;; | 400 Bad Request | plain | bad request;
@@ -13,11 +13,13 @@ GET / HTTP/1.1;Content-Length: 1;Content-Length: 1;;GET / HTTP/1.1;; | 400 Bad R
 refused-publishes: a body that ends one byte early
 PUT /k/alphakey00000001/example.com/q/@v/v1.0.0 HTTP/1.1;Mod-Length: 23;Content-Length: 23;;module example.com/q; | 400 Bad Request | plain | bad request;
 GET /k/alphakey00000001/example.com/q/@v/v1.0.0.mod HTTP/1.1;; | 404 Not Found | plain | not found;
-bad-mod-lengths: absent, doubled, with a leading zero, above the body
-PUT /k/alphakey00000001/example.com/q/@v/v1.0.0 HTTP/1.1;Content-Length: 22;;module example.com/q; | 400 Bad Request | plain | bad mod-length;
-PUT /k/alphakey00000001/example.com/q/@v/v1.0.0 HTTP/1.1;Mod-Length: 22;Mod-Length: 22;Content-Length: 22;;module example.com/q; | 400 Bad Request | plain | bad mod-length;
-PUT /k/alphakey00000001/example.com/q/@v/v1.0.0 HTTP/1.1;Mod-Length: 022;Content-Length: 22;;module example.com/q; | 400 Bad Request | plain | bad mod-length;
-PUT /k/alphakey00000001/example.com/q/@v/v1.0.0 HTTP/1.1;Mod-Length: 23;Content-Length: 22;;module example.com/q; | 400 Bad Request | plain | bad mod-length;
+bad-mod-lengths: absent, doubled, with a leading zero, above the body; each with a message behind it
+PUT /k/alphakey00000001/example.com/q/@v/v1.0.0 HTTP/1.1;Content-Length: 22;;module example.com/q;GET / HTTP/1.1;; | 400 Bad Request | plain | bad mod-length; & | 404 Not Found | plain | not found;
+PUT /k/alphakey00000001/example.com/q/@v/v1.0.0 HTTP/1.1;Mod-Length: 22;Mod-Length: 22;Content-Length: 22;;module example.com/q;GET / HTTP/1.1;; | 400 Bad Request | plain | bad mod-length; & | 404 Not Found | plain | not found;
+PUT /k/alphakey00000001/example.com/q/@v/v1.0.0 HTTP/1.1;Mod-Length: 022;Content-Length: 22;;module example.com/q;GET / HTTP/1.1;; | 400 Bad Request | plain | bad mod-length; & | 404 Not Found | plain | not found;
+PUT /k/alphakey00000001/example.com/q/@v/v1.0.0 HTTP/1.1;Mod-Length: 23;Content-Length: 22;;module example.com/q;GET / HTTP/1.1;; | 400 Bad Request | plain | bad mod-length; & | 404 Not Found | plain | not found;
+an empty line behind a message
+GET / HTTP/1.1;;; | 404 Not Found | plain | not found; & | 400 Bad Request | plain | bad request;
 ";
 
 /// The bytes of a stream.
@@ -27,12 +29,21 @@ fn stream(alloc: Global, row: &str) -> Result<String, AllocError> {
     Ok(text)
 }
 
+/// The bytes of its replies.
+fn replies(alloc: Global, row: &str) -> Result<String, AllocError> {
+    let mut text = String::new(alloc);
+    for part in row.split('&') {
+        text.push_str(&reply(alloc, part)?)?;
+    }
+    Ok(text)
+}
+
 #[test]
-fn answers_each_stream_by_one_reply(rt: HostRuntime) {
+fn answers_each_stream(rt: HostRuntime) {
     let mut shelves = shelves(rt.alloc()).expect(&rt, "shelves");
     for row in STREAMS.lines().filter(|row| row.contains('|')) {
         let input = stream(rt.alloc(), row).expect(&rt, "a stream");
-        let expected = reply(rt.alloc(), row).expect(&rt, "a reply");
+        let expected = replies(rt.alloc(), row).expect(&rt, "the replies");
         let out = answered(rt.alloc(), &mut shelves, input.as_bytes()).expect(&rt, "an answer");
         assert!(rt; out.as_slice() == expected.as_bytes(), "{row}");
     }

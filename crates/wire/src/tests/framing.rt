@@ -187,6 +187,27 @@ fn fronts_are_what_they_are(rt: HostRuntime) {
         ),
         (b"GET /\xff HTTP/1.1\r\n\r\n".as_slice(), "400"),
         (b"GET / HTTP/2.0\r\n\r\n".as_slice(), "400"),
+        (
+            b"PUT / HTTP/1.1\nContent-Length: 1\n\na".as_slice(),
+            "message",
+        ),
+        (
+            b"GET / HTTP/1.1\r\nContent-Length : 1\r\n\r\na".as_slice(),
+            "400",
+        ),
+        (
+            b"GET / HTTP/1.1\r\nContent-Length: 1, 1\r\n\r\na".as_slice(),
+            "400",
+        ),
+        (
+            b"GET / HTTP/1.1\r\nContent-Length: 1\r\n 2\r\n\r\na".as_slice(),
+            "400",
+        ),
+        (
+            b"GET / HTTP/1.1\r\nTransfer-Encoding:\r\n\r\n".as_slice(),
+            "400",
+        ),
+        (b"GET /\x00 HTTP/1.1\r\n\r\n".as_slice(), "400"),
     ];
     for (bytes, wanted) in rows {
         assert!(rt;
@@ -196,9 +217,9 @@ fn fronts_are_what_they_are(rt: HostRuntime) {
     }
 }
 
-/// A head of so many headers, of which the last is this one, and of at least so many bytes.
+/// A head of so many headers, of which the last is this one, and of at least so many bytes; an empty line stands before it.
 fn head_of(alloc: Global, headers: u8, last: &[u8], length: usize) -> Result<Vec<u8>, Memory> {
-    let mut head = Vec::from_slice(alloc, b"GET / HTTP/1.1\r\n")?;
+    let mut head = Vec::from_slice(alloc, b"\r\nGET / HTTP/1.1\r\n")?;
     for _ in 1..headers {
         head.extend_from_slice(b"A: b\r\n")?;
     }
@@ -245,6 +266,10 @@ fn heads_have_limits(rt: HostRuntime) {
         }
         Err(_) => assert!(rt; false),
     }
+    // Empty lines alone, which belong to the head that they stand before.
+    let lines = [b'\n'; 16_384];
+    assert!(rt; answer(rt.alloc(), first(&lines, 16_383)).is_ok_and(|word| word == "more"));
+    assert!(rt; answer(rt.alloc(), &lines).is_ok_and(|word| word == "400"));
 }
 
 /// The first so many bytes.

@@ -1,0 +1,52 @@
+-- Targets by their routes: `/k/{key}/-/{*rest}` and `/k/{key}/{*rest}`.
+use Rattle.std.specs.Prelude.{◌==◌, ◌&&◌, ℕ, nat_eq, nat_lt, Bool, List, [], ◌∷◌, length, drop, codes, Option, Some, None, option_map, if◌then◌else◌}
+use Rattle.std.specs.List.{starts_with}
+use Rattle.std.specs.Option.{option_and_then}
+use Rattle.matchit.specs.Rows.{RowsOf}
+use Rattle.matchit.specs.Router.{RouteOf}
+use Rattle.wire.specs.Place.{around, without_start}
+use Rattle.wire.specs.declared.routes.Area.{Area}
+use Rattle.wire.specs.declared.routes.Area.TheVariants as area
+
+-- both, as the router keeps them
+abbrev pub shelf_route : RouteOf Area
+shelf_route = record {
+  pattern = 47 ∷ 107 ∷ 47 ∷ 256 ∷ 47 ∷ 45 ∷ 47 ∷ 257 ∷ [];
+  text = codes "/k/{key}/-/{*rest}";
+  names = (4, 7) ∷ (13, 17) ∷ [];
+  value = area.Shelf;
+}
+
+abbrev pub path_route : RouteOf Area
+path_route = record {
+  pattern = 47 ∷ 107 ∷ 47 ∷ 256 ∷ 47 ∷ 257 ∷ [];
+  text = codes "/k/{key}/{*rest}";
+  names = (4, 7) ∷ (11, 15) ∷ [];
+  value = area.Path;
+}
+
+abbrev pub routes : RowsOf (RouteOf Area)
+routes = (shelf_route.pattern, shelf_route) ∷ (path_route.pattern, path_route) ∷ []
+
+-- a key is not empty
+abbrev pub with_key : List ℕ × List ℕ → Option (List ℕ × List ℕ)
+with_key parts = if length parts.0 == 0 then None else Some parts
+
+-- the key of a target, which has no slash, and what stands behind it
+unfoldable pub split_of : List ℕ → Option (List ℕ × List ℕ)
+split_of text = option_and_then with_key (option_and_then (around 47) (without_start (codes "/k/") text))
+
+-- it begins with a plain `-/`, and goes on
+abbrev pub is_own : List ℕ → Bool
+is_own rest = starts_with nat_eq rest (codes "-/") && nat_lt 2 (length rest)
+
+-- what stands behind a key is asked of the shelf itself, without that start, or of a module path
+abbrev pub area_of : List ℕ → Option (Area × List ℕ)
+area_of rest =
+    if is_own rest then Some (area.Shelf, drop 2 rest)
+    else if nat_lt 0 (length rest) then Some (area.Path, rest) else None
+
+-- the area, the key and the rest of a target
+unfoldable pub routed_of : List ℕ → Option (Area × List ℕ × List ℕ)
+routed_of text =
+    option_and_then (λ (parts : List ℕ × List ℕ). option_map (λ (found : Area × List ℕ). (found.0, parts.0, found.1)) (area_of parts.1)) (split_of text)

@@ -1,0 +1,65 @@
+//! The routes of targets.
+ghost use Rattle.std.specs.Prelude.{◌≡◌, None, Some, IfOk, IfErr, MatchOption};
+ghost use Rattle.wire.specs.Route as spec;
+
+use crate::message::Memory;
+use matchit::{InsertError, Router};
+use std::alloc::Global;
+
+/// What the rest of a target is asked of.
+#[derive(Clone, Copy, Drop)]
+pub(crate) enum Area {
+    /// The shelf itself: the rest stands behind a plain `-/`.
+    Shelf,
+    /// A module path.
+    Path,
+}
+
+/// A target by its route.
+#[derive(Clone, Copy, Drop)]
+pub(crate) struct Routed<'t> {
+    pub(crate) area: Area,
+    pub(crate) key: &'t str,
+    pub(crate) rest: &'t str,
+}
+
+/// The router of both routes. They do not conflict, so only memory can be refused.
+fn routes(alloc: Global) -> Result<Router<Area>, InsertError>
+    ensures ok { IfOk result (λ routes. routes ≡ spec.routes) }
+    ensures memory { IfErr result (λ e. e ≡ InsertError.OutOfMemory) }
+{
+    let mut routes = Router::new(alloc);
+    routes.insert("/k/{key}/-/{*rest}", Area::Shelf)?;
+    routes.insert("/k/{key}/{*rest}", Area::Path)?;
+    Ok(routes)
+}
+
+/// A target by its route, if it has one.
+pub(crate) fn route_of<'t>(alloc: Global, target: &'t str) -> Result<Option<Routed<'t>>, Memory>
+    ensures { IfOk result (λ found. MatchOption found (spec.routed_of target.now ≡ None)
+        (λ r. spec.routed_of target.now ≡ Some (r.area, r.key.now, r.rest.now))) }
+{
+    let Ok(routes) = routes(alloc) else {
+        return Err(Memory);
+    };
+    Ok(split(&routes, target))
+}
+
+/// The same by the router.
+fn split<'t>(routes: &Router<Area>, target: &'t str) -> Option<Routed<'t>>
+    requires { routes.now ≡ spec.routes }
+    ensures { MatchOption result (spec.routed_of target.now ≡ None)
+        (λ r. spec.routed_of target.now ≡ Some (r.area, r.key.now, r.rest.now)) }
+{
+    let Ok(found) = routes.at(target) else {
+        return None;
+    };
+    let area = *found.value;
+    let Some(key) = found.params.get("key") else {
+        return None;
+    };
+    let Some(rest) = found.params.get("rest") else {
+        return None;
+    };
+    Some(Routed { area, key, rest })
+}

@@ -1,5 +1,5 @@
 -- What the queries of versions and of paths answer.
-use Rattle.std.proofs.Common.{◌≡◌, ◌⊎◌, ◌↔◌, ◌∙◌, ◌||◌, ℕ, Bool, true, false, cond, List, [], ◌∷◌, ◌++◌, Option, Some, None, is_some, ◌+◌, ◌<◌, length, take, get_or, inl, inr, refl, sym, ap, subst, codes, true≢false}
+use Rattle.std.proofs.Common.{◌≡◌, ◌⊎◌, ◌↔◌, ◌∙◌, ℕ, Bool, true, false, List, [], ◌∷◌, ◌++◌, Option, Some, None, is_some, ◌+◌, ◌<◌, length, take, get_or, inl, inr, refl, sym, ap, subst, codes, true≢false}
 use Rattle.std.specs.Option.{option_or}
 use Rattle.std.specs.FinMap as map
 use Rattle.std.specs.FinSet as set
@@ -16,7 +16,6 @@ use Rattle.sqlite.specs.Effect.{Database, Reads}
 use Rattle.sqlite.specs.Listing.{understood, reads_listing}
 use Rattle.sqlite.specs.Command.TheVariants.{Select}
 use Rattle.sqlite.proofs.Callers.{IsPlain, command_of}
-use Rattle.sqlite_rules.specs.Lists.{Has}
 use Rattle.sqlite_rules.proofs.ListLemmas.{has_left, has_right, has_either}
 use Rattle.sqlite_tied.specs.Compute.{everything}
 use Rattle.shelf.specs.declared.entry.Entry.{Entry}
@@ -27,7 +26,7 @@ use Rattle.shelf.proofs.Sound.{still}
 use Rattle.shelf.proofs.Seen.{contains_versions, contains_paths}
 use Rattle.store.specs.Schema.{store_schema}
 use Rattle.store.specs.Means.{Means, IsAt}
-use Rattle.store.specs.Lookup.{lookup, passes, AreFound}
+use Rattle.store.specs.Lookup.{lookup, AreFound}
 use Rattle.store.specs.Lists.{Adds, AddsTexts, AddsVersions, AddsPaths, IsShown}
 use Rattle.store.proofs.Maps.{text_put, text_splits}
 use Rattle.store.proofs.Texts.{versions_text, paths_text}

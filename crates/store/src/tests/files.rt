@@ -69,29 +69,75 @@ fn make_foreign(rt: &HostRuntime, file: &str) -> Result<(), Fail> {
     Ok(())
 }
 
-/// Whether a file is refused, and has the same bytes after it.
-fn stays(rt: &HostRuntime, file: &str) -> Result<bool, Fail> {
-    let before = fs::read(rt, file)?;
+/// Whether bytes that are no such store are refused as a file, and stay.
+fn stays(rt: &HostRuntime, file: &str, bytes: &[u8]) -> Result<bool, Fail> {
+    fs::write(rt, file, bytes)?;
     let told = refusal(rt, file);
     let after = fs::read(rt, file)?;
-    Ok(told == Some(Refusal::BadSchema) && before.as_slice() == after.as_slice())
+    Ok(told == Some(Refusal::BadSchema) && after.as_slice() == bytes)
+}
+
+/// The bytes of a file, once its log is copied into it.
+fn bytes_of(rt: &HostRuntime, file: &str) -> Result<Vec<u8>, Fail> {
+    Connection::open(rt, file)?.close()?;
+    Ok(fs::read(rt, file)?)
+}
+
+/// The bytes up to a place.
+fn cut(bytes: &[u8], place: usize) -> &[u8] {
+    match bytes.split_at_checked(place) {
+        Some((front, _)) => front,
+        None => bytes,
+    }
+}
+
+/// Turns every bit of a byte.
+fn flip(bytes: &mut Vec<u8>, place: usize) {
+    if let Some(byte) = bytes.get_mut(place) {
+        *byte ^= 255;
+    }
 }
 
 #[test]
-fn a_refused_file_stays_as_it_was(rt: HostRuntime) -> Result<(), Fail> {
-    let _ = fs::remove_dir_all(&rt, "store_refused_test");
-    fs::create_dir(&rt, "store_refused_test")?;
-    fs::write(
-        &rt,
-        "store_refused_test/text.db",
-        "This is a text and no database.",
-    )?;
-    make_foreign(&rt, "store_refused_test/foreign.db")?;
-    assert!(rt; stays(&rt, "store_refused_test/text.db")?);
-    assert!(rt; stays(&rt, "store_refused_test/foreign.db")?);
-    assert_eq!(rt; refusal(&rt, "store_refused_test"), Some(Refusal::Device));
+fn a_damaged_file_is_refused(rt: HostRuntime) -> Result<(), Fail> {
+    let _ = fs::remove_dir_all(&rt, "store_damaged_test");
+    fs::create_dir(&rt, "store_damaged_test")?;
+    fs::write(&rt, "store_damaged_test/a.db", "")?;
+    assert!(rt; fill(&rt, "store_damaged_test/a.db")?);
+    let mut bytes = bytes_of(&rt, "store_damaged_test/a.db")?;
+    assert!(rt;
+        stays(
+            &rt,
+            "store_damaged_test/cut.db",
+            cut(bytes.as_slice(), 5000)
+        )?
+    );
+    flip(&mut bytes, 4096);
+    assert!(rt; stays(&rt, "store_damaged_test/page.db", bytes.as_slice())?);
+    flip(&mut bytes, 0);
+    assert!(rt; stays(&rt, "store_damaged_test/head.db", bytes.as_slice())?);
+    assert!(rt; is_full(&rt, "store_damaged_test/a.db")?);
+    fs::remove_dir_all(&rt, "store_damaged_test")?;
+    Ok(())
+}
+
+#[test]
+fn a_foreign_file_is_refused(rt: HostRuntime) -> Result<(), Fail> {
+    let _ = fs::remove_dir_all(&rt, "store_foreign_test");
+    fs::create_dir(&rt, "store_foreign_test")?;
+    make_foreign(&rt, "store_foreign_test/a.db")?;
+    let bytes = bytes_of(&rt, "store_foreign_test/a.db")?;
+    assert!(rt; stays(&rt, "store_foreign_test/a.db", bytes.as_slice())?);
+    assert!(rt;
+        stays(
+            &rt,
+            "store_foreign_test/text.db",
+            b"This is a text and no database."
+        )?
+    );
+    assert_eq!(rt; refusal(&rt, "store_foreign_test"), Some(Refusal::Device));
     assert_eq!(rt; refusal(&rt, ":memory:"), Some(Refusal::Device));
     assert_eq!(rt; refusal(&rt, ""), Some(Refusal::Device));
-    fs::remove_dir_all(&rt, "store_refused_test")?;
+    fs::remove_dir_all(&rt, "store_foreign_test")?;
     Ok(())
 }

@@ -34,7 +34,7 @@ fn refusal_of(refusal: Refusal) -> Fixed
 }
 
 /// The fixed reply of a decision on a publish.
-fn fixed_of(decision: Decision) -> Fixed
+pub fn fixed_of(decision: Decision) -> Fixed
     ensures { result ≡ spec.fixed_of decision }
 {
     match decision {

@@ -3,6 +3,7 @@ use Rattle.std.specs.Prelude.{ℕ, List, ◌≡◌, true, Option, Result, Ok, Er
 use Rattle.engine.specs.Served.{Serves}
 use Rattle.engine.specs.declared.fault.Io.{Io as Failure}
 use Rattle.world.specs.InMemory.{in_memory}
+use Rattle.world.specs.Store.{Shown}
 use Rattle.world.specs.World.{World, only_common, with_team, with_key, is_team_name, is_key}
 use Rattle.world.specs.declared.entry.Right.TheVariants.{Publishes}
 use Rattle.goshelf.specs.declared.refusal.Refusal.{Refusal}
@@ -33,3 +34,12 @@ AnsweredFor team key unread unread_new written written_new (Err Name) =
     (¬ AreNames team key) × (unread_new ≡ unread) × (written_new ≡ written)
 AnsweredFor team key unread unread_new written written_new (Err Memory) =
     AreNames team key × (unread_new ≡ unread) × (written_new ≡ written)
+AnsweredFor team key unread unread_new written written_new (Err other) = ⊥
+
+-- The requests were answered by shelves that went from old to new, and it ended like this.
+abbrev pub AnswersAll :
+    Shown → Shown → ℕ → ℕ → Option (List ℕ) → Option (List ℕ) → Option (List ℕ) → Option (List ℕ) → Result (Unit {0}) Refusal → Type 0
+AnswersAll old new before now unread unread_new written written_new (Ok u) = Serves old new before now unread unread_new written written_new (Ok tt)
+AnswersAll old new before now unread unread_new written written_new (Err Io) =
+    (failure : Failure) × Serves old new before now unread unread_new written written_new (Err failure)
+AnswersAll old new before now unread unread_new written written_new (Err other) = ⊥

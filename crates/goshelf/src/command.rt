@@ -1,19 +1,22 @@
 //! One whole run of the program.
 ghost use Rattle.std.specs.Prelude.{◌≤◌};
 
+use crate::answer::answer;
 use crate::arguments::parser;
-use crate::memory::answer_in_memory;
+use crate::publish::publish;
 use crate::refusal::Refusal;
-use clap::ArgMatches;
+use crate::registry::{init, key_add, key_revoke, team_add};
 use clap::error::ErrorKind;
-use std::alloc::Global;
 use std::io::{self, Read, Write};
+use std::rt::HostRuntime;
 
 /// How a run ended, if not well.
 #[derive(Drop)]
 enum Ending {
     /// The command was refused.
     Refused(Refusal),
+    /// The outcome of a publish that does not accept was printed.
+    Told,
     /// The parser's text is to be shown: help, the version, or what is wrong with the words.
     Shown(clap::Error),
 }
@@ -25,9 +28,10 @@ impl From<Refusal> for Ending {
 }
 
 /// One whole run of the program, by the words after its name. It answers the exit status:
-/// 0 done, 1 refused with one line `goshelf: <word>` on `errors`, 2 bad usage with the parser's text there.
-pub fn command<R: AllocGlobal, I: Read, O: Write, E: Write>(
-    rt: &R,
+/// 0 done, 1 refused with one line `goshelf: <word>` on `errors` (or, of a publish, with its outcome on `output`),
+/// 2 bad usage with the parser's text on `errors`.
+pub fn command<I: Read, O: Write, E: Write>(
+    rt: &HostRuntime,
     words: &[String],
     input: &mut I,
     output: &mut O,
@@ -35,21 +39,22 @@ pub fn command<R: AllocGlobal, I: Read, O: Write, E: Write>(
 ) -> u8
     ensures { result ≤ 2 }
 {
-    match run(rt.alloc(), words, input, output) {
+    match run(rt, words, input, output) {
         Ok(()) => 0,
         Err(Ending::Refused(refusal)) => refuse(refusal, errors),
+        Err(Ending::Told) => 1,
         Err(Ending::Shown(error)) => show(error, output, errors),
     }
 }
 
 /// Does what the words say.
 fn run<I: Read, O: Write>(
-    alloc: Global,
+    rt: &HostRuntime,
     words: &[String],
     input: &mut I,
     output: &mut O,
 ) -> Result<(), Ending> {
-    let parser = match parser(alloc) {
+    let parser = match parser(rt.alloc()) {
         Ok(parser) => parser,
         Err(_) => return Err(Ending::Refused(Refusal::Memory)),
     };
@@ -57,23 +62,21 @@ fn run<I: Read, O: Write>(
         Ok(matches) => matches,
         Err(error) => return Err(Ending::Shown(error)),
     };
-    match matches.subcommand() {
-        Some(("answer", matches)) => answer(alloc, matches, input, output),
+    let done = match matches.subcommand() {
+        Some(("init", matches)) => init(rt, matches),
+        Some(("team-add", matches)) => team_add(rt, matches),
+        Some(("key-add", matches)) => key_add(rt, matches),
+        Some(("key-revoke", matches)) => key_revoke(rt, matches),
+        Some(("answer", matches)) => answer(rt, matches, input, output),
+        Some(("publish", matches)) => {
+            return match publish(rt, matches, output)? {
+                true => Ok(()),
+                false => Err(Ending::Told),
+            };
+        }
         _ => Ok(()),
-    }
-}
-
-/// `answer --mem --team T --key K`.
-fn answer<'a, I: Read, O: Write>(
-    alloc: Global,
-    matches: &ArgMatches<'a>,
-    input: &mut I,
-    output: &mut O,
-) -> Result<(), Ending> {
-    let team = matches.get_str("team").unwrap_or("");
-    let key = matches.get_str("key").unwrap_or("");
-    answer_in_memory(alloc, team, key, input, output)?;
-    Ok(())
+    };
+    Ok(done?)
 }
 
 /// Tells why a command was refused.

@@ -5,12 +5,12 @@ ghost use Rattle.goshelf.specs.Opening.{AnsweredFor, AreNames, opening};
 
 use crate::refusal::Refusal;
 use engine::answer_all;
-use shelf::entry::Right;
-use shelf::map_shelves::MapShelves;
-use shelf::names::{is_key, is_team_name};
-use shelf::shelves::Shelves;
 use std::alloc::Global;
 use std::io::{Read, Write};
+use world::entry::Right;
+use world::map_shelves::MapShelves;
+use world::names::{is_key, is_team_name};
+use world::shelves::Shelves;
 
 /// Adds the first team.
 fn add_first_team(shelves: &mut MapShelves, team: &str) -> Result<(), Refusal>

@@ -1,4 +1,5 @@
 //! The worked rows: whole runs over the parts together, with their exact bytes.
-mod publishing;
+mod commands;
 mod rows;
+mod runs;
 mod words;

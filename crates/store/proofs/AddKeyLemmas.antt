@@ -1,7 +1,8 @@
 -- What the INSERT of a key does.
 use Rattle.std.proofs.Common.{◌≡◌, ℕ, pos, Bool, true, false, cond, List, [], ◌∷◌, Option, Some, None, Ok, refl, sym, ap, ◌∙◌, true≢false, arith, is_some, not}
+use Rattle.sqlite.specs.declared.types.Value.{Value}
 use Rattle.sqlite.specs.declared.types.Value.TheVariants.{Null, Int, Text}
-use Rattle.sqlite.specs.Order.{Row}
+use Rattle.sqlite.specs.Order.{Row, column}
 use Rattle.sqlite.specs.Term.{Term, lit, col}
 use Rattle.sqlite.specs.Effect.{Database}
 use Rattle.sqlite.specs.Edit.{next_rowid}
@@ -22,12 +23,14 @@ use Rattle.world.specs.declared.registry.Registered.TheVariants.{Done, Name, Tak
 use Rattle.world.specs.World.{World, with_key, is_key}
 use Rattle.world.specs.Registry.{key_added, after_key_add}
 use Rattle.world.proofs.Orders.{texts_total, texts_exact, get_put}
-use Rattle.store.specs.Means.{Holds, IsAccess}
+use Rattle.store.specs.Means.{Holds, IsAccess, Tabulates}
 use Rattle.store.proofs.Texts.{add_key_text}
 use Rattle.store.specs.Views.{may_publish, with_key_added}
 use Rattle.store.proofs.InsertLemmas.{Inserted, inserted, cast_null, cast_int}
 use Rattle.store.proofs.WriteLemmas.{Rewrites, inserting}
-use Rattle.store.proofs.TabulateLemmas.{tabulates_put, numbered_put}
+use Rattle.store.proofs.TabulateLemmas.{tabulates_put, numbered_put, put_apart}
+use Rattle.sqlite_rules.specs.Lists.{Has}
+use Rattle.sqlite_rules.proofs.ListLemmas.{all_from}
 use Rattle.store.proofs.Maps.{put_keeps, put_splits}
 
 abbrev pub terms : List Term
@@ -55,6 +58,13 @@ module _ (limit : Option ℕ) (token : List ℕ) (g : Holder) where
       (it.0, rw (cast_null, cast_int _) at it.1)
 
 module _ (w : World) (token : List ℕ) (g : Holder) (unused : map.get w.keys token ≡ None) where
+  -- a row of the key is none of those that are there
+  token_free : (rows : List Row) → Tabulates IsAccess rows (λ it. map.get w.keys it.0 ≡ Some it.1) → (id : Value) → (r : Row) → Has rows r → (t : List ℕ) → column (id ∷ key_params token g) 1 ≡ Text t → column r 1 ≡ Text t → ⊥
+  token_free rows tabulated id r there t is also =
+      let it = tabulated.each r there in
+      let same : it.0.0 ≡ token = let e = sym it.1.0 ∙ (also ∙ sym is) in cc in
+      let none : ◌≡◌ {A = Option Holder} (Some it.0.1) None = sym it.2 ∙ (ap (map.get w.keys) same ∙ unused) in absurd (cc)
+
   pub add_key_turns : (old : State) → Holds old w → Rewrites add_key_text (key_params token g) (Insert 2 (Values terms 4)) add_key_is add_key_plain (inserting 2 (Values terms 4)) old old w (with_key w token g)
   add_key_turns old h tally after does =
       let it = added old.step_limit token g old.now [] tally after h.schema does in
@@ -66,7 +76,9 @@ module _ (w : World) (token : List ℕ) (g : Holder) (unused : map.get w.keys to
           access = rw it.1.rows (tabulates_put IsAccess (old.now.trees 4) _ (token, g) _ _ it.1.fresh (refl, refl, refl) (λ y. put_keeps texts_total texts_exact w.keys token g unused y.0 y.1) (get_put texts_total w.keys token g) (put_splits texts_total texts_exact w.keys token g) means.access);
           numbered = rw it.1.rows (numbered_put (old.now.trees 4) (next_rowid (old.now.trees 4)) _ refl it.1.fresh means.numbered);
           entries = rw (it.1.tables.1.1.1.0 (λ e. omega (arith, e)), it.1.tables.1.1.1.1.0 (λ e. omega (arith, e))) means.entries;
-          once = rw (it.1.tables.1.1.1.0 (λ e. omega (arith, e))) means.once;
+          tokens = rw it.1.rows (put_apart (λ a b. (t : List ℕ) → column a 1 ≡ Text t → column b 1 ≡ Text t → ⊥) (λ a b apart t also is. apart t is also) _ (old.now.trees 4) (all_from _ (old.now.trees 4) (token_free (old.now.trees 4) means.access (Int (next_rowid (old.now.trees 4))))) means.tokens);
+          bodies = rw (it.1.tables.1.1.1.1.0 (λ e. omega (arith, e))) means.bodies;
+          places = rw (it.1.tables.1.1.1.0 (λ e. omega (arith, e))) means.places;
         },
       )
 

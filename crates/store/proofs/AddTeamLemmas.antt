@@ -58,7 +58,9 @@ module _ (w : World) (name : List ℕ) where
           access = rw (it.1.tables.1.1.0 (λ e. omega (arith, e))) means.access;
           numbered = rw (it.1.tables.1.1.0 (λ e. omega (arith, e))) means.numbered;
           entries = rw (it.1.tables.1.1.1.0 (λ e. omega (arith, e)), it.1.tables.1.1.1.1.0 (λ e. omega (arith, e))) means.entries;
-          once = rw (it.1.tables.1.1.1.0 (λ e. omega (arith, e))) means.once;
+          tokens = rw (it.1.tables.1.1.0 (λ e. omega (arith, e))) means.tokens;
+          bodies = rw (it.1.tables.1.1.1.1.0 (λ e. omega (arith, e))) means.bodies;
+          places = rw (it.1.tables.1.1.1.0 (λ e. omega (arith, e))) means.places;
         },
       )
 

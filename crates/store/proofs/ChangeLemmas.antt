@@ -60,8 +60,8 @@ some_mapped f None = refl
 some_mapped f (Some x) = refl
 
 -- a commit that failed goes back to what was committed before
-pub undone_now : (begun last exit : State) (e : Error) → KeepsCommit begun last → IsTrue last.in_transaction → FailsToCommit last exit e → IsTrue exit.is_open → exit.now ≡ begun.committed
-undone_now begun last exit e keeps inside (inl fails) shown = (fails.3.undone shown).0 ∙ keeps.committed (fails.3.was_open shown)
+pub undone_now : (begun last exit : State) (e : Error) → KeepsCommit begun last → IsTrue last.in_transaction → FailsToCommit last exit e → IsTrue exit.is_open → IsTrue begun.is_open × (exit.now ≡ begun.committed)
+undone_now begun last exit e keeps inside (inl fails) shown = (keeps.was_open (fails.3.was_open shown), (fails.3.undone shown).0 ∙ keeps.committed (fails.3.was_open shown))
 undone_now begun last exit e keeps inside (inr late) shown = absurd (true≢false (sym inside ∙ late.1))
 
 pub on_weaker : {A E : Type 0} {P Q : Type 0} (r : Result A E) → (P → Q) → OnOk r P → OnOk r Q

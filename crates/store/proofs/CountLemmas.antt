@@ -215,7 +215,7 @@ module _ (s p : List ℕ) (w : World) (db : Trees) (means : Means db w) where
       let path : q.path ≡ p = let e = sym at.1 ∙ it.1 in cc in
       rw (shelf, path, text_self s, text_self p) refl
 
-  passes_own : (q : Place) (row : Row) → IsAt row q → test q ≡ true → passes by_path (path_params s p) row ≡ true
+  pub passes_own : (q : Place) (row : Row) → IsAt row q → test q ≡ true → passes by_path (path_params s p) row ≡ true
   passes_own q row at h =
       let parts = and_parts _ _ h in
       rw (at.0, at.1, text_same q.shelf s parts.0, text_same q.path p parts.1, equals_itself s, equals_itself p) refl
@@ -237,8 +237,8 @@ module _ (s p : List ℕ) (w : World) (db : Trees) (means : Means db w) where
       go true (Some e) passed is some = let it = means.entries.found (q, e) is in (it.0, has_kept (passes by_path (path_params s p)) (db 6) it.0 it.1 (passes_own q it.0 it.2.place passed), it.2.place)
       go false g passed is some = absurd (true≢false (sym some))
 
-  all_counted : length found_rows ≡ count w s p
-  all_counted = rows_counted places_total places_exact IsAt same_place found_rows (map.retain_keys w.entries test) each_found found_each (ascending_filtered _ (passes by_path (path_params s p)) (db 6) means.once)
+  pub all_counted : length found_rows ≡ count w s p
+  all_counted = rows_counted places_total places_exact IsAt same_place found_rows (map.retain_keys w.entries test) each_found found_each (ascending_filtered _ (passes by_path (path_params s p)) (db 6) means.places)
 
   pub count_read : (base : Database) → base.trees ≡ db → IsWorld w → (row : Row) (n : ℕ) → Selects count_text (path_params s p) base (Some row) → column row 0 ≡ Int (pos n) → n ≡ count w s p
   count_read base has_db is row n picked shown =

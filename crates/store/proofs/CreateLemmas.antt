@@ -196,6 +196,7 @@ record Rows (db : Trees) : Type 0 where
   shelf : db 2 ≡ put_all [] ((Int id ∷ Text (codes "common") ∷ []) ∷ [])
   access : db 4 ≡ []
   version : db 6 ≡ []
+  body : db 8 ≡ []
 
 means : (db : Trees) → Rows db → Means db only_common
 means db r = record {
@@ -210,7 +211,9 @@ means db r = record {
   access = rw r.access (record { each = λ row none. absurd none; found = λ x some. absurd (none_in_empty text_cmp x.0 x.1 some) });
   numbered = rw r.access (record { number = λ row none. absurd none; own = λ a b none. absurd none });
   entries = rw r.version (record { each = λ row none. absurd none; found = λ x some. absurd (none_in_empty place_cmp x.0 x.1 some) });
-  once = rw r.version tt;
+  tokens = rw r.access tt;
+  bodies = rw r.body tt;
+  places = rw r.version tt;
 }
   where
     only_name : (name : List ℕ) → IsTrue (set.contains only_common.shelves name) → codes "common" ≡ name
@@ -218,18 +221,19 @@ means db r = record {
 
 put_meta : (old new : State) (count : ℕ) → old.now.schema ≡ store_schema → old.now.trees 0 ≡ [] → ExecutesIn true first6 [] old new (Ok count)
     → (new.now.schema ≡ store_schema) × ((id : ℤ) × (new.now.trees 0 ≡ put_all [] ((Int id ∷ Text (codes "schema") ∷ Int (pos 1) ∷ []) ∷ []))) × (new.now.trees 2 ≡ old.now.trees 2) × (new.now.trees 4 ≡ old.now.trees 4) × (new.now.trees 6 ≡ old.now.trees 6)
+    × (new.now.trees 8 ≡ old.now.trees 8)
 put_meta old new count has none h =
     let w = ran_as first6 old new store_schema has _ put6.0 put6.1 count h in
     let it = inserted old.step_limit meta_table refl [] (lit Null ∷ lit (Text (codes "schema")) ∷ lit (Int (pos 1)) ∷ []) 3 (Null ∷ Text (codes "schema") ∷ Int (pos 1) ∷ []) refl (λ _. refl) 0 refl old.now [] w.tally new.now has w.changed in
-    (it.0, (pos 1, rw none at (rw (cast_null, cast_int (pos 1)) at it.1.rows)), it.1.tables.1.0 (λ e. omega (arith, e)), it.1.tables.1.1.0 (λ e. omega (arith, e)), it.1.tables.1.1.1.0 (λ e. omega (arith, e)))
+    (it.0, (pos 1, rw none at (rw (cast_null, cast_int (pos 1)) at it.1.rows)), it.1.tables.1.0 (λ e. omega (arith, e)), it.1.tables.1.1.0 (λ e. omega (arith, e)), it.1.tables.1.1.1.0 (λ e. omega (arith, e)), it.1.tables.1.1.1.1.0 (λ e. omega (arith, e)))
 
 put_common : (old new : State) (count : ℕ) → old.now.schema ≡ store_schema → old.now.trees 2 ≡ [] → ExecutesIn true first7 [] old new (Ok count)
     → (new.now.schema ≡ store_schema) × ((id : ℤ) × (new.now.trees 2 ≡ put_all [] ((Int id ∷ Text (codes "common") ∷ []) ∷ []))) × (new.now.trees 4 ≡ old.now.trees 4) × (new.now.trees 6 ≡ old.now.trees 6)
-    × (new.now.trees 0 ≡ old.now.trees 0) × IsDatabase new.now × IsTrue new.is_open
+    × (new.now.trees 0 ≡ old.now.trees 0) × IsDatabase new.now × IsTrue new.is_open × (new.now.trees 8 ≡ old.now.trees 8)
 put_common old new count has none h =
     let w = ran_as first7 old new store_schema has _ put7.0 put7.1 count h in
     let it = inserted old.step_limit shelf_table refl [] (lit Null ∷ lit (Text (codes "common")) ∷ []) 2 (Null ∷ Text (codes "common") ∷ []) refl (λ _. refl) 1 refl old.now [] w.tally new.now has w.changed in
-    (it.0, (pos 1, rw none at (rw cast_null at it.1.rows)), it.1.tables.1.1.0 (λ e. omega (arith, e)), it.1.tables.1.1.1.0 (λ e. omega (arith, e)), it.1.tables.0 (λ e. omega (arith, e)), w.sound, w.shown.is_open)
+    (it.0, (pos 1, rw none at (rw cast_null at it.1.rows)), it.1.tables.1.1.0 (λ e. omega (arith, e)), it.1.tables.1.1.1.0 (λ e. omega (arith, e)), it.1.tables.0 (λ e. omega (arith, e)), w.sound, w.shown.is_open, it.1.tables.1.1.1.1.0 (λ e. omega (arith, e)))
 
 module _ {S : Type 0} (g : Ghosts S) (old new : Held S) where
   pub all_made : KeepsCommit (state g old) (state g new) → IsTrue new.in_transaction → (state g old).now.schema ≡ no_schema → ExecutesAllInside g 0 text1 old new (Ok tt) → IsMade (state g old) (state g new)
@@ -253,7 +257,8 @@ module _ {S : Type 0} (g : Ghosts S) (old new : Held S) where
       let L = put_common (state g f.0) (state g l.0) l.1 F.0 shelf l.2 in
       let access : (state g l.0).now.trees 4 ≡ [] = L.2 ∙ (F.3 ∙ (E.2.1.1.0 ∙ (D.2.1.1.0 ∙ C.1))) in
       let version : (state g l.0).now.trees 6 ≡ [] = L.3 ∙ (F.4 ∙ (E.2.1.1.1.0 ∙ D.1)) in
-      let rows : Rows (state g l.0).now.trees = record { meta_id = F.1.0; meta = L.4 ∙ F.1.1; id = L.1.0; shelf = L.1.1; access = access; version = version } in
+      let body : (state g l.0).now.trees 8 ≡ [] = L.7 ∙ (F.5 ∙ E.1) in
+      let rows : Rows (state g l.0).now.trees = record { meta_id = F.1.0; meta = L.4 ∙ F.1.1; id = L.1.0; shelf = L.1.1; access = access; version = version; body = body } in
       let same : new ≡ l.0 = l.3.1 in
       let shown : IsTrue (state g new).is_open = ap (λ h. (state g h).is_open) same ∙ L.6 in
       record {

@@ -8,6 +8,19 @@ pub mod KeyLemmas
 pub mod InsertLemmas
 pub mod WriteLemmas
 pub mod ChangeLemmas
+pub mod WalkLemmas
+pub mod Ascending
+pub mod ListingLemmas
+pub mod RunLemmas
+pub mod AsciiLemmas
+pub mod JoinLemmas
+pub mod SoundLemmas
+pub mod RowMapLemmas
+pub mod WorldOf
+pub mod WorldFits
+pub mod EntryTests
+pub mod FitTests
+pub mod RowFits
 pub mod ShelfLemmas
 pub mod TabulateLemmas
 pub mod AddKeyLemmas
@@ -20,5 +33,7 @@ pub mod FirstWorld
 pub mod FlagLemmas
 pub mod CreateLemmas
 pub mod StoreLemmas
+pub mod OpenLemmas
+pub mod OneWorld
 pub mod VisibleLemmas
 pub mod RevokeLemmas

@@ -20,7 +20,8 @@ use Rattle.sqlite.specs.Does.{Tally, Does, OnRows}
 use Rattle.sqlite.specs.Rows.{Written, Task}
 use Rattle.sqlite.specs.State.{State}
 use Rattle.sqlite.proofs.Callers.{IsPlain, command_of, one_step}
-use Rattle.sqlite_trees.specs.Tree.{has_rowid, without_rowid}
+use Rattle.sqlite_trees.specs.Tree.{IsAscending, has_rowid, without_rowid}
+use Rattle.sqlite_trees.proofs.ListLemmas.{ascending-filter}
 use Rattle.sqlite_rules.specs.declared.error.Rowids.TheVariants.{Given}
 use Rattle.sqlite_rules.specs.Edit.{id_in}
 use Rattle.sqlite_rules.specs.Calls.{ids_of}
@@ -114,6 +115,11 @@ not_left (i ∷ ids) rows x id (inr later) is h = not_left ids (without_rowid i 
 same_number : (m n : ℤ) → is_eq (value_cmp (Int m) (Int n)) ≡ true → m ≡ n
 same_number m n h = let same = sym (value_cmp-Int m n) ∙ tied _ h in grind (arith, ints, nat_tests)
 
+-- rows that are left have a relation that each two had
+ascending_left : (P : Row → Row → Type 0) (ids : List ℤ) (rows : List Row) → IsAscending P rows → IsAscending P (without_all rows ids)
+ascending_left P [] rows up = up
+ascending_left P (id ∷ ids) rows up = ascending_left P ids (without_rowid id rows) (ascending-filter P (λ y. not (has_rowid id y)) rows up)
+
 -- ---- the world without the key
 
 gone : {X : Type 0} (b : Bool) (old : Option X) (x : X) → cond b None old ≡ Some x → (b ≡ false) × (old ≡ Some x)
@@ -177,7 +183,9 @@ module _ (w : World) (token : List ℕ) where
           access = rw r.rows (access_left (old.now.trees 4) r.out means.access means.numbered r.found);
           numbered = rw r.rows (numbered_left (old.now.trees 4) r.out means.access means.numbered r.found);
           entries = rw (r.tables.1.1.1.0 (λ e. omega (arith, e)), r.tables.1.1.1.1.0 (λ e. omega (arith, e))) means.entries;
-          once = rw (r.tables.1.1.1.0 (λ e. omega (arith, e))) means.once;
+          tokens = rw r.rows (ascending_left _ (ids_of r.out) (old.now.trees 4) means.tokens);
+          bodies = rw (r.tables.1.1.1.1.0 (λ e. omega (arith, e))) means.bodies;
+          places = rw (r.tables.1.1.1.0 (λ e. omega (arith, e))) means.places;
         },
       )
 

@@ -4,7 +4,7 @@ use Rattle.std.proofs.Common.{◌≡◌, ◌≤◌, ◌⊎◌, true, false, List
 use Rattle.sqlite_trees.specs.View.{doubt}
 use Rattle.sqlite_trees.specs.declared.store.Store.{Ghosts}
 use Rattle.sqlite.specs.Order.{Row, column}
-use Rattle.sqlite.specs.Tree.{Trees}
+use Rattle.sqlite.specs.Tree.{Trees, rowid}
 use Rattle.sqlite.specs.Effect.{Database}
 use Rattle.sqlite.specs.State.{State, HasCleanDisk, Shows, KeepsCommit, IsRolledBack, Survives}
 use Rattle.sqlite.specs.Held.{Held, state}
@@ -22,7 +22,7 @@ use Rattle.store.specs.Means.{Means, Holds, Stands, StandFor, Tabulates, IsVersi
 use Rattle.sqlite.specs.Edit.{are_fresh, put_all}
 use Rattle.sqlite_rules.proofs.ListLemmas.{all_from}
 use Rattle.store.proofs.Maps.{put_keeps, put_splits}
-use Rattle.store.proofs.ValueLemmas.{int_itself, fresh_before, fresh_after}
+use Rattle.store.proofs.ValueLemmas.{int_itself, fresh_before, fresh_after, equal_turned}
 use Rattle.store.specs.Added.{Inserted, HasAdded, version_row, body_row}
 use Rattle.store.specs.Calls.{ChangesAt}
 use Rattle.store.proofs.CallLemmas.{was_clean}
@@ -109,7 +109,9 @@ module _ (w : World) (p : Place) (e : Entry) (unused : map.get w.entries p ≡ N
         access = rw (second.tables.1.1.0 (λ f. omega (arith, f)), first.tables.1.1.0 (λ f. omega (arith, f))) means.access;
         numbered = rw (second.tables.1.1.0 (λ f. omega (arith, f)), first.tables.1.1.0 (λ f. omega (arith, f))) means.numbered;
         entries = rw (rows, first.rows) (tabulates_put (IsVersion (after 8)) (db 6) (version_row a.id p e) (p, e) _ _ first.fresh new_is kept (get_put places_total w.entries p e) split wider);
-        once = rw (rows, first.rows) (put_apart (λ a b. (q : Place) → IsAt a q → IsAt b q → ⊥) (λ a b apart q ofb ofa. apart q ofa ofb) (version_row a.id p e) (db 6) (all_from _ (db 6) (λ r there. place_free (db 8) (db 6) means.entries r there (version_row a.id p e) (refl, refl, refl))) means.once);
+        tokens = rw (second.tables.1.1.0 (λ f. omega (arith, f)), first.tables.1.1.0 (λ f. omega (arith, f))) means.tokens;
+        bodies = rw (second.rows, same_bodies) (put_apart (λ a b. is_numbered_as a b ≡ false) (λ a b apart. equal_turned (rowid b) (rowid a) ∙ apart) (body_row a.id e) (db 8) (all_from _ (db 8) (λ r there. fresh_after a.id (body_row a.id e) (db 8) refl (subst (λ l. are_fresh l (body_row a.id e ∷ []) ≡ true) same_bodies second.fresh) r there)) means.bodies);
+        places = rw (rows, first.rows) (put_apart (λ a b. (q : Place) → IsAt a q → IsAt b q → ⊥) (λ a b apart q ofb ofa. apart q ofa ofb) (version_row a.id p e) (db 6) (all_from _ (db 6) (λ r there. place_free (db 8) (db 6) means.entries r there (version_row a.id p e) (refl, refl, refl))) means.places);
       }
 
 -- ---- the transaction

@@ -7,3 +7,7 @@ pub mod Reading
 pub mod Added
 pub mod Made
 pub mod Lists
+pub mod Walks
+pub mod Fit
+pub mod Opened
+pub mod Laws

@@ -53,7 +53,15 @@ pub record IsNumbered (rows : List Row) : Type 0 where
 abbrev pub IsAt : Row → Place → Type 0
 IsAt row p = (column row 2 ≡ Text p.shelf) × (column row 3 ≡ Text p.path) × (column row 4 ≡ Text p.version)
 
--- no two rows name one place
+-- no two rows of `access` are of one key
+abbrev pub IsEachTokenOnce : List Row → Type 0
+IsEachTokenOnce = IsAscending (λ a b. (token : List ℕ) → column a 1 ≡ Text token → column b 1 ≡ Text token → ⊥)
+
+-- no two rows of `body` have one number
+abbrev pub IsEachNumberOnce : List Row → Type 0
+IsEachNumberOnce = IsAscending (λ a b. is_numbered_as a b ≡ false)
+
+-- no two rows of `version` name one place
 abbrev pub IsEachPlaceOnce : List Row → Type 0
 IsEachPlaceOnce = IsAscending (λ a b. (p : Place) → IsAt a p → IsAt b p → ⊥)
 
@@ -74,7 +82,10 @@ pub record Means (db : Trees) (w : World) : Type 0 where
   pub access : Tabulates IsAccess (db access_table.tree) (λ it. map.get w.keys it.0 ≡ Some it.1)
   pub numbered : IsNumbered (db access_table.tree)
   pub entries : Tabulates (IsVersion (db body_table.tree)) (db version_table.tree) (λ it. map.get w.entries it.0 ≡ Some it.1)
-  pub once : IsEachPlaceOnce (db version_table.tree)
+  -- each key, each body and each place has one row
+  pub tokens : IsEachTokenOnce (db access_table.tree)
+  pub bodies : IsEachNumberOnce (db body_table.tree)
+  pub places : IsEachPlaceOnce (db version_table.tree)
 
 -- the trees are the tables of the schema, obey its rules, and stand for the world
 pub record StandFor (db : Trees) (w : World) : Type 0 where

@@ -11,14 +11,16 @@
 //! | `body` | the zip of the version that has the same number | `id`, `zip` |
 //!
 //! The tables stand for one world: each row of `shelf` is a shelf, each row of `access` a key, and
-//! each row of `version`, with its row of `body`, an entry; each shelf, key and entry has one row.
-//! The numbers of the rows and their order mean nothing.
+//! each row of `version`, with its row of `body`, an entry; each key and each entry has one row.
+//! The numbers of the rows and their order mean nothing. A store is opened over tables that are these
+//! and stand for a world, or over none at all; everything else is refused and stays as it was.
 //!
 //! A change is one transaction. So a crash leaves the world before it or the world after it, and
 //! once the change has answered Ok, the world after it alone.
 //!
 //! | call | its statements |
 //! |---|---|
+//! | `adopt` | each row of each table once, in walks that keep the row before; or the five tables where there are none |
 //! | `key` | the row of `access` that has the key |
 //! | `entry` | the row of `version` on the own shelf, or else on `common`, then its row of `body` |
 //! | `versions`, `paths` | the rows of `version` on the own shelf, then those on `common` |
@@ -31,9 +33,13 @@
 //! `Memory` where memory was wanted, and otherwise `Device`, which is counted.
 #![tactic(auto)]
 
+mod adopt;
 mod create;
 mod entries;
+mod fit;
+pub mod laws;
 pub mod open;
+pub mod refusal;
 mod revoke;
 mod schema;
 mod shelves;
@@ -41,3 +47,4 @@ pub mod store;
 #[cfg(test)]
 mod tests;
 mod visible;
+mod walk;

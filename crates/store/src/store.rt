@@ -1,18 +1,16 @@
 //! The store that the machine runs over.
 
-ghost use Rattle.std.specs.Prelude.{◌≡◌, ◌≢◌, ◌≤◌, ◌⊎◌, IfOk, IfErr, IsTrue};
+ghost use Rattle.std.specs.Prelude.{◌≡◌, ◌≤◌, IfOk, IfErr, IsTrue};
 ghost use Rattle.sqlite.specs.Held.{state};
 ghost use Rattle.sqlite.specs.State.{HasCleanDisk};
-ghost use Rattle.world.specs.World.{only_common};
 ghost use Rattle.world.specs.Store.{GrewOrFull};
-ghost use Rattle.store.specs.Schema.{no_schema};
-ghost use Rattle.store.specs.Means.{StandFor};
-ghost use Rattle.store.specs.Calls.{shown_of, BeginsAt};
+ghost use Rattle.store.specs.Calls.{shown_of};
+ghost use Rattle.store.specs.Opened.{Opens, IsBad, LeavesFirst};
 
-use crate::create::create;
+use crate::adopt::open_tables;
 use crate::entries::{add_entry, count_entries, find_entry};
+use crate::refusal::Refusal;
 use crate::revoke::revoke_key;
-use crate::schema::is_no_schema;
 use crate::shelves::{add_key, add_team, find_key};
 use crate::visible::{find_paths, find_versions};
 use modpath::ModulePath;
@@ -149,52 +147,31 @@ impl<S: Alter> Shelves for SqlShelves<S> {
     }
 }
 
-/// Why a store is not opened.
-#[derive(Clone, Copy, Debug, PartialEq, Eq)]
-pub enum Refusal {
-    /// A disk failed.
-    Device,
-    /// Memory was wanted.
-    Memory,
-    /// The tables are not those of the schema, or stand for no world.
-    BadSchema,
-}
-
-/// What a failure to make the tables is told as.
-fn open_refusal(error: Error) -> Refusal
-    ensures { result ≢ Refusal.BadSchema }
-{
-    match error {
-        Error::SqliteFailure(ErrorCode::OutOfMemory) => Refusal::Memory,
-        _ => Refusal::Device,
-    }
-}
-
 impl<S: Alter> SqlShelves<S> {
-    /// Makes the tables on a connection that has none, with the shelf `common` alone. Where there are
-    /// any, this is `BadSchema`, and nothing is done.
-    pub fn adopt_empty(
+    /// A store over a connection. The store begins at the world that the tables stand for, and no
+    /// table changes; where there is none, the tables are made, with the shelf `common` alone.
+    ///
+    /// It is refused as `BadSchema` where the tables are not those of the schema or stand for no world,
+    /// as `Memory` where memory was wanted, and as `Device` where the disk failed or the connection is
+    /// in a transaction. The connection then comes back with its tables as they were.
+    pub fn adopt(
         alloc: Global,
         mut conn: Connection<S>,
     ) -> Result<SqlShelves<S>, (Refusal, Connection<S>)>
-        ensures is_open { IfOk result (λ s. HasCleanDisk (state S.Store s.conn) → IsTrue (state S.Store s.conn).is_open) }
-        ensures begins { IfOk result (λ s. HasCleanDisk (state S.Store s.conn) → BeginsAt (shown_of (state S.Store s.conn)) only_common) }
+        ensures opens { IfOk result (λ s. HasCleanDisk (state S.Store s.conn) → Opens (state S.Store conn) (state S.Store s.conn)) }
         ensures none_failed { IfOk result (λ s. s.failures ≡ 0) }
         // Where this is refused, the connection shows what it showed, and a crash leaves what it left before or the made tables.
-        ensures kept { IfErr result (λ e. HasCleanDisk (state S.Store e.1) → IsTrue (state S.Store e.1).is_open → (state S.Store conn).now ≡ (state S.Store conn).committed → (state S.Store e.1).now ≡ (state S.Store conn).now) }
-        ensures crash { IfErr result (λ e. HasCleanDisk (state S.Store e.1) → (db : _) → (state S.Store e.1).may_leave db → (state S.Store conn).may_leave db ⊎ StandFor db only_common) }
-        ensures schema { IfErr result (λ e. e.0 ≡ Refusal.BadSchema → ((state S.Store conn).now.schema ≢ no_schema) × (e.1 ≡ conn)) }
+        ensures kept { IfErr result (λ e. HasCleanDisk (state S.Store e.1) → IsTrue (state S.Store e.1).is_open → (state S.Store e.1).now ≡ (state S.Store conn).now) }
+        ensures crash { IfErr result (λ e. HasCleanDisk (state S.Store e.1) → LeavesFirst (state S.Store conn) (state S.Store e.1)) }
+        ensures bad { IfErr result (λ e. HasCleanDisk (state S.Store e.1) → e.0 ≡ Refusal.BadSchema → IsBad (state S.Store conn).now) }
     {
-        if !is_no_schema(conn.schema()) {
-            return Err((Refusal::BadSchema, conn));
-        }
-        match create(&mut conn) {
+        match open_tables(alloc, &mut conn) {
             Ok(()) => Ok(SqlShelves {
                 conn,
                 failures: 0,
                 alloc,
             }),
-            Err(error) => Err((open_refusal(error), conn)),
+            Err(refusal) => Err((refusal, conn)),
         }
     }
 }

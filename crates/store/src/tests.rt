@@ -1,3 +1,6 @@
+mod adopting;
+mod files;
+
 use crate::store::SqlShelves;
 use modpath::ModulePath;
 use modver::{TimeText, Version, read_time};
@@ -29,7 +32,7 @@ const COMMON: &str = "commonkey0000001";
 const UNKNOWN: &str = "nosuchkey0000001";
 
 /// What is asked. A publish is of `v1.0.0`.
-#[derive(Drop)]
+#[derive(Clone, Copy)]
 enum Step {
     Team(&'static str),
     Key(&'static str, &'static str, Right),
@@ -40,7 +43,7 @@ enum Step {
 }
 
 /// What is to be answered.
-#[derive(Drop)]
+#[derive(Clone, Copy)]
 enum Want {
     Registry(Registered),
     Decided(Decision),

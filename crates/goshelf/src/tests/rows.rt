@@ -1,108 +1,203 @@
-//! Requests, the store that the rows begin on, and the bytes of the replies.
-use engine::answer_all;
-use shelf::entry::Right;
-use shelf::map_shelves::MapShelves;
-use shelf::reply::Registered;
-use shelf::shelves::Shelves;
-use std::alloc::Global;
-use std::process::Abort;
+//! The worked rows on one store in a file, and the whole reply to each.
+use crate::tests::runs::{column, new_folder, on_store};
+use std::alloc::{AllocError, Global};
+use std::fs;
+use std::rt::HostRuntime;
 use std::test::Fail;
 
-pub const A: &str = "alphakey00000001";
+/// The worked rows, one a line: method, key and target of the request; status, kind and body of the reply; of a PUT also the
+/// go.mod, the zip and further lines of its head. `;` stands for the end of a line. A line without columns names those below it.
+const ROWS: &str = "\
+empty-modules
+GET B -/modules | 200 OK | plain |
+first-publish
+PUT A example.com/lib/@v/v1.0.0 | 201 Created | plain | published; | module example.com/lib; |
+GET A example.com/lib/@v/v1.0.0.zip | 200 OK | zip |
+GET A example.com/lib/@v/v1.0.0.mod | 200 OK | plain | module example.com/lib;
+GET A example.com/lib/@v/v1.0.0.info | 200 OK | json | {\"Version\":\"v1.0.0\"}
+publish-again
+PUT A example.com/lib/@v/v1.0.0 | 200 OK | plain | already published; | module example.com/lib; |
+PUT A example.com/lib/@v/v1.0.0 | 409 Conflict | plain | conflict; | module example.com/lib; | Z
+equal-404s
+GET B example.com/lib/@v/v1.0.0.zip | 404 Not Found | plain | not found;
+GET N example.com/lib/@v/v1.0.0.zip | 404 Not Found | plain | not found;
+GET A example.com/lib/@v/v9.0.0.zip | 404 Not Found | plain | not found;
+GET B example.com/lib/@v/list | 404 Not Found | plain | not found;
+GET B example.com/lib/@latest | 404 Not Found | plain | not found;
+GET N -/modules | 404 Not Found | plain | not found;
+team-under-common
+PUT C example.com/x/@v/v1.0.0 | 201 Created | plain | published; | module example.com/x; | X
+GET A example.com/x/@v/v1.0.0.mod | 200 OK | plain | module example.com/x;
+PUT A example.com/x/@v/v1.0.0 | 409 Conflict | plain | conflict; | module example.com/x; | Y
+PUT A example.com/x/@v/v1.0.0 | 200 OK | plain | already published; | module example.com/x; | X
+own-before-common
+PUT A example.com/y/@v/v1.0.0 | 201 Created | plain | published; | module example.com/y; | a
+PUT C example.com/y/@v/v1.0.0 | 201 Created | plain | published; | module example.com/y; | c
+GET A example.com/y/@v/v1.0.0.zip | 200 OK | zip | a
+GET B example.com/y/@v/v1.0.0.zip | 200 OK | zip | c
+escaped-path
+PUT A example.com/!lib/@v/v1.0.0 | 201 Created | plain | published; | module example.com/Lib; |
+GET A example.com/%21lib/@v/v1.0.0.mod | 200 OK | plain | module example.com/Lib;
+GET A example.com/Lib/@v/v1.0.0.mod | 404 Not Found | plain | not found;
+GET A example.com/!1/@v/v1.0.0.mod | 404 Not Found | plain | not found;
+major-versions
+PUT A example.com/lib/@v/v2.0.0 | 422 Unprocessable Entity | plain | major-mismatch; | module example.com/lib; |
+PUT A example.com/lib/@v/v2.0.0+incompatible | 201 Created | plain | published; | module example.com/lib; |
+PUT A example.com/lib/@v/v2.1.0+incompatible | 422 Unprocessable Entity | plain | incompatible-gomod; | module example.com/lib;require example.com/x v1.0.0; |
+GET A example.com/lib/@v/v2.0.0%2Bincompatible.mod | 200 OK | plain | module example.com/lib;
+prerelease-order
+PUT A example.com/rc/@v/v1.0.0-rc.10 | 201 Created | plain | published; | module example.com/rc; |
+PUT A example.com/rc/@v/v1.0.0 | 201 Created | plain | published; | module example.com/rc; |
+PUT A example.com/rc/@v/v1.0.0-rc.2 | 201 Created | plain | published; | module example.com/rc; |
+GET A example.com/rc/@v/list | 200 OK | plain | v1.0.0-rc.2;v1.0.0-rc.10;v1.0.0;
+pseudo-only
+PUT A example.com/ps/@v/v0.0.0-20240101000000-aaaaaaaaaaaa | 201 Created | plain | published; | module example.com/ps; |
+PUT A example.com/ps/@v/v0.0.1-0.20230101000000-bbbbbbbbbbbb | 201 Created | plain | published; | module example.com/ps; |
+GET A example.com/ps/@v/list | 200 OK | plain |
+GET A example.com/ps/@latest | 200 OK | json | {\"Time\":\"2024-01-01T00:00:00Z\",\"Version\":\"v0.0.0-20240101000000-aaaaaaaaaaaa\"}
+retracted-interval
+PUT A example.com/ra/@v/v1.0.0 | 201 Created | plain | published; | module example.com/ra; |
+PUT A example.com/ra/@v/v1.1.0 | 201 Created | plain | published; | module example.com/ra;retract [v1.0.5, v1.1.0]; |
+GET A example.com/ra/@latest | 200 OK | json | {\"Version\":\"v1.0.0\"}
+GET A example.com/ra/@v/list | 200 OK | plain | v1.0.0;v1.1.0;
+GET A example.com/ra/@v/v1.1.0.zip | 200 OK | zip |
+prerelease-retracts-nothing
+PUT A example.com/rb/@v/v1.1.0 | 201 Created | plain | published; | module example.com/rb; |
+PUT A example.com/rb/@v/v1.2.0-rc.1 | 201 Created | plain | published; | module example.com/rb;retract v1.1.0; |
+GET A example.com/rb/@latest | 200 OK | json | {\"Version\":\"v1.1.0\"}
+self-retraction
+PUT A example.com/rd/@v/v1.0.0 | 201 Created | plain | published; | module example.com/rd;retract v1.0.0; |
+GET A example.com/rd/@latest | 404 Not Found | plain | not found;
+GET A example.com/rd/@v/list | 200 OK | plain | v1.0.0;
+refused-publishes
+PUT A example.com/q/@v/v1.0.0 | 422 Unprocessable Entity | plain | bad-time; | module example.com/q; | | Version-Time: 2024-02-30T00:00:00Z;
+PUT R example.com/q/@v/v1.0.0 | 403 Forbidden | plain | forbidden; | module example.com/q; |
+bad-gomod-line
+PUT A example.com/bad/@v/v1.0.0 | 422 Unprocessable Entity | plain | bad-gomod 4; | module example.com/bad;;require (;example.com/x 1.0.0;); |
+modules-of-a-team
+GET B -/modules | 200 OK | plain | example.com/x;example.com/y;
+GET A -/modules | 200 OK | plain | example.com/Lib;example.com/lib;example.com/ps;example.com/ra;example.com/rb;example.com/rc;example.com/rd;example.com/x;example.com/y;
+near-pseudo
+PUT A example.com/near/@v/v0.0.0-20240230000000-aaaaaaaaaaaa | 201 Created | plain | published; | module example.com/near; |
+PUT A example.com/near/@v/v1.0.0-0.20230101000000-bbbbbbbbbbbb | 201 Created | plain | published; | module example.com/near; |
+GET A example.com/near/@v/list | 200 OK | plain | v0.0.0-20240230000000-aaaaaaaaaaaa;v1.0.0-0.20230101000000-bbbbbbbbbbbb;
+GET A example.com/near/@latest | 200 OK | json | {\"Version\":\"v1.0.0-0.20230101000000-bbbbbbbbbbbb\"}
+";
 
-pub const R: &str = "alphareader00001";
+/// The key that a letter stands for.
+fn key_of(letter: &str) -> &'static str {
+    match letter {
+        "A" => "alphakey00000001",
+        "R" => "alphareader00001",
+        "B" => "betakey000000001",
+        "C" => "commonkey0000001",
+        _ => "nosuchkey0000001",
+    }
+}
 
-pub const B: &str = "betakey000000001";
+/// What a row writes as the kind of a body.
+fn kind_of(word: &str) -> &'static str {
+    match word {
+        "json" => "application/json",
+        "zip" => "application/zip",
+        _ => "text/plain; charset=utf-8",
+    }
+}
 
-pub const C: &str = "commonkey0000001";
+/// Puts a text behind another, with this end for each of its lines.
+fn push_lines(to: &mut String, text: &str, end: &str) -> Result<(), AllocError> {
+    for c in text.chars() {
+        if c == ';' {
+            to.push_str(end)?;
+        } else {
+            to.push(c)?;
+        }
+    }
+    Ok(())
+}
 
-pub const PUBLISHED: &str =
-    "HTTP/1.1 201 Created\r\nContent-Type: text/plain; charset=utf-8\r\nContent-Length: 10\r\nConnection: close\r\n\r\npublished\n";
+/// Puts the rest of the head of a PUT, and its files.
+fn push_files(to: &mut String, alloc: Global, row: &str) -> Result<(), AllocError> {
+    let mut files = String::new(alloc);
+    push_lines(&mut files, column(row, 4), "\n")?;
+    let gomod = files.len();
+    files.push_str(column(row, 5))?;
+    push_lines(to, column(row, 6), "\r\n")?;
+    write!(
+        to,
+        "Mod-Length: {gomod}\r\nContent-Length: {}\r\n\r\n{files}",
+        files.len()
+    )
+    .map_err(|_| AllocError)
+}
 
-pub const ALREADY_PUBLISHED: &str =
-    "HTTP/1.1 200 OK\r\nContent-Type: text/plain; charset=utf-8\r\nContent-Length: 18\r\nConnection: close\r\n\r\nalready published\n";
+/// The bytes of the request of a row.
+fn request(alloc: Global, row: &str) -> Result<String, AllocError> {
+    let mut words = column(row, 0).split(' ');
+    let method = words.next().unwrap_or("");
+    let key = key_of(words.next().unwrap_or(""));
+    let target = words.next().unwrap_or("");
+    let mut text = format!(in alloc; "{method} /k/{key}/{target} HTTP/1.1\r\n")?;
+    if method == "PUT" {
+        push_files(&mut text, alloc, row)?;
+    } else {
+        text.push_str("\r\n")?;
+    }
+    Ok(text)
+}
 
-pub const BAD_REQUEST: &str =
+/// The bytes of the reply of a row.
+fn reply(alloc: Global, row: &str) -> Result<String, AllocError> {
+    let mut body = String::new(alloc);
+    push_lines(&mut body, column(row, 3), "\n")?;
+    format!(in alloc;
+        "HTTP/1.1 {}\r\nContent-Type: {}\r\nContent-Length: {}\r\nConnection: close\r\n\r\n{body}",
+        column(row, 1),
+        kind_of(column(row, 2)),
+        body.len(),
+    )
+}
+
+/// The commands that make the store that the rows begin on.
+const OPENING: [&str; 6] = [
+    "team-add --team alpha",
+    "team-add --team beta",
+    "key-add --shelf alpha --key alphakey00000001",
+    "key-add --shelf alpha --key alphareader00001 --read-only",
+    "key-add --shelf beta --key betakey000000001",
+    "key-add --shelf common --key commonkey0000001",
+];
+
+/// A PUT whose body ends one byte early.
+const CUT: &str =
+    "PUT /k/alphakey00000001/example.com/q/@v/v1.0.0 HTTP/1.1\r\nMod-Length: 21\r\nContent-Length: 21\r\n\r\nmodule example.com/q";
+
+const BAD_REQUEST: &str =
     "HTTP/1.1 400 Bad Request\r\nContent-Type: text/plain; charset=utf-8\r\nContent-Length: 12\r\nConnection: close\r\n\r\nbad request\n";
 
-pub const BAD_MOD_LENGTH: &str =
-    "HTTP/1.1 400 Bad Request\r\nContent-Type: text/plain; charset=utf-8\r\nContent-Length: 15\r\nConnection: close\r\n\r\nbad mod-length\n";
-
-pub const FORBIDDEN: &str =
-    "HTTP/1.1 403 Forbidden\r\nContent-Type: text/plain; charset=utf-8\r\nContent-Length: 10\r\nConnection: close\r\n\r\nforbidden\n";
-
-pub const NOT_FOUND: &str =
-    "HTTP/1.1 404 Not Found\r\nContent-Type: text/plain; charset=utf-8\r\nContent-Length: 10\r\nConnection: close\r\n\r\nnot found\n";
-
-pub const CONFLICT: &str =
-    "HTTP/1.1 409 Conflict\r\nContent-Type: text/plain; charset=utf-8\r\nContent-Length: 9\r\nConnection: close\r\n\r\nconflict\n";
-
-pub const TOO_LARGE: &str =
-    "HTTP/1.1 413 Payload Too Large\r\nContent-Type: text/plain; charset=utf-8\r\nContent-Length: 10\r\nConnection: close\r\n\r\ntoo large\n";
-
-pub const EMPTY_ZIP: &str =
-    "HTTP/1.1 200 OK\r\nContent-Type: application/zip\r\nContent-Length: 0\r\nConnection: close\r\n\r\n";
-
-/// The store that the rows begin on: `common`, the teams alpha and beta, and the keys A, R, B and C.
-pub fn opening<E: AllocGlobal + Abort>(rt: &E) -> Result<MapShelves, Fail> {
-    let mut shelves = MapShelves::new(rt.alloc())?;
-    for team in ["alpha", "beta"] {
-        assert!(rt;
-            matches!(shelves.team_add(team), Ok(Registered::Done)),
-            "{team}"
+#[test]
+fn answers_the_rows_on_a_store_in_a_file(rt: HostRuntime) -> Result<(), Fail> {
+    new_folder(&rt, "rows")?;
+    for line in OPENING {
+        assert_eq!(rt;
+            on_store(&rt, "rows/store.db", line, b"")?.status,
+            0,
+            "{line}"
         );
     }
-    let keys = [
-        ("alpha", A, Right::Publishes),
-        ("alpha", R, Right::Reads),
-        ("beta", B, Right::Publishes),
-        ("common", C, Right::Publishes),
-    ];
-    for (team, key, right) in keys {
-        assert!(rt;
-            matches!(shelves.key_add(team, key, right), Ok(Registered::Done)),
-            "{key}"
-        );
+    let empty = on_store(&rt, "rows/store.db", "answer", b"")?;
+    assert!(rt; empty.status == 0 && empty.output.is_empty());
+    let mut input = String::new(rt.alloc());
+    let mut expected = String::new(rt.alloc());
+    for row in ROWS.lines().filter(|row| row.contains('|')) {
+        input.push_str(request(rt.alloc(), row)?.as_str())?;
+        expected.push_str(reply(rt.alloc(), row)?.as_str())?;
     }
-    Ok(shelves)
-}
-
-/// A PUT of a version of a path with its own module statement, and this zip.
-pub fn put(alloc: Global, key: &str, path: &str, version: &str, zip: &str) -> Result<String, Fail> {
-    let gomod = format!(in alloc; "module {path}\n")?;
-    let length = gomod.len();
-    let whole = length.saturating_add(zip.len());
-    Ok(format!(in alloc;
-        "PUT /k/{key}/{path}/@v/{version} HTTP/1.1\r\nMod-Length: {length}\r\nContent-Length: {whole}\r\n\r\n{gomod}{zip}"
-    )?)
-}
-
-/// A GET of a file of a version, named by its ending.
-pub fn get(alloc: Global, key: &str, path: &str, file: &str) -> Result<String, Fail> {
-    Ok(format!(in alloc; "GET /k/{key}/{path}/@v/{file} HTTP/1.1\r\n\r\n")?)
-}
-
-/// The reply with a zip.
-pub fn zip_reply(alloc: Global, zip: &str) -> Result<String, Fail> {
-    let length = zip.len();
-    Ok(format!(in alloc;
-        "HTTP/1.1 200 OK\r\nContent-Type: application/zip\r\nContent-Length: {length}\r\nConnection: close\r\n\r\n{zip}"
-    )?)
-}
-
-/// The reply with a go.mod.
-pub fn gomod_reply(alloc: Global, gomod: &str) -> Result<String, Fail> {
-    let length = gomod.len();
-    Ok(format!(in alloc;
-        "HTTP/1.1 200 OK\r\nContent-Type: text/plain; charset=utf-8\r\nContent-Length: {length}\r\nConnection: close\r\n\r\n{gomod}"
-    )?)
-}
-
-/// Sends one stream, and compares what is written.
-pub fn exchange<E: AllocGlobal + Abort>(rt: &E, shelves: &mut MapShelves, sent: &str, want: &str) {
-    let mut reader = sent.as_bytes();
-    let mut written = Vec::new(rt.alloc());
-    let ended = answer_all(rt.alloc(), &mut reader, &mut written, shelves);
-    assert!(rt; ended.is_ok(), "{sent}");
-    assert_eq!(rt; written.as_slice(), want.as_bytes(), "{sent}");
+    input.push_str(CUT)?;
+    expected.push_str(BAD_REQUEST)?;
+    let ended = on_store(&rt, "rows/store.db", "answer", input.as_bytes())?;
+    assert_eq!(rt; ended.status, 0);
+    assert!(rt; ended.output.as_slice() == expected.as_bytes());
+    fs::remove_dir_all(&rt, "rows")?;
+    Ok(())
 }

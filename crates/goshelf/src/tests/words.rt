@@ -1,19 +1,7 @@
 //! The words of the command line, exit statuses and words on standard error.
-use crate::command::command;
+use crate::tests::runs::{Ended, column, outcome};
+use std::rt::HostRuntime;
 use std::test::Fail;
-
-/// Runs the program with these words on an empty input: its status, and what it printed on its two outputs.
-fn outcome<E: AllocGlobal>(rt: &E, words: &[&str]) -> Result<(u8, Vec<u8>, Vec<u8>), Fail> {
-    let mut list: Vec<String> = Vec::new(rt.alloc());
-    for word in words {
-        list.push(String::from_str(rt.alloc(), word)?)?;
-    }
-    let mut input: &[u8] = b"";
-    let mut output = Vec::new(rt.alloc());
-    let mut errors = Vec::new(rt.alloc());
-    let status = command(rt, list.as_slice(), &mut input, &mut output, &mut errors);
-    Ok((status, output, errors))
-}
 
 #[test]
 fn names_are_tested_before_anything_is_answered(rt: HostRuntime) -> Result<(), Fail> {
@@ -28,33 +16,77 @@ fn names_are_tested_before_anything_is_answered(rt: HostRuntime) -> Result<(), F
     ];
     for (team, key, want, said) in table {
         let words = ["answer", "--mem", "--team", team, "--key", key];
-        let (status, output, errors) = outcome(&rt, words.as_slice())?;
-        assert_eq!(rt; status, want, "{team} {key}");
-        assert_eq!(rt; output.as_slice(), b"".as_slice(), "{team} {key}");
-        assert_eq!(rt; errors.as_slice(), said.as_bytes(), "{team} {key}");
+        let ended = outcome(&rt, words.as_slice(), b"")?;
+        assert_eq!(rt; ended.status, want, "{team} {key}");
+        assert!(rt; ended.output.is_empty(), "{team} {key}");
+        assert!(rt; ended.errors.as_slice() == said.as_bytes(), "{team} {key}");
+    }
+    Ok(())
+}
+
+/// Runs the program with the words of a line.
+fn run(rt: &HostRuntime, line: &str) -> Result<Ended, Fail> {
+    let mut words: Vec<&str> = Vec::new(rt.alloc());
+    for word in line.split(' ').filter(|word| !word.is_empty()) {
+        words.push(word)?;
+    }
+    outcome(rt, words.as_slice(), b"")
+}
+
+/// Words that are bad usage, one run a line.
+const BAD: &str = "
+serve
+init
+team-add --db none.db
+key-add --db none.db --shelf alpha
+publish --db none.db
+answer
+answer --mem --team alpha
+answer --team alpha --key alphakey00000001
+answer --mem --team alpha --key alphakey00000001 --db none.db
+answer --db none.db --team alpha
+answer --db none.db --db none.db
+";
+
+/// Each command with its options.
+const OPTIONS: &str = "\
+init | --db
+team-add | --db --team
+key-add | --db --shelf --key --read-only
+key-revoke | --db --key
+publish | --db --key --module --version --mod --zip --time
+answer | --db --mem --team --key
+";
+
+#[test]
+fn bad_words_end_with_2(rt: HostRuntime) -> Result<(), Fail> {
+    for line in BAD.lines() {
+        let ended = run(&rt, line)?;
+        assert_eq!(rt; ended.status, 2, "{line}");
+        assert!(rt;
+            ended.output.is_empty() && !ended.errors.is_empty(),
+            "{line}"
+        );
     }
     Ok(())
 }
 
 #[test]
-fn bad_words_end_with_2_and_help_with_0(rt: HostRuntime) -> Result<(), Fail> {
-    let bad: [&[&str]; 5] = [
-        &[],
-        &["serve"],
-        &["answer"],
-        &["answer", "--mem", "--team", "alpha"],
-        &["answer", "--team", "alpha", "--key", "alphakey00000001"],
-    ];
-    for words in bad {
-        let (status, output, errors) = outcome(&rt, words)?;
-        assert_eq!(rt; status, 2);
-        assert!(rt; output.is_empty() && !errors.is_empty());
+fn help_names_every_option(rt: HostRuntime) -> Result<(), Fail> {
+    for row in OPTIONS.lines() {
+        let command = column(row, 0);
+        let ended = outcome(&rt, &[command, "--help"], b"")?;
+        assert_eq!(rt; ended.status, 0, "{command}");
+        assert!(rt; ended.errors.is_empty(), "{command}");
+        let text = std::str::from_utf8(ended.output.as_slice())?;
+        for option in column(row, 1).split(' ') {
+            assert!(rt; text.contains(option), "{command} {option}");
+        }
     }
-    let shown: [&[&str]; 3] = [&["--help"], &["--version"], &["answer", "--help"]];
-    for words in shown {
-        let (status, output, errors) = outcome(&rt, words)?;
-        assert_eq!(rt; status, 0);
-        assert!(rt; !output.is_empty() && errors.is_empty());
+    for words in [["--help"], ["--version"]] {
+        let ended = outcome(&rt, words.as_slice(), b"")?;
+        assert_eq!(rt; ended.status, 0);
+        assert!(rt; !ended.output.is_empty() && ended.errors.is_empty());
     }
     Ok(())
 }

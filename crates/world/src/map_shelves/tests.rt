@@ -10,62 +10,72 @@ use std::test::Fail;
 
 const KEY: &str = "alphakey00000001";
 
-/// Shelves with these versions of these paths, each on a shelf.
-fn shelves_with(alloc: Global, rows: &[(&str, &str, &str)]) -> Result<MapShelves, Fail> {
+/// Versions of paths on shelves, one a line.
+const ROWS: &str = "\
+alpha example.com/x v1.2.0
+alpha example.com/x v1.10.0
+alpha example.com/y v0.1.0
+beta example.com/x v1.9.0
+beta example.com/c v1.0.0
+common example.com/x v1.2.0
+common example.com/x v1.0.0
+common example.com/a/v2 v2.0.0
+common example.com/B v1.0.0
+";
+
+/// Puts the version of a row.
+fn put(alloc: Global, shelves: &mut MapShelves, row: &str) -> Result<(), Fail> {
+    let mut words = row.split(' ');
+    let shelf = words.next().unwrap_or("");
+    let path = ModulePath::parse(alloc, words.next().unwrap_or(""))?;
+    let version = Version::parse(alloc, words.next().unwrap_or(""))?;
+    let entry = EntryRef {
+        gomod: b"",
+        zip: b"",
+        time: None,
+    };
+    shelves.insert(shelf, &path, &version, &entry)?;
+    Ok(())
+}
+
+/// Shelves with the versions of the rows.
+fn shelves_with_rows(alloc: Global) -> Result<MapShelves, Fail> {
     let mut shelves = MapShelves::new(alloc)?;
-    for (shelf, path, version) in rows {
-        let path = ModulePath::parse(alloc, path)?;
-        let version = Version::parse(alloc, version)?;
-        let entry = EntryRef {
-            gomod: b"",
-            zip: b"",
-            time: None,
-        };
-        shelves.insert(shelf, &path, &version, &entry)?;
+    for row in ROWS.lines() {
+        put(alloc, &mut shelves, row)?;
     }
     Ok(shelves)
 }
 
+/// Whether these are the versions of `example.com/x` that a shelf sees.
+fn sees(alloc: Global, shelf: &str, versions: &str) -> Result<bool, Fail> {
+    let mut shelves = shelves_with_rows(alloc)?;
+    let path = ModulePath::parse(alloc, "example.com/x")?;
+    let seen = shelves.versions(shelf, &path)?.lines(alloc)?;
+    Ok(seen.as_slice() == versions.as_bytes())
+}
+
 #[test]
 fn versions_of_the_own_shelf_and_of_common(rt: HostRuntime) -> Result<(), Fail> {
-    let alloc = rt.alloc();
-    let rows = [
-        ("alpha", "example.com/x", "v1.2.0"),
-        ("alpha", "example.com/x", "v1.10.0"),
-        ("alpha", "example.com/y", "v0.1.0"),
-        ("beta", "example.com/x", "v1.9.0"),
-        ("common", "example.com/x", "v1.2.0"),
-        ("common", "example.com/x", "v1.0.0"),
-    ];
-    let mut shelves = shelves_with(alloc, &rows)?;
-    let path = ModulePath::parse(alloc, "example.com/x")?;
-    let seen = shelves.versions("alpha", &path)?.lines(alloc)?;
-    assert!(rt; seen.as_slice() == "v1.0.0\nv1.10.0\nv1.2.0\n".as_bytes());
-    let seen = shelves.versions("common", &path)?.lines(alloc)?;
-    assert!(rt; seen.as_slice() == "v1.0.0\nv1.2.0\n".as_bytes());
-    let other = ModulePath::parse(alloc, "example.com/z")?;
-    assert!(rt; shelves.versions("alpha", &other)?.is_empty());
+    assert!(rt; sees(rt.alloc(), "alpha", "v1.0.0\nv1.10.0\nv1.2.0\n")?);
+    assert!(rt; sees(rt.alloc(), "common", "v1.0.0\nv1.2.0\n")?);
+    Ok(())
+}
+
+#[test]
+fn counts_the_own_shelf_alone(rt: HostRuntime) -> Result<(), Fail> {
+    let mut shelves = shelves_with_rows(rt.alloc())?;
+    let path = ModulePath::parse(rt.alloc(), "example.com/x")?;
     assert_eq!(rt; shelves.count("alpha", &path)?, 2);
     Ok(())
 }
 
 #[test]
 fn paths_of_the_own_shelf_and_of_common(rt: HostRuntime) -> Result<(), Fail> {
-    let alloc = rt.alloc();
-    let rows = [
-        ("alpha", "example.com/b", "v1.0.0"),
-        ("alpha", "example.com/b", "v1.1.0"),
-        ("beta", "example.com/c", "v1.0.0"),
-        ("common", "example.com/b", "v1.0.0"),
-        ("common", "example.com/a/v2", "v2.0.0"),
-        ("common", "example.com/B", "v1.0.0"),
-    ];
-    let mut shelves = shelves_with(alloc, &rows)?;
-    let seen = shelves.paths("alpha")?.lines(alloc)?;
-    assert!(rt; seen.as_slice() == "example.com/B\nexample.com/a/v2\nexample.com/b\n".as_bytes());
-    let seen = shelves.paths("beta")?;
-    assert!(rt; seen.contains("example.com/c"));
-    assert!(rt; MapShelves::new(alloc)?.paths("alpha")?.is_empty());
+    let mut shelves = shelves_with_rows(rt.alloc())?;
+    let seen = shelves.paths("alpha")?.lines(rt.alloc())?;
+    let expected = "example.com/B\nexample.com/a/v2\nexample.com/x\nexample.com/y\n";
+    assert!(rt; seen.as_slice() == expected.as_bytes());
     Ok(())
 }
 

@@ -1,5 +1,12 @@
 use Rattle.sqlite.proofs.Callers.{memory_is_clean}
+use Rattle.sqlite.specs.Held.{state}
+use Rattle.sqlite.specs.Steps.{over_memory}
+use Rattle.store.proofs.OpenLemmas.{begins_first}
 use Rattle.store.proofs.open.SqlShelves+MemStore.open_memory.Goals as goal
 
-pub returns-in-Ok-adopt_empty-clause-begins : goal.returns-in-Ok-adopt_empty-clause-begins
-returns-in-Ok-adopt_empty-clause-begins c = c.in-Ok-adopt_empty.ensures.begins (memory_is_clean c.in-Ok-adopt_empty.shelves.conn)
+pub returns-in-Ok-adopt-clause-begins : goal.returns-in-Ok-adopt-clause-begins
+returns-in-Ok-adopt-clause-begins c =
+    begins_first (state over_memory c.in-Ok.conn) (state over_memory c.in-Ok-adopt.shelves.conn) c.in-Ok.ensures.empty.2 (c.in-Ok-adopt.ensures.opens (memory_is_clean c.in-Ok-adopt.shelves.conn))
+
+pub returns-clause-refused : goal.returns-clause-refused
+returns-clause-refused c bad = (c.in-Err.ensures.bad (memory_is_clean c.in-Err.field-0-1) bad).some c.in-Ok.ensures.empty.2

@@ -1,0 +1,44 @@
+-- How a command ends, by what the store told.
+use Rattle.std.specs.Prelude.{ℕ, ◌≡◌, Result, Ok, Err}
+use Rattle.world.specs.World.{World}
+use Rattle.world.specs.Store.{Shown, Does, HasCause}
+use Rattle.world.specs.declared.registry.Registered.{Registered}
+use Rattle.world.specs.declared.registry.Registered.TheVariants as registered
+use Rattle.world.specs.declared.registry.StoreFault.{StoreFault}
+use Rattle.world.specs.declared.registry.StoreFault.TheVariants as fault
+use Rattle.store.specs.declared.refusal.Refusal.{Refusal as Unopened}
+use Rattle.store.specs.declared.refusal.Refusal.TheVariants as store
+use Rattle.goshelf.specs.declared.refusal.Refusal.{Refusal}
+use Rattle.goshelf.specs.declared.refusal.Refusal.TheVariants as refusal
+
+-- why a command is refused whose store is not opened
+abbrev pub unopened : Unopened → Refusal
+unopened store.Device = refusal.Device
+unopened store.Memory = refusal.Memory
+unopened store.BadSchema = refusal.BadSchema
+
+-- the same of `init`, which does not judge tables: a file that has any has bytes
+abbrev pub unmade : Unopened → Refusal
+unmade store.Device = refusal.Device
+unmade store.Memory = refusal.Memory
+unmade store.BadSchema = refusal.NotEmpty
+
+-- how a command of the registry ends
+abbrev pub ending : Result Registered StoreFault → Result (Unit {0}) Refusal
+ending (Ok registered.Done) = Ok tt
+ending (Ok registered.Name) = Err refusal.Name
+ending (Ok registered.Taken) = Err refusal.Taken
+ending (Ok registered.NoTeam) = Err refusal.NoTeam
+ending (Ok registered.NoKey) = Err refusal.NoKey
+ending (Err fault.Device) = Err refusal.Device
+ending (Err fault.Memory) = Err refusal.Memory
+
+-- From old to new the store did a command of the registry, with this outcome and this next world in each world that it stood
+-- for, or met a fault and changed nothing; and the program ends by what it told.
+pub record Registers
+    (old new : Shown) (before now : ℕ) (outcome : World → Registered) (next : World → World)
+    (result : Result (Unit {0}) Refusal) : Type 0 where
+  pub told : Result Registered StoreFault
+  pub does : Does old new told outcome next
+  pub cause : HasCause before now told
+  pub ends : result ≡ ending told

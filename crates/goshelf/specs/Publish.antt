@@ -1,0 +1,71 @@
+-- A publish of files by words that stand as they are.
+use Rattle.std.specs.Prelude.{ℕ, List, ◌≡◌, ◌==◌, ◌||◌, ◌++◌, codes, Bool, true, false, Option, Some, None, Result, Ok, Err, MatchResult, if◌then◌else◌}
+use Rattle.std.specs.Io.KnownBytes.{Appends}
+use Rattle.modpath.specs.Path.{is_path}
+use Rattle.modver.specs.Reading as modver
+use Rattle.modver.specs.SemanticVersion.{SemanticVersion}
+use Rattle.shelf.specs.Machine.{ask_reply, after_ask}
+use Rattle.world.specs.Store.{Shown, Does, HasCause}
+use Rattle.shelf.specs.declared.ask.Ask.{Ask}
+use Rattle.shelf.specs.declared.ask.Ask.TheVariants.{Unreadable, Put}
+use Rattle.shelf.specs.declared.ask.Body.{Body}
+use Rattle.shelf.specs.declared.ask.GivenTime.{GivenTime}
+use Rattle.shelf.specs.declared.ask.GivenTime.TheVariants.{Absent}
+use Rattle.shelf.specs.declared.reply.Reply.{Reply}
+use Rattle.shelf.specs.declared.reply.Reply.TheVariants as reply
+use Rattle.world.specs.declared.registry.StoreFault.{StoreFault}
+use Rattle.engine.specs.Ask.{time_in}
+use Rattle.engine.specs.Reply.{fixed_of}
+use Rattle.wire.specs.Reply.{line_bytes, fixed_status}
+use Rattle.wire.specs.declared.reply.Fixed.{Fixed}
+use Rattle.wire.specs.declared.reply.Fixed.TheVariants as fixed
+use Rattle.goshelf.specs.declared.refusal.Refusal.{Refusal}
+use Rattle.goshelf.specs.declared.refusal.Refusal.TheVariants.{Io}
+
+-- the module path that a text is, and the version, if it is one
+abbrev pub path_of : List ℕ → Option (List ℕ)
+path_of text = if is_path text then Some text else None
+
+abbrev pub version_of : List ℕ → Option SemanticVersion
+version_of text = modver.version_of text
+
+-- the time that is given: none, or the one that the text writes
+abbrev pub given_time : Option (List ℕ) → GivenTime
+given_time None = Absent
+given_time (Some text) = time_in text
+
+-- to publish the files at a path and a version, where both read; else what is unreadable
+abbrev pub asked_at : List ℕ → Option (List ℕ) → Option SemanticVersion → GivenTime → Body → Ask
+asked_at key (Some path) (Some version) time body = Put key (record { path = path; version = version; body = Some body; time = time })
+asked_at key path version time body = Unreadable
+
+-- what a publish asks of the machine: its path and its version are not escaped, and its files are told apart
+abbrev pub asked : List ℕ → List ℕ → List ℕ → Option (List ℕ) → Body → Ask
+asked key path version time body = asked_at key (path_of path) (version_of version) (given_time time) body
+
+-- the fixed answer to a publish: 503 where the store met a fault
+abbrev pub answer_of : Result Reply StoreFault → Fixed
+answer_of (Ok (reply.Decided decision)) = fixed_of decision
+answer_of (Ok other) = fixed.NotFound
+answer_of (Err fault) = fixed.Unavailable
+
+-- a status that accepts: 200 or 201
+abbrev pub accepts : ℕ → Bool
+accepts status = (status == 200) || (status == 201)
+
+-- the line of the answer was printed, and it is told whether it accepts; or the output failed
+abbrev pub Tells : Fixed → Option (List ℕ) → Option (List ℕ) → Result Bool Refusal → Type 0
+Tells answer written written_new result =
+    MatchResult result
+    (λ accepted. (accepted ≡ accepts (fixed_status answer)) × Appends written written_new (line_bytes answer ++ codes "\n"))
+    (λ e. e ≡ Io)
+
+-- From old to new the store did what was asked, as the machine does in each world that it stood for, or met a fault (or there
+-- was no memory to ask) and changed nothing; and the answer was told.
+pub record PublishesAndTells
+    (old new : Shown) (before now : ℕ) (ask : Ask) (written written_new : Option (List ℕ))
+    (result : Result Bool Refusal) : Type 0 where
+  pub told : Result Reply StoreFault
+  pub does : Does old new told (λ w. ask_reply w ask) (λ w. after_ask w ask)
+  pub cause : HasCause before now told
+  pub tells : Tells (answer_of told) written written_new result

@@ -1,0 +1,61 @@
+//! Files that are named on the command line.
+ghost use Rattle.std.specs.Prelude.{◌≡◌, ◌↔◌, ◌≢◌, ◌+◌, ◌^◌, ◌<◌, [], take, IsTrue, IfOk, IfSome};
+
+use std::alloc::Global;
+use std::fs::File;
+use std::io::{self, ErrorKind, Read};
+use std::rt::HostRuntime;
+use world::bytes::Bytes;
+
+/// Why the bytes of a file could not be had.
+#[derive(Clone, Copy, Drop)]
+pub enum FileFault {
+    /// The system does not let it be opened or read.
+    Io,
+    /// A growth was refused.
+    Memory,
+}
+
+impl From<io::Error> for FileFault {
+    fn from(error: io::Error) -> FileFault {
+        match error.kind() {
+            ErrorKind::OutOfMemory => FileFault::Memory,
+            _ => FileFault::Io,
+        }
+    }
+}
+
+/// Whether there is such a file, and it has bytes.
+pub fn holds_bytes(rt: &HostRuntime, path: &str) -> bool {
+    match File::open(rt, path) {
+        Ok(mut file) => has_bytes(&mut file).unwrap_or(false),
+        Err(_) => false,
+    }
+}
+
+/// Whether a reader has bytes left.
+fn has_bytes<R: Read>(reader: &mut R) -> io::Result<bool>
+    ensures { IfOk result (λ has. IfSome (R.remaining reader.old) (λ bytes. IsTrue has ↔ (bytes ≢ []))) }
+{
+    let mut byte = [0];
+    Ok(reader.read(&mut byte)? > 0)
+}
+
+/// The bytes of a file, at most one more than this many.
+pub fn read_file(rt: &HostRuntime, path: &str, most: u64) -> Result<Bytes, FileFault>
+    requires { most < 2 ^ 63 }
+{
+    let file = File::open(rt, path)?;
+    read_at_most(rt.alloc(), file, most)
+}
+
+/// The bytes of a reader, at most one more than this many: so a text that is too long shows it.
+pub fn read_at_most<R: Read + Drop>(alloc: Global, reader: R, most: u64) -> Result<Bytes, FileFault>
+    requires { most < 2 ^ 63 }
+    ensures { IfOk result (λ bytes. IfSome (R.remaining reader) (λ all. bytes ≡ take (most + 1) all)) }
+{
+    let mut bytes = Vec::new(alloc);
+    let mut front = reader.take(most + 1);
+    front.read_to_end(&mut bytes)?;
+    Ok(Bytes::new(bytes))
+}

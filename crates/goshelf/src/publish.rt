@@ -1,0 +1,194 @@
+//! `publish`: a version from files.
+ghost use Rattle.std.specs.Prelude.{◌≡◌, ◌++◌, codes, option_copied, IfOk, OnOk};
+ghost use Rattle.std.specs.Io.KnownBytes.{Appends};
+ghost use Rattle.shelf.specs.Machine.{ask_reply, after_ask};
+ghost use Rattle.world.specs.Store.{Does, HasCause};
+ghost use Rattle.wire.specs.Reply.{line_bytes};
+ghost use Rattle.goshelf.specs.Publish as spec;
+
+use crate::arguments::text;
+use crate::files::{FileFault, read_file};
+use crate::refusal::Refusal;
+use clap::ArgMatches;
+use engine::page::fixed_of;
+use modpath::{ModulePath, PathError};
+use modver::{Version, VersionFault, read_time};
+use shelf::ask::{Ask, Body, GivenTime, Publish};
+use shelf::reply::Reply;
+use shelf::step::step;
+use std::alloc::{AllocError, Global};
+use std::io::Write;
+use std::rt::HostRuntime;
+use store::store::SqlShelves;
+use wire::fixed_line;
+use wire::reply::Fixed;
+use world::entry::{MAX_GOMOD, MAX_ZIP};
+use world::registry::StoreFault;
+use world::shelves::Shelves;
+use world::text::Text;
+
+/// What a publish says of its version, as it stands on the command line.
+#[derive(Clone, Copy, Drop)]
+pub struct Words<'a> {
+    pub key: &'a str,
+    pub path: &'a str,
+    pub version: &'a str,
+    pub time: Option<&'a str>,
+}
+
+/// `publish`: reads the two files and publishes them. It prints the outcome, and tells whether the version stands now with
+/// these files. `Io` where a file can't be read or the output failed.
+pub fn publish<'a, O: Write>(
+    rt: &HostRuntime,
+    matches: &ArgMatches<'a>,
+    output: &mut O,
+) -> Result<bool, Refusal> {
+    let mut shelves = SqlShelves::open_file(rt, text(matches, "db"))?;
+    let body = match read_files(rt, text(matches, "mod"), text(matches, "zip")) {
+        Ok(body) => body,
+        Err(FileFault::Memory) => return tell(Fixed::Unavailable, output),
+        Err(FileFault::Io) => return Err(Refusal::Io),
+    };
+    let words = Words {
+        key: text(matches, "key"),
+        path: text(matches, "module"),
+        version: text(matches, "version"),
+        time: matches.get_str("time"),
+    };
+    publish_files(rt.alloc(), &mut shelves, &words, body, output)
+}
+
+/// The go.mod and the zip.
+fn read_files(rt: &HostRuntime, gomod: &str, zip: &str) -> Result<Body, FileFault> {
+    let gomod = read_file(rt, gomod, MAX_GOMOD as u64)?;
+    let zip = read_file(rt, zip, MAX_ZIP as u64)?;
+    Ok(Body { gomod, zip })
+}
+
+/// Publishes files as the machine does, and prints the outcome; tells whether the version stands now with these files.
+pub fn publish_files<S: Shelves, O: Write>(
+    alloc: Global,
+    shelves: &mut S,
+    words: &Words,
+    body: Body,
+    output: &mut O,
+) -> Result<bool, Refusal>
+    ensures { spec.PublishesAndTells (S.shown shelves.old) (S.shown shelves.new) (S.failure_count shelves.old) (S.failure_count shelves.new)
+        (spec.asked words.now.key.now words.now.path.now words.now.version.now (option_copied words.now.time) body)
+        (O.contents output.old) (O.contents output.new) result }
+{
+    let told = publish_by(alloc, shelves, words, body);
+    tell(answer_of(told), output)
+}
+
+/// Asks the machine to publish files.
+fn publish_by<S: Shelves>(
+    alloc: Global,
+    shelves: &mut S,
+    words: &Words,
+    body: Body,
+) -> Result<Reply, StoreFault>
+    ensures does { Does (S.shown shelves.old) (S.shown shelves.new) result
+        (λ w. ask_reply w (spec.asked words.now.key.now words.now.path.now words.now.version.now (option_copied words.now.time) body))
+        (λ w. after_ask w (spec.asked words.now.key.now words.now.path.now words.now.version.now (option_copied words.now.time) body)) }
+    ensures cause { HasCause (S.failure_count shelves.old) (S.failure_count shelves.new) result }
+{
+    let ask = ask_of(alloc, words, body)?;
+    step(alloc, shelves, &ask)
+}
+
+/// What a publish of files asks of the machine: something unreadable where the path or the version does not read.
+fn ask_of(alloc: Global, words: &Words, body: Body) -> Result<Ask, AllocError>
+    ensures { IfOk result (λ ask. ask ≡ spec.asked words.now.key.now words.now.path.now words.now.version.now (option_copied words.now.time) body) }
+{
+    let Some(path) = read_path(alloc, words.path)? else {
+        return Ok(Ask::Unreadable);
+    };
+    let Some(version) = read_version(alloc, words.version)? else {
+        return Ok(Ask::Unreadable);
+    };
+    let key = Text::copy_of(alloc, words.key)?;
+    let publish = Publish {
+        path,
+        version,
+        body: Some(body),
+        time: given_time(words.time),
+    };
+    Ok(Ask::Put { key, publish })
+}
+
+/// The module path that a text is.
+fn read_path(alloc: Global, text: &str) -> Result<Option<ModulePath>, AllocError>
+    ensures { IfOk result (λ path. path ≡ spec.path_of text.now) }
+{
+    match ModulePath::parse(alloc, text) {
+        Ok(path) => Ok(Some(path)),
+        Err(PathError::Fault(_)) => Ok(None),
+        Err(PathError::Memory) => Err(AllocError),
+    }
+}
+
+/// The version that a text is.
+fn read_version(alloc: Global, text: &str) -> Result<Option<Version>, AllocError>
+    ensures { IfOk result (λ version. version ≡ spec.version_of text.now) }
+{
+    match Version::parse(alloc, text) {
+        Ok(version) => Ok(Some(version)),
+        Err(VersionFault::Form) => Ok(None),
+        Err(VersionFault::Build) => Ok(None),
+        Err(VersionFault::TooLong) => Ok(None),
+        Err(VersionFault::Memory) => Err(AllocError),
+    }
+}
+
+/// The time that is given, taken as it stands.
+fn given_time(text: Option<&str>) -> GivenTime
+    ensures { result ≡ spec.given_time (option_copied text.entry) }
+{
+    let Some(text) = text else {
+        return GivenTime::Absent;
+    };
+    match read_time(text) {
+        Ok(time) => GivenTime::At(time),
+        Err(_) => GivenTime::Malformed,
+    }
+}
+
+/// The fixed answer to a publish: 503 where the store met a fault.
+fn answer_of(told: Result<Reply, StoreFault>) -> Fixed
+    ensures { result ≡ spec.answer_of told }
+{
+    match told {
+        Ok(Reply::Decided(decision)) => fixed_of(decision),
+        Ok(_) => Fixed::NotFound,
+        Err(_) => Fixed::Unavailable,
+    }
+}
+
+/// Prints an answer as a line, and tells whether it accepts.
+fn tell<O: Write>(answer: Fixed, output: &mut O) -> Result<bool, Refusal>
+    ensures { spec.Tells answer (O.contents output.old) (O.contents output.new) result }
+{
+    match print_line(answer, output) {
+        Ok(()) => Ok(is_accepted(answer.status().as_u16())),
+        Err(_) => Err(Refusal::Io),
+    }
+}
+
+/// Whether a status accepts a publish.
+fn is_accepted(status: u16) -> bool
+    ensures { result ≡ spec.accepts status }
+{
+    status == 200 || status == 201
+}
+
+/// Prints an answer as a line: the number of its status, a space and its body.
+fn print_line<O: Write>(answer: Fixed, output: &mut O) -> std::io::Result<()>
+    ensures { OnOk result (Appends (O.contents output.old) (O.contents output.new) (line_bytes answer ++ codes "\n")) }
+{
+    let mut line = [0; 40];
+    let len = fixed_line(answer, &mut line);
+    output.write_all(&line[..len])?;
+    output.write_all(b"\n")?;
+    output.flush()
+}

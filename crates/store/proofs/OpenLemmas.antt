@@ -1,0 +1,58 @@
+-- Tables that are opened.
+use Rattle.std.proofs.Common.{◌≡◌, true, false, Ok, refl, sym, ap, subst, ◌∙◌, inl, inr, IsTrue, true≢false}
+use Rattle.sqlite.specs.Tree.{Trees}
+use Rattle.sqlite.specs.Effect.{Database}
+use Rattle.sqlite.specs.State.{State, HasCleanDisk, IsLive}
+use Rattle.sqlite_catalog.specs.Listing.{IsSound}
+use Rattle.sqlite.specs.Schema.{Schema}
+use Rattle.world.specs.World.{World, IsWorld, only_common}
+use Rattle.store.specs.Schema.{store_schema, no_schema}
+use Rattle.store.specs.Means.{StandFor, Holds}
+use Rattle.store.specs.Calls.{shown_of, BeginsAt}
+use Rattle.store.specs.Walks.{Looks, Tests}
+use Rattle.store.specs.Fit.{AreFit}
+use Rattle.store.specs.Opened.{IsSettled, Opens, IsBad}
+use Rattle.store.proofs.WriteLemmas.{open_leaves}
+use Rattle.store.proofs.WorldOf.{world_of, fit_means, fit_world}
+use Rattle.store.proofs.WorldFits.{world_fits}
+
+module _ (old new : State) where
+  -- a store that holds a world begins at it
+  pub begins_at : ((db : Trees) → IsTrue new.is_open → new.may_leave db → db ≡ new.committed.trees) → IsTrue new.is_open → HasCleanDisk new → (w : World) → Holds new w → IsWorld w → BeginsAt (shown_of new) w
+  begins_at law opened clean w holds is = record {
+    honest = clean;
+    stands = ((λ _ _. holds), is);
+    left = λ db may. let it = open_leaves new w (λ db. law db opened) holds db may in (it.0, it.1, inl it.2);
+  }
+
+  pub tables_found : ((db : Trees) → IsTrue new.is_open → new.may_leave db → db ≡ new.committed.trees) → IsSettled old → IsLive old → old.now.schema ≡ store_schema → HasCleanDisk new → Tests old new (Ok true) AreFit → Opens old new
+  tables_found law settled live has clean tests =
+      let shows = (tests.same clean has).0 in
+      let db = old.now.trees in
+      let sound : IsSound store_schema db = subst (λ s. IsSound s db) has (live shows.was_open).0 in
+      let fit = (tests.answer clean has).0 refl in
+      let w = world_of db in
+      let means = fit_means db sound fit in
+      let holds : Holds new w = record {
+        schema = ap (λ (d : Database). d.schema) shows.now_is ∙ has;
+        settled = shows.now_is ∙ (settled.committed shows.was_open ∙ sym shows.committed_is);
+        autocommit = shows.mode ∙ settled.autocommit;
+        trees = subst (λ (d : Database). StandFor d.trees w) (sym shows.now_is) (record { sound = sound; means = means });
+      } in
+      record { is_open = shows.is_open; world = w; tables = inr (record { schema = has; same = shows.now_is; means = means }); begins = begins_at law shows.is_open clean w holds (fit_world db sound fit) }
+
+  pub looked_kept : IsSettled old → old.now.schema ≡ store_schema → HasCleanDisk new → Looks old new → IsTrue new.is_open → new.now ≡ old.now
+  looked_kept settled has clean looks opened = elim (looks.kept clean has) [
+    | inl same ↦ same.0.now_is
+    | inr back ↦ (back.undone opened).0 ∙ sym (settled.committed (back.was_open opened))
+  ]
+
+  pub tables_bad : (old.now.schema ≡ no_schema → ⊥) → old.now.schema ≡ store_schema → HasCleanDisk new → Tests old new (Ok false) AreFit → IsBad old.now
+  tables_bad some has clean tests = record { some = some; none = λ _ w means is. true≢false (sym ((tests.answer clean has).1 (world_fits old.now.trees w means is))) }
+
+  -- where there were no tables, the store begins with `common` alone
+  pub begins_first : old.now.schema ≡ no_schema → Opens old new → BeginsAt (shown_of new) only_common
+  begins_first none it = elim it.tables [
+    | inl first ↦ subst (BeginsAt (shown_of new)) first.1 it.begins
+    | inr found ↦ (let e : ◌≡◌ {A = Schema} store_schema no_schema = sym found.schema ∙ none in absurd (let t = ap (λ (s : Schema). s.tables) e in cc))
+  ]

@@ -1,0 +1,13 @@
+use Rattle.std.proofs.Common.{sym, ◌∙◌}
+use Rattle.sqlite.specs.Held.{state}
+use Rattle.store.proofs.OpenLemmas.{tables_found, tables_bad}
+use Rattle.store.proofs.adopt.find_tables.Goals as goal
+
+pub returns-in-Ok-true-clause-opens : goal.returns-in-Ok-true-clause-opens
+returns-in-Ok-true-clause-opens g c clean settled =
+    tables_found (state g.S.Store c.args.conn.now) (state g.S.Store c.is_fit.new.conn) (λ db shown may. g.met.S.Store.settled c.is_fit.new.conn.store db shown may) settled c.schema.ensures.live
+    (sym c.schema.ensures.value ∙ c.is_store_schema.ensures.0 c.if-not-is_store_schema.false) clean (rw c.in-Ok-true.field-0-test at (c.in-Ok-true.ensures))
+
+pub returns-in-Ok-false-clause-bad : goal.returns-in-Ok-false-clause-bad
+returns-in-Ok-false-clause-bad g c clean some _ =
+    tables_bad (state g.S.Store c.args.conn.now) (state g.S.Store c.is_fit.new.conn) some (sym c.schema.ensures.value ∙ c.is_store_schema.ensures.0 c.if-not-is_store_schema.false) clean (rw c.in-Ok-false.field-0-test at (c.in-Ok-false.ensures))

@@ -1,0 +1,16 @@
+use Rattle.std.proofs.Common.{refl, inl}
+use Rattle.sqlite.specs.Held.{state}
+use Rattle.world.specs.World.{only_common}
+use Rattle.store.proofs.FirstWorld.{first_world}
+use Rattle.store.proofs.OpenLemmas.{begins_at}
+use Rattle.store.proofs.adopt.make_tables.Goals as goal
+
+pub returns-in-Ok-clause-opens : goal.returns-in-Ok-clause-opens
+returns-in-Ok-clause-opens g c clean none =
+    let h = c.in-Ok.ensures.made clean none in
+    record {
+      is_open = h.0;
+      world = only_common;
+      tables = inl (none, refl);
+      begins = begins_at (state g.S.Store c.args.conn.now) (state g.S.Store c.create.new.conn) (λ db shown may. g.met.S.Store.settled c.create.new.conn.store db shown may) h.0 clean only_common h.1 first_world;
+    }

@@ -1,0 +1,18 @@
+use Rattle.std.proofs.Common.{refl}
+use Rattle.sqlite.specs.Held.{state}
+use Rattle.store.proofs.ListingLemmas.{key_rows_plain, key_rows_tables}
+use Rattle.store.proofs.Texts.{key_rows_text}
+use Rattle.store.proofs.FitTests.{walked, KeyFits, KeyKeeps, keys_true, keys_false}
+use Rattle.store.proofs.fit.has_keys.Goals as goal
+
+pub rows_pass-requires-clause-plain : goal.rows_pass-requires-clause-plain
+rows_pass-requires-clause-plain g c = key_rows_plain
+
+pub rows_pass-requires-clause-tables : goal.rows_pass-requires-clause-tables
+rows_pass-requires-clause-tables g c = key_rows_tables
+
+pub returns : goal.returns
+returns g c =
+    let old = state g.S.Store c.args.conn.now in
+    walked KeyFits KeyKeeps key_rows_text old (state g.S.Store c.rows_pass.new.conn) c.rows_pass.result _ c.rows_pass.new.test _ c.rows_pass.ensures.looks c.rows_pass.ensures.same c.rows_pass.ensures.answer
+    (keys_true old.now _ c.rows_pass.new.test) (keys_false old.now _ c.rows_pass.new.test refl)

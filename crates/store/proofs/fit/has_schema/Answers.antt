@@ -1,0 +1,27 @@
+use Rattle.std.proofs.Common.{false, refl}
+use Rattle.sqlite.specs.Held.{state}
+use Rattle.store.specs.declared.fit.MetaRows.{MetaRows}
+use Rattle.store.proofs.ListingLemmas.{meta_rows_plain, meta_rows_tables}
+use Rattle.store.proofs.FitTests.{told, refused, meta_true, meta_false}
+use Rattle.store.proofs.fit.has_schema.Goals as goal
+
+abbrev start : MetaRows
+start = record { has_row = false }
+
+pub rows_pass-requires-clause-plain : goal.rows_pass-requires-clause-plain
+rows_pass-requires-clause-plain g c = meta_rows_plain
+
+pub rows_pass-requires-clause-tables : goal.rows_pass-requires-clause-tables
+rows_pass-requires-clause-tables g c = meta_rows_tables
+
+pub returns-then-not-branch : goal.returns-then-not-branch
+returns-then-not-branch g c =
+    let old = state g.S.Store c.args.conn.now in
+    told old (state g.S.Store c.rows_pass.new.conn) false _ c.rows_pass.ensures.looks c.in_ok-rows_pass.ensures.same
+    (λ clean has. refused (meta_false old.now start c.rows_pass.new.test (rw c.if-not-branch.true at (c.in_ok-rows_pass.ensures.answer clean has))))
+
+pub returns : goal.returns
+returns g c =
+    let old = state g.S.Store c.args.conn.now in
+    told old (state g.S.Store c.rows_pass.new.conn) c.rows_pass.new.test.has_row _ c.rows_pass.ensures.looks c.in_ok-rows_pass.ensures.same
+    (λ clean has. meta_true old.now start c.rows_pass.new.test refl (rw c.if-not-branch.false at (c.in_ok-rows_pass.ensures.answer clean has)))

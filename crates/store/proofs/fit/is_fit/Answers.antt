@@ -1,0 +1,40 @@
+use Rattle.std.proofs.Common.{Ok, true, map}
+use Rattle.sqlite.specs.Held.{state}
+use Rattle.sqlite.specs.Tree.{Trees}
+use Rattle.store.specs.Walks.{Tests}
+use Rattle.store.specs.Fit.{IsMetaFit, AreShelvesFit, AreKeysFit, AreNumbersFit, AreEntriesFit, AreFit, meta_shown, name_shown, number_shown, joined}
+use Rattle.store.proofs.WalkLemmas.{tests_same, then_tests}
+use Rattle.store.proofs.fit.is_fit.Goals as goal
+
+abbrev Named : Trees → Type 0
+Named db = IsMetaFit (map meta_shown (db 0))
+
+abbrev Shelved : Trees → Type 0
+Shelved db = AreShelvesFit (map name_shown (db 2))
+
+abbrev Keyed : Trees → Type 0
+Keyed db = AreKeysFit (map name_shown (db 4))
+
+abbrev Numbered : Trees → Type 0
+Numbered db = AreNumbersFit (map number_shown (db 4))
+
+abbrev Filled : Trees → Type 0
+Filled db = AreEntriesFit (joined (db 6) (db 8))
+
+pub returns : goal.returns
+returns g c =
+    let first = state g.S.Store c.args.conn.now in
+    let second = state g.S.Store c.has_schema.new.conn in
+    let third = state g.S.Store c.has_shelves.new.conn in
+    let fourth = state g.S.Store c.has_keys.new.conn in
+    let fifth = state g.S.Store c.has_numbers.new.conn in
+    let last = state g.S.Store c.has_entries.new.conn in
+    let named : Tests first second (Ok true) Named = rw c.if-not-branch.false at c.in_ok-has_schema.ensures in
+    let shelved : Tests second third (Ok true) Shelved = rw c.if-not-branch-2.false at c.in_ok-has_shelves.ensures in
+    let keyed : Tests third fourth (Ok true) Keyed = rw c.if-not-branch-3.false at c.in_ok-has_keys.ensures in
+    let numbered : Tests fourth fifth (Ok true) Numbered = rw c.if-not-branch-4.false at c.in_ok-has_numbers.ensures in
+    let two = then_tests first second third (Ok true) Named Shelved named shelved in
+    let three = then_tests first third fourth (Ok true) (λ db. Named db × Shelved db) Keyed two keyed in
+    let four = then_tests first fourth fifth (Ok true) (λ db. (Named db × Shelved db) × Keyed db) Numbered three numbered in
+    tests_same first last c.has_entries.result (λ db. (((Named db × Shelved db) × Keyed db) × Numbered db) × Filled db) AreFit (λ db it. record { named = it.0.0.0.0; shelves = it.0.0.0.1; access = it.0.0.1; numbers = it.0.1; entries = it.1 })
+    (λ db fit. ((((fit.named, fit.shelves), fit.access), fit.numbers), fit.entries)) (then_tests first fifth last c.has_entries.result (λ db. ((Named db × Shelved db) × Keyed db) × Numbered db) Filled four c.has_entries.ensures)

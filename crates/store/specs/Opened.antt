@@ -1,0 +1,36 @@
+-- What opening the tables of a connection tells of them.
+use Rattle.std.specs.Prelude.{◌≡◌, ◌≢◌, ◌⊎◌, false, IsTrue}
+use Rattle.sqlite.specs.Tree.{Trees}
+use Rattle.sqlite.specs.Effect.{Database}
+use Rattle.sqlite.specs.State.{State}
+use Rattle.world.specs.World.{World, IsWorld, only_common}
+use Rattle.store.specs.Schema.{store_schema, no_schema}
+use Rattle.store.specs.Means.{Means, StandFor}
+use Rattle.store.specs.Calls.{shown_of, BeginsAt}
+
+-- in no transaction, so all that it shows is committed
+pub record IsSettled (s : State) : Type 0 where
+  pub autocommit : s.in_transaction ≡ false
+  pub committed : IsTrue s.is_open → s.now ≡ s.committed
+
+-- the tables are those of the schema, they stay as they are, and stand for the world
+pub record IsFound (old new : State) (w : World) : Type 0 where
+  pub schema : old.now.schema ≡ store_schema
+  pub same : new.now ≡ old.now
+  pub means : Means old.now.trees w
+
+-- the tables are found, or made where there were none, and the store begins at their world
+pub record Opens (old new : State) : Type 0 where
+  pub is_open : IsTrue new.is_open
+  pub world : World
+  pub tables : ((old.now.schema ≡ no_schema) × (world ≡ only_common)) ⊎ IsFound old new world
+  pub begins : BeginsAt (shown_of new) world
+
+-- there are tables, and if they are those of the schema, they stand for no world
+pub record IsBad (db : Database) : Type 0 where
+  pub some : db.schema ≢ no_schema
+  pub none : db.schema ≡ store_schema → (w : World) → Means db.trees w → IsWorld w → ⊥
+
+-- what a crash leaves is left as before, or it is the first tables where there were none
+abbrev pub LeavesFirst : State → State → Type 0
+LeavesFirst old new = (db : Trees) → new.may_leave db → old.may_leave db ⊎ ((old.now.schema ≡ no_schema) × StandFor db only_common)

@@ -1,0 +1,35 @@
+-- Tests of the tables, which read them and write nothing, and rows that are tested one after the other.
+use Rattle.std.specs.Prelude.{◌≡◌, ◌≤◌, ◌⊎◌, ℕ, Bool, true, false, List, [], ◌∷◌, ◌++◌, Result, IfOk, OnOk, Decides}
+use Rattle.sqlite_trees.specs.View.{doubt}
+use Rattle.sqlite.specs.Tree.{Trees}
+use Rattle.sqlite.specs.Order.{Row}
+use Rattle.sqlite.specs.declared.error.Error.{Error}
+use Rattle.sqlite.specs.State.{State, HasCleanDisk, IsUnchanged, IsRolledBack}
+use Rattle.sqlite.specs.Effect.{Database, Reads, ReadsFirst}
+use Rattle.sqlite.specs.Listing.{understood}
+use Rattle.sqlite.proofs.Callers.{command_of}
+use Rattle.store.specs.Schema.{store_schema}
+
+-- it leaves the tables as they are, and a crash leaves nothing that it did not leave before
+pub record Looks (old new : State) : Type 0 where
+  pub clean : doubt old.is_clean ≤ doubt new.is_clean
+  pub left : HasCleanDisk new → old.now.schema ≡ store_schema → (db : Trees) → new.may_leave db → old.may_leave db
+  pub kept : HasCleanDisk new → old.now.schema ≡ store_schema → IsUnchanged old new ⊎ IsRolledBack old new
+
+-- the answer tells whether the tables are so
+pub record Tests (old new : State) (result : Result Bool Error) (P : Trees → Type 0) : Type 0 where
+  pub looks : Looks old new
+  pub same : HasCleanDisk new → old.now.schema ≡ store_schema → OnOk result (IsUnchanged old new)
+  pub answer : HasCleanDisk new → old.now.schema ≡ store_schema → IfOk result (λ b. Decides b (P old.now.trees))
+
+module _ {X : Type 0} (Fits : X → Row → Type 0) (Keeps : X → Row → X → Type 0) where
+  -- each row fits after those before it, of which something is kept
+  abbrev pub Pass : X → List Row → X → Type 0
+  Pass kept [] end = end ≡ kept
+  Pass kept (r ∷ rows) end = Fits kept r × (next : X) × Keeps kept r next × Pass next rows end
+
+  -- each row that the query shows fits, or one of the first does not
+  abbrev pub Walks : List ℕ → Database → X → X → Bool → Type 0
+  Walks sql db start end true = (rows : List Row) × Reads (command_of (understood store_schema sql)) db [] rows × Pass start rows end
+  Walks sql db start end false =
+      (rows : List Row) × (row : Row) × (kept : X) × ReadsFirst (command_of (understood store_schema sql)) db [] (rows ++ row ∷ []) × Pass start rows kept × (Fits kept row → ⊥)

@@ -1,0 +1,62 @@
+//! The tables of a connection, found or made.
+
+ghost use Rattle.std.specs.Prelude.{◌≡◌, ◌≢◌, IfErr, OnErr, OnOk, IsTrue};
+ghost use Rattle.sqlite.specs.Held.{state};
+ghost use Rattle.sqlite.specs.State.{HasCleanDisk};
+ghost use Rattle.store.specs.Schema.{no_schema};
+ghost use Rattle.store.specs.Opened.{IsSettled, Opens, IsBad, LeavesFirst};
+
+use crate::create::create;
+use crate::fit::is_fit;
+use crate::refusal::{Refusal, open_refusal};
+use crate::schema::{is_no_schema, is_store_schema};
+use sqlite::{Alter, Connection};
+use std::alloc::Global;
+
+/// Tests the tables that are there.
+fn find_tables<S: Alter>(alloc: Global, conn: &mut Connection<S>) -> Result<(), Refusal>
+    ensures opens { HasCleanDisk (state S.Store conn.new) → IsSettled (state S.Store conn.old) → OnOk result (Opens (state S.Store conn.old) (state S.Store conn.new)) }
+    ensures kept { HasCleanDisk (state S.Store conn.new) → IsSettled (state S.Store conn.old) → IsTrue (state S.Store conn.new).is_open → OnErr result ((state S.Store conn.new).now ≡ (state S.Store conn.old).now) }
+    ensures left { HasCleanDisk (state S.Store conn.new) → (db : _) → (state S.Store conn.new).may_leave db → OnErr result ((state S.Store conn.old).may_leave db) }
+    ensures bad { HasCleanDisk (state S.Store conn.new) → (state S.Store conn.old).now.schema ≢ no_schema → IfErr result (λ e. e ≡ Refusal.BadSchema → IsBad (state S.Store conn.old).now) }
+{
+    if !is_store_schema(conn.schema()) {
+        return Err(Refusal::BadSchema);
+    }
+    match is_fit(alloc, conn) {
+        Ok(true) => Ok(()),
+        Ok(false) => Err(Refusal::BadSchema),
+        Err(error) => Err(open_refusal(error)),
+    }
+}
+
+/// Makes the tables where there are none.
+fn make_tables<S: Alter>(conn: &mut Connection<S>) -> Result<(), Refusal>
+    ensures opens { HasCleanDisk (state S.Store conn.new) → (state S.Store conn.old).now.schema ≡ no_schema → OnOk result (Opens (state S.Store conn.old) (state S.Store conn.new)) }
+    ensures kept { HasCleanDisk (state S.Store conn.new) → IsTrue (state S.Store conn.new).is_open → OnErr result ((state S.Store conn.new).now ≡ (state S.Store conn.old).now) }
+    ensures left { HasCleanDisk (state S.Store conn.new) → (state S.Store conn.old).now.schema ≡ no_schema → LeavesFirst (state S.Store conn.old) (state S.Store conn.new) }
+    ensures failed { IfErr result (λ e. e ≢ Refusal.BadSchema) }
+{
+    match create(conn) {
+        Ok(()) => Ok(()),
+        Err(error) => Err(open_refusal(error)),
+    }
+}
+
+/// Finds the tables, or makes them where there are none. A connection in a transaction is refused as
+/// `Device`.
+pub(crate) fn open_tables<S: Alter>(alloc: Global, conn: &mut Connection<S>) -> Result<(), Refusal>
+    ensures opens { HasCleanDisk (state S.Store conn.new) → OnOk result (Opens (state S.Store conn.old) (state S.Store conn.new)) }
+    ensures kept { HasCleanDisk (state S.Store conn.new) → IsTrue (state S.Store conn.new).is_open → OnErr result ((state S.Store conn.new).now ≡ (state S.Store conn.old).now) }
+    ensures left { HasCleanDisk (state S.Store conn.new) → OnErr result (LeavesFirst (state S.Store conn.old) (state S.Store conn.new)) }
+    ensures bad { HasCleanDisk (state S.Store conn.new) → IfErr result (λ e. e ≡ Refusal.BadSchema → IsBad (state S.Store conn.old).now) }
+{
+    if !conn.is_autocommit() {
+        return Err(Refusal::Device);
+    }
+    if is_no_schema(conn.schema()) {
+        make_tables(conn)
+    } else {
+        find_tables(alloc, conn)
+    }
+}

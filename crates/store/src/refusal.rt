@@ -1,0 +1,26 @@
+//! Why a store is not opened.
+
+ghost use Rattle.std.specs.Prelude.{◌≢◌};
+
+use sqlite::{Error, ErrorCode};
+
+/// Why a store is not opened.
+#[derive(Clone, Copy, Debug, PartialEq, Eq)]
+pub enum Refusal {
+    /// A disk failed.
+    Device,
+    /// Memory was wanted.
+    Memory,
+    /// The tables are not those of the schema, or stand for no world.
+    BadSchema,
+}
+
+/// What a failure to read or to make the tables is told as.
+pub(crate) fn open_refusal(error: Error) -> Refusal
+    ensures { result ≢ Refusal.BadSchema }
+{
+    match error {
+        Error::SqliteFailure(ErrorCode::OutOfMemory) => Refusal::Memory,
+        _ => Refusal::Device,
+    }
+}

@@ -7,7 +7,8 @@ use sqlite::{Error, ErrorCode};
 /// Why a store is not opened.
 #[derive(Clone, Copy, Debug, PartialEq, Eq)]
 pub enum Refusal {
-    /// A disk failed.
+    /// A disk failed, the system or the name does not let a file be opened, or the connection is in a
+    /// transaction.
     Device,
     /// Memory was wanted.
     Memory,

@@ -1,0 +1,148 @@
+#!/usr/bin/env python3
+"""Speed and memory of a store in a file: `goshelf answer --db`, beside Python's sqlite3 that inserts the same rows.
+
+Build the program first (`./goshelf --version`). Each publish is one transaction that is on the disk before it is
+answered, and so is each of sqlite3's (synchronous=FULL). With --quick the stores are a tenth as large.
+"""
+
+import os
+import sqlite3
+import subprocess
+import sys
+import tempfile
+import time
+
+ROOT = os.path.dirname(os.path.dirname(os.path.abspath(__file__)))
+PROGRAM = os.path.join(ROOT, "crates", "goshelf", "out", "goshelf")
+KEY = "alphakey00000001"
+BLOCK = bytes(range(256)) * 4
+TABLES = """
+CREATE TABLE meta (name TEXT PRIMARY KEY, value INTEGER NOT NULL) STRICT;
+CREATE TABLE shelf (name TEXT PRIMARY KEY) STRICT;
+CREATE TABLE access (token TEXT PRIMARY KEY, shelf TEXT NOT NULL REFERENCES shelf (name), publish INTEGER NOT NULL CHECK (publish IN (0, 1))) STRICT;
+CREATE TABLE version (id INTEGER PRIMARY KEY, shelf TEXT NOT NULL REFERENCES shelf (name), path TEXT NOT NULL, version TEXT NOT NULL, time TEXT, mod BLOB NOT NULL, UNIQUE (shelf, path, version)) STRICT;
+CREATE TABLE body (id INTEGER PRIMARY KEY REFERENCES version (id), zip BLOB NOT NULL) STRICT;
+INSERT INTO meta VALUES ('schema', 1);
+INSERT INTO shelf VALUES ('common'), ('alpha');
+INSERT INTO access VALUES ('alphakey00000001', 'alpha', 1);
+"""
+
+
+def place(n):
+    """The path and the version of the nth entry, with at most 4,000 versions to a path."""
+    return f"example.com/m{n // 4000}", f"v1.0.{n % 4000}"
+
+
+def gomod(path):
+    return f"module {path}\n".encode()
+
+
+def publish(n, zip_length):
+    path, version = place(n)
+    length = len(gomod(path)) + zip_length
+    head = f"PUT /k/{KEY}/{path}/@v/{version} HTTP/1.1\r\nMod-Length: {len(gomod(path))}\r\nContent-Length: {length}\r\n\r\n"
+    return head.encode() + gomod(path) + BLOCK * (zip_length // len(BLOCK))
+
+
+def get(n):
+    path, version = place(n)
+    return f"GET /k/{KEY}/{path}/@v/{version}.mod HTTP/1.1\r\n\r\n".encode()
+
+
+def made(file):
+    """A database with the tables of a store, made by sqlite3."""
+    conn = sqlite3.connect(file, isolation_level=None)
+    conn.execute("PRAGMA foreign_keys = ON")
+    conn.executescript(TABLES)
+    return conn
+
+
+def insert(conn, n, zip_length):
+    path, version = place(n)
+    row = ("alpha", path, version, gomod(path))
+    number = conn.execute("INSERT INTO version (shelf, path, version, mod) VALUES (?, ?, ?, ?)", row).lastrowid
+    conn.execute("INSERT INTO body VALUES (?, ?)", (number, BLOCK * (zip_length // len(BLOCK))))
+
+
+def filled(file, entries):
+    """A store of so many versions with 1 KiB zips, made by sqlite3 in one transaction."""
+    conn = made(file)
+    conn.execute("BEGIN")
+    for n in range(entries):
+        insert(conn, n, 1024)
+    conn.execute("COMMIT")
+    conn.close()
+
+
+def answered(file, requests):
+    """Seconds and peak memory of the program on a stream, which is written to a file part by part so that this
+    process stays small: a child's peak memory begins at its parent's."""
+    with tempfile.TemporaryFile() as source, tempfile.TemporaryFile() as target:
+        count = 0
+        for request in requests:
+            source.write(request)
+            count += 1
+        source.seek(0)
+        started = time.monotonic()
+        child = subprocess.Popen([PROGRAM, "answer", "--db", file], stdin=source, stdout=target)
+        _, status, usage = os.wait4(child.pid, 0)
+        seconds = time.monotonic() - started
+        target.seek(0)
+        done = sum(line.startswith((b"HTTP/1.1 200 ", b"HTTP/1.1 201 ")) for line in target)
+        if status != 0 or done != count:
+            sys.exit(f"wait status {status}, and {done} of {count} requests were answered 200 or 201")
+        return seconds, usage.ru_maxrss / 1024
+
+
+def publishes(folder, count, zip_length, name):
+    """Publishes a second of the program and of sqlite3, each into a store of its own."""
+    ours = os.path.join(folder, f"ours{zip_length}.db")
+    made(ours).close()
+    opening, _ = answered(ours, [])
+    seconds, memory = answered(ours, (publish(n, zip_length) for n in range(count)))
+    theirs = made(os.path.join(folder, f"theirs{zip_length}.db"))
+    theirs.execute("PRAGMA journal_mode = WAL")
+    theirs.execute("PRAGMA synchronous = FULL")
+    started = time.monotonic()
+    for n in range(count):
+        theirs.execute("BEGIN")
+        insert(theirs, n, zip_length)
+        theirs.execute("COMMIT")
+    beside = time.monotonic() - started
+    theirs.close()
+    seconds = max(seconds - opening, 1e-9)
+    print(
+        f"{count:,} publishes with {name} zips: {count / seconds:,.0f} a second, peak {memory:,.1f} MiB; "
+        f"sqlite3 inserts {count / beside:,.0f} a second ({seconds / beside:.2f} times its time)"
+    )
+
+
+def fetches(folder, entries, gets):
+    """The opening of a store of so many versions, and GETs a second from it without the opening."""
+    file = os.path.join(folder, f"store{entries}.db")
+    filled(file, entries)
+    opening, least = answered(file, [])
+    # The asked versions are spread over the store.
+    seconds, memory = answered(file, (get(n * 7919 % entries) for n in range(gets)))
+    seconds = max(seconds - opening, 1e-9)
+    print(
+        f"a store of {entries:,} versions ({os.path.getsize(file) / 2**20:,.1f} MiB): opened in {opening:.2f} s with "
+        f"{least:,.1f} MiB at the peak; {gets:,} GETs of a .mod: {gets / seconds:,.0f} a second, peak {memory:,.1f} MiB"
+    )
+    return seconds
+
+
+def main():
+    scale = 10 if "--quick" in sys.argv else 1
+    if not os.path.exists(PROGRAM):
+        sys.exit("build the program first: ./goshelf --version")
+    with tempfile.TemporaryDirectory(dir=os.environ.get("STORES")) as folder:
+        publishes(folder, 10_000 // scale, 1024, "1 KiB")
+        publishes(folder, 200 // scale, 2**20, "1 MiB")
+        few = fetches(folder, 1_000, 100_000 // scale)
+        many = fetches(folder, 100_000 // scale, 100_000 // scale)
+        print(f"  a GET from the larger store costs {many / few:.2f} times one from the smaller")
+
+
+if __name__ == "__main__":
+    main()

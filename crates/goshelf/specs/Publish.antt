@@ -1,5 +1,5 @@
 -- A publish of files by words that stand as they are.
-use Rattle.std.specs.Prelude.{ℕ, List, ◌≡◌, ◌==◌, ◌||◌, ◌++◌, codes, Bool, true, false, Option, Some, None, Result, Ok, Err, MatchResult, if◌then◌else◌}
+use Rattle.std.specs.Prelude.{ℕ, List, ◌≡◌, ◌==◌, ◌||◌, ◌++◌, codes, Bool, Option, Some, None, Result, Ok, Err, MatchResult, if◌then◌else◌}
 use Rattle.std.specs.Io.KnownBytes.{Appends}
 use Rattle.modpath.specs.Path.{is_path}
 use Rattle.modver.specs.Reading as modver

@@ -1,9 +1,13 @@
 //! The worked rows on one store in a file, and the whole reply to each.
 use crate::tests::runs::{column, new_folder, on_store};
+use engine::answer_all;
+use shelf::entry::Right;
+use shelf::shelves::Shelves;
 use std::alloc::{AllocError, Global};
 use std::fs;
 use std::rt::HostRuntime;
 use std::test::Fail;
+use store::store::SqlShelves;
 
 /// The worked rows, one a line: method, key and target of the request; status, kind and body of the reply; of a PUT also the
 /// go.mod, the zip and further lines of its head. `;` stands for the end of a line. A line without columns names those below it.
@@ -40,6 +44,9 @@ PUT A example.com/!lib/@v/v1.0.0 | 201 Created | plain | published; | module exa
 GET A example.com/%21lib/@v/v1.0.0.mod | 200 OK | plain | module example.com/Lib;
 GET A example.com/Lib/@v/v1.0.0.mod | 404 Not Found | plain | not found;
 GET A example.com/!1/@v/v1.0.0.mod | 404 Not Found | plain | not found;
+path-calls
+GET A example.com%2Flib/%40v/v1.0.0.mod | 200 OK | plain | module example.com/lib;
+GET A example.com/lib%2/@v/v1.0.0.mod | 404 Not Found | plain | not found;
 major-versions
 PUT A example.com/lib/@v/v2.0.0 | 422 Unprocessable Entity | plain | major-mismatch; | module example.com/lib; |
 PUT A example.com/lib/@v/v2.0.0+incompatible | 201 Created | plain | published; | module example.com/lib; |
@@ -74,14 +81,31 @@ PUT A example.com/q/@v/v1.0.0 | 422 Unprocessable Entity | plain | bad-time; | m
 PUT R example.com/q/@v/v1.0.0 | 403 Forbidden | plain | forbidden; | module example.com/q; |
 bad-gomod-line
 PUT A example.com/bad/@v/v1.0.0 | 422 Unprocessable Entity | plain | bad-gomod 4; | module example.com/bad;;require (;example.com/x 1.0.0;); |
+go-alone
+PUT A example.com/bad/@v/v1.0.0 | 422 Unprocessable Entity | plain | bad-gomod 0; | go 1.21rc1; |
+another path in the go.mod
+PUT A example.com/bad/@v/v1.0.0 | 422 Unprocessable Entity | plain | module-path; | module example.com/lib; |
 modules-of-a-team
 GET B -/modules | 200 OK | plain | example.com/x;example.com/y;
 GET A -/modules | 200 OK | plain | example.com/Lib;example.com/lib;example.com/ps;example.com/ra;example.com/rb;example.com/rc;example.com/rd;example.com/x;example.com/y;
+unreadable: an empty element, and a version that is not canonical
+PUT A example.com//q/@v/v1.0.0 | 404 Not Found | plain | not found; | module example.com/q; |
+PUT A example.com/q/@v/1.0.0 | 404 Not Found | plain | not found; | module example.com/q; |
 near-pseudo
 PUT A example.com/near/@v/v0.0.0-20240230000000-aaaaaaaaaaaa | 201 Created | plain | published; | module example.com/near; |
 PUT A example.com/near/@v/v1.0.0-0.20230101000000-bbbbbbbbbbbb | 201 Created | plain | published; | module example.com/near; |
 GET A example.com/near/@v/list | 200 OK | plain | v0.0.0-20240230000000-aaaaaaaaaaaa;v1.0.0-0.20230101000000-bbbbbbbbbbbb;
 GET A example.com/near/@latest | 200 OK | json | {\"Version\":\"v1.0.0-0.20230101000000-bbbbbbbbbbbb\"}
+publish-with-time
+PUT A example.com/t/@v/v1.0.0 | 201 Created | plain | published; | module example.com/t; | | Version-Time: 2024-02-29T23:59:59Z;
+GET A example.com/t/@v/v1.0.0.info | 200 OK | json | {\"Time\":\"2024-02-29T23:59:59Z\",\"Version\":\"v1.0.0\"}
+same-without-time
+PUT A example.com/t/@v/v1.0.0 | 409 Conflict | plain | conflict; | module example.com/t; |
+time-against-stamp
+PUT A example.com/t/@v/v0.0.0-20240101000000-aaaaaaaaaaaa | 422 Unprocessable Entity | plain | time-mismatch; | module example.com/t; | | Version-Time: 2024-01-01T00:00:01Z;
+two times, and an empty one
+PUT A example.com/t/@v/v1.1.0 | 422 Unprocessable Entity | plain | bad-time; | module example.com/t; | | Version-Time: 2024-01-01T00:00:00Z;version-time: 2024-01-01T00:00:00Z;
+PUT A example.com/t/@v/v1.1.0 | 422 Unprocessable Entity | plain | bad-time; | module example.com/t; | | Version-Time:;
 ";
 
 /// The key that a letter stands for.
@@ -175,6 +199,19 @@ const CUT: &str =
 const BAD_REQUEST: &str =
     "HTTP/1.1 400 Bad Request\r\nContent-Type: text/plain; charset=utf-8\r\nContent-Length: 12\r\nConnection: close\r\n\r\nbad request\n";
 
+/// The requests of the rows and of the cut one, and the replies to them.
+fn streams(alloc: Global) -> Result<(String, String), AllocError> {
+    let mut input = String::new(alloc);
+    let mut expected = String::new(alloc);
+    for row in ROWS.lines().filter(|row| row.contains('|')) {
+        input.push_str(request(alloc, row)?.as_str())?;
+        expected.push_str(reply(alloc, row)?.as_str())?;
+    }
+    input.push_str(CUT)?;
+    expected.push_str(BAD_REQUEST)?;
+    Ok((input, expected))
+}
+
 #[test]
 fn answers_the_rows_on_a_store_in_a_file(rt: HostRuntime) -> Result<(), Fail> {
     new_folder(&rt, "rows")?;
@@ -187,17 +224,29 @@ fn answers_the_rows_on_a_store_in_a_file(rt: HostRuntime) -> Result<(), Fail> {
     }
     let empty = on_store(&rt, "rows/store.db", "answer", b"")?;
     assert!(rt; empty.status == 0 && empty.output.is_empty());
-    let mut input = String::new(rt.alloc());
-    let mut expected = String::new(rt.alloc());
-    for row in ROWS.lines().filter(|row| row.contains('|')) {
-        input.push_str(request(rt.alloc(), row)?.as_str())?;
-        expected.push_str(reply(rt.alloc(), row)?.as_str())?;
-    }
-    input.push_str(CUT)?;
-    expected.push_str(BAD_REQUEST)?;
+    let (input, expected) = streams(rt.alloc())?;
     let ended = on_store(&rt, "rows/store.db", "answer", input.as_bytes())?;
     assert_eq!(rt; ended.status, 0);
     assert!(rt; ended.output.as_slice() == expected.as_bytes());
     fs::remove_dir_all(&rt, "rows")?;
+    Ok(())
+}
+
+#[test]
+fn answers_the_rows_on_tables_in_memory(rt: HostRuntime) -> Result<(), Fail> {
+    let Ok(mut shelves) = SqlShelves::open_memory(rt.alloc()) else {
+        panic!(rt; "a store opens in memory");
+    };
+    shelves.team_add("alpha")?;
+    shelves.team_add("beta")?;
+    shelves.key_add("alpha", "alphakey00000001", Right::Publishes)?;
+    shelves.key_add("alpha", "alphareader00001", Right::Reads)?;
+    shelves.key_add("beta", "betakey000000001", Right::Publishes)?;
+    shelves.key_add("common", "commonkey0000001", Right::Publishes)?;
+    let (input, expected) = streams(rt.alloc())?;
+    let mut output = Vec::new(rt.alloc());
+    let result = answer_all(rt.alloc(), &mut input.as_bytes(), &mut output, &mut shelves);
+    assert!(rt; result == Ok(()));
+    assert!(rt; output.as_slice() == expected.as_bytes());
     Ok(())
 }

@@ -1,7 +1,5 @@
 mod doubles;
-mod rows;
 mod stream;
-mod streams;
 
 use crate::{Io, answer_all, answer_one};
 use doubles::{Sink, Source, shelves};

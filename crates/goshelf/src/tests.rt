@@ -2,4 +2,5 @@
 mod commands;
 mod rows;
 mod runs;
+mod streams;
 mod words;

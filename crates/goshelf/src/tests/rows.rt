@@ -1,7 +1,9 @@
-//! The worked rows on one store in a file, and the whole reply to each.
+//! The worked rows on one store, in a file, in tables in memory and in maps, and the whole reply to each.
 use crate::tests::runs::{column, new_folder, on_store};
 use engine::answer_all;
 use shelf::entry::Right;
+use shelf::map_shelves::MapShelves;
+use shelf::reply::StoreFault;
 use shelf::shelves::Shelves;
 use std::alloc::{AllocError, Global};
 use std::fs;
@@ -129,7 +131,7 @@ fn kind_of(word: &str) -> &'static str {
 }
 
 /// Puts a text behind another, with this end for each of its lines.
-fn push_lines(to: &mut String, text: &str, end: &str) -> Result<(), AllocError> {
+pub fn push_lines(to: &mut String, text: &str, end: &str) -> Result<(), AllocError> {
     for c in text.chars() {
         if c == ';' {
             to.push_str(end)?;
@@ -171,7 +173,7 @@ fn request(alloc: Global, row: &str) -> Result<String, AllocError> {
 }
 
 /// The bytes of the reply of a row.
-fn reply(alloc: Global, row: &str) -> Result<String, AllocError> {
+pub fn reply(alloc: Global, row: &str) -> Result<String, AllocError> {
     let mut body = String::new(alloc);
     push_lines(&mut body, column(row, 3), "\n")?;
     format!(in alloc;
@@ -232,21 +234,50 @@ fn answers_the_rows_on_a_store_in_a_file(rt: HostRuntime) -> Result<(), Fail> {
     Ok(())
 }
 
-#[test]
-fn answers_the_rows_on_tables_in_memory(rt: HostRuntime) -> Result<(), Fail> {
-    let Ok(mut shelves) = SqlShelves::open_memory(rt.alloc()) else {
-        panic!(rt; "a store opens in memory");
-    };
+/// Adds the teams and the keys that the rows begin on.
+pub fn register<S: Shelves>(shelves: &mut S) -> Result<(), StoreFault> {
     shelves.team_add("alpha")?;
     shelves.team_add("beta")?;
     shelves.key_add("alpha", "alphakey00000001", Right::Publishes)?;
     shelves.key_add("alpha", "alphareader00001", Right::Reads)?;
     shelves.key_add("beta", "betakey000000001", Right::Publishes)?;
     shelves.key_add("common", "commonkey0000001", Right::Publishes)?;
+    Ok(())
+}
+
+/// What is written for a stream.
+pub fn answered<S: Shelves>(
+    alloc: Global,
+    shelves: &mut S,
+    stream: &[u8],
+) -> Result<Vec<u8>, Fail> {
+    let mut reader = stream;
+    let mut output = Vec::new(alloc);
+    answer_all(alloc, &mut reader, &mut output, shelves)?;
+    Ok(output)
+}
+
+#[test]
+fn answers_the_rows_on_tables_in_memory(rt: HostRuntime) -> Result<(), Fail> {
+    let Ok(mut shelves) = SqlShelves::open_memory(rt.alloc()) else {
+        panic!(rt; "a store opens in memory");
+    };
+    register(&mut shelves)?;
     let (input, expected) = streams(rt.alloc())?;
-    let mut output = Vec::new(rt.alloc());
-    let result = answer_all(rt.alloc(), &mut input.as_bytes(), &mut output, &mut shelves);
-    assert!(rt; result == Ok(()));
+    let output = answered(rt.alloc(), &mut shelves, input.as_bytes())?;
     assert!(rt; output.as_slice() == expected.as_bytes());
+    Ok(())
+}
+
+#[test]
+fn answers_the_rows_on_maps(rt: HostRuntime) -> Result<(), Fail> {
+    let mut shelves = MapShelves::new(rt.alloc())?;
+    register(&mut shelves)?;
+    for row in ROWS.lines().filter(|row| row.contains('|')) {
+        let input = request(rt.alloc(), row)?;
+        let expected = reply(rt.alloc(), row)?;
+        let output = answered(rt.alloc(), &mut shelves, input.as_bytes())?;
+        assert!(rt; output.as_slice() == expected.as_bytes(), "{row}");
+    }
     Ok(())
 }

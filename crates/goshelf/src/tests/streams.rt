@@ -1,7 +1,9 @@
 //! Streams as they stand, and the replies to each.
-use crate::tests::doubles::shelves;
-use crate::tests::rows::{answered, column, push_lines, reply};
+use crate::tests::rows::{answered, push_lines, register, reply};
+use crate::tests::runs::column;
+use shelf::map_shelves::MapShelves;
 use std::alloc::{AllocError, Global};
+use std::test::Fail;
 
 /// Streams on one store, one a line: the bytes; status, kind and body of each reply, of which `&` stands before the second. `;`
 /// stands for the end of a line. A line without columns names those below it.
@@ -39,12 +41,14 @@ fn replies(alloc: Global, row: &str) -> Result<String, AllocError> {
 }
 
 #[test]
-fn answers_each_stream(rt: HostRuntime) {
-    let mut shelves = shelves(rt.alloc()).expect(&rt, "shelves");
+fn answers_each_stream(rt: HostRuntime) -> Result<(), Fail> {
+    let mut shelves = MapShelves::new(rt.alloc())?;
+    register(&mut shelves)?;
     for row in STREAMS.lines().filter(|row| row.contains('|')) {
-        let input = stream(rt.alloc(), row).expect(&rt, "a stream");
-        let expected = replies(rt.alloc(), row).expect(&rt, "the replies");
-        let out = answered(rt.alloc(), &mut shelves, input.as_bytes()).expect(&rt, "an answer");
-        assert!(rt; out.as_slice() == expected.as_bytes(), "{row}");
+        let input = stream(rt.alloc(), row)?;
+        let expected = replies(rt.alloc(), row)?;
+        let output = answered(rt.alloc(), &mut shelves, input.as_bytes())?;
+        assert!(rt; output.as_slice() == expected.as_bytes(), "{row}");
     }
+    Ok(())
 }

@@ -1,9 +1,11 @@
 //! Answers to GETs over any store. (Go Modules Reference, "GOPROXY protocol".)
-ghost use Rattle.std.specs.Prelude.{◌≡◌, ℕ, List, IfOk};
+ghost use Rattle.std.specs.Prelude.{◌≡◌, ℕ, List, Option, IfOk};
 ghost use Rattle.std.specs.FinMap as map;
 ghost use Rattle.shelf.specs.Machine as spec;
 ghost use Rattle.shelf.specs.Machine.{keyed_reply, latest_of, latest_reply};
 ghost use Rattle.world.specs.Store.{Reads, HasCause};
+ghost use Rattle.world.specs.World.{without_zip};
+ghost use Rattle.world.specs.declared.entry.Seen.{Seen};
 ghost use Rattle.shelf.specs.Versions.{AllOf};
 
 use crate::ask::Query;
@@ -13,7 +15,7 @@ use gomod::GoMod;
 use modpath::ModulePath;
 use modver::Version;
 use std::alloc::{AllocError, Global};
-use world::entry::Seen;
+use world::entry::{Heading, Seen};
 use world::reading::Reading;
 use world::shelves::Shelves;
 
@@ -33,16 +35,16 @@ pub fn answer_query<S: Shelves>(
     let shelf = holder.shelf.as_str();
     match query {
         Query::GoMod { path, version } => {
-            let seen = shelves.entry(shelf, path, version)?;
-            Ok(gomod_reply(seen))
+            let heading = shelves.heading(shelf, path, version)?;
+            Ok(gomod_reply(heading))
         }
         Query::Zip { path, version } => {
             let seen = shelves.entry(shelf, path, version)?;
             Ok(zip_reply(seen))
         }
         Query::Info { path, version } => {
-            let seen = shelves.entry(shelf, path, version)?;
-            Ok(info_reply(version.copy(alloc)?, seen))
+            let heading = shelves.heading(shelf, path, version)?;
+            Ok(info_reply(version.copy(alloc)?, heading))
         }
         Query::List { path } => {
             let texts = shelves.versions(shelf, path)?;
@@ -54,30 +56,24 @@ pub fn answer_query<S: Shelves>(
     }
 }
 
-fn info_reply(version: Version, seen: Option<Seen>) -> Reply
-    ensures { result ≡ spec.info_reply version seen }
+fn info_reply(version: Version, heading: Option<Heading>) -> Reply
+    ensures { (seen : Option Seen) → heading ≡ without_zip seen → result ≡ spec.info_reply version seen }
 {
-    match seen {
+    match heading {
         None => Reply::NotFound,
-        Some(seen) => {
-            let entry = seen.entry;
-            Reply::Info {
-                version,
-                time: entry.time,
-            }
-        }
+        Some(heading) => Reply::Info {
+            version,
+            time: heading.time,
+        },
     }
 }
 
-fn gomod_reply(seen: Option<Seen>) -> Reply
-    ensures { result ≡ spec.gomod_reply seen }
+fn gomod_reply(heading: Option<Heading>) -> Reply
+    ensures { (seen : Option Seen) → heading ≡ without_zip seen → result ≡ spec.gomod_reply seen }
 {
-    match seen {
+    match heading {
         None => Reply::NotFound,
-        Some(seen) => {
-            let entry = seen.entry;
-            Reply::GoMod(entry.gomod)
-        }
+        Some(heading) => Reply::GoMod(heading.gomod),
     }
 }
 
@@ -116,8 +112,8 @@ fn answer_latest<S: Shelves>(
     let Some(version) = latest_version(alloc, shelves, shelf, path)? else {
         return Ok(Reply::NotFound);
     };
-    let seen = shelves.entry(shelf, path, &version)?;
-    Ok(info_reply(version, seen))
+    let heading = shelves.heading(shelf, path, &version)?;
+    Ok(info_reply(version, heading))
 }
 
 /// The highest version of a path that the go.mod of the highest does not retract.
@@ -135,8 +131,8 @@ fn latest_version<S: Shelves>(
     let Some(newest) = highest(versions.as_slice()) else {
         return Ok(None);
     };
-    let seen = shelves.entry(shelf, path, newest)?;
-    let gomod = gomod_seen(alloc, seen)?;
+    let heading = shelves.heading(shelf, path, newest)?;
+    let gomod = gomod_in(alloc, heading)?;
     Ok(latest_left(alloc, versions.as_slice(), gomod)?)
 }
 
@@ -158,13 +154,13 @@ fn latest_left(
 }
 
 /// What the go.mod of a version says.
-fn gomod_seen(alloc: Global, seen: Option<Seen>) -> Result<Option<GoMod>, AllocError>
-    ensures { IfOk result (λ m. m ≡ spec.module_of seen) }
+fn gomod_in(alloc: Global, heading: Option<Heading>) -> Result<Option<GoMod>, AllocError>
+    ensures { IfOk result (λ m. (seen : Option Seen) → heading ≡ without_zip seen → m ≡ spec.module_of seen) }
 {
-    let Some(seen) = seen else {
+    let Some(heading) = heading else {
         return Ok(None);
     };
-    match Reading::of(alloc, seen.entry.gomod.as_slice())? {
+    match Reading::of(alloc, heading.gomod.as_slice())? {
         Reading::Module(gomod) => Ok(Some(gomod)),
         Reading::Fault(_) => Ok(None),
     }

@@ -8,13 +8,9 @@ use Rattle.modver.specs.declared.version.Class.TheVariants as class
 use Rattle.world.specs.declared.entry.Entry.{Entry}
 use Rattle.world.specs.declared.reading.Reading.{Reading}
 use Rattle.world.specs.declared.reading.Reading.TheVariants.{Module, Fault}
-use Rattle.world.specs.Forms.{fits, is_path, is_time, suffix_of}
+use Rattle.world.specs.Forms.{fits, path_of, is_time, suffix_of}
 use Rattle.world.specs.GoMods.{reading_of}
 use Rattle.world.specs.World.{IsEntry, place, gomod_limit, zip_limit}
-
--- the path that a text is
-abbrev pub path_of : List ℕ → Option (List ℕ)
-path_of t = if is_path t then Some t else None
 
 -- the files are within the limits
 abbrev pub is_small : Entry → Bool

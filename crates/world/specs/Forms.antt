@@ -1,11 +1,15 @@
 -- The forms of paths and of versions, by the definitions of their own crates.
-use Rattle.std.specs.Prelude.{ℕ, List, Bool, ◌&&◌}
+use Rattle.std.specs.Prelude.{ℕ, List, Bool, ◌&&◌, if◌then◌else◌, Option, Some, None}
 use Rattle.modver.specs.Time.{has_time_form, is_moment}
 use Rattle.modver.specs.Reading.{IsCanonical}
 use Rattle.modver.specs.SemanticVersion.{SemanticVersion}
 unfoldable pub use Rattle.modver.specs.SemanticVersion.{is_version}
 pub use Rattle.modver.specs.Fits.{fits}
 pub use Rattle.modpath.specs.Path.{IsPath, is_path, suffix_of}
+
+-- the path that a text is, if it is one
+abbrev pub path_of : List ℕ → Option (List ℕ)
+path_of t = if is_path t then Some t else None
 
 -- a text is that of some version
 abbrev pub IsVersionText : List ℕ → Type 0

@@ -1,5 +1,5 @@
 -- What stands on the shelves, and what each shelf sees of it.
-use Rattle.std.specs.Prelude.{ℕ, List, [], ◌∷◌, true, ◌&&◌, Option, Some, None, bytes_eq, ◌≡◌, ◌≤◌, ◌⊎◌, length}
+use Rattle.std.specs.Prelude.{ℕ, List, [], ◌∷◌, true, ◌&&◌, Option, Some, None, bytes_eq, ◌≡◌, ◌≤◌, ◌⊎◌, length, option_map}
 use Rattle.std.specs.Option.{option_or}
 use Rattle.std.specs.Ordering.{nat_cmp, ordering_then}
 use Rattle.std.specs.Cmp.Lexicographic.{slice_cmp}
@@ -8,6 +8,7 @@ use Rattle.std.specs.FinMap as map
 use Rattle.std.specs.FinSet as set
 use Rattle.world.specs.declared.entry.Place.{Place}
 use Rattle.world.specs.declared.entry.Entry.{Entry}
+use Rattle.world.specs.declared.entry.Heading.{Heading}
 use Rattle.world.specs.declared.entry.Seen.{Seen}
 use Rattle.world.specs.declared.entry.Holder.{Holder}
 use Rattle.world.specs.Forms.{IsPath, IsVersionText, fits, suffix_of}
@@ -54,6 +55,18 @@ first_on w (s ∷ ss) p v = option_or (seen_at (map.get w.entries (place s p v))
 -- what a shelf sees of a version: its own entry if it has one, else that of common
 abbrev pub view : World → List ℕ → List ℕ → List ℕ → Option Seen
 view w s p v = first_on w (chain w s) p v
+
+-- what an entry shows without its zip
+abbrev pub heading_of : Entry → Heading
+heading_of e = record { gomod = e.gomod; time = e.time }
+
+-- what is seen of an entry without its zip
+abbrev pub without_zip : Option Seen → Option Heading
+without_zip seen = option_map (λ it. heading_of it.entry) seen
+
+-- what a shelf sees of a version without its zip
+abbrev pub heading : World → List ℕ → List ℕ → List ℕ → Option Heading
+heading w s p v = without_zip (view w s p v)
 
 -- the entries that stand on one shelf
 abbrev pub on_shelf : World → List ℕ → map.FinMap place_cmp Entry

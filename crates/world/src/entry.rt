@@ -1,6 +1,6 @@
 //! What stands on a shelf, and who may ask for it.
 ghost use Rattle.std.specs.Prelude.{◌≡◌, IfOk};
-ghost use Rattle.world.specs.World.{place};
+ghost use Rattle.world.specs.World.{place, heading_of};
 
 use crate::bytes::Bytes;
 use crate::text::Text;
@@ -27,6 +27,13 @@ pub struct Place {
 pub struct Entry {
     pub gomod: Bytes,
     pub zip: Bytes,
+    pub time: Option<TimeText>,
+}
+
+/// What a published version shows without its zip.
+#[derive(Drop)]
+pub struct Heading {
+    pub gomod: Bytes,
     pub time: Option<TimeText>,
 }
 
@@ -96,6 +103,17 @@ impl Entry {
             gomod,
             zip,
             time: entry.time,
+        })
+    }
+
+    /// A copy of what it shows without its zip.
+    pub fn heading(&self, alloc: Global) -> Result<Heading, AllocError>
+        ensures { IfOk result (λ h. h ≡ heading_of self.now) }
+    {
+        let gomod = Bytes::copy_of(alloc, self.gomod.as_slice())?;
+        Ok(Heading {
+            gomod,
+            time: self.time,
         })
     }
 

@@ -7,9 +7,9 @@ ghost use Rattle.world.specs.GoMods.{reading_of};
 mod tests;
 
 use crate::entry::{EntryRef, MAX_GOMOD, MAX_ZIP};
+use crate::named::{path_of, version_of};
 use crate::reading::Reading;
-use crate::version_text::version_of;
-use modpath::{ModulePath, PathError};
+use modpath::ModulePath;
 use modver::{Class, TimeText, Version, class, fits};
 use std::alloc::{AllocError, Global};
 
@@ -34,17 +34,6 @@ pub fn may_stand(
         return Ok(false);
     }
     has_gomod_of(alloc, &path, &version, entry.gomod)
-}
-
-/// The path that a text is, if it is one.
-fn path_of(alloc: Global, text: &str) -> Result<Option<ModulePath>, AllocError>
-    ensures { IfOk result (λ p. p ≡ spec.path_of text.now) }
-{
-    match ModulePath::parse(alloc, text) {
-        Ok(path) => Ok(Some(path)),
-        Err(PathError::Memory) => Err(AllocError),
-        Err(PathError::Fault(_)) => Ok(None),
-    }
 }
 
 fn is_small(entry: &EntryRef) -> bool

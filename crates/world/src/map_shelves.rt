@@ -1,10 +1,10 @@
 //! Shelves in memory.
-ghost use Rattle.std.specs.Prelude.{◌≡◌, IfOk};
+ghost use Rattle.std.specs.Prelude.{◌≡◌, option_copied, option_map, IfOk};
 ghost use Rattle.std.specs.FinMap as map;
 ghost use Rattle.modver.specs.SemanticVersion.{version_text};
-ghost use Rattle.world.specs.World.{only_common, place, seen_at};
+ghost use Rattle.world.specs.World.{only_common, place, seen_at, heading_of};
 
-use crate::entry::{Entry, EntryRef, Holder, Right, Seen};
+use crate::entry::{Entry, EntryRef, Heading, Holder, Right, Seen};
 use crate::maps::entry_map::EntryMap;
 use crate::maps::text_map::TextMap;
 use crate::names;
@@ -55,6 +55,13 @@ impl MapShelves {
         })
     }
 
+    /// What stands on a shelf.
+    fn entry_on(&self, shelf: &str, path: &ModulePath, version: &Version) -> Option<&Entry>
+        ensures { option_copied result ≡ map.get self.now.entries (place shelf.now path.now (version_text version.now)) }
+    {
+        self.entries.get(shelf, path.as_str(), version.as_str())
+    }
+
     /// A copy of what stands on a shelf.
     fn seen_on(
         &self,
@@ -64,13 +71,28 @@ impl MapShelves {
     ) -> Result<Option<Seen>, AllocError>
         ensures { IfOk result (λ seen. seen ≡ seen_at (map.get self.now.entries (place shelf.now path.now (version_text version.now))) shelf.now) }
     {
-        match self.entries.get(shelf, path.as_str(), version.as_str()) {
+        match self.entry_on(shelf, path, version) {
             None => Ok(None),
             Some(entry) => {
                 let shelf = Text::copy_of(self.alloc, shelf)?;
                 let entry = Entry::copy_of(self.alloc, &entry.as_ref())?;
                 Ok(Some(Seen { shelf, entry }))
             }
+        }
+    }
+
+    /// A copy of what stands on a shelf, without its zip.
+    fn heading_on(
+        &self,
+        shelf: &str,
+        path: &ModulePath,
+        version: &Version,
+    ) -> Result<Option<Heading>, AllocError>
+        ensures { IfOk result (λ h. h ≡ option_map heading_of (map.get self.now.entries (place shelf.now path.now (version_text version.now)))) }
+    {
+        match self.entry_on(shelf, path, version) {
+            None => Ok(None),
+            Some(entry) => Ok(Some(entry.heading(self.alloc)?)),
         }
     }
 }
@@ -109,6 +131,19 @@ impl Shelves for MapShelves {
             return Ok(own);
         }
         Ok(self.seen_on(COMMON, path, version)?)
+    }
+
+    fn heading(
+        &mut self,
+        shelf: &str,
+        path: &ModulePath,
+        version: &Version,
+    ) -> Result<Option<Heading>, StoreFault> {
+        let own = self.heading_on(shelf, path, version)?;
+        if own.is_some() {
+            return Ok(own);
+        }
+        Ok(self.heading_on(COMMON, path, version)?)
     }
 
     fn versions(&mut self, shelf: &str, path: &ModulePath) -> Result<TextSet, StoreFault> {

@@ -1,5 +1,5 @@
 //! A store of shelves.
-use crate::entry::{EntryRef, Holder, Right, Seen};
+use crate::entry::{EntryRef, Heading, Holder, Right, Seen};
 use crate::registry::{Registered, StoreFault};
 use crate::text_set::TextSet;
 use modpath::ModulePath;
@@ -11,7 +11,7 @@ pub trait Shelves {
     ghost use Rattle.std.specs.Prelude.{ℕ, ◌≡◌};
     ghost use Rattle.std.specs.FinMap as map;
     ghost use Rattle.modver.specs.SemanticVersion.{version_text};
-    ghost use Rattle.world.specs.World.{World, IsWorld, place, view, count, with_entry};
+    ghost use Rattle.world.specs.World.{World, IsWorld, place, view, heading, count, with_entry};
     ghost use Rattle.world.specs.Registry.{team_added, after_team_add, key_added, after_key_add, key_revoked, after_key_revoke};
     ghost use Rattle.world.specs.Visible.{versions_seen, paths_seen};
     ghost use Rattle.world.specs.Store.{Shown, Does, DoesWhere, Reads, IsRoomFor, HasCause};
@@ -39,6 +39,16 @@ pub trait Shelves {
         version: &Version,
     ) -> Result<Option<Seen>, StoreFault>
         ensures reads { Reads (shown self.old) (shown self.new) result (λ w. view w shelf.now path.now (version_text version.now)) }
+        ensures cause { HasCause (failure_count self.old) (failure_count self.new) result };
+
+    /// What the shelf sees of the version without its zip.
+    fn heading(
+        &mut self,
+        shelf: &str,
+        path: &ModulePath,
+        version: &Version,
+    ) -> Result<Option<Heading>, StoreFault>
+        ensures reads { Reads (shown self.old) (shown self.new) result (λ w. heading w shelf.now path.now (version_text version.now)) }
         ensures cause { HasCause (failure_count self.old) (failure_count self.new) result };
 
     /// The texts of the versions of the path that the shelf sees.

@@ -115,3 +115,54 @@ fn the_time_of_an_entry(rt: HostRuntime) -> Result<(), Fail> {
     assert!(rt; time.as_str() == "2024-02-29T23:59:59Z");
     Ok(())
 }
+
+/// Puts `example.com/x` `v1.0.0` with this go.mod.
+fn put_gomod(
+    alloc: Global,
+    shelves: &mut MapShelves,
+    shelf: &str,
+    gomod: &str,
+) -> Result<(), Fail> {
+    let path = ModulePath::parse(alloc, "example.com/x")?;
+    let version = Version::parse(alloc, "v1.0.0")?;
+    let entry = EntryRef {
+        gomod: gomod.as_bytes(),
+        zip: b"zip",
+        time: Some(read_time("2024-02-29T23:59:59Z")?),
+    };
+    shelves.insert(shelf, &path, &version, &entry)?;
+    Ok(())
+}
+
+/// Whether a shelf sees this go.mod and that time of `example.com/x` `v1.0.0`.
+fn shows(alloc: Global, shelves: &mut MapShelves, shelf: &str, gomod: &str) -> Result<bool, Fail> {
+    let path = ModulePath::parse(alloc, "example.com/x")?;
+    let version = Version::parse(alloc, "v1.0.0")?;
+    let heading = shelves
+        .heading(shelf, &path, &version)?
+        .ok_or("no heading")?;
+    let time = heading.time.ok_or("no time")?;
+    Ok(heading.gomod.as_slice() == gomod.as_bytes() && time.as_str() == "2024-02-29T23:59:59Z")
+}
+
+#[test]
+fn the_heading_of_the_own_shelf_before_that_of_common(rt: HostRuntime) -> Result<(), Fail> {
+    let mut shelves = MapShelves::new(rt.alloc())?;
+    put_gomod(rt.alloc(), &mut shelves, "common", "module example.com/x\n")?;
+    put_gomod(
+        rt.alloc(),
+        &mut shelves,
+        "alpha",
+        "module \"example.com/x\"\n",
+    )?;
+    assert!(rt;
+        shows(
+            rt.alloc(),
+            &mut shelves,
+            "alpha",
+            "module \"example.com/x\"\n"
+        )?
+    );
+    assert!(rt; shows(rt.alloc(), &mut shelves, "beta", "module example.com/x\n")?);
+    Ok(())
+}

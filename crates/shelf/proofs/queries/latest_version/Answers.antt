@@ -1,4 +1,6 @@
-use Rattle.std.proofs.Common.{◌≡◌, ℕ, List, Some, None}
+use Rattle.std.proofs.Common.{◌≡◌, ℕ, List, Some, None, refl}
+use Rattle.modver.specs.SemanticVersion.{version_text}
+use Rattle.world.specs.World.{view}
 use Rattle.shelf.specs.Versions.{AllOf, highest}
 use Rattle.shelf.proofs.Newest.{all_fit, no_latest, the_latest}
 use Rattle.shelf.proofs.queries.latest_version.Goals as goal
@@ -26,7 +28,7 @@ returns-clause-reads g c =
     let texts = c.in_ok-texts.texts in
     let vs = c.in_ok-versions.versions.items in
     let read = c.in_ok-texts.ensures.reads in
-    let then = c.in_ok-seen.ensures.reads in
+    let then = c.in_ok-heading.ensures.reads in
     let top : (path : List ℕ) → AllOf path vs → Some c.in-Some.newest.now ≡ highest vs = rw c.as_slice.ensures.value at c.in-Some.ensures in
     let left = rw c.as_slice-2.ensures.value at c.in_ok-latest_left.ensures in
     record {
@@ -36,7 +38,7 @@ returns-clause-reads g c =
           let seen = then.at h w told.stays in
           let all = all_fit w s p texts vs told.answer c.in_ok-versions.ensures (g.met.S.Shelves.sound _ w stands) in
           record {
-            answer = the_latest w s p texts vs told.answer c.in_ok-versions.ensures c.in-Some.newest.now c.in_ok-seen.seen _ _ (top p all) seen.answer c.in_ok-gomod.ensures (left p all);
+            answer = the_latest w s p texts vs told.answer c.in_ok-versions.ensures c.in-Some.newest.now (view w s p (version_text c.in-Some.newest.now)) _ _ (top p all) refl (c.in_ok-gomod.ensures _ seen.answer) (left p all);
             stays = seen.stays;
             left = λ was. seen.left (told.left was);
           };

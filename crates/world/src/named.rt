@@ -1,9 +1,22 @@
-//! The version that a text names.
+//! The path and the version that a text names.
 ghost use Rattle.std.specs.Prelude.{◌≡◌, IfOk};
 ghost use Rattle.modver.specs.Reading.{version_of};
+ghost use Rattle.world.specs.Forms.{path_of};
 
+use modpath::{ModulePath, PathError};
 use modver::{Version, VersionFault};
 use std::alloc::{AllocError, Global};
+
+/// The path that a text is, if it is one.
+pub fn path_of(alloc: Global, text: &str) -> Result<Option<ModulePath>, AllocError>
+    ensures { IfOk result (λ p. p ≡ path_of text.now) }
+{
+    match ModulePath::parse(alloc, text) {
+        Ok(path) => Ok(Some(path)),
+        Err(PathError::Memory) => Err(AllocError),
+        Err(PathError::Fault(_)) => Ok(None),
+    }
+}
 
 /// The version that a text names, if it names one.
 pub fn version_of(alloc: Global, text: &str) -> Result<Option<Version>, AllocError>

@@ -11,7 +11,7 @@ use latest::{latest, top};
 use modver::{Class, Version, class};
 use std::alloc::{AllocError, Global};
 use world::text_set::TextSet;
-use world::named::version_of;
+use world::forms::version_of;
 
 /// The versions that texts name, in the order of the texts.
 pub fn named(alloc: Global, texts: &TextSet) -> Result<Vec<Version>, AllocError>

@@ -7,7 +7,7 @@ ghost use Rattle.world.specs.GoMods.{reading_of};
 mod tests;
 
 use crate::entry::{EntryRef, MAX_GOMOD, MAX_ZIP};
-use crate::named::{path_of, version_of};
+use crate::forms::{path_of, version_of};
 use crate::reading::Reading;
 use modpath::ModulePath;
 use modver::{Class, TimeText, Version, class, fits};

@@ -20,10 +20,10 @@
 pub mod bytes;
 pub mod entry;
 pub mod entry_test;
+pub mod forms;
 pub mod laws;
 pub mod map_shelves;
 mod maps;
-pub mod named;
 pub mod names;
 pub mod reading;
 pub mod registry;

@@ -24,7 +24,7 @@ use Rattle.world.specs.declared.entry.Place.{Place}
 use Rattle.world.specs.World.{text_cmp, place_cmp, version_limit}
 use Rattle.world.proofs.Orders.{texts_total, texts_exact, places_total, places_exact}
 use Rattle.store.specs.Schema.{store_schema}
-use Rattle.store.specs.Walks.{Looks, Tests, Pass, Walks}
+use Rattle.store.specs.Walks.{Looks, Tests, Pass, Walks, MayFollow, run_with}
 use Rattle.store.specs.Fit
 use Rattle.store.specs.Fit.{joined}
 use Rattle.store.specs.declared.fit.MetaRows.{MetaRows}
@@ -250,10 +250,10 @@ module _ (db : Database) where
 -- ---- version and body
 
 abbrev pub EntryFits : EntryRows → Row → Type 0
-EntryFits rows row = Fit.IsEntryRow row × Fit.MayFollow rows.last rows.many (Fit.place_in row)
+EntryFits rows row = Fit.IsEntryRow row × MayFollow rows.last rows.many (Fit.place_in row)
 
 abbrev pub EntryKeeps : EntryRows → Row → EntryRows → Type 0
-EntryKeeps rows row next = (next.last ≡ Some (Fit.place_in row)) × (next.many ≡ Fit.run_with rows.last rows.many (Fit.place_in row))
+EntryKeeps rows row next = (next.last ≡ Some (Fit.place_in row)) × (next.many ≡ run_with rows.last rows.many (Fit.place_in row))
 
 abbrev PlacesApart : Row → Row → Type 0
 PlacesApart a b = Fit.place_in a ≡ Fit.place_in b → ⊥
@@ -277,7 +277,7 @@ places_in_order a b one two = rw (one.0, one.1, one.2, two.0, two.1, two.2)
     (ordering_then (value_cmp-Text (Fit.place_in a).path (Fit.place_in b).path i)
     ((then-Equal _ ∙ value_cmp-Text (Fit.place_in a).version (Fit.place_in b).version) i)))
 
-may_differ : (o : Option Place) (many : ℕ) (q : Place) → Fit.MayFollow o many q → o ≡ Some q → ⊥
+may_differ : (o : Option Place) (many : ℕ) (q : Place) → MayFollow o many q → o ≡ Some q → ⊥
 may_differ None many q may is = let e = is in absurd (cc)
 may_differ (Some p) many q may is = may.0 (let e = is in cc)
 
@@ -314,7 +314,7 @@ module _ (db : Database) (start end : EntryRows) where
       w.5 (fit.each w.1 (has_permuted _ _ w.1 same (at_place w.0 first.0 w.1)), follows w first.0 once few w.2.last refl)
     where
       follows : (w : Walks EntryFits EntryKeeps entry_rows_text db start end false) (tail : List Row) → IsAscending PlacesApart ((w.0 ++ w.1 ∷ []) ++ tail) → ((s p : List ℕ) → many_on s p ((w.0 ++ w.1 ∷ []) ++ tail) ≤ version_limit)
-          → (o : Option Place) → w.2.last ≡ o → Fit.MayFollow o w.2.many (Fit.place_in w.1)
+          → (o : Option Place) → w.2.last ≡ o → MayFollow o w.2.many (Fit.place_in w.1)
       follows w tail once few None is = tt
       follows w tail once few (Some p) is =
           let row = w.1 in (

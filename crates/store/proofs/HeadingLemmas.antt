@@ -1,5 +1,5 @@
--- What the queries of an entry answer.
-use Rattle.std.proofs.Common.{◌≡◌, ◌&&◌, ℕ, ℤ, Bool, true, false, List, [], ◌∷◌, Option, Some, None, refl, sym, ap, subst, ◌∙◌, codes, true≢false}
+-- What the queries of an entry and of its heading answer.
+use Rattle.std.proofs.Common.{◌≡◌, ◌&&◌, ℕ, ℤ, Bool, true, false, List, [], ◌∷◌, Option, Some, None, refl, sym, ap, subst, ◌∙◌, option_map, codes, true≢false}
 use Rattle.std.specs.Option.{option_or}
 use Rattle.std.proofs.lemmas.Bool.{and_parts}
 use Rattle.std.specs.FinMap as map
@@ -20,14 +20,15 @@ use Rattle.sqlite_schema.specs.Rules.{equal}
 use Rattle.world.specs.declared.entry.Place.{Place}
 use Rattle.world.specs.declared.entry.Entry.{Entry}
 use Rattle.world.specs.declared.entry.Seen.{Seen}
-use Rattle.world.specs.World.{World, common, place, seen_at, view}
+use Rattle.world.specs.declared.entry.Heading.{Heading}
+use Rattle.world.specs.World.{World, common, place, seen_at, view, first_on, heading_of, without_zip, heading}
 use Rattle.store.specs.Schema.{store_schema}
-use Rattle.store.specs.declared.entries.Heading.{Heading}
+use Rattle.store.specs.declared.entries.VersionRow.{VersionRow}
 use Rattle.store.specs.Means.{Means, IsVersion, IsAt}
-use Rattle.store.specs.Reading.{IsHeading, HasZip}
+use Rattle.store.specs.Reading.{IsRowOf, HasZip}
 use Rattle.store.specs.Lookup.{lookup, passes, FirstFound}
 use Rattle.store.specs.Calls.{Selects}
-use Rattle.store.proofs.Texts.{heading_text, zip_text}
+use Rattle.store.proofs.Texts.{row_text, zip_text}
 use Rattle.store.proofs.ValueLemmas.{equals_text, equals_itself}
 use Rattle.store.proofs.LookupLemmas.{selected_found}
 use Rattle.store.proofs.TransactionLemmas.{same_place}
@@ -35,20 +36,20 @@ use Rattle.store.proofs.TransactionLemmas.{same_place}
 abbrev pub by_place : List Term
 by_place = op2 (Compare Eq Binary) (col 1 2) (col 0 0) ∷ op2 (Compare Eq Binary) (col 1 3) (col 0 1) ∷ op2 (Compare Eq Binary) (col 1 4) (col 0 2) ∷ []
 
-abbrev pub heading : List Term
-heading = col 1 0 ∷ col 1 2 ∷ col 1 5 ∷ col 1 6 ∷ []
+abbrev pub row_shown : List Term
+row_shown = col 1 0 ∷ col 1 2 ∷ col 1 5 ∷ col 1 6 ∷ []
 
-heading_is : command_of (understood store_schema heading_text) ≡ Select (record { lets = []; body = lookup 6 by_place heading }) (codes "id" ∷ codes "shelf" ∷ codes "time" ∷ codes "mod" ∷ [])
+row_is : command_of (understood store_schema row_text) ≡ Select (record { lets = []; body = lookup 6 by_place row_shown }) (codes "id" ∷ codes "shelf" ∷ codes "time" ∷ codes "mod" ∷ [])
 unfolding understood everything
-heading_is = refl
+row_is = refl
 
-pub heading_plain : IsPlain (understood store_schema heading_text)
+pub row_plain : IsPlain (understood store_schema row_text)
 unfolding understood everything
-heading_plain = (refl, refl)
+row_plain = (refl, refl)
 
-pub heading_tables : reads_listing store_schema heading_text ≡ false
+pub row_tables : reads_listing store_schema row_text ≡ false
 unfolding understood everything
-heading_tables = refl
+row_tables = refl
 
 abbrev by_number : List Term
 by_number = op2 (Compare Eq Binary) (col 1 0) (col 0 0) ∷ []
@@ -86,13 +87,15 @@ module _ (p : Place) (db : Database) (w : World) (means : Means db.trees w) wher
   passes_own : (row : Row) → IsAt row p → passes by_place (place_params p) row ≡ true
   passes_own row at = rw (at.0, at.1, at.2, equals_itself p.shelf, equals_itself p.path, equals_itself p.version) refl
 
-  heading_some : (out : Row) (h : Heading) → FirstFound (db.trees 6) by_place heading (place_params p) (Some out) → column out 0 ≡ Int h.id → column out 1 ≡ Text h.shelf → column out 2 ≡ or_null Text h.time → column out 3 ≡ Blob h.gomod → IsHeading db.trees w p h
-  heading_some out h found id shelf time gomod =
+  row_some : (out : Row) (v : VersionRow) → FirstFound (db.trees 6) by_place row_shown (place_params p) (Some out)
+      → column out 0 ≡ Int v.id → column out 1 ≡ Text v.shelf → column out 2 ≡ or_null Text v.heading.time → column out 3 ≡ Blob v.heading.gomod → IsRowOf db.trees w p v
+  row_some out v found id shelf time gomod =
       let it = means.entries.each found.0 found.1 in
       let at = passes_at found.0 found.2 in
       let same : it.0.0 ≡ p = same_place found.0 it.0.0 p it.1.place at in
-      let shelves : h.shelf ≡ p.shelf = let e = sym shelf ∙ (ap (λ (r : Row). column r 1) found.3 ∙ at.0) in cc in
-      let mods : h.gomod ≡ it.0.1.gomod = let e = sym gomod ∙ (ap (λ (r : Row). column r 3) found.3 ∙ it.1.gomod) in cc in
+      let shelves : v.shelf ≡ p.shelf = let e = sym shelf ∙ (ap (λ (r : Row). column r 1) found.3 ∙ at.0) in cc in
+      let mods : v.heading.gomod ≡ it.0.1.gomod = let e = sym gomod ∙ (ap (λ (r : Row). column r 3) found.3 ∙ it.1.gomod) in cc in
+      let times = same_time v.heading.time it.0.1.time (sym time ∙ (ap (λ (r : Row). column r 2) found.3 ∙ it.1.time)) in
       record {
         row = found.0;
         entry = it.0.1;
@@ -100,22 +103,22 @@ module _ (p : Place) (db : Database) (w : World) (means : Means db.trees w) wher
         is = subst (λ q. IsVersion (db.trees 8) found.0 (q, it.0.1)) same it.1;
         id = sym (ap (λ (r : Row). column r 0) found.3) ∙ id;
         shelf = shelves;
-        time = same_time h.time it.0.1.time (sym time ∙ (ap (λ (r : Row). column r 2) found.3 ∙ it.1.time));
-        gomod = mods;
+        heading = λ i. record { gomod = mods i; time = times i };
       }
 
-  heading_none : FirstFound (db.trees 6) by_place heading (place_params p) None → map.get w.entries p ≡ None
-  heading_none h = go (map.get w.entries p) refl
+  row_none : FirstFound (db.trees 6) by_place row_shown (place_params p) None → map.get w.entries p ≡ None
+  row_none h = go (map.get w.entries p) refl
     where
       go : (o : Option Entry) → map.get w.entries p ≡ o → map.get w.entries p ≡ None
       go None is = is
       go (Some e) is = absurd (let it = means.entries.found (p, e) is in true≢false (sym (passes_own it.0 it.2.place) ∙ h it.0 it.1))
 
-  pub heading_read : (row : Row) (h : Heading) → Selects heading_text (place_params p) db (Some row) → column row 0 ≡ Int h.id → column row 1 ≡ Text h.shelf → column row 2 ≡ or_null Text h.time → column row 3 ≡ Blob h.gomod → IsHeading db.trees w p h
-  heading_read row h picked = heading_some row h (selected_found heading_text (place_params p) db 6 by_place heading _ heading_is (λ _. refl) (Some row) picked)
+  pub row_read : (row : Row) (v : VersionRow) → Selects row_text (place_params p) db (Some row)
+      → column row 0 ≡ Int v.id → column row 1 ≡ Text v.shelf → column row 2 ≡ or_null Text v.heading.time → column row 3 ≡ Blob v.heading.gomod → IsRowOf db.trees w p v
+  row_read row v picked = row_some row v (selected_found row_text (place_params p) db 6 by_place row_shown _ row_is (λ _. refl) (Some row) picked)
 
-  pub heading_lacks : Selects heading_text (place_params p) db None → map.get w.entries p ≡ None
-  heading_lacks picked = heading_none (selected_found heading_text (place_params p) db 6 by_place heading _ heading_is (λ _. refl) None picked)
+  pub row_lacks : Selects row_text (place_params p) db None → map.get w.entries p ≡ None
+  row_lacks picked = row_none (selected_found row_text (place_params p) db 6 by_place row_shown _ row_is (λ _. refl) None picked)
 
 and_true : (b : Bool) → (b && true) ≡ false → b ≡ false
 and_true true e = e
@@ -131,17 +134,24 @@ module _ (id : ℤ) (db : Database) where
   zip_lacks picked row there = and_true (equal Binary (rowid row) (Int id)) (selected_found zip_text (Int id ∷ []) db 8 by_number (col 1 2 ∷ []) _ zip_is (λ _. refl) None picked row there)
 
 -- the two rows are the entry
-pub entry_whole : (db : Trees) (w : World) (p : Place) (h : Heading) (zip : List ℕ) → IsHeading db w p h → HasZip db h.id (Some zip)
-    → Some (record { shelf = h.shelf; entry = record { gomod = h.gomod; zip = zip; time = h.time } }) ≡ seen_at (map.get w.entries p) p.shelf
-entry_whole db w p h zip it found =
-    let zips : it.entry.zip ≡ zip = let e = sym (it.is.only found.0 found.1 (ap (λ v. equal Binary (rowid found.0) v) it.id ∙ found.2)) ∙ found.3 in cc in
-    let mods = it.gomod in
-    let times = it.time in
+pub entry_whole : (db : Trees) (w : World) (p : Place) (v : VersionRow) (zip : List ℕ) → IsRowOf db w p v → HasZip db v.id (Some zip)
+    → Some (record { shelf = v.shelf; entry = record { gomod = v.heading.gomod; zip = zip; time = v.heading.time } }) ≡ seen_at (map.get w.entries p) p.shelf
+entry_whole db w p v zip it found =
+    let zips : it.entry.zip ≡ zip = let e = sym (it.is.only found.0 found.1 (ap (λ x. equal Binary (rowid found.0) x) it.id ∙ found.2)) ∙ found.3 in cc in
+    let mods = ap (λ (h : Heading). h.gomod) it.heading in
+    let times = ap (λ (h : Heading). h.time) it.heading in
     let shelves = it.shelf in
     ap Some (λ i. record { shelf = shelves i; entry = record { gomod = mods i; zip = sym zips i; time = times i } }) ∙ sym (ap (λ o. seen_at o p.shelf) it.kept)
 
 pub entry_lacks : (w : World) (p : Place) → map.get w.entries p ≡ None → None ≡ seen_at (map.get w.entries p) p.shelf
 entry_lacks w p none = sym (ap (λ o. seen_at o p.shelf) none)
+
+-- the row of `version` alone is the heading
+pub heading_whole : (db : Trees) (w : World) (p : Place) (v : VersionRow) → IsRowOf db w p v → Some v.heading ≡ option_map heading_of (map.get w.entries p)
+heading_whole db w p v it = ap Some it.heading ∙ sym (ap (option_map heading_of) it.kept)
+
+pub heading_lacks : (w : World) (p : Place) → map.get w.entries p ≡ None → None ≡ option_map heading_of (map.get w.entries p)
+heading_lacks w p none = sym (ap (option_map heading_of) none)
 
 -- ---- what a shelf sees
 
@@ -161,3 +171,26 @@ module _ (w : World) (s p v : List ℕ) where
 
   pub view_common : (found : Option Seen) → None ≡ on_own → found ≡ on_common → found ≡ view w s p v
   view_common found none is = is ∙ (sym (after_none on_common) ∙ ap (λ o. option_or o (option_or on_common None)) none)
+
+-- an entry seen without its zip, or else another
+heading_first : (o : Option Entry) (s : List ℕ) (rest : Option Seen) → option_or (option_map heading_of o) (without_zip rest) ≡ without_zip (option_or (seen_at o s) rest)
+heading_first None s rest = refl
+heading_first (Some e) s rest = refl
+
+module _ (w : World) (s p v : List ℕ) where
+  abbrev own : Option Heading
+  own = option_map heading_of (map.get w.entries (place s p v))
+
+  abbrev of_common : Option Heading
+  of_common = option_map heading_of (map.get w.entries (place common p v))
+
+  heading_either : option_or own (option_or of_common None) ≡ heading w s p v
+  heading_either =
+      let later = heading_first (map.get w.entries (place common p v)) common None in
+      ap (option_or own) later ∙ heading_first (map.get w.entries (place s p v)) s (first_on w (common ∷ []) p v)
+
+  pub heading_own : (h : Heading) → Some h ≡ own → Some h ≡ heading w s p v
+  heading_own h is = ap (λ o. option_or o (option_or of_common None)) is ∙ heading_either
+
+  pub heading_common : (found : Option Heading) → None ≡ own → found ≡ of_common → found ≡ heading w s p v
+  heading_common found none is = is ∙ (sym (after_none of_common) ∙ (ap (λ o. option_or o (option_or of_common None)) none ∙ heading_either))

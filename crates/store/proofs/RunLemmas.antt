@@ -13,8 +13,8 @@ use Rattle.sqlite_rules.proofs.ListLemmas.{has_either, has_right, all_from}
 use Rattle.world.specs.declared.entry.Place.{Place}
 use Rattle.world.specs.World.{text_cmp, place_cmp, version_limit}
 use Rattle.world.proofs.Orders.{texts_total, texts_exact, text_self, text_same}
-use Rattle.store.specs.Walks.{Pass}
-use Rattle.store.specs.Fit.{place_in, is_on, MayFollow, run_with}
+use Rattle.store.specs.Walks.{Pass, MayFollow, run_with}
+use Rattle.store.specs.Fit.{place_in, is_on}
 use Rattle.store.proofs.Ascending.{Adjacent, Steps, across, filter_push}
 
 -- ---- one after another

@@ -13,8 +13,8 @@ shelf_text = codes "SELECT name FROM shelf WHERE name = ?1"
 abbrev pub add_shelf_text : List ℕ
 add_shelf_text = codes "INSERT INTO shelf (name) VALUES (?1)"
 
-abbrev pub heading_text : List ℕ
-heading_text = codes "SELECT id, shelf, time, mod FROM version WHERE shelf = ?1 AND path = ?2 AND version = ?3"
+abbrev pub row_text : List ℕ
+row_text = codes "SELECT id, shelf, time, mod FROM version WHERE shelf = ?1 AND path = ?2 AND version = ?3"
 
 abbrev pub zip_text : List ℕ
 zip_text = codes "SELECT zip FROM body WHERE id = ?1"

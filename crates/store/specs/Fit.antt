@@ -1,5 +1,5 @@
 -- What the rows of the tables have to be to stand for a world.
-use Rattle.std.specs.Prelude.{◌≡◌, ◌≤◌, ◌<◌, ◌⊎◌, ◌&&◌, ◌+◌, ℕ, ℤ, pos, Bool, true, if◌then◌else◌, List, [], ◌∷◌, length, map, filter, flat_map, Option, Some, None, bytes_eq, codes, IsUtf8}
+use Rattle.std.specs.Prelude.{◌≡◌, ◌≤◌, ◌⊎◌, ◌&&◌, ℕ, ℤ, pos, Bool, true, List, [], ◌∷◌, length, map, filter, flat_map, bytes_eq, codes, IsUtf8}
 use Rattle.sqlite.specs.declared.types.Value.{Value}
 use Rattle.sqlite.specs.declared.types.Value.TheVariants.{Null, Int, Real, Text, Blob}
 use Rattle.sqlite.specs.Order.{Row, column}
@@ -128,15 +128,3 @@ pub record AreFit (db : Trees) : Type 0 where
   pub access : AreKeysFit (map name_shown (db access_table.tree))
   pub numbers : AreNumbersFit (map number_shown (db access_table.tree))
   pub entries : AreEntriesFit (joined (db version_table.tree) (db body_table.tree))
-
--- ---- one place after another, in order
-
--- a place may come after the last one, with which so many of its path on its shelf have come
-abbrev pub MayFollow : Option Place → ℕ → Place → Type 0
-MayFollow None many q = Unit {0}
-MayFollow (Some p) many q = (p ≡ q → ⊥) × (is_on p.shelf p.path q ≡ true → many < version_limit)
-
--- how many have come with it
-abbrev pub run_with : Option Place → ℕ → Place → ℕ
-run_with None many q = 1
-run_with (Some p) many q = if is_on p.shelf p.path q then many + 1 else 1

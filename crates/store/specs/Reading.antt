@@ -9,25 +9,24 @@ use Rattle.sqlite_schema.specs.Rules.{equal}
 use Rattle.sqlite_rules.specs.Lists.{Has}
 use Rattle.world.specs.declared.entry.Place.{Place}
 use Rattle.world.specs.declared.entry.Entry.{Entry}
-use Rattle.world.specs.World.{World}
-use Rattle.store.specs.declared.entries.Heading.{Heading}
+use Rattle.world.specs.World.{World, heading_of}
+use Rattle.store.specs.declared.entries.VersionRow.{VersionRow}
 use Rattle.store.specs.Means.{IsVersion}
 use Rattle.store.specs.Schema.{body_table}
 
 -- what the row of a version shows, and the entry that the row is of
-pub record IsHeading (db : Trees) (w : World) (p : Place) (h : Heading) : Type 0 where
+pub record IsRowOf (db : Trees) (w : World) (p : Place) (v : VersionRow) : Type 0 where
   pub row : Row
   pub entry : Entry
   pub kept : map.get w.entries p ≡ Some entry
   pub is : IsVersion (db body_table.tree) row (p, entry)
-  pub id : rowid row ≡ Int h.id
-  pub shelf : h.shelf ≡ p.shelf
-  pub time : h.time ≡ entry.time
-  pub gomod : h.gomod ≡ entry.gomod
+  pub id : rowid row ≡ Int v.id
+  pub shelf : v.shelf ≡ p.shelf
+  pub heading : v.heading ≡ heading_of entry
 
-abbrev pub HasHeading : Trees → World → Place → Option Heading → Type 0
-HasHeading db w p (Some h) = IsHeading db w p h
-HasHeading db w p None = map.get w.entries p ≡ None
+abbrev pub HasRow : Trees → World → Place → Option VersionRow → Type 0
+HasRow db w p (Some v) = IsRowOf db w p v
+HasRow db w p None = map.get w.entries p ≡ None
 
 abbrev pub HasZip : Trees → ℤ → Option (List ℕ) → Type 0
 HasZip db id (Some zip) = (row : Row) × Has (db body_table.tree) row × (equal Binary (rowid row) (Int id) ≡ true) × (column row 2 ≡ Blob zip)

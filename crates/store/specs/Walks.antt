@@ -1,5 +1,5 @@
 -- Tests of the tables, which read them and write nothing, and rows that are tested one after the other.
-use Rattle.std.specs.Prelude.{◌≡◌, ◌≤◌, ◌⊎◌, ℕ, Bool, true, false, List, [], ◌∷◌, ◌++◌, Result, IfOk, OnOk, Decides}
+use Rattle.std.specs.Prelude.{◌≡◌, ◌≤◌, ◌<◌, ◌⊎◌, ◌+◌, ℕ, Bool, true, false, if◌then◌else◌, List, [], ◌∷◌, ◌++◌, Option, Some, None, Result, IfOk, OnOk, Decides}
 use Rattle.sqlite_trees.specs.View.{doubt}
 use Rattle.sqlite.specs.Tree.{Trees}
 use Rattle.sqlite.specs.Order.{Row}
@@ -8,7 +8,10 @@ use Rattle.sqlite.specs.State.{State, HasCleanDisk, IsUnchanged, IsRolledBack}
 use Rattle.sqlite.specs.Effect.{Database, Reads, ReadsFirst}
 use Rattle.sqlite.specs.Listing.{understood}
 use Rattle.sqlite.proofs.Callers.{command_of}
+use Rattle.world.specs.declared.entry.Place.{Place}
+use Rattle.world.specs.World.{version_limit}
 use Rattle.store.specs.Schema.{store_schema}
+use Rattle.store.specs.Fit.{is_on}
 
 -- it leaves the tables as they are, and a crash leaves nothing that it did not leave before
 pub record Looks (old new : State) : Type 0 where
@@ -33,3 +36,15 @@ module _ {X : Type 0} (Fits : X → Row → Type 0) (Keeps : X → Row → X →
   Walks sql db start end true = (rows : List Row) × Reads (command_of (understood store_schema sql)) db [] rows × Pass start rows end
   Walks sql db start end false =
       (rows : List Row) × (row : Row) × (kept : X) × ReadsFirst (command_of (understood store_schema sql)) db [] (rows ++ row ∷ []) × Pass start rows kept × (Fits kept row → ⊥)
+
+-- ---- one place after another, in order
+
+-- a place may come after the last one, with which so many of its path on its shelf have come
+abbrev pub MayFollow : Option Place → ℕ → Place → Type 0
+MayFollow None many q = Unit {0}
+MayFollow (Some p) many q = (p ≡ q → ⊥) × (is_on p.shelf p.path q ≡ true → many < version_limit)
+
+-- how many have come with it
+abbrev pub run_with : Option Place → ℕ → Place → ℕ
+run_with None many q = 1
+run_with (Some p) many q = if is_on p.shelf p.path q then many + 1 else 1

@@ -8,27 +8,26 @@ ghost use Rattle.sqlite.specs.Values.{or_null};
 ghost use Rattle.sqlite.specs.Held.{state};
 ghost use Rattle.sqlite.specs.State.{HasCleanDisk, KeepsCommit, Survives};
 ghost use Rattle.sqlite_trees.specs.View.{doubt};
-ghost use Rattle.world.specs.World.{place, seen_at, view, count, with_entry};
+ghost use Rattle.world.specs.World.{place, seen_at, view, heading_of, heading, count, with_entry};
 ghost use Rattle.store.specs.Schema.{store_schema};
 ghost use Rattle.store.specs.Means.{Stands, StandsFor};
 ghost use Rattle.store.specs.Calls.{Spares, ChangesAt};
-ghost use Rattle.store.specs.Reading.{HasHeading, HasZip};
+ghost use Rattle.store.specs.Reading.{HasRow, HasZip};
 ghost use Rattle.store.specs.Added.{HasAdded};
 
 use crate::shelves::{find_row, has_shelf};
 use modver::{TimeText, read_time};
 use sqlite::{Alter, Connection, Error, ErrorCode, Row, Transaction, params};
 use world::bytes::Bytes;
-use world::entry::{Entry, EntryRef, Seen};
+use world::entry::{Entry, EntryRef, Heading, Seen};
 use world::text::Text;
 
 /// What the row of a version shows, with its number.
 #[derive(Drop)]
-pub(crate) struct Heading {
+pub(crate) struct VersionRow {
     pub(crate) id: i64,
     pub(crate) shelf: Text,
-    pub(crate) time: Option<TimeText>,
-    pub(crate) gomod: Bytes,
+    pub(crate) heading: Heading,
 }
 
 /// The time that a text writes. A text that writes none is a corrupt row.
@@ -51,39 +50,41 @@ fn read_stamp(row: &Row) -> Result<Option<TimeText>, Error>
     time_of(time)
 }
 
-fn read_heading(row: &Row) -> Result<Heading, Error>
-    ensures { IfOk result (λ h. (column row.now 0 ≡ Int h.id) × (column row.now 1 ≡ StoredText h.shelf) × (column row.now 2 ≡ or_null StoredText h.time) × (column row.now 3 ≡ Blob h.gomod)) }
+fn read_version(row: &Row) -> Result<VersionRow, Error>
+    ensures { IfOk result (λ v. (column row.now 0 ≡ Int v.id) × (column row.now 1 ≡ StoredText v.shelf) × (column row.now 2 ≡ or_null StoredText v.heading.time) × (column row.now 3 ≡ Blob v.heading.gomod)) }
 {
     let id: i64 = row.get(0)?;
     let shelf: String = row.get(1)?;
     let time = read_stamp(row)?;
     let gomod: Vec<u8> = row.get(3)?;
-    Ok(Heading {
+    Ok(VersionRow {
         id,
         shelf: Text::new(shelf),
-        time,
-        gomod: Bytes::new(gomod),
+        heading: Heading {
+            gomod: Bytes::new(gomod),
+            time,
+        },
     })
 }
 
 /// The row of a version on a shelf.
-fn find_heading<S: Alter>(
+fn row_at<S: Alter>(
     conn: &mut Connection<S>,
     shelf: &str,
     path: &str,
     version: &str,
-) -> Result<Option<Heading>, Error>
+) -> Result<Option<VersionRow>, Error>
     ensures spares { Spares (state S.Store conn.old) (state S.Store conn.new) }
     ensures same { HasCleanDisk (state S.Store conn.new) → (w : _) → Stands (state S.Store conn.old) w → OnOk result ((state S.Store conn.new).now ≡ (state S.Store conn.old).now) }
     ensures answer { HasCleanDisk (state S.Store conn.new) → (w : _) → Stands (state S.Store conn.old) w → IfOk result (λ found. IsTrue (state S.Store conn.old).is_open × IsTrue (state S.Store conn.new).is_open
-        × HasHeading (state S.Store conn.old).now.trees w (place shelf.now path.now version.now) found) }
+        × HasRow (state S.Store conn.old).now.trees w (place shelf.now path.now version.now) found) }
 {
     match find_row(
         conn,
         "SELECT id, shelf, time, mod FROM version WHERE shelf = ?1 AND path = ?2 AND version = ?3",
         params![shelf, path, version],
     )? {
-        Some(row) => Ok(Some(read_heading(&row)?)),
+        Some(row) => Ok(Some(read_version(&row)?)),
         None => Ok(None),
     }
 }
@@ -118,18 +119,18 @@ fn entry_at<S: Alter>(
     ensures answer { HasCleanDisk (state S.Store conn.new) → (w : _) → Stands (state S.Store conn.old) w → IfOk result (λ found. IsTrue (state S.Store conn.old).is_open × IsTrue (state S.Store conn.new).is_open
         × (found ≡ seen_at (map.get w.entries (place shelf.now path.now version.now)) shelf.now)) }
 {
-    let Some(heading) = find_heading(conn, shelf, path, version)? else {
+    let Some(row) = row_at(conn, shelf, path, version)? else {
         return Ok(None);
     };
-    let Some(zip) = find_zip(conn, heading.id)? else {
+    let Some(zip) = find_zip(conn, row.id)? else {
         return Err(Error::SqliteFailure(ErrorCode::DatabaseCorrupt));
     };
     Ok(Some(Seen {
-        shelf: heading.shelf,
+        shelf: row.shelf,
         entry: Entry {
-            gomod: heading.gomod,
+            gomod: row.heading.gomod,
             zip,
-            time: heading.time,
+            time: row.heading.time,
         },
     }))
 }
@@ -147,6 +148,39 @@ pub(crate) fn find_entry<S: Alter>(
     match entry_at(conn, shelf, path, version)? {
         Some(seen) => Ok(Some(seen)),
         None => entry_at(conn, "common", path, version),
+    }
+}
+
+/// What a version on a shelf shows without its zip, which is not read.
+fn heading_at<S: Alter>(
+    conn: &mut Connection<S>,
+    shelf: &str,
+    path: &str,
+    version: &str,
+) -> Result<Option<Heading>, Error>
+    ensures spares { Spares (state S.Store conn.old) (state S.Store conn.new) }
+    ensures answer { HasCleanDisk (state S.Store conn.new) → (w : _) → Stands (state S.Store conn.old) w → IfOk result (λ found. IsTrue (state S.Store conn.old).is_open × IsTrue (state S.Store conn.new).is_open
+        × (found ≡ option_map heading_of (map.get w.entries (place shelf.now path.now version.now)))) }
+{
+    match row_at(conn, shelf, path, version)? {
+        Some(row) => Ok(Some(row.heading)),
+        None => Ok(None),
+    }
+}
+
+/// What a shelf sees of a version without its zip: of its own, or else of that of `common`.
+pub(crate) fn find_heading<S: Alter>(
+    conn: &mut Connection<S>,
+    shelf: &str,
+    path: &str,
+    version: &str,
+) -> Result<Option<Heading>, Error>
+    ensures spares { Spares (state S.Store conn.old) (state S.Store conn.new) }
+    ensures answer { HasCleanDisk (state S.Store conn.new) → (w : _) → Stands (state S.Store conn.old) w → IfOk result (λ found. found ≡ heading w shelf.now path.now version.now) }
+{
+    match heading_at(conn, shelf, path, version)? {
+        Some(heading) => Ok(Some(heading)),
+        None => heading_at(conn, "common", path, version),
     }
 }
 

@@ -6,9 +6,9 @@ ghost use Rattle.sqlite.specs.declared.types.Value.TheVariants.{Int, Text as Sto
 ghost use Rattle.sqlite.specs.Order.{Row as Shown, column};
 ghost use Rattle.sqlite.specs.Values.{or_null};
 ghost use Rattle.sqlite.specs.Held.{state};
-ghost use Rattle.store.specs.Walks.{Tests};
+ghost use Rattle.store.specs.Walks.{Tests, MayFollow, run_with};
 ghost use Rattle.world.specs.World.{place, IsEntry};
-ghost use Rattle.store.specs.Fit.{IsSchemaRow, IsShelfRow, IsKeyRow, IsNumberRow, IsEntryRow, ShowsFiles, is_common, key_in, number_in, place_in, is_on, MayFollow, run_with, IsMetaFit, AreShelvesFit, AreKeysFit, AreNumbersFit, AreEntriesFit, AreFit, meta_shown, name_shown, number_shown, joined};
+ghost use Rattle.store.specs.Fit.{IsSchemaRow, IsShelfRow, IsKeyRow, IsNumberRow, IsEntryRow, ShowsFiles, is_common, key_in, number_in, place_in, is_on, IsMetaFit, AreShelvesFit, AreKeysFit, AreNumbersFit, AreEntriesFit, AreFit, meta_shown, name_shown, number_shown, joined};
 
 use crate::walk::{RowTest, rows_pass};
 use modver::{TimeText, read_time};

@@ -23,6 +23,7 @@
 //! | `adopt` | each row of each table once, in walks that keep the row before; or the five tables where there are none |
 //! | `key` | the row of `access` that has the key |
 //! | `entry` | the row of `version` on the own shelf, or else on `common`, then its row of `body` |
+//! | `heading` | the row of `version` on the own shelf, or else on `common`, and no row of `body` |
 //! | `versions`, `paths` | the rows of `version` on the own shelf, then those on `common` |
 //! | `count` | how many rows of `version` the path has on the shelf |
 //! | `insert` | in one transaction a row of `version` and a row of `body` |

@@ -8,7 +8,7 @@ ghost use Rattle.store.specs.Calls.{shown_of};
 ghost use Rattle.store.specs.Opened.{Opens, IsBad, LeavesFirst};
 
 use crate::adopt::open_tables;
-use crate::entries::{add_entry, count_entries, find_entry};
+use crate::entries::{add_entry, count_entries, find_entry, find_heading};
 use crate::refusal::Refusal;
 use crate::revoke::revoke_key;
 use crate::shelves::{add_key, add_team, find_key};
@@ -17,7 +17,7 @@ use modpath::ModulePath;
 use modver::Version;
 use sqlite::{Alter, Connection, Error, ErrorCode};
 use std::alloc::Global;
-use world::entry::{EntryRef, Holder, Right, Seen};
+use world::entry::{EntryRef, Heading, Holder, Right, Seen};
 use world::names::{is_key, is_team_name};
 use world::registry::{Registered, StoreFault};
 use world::shelves::Shelves;
@@ -74,6 +74,18 @@ impl<S: Alter> Shelves for SqlShelves<S> {
         version: &Version,
     ) -> Result<Option<Seen>, StoreFault> {
         match find_entry(&mut self.conn, shelf, path.as_str(), version.as_str()) {
+            Ok(found) => Ok(found),
+            Err(error) => Err(fault(&mut self.failures, error)),
+        }
+    }
+
+    fn heading(
+        &mut self,
+        shelf: &str,
+        path: &ModulePath,
+        version: &Version,
+    ) -> Result<Option<Heading>, StoreFault> {
+        match find_heading(&mut self.conn, shelf, path.as_str(), version.as_str()) {
             Ok(found) => Ok(found),
             Err(error) => Err(fault(&mut self.failures, error)),
         }

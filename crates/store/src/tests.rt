@@ -76,6 +76,30 @@ fn a_second_row_is_refused_and_counted(rt: HostRuntime) -> Result<(), Fail> {
 }
 
 /// Puts a version with an empty zip on a shelf.
+fn put_gomod(
+    alloc: Global,
+    shelves: &mut SqlShelves<MemStore>,
+    shelf: &str,
+    path: &str,
+    version: &str,
+    gomod: &[u8],
+    time: Option<&str>,
+) -> Result<bool, Fail> {
+    let time = match time {
+        Some(text) => Some(read_time(text)?),
+        None => None,
+    };
+    let entry = EntryRef {
+        gomod,
+        zip: b"",
+        time,
+    };
+    let path = ModulePath::parse(alloc, path)?;
+    let version = Version::parse(alloc, version)?;
+    Ok(shelves.insert(shelf, &path, &version, &entry) == Ok(()))
+}
+
+/// Puts a version whose go.mod is `LIB` on a shelf.
 fn put(
     alloc: Global,
     shelves: &mut SqlShelves<MemStore>,
@@ -84,18 +108,7 @@ fn put(
     version: &str,
     time: Option<&str>,
 ) -> Result<bool, Fail> {
-    let time = match time {
-        Some(text) => Some(read_time(text)?),
-        None => None,
-    };
-    let entry = EntryRef {
-        gomod: b"module example.com/lib\n",
-        zip: b"",
-        time,
-    };
-    let path = ModulePath::parse(alloc, path)?;
-    let version = Version::parse(alloc, version)?;
-    Ok(shelves.insert(shelf, &path, &version, &entry) == Ok(()))
+    put_gomod(alloc, shelves, shelf, path, version, LIB, time)
 }
 
 #[test]
@@ -181,5 +194,41 @@ fn an_entry_keeps_its_time(rt: HostRuntime) -> Result<(), Fail> {
     assert!(rt; put(alloc, &mut shelves, "common", path, "v1.1.0", None)?);
     assert!(rt; has_time(alloc, &mut shelves, "v1.0.0", leap)?);
     assert!(rt; has_time(alloc, &mut shelves, "v1.1.0", None)?);
+    Ok(())
+}
+
+/// Whether a shelf sees this go.mod and this time of `example.com/lib` `v1.0.0`.
+fn shows(
+    alloc: Global,
+    shelves: &mut SqlShelves<MemStore>,
+    shelf: &str,
+    gomod: &[u8],
+    time: Option<&str>,
+) -> Result<bool, Fail> {
+    let path = ModulePath::parse(alloc, "example.com/lib")?;
+    let version = Version::parse(alloc, "v1.0.0")?;
+    match shelves.heading(shelf, &path, &version) {
+        Ok(Some(heading)) => {
+            Ok(heading.gomod.as_slice() == gomod && is_time(&heading.time, time))
+        }
+        _ => Ok(false),
+    }
+}
+
+#[test]
+fn the_heading_of_the_own_shelf_comes_before_that_of_common(rt: HostRuntime) -> Result<(), Fail> {
+    let alloc = rt.alloc();
+    let Ok(mut shelves) = SqlShelves::open_memory(alloc) else {
+        panic!(rt; "a store opens in memory");
+    };
+    let path = "example.com/lib";
+    let quoted = b"module \"example.com/lib\"\n";
+    let leap = Some("2024-02-29T12:34:56Z");
+    assert_eq!(rt; shelves.team_add("alpha"), Ok(Registered::Done));
+    assert!(rt; put(alloc, &mut shelves, "common", path, "v1.0.0", None)?);
+    assert!(rt; shows(alloc, &mut shelves, "alpha", LIB, None)?);
+    assert!(rt; put_gomod(alloc, &mut shelves, "alpha", path, "v1.0.0", quoted, leap)?);
+    assert!(rt; shows(alloc, &mut shelves, "alpha", quoted, leap)?);
+    assert!(rt; shows(alloc, &mut shelves, "common", LIB, None)?);
     Ok(())
 }

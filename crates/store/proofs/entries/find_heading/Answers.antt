@@ -1,33 +1,21 @@
-use Rattle.std.proofs.Common.{subst}
+use Rattle.std.proofs.Common.{sym, ◌∙◌}
 use Rattle.sqlite.specs.Held.{state}
-use Rattle.world.specs.declared.entry.Place.{Place}
-use Rattle.store.specs.Calls.{Selects}
-use Rattle.store.proofs.Texts.{heading_text}
-use Rattle.store.proofs.CallLemmas.{was_clean}
-use Rattle.store.proofs.HeadingLemmas.{heading_plain, heading_tables, heading_read, heading_lacks, place_params}
+use Rattle.store.proofs.CallLemmas.{spares_then, was_clean}
+use Rattle.store.proofs.HeadingLemmas.{heading_own, heading_common}
+use Rattle.store.proofs.ChangeLemmas.{weaker}
 use Rattle.store.proofs.entries.find_heading.Goals as goal
 
-pub find_row-requires-clause-plain : goal.find_row-requires-clause-plain
-find_row-requires-clause-plain g c = heading_plain
+pub returns-in-Some-clause-answer : goal.returns-in-Some-clause-answer
+returns-in-Some-clause-answer g c clean w stands =
+    let h = c.in_ok-heading.ensures.answer clean w stands in heading_own w c.args.shelf.now c.args.path.now c.args.version.now c.in-Some.heading (sym c.in-Some.is ∙ h.2)
 
-pub find_row-requires-clause-tables : goal.find_row-requires-clause-tables
-find_row-requires-clause-tables g c = heading_tables
-
-pub returns-in_ok-read_heading-in-Some-clause-answer : goal.returns-in_ok-read_heading-in-Some-clause-answer
-returns-in_ok-read_heading-in-Some-clause-answer g c clean w stands =
-    let old = state g.S.Store c.args.conn.now in
-    let p : Place = record { shelf = c.args.shelf.now; path = c.args.path.now; version = c.args.version.now } in
-    let h = rw (c.params-to_sql.ensures, c.params-to_sql-2.ensures, c.params-to_sql-3.ensures) at (c.in_ok-row.ensures.row clean w stands) in
-    let picked = subst (Selects heading_text (place_params p) old.now) c.in-Some.is h.2 in
-    let holds = stands (was_clean old (state g.S.Store c.find_row.new.conn) c.find_row.ensures.spares.clean clean) h.0 in
-    let read = c.in_ok-read_heading-in-Some.ensures in
-    (h.0, h.1, heading_read p old.now w holds.trees.means c.in-Some.row c.in_ok-read_heading-in-Some.field-0 picked read.0 read.1 read.2 read.3)
+pub returns-in-None-clause-spares : goal.returns-in-None-clause-spares
+returns-in-None-clause-spares g c = spares_then _ _ _ c.heading_at.ensures.spares c.heading_at-in-None.ensures.spares
 
 pub returns-in-None-clause-answer : goal.returns-in-None-clause-answer
 returns-in-None-clause-answer g c clean w stands =
-    let old = state g.S.Store c.args.conn.now in
-    let p : Place = record { shelf = c.args.shelf.now; path = c.args.path.now; version = c.args.version.now } in
-    let h = rw (c.params-to_sql.ensures, c.params-to_sql-2.ensures, c.params-to_sql-3.ensures) at (c.in_ok-row.ensures.row clean w stands) in
-    let picked = subst (Selects heading_text (place_params p) old.now) c.in-None.is h.2 in
-    let holds = stands (was_clean old (state g.S.Store c.find_row.new.conn) c.find_row.ensures.spares.clean clean) h.0 in
-    (h.0, h.1, heading_lacks p old.now w holds.trees.means picked)
+    let mid = state g.S.Store c.heading_at.new.conn in
+    let new = state g.S.Store c.heading_at-in-None.new.conn in
+    let h = c.in_ok-heading.ensures.answer (was_clean mid new c.heading_at-in-None.ensures.spares.clean clean) w stands in
+    let k = c.heading_at-in-None.ensures.answer clean w (c.heading_at.ensures.spares.stays w stands) in
+    weaker c.heading_at-in-None.result (λ found it. heading_common w c.args.shelf.now c.args.path.now c.args.version.now found (sym c.in-None.is ∙ h.2) it.2) k

@@ -1,2 +1,1 @@
 mod Openings
-mod Versions

@@ -18,10 +18,9 @@ unopened store.Memory = refusal.Memory
 unopened store.BadSchema = refusal.BadSchema
 
 -- the same of `init`, which does not judge tables: a file that has any has bytes
-abbrev pub unmade : Unopened → Refusal
-unmade store.Device = refusal.Device
-unmade store.Memory = refusal.Memory
-unmade store.BadSchema = refusal.NotEmpty
+abbrev pub unmade : Refusal → Refusal
+unmade refusal.BadSchema = refusal.NotEmpty
+unmade other = other
 
 -- how a command of the registry ends
 abbrev pub ending : Result Registered StoreFault → Result (Unit {0}) Refusal

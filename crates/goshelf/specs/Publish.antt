@@ -1,10 +1,10 @@
 -- A publish of files by words that stand as they are.
-use Rattle.std.specs.Prelude.{ℕ, List, ◌≡◌, ◌==◌, ◌||◌, ◌++◌, codes, Bool, Option, Some, None, Result, Ok, Err, MatchResult, if◌then◌else◌}
+use Rattle.std.specs.Prelude.{ℕ, List, ◌≡◌, ◌==◌, ◌||◌, ◌++◌, codes, Bool, Option, Some, None, Result, Ok, Err, MatchResult}
 use Rattle.std.specs.Io.KnownBytes.{Appends}
-use Rattle.modpath.specs.Path.{is_path}
-use Rattle.modver.specs.Reading as modver
+use Rattle.modver.specs.Reading.{version_of}
 use Rattle.modver.specs.SemanticVersion.{SemanticVersion}
 use Rattle.shelf.specs.Machine.{ask_reply, after_ask}
+use Rattle.world.specs.Forms.{path_of}
 use Rattle.world.specs.Store.{Shown, Does, HasCause}
 use Rattle.shelf.specs.declared.ask.Ask.{Ask}
 use Rattle.shelf.specs.declared.ask.Ask.TheVariants.{Unreadable, Put}
@@ -21,13 +21,6 @@ use Rattle.wire.specs.declared.reply.Fixed.{Fixed}
 use Rattle.wire.specs.declared.reply.Fixed.TheVariants as fixed
 use Rattle.goshelf.specs.declared.refusal.Refusal.{Refusal}
 use Rattle.goshelf.specs.declared.refusal.Refusal.TheVariants.{Io}
-
--- the module path that a text is, and the version, if it is one
-abbrev pub path_of : List ℕ → Option (List ℕ)
-path_of text = if is_path text then Some text else None
-
-abbrev pub version_of : List ℕ → Option SemanticVersion
-version_of text = modver.version_of text
 
 -- the time that is given: none, or the one that the text writes
 abbrev pub given_time : Option (List ℕ) → GivenTime

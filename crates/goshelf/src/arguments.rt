@@ -1,168 +1,310 @@
 //! The command line: its commands, their options and their help.
+use crate::publish::{Files, Words};
+use crate::task::{Task, Work};
 use clap::{Arg, ArgAction, ArgMatches, Command};
 use std::alloc::{AllocError, Global};
 
+/// A command as help tells of it.
+#[derive(Clone, Copy, Drop)]
+struct CommandRow {
+    name: &'static str,
+    about: &'static str,
+    options: &'static [OptionRow],
+}
+
+/// An option of a command as help tells of it.
+#[derive(Clone, Copy, Drop)]
+struct OptionRow {
+    name: &'static str,
+    /// What help calls its value; a flag takes none.
+    value: Option<&'static str>,
+    needed: Needed,
+    help: &'static str,
+}
+
+/// When an option has to be given.
+#[derive(Clone, Copy, Drop)]
+enum Needed {
+    /// Always.
+    Always,
+    /// Never.
+    Never,
+    /// Where this other option is not given.
+    Without(&'static str),
+    /// Where this other option is not given; with it, it may not be.
+    InsteadOf(&'static str),
+}
+
+/// The commands, in the order of the help.
+static COMMANDS: [CommandRow; 6] = [
+    CommandRow {
+        name: "init",
+        about: "Makes a store with the shelf common alone, in a file that has no bytes",
+        options: &INIT,
+    },
+    CommandRow {
+        name: "team-add",
+        about: "Adds a team, with a shelf of its own",
+        options: &TEAM_ADD,
+    },
+    CommandRow {
+        name: "key-add",
+        about: "Adds a key to a shelf",
+        options: &KEY_ADD,
+    },
+    CommandRow {
+        name: "key-revoke",
+        about: "Takes a key away",
+        options: &KEY_REVOKE,
+    },
+    CommandRow {
+        name: "publish",
+        about: "Publishes a version of a module from files, and prints the outcome",
+        options: &PUBLISH,
+    },
+    CommandRow {
+        name: "answer",
+        about: "Answers the HTTP requests on standard input, on standard output",
+        options: &ANSWER,
+    },
+];
+
+/// The file of the store.
+const DB: OptionRow = OptionRow {
+    name: "db",
+    value: Some("F"),
+    needed: Needed::Always,
+    help: "The file of the store; one that is missing or empty has the shelf common alone",
+};
+
+const INIT: [OptionRow; 1] = [DB];
+
+const TEAM_ADD: [OptionRow; 2] = [
+    DB,
+    OptionRow {
+        name: "team",
+        value: Some("T"),
+        needed: Needed::Always,
+        help: "The team: 1 to 32 bytes of a-z, 0-9 and -, the first a letter, not common",
+    },
+];
+
+const KEY_ADD: [OptionRow; 4] = [
+    DB,
+    OptionRow {
+        name: "shelf",
+        value: Some("S"),
+        needed: Needed::Always,
+        help: "The shelf that the key belongs to: a team, or common",
+    },
+    OptionRow {
+        name: "key",
+        value: Some("K"),
+        needed: Needed::Always,
+        help: "The key: 16 to 64 bytes of a-z and 0-9, which no shelf has",
+    },
+    OptionRow {
+        name: "read-only",
+        value: None,
+        needed: Needed::Never,
+        help: "The key may read, and not publish",
+    },
+];
+
+const KEY_REVOKE: [OptionRow; 2] = [
+    DB,
+    OptionRow {
+        name: "key",
+        value: Some("K"),
+        needed: Needed::Always,
+        help: "The key to take away; it is free again then",
+    },
+];
+
+const PUBLISH: [OptionRow; 7] = [
+    DB,
+    OptionRow {
+        name: "key",
+        value: Some("K"),
+        needed: Needed::Always,
+        help: "A key that may publish",
+    },
+    OptionRow {
+        name: "module",
+        value: Some("P"),
+        needed: Needed::Always,
+        help: "The module path, as its go.mod names it",
+    },
+    OptionRow {
+        name: "version",
+        value: Some("V"),
+        needed: Needed::Always,
+        help: "The version, as v1.0.0",
+    },
+    OptionRow {
+        name: "mod",
+        value: Some("FILE"),
+        needed: Needed::Always,
+        help: "The file of the go.mod",
+    },
+    OptionRow {
+        name: "zip",
+        value: Some("FILE"),
+        needed: Needed::Always,
+        help: "The file of the zip",
+    },
+    OptionRow {
+        name: "time",
+        value: Some("T"),
+        needed: Needed::Never,
+        help: "The time of the version, as 2024-01-31T23:59:59Z",
+    },
+];
+
+const ANSWER: [OptionRow; 4] = [
+    OptionRow {
+        needed: Needed::Without("mem"),
+        ..DB
+    },
+    OptionRow {
+        name: "mem",
+        value: None,
+        needed: Needed::InsteadOf("db"),
+        help: "Keep the shelves in memory, beginning with one team and its key",
+    },
+    OptionRow {
+        name: "team",
+        value: Some("T"),
+        needed: Needed::InsteadOf("db"),
+        help: "With --mem, the team: 1 to 32 bytes of a-z, 0-9 and -, the first a letter, not common",
+    },
+    OptionRow {
+        name: "key",
+        value: Some("K"),
+        needed: Needed::InsteadOf("db"),
+        help: "With --mem, the team's publishing key: 16 to 64 bytes of a-z and 0-9",
+    },
+];
+
 /// The parser of the whole command line.
 pub fn parser<'a>(alloc: Global) -> Result<Command<'a>, AllocError> {
-    let init = init(alloc)?;
-    let team_add = team_add(alloc)?;
-    let key_add = key_add(alloc)?;
-    let key_revoke = key_revoke(alloc)?;
-    let publish = publish(alloc)?;
-    let answer = answer(alloc)?;
+    let mut parser = program(alloc)?;
+    for row in COMMANDS.as_slice() {
+        parser = parser.subcommand(command(alloc, row)?)?;
+    }
+    Ok(parser)
+}
+
+/// The program without its commands.
+fn program<'a>(alloc: Global) -> Result<Command<'a>, AllocError> {
+    described(alloc)
+        .no_binary_name(true)
+        .subcommand_required(true)
+        .bin_name("goshelf")
+}
+
+/// The program as help tells of it.
+fn described<'a>(alloc: Global) -> Command<'a> {
     Command::new(alloc, "goshelf")
         .about("A private Go module proxy with team shelves")
         .version("0.1.0")
-        .bin_name("goshelf")?
-        .no_binary_name(true)
-        .subcommand_required(true)
-        .subcommand(init)?
-        .subcommand(team_add)?
-        .subcommand(key_add)?
-        .subcommand(key_revoke)?
-        .subcommand(publish)?
-        .subcommand(answer)
 }
 
-/// An option that has to be given, with its value.
-fn needed<'a>(alloc: Global, name: &'a str, value: &'a str, help: &'a str) -> Arg<'a> {
-    Arg::new(alloc, name)
-        .long(name)
-        .value_name(value)
-        .required(true)
-        .help(help)
+/// A command with its options.
+fn command<'a>(alloc: Global, row: &CommandRow) -> Result<Command<'a>, AllocError> {
+    let mut command = Command::new(alloc, row.name).about(row.about);
+    for option in row.options {
+        command = command.arg(argument(alloc, option)?)?;
+    }
+    Ok(command)
 }
 
-/// The file of the store.
-fn db<'a>(alloc: Global) -> Arg<'a> {
-    needed(
-        alloc,
-        "db",
-        "F",
-        "The file of the store; one that is missing or empty has the shelf common alone",
-    )
+/// An option, and when it has to be given.
+fn argument<'a>(alloc: Global, row: &OptionRow) -> Result<Arg<'a>, AllocError> {
+    let argument = option(alloc, row);
+    match row.needed {
+        Needed::Always => Ok(argument.required(true)),
+        Needed::Never => Ok(argument),
+        Needed::Without(other) => argument.required_unless_present(other),
+        Needed::InsteadOf(other) => argument
+            .required_unless_present(other)?
+            .conflicts_with(other),
+    }
 }
 
-/// `init`: makes a store.
-fn init<'a>(alloc: Global) -> Result<Command<'a>, AllocError> {
-    Command::new(alloc, "init")
-        .about("Makes a store with the shelf common alone, in a file that has no bytes")
-        .arg(db(alloc))
+/// An option with its value and its help.
+fn option<'a>(alloc: Global, row: &OptionRow) -> Arg<'a> {
+    let option = Arg::new(alloc, row.name).long(row.name).help(row.help);
+    match row.value {
+        Some(value) => option.value_name(value),
+        None => option.action(ArgAction::SetTrue),
+    }
 }
 
-/// `team-add`: adds a team.
-fn team_add<'a>(alloc: Global) -> Result<Command<'a>, AllocError> {
-    let team = needed(
-        alloc,
-        "team",
-        "T",
-        "The team: 1 to 32 bytes of a-z, 0-9 and -, the first a letter, not common",
-    );
-    Command::new(alloc, "team-add")
-        .about("Adds a team, with a shelf of its own")
-        .arg(db(alloc))?
-        .arg(team)
+/// What the words ask for: nothing where no command is among them, which the parser refuses.
+pub fn task_of<'a>(matches: &ArgMatches<'a>) -> Option<Task<'a>> {
+    let (name, matches) = matches.subcommand()?;
+    match name {
+        "init" => Some(Task::Init {
+            db: text(matches, "db"),
+        }),
+        "answer" => Some(answer_task(matches)),
+        _ => Some(Task::OnStore {
+            db: text(matches, "db"),
+            work: work_of(name, matches)?,
+        }),
+    }
 }
 
-/// `key-add`: adds a key.
-fn key_add<'a>(alloc: Global) -> Result<Command<'a>, AllocError> {
-    let shelf = needed(
-        alloc,
-        "shelf",
-        "S",
-        "The shelf that the key belongs to: a team, or common",
-    );
-    let key = needed(
-        alloc,
-        "key",
-        "K",
-        "The key: 16 to 64 bytes of a-z and 0-9, which no shelf has",
-    );
-    let read_only = Arg::new(alloc, "read-only")
-        .long("read-only")
-        .action(ArgAction::SetTrue)
-        .help("The key may read, and not publish");
-    Command::new(alloc, "key-add")
-        .about("Adds a key to a shelf")
-        .arg(db(alloc))?
-        .arg(shelf)?
-        .arg(key)?
-        .arg(read_only)
+/// What `answer` asks for: it takes a file, or a team and its key.
+fn answer_task<'a>(matches: &ArgMatches<'a>) -> Task<'a> {
+    match matches.get_str("db") {
+        Some(db) => Task::OnStore {
+            db,
+            work: Work::Answer,
+        },
+        None => Task::AnswerInMemory {
+            team: text(matches, "team"),
+            key: text(matches, "key"),
+        },
+    }
 }
 
-/// `key-revoke`: takes a key away.
-fn key_revoke<'a>(alloc: Global) -> Result<Command<'a>, AllocError> {
-    let key = needed(
-        alloc,
-        "key",
-        "K",
-        "The key to take away; it is free again then",
-    );
-    Command::new(alloc, "key-revoke")
-        .about("Takes a key away")
-        .arg(db(alloc))?
-        .arg(key)
+/// What a command does on its store.
+fn work_of<'a>(name: &str, matches: &ArgMatches<'a>) -> Option<Work<'a>> {
+    match name {
+        "team-add" => Some(Work::TeamAdd {
+            team: text(matches, "team"),
+        }),
+        "key-add" => Some(Work::KeyAdd {
+            shelf: text(matches, "shelf"),
+            key: text(matches, "key"),
+            read_only: matches.get_flag("read-only"),
+        }),
+        "key-revoke" => Some(Work::KeyRevoke {
+            key: text(matches, "key"),
+        }),
+        "publish" => Some(publish_of(matches)),
+        _ => None,
+    }
 }
 
-/// `publish`: publishes a version from files.
-fn publish<'a>(alloc: Global) -> Result<Command<'a>, AllocError> {
-    let key = needed(alloc, "key", "K", "A key that may publish");
-    let module = needed(
-        alloc,
-        "module",
-        "P",
-        "The module path, as its go.mod names it",
-    );
-    let version = needed(alloc, "version", "V", "The version, as v1.0.0");
-    let gomod = needed(alloc, "mod", "FILE", "The file of the go.mod");
-    let zip = needed(alloc, "zip", "FILE", "The file of the zip");
-    let time = Arg::new(alloc, "time")
-        .long("time")
-        .value_name("T")
-        .help("The time of the version, as 2024-01-31T23:59:59Z");
-    Command::new(alloc, "publish")
-        .about("Publishes a version of a module from files, and prints the outcome")
-        .arg(db(alloc))?
-        .arg(key)?
-        .arg(module)?
-        .arg(version)?
-        .arg(gomod)?
-        .arg(zip)?
-        .arg(time)
-}
-
-/// `answer`: answers the requests on standard input.
-fn answer<'a>(alloc: Global) -> Result<Command<'a>, AllocError> {
-    let db = db(alloc).required(false).required_unless_present("mem")?;
-    let memory = Arg::new(alloc, "mem")
-        .long("mem")
-        .action(ArgAction::SetTrue)
-        .conflicts_with("db")?
-        .required_unless_present("db")?
-        .help("Keep the shelves in memory, beginning with one team and its key");
-    let team = Arg::new(alloc, "team")
-        .long("team")
-        .value_name("T")
-        .conflicts_with("db")?
-        .required_unless_present("db")?
-        .help(
-            "With --mem, the team: 1 to 32 bytes of a-z, 0-9 and -, the first a letter, not common",
-        );
-    let key = Arg::new(alloc, "key")
-        .long("key")
-        .value_name("K")
-        .conflicts_with("db")?
-        .required_unless_present("db")?
-        .help("With --mem, the team's publishing key: 16 to 64 bytes of a-z and 0-9");
-    Command::new(alloc, "answer")
-        .about("Answers the HTTP requests on standard input, on standard output")
-        .arg(db)?
-        .arg(memory)?
-        .arg(team)?
-        .arg(key)
+/// What `publish` does.
+fn publish_of<'a>(matches: &ArgMatches<'a>) -> Work<'a> {
+    let words = Words {
+        key: text(matches, "key"),
+        path: text(matches, "module"),
+        version: text(matches, "version"),
+        time: matches.get_str("time"),
+    };
+    let files = Files {
+        gomod: text(matches, "mod"),
+        zip: text(matches, "zip"),
+    };
+    Work::Publish { words, files }
 }
 
 /// The value of an option that has to be given.
-pub fn text<'a>(matches: &ArgMatches<'a>, name: &str) -> &'a str {
+fn text<'a>(matches: &ArgMatches<'a>, name: &str) -> &'a str {
     matches.get_str(name).unwrap_or("")
 }

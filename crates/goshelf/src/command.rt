@@ -1,11 +1,9 @@
 //! One whole run of the program.
 ghost use Rattle.std.specs.Prelude.{◌≤◌};
 
-use crate::answer::answer;
-use crate::arguments::parser;
-use crate::publish::publish;
+use crate::arguments::{parser, task_of};
 use crate::refusal::Refusal;
-use crate::registry::{init, key_add, key_revoke, team_add};
+use crate::task::perform;
 use clap::error::ErrorKind;
 use std::io::{self, Read, Write};
 use std::rt::HostRuntime;
@@ -62,21 +60,13 @@ fn run<I: Read, O: Write>(
         Ok(matches) => matches,
         Err(error) => return Err(Ending::Shown(error)),
     };
-    let done = match matches.subcommand() {
-        Some(("init", matches)) => init(rt, matches),
-        Some(("team-add", matches)) => team_add(rt, matches),
-        Some(("key-add", matches)) => key_add(rt, matches),
-        Some(("key-revoke", matches)) => key_revoke(rt, matches),
-        Some(("answer", matches)) => answer(rt, matches, input, output),
-        Some(("publish", matches)) => {
-            return match publish(rt, matches, output)? {
-                true => Ok(()),
-                false => Err(Ending::Told),
-            };
-        }
-        _ => Ok(()),
-    };
-    Ok(done?)
+    match task_of(&matches) {
+        Some(task) => match perform(rt, &task, input, output)? {
+            true => Ok(()),
+            false => Err(Ending::Told),
+        },
+        None => Ok(()),
+    }
 }
 
 /// Tells why a command was refused.

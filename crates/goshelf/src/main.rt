@@ -11,6 +11,7 @@ mod memory;
 mod publish;
 mod refusal;
 mod registry;
+mod task;
 #[cfg(test)]
 mod tests;
 

@@ -1,4 +1,4 @@
-//! `publish`: a version from files.
+//! A publish of a version from files.
 ghost use Rattle.std.specs.Prelude.{◌≡◌, ◌++◌, codes, option_copied, IfOk, OnOk};
 ghost use Rattle.std.specs.Io.KnownBytes.{Appends};
 ghost use Rattle.shelf.specs.Machine.{ask_reply, after_ask};
@@ -6,23 +6,20 @@ ghost use Rattle.world.specs.Store.{Does, HasCause};
 ghost use Rattle.wire.specs.Reply.{line_bytes};
 ghost use Rattle.goshelf.specs.Publish as spec;
 
-use crate::arguments::text;
 use crate::files::{FileFault, read_file};
 use crate::refusal::Refusal;
-use clap::ArgMatches;
 use engine::page::fixed_of;
-use modpath::{ModulePath, PathError};
-use modver::{Version, VersionFault, read_time};
+use modver::read_time;
 use shelf::ask::{Ask, Body, GivenTime, Publish};
 use shelf::reply::Reply;
 use shelf::step::step;
 use std::alloc::{AllocError, Global};
 use std::io::Write;
 use std::rt::HostRuntime;
-use store::store::SqlShelves;
 use wire::fixed_line;
 use wire::reply::Fixed;
 use world::entry::{MAX_GOMOD, MAX_ZIP};
+use world::forms::{path_of, version_of};
 use world::registry::StoreFault;
 use world::shelves::Shelves;
 use world::text::Text;
@@ -36,32 +33,34 @@ pub struct Words<'a> {
     pub time: Option<&'a str>,
 }
 
-/// `publish`: reads the two files and publishes them. It prints the outcome, and tells whether the version stands now with
-/// these files. `Io` where a file can't be read or the output failed.
-pub fn publish<'a, O: Write>(
+/// The names of the two files of a publish.
+#[derive(Clone, Copy, Drop)]
+pub struct Files<'a> {
+    pub gomod: &'a str,
+    pub zip: &'a str,
+}
+
+/// Reads the two files and publishes them. It prints the outcome, and tells whether the version stands now with these
+/// files. `Io` where a file can't be read or the output failed.
+pub fn publish<S: Shelves, O: Write>(
     rt: &HostRuntime,
-    matches: &ArgMatches<'a>,
+    shelves: &mut S,
+    words: &Words,
+    files: &Files,
     output: &mut O,
 ) -> Result<bool, Refusal> {
-    let mut shelves = SqlShelves::open_file(rt, text(matches, "db"))?;
-    let body = match read_files(rt, text(matches, "mod"), text(matches, "zip")) {
+    let body = match read_files(rt, files) {
         Ok(body) => body,
         Err(FileFault::Memory) => return tell(Fixed::Unavailable, output),
         Err(FileFault::Io) => return Err(Refusal::Io),
     };
-    let words = Words {
-        key: text(matches, "key"),
-        path: text(matches, "module"),
-        version: text(matches, "version"),
-        time: matches.get_str("time"),
-    };
-    publish_files(rt.alloc(), &mut shelves, &words, body, output)
+    publish_files(rt.alloc(), shelves, words, body, output)
 }
 
 /// The go.mod and the zip.
-fn read_files(rt: &HostRuntime, gomod: &str, zip: &str) -> Result<Body, FileFault> {
-    let gomod = read_file(rt, gomod, MAX_GOMOD as u64)?;
-    let zip = read_file(rt, zip, MAX_ZIP as u64)?;
+fn read_files(rt: &HostRuntime, files: &Files) -> Result<Body, FileFault> {
+    let gomod = read_file(rt, files.gomod, MAX_GOMOD as u64)?;
+    let zip = read_file(rt, files.zip, MAX_ZIP as u64)?;
     Ok(Body { gomod, zip })
 }
 
@@ -101,10 +100,10 @@ fn publish_by<S: Shelves>(
 fn ask_of(alloc: Global, words: &Words, body: Body) -> Result<Ask, AllocError>
     ensures { IfOk result (λ ask. ask ≡ spec.asked words.now.key.now words.now.path.now words.now.version.now (option_copied words.now.time) body) }
 {
-    let Some(path) = read_path(alloc, words.path)? else {
+    let Some(path) = path_of(alloc, words.path)? else {
         return Ok(Ask::Unreadable);
     };
-    let Some(version) = read_version(alloc, words.version)? else {
+    let Some(version) = version_of(alloc, words.version)? else {
         return Ok(Ask::Unreadable);
     };
     let key = Text::copy_of(alloc, words.key)?;
@@ -115,30 +114,6 @@ fn ask_of(alloc: Global, words: &Words, body: Body) -> Result<Ask, AllocError>
         time: given_time(words.time),
     };
     Ok(Ask::Put { key, publish })
-}
-
-/// The module path that a text is.
-fn read_path(alloc: Global, text: &str) -> Result<Option<ModulePath>, AllocError>
-    ensures { IfOk result (λ path. path ≡ spec.path_of text.now) }
-{
-    match ModulePath::parse(alloc, text) {
-        Ok(path) => Ok(Some(path)),
-        Err(PathError::Fault(_)) => Ok(None),
-        Err(PathError::Memory) => Err(AllocError),
-    }
-}
-
-/// The version that a text is.
-fn read_version(alloc: Global, text: &str) -> Result<Option<Version>, AllocError>
-    ensures { IfOk result (λ version. version ≡ spec.version_of text.now) }
-{
-    match Version::parse(alloc, text) {
-        Ok(version) => Ok(Some(version)),
-        Err(VersionFault::Form) => Ok(None),
-        Err(VersionFault::Build) => Ok(None),
-        Err(VersionFault::TooLong) => Ok(None),
-        Err(VersionFault::Memory) => Err(AllocError),
-    }
 }
 
 /// The time that is given, taken as it stands.

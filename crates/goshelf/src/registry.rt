@@ -1,62 +1,11 @@
-//! The commands of the registry: a new store, teams and keys.
+//! The commands of the registry: teams and keys.
 ghost use Rattle.std.specs.Prelude.{◌≡◌, true, if◌then◌else◌};
 ghost use Rattle.world.specs.Registry.{team_added, after_team_add, key_added, after_key_add, key_revoked, after_key_revoke};
-ghost use Rattle.goshelf.specs.Ending.{Registers, unmade};
+ghost use Rattle.goshelf.specs.Ending.{Registers};
 
-use crate::arguments::text;
-use crate::files::holds_bytes;
 use crate::refusal::{Refusal, ending};
-use clap::ArgMatches;
-use std::rt::HostRuntime;
-use store::refusal::Refusal as Unopened;
-use store::store::SqlShelves;
 use world::entry::Right;
 use world::shelves::Shelves;
-
-/// `init --db F`: makes a store with the shelf `common` alone. A file that has bytes is `NotEmpty`.
-pub fn init<'a>(rt: &HostRuntime, matches: &ArgMatches<'a>) -> Result<(), Refusal> {
-    let path = text(matches, "db");
-    if holds_bytes(rt, path) {
-        return Err(Refusal::NotEmpty);
-    }
-    match SqlShelves::open_file(rt, path) {
-        Ok(_) => Ok(()),
-        Err(refusal) => Err(init_refusal(refusal)),
-    }
-}
-
-/// Why no store is made. Tables that are none of a store's are bytes like others.
-fn init_refusal(refusal: Unopened) -> Refusal
-    ensures { result ≡ unmade refusal }
-{
-    match refusal {
-        Unopened::BadSchema => Refusal::NotEmpty,
-        other => Refusal::from(other),
-    }
-}
-
-/// `team-add --db F --team T`: adds a team.
-pub fn team_add<'a>(rt: &HostRuntime, matches: &ArgMatches<'a>) -> Result<(), Refusal> {
-    let mut shelves = SqlShelves::open_file(rt, text(matches, "db"))?;
-    add_team(&mut shelves, text(matches, "team"))
-}
-
-/// `key-add --db F --shelf S --key K [--read-only]`: adds a key to a shelf.
-pub fn key_add<'a>(rt: &HostRuntime, matches: &ArgMatches<'a>) -> Result<(), Refusal> {
-    let mut shelves = SqlShelves::open_file(rt, text(matches, "db"))?;
-    add_key(
-        &mut shelves,
-        text(matches, "shelf"),
-        text(matches, "key"),
-        matches.get_flag("read-only"),
-    )
-}
-
-/// `key-revoke --db F --key K`: takes a key away.
-pub fn key_revoke<'a>(rt: &HostRuntime, matches: &ArgMatches<'a>) -> Result<(), Refusal> {
-    let mut shelves = SqlShelves::open_file(rt, text(matches, "db"))?;
-    revoke_key(&mut shelves, text(matches, "key"))
-}
 
 /// Adds a team, as the machine does. `Name`, `Taken`, or a fault of the store: then nothing is changed.
 pub fn add_team<S: Shelves>(shelves: &mut S, name: &str) -> Result<(), Refusal>

@@ -10,8 +10,8 @@ use gomod::GoMod;
 use latest::{latest, top};
 use modver::{Class, Version, class};
 use std::alloc::{AllocError, Global};
-use world::text_set::TextSet;
 use world::forms::version_of;
+use world::text_set::TextSet;
 
 /// The versions that texts name, in the order of the texts.
 pub fn named(alloc: Global, texts: &TextSet) -> Result<Vec<Version>, AllocError>

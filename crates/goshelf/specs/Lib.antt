@@ -1,3 +1,1 @@
-pub mod Ending
-pub mod Opening
-pub mod Publish
+pub mod Opened

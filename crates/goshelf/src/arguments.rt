@@ -1,7 +1,8 @@
 //! The command line: its commands, their options and their help.
-use crate::publish::{Files, Words};
-use crate::task::{Task, Work};
+use crate::task::Task;
 use clap::{Arg, ArgAction, ArgMatches, Command};
+use commands::publish::{Files, Words};
+use commands::work::Work;
 use std::alloc::{AllocError, Global};
 
 /// A command as help tells of it.

@@ -2,9 +2,9 @@
 ghost use Rattle.std.specs.Prelude.{◌≤◌};
 
 use crate::arguments::{parser, task_of};
-use crate::refusal::Refusal;
 use crate::task::perform;
 use clap::error::ErrorKind;
+use commands::refusal::Refusal;
 use std::io::{self, Read, Write};
 use std::rt::HostRuntime;
 

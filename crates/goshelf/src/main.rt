@@ -3,14 +3,8 @@
 //! One run of the program is the call [`command::command`]; `main` hands it the words, the streams and the runtime of the system.
 #![tactic(auto)]
 
-mod answer;
 mod arguments;
 mod command;
-mod files;
-mod memory;
-mod publish;
-mod refusal;
-mod registry;
 mod task;
 #[cfg(test)]
 mod tests;

@@ -1,17 +1,15 @@
 //! What the words of a run ask for, and doing it.
 ghost use Rattle.std.specs.Prelude.{◌≡◌};
-ghost use Rattle.goshelf.specs.Ending as spec;
+ghost use Rattle.goshelf.specs.Opened as spec;
 
-use crate::answer::answer_from;
-use crate::files::holds_bytes;
-use crate::memory::answer_in_memory;
-use crate::publish::{Files, Words, publish};
-use crate::refusal::Refusal;
-use crate::registry::{add_key, add_team, revoke_key};
+use commands::files::holds_bytes;
+use commands::memory::answer_in_memory;
+use commands::refusal::Refusal;
+use commands::work::{Work, work_on};
 use std::io::{Read, Write};
 use std::rt::HostRuntime;
+use store::refusal::Refusal as Unopened;
 use store::store::SqlShelves;
-use world::shelves::Shelves;
 
 /// What a run is to do.
 #[derive(Clone, Copy, Drop)]
@@ -22,34 +20,6 @@ pub enum Task<'a> {
     AnswerInMemory { team: &'a str, key: &'a str },
     /// What is done on the store of a file.
     OnStore { db: &'a str, work: Work<'a> },
-}
-
-/// What is done on a store.
-#[derive(Clone, Copy, Drop)]
-pub enum Work<'a> {
-    /// Nothing: the store is there once it was opened.
-    Open,
-    /// `team-add`: adds a team.
-    TeamAdd {
-        team: &'a str,
-    },
-    /// `key-add`: adds a key to a shelf.
-    KeyAdd {
-        shelf: &'a str,
-        key: &'a str,
-        read_only: bool,
-    },
-    /// `key-revoke`: takes a key away.
-    KeyRevoke {
-        key: &'a str,
-    },
-    /// `publish`: publishes a version from files.
-    Publish {
-        words: Words<'a>,
-        files: Files<'a>,
-    },
-    /// `answer --db F`: answers the requests on the input.
-    Answer,
 }
 
 /// Does a task, and tells whether it was accepted: only a publish may be told so and not be.
@@ -95,6 +65,17 @@ fn init_refusal(refusal: Refusal) -> Refusal
     }
 }
 
+/// Why a store is not opened.
+fn open_refusal(unopened: Unopened) -> Refusal
+    ensures { result ≡ spec.unopened unopened }
+{
+    match unopened {
+        Unopened::Device => Refusal::Device,
+        Unopened::Memory => Refusal::Memory,
+        Unopened::BadSchema => Refusal::BadSchema,
+    }
+}
+
 /// Does a work on the store of a file.
 fn on_file<I: Read, O: Write>(
     rt: &HostRuntime,
@@ -103,29 +84,9 @@ fn on_file<I: Read, O: Write>(
     input: &mut I,
     output: &mut O,
 ) -> Result<bool, Refusal> {
-    let mut shelves = SqlShelves::open_file(rt, path)?;
-    on_store(rt, &mut shelves, work, input, output)
-}
-
-/// Does a work on a store.
-fn on_store<S: Shelves, I: Read, O: Write>(
-    rt: &HostRuntime,
-    shelves: &mut S,
-    work: &Work,
-    input: &mut I,
-    output: &mut O,
-) -> Result<bool, Refusal> {
-    match work {
-        Work::Open => (),
-        Work::TeamAdd { team } => add_team(shelves, team)?,
-        Work::KeyAdd {
-            shelf,
-            key,
-            read_only,
-        } => add_key(shelves, shelf, key, *read_only)?,
-        Work::KeyRevoke { key } => revoke_key(shelves, key)?,
-        Work::Publish { words, files } => return publish(rt, shelves, words, files, output),
-        Work::Answer => answer_from(rt.alloc(), shelves, input, output)?,
-    }
-    Ok(true)
+    let mut shelves = match SqlShelves::open_file(rt, path) {
+        Ok(shelves) => shelves,
+        Err(unopened) => return Err(open_refusal(unopened)),
+    };
+    work_on(rt, &mut shelves, work, input, output)
 }

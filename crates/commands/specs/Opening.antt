@@ -6,8 +6,8 @@ use Rattle.world.specs.InMemory.{in_memory}
 use Rattle.world.specs.Store.{Shown}
 use Rattle.world.specs.World.{World, only_common, with_team, with_key, is_team_name, is_key}
 use Rattle.world.specs.declared.entry.Right.TheVariants.{Publishes}
-use Rattle.goshelf.specs.declared.refusal.Refusal.{Refusal}
-use Rattle.goshelf.specs.declared.refusal.Refusal.TheVariants.{Name, Memory, Io}
+use Rattle.commands.specs.declared.refusal.Refusal.{Refusal}
+use Rattle.commands.specs.declared.refusal.Refusal.TheVariants.{Name, Memory, Io}
 
 -- `common`, one team, and the team's publishing key
 abbrev pub opening : List ℕ → List ℕ → World

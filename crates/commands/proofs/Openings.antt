@@ -22,7 +22,7 @@ use Rattle.shelf.specs.declared.ask.Event.TheVariants.{TeamAdd}
 use Rattle.world.proofs.Orders.{texts_total, text_apart}
 use Rattle.engine.specs.Served.{Serves}
 use Rattle.engine.specs.declared.fault.Io.{Io as Failure}
-use Rattle.goshelf.specs.Opening.{ServedFrom, opening}
+use Rattle.commands.specs.Opening.{ServedFrom, opening}
 
 -- a team has another name than common
 not_common : (t : List ℕ) → is_team_name t ≡ true → t ≡ common → ⊥

@@ -1,7 +1,7 @@
 //! The commands of the registry: teams and keys.
 ghost use Rattle.std.specs.Prelude.{◌≡◌, true, if◌then◌else◌};
 ghost use Rattle.world.specs.Registry.{team_added, after_team_add, key_added, after_key_add, key_revoked, after_key_revoke};
-ghost use Rattle.goshelf.specs.Ending.{Registers};
+ghost use Rattle.commands.specs.Ending.{Registers};
 
 use crate::refusal::{Refusal, ending};
 use world::entry::Right;

@@ -1,5 +1,5 @@
-use Rattle.goshelf.proofs.Openings.{served_from}
-use Rattle.goshelf.proofs.memory.answer_in_memory.Goals as goal
+use Rattle.commands.proofs.Openings.{served_from}
+use Rattle.commands.proofs.memory.answer_in_memory.Goals as goal
 
 pub returns-in-Ok-answer_all : goal.returns-in-Ok-answer_all
 returns-in-Ok-answer_all g c = (c.in-Ok.ensures.ok.1, served_from _ _ _ _ _ _ _ _ c.in-Ok-answer_all.ensures c.in-Ok.ensures.ok.0)

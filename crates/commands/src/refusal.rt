@@ -1,10 +1,9 @@
 //! The words on standard error that tell why a command was refused.
 ghost use Rattle.std.specs.Prelude.{◌≡◌};
-ghost use Rattle.goshelf.specs.Ending as spec;
+ghost use Rattle.commands.specs.Ending as spec;
 
-use std::alloc::{AllocError, AllocFailed};
+use std::alloc::AllocError;
 use std::fmt;
-use store::refusal::Refusal as Unopened;
 use world::registry::{Registered, StoreFault};
 
 /// Why a command was refused, with exit status 1.
@@ -49,24 +48,6 @@ impl fmt::Display for Refusal {
 impl From<AllocError> for Refusal {
     fn from(_: AllocError) -> Refusal {
         Refusal::Memory
-    }
-}
-
-impl<T: Drop> From<AllocFailed<T>> for Refusal {
-    fn from(_: AllocFailed<T>) -> Refusal {
-        Refusal::Memory
-    }
-}
-
-impl From<Unopened> for Refusal {
-    ghost from_gives = { λ unopened refusal. refusal ≡ spec.unopened unopened };
-
-    fn from(unopened: Unopened) -> Refusal {
-        match unopened {
-            Unopened::Device => Refusal::Device,
-            Unopened::Memory => Refusal::Memory,
-            Unopened::BadSchema => Refusal::BadSchema,
-        }
     }
 }
 

@@ -1,5 +1,5 @@
 //! `answer`: the requests on the input, answered on the output.
-ghost use Rattle.goshelf.specs.Opening.{AnswersAll};
+ghost use Rattle.commands.specs.Opening.{AnswersAll};
 
 use crate::refusal::Refusal;
 use engine::answer_all;

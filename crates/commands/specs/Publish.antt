@@ -19,8 +19,8 @@ use Rattle.engine.specs.Reply.{fixed_of}
 use Rattle.wire.specs.Reply.{line_bytes, fixed_status}
 use Rattle.wire.specs.declared.reply.Fixed.{Fixed}
 use Rattle.wire.specs.declared.reply.Fixed.TheVariants as fixed
-use Rattle.goshelf.specs.declared.refusal.Refusal.{Refusal}
-use Rattle.goshelf.specs.declared.refusal.Refusal.TheVariants.{Io}
+use Rattle.commands.specs.declared.refusal.Refusal.{Refusal}
+use Rattle.commands.specs.declared.refusal.Refusal.TheVariants.{Io}
 
 -- the time that is given: none, or the one that the text writes
 abbrev pub given_time : Option (List ℕ) → GivenTime

@@ -4,7 +4,7 @@ ghost use Rattle.std.specs.Io.KnownBytes.{Appends};
 ghost use Rattle.shelf.specs.Machine.{ask_reply, after_ask};
 ghost use Rattle.world.specs.Store.{Does, HasCause};
 ghost use Rattle.wire.specs.Reply.{line_bytes};
-ghost use Rattle.goshelf.specs.Publish as spec;
+ghost use Rattle.commands.specs.Publish as spec;
 
 use crate::files::{FileFault, read_file};
 use crate::refusal::Refusal;

@@ -6,21 +6,8 @@ use Rattle.world.specs.declared.registry.Registered.{Registered}
 use Rattle.world.specs.declared.registry.Registered.TheVariants as registered
 use Rattle.world.specs.declared.registry.StoreFault.{StoreFault}
 use Rattle.world.specs.declared.registry.StoreFault.TheVariants as fault
-use Rattle.store.specs.declared.refusal.Refusal.{Refusal as Unopened}
-use Rattle.store.specs.declared.refusal.Refusal.TheVariants as store
-use Rattle.goshelf.specs.declared.refusal.Refusal.{Refusal}
-use Rattle.goshelf.specs.declared.refusal.Refusal.TheVariants as refusal
-
--- why a command is refused whose store is not opened
-abbrev pub unopened : Unopened → Refusal
-unopened store.Device = refusal.Device
-unopened store.Memory = refusal.Memory
-unopened store.BadSchema = refusal.BadSchema
-
--- the same of `init`, which does not judge tables: a file that has any has bytes
-abbrev pub unmade : Refusal → Refusal
-unmade refusal.BadSchema = refusal.NotEmpty
-unmade other = other
+use Rattle.commands.specs.declared.refusal.Refusal.{Refusal}
+use Rattle.commands.specs.declared.refusal.Refusal.TheVariants as refusal
 
 -- how a command of the registry ends
 abbrev pub ending : Result Registered StoreFault → Result (Unit {0}) Refusal

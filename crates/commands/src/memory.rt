@@ -1,7 +1,7 @@
 //! Shelves in memory, for one run of the program.
 ghost use Rattle.std.specs.Prelude.{◌≡◌, ◌⊎◌, true, OnOk, OnErr, IfOk, IfErr};
 ghost use Rattle.world.specs.World.{only_common, with_team, is_team_name, is_key};
-ghost use Rattle.goshelf.specs.Opening.{AnsweredFor, AreNames, opening};
+ghost use Rattle.commands.specs.Opening.{AnsweredFor, AreNames, opening};
 
 use crate::refusal::Refusal;
 use engine::answer_all;

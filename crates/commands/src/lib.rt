@@ -1,0 +1,19 @@
+//! What the commands of the program do, over any store, any reader and any writer.
+//!
+//! | command | what it does | where |
+//! |---|---|---|
+//! | `team-add`, `key-add`, `key-revoke` | one command of the registry, as the machine does it | [`registry`] |
+//! | `publish` | asks the machine to publish two files, and prints the line of its outcome | [`publish`] |
+//! | `answer` | answers the requests of a reader from a store, or from shelves in memory that begin with one team and its key | [`answer`], [`memory`] |
+//!
+//! [`work`] does what is asked of a store; [`refusal`] has the words that tell why a command was refused. Nothing here
+//! opens a store or reads the words of a command line.
+#![tactic(auto)]
+
+pub mod answer;
+pub mod files;
+pub mod memory;
+pub mod publish;
+pub mod refusal;
+pub mod registry;
+pub mod work;

@@ -25,7 +25,6 @@ use Rattle.sqlite.proofs.Callers.{IsPlain, command_of, statement_of}
 use Rattle.sqlite_tied.specs.Compute.{everything}
 use Rattle.store.specs.Schema.{no_schema, store_schema, meta_table, shelf_table, access_table, version_table, body_table}
 use Rattle.sqlite.specs.Order.{column}
-use Rattle.sqlite.specs.Edit.{put_all}
 use Rattle.store.specs.Means.{Means, schema_named}
 use Rattle.std.specs.FinSet as set
 use Rattle.world.specs.World.{only_common, common, text_cmp, place_cmp}
@@ -133,67 +132,71 @@ schema4 = record { tables = meta_table ∷ shelf_table ∷ access_table ∷ vers
 abbrev pub schema5 : Schema
 schema5 = record { tables = meta_table ∷ shelf_table ∷ access_table ∷ version_table ∷ body_table ∷ []; indexes = take 4 store_schema.indexes; views = [] }
 
-cut1 : (take (first_len text1) text1 ≡ first1) × (drop (first_len text1) text1 ≡ text2)
+pub cut1 : (take (first_len text1) text1 ≡ first1) × (drop (first_len text1) text1 ≡ text2)
 unfolding everything
 cut1 = (refl, refl)
 
-cut2 : (take (first_len text2) text2 ≡ first2) × (drop (first_len text2) text2 ≡ text3)
+pub cut2 : (take (first_len text2) text2 ≡ first2) × (drop (first_len text2) text2 ≡ text3)
 unfolding everything
 cut2 = (refl, refl)
 
-cut3 : (take (first_len text3) text3 ≡ first3) × (drop (first_len text3) text3 ≡ text4)
+pub cut3 : (take (first_len text3) text3 ≡ first3) × (drop (first_len text3) text3 ≡ text4)
 unfolding everything
 cut3 = (refl, refl)
 
-cut4 : (take (first_len text4) text4 ≡ first4) × (drop (first_len text4) text4 ≡ text5)
+pub cut4 : (take (first_len text4) text4 ≡ first4) × (drop (first_len text4) text4 ≡ text5)
 unfolding everything
 cut4 = (refl, refl)
 
-cut5 : (take (first_len text5) text5 ≡ first5) × (drop (first_len text5) text5 ≡ text6)
+pub cut5 : (take (first_len text5) text5 ≡ first5) × (drop (first_len text5) text5 ≡ text6)
 unfolding everything
 cut5 = (refl, refl)
 
-cut6 : (take (first_len text6) text6 ≡ first6) × (drop (first_len text6) text6 ≡ text7)
+pub cut6 : (take (first_len text6) text6 ≡ first6) × (drop (first_len text6) text6 ≡ text7)
 unfolding everything
 cut6 = (refl, refl)
 
-cut7 : (take (first_len text7) text7 ≡ first7) × (drop (first_len text7) text7 ≡ [])
+pub cut7 : (take (first_len text7) text7 ≡ first7) × (drop (first_len text7) text7 ≡ [])
 unfolding everything
 cut7 = (refl, refl)
 
-make1 : (command_of (understood schema0 first1) ≡ CreateTable) × IsPlain (understood schema0 first1) × (table_defined_by (statement_of first1 (understood schema0 first1)) ≡ Ok (record meta_table { tree = 0 })) × (created schema0 (record meta_table { tree = 0 }) ≡ schema1)
+pub make1 : (command_of (understood schema0 first1) ≡ CreateTable) × IsPlain (understood schema0 first1) × (table_defined_by (statement_of first1 (understood schema0 first1)) ≡ Ok (record meta_table { tree = 0 })) × (created schema0 (record meta_table { tree = 0 }) ≡ schema1)
 unfolding understood everything
 make1 = (refl, (refl, refl), refl, refl)
 
-make2 : (command_of (understood schema1 first2) ≡ CreateTable) × IsPlain (understood schema1 first2) × (table_defined_by (statement_of first2 (understood schema1 first2)) ≡ Ok (record shelf_table { tree = 0 })) × (created schema1 (record shelf_table { tree = 0 }) ≡ schema2)
+pub make2 : (command_of (understood schema1 first2) ≡ CreateTable) × IsPlain (understood schema1 first2) × (table_defined_by (statement_of first2 (understood schema1 first2)) ≡ Ok (record shelf_table { tree = 0 })) × (created schema1 (record shelf_table { tree = 0 }) ≡ schema2)
 unfolding understood everything
 make2 = (refl, (refl, refl), refl, refl)
 
-make3 : (command_of (understood schema2 first3) ≡ CreateTable) × IsPlain (understood schema2 first3) × (table_defined_by (statement_of first3 (understood schema2 first3)) ≡ Ok (record access_table { tree = 0 })) × (created schema2 (record access_table { tree = 0 }) ≡ schema3)
+pub make3 : (command_of (understood schema2 first3) ≡ CreateTable) × IsPlain (understood schema2 first3) × (table_defined_by (statement_of first3 (understood schema2 first3)) ≡ Ok (record access_table { tree = 0 })) × (created schema2 (record access_table { tree = 0 }) ≡ schema3)
 unfolding understood everything
 make3 = (refl, (refl, refl), refl, refl)
 
-make4 : (command_of (understood schema3 first4) ≡ CreateTable) × IsPlain (understood schema3 first4) × (table_defined_by (statement_of first4 (understood schema3 first4)) ≡ Ok (record version_table { tree = 0 })) × (created schema3 (record version_table { tree = 0 }) ≡ schema4)
+pub make4 : (command_of (understood schema3 first4) ≡ CreateTable) × IsPlain (understood schema3 first4) × (table_defined_by (statement_of first4 (understood schema3 first4)) ≡ Ok (record version_table { tree = 0 })) × (created schema3 (record version_table { tree = 0 }) ≡ schema4)
 unfolding understood everything
 make4 = (refl, (refl, refl), refl, refl)
 
-make5 : (command_of (understood schema4 first5) ≡ CreateTable) × IsPlain (understood schema4 first5) × (table_defined_by (statement_of first5 (understood schema4 first5)) ≡ Ok (record body_table { tree = 0 })) × (created schema4 (record body_table { tree = 0 }) ≡ schema5)
+pub make5 : (command_of (understood schema4 first5) ≡ CreateTable) × IsPlain (understood schema4 first5) × (table_defined_by (statement_of first5 (understood schema4 first5)) ≡ Ok (record body_table { tree = 0 })) × (created schema4 (record body_table { tree = 0 }) ≡ schema5)
 unfolding understood everything
 make5 = (refl, (refl, refl), refl, refl)
 
-put6 : (command_of (understood store_schema first6) ≡ Insert 0 (Values (lit Null ∷ lit (Text (codes "schema")) ∷ lit (Int (pos 1)) ∷ []) 3)) × IsPlain (understood store_schema first6)
+pub put6 : (command_of (understood store_schema first6) ≡ Insert 0 (Values (lit Null ∷ lit (Text (codes "schema")) ∷ lit (Int (pos 1)) ∷ []) 3)) × IsPlain (understood store_schema first6)
 unfolding understood everything
 put6 = (refl, (refl, refl))
 
-put7 : (command_of (understood store_schema first7) ≡ Insert 1 (Values (lit Null ∷ lit (Text (codes "common")) ∷ []) 2)) × IsPlain (understood store_schema first7)
+pub put7 : (command_of (understood store_schema first7) ≡ Insert 1 (Values (lit Null ∷ lit (Text (codes "common")) ∷ []) 2)) × IsPlain (understood store_schema first7)
 unfolding understood everything
 put7 = (refl, (refl, refl))
 
+abbrev pub meta_row : Row
+meta_row = Int (pos 1) ∷ Text (codes "schema") ∷ Int (pos 1) ∷ []
+
+abbrev pub common_row : Row
+common_row = Int (pos 1) ∷ Text (codes "common") ∷ []
+
 record Rows (db : Trees) : Type 0 where
-  meta_id : ℤ
-  meta : db 0 ≡ put_all [] ((Int meta_id ∷ Text (codes "schema") ∷ Int (pos 1) ∷ []) ∷ [])
-  id : ℤ
-  shelf : db 2 ≡ put_all [] ((Int id ∷ Text (codes "common") ∷ []) ∷ [])
+  meta : db 0 ≡ meta_row ∷ []
+  shelf : db 2 ≡ common_row ∷ []
   access : db 4 ≡ []
   version : db 6 ≡ []
   body : db 8 ≡ []
@@ -202,11 +205,11 @@ means : (db : Trees) → Rows db → Means db only_common
 means db r = record {
   named = rw r.meta (record {
     each = λ row there. elim there [ inl same ↦ (schema_named, (ap (λ (x : Row). column x 1) same, ap (λ (x : Row). column x 2) same), refl) | inr none ↦ absurd none ];
-    found = λ it same. (Int r.meta_id ∷ Text (codes "schema") ∷ Int (pos 1) ∷ [], inl refl, (ap (λ (x : List ℕ × ℤ). Text x.0) (sym same), ap (λ (x : List ℕ × ℤ). Int x.1) (sym same)));
+    found = λ it same. (meta_row, inl refl, (ap (λ (x : List ℕ × ℤ). Text x.0) (sym same), ap (λ (x : List ℕ × ℤ). Int x.1) (sym same)));
   });
   shelves = rw r.shelf (record {
     each = λ row there. elim there [ inl same ↦ (codes "common", ap (λ (x : Row). column x 1) same, text_put set.empty common) | inr none ↦ absurd none ];
-    found = λ name holds. (Int r.id ∷ Text (codes "common") ∷ [], inl refl, ap Text (only_name name holds));
+    found = λ name holds. (common_row, inl refl, ap Text (only_name name holds));
   });
   access = rw r.access (record { each = λ row none. absurd none; found = λ x some. absurd (none_in_empty text_cmp x.0 x.1 some) });
   numbered = rw r.access (record { number = λ row none. absurd none; own = λ a b none. absurd none });
@@ -219,21 +222,21 @@ means db r = record {
     only_name : (name : List ℕ) → IsTrue (set.contains only_common.shelves name) → codes "common" ≡ name
     only_name name holds = elim (text_splits set.empty common name holds) [ inl same ↦ sym same | inr none ↦ absurd (no_text name none) ]
 
-put_meta : (old new : State) (count : ℕ) → old.now.schema ≡ store_schema → old.now.trees 0 ≡ [] → ExecutesIn true first6 [] old new (Ok count)
-    → (new.now.schema ≡ store_schema) × ((id : ℤ) × (new.now.trees 0 ≡ put_all [] ((Int id ∷ Text (codes "schema") ∷ Int (pos 1) ∷ []) ∷ []))) × (new.now.trees 2 ≡ old.now.trees 2) × (new.now.trees 4 ≡ old.now.trees 4) × (new.now.trees 6 ≡ old.now.trees 6)
+pub put_meta : (old new : State) (count : ℕ) → old.now.schema ≡ store_schema → old.now.trees 0 ≡ [] → ExecutesIn true first6 [] old new (Ok count)
+    → (new.now.schema ≡ store_schema) × (new.now.trees 0 ≡ meta_row ∷ []) × (new.now.trees 2 ≡ old.now.trees 2) × (new.now.trees 4 ≡ old.now.trees 4) × (new.now.trees 6 ≡ old.now.trees 6)
     × (new.now.trees 8 ≡ old.now.trees 8)
 put_meta old new count has none h =
     let w = ran_as first6 old new store_schema has _ put6.0 put6.1 count h in
     let it = inserted old.step_limit meta_table refl [] (lit Null ∷ lit (Text (codes "schema")) ∷ lit (Int (pos 1)) ∷ []) 3 (Null ∷ Text (codes "schema") ∷ Int (pos 1) ∷ []) refl (λ _. refl) 0 refl old.now [] w.tally new.now has w.changed in
-    (it.0, (pos 1, rw none at (rw (cast_null, cast_int (pos 1)) at it.1.rows)), it.1.tables.1.0 (λ e. omega (arith, e)), it.1.tables.1.1.0 (λ e. omega (arith, e)), it.1.tables.1.1.1.0 (λ e. omega (arith, e)), it.1.tables.1.1.1.1.0 (λ e. omega (arith, e)))
+    (it.0, rw none at (rw (cast_null, cast_int (pos 1)) at it.1.rows), it.1.tables.1.0 (λ e. omega (arith, e)), it.1.tables.1.1.0 (λ e. omega (arith, e)), it.1.tables.1.1.1.0 (λ e. omega (arith, e)), it.1.tables.1.1.1.1.0 (λ e. omega (arith, e)))
 
 put_common : (old new : State) (count : ℕ) → old.now.schema ≡ store_schema → old.now.trees 2 ≡ [] → ExecutesIn true first7 [] old new (Ok count)
-    → (new.now.schema ≡ store_schema) × ((id : ℤ) × (new.now.trees 2 ≡ put_all [] ((Int id ∷ Text (codes "common") ∷ []) ∷ []))) × (new.now.trees 4 ≡ old.now.trees 4) × (new.now.trees 6 ≡ old.now.trees 6)
+    → (new.now.schema ≡ store_schema) × (new.now.trees 2 ≡ common_row ∷ []) × (new.now.trees 4 ≡ old.now.trees 4) × (new.now.trees 6 ≡ old.now.trees 6)
     × (new.now.trees 0 ≡ old.now.trees 0) × IsDatabase new.now × IsTrue new.is_open × (new.now.trees 8 ≡ old.now.trees 8)
 put_common old new count has none h =
     let w = ran_as first7 old new store_schema has _ put7.0 put7.1 count h in
     let it = inserted old.step_limit shelf_table refl [] (lit Null ∷ lit (Text (codes "common")) ∷ []) 2 (Null ∷ Text (codes "common") ∷ []) refl (λ _. refl) 1 refl old.now [] w.tally new.now has w.changed in
-    (it.0, (pos 1, rw none at (rw cast_null at it.1.rows)), it.1.tables.1.1.0 (λ e. omega (arith, e)), it.1.tables.1.1.1.0 (λ e. omega (arith, e)), it.1.tables.0 (λ e. omega (arith, e)), w.sound, w.shown.is_open, it.1.tables.1.1.1.1.0 (λ e. omega (arith, e)))
+    (it.0, rw none at (rw cast_null at it.1.rows), it.1.tables.1.1.0 (λ e. omega (arith, e)), it.1.tables.1.1.1.0 (λ e. omega (arith, e)), it.1.tables.0 (λ e. omega (arith, e)), w.sound, w.shown.is_open, it.1.tables.1.1.1.1.0 (λ e. omega (arith, e)))
 
 module _ {S : Type 0} (g : Ghosts S) (old new : Held S) where
   pub all_made : KeepsCommit (state g old) (state g new) → IsTrue new.in_transaction → (state g old).now.schema ≡ no_schema → ExecutesAllInside g 0 text1 old new (Ok tt) → IsMade (state g old) (state g new)
@@ -258,7 +261,7 @@ module _ {S : Type 0} (g : Ghosts S) (old new : Held S) where
       let access : (state g l.0).now.trees 4 ≡ [] = L.2 ∙ (F.3 ∙ (E.2.1.1.0 ∙ (D.2.1.1.0 ∙ C.1))) in
       let version : (state g l.0).now.trees 6 ≡ [] = L.3 ∙ (F.4 ∙ (E.2.1.1.1.0 ∙ D.1)) in
       let body : (state g l.0).now.trees 8 ≡ [] = L.7 ∙ (F.5 ∙ E.1) in
-      let rows : Rows (state g l.0).now.trees = record { meta_id = F.1.0; meta = L.4 ∙ F.1.1; id = L.1.0; shelf = L.1.1; access = access; version = version; body = body } in
+      let rows : Rows (state g l.0).now.trees = record { meta = L.4 ∙ F.1; shelf = L.1; access = access; version = version; body = body } in
       let same : new ≡ l.0 = l.3.1 in
       let shown : IsTrue (state g new).is_open = ap (λ h. (state g h).is_open) same ∙ L.6 in
       record {

@@ -45,7 +45,7 @@ module _ (limit : Option ℕ) (table : Table) (uncounted : table.is_counted ≡ 
   not_counted mid next counter top h =
       same_value (subst (λ b. MatchBool (cond b (is_lt (int_cmp (count_of counter) top)) false) (CountsIn task mid counter top (sequence store_schema) (Ok next)) (Gives mid (Ok next))) uncounted h)
 
-  numbers : (top : ℤ) → rowids_for table top ≡ Chosen
+  pub numbers : (top : ℤ) → rowids_for table top ≡ Chosen
   numbers top = ap (λ b. cond b (Above top) Chosen) uncounted
 
   module _ (terms : List Term) (width : ℕ) (source : Row) (single : value_rows (stamped table params) width (length terms / width) terms ≡ source ∷ [])

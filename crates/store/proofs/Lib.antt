@@ -31,7 +31,11 @@ pub mod HeadingLemmas
 pub mod CountLemmas
 pub mod FirstWorld
 pub mod FlagLemmas
+pub mod PutLemmas
+pub mod CauseLemmas
 pub mod CreateLemmas
+pub mod MakeLemmas
+pub mod UnmadeLemmas
 pub mod StoreLemmas
 pub mod OpenLemmas
 pub mod OneWorld

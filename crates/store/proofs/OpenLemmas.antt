@@ -1,5 +1,6 @@
 -- Tables that are opened.
-use Rattle.std.proofs.Common.{◌≡◌, true, false, Ok, refl, sym, ap, subst, ◌∙◌, inl, inr, IsTrue, true≢false}
+use Rattle.std.proofs.Common.{◌≡◌, ◌⊎◌, true, false, Ok, refl, sym, ap, subst, ◌∙◌, inl, inr, IsTrue, true≢false, arith}
+use Rattle.std.specs.Prelude.{IsSome}
 use Rattle.sqlite.specs.Tree.{Trees}
 use Rattle.sqlite.specs.Effect.{Database}
 use Rattle.sqlite.specs.State.{State, HasCleanDisk, IsLive}
@@ -11,7 +12,15 @@ use Rattle.store.specs.Means.{StandFor, Holds}
 use Rattle.store.specs.Calls.{shown_of, BeginsAt}
 use Rattle.store.specs.Walks.{Looks, Tests}
 use Rattle.store.specs.Fit.{AreFit}
-use Rattle.store.specs.Opened.{IsSettled, Opens, IsBad}
+use Rattle.store.specs.Opened.{IsSettled, Opens, IsBad, IsHindered, IsExcused}
+use Rattle.store.specs.declared.refusal.Refusal.{Refusal}
+use Rattle.store.specs.declared.refusal.Refusal.TheVariants as refusal
+use Rattle.sqlite.specs.declared.error.Error.{Error}
+use Rattle.sqlite.specs.declared.error.Error.TheVariants.{SqliteFailure}
+use Rattle.sqlite.specs.declared.error.ErrorCode.TheVariants as code
+use Rattle.sqlite_trees.specs.declared.memory.MemStore.{MemStore}
+use Rattle.sqlite.specs.Held.{Held, state, IsNew}
+use Rattle.sqlite.specs.Steps.{over_memory, IsEmpty}
 use Rattle.store.proofs.WriteLemmas.{open_leaves}
 use Rattle.store.proofs.WorldOf.{world_of, fit_means, fit_world}
 use Rattle.store.proofs.WorldFits.{world_fits}
@@ -56,3 +65,22 @@ module _ (old new : State) where
     | inl first ↦ subst (BeginsAt (shown_of new)) first.1 it.begins
     | inr found ↦ (let e : ◌≡◌ {A = Schema} store_schema no_schema = sym found.schema ∙ none in absurd (let t = ap (λ (s : Schema). s.tables) e in cc))
   ]
+
+-- ---- why one is refused
+
+-- what is told as a failed device is no want of memory
+pub told_device : (old new : State) (e : Error) (r : Refusal) → (e ≡ SqliteFailure code.OutOfMemory → r ≡ refusal.Memory) → IsExcused old new e → r ≡ refusal.Device → IsHindered old new
+told_device old new e r memory (inl wanted) device = absurd (let d : refusal.Memory ≡ refusal.Device = sym (memory wanted) ∙ device in cc)
+told_device old new e r memory (inr hindered) device = hindered
+
+pub only_memory : (r : Refusal) → (r ≡ refusal.BadSchema → ⊥) → (r ≡ refusal.Device → ⊥) → r ≡ refusal.Memory
+only_memory refusal.Device bad device = absurd (device refl)
+only_memory refusal.Memory bad device = refl
+only_memory refusal.BadSchema bad device = absurd (bad refl)
+
+-- nothing hinders a call on a new connection in memory
+pub memory_unhindered : (old new : Held MemStore) → IsEmpty (state over_memory old) → IsNew old → IsTrue old.in_transaction ⊎ IsHindered (state over_memory old) (state over_memory new) → ⊥
+memory_unhindered old new empty fresh (inl inside) = true≢false (sym inside ∙ fresh.autocommit)
+memory_unhindered old new empty fresh (inr (inl shut)) = true≢false (sym empty.0.is_open ∙ shut)
+memory_unhindered old new empty fresh (inr (inr (inl limited))) = true≢false (sym (subst IsSome fresh.unlimited limited))
+memory_unhindered old new empty fresh (inr (inr (inr faults))) = omega (arith, faults)

@@ -1,8 +1,12 @@
 -- What opening the tables of a connection tells of them.
-use Rattle.std.specs.Prelude.{◌≡◌, ◌≢◌, ◌⊎◌, false, IsTrue}
+use Rattle.std.specs.Prelude.{◌≡◌, ◌≢◌, ◌⊎◌, false, IsTrue, IsSome}
+use Rattle.sqlite_disk.specs.Disk.{MoreFaults}
 use Rattle.sqlite.specs.Tree.{Trees}
 use Rattle.sqlite.specs.Effect.{Database}
 use Rattle.sqlite.specs.State.{State}
+use Rattle.sqlite.specs.declared.error.Error.{Error}
+use Rattle.sqlite.specs.declared.error.Error.TheVariants.{SqliteFailure}
+use Rattle.sqlite.specs.declared.error.ErrorCode.TheVariants.{OutOfMemory}
 use Rattle.world.specs.World.{World, IsWorld, only_common}
 use Rattle.store.specs.Schema.{store_schema, no_schema}
 use Rattle.store.specs.Means.{Means, StandFor}
@@ -34,3 +38,11 @@ pub record IsBad (db : Database) : Type 0 where
 -- what a crash leaves is left as before, or it is the first tables where there were none
 abbrev pub LeavesFirst : State → State → Type 0
 LeavesFirst old new = (db : Trees) → new.may_leave db → old.may_leave db ⊎ ((old.now.schema ≡ no_schema) × StandFor db only_common)
+
+-- the connection was shut or limited in its steps, or its disk failed in the call
+abbrev pub IsHindered : State → State → Type 0
+IsHindered old new = (old.is_open ≡ false) ⊎ (IsSome old.step_limit ⊎ MoreFaults old.faults new.faults)
+
+-- the error tells that memory was wanted, or something hindered the call
+abbrev pub IsExcused : State → State → Error → Type 0
+IsExcused old new e = (e ≡ SqliteFailure OutOfMemory) ⊎ IsHindered old new

@@ -1,10 +1,10 @@
 //! The tables of a connection, found or made.
 
-ghost use Rattle.std.specs.Prelude.{◌≡◌, ◌≢◌, IfErr, OnErr, OnOk, IsTrue};
+ghost use Rattle.std.specs.Prelude.{◌≡◌, ◌≢◌, ◌⊎◌, false, IfErr, OnErr, OnOk, IsTrue};
 ghost use Rattle.sqlite.specs.Held.{state};
 ghost use Rattle.sqlite.specs.State.{HasCleanDisk};
 ghost use Rattle.store.specs.Schema.{no_schema};
-ghost use Rattle.store.specs.Opened.{IsSettled, Opens, IsBad, LeavesFirst};
+ghost use Rattle.store.specs.Opened.{IsSettled, Opens, IsBad, LeavesFirst, IsHindered};
 
 use crate::create::create;
 use crate::fit::is_fit;
@@ -36,6 +36,7 @@ fn make_tables<S: Alter>(conn: &mut Connection<S>) -> Result<(), Refusal>
     ensures kept { HasCleanDisk (state S.Store conn.new) → IsTrue (state S.Store conn.new).is_open → OnErr result ((state S.Store conn.new).now ≡ (state S.Store conn.old).now) }
     ensures left { HasCleanDisk (state S.Store conn.new) → (state S.Store conn.old).now.schema ≡ no_schema → LeavesFirst (state S.Store conn.old) (state S.Store conn.new) }
     ensures failed { IfErr result (λ e. e ≢ Refusal.BadSchema) }
+    ensures device { HasCleanDisk (state S.Store conn.new) → (state S.Store conn.old).now.schema ≡ no_schema → (state S.Store conn.old).in_transaction ≡ false → IfErr result (λ e. e ≡ Refusal.Device → IsHindered (state S.Store conn.old) (state S.Store conn.new)) }
 {
     match create(conn) {
         Ok(()) => Ok(()),
@@ -50,6 +51,7 @@ pub(crate) fn open_tables<S: Alter>(alloc: Global, conn: &mut Connection<S>) -> 
     ensures kept { HasCleanDisk (state S.Store conn.new) → IsTrue (state S.Store conn.new).is_open → OnErr result ((state S.Store conn.new).now ≡ (state S.Store conn.old).now) }
     ensures left { HasCleanDisk (state S.Store conn.new) → OnErr result (LeavesFirst (state S.Store conn.old) (state S.Store conn.new)) }
     ensures bad { HasCleanDisk (state S.Store conn.new) → IfErr result (λ e. e ≡ Refusal.BadSchema → IsBad (state S.Store conn.old).now) }
+    ensures device { HasCleanDisk (state S.Store conn.new) → (state S.Store conn.old).now.schema ≡ no_schema → IfErr result (λ e. e ≡ Refusal.Device → IsTrue (state S.Store conn.old).in_transaction ⊎ IsHindered (state S.Store conn.old) (state S.Store conn.new)) }
 {
     if !conn.is_autocommit() {
         return Err(Refusal::Device);

@@ -1,6 +1,6 @@
 //! Stores that are opened.
 
-ghost use Rattle.std.specs.Prelude.{◌≡◌, ◌≢◌, Err, codes, IfOk, IfErr};
+ghost use Rattle.std.specs.Prelude.{◌≡◌, Err, codes, IfOk, IfErr};
 ghost use Rattle.sqlite.specs.Held.{state};
 ghost use Rattle.sqlite.specs.Files.{file_state};
 ghost use Rattle.sqlite.specs.State.{HasCleanDisk};
@@ -15,12 +15,12 @@ use std::alloc::Global;
 use std::rt::HostRuntime;
 
 impl SqlShelves<MemStore> {
-    /// A store in memory, with the shelf `common` alone. It is refused as `Memory` where memory was
-    /// wanted.
+    /// A store in memory, with the shelf `common` alone. It is refused only as `Memory`, where memory
+    /// was wanted.
     pub fn open_memory(alloc: Global) -> Result<SqlShelves<MemStore>, Refusal>
         ensures begins { IfOk result (λ s. BeginsAt (shown_of (state over_memory s.conn)) only_common) }
         ensures none_failed { IfOk result (λ s. s.failures ≡ 0) }
-        ensures refused { IfErr result (λ refusal. refusal ≢ Refusal.BadSchema) }
+        ensures refused { IfErr result (λ refusal. refusal ≡ Refusal.Memory) }
     {
         let Ok(conn) = Connection::open_in_memory(alloc) else {
             return Err(Refusal::Memory);

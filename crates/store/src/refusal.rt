@@ -1,14 +1,14 @@
 //! Why a store is not opened.
 
-ghost use Rattle.std.specs.Prelude.{◌≢◌};
+ghost use Rattle.std.specs.Prelude.{◌≡◌, ◌≢◌};
 
 use sqlite::{Error, ErrorCode};
 
 /// Why a store is not opened.
 #[derive(Clone, Copy, Debug, PartialEq, Eq)]
 pub enum Refusal {
-    /// A disk failed, the system or the name does not let a file be opened, or the connection is in a
-    /// transaction.
+    /// A disk failed, the system or the name does not let a file be opened, or the connection is shut,
+    /// in a transaction or limited in its steps.
     Device,
     /// Memory was wanted.
     Memory,
@@ -18,7 +18,8 @@ pub enum Refusal {
 
 /// What a failure to read or to make the tables is told as.
 pub(crate) fn open_refusal(error: Error) -> Refusal
-    ensures { result ≢ Refusal.BadSchema }
+    ensures named { result ≢ Refusal.BadSchema }
+    ensures memory { error ≡ Error.SqliteFailure ErrorCode.OutOfMemory → result ≡ Refusal.Memory }
 {
     match error {
         Error::SqliteFailure(ErrorCode::OutOfMemory) => Refusal::Memory,

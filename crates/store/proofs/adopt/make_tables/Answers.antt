@@ -3,6 +3,7 @@ use Rattle.sqlite.specs.Held.{state}
 use Rattle.world.specs.World.{only_common}
 use Rattle.store.proofs.FirstWorld.{first_world}
 use Rattle.store.proofs.OpenLemmas.{begins_at}
+use Rattle.store.proofs.OpenLemmas.{told_device}
 use Rattle.store.proofs.adopt.make_tables.Goals as goal
 
 pub returns-in-Ok-clause-opens : goal.returns-in-Ok-clause-opens
@@ -14,3 +15,7 @@ returns-in-Ok-clause-opens g c clean none =
       tables = inl (none, refl);
       begins = begins_at (state g.S.Store c.args.conn.now) (state g.S.Store c.create.new.conn) (λ db shown may. g.met.S.Store.settled c.create.new.conn.store db shown may) h.0 clean only_common h.1 first_world;
     }
+
+pub returns-in-Err-clause-device : goal.returns-in-Err-clause-device
+returns-in-Err-clause-device g c clean none outside =
+    told_device (state g.S.Store c.args.conn.now) (state g.S.Store c.create.new.conn) c.in-Err.error c.open_refusal.result c.open_refusal.ensures.memory (c.in-Err.ensures.cause clean none outside)

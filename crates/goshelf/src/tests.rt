@@ -1,5 +1,5 @@
 //! The worked rows: whole runs over the parts together, with their exact bytes.
-mod commands;
+mod file_runs;
 mod rows;
 mod runs;
 mod streams;

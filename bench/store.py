@@ -16,6 +16,7 @@ ROOT = os.path.dirname(os.path.dirname(os.path.abspath(__file__)))
 PROGRAM = os.path.join(ROOT, "crates", "goshelf", "out", "goshelf")
 KEY = "alphakey00000001"
 BLOCK = bytes(range(256)) * 4
+ROUNDS = 7
 TABLES = """
 CREATE TABLE meta (name TEXT PRIMARY KEY, value INTEGER NOT NULL) STRICT;
 CREATE TABLE shelf (name TEXT PRIMARY KEY) STRICT;
@@ -117,19 +118,37 @@ def publishes(folder, count, zip_length, name):
     )
 
 
-def fetches(folder, entries, gets):
-    """The opening of a store of so many versions, and GETs a second from it without the opening."""
+def filled_file(folder, entries):
+    """The file of a store of so many versions, with the time and the memory of its opening."""
     file = os.path.join(folder, f"store{entries}.db")
     filled(file, entries)
     opening, least = answered(file, [])
-    # The asked versions are spread over the store.
-    seconds, memory = answered(file, (get(n * 7919 % entries) for n in range(gets)))
-    seconds = max(seconds - opening, 1e-9)
     print(
         f"a store of {entries:,} versions ({os.path.getsize(file) / 2**20:,.1f} MiB): opened in {opening:.2f} s with "
-        f"{least:,.1f} MiB at the peak; {gets:,} GETs of a .mod: {gets / seconds:,.0f} a second, peak {memory:,.1f} MiB"
+        f"{least:,.1f} MiB at the peak"
     )
-    return seconds
+    return file
+
+
+def fetching(file, entries, gets):
+    """Seconds of so many GETs of a .mod from a store, without its opening. The asked versions are spread over the store."""
+    opening, _ = answered(file, [])
+    seconds, _ = answered(file, (get(n * 7919 % entries) for n in range(gets)))
+    return max(seconds - opening, 1e-9)
+
+
+def fetches(folder, few, many, gets):
+    """GETs from a small and from a large store, in turn, since the machine's speed may change meanwhile: the least of each."""
+    files = {entries: filled_file(folder, entries) for entries in (few, many)}
+    rounds = [{entries: fetching(file, entries, gets) for entries, file in files.items()} for _ in range(ROUNDS)]
+    least = {entries: min(it[entries] for it in rounds) for entries in files}
+    for entries, seconds in least.items():
+        print(f"{gets:,} GETs of a .mod from {entries:,} versions: {gets / seconds:,.0f} a second, the best of {ROUNDS} runs")
+    ratios = sorted(it[many] / it[few] for it in rounds)
+    print(
+        f"  a GET from the larger store costs {least[many] / least[few]:.2f} times one from the smaller by the best runs; "
+        f"run by run {ratios[0]:.2f} to {ratios[-1]:.2f}, {ratios[ROUNDS // 2]:.2f} in the median"
+    )
 
 
 def main():
@@ -139,9 +158,7 @@ def main():
     with tempfile.TemporaryDirectory(dir=os.environ.get("STORES")) as folder:
         publishes(folder, 10_000 // scale, 1024, "1 KiB")
         publishes(folder, 200 // scale, 2**20, "1 MiB")
-        few = fetches(folder, 1_000, 100_000 // scale)
-        many = fetches(folder, 100_000 // scale, 100_000 // scale)
-        print(f"  a GET from the larger store costs {many / few:.2f} times one from the smaller")
+        fetches(folder, 1_000, 100_000 // scale, 100_000 // scale)
 
 
 if __name__ == "__main__":

@@ -131,7 +131,8 @@ def filled_file(folder, entries):
 
 
 def fetching(file, entries, gets):
-    """Seconds of so many GETs of a .mod from a store, without its opening. The asked versions are spread over the store."""
+    """Seconds of so many GETs of a .mod from a store, without its opening. The asked versions are spread over the store.
+    They are so many that what an opening takes more or less from run to run does not count."""
     opening, _ = answered(file, [])
     seconds, _ = answered(file, (get(n * 7919 % entries) for n in range(gets)))
     return max(seconds - opening, 1e-9)
@@ -158,7 +159,7 @@ def main():
     with tempfile.TemporaryDirectory(dir=os.environ.get("STORES")) as folder:
         publishes(folder, 10_000 // scale, 1024, "1 KiB")
         publishes(folder, 200 // scale, 2**20, "1 MiB")
-        fetches(folder, 1_000, 100_000 // scale, 100_000 // scale)
+        fetches(folder, 1_000, 100_000 // scale, 1_000_000 // scale)
 
 
 if __name__ == "__main__":

@@ -2,6 +2,7 @@
 use Rattle.std.proofs.Common.{◌≡◌, ◌≤◌, ◌⊎◌, ◌+◌, ◌*◌, ◌^◌, ◌++◌, ℕ, Bool, true, false, cond, List, [], ◌∷◌, length, map, filter, Option, None, Ok, Err, Result, inl, inr, refl, sym, ap, subst, ◌∙◌, arith, codes, IfErr, true≢false, length-append, nat_lt, ltb-true, ltb-false, lit≤}
 use Rattle.std.specs.Prelude.{IsSome, IsErrAnd}
 use Rattle.std.proofs.lemmas.Bool.{cases_Bool}
+use Rattle.std.proofs.lemmas.List.{length-map}
 use Rattle.std.proofs.lemmas.List.Sorted.{length_permutation}
 use Rattle.sqlite_trees.specs.View.{doubt}
 use Rattle.sqlite.specs.Tree.{Trees}
@@ -73,15 +74,11 @@ excused_same g old x y e Q same h = inl (subst (λ z. IsExcused old (state g z) 
 
 -- ---- a query that lists rows
 
-mapped_length : {X Y : Type 0} (f : X → Y) (xs : List X) → length (map f xs) ≡ length xs
-mapped_length f [] = refl
-mapped_length f (x ∷ xs) = let rest = mapped_length f xs in omega (arith, rest)
-
 -- each row has a value for each column
 listed_width : (from : Join) (project : List Term) (order : List (Term × Key)) (db : Trees) (out : List Row) → IsListing (listing from project order) db out → (row : Row) → Has out row → length row ≡ length project
 listed_width from project order db out it row there =
     let e = has_mapped (eval_all project) (matches db [] from ([] ∷ [])) row (has_permuted (map (eval_all project) (matches db [] from ([] ∷ []))) out row (listed_rows from project order db out it) there) in
-    ap length e.2 ∙ mapped_length (λ t. eval t e.0) project
+    ap length e.2 ∙ length-map project (λ t. eval t e.0)
 
 module _ (sql : List ℕ) (from : Join) (project : List Term) (order : List (Term × Key)) (names : List (List ℕ)) (is : command_of (understood store_schema sql) ≡ Select (record { lets = []; body = listing from project order }) names) where
   is_walkable : has_no_fold from ≡ true → ((db : Database) → db.schema ≡ store_schema → RefusesQuery None db (record { lets = []; body = listing from project order }) [] (SqliteFailure TypeMismatch) → ⊥) → IsAlone sql (understood store_schema sql) → IsWalkable sql (length project)
@@ -115,7 +112,7 @@ many_rows : (sql : List ℕ) (tree : ℕ) (project : List Term) (order : List (T
 many_rows sql tree project order names is db plain h =
     let long = many_listed sql (inner tree end) project order names is db h in
     let all = ap length (of_table tree project (overlay db.trees [])) in
-    let each = mapped_length (λ row. eval_all project ([] ∷ row ∷ [])) (overlay db.trees [] tree) in
+    let each = length-map (overlay db.trees [] tree) (λ row. eval_all project ([] ∷ row ∷ [])) in
     let there = ap length plain in
     omega (arith, long, all, each, there)
 
@@ -210,7 +207,7 @@ joined_few (row ∷ versions) bodies few =
     let own = filter (λ body. is_numbered_as body row) bodies in
     let fewer = filter_few (λ body. is_numbered_as body row) bodies in
     let nulls = nulls_few own (omega (arith, few, fewer)) in
-    let shown = mapped_length (entry_shown row) (or_nulls own) in
+    let shown = length-map (or_nulls own) (entry_shown row) in
     let both = length-append (map (entry_shown row) (or_nulls own)) (joined versions bodies) in
     let rest = joined_few versions bodies few in
     omega (arith, nulls, shown, both, rest)

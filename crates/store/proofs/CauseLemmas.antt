@@ -8,7 +8,6 @@ use Rattle.std.proofs.lemmas.Str.Ascii.{IsAscii-nil, IsAscii-cons}
 use Rattle.std.proofs.lemmas.Bool.{cases_Bool, and_parts}
 use Rattle.sqlite_trees.specs.declared.error.StoreError.{StoreError}
 use Rattle.sqlite_trees.specs.declared.error.StoreError.TheVariants.{OutOfMemory, Io, Corrupt, Full, Broken, Unstorable}
-use Rattle.sqlite_resolve.specs.declared.compiled.Compiled.{Compiled}
 use Rattle.sqlite_resolve.specs.declared.error.CompileError.{CompileError}
 use Rattle.sqlite_rules.specs.Lists.{Has}
 use Rattle.sqlite_schema.specs.Rules.{table_reals, index_reals}
@@ -46,6 +45,7 @@ use Rattle.sqlite_schema.specs.declared.schema.Keys.TheVariants.{Enforced}
 use Rattle.sqlite_trees.specs.declared.store.Store.{Ghosts}
 use Rattle.store.specs.Schema.{store_schema}
 use Rattle.store.specs.Opened.{IsExcused}
+pub use Rattle.store.specs.Walks.{IsAlone}
 use Rattle.store.proofs.PutLemmas.{IsPuttable, insert_stops}
 use Rattle.sqlite.proofs.Callers.{IsPlain, command_of, statement_of}
 
@@ -60,13 +60,9 @@ fail_excused old new big e small h = go h.0 h.1 h.2
     go Broken is c = inr (inl c)
     go Unstorable is c = small c
 
--- the text is one statement, with no parameter
-abbrev pub IsAlone : List ℕ → Result Compiled CompileError → Type 0
-IsAlone sql (Ok c) = (length sql ≤ c.tail) × (c.names ≡ [])
-IsAlone sql (Err e) = ⊥
-
 module _ (sql : List ℕ) (old new : State) (schema : Schema) (has : old.now.schema ≡ schema) (command : Command) (is : command_of (understood schema sql) ≡ command) (plain : IsPlain (understood schema sql)) (alone : IsAlone sql (understood schema sql)) where
-  unrun : (e : Error) → IsNotRun old new sql [] e → IsExcused old new e
+  -- what is not run is so for want of memory, or was hindered
+  pub unrun : (e : Error) → IsNotRun old new sql [] e → IsExcused old new e
   unfolding IsNotRun
   unrun e (inr fails) = fail_excused old new ⊥ e (λ none. absurd none) fails
   unrun e (inl none) = elim none.0 [

@@ -66,7 +66,7 @@ pass_each {X} Fits Keeps start (r ∷ rows) end p row (inl same) = (start, subst
 pass_each {X} Fits Keeps start (r ∷ rows) end p row (inr later) = pass_each Fits Keeps p.1 rows end p.3 row later
 
 -- a row that is listed at this place
-at_place : (rows tail : List Row) (row : Row) → Has ((rows ++ row ∷ []) ++ tail) row
+pub at_place : (rows tail : List Row) (row : Row) → Has ((rows ++ row ∷ []) ++ tail) row
 at_place rows tail row = has_left (rows ++ row ∷ []) tail row (has_right rows (row ∷ []) row (inl refl))
 
 -- it stands after those before it

@@ -33,6 +33,7 @@ pub mod FirstWorld
 pub mod FlagLemmas
 pub mod PutLemmas
 pub mod CauseLemmas
+pub mod WalkCauses
 pub mod CreateLemmas
 pub mod MakeLemmas
 pub mod UnmadeLemmas

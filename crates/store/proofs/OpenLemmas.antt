@@ -12,7 +12,7 @@ use Rattle.store.specs.Means.{StandFor, Holds}
 use Rattle.store.specs.Calls.{shown_of, BeginsAt}
 use Rattle.store.specs.Walks.{Looks, Tests}
 use Rattle.store.specs.Fit.{AreFit}
-use Rattle.store.specs.Opened.{IsSettled, Opens, IsBad, IsHindered, IsExcused}
+use Rattle.store.specs.Opened.{IsSettled, Opens, IsBad, IsHindered, IsExcused, IsVast, HasReason}
 use Rattle.store.specs.declared.refusal.Refusal.{Refusal}
 use Rattle.store.specs.declared.refusal.Refusal.TheVariants as refusal
 use Rattle.sqlite.specs.declared.error.Error.{Error}
@@ -73,14 +73,19 @@ pub told_device : (old new : State) (e : Error) (r : Refusal) → (e ≡ SqliteF
 told_device old new e r memory (inl wanted) device = absurd (let d : refusal.Memory ≡ refusal.Device = sym (memory wanted) ∙ device in cc)
 told_device old new e r memory (inr hindered) device = hindered
 
+pub told_reason : (old new : State) (e : Error) (r : Refusal) → (e ≡ SqliteFailure code.OutOfMemory → r ≡ refusal.Memory) → HasReason old new e → r ≡ refusal.Device → IsHindered old new ⊎ IsVast old.now
+told_reason old new e r memory (inl excused) device = inl (told_device old new e r memory excused device)
+told_reason old new e r memory (inr vast) device = inr vast
+
 pub only_memory : (r : Refusal) → (r ≡ refusal.BadSchema → ⊥) → (r ≡ refusal.Device → ⊥) → r ≡ refusal.Memory
 only_memory refusal.Device bad device = absurd (device refl)
 only_memory refusal.Memory bad device = refl
 only_memory refusal.BadSchema bad device = absurd (bad refl)
 
--- nothing hinders a call on a new connection in memory
-pub memory_unhindered : (old new : Held MemStore) → IsEmpty (state over_memory old) → IsNew old → IsTrue old.in_transaction ⊎ IsHindered (state over_memory old) (state over_memory new) → ⊥
+-- nothing hinders a call on a new connection in memory, and no table of it is vast
+pub memory_unhindered : (old new : Held MemStore) → IsEmpty (state over_memory old) → IsNew old → IsTrue old.in_transaction ⊎ (IsHindered (state over_memory old) (state over_memory new) ⊎ IsVast (state over_memory old).now) → ⊥
 memory_unhindered old new empty fresh (inl inside) = true≢false (sym inside ∙ fresh.autocommit)
-memory_unhindered old new empty fresh (inr (inl shut)) = true≢false (sym empty.0.is_open ∙ shut)
-memory_unhindered old new empty fresh (inr (inr (inl limited))) = true≢false (sym (subst IsSome fresh.unlimited limited))
-memory_unhindered old new empty fresh (inr (inr (inr faults))) = omega (arith, faults)
+memory_unhindered old new empty fresh (inr (inl (inl shut))) = true≢false (sym empty.0.is_open ∙ shut)
+memory_unhindered old new empty fresh (inr (inl (inr (inl limited)))) = true≢false (sym (subst IsSome fresh.unlimited limited))
+memory_unhindered old new empty fresh (inr (inl (inr (inr faults)))) = omega (arith, faults)
+memory_unhindered old new empty fresh (inr (inr vast)) = let e : ◌≡◌ {A = Schema} store_schema no_schema = sym vast.schema ∙ empty.2 in absurd (let t = ap (λ (s : Schema). s.tables) e in cc)

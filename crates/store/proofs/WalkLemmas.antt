@@ -13,7 +13,7 @@ use Rattle.store.specs.Schema.{store_schema}
 use Rattle.store.specs.Walks.{Looks, Tests, Pass}
 use Rattle.store.proofs.CallLemmas.{was_clean}
 
-unchanged_schema : (a b : State) → IsUnchanged a b → a.now.schema ≡ store_schema → b.now.schema ≡ store_schema
+pub unchanged_schema : (a b : State) → IsUnchanged a b → a.now.schema ≡ store_schema → b.now.schema ≡ store_schema
 unchanged_schema a b same has = ap (λ (d : Database). d.schema) same.0.now_is ∙ has
 
 kept_then : (a b c : State) → IsUnchanged a b → IsUnchanged b c ⊎ IsRolledBack b c → IsUnchanged a c ⊎ IsRolledBack a c
@@ -39,6 +39,8 @@ quiet_looks old new up survives kept = record {
   clean = up;
   left = λ clean has db may. elim ((survives has).crash clean db may) [ inl was ↦ was | inr none ↦ absurd none ];
   kept = kept;
+  limit = λ clean has. (survives has).limit;
+  counts = λ clean has. (survives has).counts;
 }
 
 pub then_survives : (old mid new : State) → (old.now.schema ≡ store_schema → Survives old mid (λ _. ⊥)) → Survives mid new (λ _. ⊥) → old.now.schema ≡ store_schema → Survives old new (λ _. ⊥)
@@ -86,6 +88,8 @@ looks_then a b c p same q = record {
   clean = omega (arith, p.clean, q.clean);
   left = λ clean has db may. let was = was_clean b c q.clean clean in p.left was has db (q.left clean (unchanged_schema a b (same was has) has) db may);
   kept = λ clean has. let was = was_clean b c q.clean clean in let s = same was has in kept_then a b c s (q.kept clean (unchanged_schema a b s has));
+  limit = λ clean has. let was = was_clean b c q.clean clean in q.limit clean (unchanged_schema a b (same was has) has) ∙ p.limit was has;
+  counts = λ clean has. let was = was_clean b c q.clean clean in let first = p.counts was has in let next = q.counts clean (unchanged_schema a b (same was has) has) in omega (arith, first, next);
 }
 
 pub then_tests : (a b c : State) (r : Result Bool Error) (P Q : Trees → Type 0) → Tests a b (Ok true) P → Tests b c r Q → Tests a c r (λ db. P db × Q db)

@@ -1,11 +1,13 @@
 -- Tests of the tables, which read them and write nothing, and rows that are tested one after the other.
-use Rattle.std.specs.Prelude.{◌≡◌, ◌≤◌, ◌<◌, ◌⊎◌, ◌+◌, ℕ, Bool, true, false, if◌then◌else◌, List, [], ◌∷◌, ◌++◌, Option, Some, None, Result, IfOk, OnOk, Decides}
+use Rattle.std.specs.Prelude.{◌≡◌, ◌≤◌, ◌<◌, ◌⊎◌, ◌+◌, ◌^◌, ℕ, Bool, true, false, if◌then◌else◌, List, [], ◌∷◌, ◌++◌, length, Option, Some, None, IsSome, Result, Ok, Err, IfOk, OnOk, Decides}
 use Rattle.sqlite_trees.specs.View.{doubt}
 use Rattle.sqlite.specs.Tree.{Trees}
 use Rattle.sqlite.specs.Order.{Row}
 use Rattle.sqlite.specs.declared.error.Error.{Error}
 use Rattle.sqlite.specs.State.{State, HasCleanDisk, IsUnchanged, IsRolledBack}
-use Rattle.sqlite.specs.Effect.{Database, Reads, ReadsFirst}
+use Rattle.sqlite.specs.Effect.{Database, Reads, ReadsFirst, RefusesToRead}
+use Rattle.sqlite_resolve.specs.declared.compiled.Compiled.{Compiled}
+use Rattle.sqlite_resolve.specs.declared.error.CompileError.{CompileError}
 use Rattle.sqlite.specs.Listing.{understood}
 use Rattle.sqlite.proofs.Callers.{command_of}
 use Rattle.world.specs.declared.entry.Place.{Place}
@@ -13,11 +15,13 @@ use Rattle.world.specs.World.{version_limit}
 use Rattle.store.specs.Schema.{store_schema}
 use Rattle.store.specs.Fit.{is_on}
 
--- it leaves the tables as they are, and a crash leaves nothing that it did not leave before
+-- it leaves the tables and the limit as they are, no fault is forgotten, and a crash leaves nothing that it did not leave before
 pub record Looks (old new : State) : Type 0 where
   pub clean : doubt old.is_clean ≤ doubt new.is_clean
   pub left : HasCleanDisk new → old.now.schema ≡ store_schema → (db : Trees) → new.may_leave db → old.may_leave db
   pub kept : HasCleanDisk new → old.now.schema ≡ store_schema → IsUnchanged old new ⊎ IsRolledBack old new
+  pub limit : HasCleanDisk new → old.now.schema ≡ store_schema → new.step_limit ≡ old.step_limit
+  pub counts : HasCleanDisk new → old.now.schema ≡ store_schema → old.faults ≤ new.faults
 
 -- the answer tells whether the tables are so
 pub record Tests (old new : State) (result : Result Bool Error) (P : Trees → Type 0) : Type 0 where
@@ -36,6 +40,23 @@ module _ {X : Type 0} (Fits : X → Row → Type 0) (Keeps : X → Row → X →
   Walks sql db start end true = (rows : List Row) × Reads (command_of (understood store_schema sql)) db [] rows × Pass start rows end
   Walks sql db start end false =
       (rows : List Row) × (row : Row) × (kept : X) × ReadsFirst (command_of (understood store_schema sql)) db [] (rows ++ row ∷ []) × Pass start rows kept × (Fits kept row → ⊥)
+
+-- ---- the queries that may be walked over
+
+-- the text is one statement, with no parameter
+abbrev pub IsAlone : List ℕ → Result Compiled CompileError → Type 0
+IsAlone sql (Ok c) = (length sql ≤ c.tail) × (c.names ≡ [])
+IsAlone sql (Err e) = ⊥
+
+-- nothing but a limit on its steps refuses the query, and each row that it shows has so many values
+pub record IsWalkable (sql : List ℕ) (width : ℕ) : Type 0 where
+  pub alone : IsAlone sql (understood store_schema sql)
+  pub allowed : (limit : Option ℕ) (db : Database) (e : Error) → db.schema ≡ store_schema → RefusesToRead limit (command_of (understood store_schema sql)) db [] e → IsSome limit
+  pub wide : (db : Database) (rows : List Row) (row : Row) → ReadsFirst (command_of (understood store_schema sql)) db [] (rows ++ row ∷ []) → length row ≡ width
+
+-- the query shows more rows than a walk counts
+abbrev pub ShowsTooMany : List ℕ → Database → Type 0
+ShowsTooMany sql db = (rows : List Row) × ReadsFirst (command_of (understood store_schema sql)) db [] rows × (2 ^ 128 ≤ length rows + 1)
 
 -- ---- one place after another, in order
 

@@ -4,7 +4,7 @@ ghost use Rattle.std.specs.Prelude.{◌≡◌, ◌≢◌, ◌⊎◌, false, IfEr
 ghost use Rattle.sqlite.specs.Held.{state};
 ghost use Rattle.sqlite.specs.State.{HasCleanDisk};
 ghost use Rattle.store.specs.Schema.{no_schema};
-ghost use Rattle.store.specs.Opened.{IsSettled, Opens, IsBad, LeavesFirst, IsHindered};
+ghost use Rattle.store.specs.Opened.{IsSettled, Opens, IsBad, LeavesFirst, IsHindered, IsVast};
 
 use crate::create::create;
 use crate::fit::is_fit;
@@ -19,6 +19,7 @@ fn find_tables<S: Alter>(alloc: Global, conn: &mut Connection<S>) -> Result<(), 
     ensures kept { HasCleanDisk (state S.Store conn.new) → IsSettled (state S.Store conn.old) → IsTrue (state S.Store conn.new).is_open → OnErr result ((state S.Store conn.new).now ≡ (state S.Store conn.old).now) }
     ensures left { HasCleanDisk (state S.Store conn.new) → (db : _) → (state S.Store conn.new).may_leave db → OnErr result ((state S.Store conn.old).may_leave db) }
     ensures bad { HasCleanDisk (state S.Store conn.new) → (state S.Store conn.old).now.schema ≢ no_schema → IfErr result (λ e. e ≡ Refusal.BadSchema → IsBad (state S.Store conn.old).now) }
+    ensures device { HasCleanDisk (state S.Store conn.new) → IfErr result (λ e. e ≡ Refusal.Device → IsHindered (state S.Store conn.old) (state S.Store conn.new) ⊎ IsVast (state S.Store conn.old).now) }
 {
     if !is_store_schema(conn.schema()) {
         return Err(Refusal::BadSchema);
@@ -51,7 +52,7 @@ pub(crate) fn open_tables<S: Alter>(alloc: Global, conn: &mut Connection<S>) -> 
     ensures kept { HasCleanDisk (state S.Store conn.new) → IsTrue (state S.Store conn.new).is_open → OnErr result ((state S.Store conn.new).now ≡ (state S.Store conn.old).now) }
     ensures left { HasCleanDisk (state S.Store conn.new) → OnErr result (LeavesFirst (state S.Store conn.old) (state S.Store conn.new)) }
     ensures bad { HasCleanDisk (state S.Store conn.new) → IfErr result (λ e. e ≡ Refusal.BadSchema → IsBad (state S.Store conn.old).now) }
-    ensures device { HasCleanDisk (state S.Store conn.new) → (state S.Store conn.old).now.schema ≡ no_schema → IfErr result (λ e. e ≡ Refusal.Device → IsTrue (state S.Store conn.old).in_transaction ⊎ IsHindered (state S.Store conn.old) (state S.Store conn.new)) }
+    ensures device { HasCleanDisk (state S.Store conn.new) → IfErr result (λ e. e ≡ Refusal.Device → IsTrue (state S.Store conn.old).in_transaction ⊎ (IsHindered (state S.Store conn.old) (state S.Store conn.new) ⊎ IsVast (state S.Store conn.old).now)) }
 {
     if !conn.is_autocommit() {
         return Err(Refusal::Device);

@@ -1,11 +1,14 @@
 //! Whether the rows of the tables stand for a world.
 
-ghost use Rattle.std.specs.Prelude.{◌≡◌, ◌||◌, ◌⊎◌, pos, map, true, false, IfOk, IfSome, OnOk, IsTrue, Decides, MatchOption, IsUtf8, Some};
+ghost use Rattle.std.specs.Prelude.{◌≡◌, ◌≤◌, ◌||◌, ◌⊎◌, pos, map, length, true, false, IfOk, IfErr, IfSome, OnOk, IsTrue, Decides, MatchOption, IsUtf8, Some};
 ghost use Rattle.modver.specs.Time.{IsTime};
 ghost use Rattle.sqlite.specs.declared.types.Value.TheVariants.{Int, Text as StoredText, Blob};
 ghost use Rattle.sqlite.specs.Order.{Row as Shown, column};
 ghost use Rattle.sqlite.specs.Values.{or_null};
 ghost use Rattle.sqlite.specs.Held.{state};
+ghost use Rattle.sqlite.specs.State.{HasCleanDisk};
+ghost use Rattle.store.specs.Schema.{store_schema};
+ghost use Rattle.store.specs.Opened.{HasReason};
 ghost use Rattle.store.specs.Walks.{Tests, MayFollow, run_with};
 ghost use Rattle.world.specs.World.{place, IsEntry};
 ghost use Rattle.store.specs.Fit.{IsSchemaRow, IsShelfRow, IsKeyRow, IsNumberRow, IsEntryRow, ShowsFiles, is_common, key_in, number_in, place_in, is_on, IsMetaFit, AreShelvesFit, AreKeysFit, AreNumbersFit, AreEntriesFit, AreFit, meta_shown, name_shown, number_shown, joined};
@@ -13,7 +16,7 @@ ghost use Rattle.store.specs.Fit.{IsSchemaRow, IsShelfRow, IsKeyRow, IsNumberRow
 use crate::walk::{RowTest, rows_pass};
 use modver::{TimeText, read_time};
 use sqlite::types::ValueRef;
-use sqlite::{Alter, Connection, Error, Row};
+use sqlite::{Alter, Connection, Error, ErrorCode, Row};
 use std::alloc::Global;
 use world::entry::{EntryRef, Place};
 use world::entry_test::may_stand;
@@ -22,7 +25,8 @@ use world::text::Text;
 
 /// The text of a column, if it is one.
 fn text_at(row: &Row, at: usize) -> Result<Option<&str>, Error>
-    ensures { IfOk result (λ found. MatchOption found ((t : _) → column row.now at ≡ StoredText t → IsUtf8 t → ⊥) (λ t. (column row.now at ≡ StoredText t.now) × IsUtf8 t.now)) }
+    ensures found { IfOk result (λ found. MatchOption found ((t : _) → column row.now at ≡ StoredText t → IsUtf8 t → ⊥) (λ t. (column row.now at ≡ StoredText t.now) × IsUtf8 t.now)) }
+    ensures past { IfErr result (λ _. length row.now ≤ at) }
 {
     match row.get_ref(at)? {
         ValueRef::Text(bytes) => match std::str::from_utf8(bytes) {
@@ -35,7 +39,8 @@ fn text_at(row: &Row, at: usize) -> Result<Option<&str>, Error>
 
 /// The bytes of a column, if it has any.
 fn blob_at(row: &Row, at: usize) -> Result<Option<&[u8]>, Error>
-    ensures { IfOk result (λ found. MatchOption found ((b : _) → column row.now at ≡ Blob b → ⊥) (λ b. column row.now at ≡ Blob b.now)) }
+    ensures found { IfOk result (λ found. MatchOption found ((b : _) → column row.now at ≡ Blob b → ⊥) (λ b. column row.now at ≡ Blob b.now)) }
+    ensures past { IfErr result (λ _. length row.now ≤ at) }
 {
     match row.get_ref(at)? {
         ValueRef::Blob(bytes) => Ok(Some(bytes)),
@@ -55,7 +60,8 @@ fn time_of(bytes: &[u8]) -> Option<TimeText>
 
 /// The time of a column, or none where it is NULL, if it is one of the two.
 fn time_at(row: &Row, at: usize) -> Result<Option<Option<TimeText>>, Error>
-    ensures { IfOk result (λ found. MatchOption found ((t : _) → column row.now at ≡ or_null StoredText t → IfSome t IsTime → ⊥) (λ t. column row.now at ≡ or_null StoredText t)) }
+    ensures found { IfOk result (λ found. MatchOption found ((t : _) → column row.now at ≡ or_null StoredText t → IfSome t IsTime → ⊥) (λ t. column row.now at ≡ or_null StoredText t)) }
+    ensures past { IfErr result (λ _. length row.now ≤ at) }
 {
     match row.get_ref(at)? {
         ValueRef::Null => Ok(Some(None)),
@@ -69,7 +75,8 @@ fn time_at(row: &Row, at: usize) -> Result<Option<Option<TimeText>>, Error>
 
 /// The number of a column, if it is one.
 fn int_at(row: &Row, at: usize) -> Result<Option<i64>, Error>
-    ensures { IfOk result (λ found. MatchOption found ((n : _) → column row.now at ≡ Int n → ⊥) (λ n. column row.now at ≡ Int n)) }
+    ensures found { IfOk result (λ found. MatchOption found ((n : _) → column row.now at ≡ Int n → ⊥) (λ n. column row.now at ≡ Int n)) }
+    ensures past { IfErr result (λ _. length row.now ≤ at) }
 {
     match row.get_ref(at)? {
         ValueRef::Int(n) => Ok(Some(n)),
@@ -79,7 +86,8 @@ fn int_at(row: &Row, at: usize) -> Result<Option<i64>, Error>
 
 /// Whether a column is the number 1.
 fn is_one_at(row: &Row, at: usize) -> Result<bool, Error>
-    ensures { IfOk result (λ b. Decides b (column row.now at ≡ Int (pos 1))) }
+    ensures found { IfOk result (λ b. Decides b (column row.now at ≡ Int (pos 1))) }
+    ensures past { IfErr result (λ _. length row.now ≤ at) }
 {
     Ok(matches!(row.get_ref(at)?, ValueRef::Int(1)))
 }
@@ -91,6 +99,8 @@ struct MetaRows {
 }
 
 impl RowTest for MetaRows {
+    ghost width = { 2 };
+
     ghost Fits = { λ _ row. IsSchemaRow row };
 
     ghost Keeps = { λ _ _ next. next.has_row ≡ true };
@@ -111,6 +121,8 @@ struct ShelfRows {
 }
 
 impl RowTest for ShelfRows {
+    ghost width = { 1 };
+
     ghost Fits = { λ _ row. IsShelfRow row };
 
     ghost Keeps = { λ rows row next. next.has_common ≡ (rows.has_common || is_common (column row 0)) };
@@ -135,6 +147,8 @@ struct KeyRows {
 }
 
 impl RowTest for KeyRows {
+    ghost width = { 1 };
+
     ghost Fits = { λ rows row. IsKeyRow row × (rows.last ≡ Some (key_in row) → ⊥) };
 
     ghost Keeps = { λ _ row next. next.last ≡ Some (key_in row) };
@@ -167,6 +181,8 @@ struct NumberRows {
 }
 
 impl RowTest for NumberRows {
+    ghost width = { 1 };
+
     ghost Fits = { λ rows row. IsNumberRow row × (rows.last ≡ Some (number_in row) → ⊥) };
 
     ghost Keeps = { λ _ row next. next.last ≡ Some (number_in row) };
@@ -193,6 +209,8 @@ struct EntryRows {
 }
 
 impl RowTest for EntryRows {
+    ghost width = { 6 };
+
     ghost Fits = { λ rows row. IsEntryRow row × MayFollow rows.last rows.many (place_in row) };
 
     ghost Keeps = { λ rows row next. (next.last ≡ Some (place_in row)) × (next.many ≡ run_with rows.last rows.many (place_in row)) };
@@ -212,7 +230,8 @@ impl RowTest for EntryRows {
 
 /// The place of an entry that a row shows, if the entry may stand there.
 fn entry_place(alloc: Global, row: &Row) -> Result<Option<Place>, Error>
-    ensures { IfOk result (λ found. MatchOption found (IsEntryRow row.now → ⊥) (λ q. (q ≡ place_in row.now) × IsEntryRow row.now)) }
+    ensures found { IfOk result (λ found. MatchOption found (IsEntryRow row.now → ⊥) (λ q. (q ≡ place_in row.now) × IsEntryRow row.now)) }
+    ensures memory { 6 ≤ length row.now → IfErr result (λ e. e ≡ Error.SqliteFailure ErrorCode.OutOfMemory) }
 {
     let Some(shelf) = text_at(row, 0)? else {
         return Ok(None);
@@ -231,7 +250,8 @@ fn entry_place(alloc: Global, row: &Row) -> Result<Option<Place>, Error>
 
 /// Whether the other columns of a row show an entry that may stand at a path and a version.
 fn shows_entry(alloc: Global, row: &Row, path: &str, version: &str) -> Result<bool, Error>
-    ensures { IfOk result (λ may. Decides may ((e : _) × ShowsFiles row.now e × ((s : _) → IsEntry (place s path.now version.now) e))) }
+    ensures verdict { IfOk result (λ may. Decides may ((e : _) × ShowsFiles row.now e × ((s : _) → IsEntry (place s path.now version.now) e))) }
+    ensures memory { 6 ≤ length row.now → IfErr result (λ e. e ≡ Error.SqliteFailure ErrorCode.OutOfMemory) }
 {
     let Some(gomod) = blob_at(row, 4)? else {
         return Ok(false);
@@ -263,7 +283,8 @@ fn run_up_to(last: &Option<Place>, many: u64, place: &Place) -> Option<u64>
 
 /// Whether `meta` names schema 1 and nothing else.
 fn has_schema<S: Alter>(conn: &mut Connection<S>) -> Result<bool, Error>
-    ensures { Tests (state S.Store conn.old) (state S.Store conn.new) result (λ db. IsMetaFit (map meta_shown (db 0))) }
+    ensures tests { Tests (state S.Store conn.old) (state S.Store conn.new) result (λ db. IsMetaFit (map meta_shown (db 0))) }
+    ensures cause { HasCleanDisk (state S.Store conn.new) → (state S.Store conn.old).now.schema ≡ store_schema → IfErr result (HasReason (state S.Store conn.old) (state S.Store conn.new)) }
 {
     let mut rows = MetaRows { has_row: false };
     if !rows_pass(conn, "SELECT name, value FROM meta", &mut rows)? {
@@ -274,7 +295,8 @@ fn has_schema<S: Alter>(conn: &mut Connection<S>) -> Result<bool, Error>
 
 /// Whether each shelf has a good name, and `common` is there.
 fn has_shelves<S: Alter>(conn: &mut Connection<S>) -> Result<bool, Error>
-    ensures { Tests (state S.Store conn.old) (state S.Store conn.new) result (λ db. AreShelvesFit (map name_shown (db 2))) }
+    ensures tests { Tests (state S.Store conn.old) (state S.Store conn.new) result (λ db. AreShelvesFit (map name_shown (db 2))) }
+    ensures cause { HasCleanDisk (state S.Store conn.new) → (state S.Store conn.old).now.schema ≡ store_schema → IfErr result (HasReason (state S.Store conn.old) (state S.Store conn.new)) }
 {
     let mut rows = ShelfRows { has_common: false };
     if !rows_pass(conn, "SELECT name FROM shelf", &mut rows)? {
@@ -285,7 +307,8 @@ fn has_shelves<S: Alter>(conn: &mut Connection<S>) -> Result<bool, Error>
 
 /// Whether each key is well formed, and comes once.
 fn has_keys<S: Alter>(alloc: Global, conn: &mut Connection<S>) -> Result<bool, Error>
-    ensures { Tests (state S.Store conn.old) (state S.Store conn.new) result (λ db. AreKeysFit (map name_shown (db 4))) }
+    ensures tests { Tests (state S.Store conn.old) (state S.Store conn.new) result (λ db. AreKeysFit (map name_shown (db 4))) }
+    ensures cause { HasCleanDisk (state S.Store conn.new) → (state S.Store conn.old).now.schema ≡ store_schema → IfErr result (HasReason (state S.Store conn.old) (state S.Store conn.new)) }
 {
     let mut rows = KeyRows { alloc, last: None };
     rows_pass(conn, "SELECT token FROM access ORDER BY token", &mut rows)
@@ -293,7 +316,8 @@ fn has_keys<S: Alter>(alloc: Global, conn: &mut Connection<S>) -> Result<bool, E
 
 /// Whether each key has a number of its own.
 fn has_numbers<S: Alter>(conn: &mut Connection<S>) -> Result<bool, Error>
-    ensures { Tests (state S.Store conn.old) (state S.Store conn.new) result (λ db. AreNumbersFit (map number_shown (db 4))) }
+    ensures tests { Tests (state S.Store conn.old) (state S.Store conn.new) result (λ db. AreNumbersFit (map number_shown (db 4))) }
+    ensures cause { HasCleanDisk (state S.Store conn.new) → (state S.Store conn.old).now.schema ≡ store_schema → IfErr result (HasReason (state S.Store conn.old) (state S.Store conn.new)) }
 {
     let mut rows = NumberRows { last: None };
     rows_pass(conn, "SELECT rowid FROM access ORDER BY rowid", &mut rows)
@@ -302,7 +326,8 @@ fn has_numbers<S: Alter>(conn: &mut Connection<S>) -> Result<bool, Error>
 /// Whether each version with its body is an entry that may stand at its place, each place comes once,
 /// and no path too often on a shelf.
 fn has_entries<S: Alter>(alloc: Global, conn: &mut Connection<S>) -> Result<bool, Error>
-    ensures { Tests (state S.Store conn.old) (state S.Store conn.new) result (λ db. AreEntriesFit (joined (db 6) (db 8))) }
+    ensures tests { Tests (state S.Store conn.old) (state S.Store conn.new) result (λ db. AreEntriesFit (joined (db 6) (db 8))) }
+    ensures cause { HasCleanDisk (state S.Store conn.new) → (state S.Store conn.old).now.schema ≡ store_schema → IfErr result (HasReason (state S.Store conn.old) (state S.Store conn.new)) }
 {
     let mut rows = EntryRows {
         alloc,
@@ -318,7 +343,8 @@ fn has_entries<S: Alter>(alloc: Global, conn: &mut Connection<S>) -> Result<bool
 
 /// Whether the rows of all tables stand for a world.
 pub(crate) fn is_fit<S: Alter>(alloc: Global, conn: &mut Connection<S>) -> Result<bool, Error>
-    ensures { Tests (state S.Store conn.old) (state S.Store conn.new) result AreFit }
+    ensures tests { Tests (state S.Store conn.old) (state S.Store conn.new) result AreFit }
+    ensures cause { HasCleanDisk (state S.Store conn.new) → (state S.Store conn.old).now.schema ≡ store_schema → IfErr result (HasReason (state S.Store conn.old) (state S.Store conn.new)) }
 {
     if !has_schema(conn)? {
         return Ok(false);

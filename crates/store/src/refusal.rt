@@ -7,8 +7,8 @@ use sqlite::{Error, ErrorCode};
 /// Why a store is not opened.
 #[derive(Clone, Copy, Debug, PartialEq, Eq)]
 pub enum Refusal {
-    /// A disk failed, the system or the name does not let a file be opened, or the connection is shut,
-    /// in a transaction or limited in its steps.
+    /// A disk failed, the system or the name does not let a file be opened, the connection is shut, in a
+    /// transaction or limited in its steps, or a table has 2^64 rows, one for each rowid.
     Device,
     /// Memory was wanted.
     Memory,

@@ -5,8 +5,7 @@ ghost use Rattle.sqlite.specs.Held.{state};
 ghost use Rattle.sqlite.specs.State.{HasCleanDisk};
 ghost use Rattle.world.specs.Store.{GrewOrFull};
 ghost use Rattle.store.specs.Calls.{shown_of};
-ghost use Rattle.store.specs.Schema.{no_schema};
-ghost use Rattle.store.specs.Opened.{Opens, IsBad, LeavesFirst, IsHindered};
+ghost use Rattle.store.specs.Opened.{Opens, IsBad, LeavesFirst, IsHindered, IsVast};
 
 use crate::adopt::open_tables;
 use crate::entries::{add_entry, count_entries, find_entry, find_heading};
@@ -165,9 +164,9 @@ impl<S: Alter> SqlShelves<S> {
     /// table changes; where there is none, the tables are made, with the shelf `common` alone.
     ///
     /// It is refused as `BadSchema` where the tables are not those of the schema or stand for no world,
-    /// as `Memory` where memory was wanted, and as `Device` where the disk failed or the connection is
-    /// shut, in a transaction or limited in its steps. The connection then comes back with its tables
-    /// as they were.
+    /// as `Memory` where memory was wanted, and as `Device` where the disk failed, the connection is
+    /// shut, in a transaction or limited in its steps, or a table has 2^64 rows, one for each rowid.
+    /// The connection then comes back with its tables as they were.
     pub fn adopt(
         alloc: Global,
         mut conn: Connection<S>,
@@ -178,8 +177,8 @@ impl<S: Alter> SqlShelves<S> {
         ensures kept { IfErr result (λ e. HasCleanDisk (state S.Store e.1) → IsTrue (state S.Store e.1).is_open → (state S.Store e.1).now ≡ (state S.Store conn).now) }
         ensures crash { IfErr result (λ e. HasCleanDisk (state S.Store e.1) → LeavesFirst (state S.Store conn) (state S.Store e.1)) }
         ensures bad { IfErr result (λ e. HasCleanDisk (state S.Store e.1) → e.0 ≡ Refusal.BadSchema → IsBad (state S.Store conn).now) }
-        // Where there were no tables, `Device` has one of these causes.
-        ensures device { IfErr result (λ e. HasCleanDisk (state S.Store e.1) → (state S.Store conn).now.schema ≡ no_schema → e.0 ≡ Refusal.Device → IsTrue (state S.Store conn).in_transaction ⊎ IsHindered (state S.Store conn) (state S.Store e.1)) }
+        // `Device` has one of these causes.
+        ensures device { IfErr result (λ e. HasCleanDisk (state S.Store e.1) → e.0 ≡ Refusal.Device → IsTrue (state S.Store conn).in_transaction ⊎ (IsHindered (state S.Store conn) (state S.Store e.1) ⊎ IsVast (state S.Store conn).now)) }
     {
         match open_tables(alloc, &mut conn) {
             Ok(()) => Ok(SqlShelves {

@@ -160,3 +160,11 @@ fn a_connection_in_a_transaction_is_refused(rt: HostRuntime) -> Result<(), Fail>
     assert_eq!(rt; refusal(rt.alloc(), conn), Some(Refusal::Device));
     Ok(())
 }
+
+#[test]
+fn a_connection_limited_in_its_steps_is_refused(rt: HostRuntime) -> Result<(), Fail> {
+    let mut conn = connection(rt.alloc(), &[TABLES, ROWS])?;
+    conn.set_step_limit(Some(1));
+    assert_eq!(rt; refusal(rt.alloc(), conn), Some(Refusal::Device));
+    Ok(())
+}

@@ -4,14 +4,14 @@ use Rattle.store.proofs.EntryTests.{test_decides}
 use Rattle.store.proofs.RowFits.{entry_told, no_time}
 use Rattle.store.proofs.fit.shows_entry.Goals as goal
 
-pub returns-in_default-3 : goal.returns-in_default-3
-returns-in_default-3 c =
-    let none = no_time c.args.row.now c.args.path.now c.args.version.now (rw c.in_default-3.is at c.in_ok-time.ensures) in
+pub returns-in_default-3-clause-verdict : goal.returns-in_default-3-clause-verdict
+returns-in_default-3-clause-verdict c =
+    let none = no_time c.args.row.now c.args.path.now c.args.version.now (rw c.in_default-3.is at c.in_ok-time.ensures.found) in
     (λ e. absurd (true≢false (sym e)), λ it. absurd (none it))
 
-pub returns : goal.returns
-returns c =
+pub returns-clause-verdict : goal.returns-clause-verdict
+returns-clause-verdict c =
     let e : Entry = record { gomod = c.in-Some.gomod.now; zip = c.in-Some-2.zip.now; time = c.in-Some-3.time } in
     entry_told c.args.row.now c.args.path.now c.args.version.now e c.in_ok-may_stand.field-0
-    (record { time = rw c.in-Some-3.is at c.in_ok-time.ensures; gomod = rw c.in-Some.is at c.in_ok-gomod.ensures; zip = rw c.in-Some-2.is at c.in_ok-zip.ensures })
+    (record { time = rw c.in-Some-3.is at c.in_ok-time.ensures.found; gomod = rw c.in-Some.is at c.in_ok-gomod.ensures.found; zip = rw c.in-Some-2.is at c.in_ok-zip.ensures.found })
     (test_decides c.args.path.now c.args.version.now e c.in_ok-may_stand.field-0 c.in_ok-may_stand.ensures)

@@ -1,4 +1,4 @@
-use Rattle.std.proofs.Common.{◌≡◌, ◌≤◌, List, []}
+use Rattle.std.proofs.Common.{◌≡◌, ◌≤◌, ◌-◌, ◌^◌, List, [], length}
 use Rattle.sqlite_trees.specs.View.{doubt}
 use Rattle.sqlite.specs.Order.{Row}
 use Rattle.sqlite.specs.State.{HasCleanDisk, IsUnchanged, Survives}
@@ -14,4 +14,7 @@ invariant-rows g l =
     let now = state g.S.Store l.rows.conn.now in
     (l.rows.conn.ghost_name ≡ l.initial.rows.conn.ghost_name) × (doubt old.is_clean ≤ doubt now.is_clean) × (old.now.schema ≡ store_schema → Survives old now (λ _. ⊥))
     × (HasCleanDisk now → old.now.schema ≡ store_schema
-    → (given : List Row) × HasGiven g.S.Store l.fn.sql [] l.rows.conn.now given × Pass g.T.RowTest.Fits g.T.RowTest.Keeps l.fn.test given l.test × IsUnchanged old now)
+    → (given : List Row) × HasGiven g.S.Store l.fn.sql [] l.rows.conn.now given × Pass g.T.RowTest.Fits g.T.RowTest.Keeps l.fn.test given l.test × IsUnchanged old now × (length given ≡ l._turn))
+
+abbrev pub decreases-rows : goal.decreases-rows
+decreases-rows g l = 2 ^ 128 - l._turn

@@ -1,5 +1,5 @@
 use Rattle.store.proofs.RowFits.{no_shelf}
 use Rattle.store.proofs.fit.ShelfRowsRowTest.passes.Goals as goal
 
-pub returns-in_default : goal.returns-in_default
-returns-in_default c = no_shelf c.args.row.now (rw c.in_default.is at c.in_ok-name.ensures)
+pub returns-in_default-clause-verdict : goal.returns-in_default-clause-verdict
+returns-in_default-clause-verdict c = no_shelf c.args.row.now (rw c.in_default.is at c.in_ok-name.ensures.found)

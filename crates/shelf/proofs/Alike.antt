@@ -9,14 +9,14 @@ use Rattle.shelf.specs.declared.ask.Query.{Query}
 use Rattle.shelf.specs.declared.ask.Query.TheVariants as query
 use Rattle.shelf.specs.declared.ask.Publish.{Publish}
 use Rattle.shelf.specs.declared.reply.Reply.TheVariants as reply
-use Rattle.world.specs.World.{World, chain, view, count}
+use Rattle.world.specs.World.{World, chain, heading, count}
 use Rattle.world.specs.Lines.{in_order}
 use Rattle.world.specs.Visible.{versions_seen, paths_seen}
 use Rattle.shelf.specs.Versions.{named, highest}
 use Rattle.shelf.specs.Machine.{decided, decision, gomod_of, entry_seen, versions_of, module_of, highest_left, latest_by, latest_of, latest_reply, query_reply, gomod_reply, zip_reply, info_reply, list_reply}
 use Rattle.world.proofs.Orders.{texts_total, texts_exact}
 use Rattle.world.proofs.Seen.{contains_versions, contains_paths}
-use Rattle.shelf.proofs.Views.{SameSeen, sees_itself, view_same, count_same}
+use Rattle.shelf.proofs.Views.{SameSeen, sees_itself, view_same, heading_same, count_same}
 
 module _ (w x : World) (s : List ℕ) (chains : chain w s ≡ chain x s) (same : SameSeen w x s) where
   -- ---- a publish
@@ -48,22 +48,22 @@ module _ (w x : World) (s : List ℕ) (chains : chain w s ≡ chain x s) (same :
   latest_by_same : (p : List ℕ) (top : Option SemanticVersion) → latest_by w s p top ≡ latest_by x s p top
   latest_by_same p None = refl
   latest_by_same p (Some top) =
-      ap (λ o. highest_left (module_of o) (versions_of w s p)) (view_same w x s p (version_text top) chains same)
-      ∙ ap (λ vs. highest_left (module_of (view x s p (version_text top))) (named (in_order vs))) (versions_same p)
+      ap (λ o. highest_left (module_of o) (versions_of w s p)) (heading_same w x s p (version_text top) chains same)
+      ∙ ap (λ vs. highest_left (module_of (heading x s p (version_text top))) (named (in_order vs))) (versions_same p)
 
   latest_same : (p : List ℕ) → latest_of w s p ≡ latest_of x s p
   latest_same p = ap (λ vs. latest_by w s p (highest (named (in_order vs)))) (versions_same p) ∙ latest_by_same p (highest (versions_of x s p))
 
   told_of : (p : List ℕ) (v : Option SemanticVersion) → latest_reply w s p v ≡ latest_reply x s p v
   told_of p None = refl
-  told_of p (Some v) = ap (info_reply v) (view_same w x s p (version_text v) chains same)
+  told_of p (Some v) = ap (info_reply v) (heading_same w x s p (version_text v) chains same)
 
   -- ---- a query
 
   pub query_same : (q : Query) → query_reply w s q ≡ query_reply x s q
-  query_same (query.GoMod p v) = ap gomod_reply (view_same w x s p (version_text v) chains same)
+  query_same (query.GoMod p v) = ap gomod_reply (heading_same w x s p (version_text v) chains same)
   query_same (query.Zip p v) = ap zip_reply (view_same w x s p (version_text v) chains same)
-  query_same (query.Info p v) = ap (info_reply v) (view_same w x s p (version_text v) chains same)
+  query_same (query.Info p v) = ap (info_reply v) (heading_same w x s p (version_text v) chains same)
   query_same (query.List p) = ap (λ vs. list_reply (named (in_order vs))) (versions_same p)
   query_same (query.Latest p) = ap (latest_reply w s p) (latest_same p) ∙ told_of p (latest_of x s p)
   query_same query.Modules = ap reply.Paths paths_same

@@ -19,7 +19,7 @@ use Rattle.world.specs.GoMods.{Says, told, reading_of, module_told}
 use Rattle.shelf.specs.Machine.{versions_of, module_of, highest_left, latest_by, latest_of, latest_reply, info_reply, query_reply}
 use Rattle.shelf.specs.PathLaws.{IsSeen, seen_versions, HighestSays, unretracted_versions, LatestIsTheTop, NoneIsLatest, HasTime, LatestIsTold, LatestIsNotFound}
 use Rattle.shelf.specs.Versions.{AllOf, highest, unretracted}
-use Rattle.world.specs.World.{World, IsWorld, view}
+use Rattle.world.specs.World.{World, IsWorld, view, without_zip, heading}
 use Rattle.shelf.proofs.Members.{no_member}
 use Rattle.shelf.proofs.Highest.{none_highest, highest_top, left}
 use Rattle.shelf.proofs.Told.{entry_at, seen_members, versions_fit}
@@ -63,11 +63,11 @@ module _ (w : World) (is : IsWorld w) (s p : List ℕ) where
 
   -- ---- the go.mod of the highest
 
-  highest_says : (top : SemanticVersion) (m : GoModule) → highest vs ≡ Some top → module_of (view w s p (version_text top)) ≡ Some m → HighestSays w s p m
+  highest_says : (top : SemanticVersion) (m : GoModule) → highest vs ≡ Some top → module_of (heading w s p (version_text top)) ≡ Some m → HighestSays w s p m
   highest_says top m e f =
       let is_top = top_seen top (highest_top vs top e) in
       let seen = is_top.member.1 in
-      let read : module_told (reading_of seen.0.entry.gomod) ≡ Some m = sym (ap module_of seen.1) ∙ f in
+      let read : module_told (reading_of seen.0.entry.gomod) ≡ Some m = sym (ap (λ o. module_of (without_zip o)) seen.1) ∙ f in
       record {
         highest = top;
         top = is_top;
@@ -95,7 +95,7 @@ module _ (w : World) (is : IsWorld w) (s p : List ℕ) where
   some_latest : (v : SemanticVersion) → latest_of w s p ≡ Some v → IsTop (unretracted_versions w s p) v
   some_latest v latest = elim (highest vs) as (λ o. highest vs ≡ o → latest_by w s p o ≡ Some v → IsTop (unretracted_versions w s p) v) [
     | None ↦ λ _ e. cc e
-    | Some top ↦ λ is_top by. elim (module_of (view w s p (version_text top))) as (λ o. module_of (view w s p (version_text top)) ≡ o → highest_left o vs ≡ Some v → IsTop (unretracted_versions w s p) v) [
+    | Some top ↦ λ is_top by. elim (module_of (heading w s p (version_text top))) as (λ o. module_of (heading w s p (version_text top)) ≡ o → highest_left o vs ≡ Some v → IsTop (unretracted_versions w s p) v) [
       | None ↦ λ _ e. cc e
       | Some m ↦ λ says e.
           let h = highest_says top m is_top says in
@@ -104,10 +104,10 @@ module _ (w : World) (is : IsWorld w) (s p : List ℕ) where
   ] refl latest
 
   -- in a world the go.mod of a version that is seen reads
-  read_there : (t : List ℕ) → IsSeen w s p t → module_of (view w s p t) ≡ None → ⊥
+  read_there : (t : List ℕ) → IsSeen w s p t → module_of (heading w s p t) ≡ None → ⊥
   read_there t seen none =
       let reads = (entry_at w is s p t seen).reads in
-      let some : module_of (view w s p t) ≡ Some reads.says = ap module_of seen.1 ∙ ap module_told reads.reads in
+      let some : module_of (heading w s p t) ≡ Some reads.says = ap (λ o. module_of (without_zip o)) seen.1 ∙ ap module_told reads.reads in
       let never : None ≡ Some reads.says = sym none ∙ some in
       cc never
 
@@ -117,7 +117,7 @@ module _ (w : World) (is : IsWorld w) (s p : List ℕ) where
   none_left : latest_of w s p ≡ None → (v : SemanticVersion) → ¬ unretracted_versions w s p v
   none_left latest v h = elim (highest vs) as (λ o. highest vs ≡ o → latest_by w s p o ≡ None → ⊥) [
     | None ↦ λ none _. empty vs v (none_highest vs none) ((seen_members w is s p v).1 h.2)
-    | Some top ↦ λ is_top by. elim (module_of (view w s p (version_text top))) as (λ o. module_of (view w s p (version_text top)) ≡ o → highest_left o vs ≡ None → ⊥) [
+    | Some top ↦ λ is_top by. elim (module_of (heading w s p (version_text top))) as (λ o. module_of (heading w s p (version_text top)) ≡ o → highest_left o vs ≡ None → ⊥) [
       | None ↦ λ none _. read_there (version_text top) (top_seen top (highest_top vs top is_top)).member.1 none
       | Some m ↦ λ says e. empty (unretracted m vs) v (none_highest (unretracted m vs) e) ((left_of m (highest_says top m is_top says) v).1 h)
     ] refl by
@@ -157,7 +157,7 @@ none_is_latest w s p is = (
 told_some : (w : World) (is : IsWorld w) (s p : List ℕ) (v : SemanticVersion) → latest_of w s p ≡ Some v → (e : Seen) × (view w s p (version_text v) ≡ Some e) × (query_reply w s (query.Latest p) ≡ reply.Info v e.entry.time)
 told_some w is s p v e =
     let seen = (some_latest w is s p v e).member.2.1 in
-    (seen.0, seen.1, ap (latest_reply w s p) e ∙ ap (info_reply v) seen.1)
+    (seen.0, seen.1, ap (latest_reply w s p) e ∙ ap (λ o. info_reply v (without_zip o)) seen.1)
 
 pub latest_is_told : LatestIsTold
 latest_is_told w s p v time is = (
@@ -170,7 +170,7 @@ latest_is_told w s p v time is = (
         let at : told.0.entry.time ≡ time = cc one in
         (subst (IsTop (unretracted_versions w s p)) same (some_latest w is s p u some), subst (λ x. HasTime w s p x time) same (told.0, told.1, at))
   ] refl,
-  λ h. ap (latest_reply w s p) ((latest_is_the_top w s p v is).1 h.0) ∙ ap (info_reply v) h.1.1 ∙ ap (reply.Info v) h.1.2,
+  λ h. ap (latest_reply w s p) ((latest_is_the_top w s p v is).1 h.0) ∙ ap (λ o. info_reply v (without_zip o)) h.1.1 ∙ ap (reply.Info v) h.1.2,
 )
 
 pub latest_is_not_found : LatestIsNotFound

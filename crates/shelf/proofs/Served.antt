@@ -23,7 +23,7 @@ use Rattle.shelf.specs.declared.reply.Reply.{Reply}
 use Rattle.shelf.specs.declared.reply.Reply.TheVariants as reply
 use Rattle.shelf.specs.declared.reply.Answer.{Answer}
 use Rattle.shelf.specs.declared.reply.Answer.TheVariants.{Replied, Failed}
-use Rattle.world.specs.World.{World, IsWorld, common, seen_at, first_on, view}
+use Rattle.world.specs.World.{World, IsWorld, common, seen_at, first_on, view, without_zip, heading}
 use Rattle.shelf.specs.Machine.{decision, gomod_of, same_time, same_entry, is_same, offered, entry_of, entry_seen, gomod_reply, zip_reply, info_reply, query_reply, keyed_reply, after_decision, stored, place_of, after, Run}
 use Rattle.shelf.specs.Isolation.{belongs}
 use Rattle.shelf.specs.Immutability.{IsOfVersion, IsFound, StaysServed, IsAccepted, asks_back, AcceptedIsServed}
@@ -46,9 +46,9 @@ shelf_stands w s k is b = ap (set.contains w.shelves) (sym b.2) ∙ is.keys_stan
 found_again : (old mid : World) (s : List ℕ) (q : Query) (r : Reply) (events : List Event) (answers : List Answer)
     → set.contains old.shelves s ≡ true → IsOfVersion q → IsFound r → r ≡ query_reply old s q → Run old events answers mid → query_reply mid s q ≡ r
 found_again old mid s (query.GoMod p v) r events answers stands single found is run =
-    elim (view old s p (version_text v)) as (λ o. view old s p (version_text v) ≡ o → r ≡ gomod_reply o → gomod_reply (view mid s p (version_text v)) ≡ r) [
+    elim (view old s p (version_text v)) as (λ o. view old s p (version_text v) ≡ o → r ≡ gomod_reply (without_zip o) → gomod_reply (heading mid s p (version_text v)) ≡ r) [
       | None ↦ λ _ e. absurd (subst IsFound e found)
-      | Some seen ↦ λ here e. ap gomod_reply (stays_through old mid s p (version_text v) events answers seen stands run here) ∙ sym e
+      | Some seen ↦ λ here e. ap (λ o. gomod_reply (without_zip o)) (stays_through old mid s p (version_text v) events answers seen stands run here) ∙ sym e
     ] refl is
 found_again old mid s (query.Zip p v) r events answers stands single found is run =
     elim (view old s p (version_text v)) as (λ o. view old s p (version_text v) ≡ o → r ≡ zip_reply o → zip_reply (view mid s p (version_text v)) ≡ r) [
@@ -56,9 +56,9 @@ found_again old mid s (query.Zip p v) r events answers stands single found is ru
       | Some seen ↦ λ here e. ap zip_reply (stays_through old mid s p (version_text v) events answers seen stands run here) ∙ sym e
     ] refl is
 found_again old mid s (query.Info p v) r events answers stands single found is run =
-    elim (view old s p (version_text v)) as (λ o. view old s p (version_text v) ≡ o → r ≡ info_reply v o → info_reply v (view mid s p (version_text v)) ≡ r) [
+    elim (view old s p (version_text v)) as (λ o. view old s p (version_text v) ≡ o → r ≡ info_reply v (without_zip o) → info_reply v (heading mid s p (version_text v)) ≡ r) [
       | None ↦ λ _ e. absurd (subst IsFound e found)
-      | Some seen ↦ λ here e. ap (info_reply v) (stays_through old mid s p (version_text v) events answers seen stands run here) ∙ sym e
+      | Some seen ↦ λ here e. ap (λ o. info_reply v (without_zip o)) (stays_through old mid s p (version_text v) events answers seen stands run here) ∙ sym e
     ] refl is
 found_again old mid s q r events answers stands single found is run = absurd single
 
@@ -171,13 +171,13 @@ same_body p b e body offer = some_same _ _ (sym offer ∙ ap (option_map (entry_
 
 answered_with : (w : World) (s : List ℕ) (p : Publish) (b : Body) (q : Query) (r : Reply) → Kept w s p → p.body ≡ Some b → asks_back p b q r → query_reply w s q ≡ r
 answered_with w s p b (query.GoMod path version) r kept body back =
-    ap (λ x. gomod_reply (view w s x (version_text version))) back.0 ∙ ap (λ x. gomod_reply (view w s p.path (version_text x))) back.1 ∙ ap gomod_reply kept.is_seen
+    ap (λ x. gomod_reply (heading w s x (version_text version))) back.0 ∙ ap (λ x. gomod_reply (heading w s p.path (version_text x))) back.1 ∙ ap (λ o. gomod_reply (without_zip o)) kept.is_seen
     ∙ ap (λ (e : Entry). reply.GoMod e.gomod) (same_body p b kept.seen.entry body kept.is_offered) ∙ sym back.2
 answered_with w s p b (query.Zip path version) r kept body back =
     ap (λ x. zip_reply (view w s x (version_text version))) back.0 ∙ ap (λ x. zip_reply (view w s p.path (version_text x))) back.1 ∙ ap zip_reply kept.is_seen
     ∙ ap (λ (e : Entry). reply.Zip e.zip) (same_body p b kept.seen.entry body kept.is_offered) ∙ sym back.2
 answered_with w s p b (query.Info path version) r kept body back =
-    ap (λ x. info_reply version (view w s x (version_text version))) back.0 ∙ ap (λ x. info_reply version (view w s p.path (version_text x))) back.1 ∙ ap (info_reply version) kept.is_seen
+    ap (λ x. info_reply version (heading w s x (version_text version))) back.0 ∙ ap (λ x. info_reply version (heading w s p.path (version_text x))) back.1 ∙ ap (λ o. info_reply version (without_zip o)) kept.is_seen
     ∙ ap (λ (e : Entry). reply.Info version e.time) (same_body p b kept.seen.entry body kept.is_offered) ∙ sym back.2
 answered_with w s p b q r kept body back = absurd back
 

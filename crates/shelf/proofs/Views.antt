@@ -5,7 +5,7 @@ use Rattle.std.specs.Option.{option_or}
 use Rattle.std.specs.FinMap as map
 use Rattle.std.proofs.lemmas.Bool.{true≢false, and_parts, or_cases, or_right}
 use Rattle.world.specs.declared.entry.Place.{Place}
-use Rattle.world.specs.World.{World, IsWorld, common, chain, place, seen_at, first_on, view, count}
+use Rattle.world.specs.World.{World, IsWorld, common, chain, place, seen_at, first_on, view, without_zip, heading, count}
 use Rattle.shelf.specs.Isolation.{is_among, sees}
 use Rattle.world.proofs.Orders.{places_total, places_exact, test_alike, text_self, text_same}
 
@@ -50,6 +50,9 @@ first_on_same w x (s ∷ ss) p v same =
 
 pub view_same : (w x : World) (s p v : List ℕ) → chain w s ≡ chain x s → SameSeen w x s → view w s p v ≡ view x s p v
 view_same w x s p v chains same = first_on_same w x (chain w s) p v same ∙ ap (λ ss. first_on x ss p v) chains
+
+pub heading_same : (w x : World) (s p v : List ℕ) → chain w s ≡ chain x s → SameSeen w x s → heading w s p v ≡ heading x s p v
+heading_same w x s p v chains same = ap without_zip (view_same w x s p v chains same)
 
 pub guarded : {A : Type 0} (b : Bool) (x y : Option A) → (b ≡ true → x ≡ y) → cond b x None ≡ cond b y None
 guarded true x y same = same refl

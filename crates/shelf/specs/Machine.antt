@@ -4,6 +4,7 @@ use Rattle.std.specs.FinMap as map
 use Rattle.modver.specs.SemanticVersion.{version_text}
 use Rattle.world.specs.declared.entry.Place.{Place}
 use Rattle.world.specs.declared.entry.Entry.{Entry}
+use Rattle.world.specs.declared.entry.Heading.{Heading}
 use Rattle.world.specs.declared.entry.Seen.{Seen}
 use Rattle.world.specs.declared.entry.Holder.{Holder}
 use Rattle.world.specs.declared.entry.Right.{Right}
@@ -39,7 +40,7 @@ use Rattle.world.specs.Lines.{in_order}
 use Rattle.world.specs.Registry.{team_added, key_added, key_revoked, after_team_add, after_key_add, after_key_revoke}
 use Rattle.shelf.specs.Versions.{named, listed, highest, unretracted}
 use Rattle.world.specs.Visible.{versions_seen, paths_seen}
-use Rattle.world.specs.World.{World, gomod_limit, zip_limit, version_limit, place, view, count, with_entry}
+use Rattle.world.specs.World.{World, gomod_limit, zip_limit, version_limit, place, view, heading, count, with_entry}
 
 -- ---- the checks of a publish
 
@@ -190,18 +191,18 @@ after_decision w h p d = w
 
 -- ---- a query
 
-abbrev pub gomod_reply : Option Seen → Reply
+abbrev pub gomod_reply : Option Heading → Reply
 gomod_reply None = reply.NotFound
-gomod_reply (Some seen) = reply.GoMod seen.entry.gomod
+gomod_reply (Some shown) = reply.GoMod shown.gomod
 
 abbrev pub zip_reply : Option Seen → Reply
 zip_reply None = reply.NotFound
 zip_reply (Some seen) = reply.Zip seen.entry.zip
 
 -- the name and the time of a version
-abbrev pub info_reply : SemanticVersion → Option Seen → Reply
+abbrev pub info_reply : SemanticVersion → Option Heading → Reply
 info_reply v None = reply.NotFound
-info_reply v (Some seen) = reply.Info v seen.entry.time
+info_reply v (Some shown) = reply.Info v shown.time
 
 -- the releases and pre-releases among the versions of a path, if it has any
 abbrev pub list_reply : List SemanticVersion → Reply
@@ -213,9 +214,9 @@ abbrev pub versions_of : World → List ℕ → List ℕ → List SemanticVersio
 versions_of w s p = named (in_order (versions_seen w s p))
 
 -- what the go.mod of a version says
-abbrev pub module_of : Option Seen → Option GoModule
+abbrev pub module_of : Option Heading → Option GoModule
 module_of None = None
-module_of (Some seen) = module_told (reading_of seen.entry.gomod)
+module_of (Some shown) = module_told (reading_of shown.gomod)
 
 -- the highest of some versions that this go.mod does not retract
 abbrev pub highest_left : Option GoModule → List SemanticVersion → Option SemanticVersion
@@ -225,7 +226,7 @@ highest_left (Some m) vs = highest (unretracted m vs)
 -- the same by the go.mod of this version, the highest
 abbrev pub latest_by : World → List ℕ → List ℕ → Option SemanticVersion → Option SemanticVersion
 latest_by w s p None = None
-latest_by w s p (Some top) = highest_left (module_of (view w s p (version_text top))) (versions_of w s p)
+latest_by w s p (Some top) = highest_left (module_of (heading w s p (version_text top))) (versions_of w s p)
 
 -- the latest version of a path: the highest that the go.mod of the highest does not retract
 abbrev pub latest_of : World → List ℕ → List ℕ → Option SemanticVersion
@@ -234,13 +235,13 @@ latest_of w s p = latest_by w s p (highest (versions_of w s p))
 -- the name and the time of the latest version
 abbrev pub latest_reply : World → List ℕ → List ℕ → Option SemanticVersion → Reply
 latest_reply w s p None = reply.NotFound
-latest_reply w s p (Some v) = info_reply v (view w s p (version_text v))
+latest_reply w s p (Some v) = info_reply v (heading w s p (version_text v))
 
 -- the reply to a query by a key of a shelf
 abbrev pub query_reply : World → List ℕ → Query → Reply
-query_reply w s (query.GoMod p v) = gomod_reply (view w s p (version_text v))
+query_reply w s (query.GoMod p v) = gomod_reply (heading w s p (version_text v))
 query_reply w s (query.Zip p v) = zip_reply (view w s p (version_text v))
-query_reply w s (query.Info p v) = info_reply v (view w s p (version_text v))
+query_reply w s (query.Info p v) = info_reply v (heading w s p (version_text v))
 query_reply w s (query.List p) = list_reply (versions_of w s p)
 query_reply w s (query.Latest p) = latest_reply w s p (latest_of w s p)
 query_reply w s query.Modules = reply.Paths (paths_seen w s)

@@ -1,11 +1,9 @@
 //! Answers to GETs over any store. (Go Modules Reference, "GOPROXY protocol".)
-ghost use Rattle.std.specs.Prelude.{◌≡◌, ℕ, List, Option, IfOk};
+ghost use Rattle.std.specs.Prelude.{◌≡◌, ℕ, List, IfOk};
 ghost use Rattle.std.specs.FinMap as map;
 ghost use Rattle.shelf.specs.Machine as spec;
 ghost use Rattle.shelf.specs.Machine.{keyed_reply, latest_of, latest_reply};
 ghost use Rattle.world.specs.Store.{Reads, HasCause};
-ghost use Rattle.world.specs.World.{without_zip};
-ghost use Rattle.world.specs.declared.entry.Seen.{Seen};
 ghost use Rattle.shelf.specs.Versions.{AllOf};
 
 use crate::ask::Query;
@@ -57,7 +55,7 @@ pub fn answer_query<S: Shelves>(
 }
 
 fn info_reply(version: Version, heading: Option<Heading>) -> Reply
-    ensures { (seen : Option Seen) → heading ≡ without_zip seen → result ≡ spec.info_reply version seen }
+    ensures { result ≡ spec.info_reply version heading }
 {
     match heading {
         None => Reply::NotFound,
@@ -69,7 +67,7 @@ fn info_reply(version: Version, heading: Option<Heading>) -> Reply
 }
 
 fn gomod_reply(heading: Option<Heading>) -> Reply
-    ensures { (seen : Option Seen) → heading ≡ without_zip seen → result ≡ spec.gomod_reply seen }
+    ensures { result ≡ spec.gomod_reply heading }
 {
     match heading {
         None => Reply::NotFound,
@@ -155,7 +153,7 @@ fn latest_left(
 
 /// What the go.mod of a version says.
 fn gomod_in(alloc: Global, heading: Option<Heading>) -> Result<Option<GoMod>, AllocError>
-    ensures { IfOk result (λ m. (seen : Option Seen) → heading ≡ without_zip seen → m ≡ spec.module_of seen) }
+    ensures { IfOk result (λ m. m ≡ spec.module_of heading) }
 {
     let Some(heading) = heading else {
         return Ok(None);

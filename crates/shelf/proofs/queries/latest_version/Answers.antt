@@ -1,6 +1,4 @@
-use Rattle.std.proofs.Common.{◌≡◌, ℕ, List, Some, None, refl}
-use Rattle.modver.specs.SemanticVersion.{version_text}
-use Rattle.world.specs.World.{view}
+use Rattle.std.proofs.Common.{◌≡◌, ℕ, List, Some, None}
 use Rattle.shelf.specs.Versions.{AllOf, highest}
 use Rattle.shelf.proofs.Newest.{all_fit, no_latest, the_latest}
 use Rattle.shelf.proofs.queries.latest_version.Goals as goal
@@ -35,11 +33,11 @@ returns-clause-reads g c =
       honest = λ h. read.honest (then.honest h);
       at = λ h w stands.
           let told = read.at (then.honest h) w stands in
-          let seen = then.at h w told.stays in
+          let shown = then.at h w told.stays in
           let all = all_fit w s p texts vs told.answer c.in_ok-versions.ensures (g.met.S.Shelves.sound _ w stands) in
           record {
-            answer = the_latest w s p texts vs told.answer c.in_ok-versions.ensures c.in-Some.newest.now (view w s p (version_text c.in-Some.newest.now)) _ _ (top p all) refl (c.in_ok-gomod.ensures _ seen.answer) (left p all);
-            stays = seen.stays;
-            left = λ was. seen.left (told.left was);
+            answer = the_latest w s p texts vs told.answer c.in_ok-versions.ensures c.in-Some.newest.now _ _ _ (top p all) shown.answer c.in_ok-gomod.ensures (left p all);
+            stays = shown.stays;
+            left = λ was. shown.left (told.left was);
           };
     }

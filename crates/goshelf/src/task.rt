@@ -1,15 +1,18 @@
 //! What the words of a run ask for, and doing it.
 ghost use Rattle.std.specs.Prelude.{◌≡◌};
 ghost use Rattle.goshelf.specs.Opened as spec;
+ghost use Rattle.goshelf.specs.Task.{Performs, Inits, WorksOnFile};
 
 use commands::files::holds_bytes;
 use commands::memory::answer_in_memory;
 use commands::refusal::Refusal;
 use commands::work::{Work, work_on};
+use sqlite::{File, FileStore};
 use std::io::{Read, Write};
 use std::rt::HostRuntime;
 use store::refusal::Refusal as Unopened;
 use store::store::SqlShelves;
+use world::shelves::Shelves;
 
 /// What a run is to do.
 #[derive(Clone, Copy, Drop)]
@@ -28,7 +31,10 @@ pub fn perform<I: Read, O: Write>(
     task: &Task,
     input: &mut I,
     output: &mut O,
-) -> Result<bool, Refusal> {
+) -> Result<bool, Refusal>
+    ensures { Performs ⟦<SqlShelves<FileStore<File>> as Shelves>⟧.shown ⟦<SqlShelves<FileStore<File>> as Shelves>⟧.failure_count
+        (I.remaining input.old) (I.remaining input.new) (O.contents output.old) (O.contents output.new) result task.now }
+{
     match task {
         Task::Init { db } => init(rt, db, input, output),
         Task::AnswerInMemory { team, key } => {
@@ -45,7 +51,10 @@ fn init<I: Read, O: Write>(
     path: &str,
     input: &mut I,
     output: &mut O,
-) -> Result<bool, Refusal> {
+) -> Result<bool, Refusal>
+    ensures { Inits ⟦<SqlShelves<FileStore<File>> as Shelves>⟧.shown ⟦<SqlShelves<FileStore<File>> as Shelves>⟧.failure_count
+        (I.remaining input.old) (I.remaining input.new) (O.contents output.old) (O.contents output.new) result }
+{
     if holds_bytes(rt, path) {
         return Err(Refusal::NotEmpty);
     }
@@ -83,7 +92,10 @@ fn on_file<I: Read, O: Write>(
     work: &Work,
     input: &mut I,
     output: &mut O,
-) -> Result<bool, Refusal> {
+) -> Result<bool, Refusal>
+    ensures { WorksOnFile ⟦<SqlShelves<FileStore<File>> as Shelves>⟧.shown ⟦<SqlShelves<FileStore<File>> as Shelves>⟧.failure_count
+        (I.remaining input.old) (I.remaining input.new) (O.contents output.old) (O.contents output.new) work.now result }
+{
     let mut shelves = match SqlShelves::open_file(rt, path) {
         Ok(shelves) => shelves,
         Err(unopened) => return Err(open_refusal(unopened)),

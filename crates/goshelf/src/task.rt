@@ -14,6 +14,9 @@ use store::refusal::Refusal as Unopened;
 use store::store::SqlShelves;
 use world::shelves::Shelves;
 
+/// The store of a file.
+type FileShelves = SqlShelves<FileStore<File>>;
+
 /// What a run is to do.
 #[derive(Clone, Copy, Drop)]
 pub enum Task<'a> {
@@ -32,7 +35,7 @@ pub fn perform<I: Read, O: Write>(
     input: &mut I,
     output: &mut O,
 ) -> Result<bool, Refusal>
-    ensures { Performs ⟦<SqlShelves<FileStore<File>> as Shelves>⟧.shown ⟦<SqlShelves<FileStore<File>> as Shelves>⟧.failure_count
+    ensures { Performs ⟦<FileShelves as Shelves>⟧.shown ⟦<FileShelves as Shelves>⟧.failure_count
         (I.remaining input.old) (I.remaining input.new) (O.contents output.old) (O.contents output.new) result task.now }
 {
     match task {
@@ -52,7 +55,7 @@ fn init<I: Read, O: Write>(
     input: &mut I,
     output: &mut O,
 ) -> Result<bool, Refusal>
-    ensures { Inits ⟦<SqlShelves<FileStore<File>> as Shelves>⟧.shown ⟦<SqlShelves<FileStore<File>> as Shelves>⟧.failure_count
+    ensures { Inits ⟦<FileShelves as Shelves>⟧.shown ⟦<FileShelves as Shelves>⟧.failure_count
         (I.remaining input.old) (I.remaining input.new) (O.contents output.old) (O.contents output.new) result }
 {
     if holds_bytes(rt, path) {
@@ -85,7 +88,7 @@ fn open_refusal(unopened: Unopened) -> Refusal
     }
 }
 
-/// Does a work on the store of a file.
+/// Does a work on the store of a file. Where the store is not opened, nothing is read or written.
 fn on_file<I: Read, O: Write>(
     rt: &HostRuntime,
     path: &str,
@@ -93,10 +96,10 @@ fn on_file<I: Read, O: Write>(
     input: &mut I,
     output: &mut O,
 ) -> Result<bool, Refusal>
-    ensures { WorksOnFile ⟦<SqlShelves<FileStore<File>> as Shelves>⟧.shown ⟦<SqlShelves<FileStore<File>> as Shelves>⟧.failure_count
+    ensures { WorksOnFile ⟦<FileShelves as Shelves>⟧.shown ⟦<FileShelves as Shelves>⟧.failure_count
         (I.remaining input.old) (I.remaining input.new) (O.contents output.old) (O.contents output.new) work.now result }
 {
-    let mut shelves = match SqlShelves::open_file(rt, path) {
+    let mut shelves = match FileShelves::open_file(rt, path) {
         Ok(shelves) => shelves,
         Err(unopened) => return Err(open_refusal(unopened)),
     };

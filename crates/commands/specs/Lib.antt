@@ -1,3 +1,4 @@
 pub mod Ending
 pub mod Opening
 pub mod Publish
+pub mod Work

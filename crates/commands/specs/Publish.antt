@@ -1,5 +1,6 @@
 -- A publish of files by words that stand as they are.
 use Rattle.std.specs.Prelude.{ℕ, List, ◌≡◌, ◌==◌, ◌||◌, ◌++◌, codes, Bool, Option, Some, None, Result, Ok, Err, MatchResult}
+use Rattle.std.specs.Option.{option_copied}
 use Rattle.std.specs.Io.KnownBytes.{Appends}
 use Rattle.modver.specs.Reading.{version_of}
 use Rattle.modver.specs.SemanticVersion.{SemanticVersion}
@@ -19,6 +20,9 @@ use Rattle.engine.specs.Reply.{fixed_of}
 use Rattle.wire.specs.Reply.{line_bytes, fixed_status}
 use Rattle.wire.specs.declared.reply.Fixed.{Fixed}
 use Rattle.wire.specs.declared.reply.Fixed.TheVariants as fixed
+use Rattle.commands.specs.declared.files.FileFault.{FileFault}
+use Rattle.commands.specs.declared.files.FileFault.TheVariants as file
+use Rattle.commands.specs.declared.publish.Words.{Words}
 use Rattle.commands.specs.declared.refusal.Refusal.{Refusal}
 use Rattle.commands.specs.declared.refusal.Refusal.TheVariants.{Io}
 
@@ -35,6 +39,10 @@ asked_at key path version time body = Unreadable
 -- what a publish asks of the machine: its path and its version are not escaped, and its files are told apart
 abbrev pub asked : List ℕ → List ℕ → List ℕ → Option (List ℕ) → Body → Ask
 asked key path version time body = asked_at key (path_of path) (version_of version) (given_time time) body
+
+-- the same of the words of a command line
+abbrev pub asked_by : Words → Body → Ask
+asked_by words body = asked words.key.now words.path.now words.version.now (option_copied words.time) body
 
 -- the fixed answer to a publish: 503 where the store met a fault
 abbrev pub answer_of : Result Reply StoreFault → Fixed
@@ -62,3 +70,17 @@ pub record PublishesAndTells
   pub does : Does old new told (λ w. ask_reply w ask) (λ w. after_ask w ask)
   pub cause : HasCause before now told
   pub tells : Tells (answer_of told) written written_new result
+
+module _ {S : Type 0} (shown : S → Shown) (failures : S → ℕ) (old new : S) (ask : Body → Ask) where
+  -- How a publish ends by how its two files were had. As a body: it is published, and the outcome is told. Where memory ran out
+  -- while they were read, 503 is told; where one can't be read, nothing is: in both the store stays as it was.
+  abbrev pub EndsBy : Option (List ℕ) → Option (List ℕ) → Result Bool Refusal → Result Body FileFault → Type 0
+  EndsBy written written_new result (Ok body) =
+      PublishesAndTells (shown old) (shown new) (failures old) (failures new) (ask body) written written_new result
+  EndsBy written written_new result (Err file.Memory) = (new ≡ old) × Tells fixed.Unavailable written written_new result
+  EndsBy written written_new result (Err file.Io) = (new ≡ old) × (written_new ≡ written) × (result ≡ Err Io)
+
+  -- two files were read, and the publish ended by how they were had
+  pub record PublishesFiles (written written_new : Option (List ℕ)) (result : Result Bool Refusal) : Type 0 where
+    pub files : Result Body FileFault
+    pub ends : EndsBy written written_new result files

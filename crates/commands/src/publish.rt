@@ -41,20 +41,38 @@ pub struct Files<'a> {
 }
 
 /// Reads the two files and publishes them. It prints the outcome, and tells whether the version stands now with these
-/// files. `Io` where a file can't be read or the output failed.
+/// files. Where memory runs out while they are read, it prints the 503. `Io` where a file can't be read or the output
+/// failed; nothing is done on the store then, unless it was the output.
 pub fn publish<S: Shelves, O: Write>(
     rt: &HostRuntime,
     shelves: &mut S,
     words: &Words,
     files: &Files,
     output: &mut O,
-) -> Result<bool, Refusal> {
-    let body = match read_files(rt, files) {
-        Ok(body) => body,
-        Err(FileFault::Memory) => return tell(Fixed::Unavailable, output),
-        Err(FileFault::Io) => return Err(Refusal::Io),
-    };
-    publish_files(rt.alloc(), shelves, words, body, output)
+) -> Result<bool, Refusal>
+    ensures { spec.PublishesFiles S.shown S.failure_count shelves.old shelves.new (spec.asked_by words.now)
+        (O.contents output.old) (O.contents output.new) result }
+{
+    let had = read_files(rt, files);
+    publish_had(rt.alloc(), shelves, words, had, output)
+}
+
+/// Publishes files by how they were had.
+fn publish_had<S: Shelves, O: Write>(
+    alloc: Global,
+    shelves: &mut S,
+    words: &Words,
+    had: Result<Body, FileFault>,
+    output: &mut O,
+) -> Result<bool, Refusal>
+    ensures { spec.EndsBy S.shown S.failure_count shelves.old shelves.new (spec.asked_by words.now)
+        (O.contents output.old) (O.contents output.new) result had }
+{
+    match had {
+        Ok(body) => publish_files(alloc, shelves, words, body, output),
+        Err(FileFault::Memory) => tell(Fixed::Unavailable, output),
+        Err(FileFault::Io) => Err(Refusal::Io),
+    }
 }
 
 /// The go.mod and the zip.
@@ -73,8 +91,7 @@ pub fn publish_files<S: Shelves, O: Write>(
     output: &mut O,
 ) -> Result<bool, Refusal>
     ensures { spec.PublishesAndTells (S.shown shelves.old) (S.shown shelves.new) (S.failure_count shelves.old) (S.failure_count shelves.new)
-        (spec.asked words.now.key.now words.now.path.now words.now.version.now (option_copied words.now.time) body)
-        (O.contents output.old) (O.contents output.new) result }
+        (spec.asked_by words.now body) (O.contents output.old) (O.contents output.new) result }
 {
     let told = publish_by(alloc, shelves, words, body);
     tell(answer_of(told), output)
@@ -88,8 +105,7 @@ fn publish_by<S: Shelves>(
     body: Body,
 ) -> Result<Reply, StoreFault>
     ensures does { Does (S.shown shelves.old) (S.shown shelves.new) result
-        (λ w. ask_reply w (spec.asked words.now.key.now words.now.path.now words.now.version.now (option_copied words.now.time) body))
-        (λ w. after_ask w (spec.asked words.now.key.now words.now.path.now words.now.version.now (option_copied words.now.time) body)) }
+        (λ w. ask_reply w (spec.asked_by words.now body)) (λ w. after_ask w (spec.asked_by words.now body)) }
     ensures cause { HasCause (S.failure_count shelves.old) (S.failure_count shelves.new) result }
 {
     let ask = ask_of(alloc, words, body)?;
@@ -98,7 +114,7 @@ fn publish_by<S: Shelves>(
 
 /// What a publish of files asks of the machine: something unreadable where the path or the version does not read.
 fn ask_of(alloc: Global, words: &Words, body: Body) -> Result<Ask, AllocError>
-    ensures { IfOk result (λ ask. ask ≡ spec.asked words.now.key.now words.now.path.now words.now.version.now (option_copied words.now.time) body) }
+    ensures { IfOk result (λ ask. ask ≡ spec.asked_by words.now body) }
 {
     let Some(path) = path_of(alloc, words.path)? else {
         return Ok(Ask::Unreadable);

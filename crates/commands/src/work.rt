@@ -1,4 +1,7 @@
 //! What is done on a store, whichever store it is.
+ghost use Rattle.std.specs.Prelude.{◌≡◌};
+ghost use Rattle.commands.specs.Work as spec;
+
 use crate::answer::answer_from;
 use crate::publish::{Files, Words, publish};
 use crate::refusal::Refusal;
@@ -42,18 +45,29 @@ pub fn work_on<S: Shelves, I: Read, O: Write>(
     work: &Work,
     input: &mut I,
     output: &mut O,
-) -> Result<bool, Refusal> {
+) -> Result<bool, Refusal>
+    ensures { spec.Works S.shown S.failure_count
+        (record { store = shelves.old; unread = I.remaining input.old; written = O.contents output.old })
+        (record { store = shelves.new; unread = I.remaining input.new; written = O.contents output.new }) result work.now }
+{
     match work {
-        Work::Open => (),
-        Work::TeamAdd { team } => add_team(shelves, team)?,
+        Work::Open => Ok(true),
+        Work::TeamAdd { team } => acceptance(add_team(shelves, team)),
         Work::KeyAdd {
             shelf,
             key,
             read_only,
-        } => add_key(shelves, shelf, key, *read_only)?,
-        Work::KeyRevoke { key } => revoke_key(shelves, key)?,
-        Work::Publish { words, files } => return publish(rt, shelves, words, files, output),
-        Work::Answer => answer_from(rt.alloc(), shelves, input, output)?,
+        } => acceptance(add_key(shelves, shelf, key, *read_only)),
+        Work::KeyRevoke { key } => acceptance(revoke_key(shelves, key)),
+        Work::Publish { words, files } => publish(rt, shelves, words, files, output),
+        Work::Answer => acceptance(answer_from(rt.alloc(), shelves, input, output)),
     }
+}
+
+/// What a work tells that is accepted once it is done.
+fn acceptance(ended: Result<(), Refusal>) -> Result<bool, Refusal>
+    ensures { result ≡ spec.acceptance ended }
+{
+    ended?;
     Ok(true)
 }

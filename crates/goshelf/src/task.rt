@@ -1,15 +1,21 @@
 //! What the words of a run ask for, and doing it.
 ghost use Rattle.std.specs.Prelude.{◌≡◌};
 ghost use Rattle.goshelf.specs.Opened as spec;
+ghost use Rattle.goshelf.specs.Task.{Performs, Inits, WorksOnFile};
 
 use commands::files::holds_bytes;
 use commands::memory::answer_in_memory;
 use commands::refusal::Refusal;
 use commands::work::{Work, work_on};
+use sqlite::{File, FileStore};
 use std::io::{Read, Write};
 use std::rt::HostRuntime;
 use store::refusal::Refusal as Unopened;
 use store::store::SqlShelves;
+use world::shelves::Shelves;
+
+/// The store of a file.
+type FileShelves = SqlShelves<FileStore<File>>;
 
 /// What a run is to do.
 #[derive(Clone, Copy, Drop)]
@@ -28,7 +34,10 @@ pub fn perform<I: Read, O: Write>(
     task: &Task,
     input: &mut I,
     output: &mut O,
-) -> Result<bool, Refusal> {
+) -> Result<bool, Refusal>
+    ensures { Performs ⟦<FileShelves as Shelves>⟧.shown ⟦<FileShelves as Shelves>⟧.failure_count
+        (I.remaining input.old) (I.remaining input.new) (O.contents output.old) (O.contents output.new) result task.now }
+{
     match task {
         Task::Init { db } => init(rt, db, input, output),
         Task::AnswerInMemory { team, key } => {
@@ -45,7 +54,10 @@ fn init<I: Read, O: Write>(
     path: &str,
     input: &mut I,
     output: &mut O,
-) -> Result<bool, Refusal> {
+) -> Result<bool, Refusal>
+    ensures { Inits ⟦<FileShelves as Shelves>⟧.shown ⟦<FileShelves as Shelves>⟧.failure_count
+        (I.remaining input.old) (I.remaining input.new) (O.contents output.old) (O.contents output.new) result }
+{
     if holds_bytes(rt, path) {
         return Err(Refusal::NotEmpty);
     }
@@ -76,15 +88,18 @@ fn open_refusal(unopened: Unopened) -> Refusal
     }
 }
 
-/// Does a work on the store of a file.
+/// Does a work on the store of a file. Where the store is not opened, nothing is read or written.
 fn on_file<I: Read, O: Write>(
     rt: &HostRuntime,
     path: &str,
     work: &Work,
     input: &mut I,
     output: &mut O,
-) -> Result<bool, Refusal> {
-    let mut shelves = match SqlShelves::open_file(rt, path) {
+) -> Result<bool, Refusal>
+    ensures { WorksOnFile ⟦<FileShelves as Shelves>⟧.shown ⟦<FileShelves as Shelves>⟧.failure_count
+        (I.remaining input.old) (I.remaining input.new) (O.contents output.old) (O.contents output.new) work.now result }
+{
+    let mut shelves = match FileShelves::open_file(rt, path) {
         Ok(shelves) => shelves,
         Err(unopened) => return Err(open_refusal(unopened)),
     };

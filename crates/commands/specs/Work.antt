@@ -1,0 +1,58 @@
+-- What a work on a store does.
+use Rattle.std.specs.Prelude.{ℕ, List, ◌≡◌, if◌then◌else◌, true, Bool, Option, Result, Ok, Err}
+use Rattle.world.specs.Registry.{team_added, after_team_add, key_added, after_key_add, key_revoked, after_key_revoke}
+use Rattle.world.specs.Store.{Shown}
+use Rattle.world.specs.World.{World}
+use Rattle.world.specs.declared.entry.Right.TheVariants.{Publishes, Reads}
+use Rattle.world.specs.declared.registry.Registered.{Registered}
+use Rattle.commands.specs.Ending.{Registers}
+use Rattle.commands.specs.Opening.{AnswersAll}
+use Rattle.commands.specs.Publish.{asked_by, PublishesFiles}
+use Rattle.commands.specs.declared.refusal.Refusal.{Refusal}
+use Rattle.commands.specs.declared.work.Work.{Work}
+use Rattle.commands.specs.declared.work.Work.TheVariants as work
+
+-- a store, what is left to read of the input, and what the output has, at a moment
+pub record Moment (S : Type 0) : Type 0 where
+  pub store : S
+  pub unread : Option (List ℕ)
+  pub written : Option (List ℕ)
+
+-- nothing was read or written
+pub record IsSilent {S : Type 0} (old new : Moment S) : Type 0 where
+  pub unread : new.unread ≡ old.unread
+  pub written : new.written ≡ old.written
+
+-- what a work tells that is accepted once it is done
+abbrev pub acceptance : Result (Unit {0}) Refusal → Result Bool Refusal
+acceptance (Ok u) = Ok true
+acceptance (Err refusal) = Err refusal
+
+module _ {S : Type 0} (shown : S → Shown) (failures : S → ℕ) (old new : Moment S) where
+  -- the store did a command of the registry, with this outcome and this next world, and nothing was read or written
+  pub record RegistersAlone (outcome : World → Registered) (next : World → World) (result : Result Bool Refusal) : Type 0 where
+    pub ended : Result (Unit {0}) Refusal
+    pub registers : Registers (shown old.store) (shown new.store) (failures old.store) (failures new.store) outcome next ended
+    pub told : result ≡ acceptance ended
+    pub silent : IsSilent old new
+
+  -- the requests of the input were answered from the store
+  pub record AnswersFrom (result : Result Bool Refusal) : Type 0 where
+    pub ended : Result (Unit {0}) Refusal
+    pub answers : AnswersAll (shown old.store) (shown new.store) (failures old.store) (failures new.store)
+        old.unread new.unread old.written new.written ended
+    pub told : result ≡ acceptance ended
+
+  -- What is done by the kind of work: nothing, one command of the registry, one publish, or all requests of the input are answered.
+  abbrev pub Works : Result Bool Refusal → Work → Type 0
+  Works result work.Open = (new ≡ old) × (result ≡ Ok true)
+  Works result (work.TeamAdd team) =
+      RegistersAlone (λ w. team_added w team.now) (λ w. after_team_add w team.now (team_added w team.now)) result
+  Works result (work.KeyAdd shelf key read_only) =
+      RegistersAlone (λ w. key_added w shelf.now key.now)
+      (λ w. after_key_add w shelf.now key.now (if read_only then Reads else Publishes) (key_added w shelf.now key.now)) result
+  Works result (work.KeyRevoke key) =
+      RegistersAlone (λ w. key_revoked w key.now) (λ w. after_key_revoke w key.now (key_revoked w key.now)) result
+  Works result (work.Publish words files) =
+      PublishesFiles shown failures old.store new.store (asked_by words) old.written new.written result × (new.unread ≡ old.unread)
+  Works result work.Answer = AnswersFrom result

@@ -14,6 +14,9 @@ use sqlite::{Connection, Error, ErrorCode, File, FileStore, MemStore};
 use std::alloc::Global;
 use std::rt::HostRuntime;
 
+/// The store of a file.
+pub type FileShelves = SqlShelves<FileStore<File>>;
+
 impl SqlShelves<MemStore> {
     /// A store in memory, with the shelf `common` alone. It is refused only as `Memory`, where memory
     /// was wanted.
@@ -40,7 +43,7 @@ impl SqlShelves<FileStore<File>> {
     /// It is refused as `BadSchema` where the file holds no database, other tables, or tables that
     /// stand for no world; as `Memory` where memory was wanted; and as `Device` where the disk failed,
     /// or the system or the name does not let the file be opened. The file then stays as it was.
-    pub fn open_file(rt: &HostRuntime, path: &str) -> Result<SqlShelves<FileStore<File>>, Refusal>
+    pub fn open_file(rt: &HostRuntime, path: &str) -> Result<FileShelves, Refusal>
         ensures memory { path.now ≡ codes ":memory:" → result ≡ Err Refusal.Device }
         ensures begins { IfOk result (λ s. HasCleanDisk (file_state s.conn) → (w : _) × BeginsAt (shown_of (file_state s.conn)) w) }
         ensures none_failed { IfOk result (λ s. s.failures ≡ 0) }

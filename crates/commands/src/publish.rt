@@ -41,8 +41,8 @@ pub struct Files<'a> {
 }
 
 /// Reads the two files and publishes them. It prints the outcome, and tells whether the version stands now with these
-/// files. Where memory runs out while they are read, it prints the 503. `Io` where a file can't be read or the output
-/// failed; nothing is done on the store then, unless it was the output.
+/// files. Where memory runs out while they are read, nothing is done on the store, and the outcome is the 503. `Io` where
+/// a file can't be read, and then nothing is done, or where the output failed.
 pub fn publish<S: Shelves, O: Write>(
     rt: &HostRuntime,
     shelves: &mut S,
@@ -57,7 +57,7 @@ pub fn publish<S: Shelves, O: Write>(
     publish_had(rt.alloc(), shelves, words, had, output)
 }
 
-/// Publishes files by how they were had.
+/// Publishes files by how they were had: where they were not, nothing is done on the store.
 fn publish_had<S: Shelves, O: Write>(
     alloc: Global,
     shelves: &mut S,

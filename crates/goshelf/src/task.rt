@@ -7,15 +7,11 @@ use commands::files::holds_bytes;
 use commands::memory::answer_in_memory;
 use commands::refusal::Refusal;
 use commands::work::{Work, work_on};
-use sqlite::{File, FileStore};
 use std::io::{Read, Write};
 use std::rt::HostRuntime;
+use store::open::FileShelves;
 use store::refusal::Refusal as Unopened;
-use store::store::SqlShelves;
 use world::shelves::Shelves;
-
-/// The store of a file.
-type FileShelves = SqlShelves<FileStore<File>>;
 
 /// What a run is to do.
 #[derive(Clone, Copy, Drop)]

@@ -142,8 +142,9 @@ def main():
     memory = measure("a PUT of a 16 MiB zip and its GET", 2, large)
     print(f"  that is {memory / length:.1f} times the zip")
 
-    few = gets_on_a_store(1_000, gets)
-    many = gets_on_a_store(100_000 // scale, gets)
+    # So many that what making the store takes more or less from run to run does not count.
+    few = gets_on_a_store(1_000, 10 * gets)
+    many = gets_on_a_store(100_000 // scale, 10 * gets)
     print(f"  the larger store costs {many / few:.2f} times the smaller")
 
     asked = (get("example.com/lib", "v1.0.0", "info") for _ in range(gets))

@@ -142,7 +142,7 @@ def main():
     memory = measure("a PUT of a 16 MiB zip and its GET", 2, large)
     print(f"  that is {memory / length:.1f} times the zip")
 
-    # So many that what making the store takes more or less from run to run does not count.
+    # So many that what making the store takes more or less from run to run hardly counts.
     few = gets_on_a_store(1_000, 10 * gets)
     many = gets_on_a_store(100_000 // scale, 10 * gets)
     print(f"  the larger store costs {many / few:.2f} times the smaller")

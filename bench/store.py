@@ -132,7 +132,7 @@ def filled_file(folder, entries):
 
 def fetching(file, entries, gets):
     """Seconds of so many GETs of a .mod from a store, without its opening. The asked versions are spread over the store.
-    They are so many that what an opening takes more or less from run to run does not count."""
+    They are so many that what an opening takes more or less from run to run hardly counts."""
     opening, _ = answered(file, [])
     seconds, _ = answered(file, (get(n * 7919 % entries) for n in range(gets)))
     return max(seconds - opening, 1e-9)

@@ -5,9 +5,10 @@ use Rattle.std.proofs.lemmas.Bool.{cases_Bool, or_parts}
 use Rattle.gomod.specs.declared.keyword.Keyword.{Keyword}
 use Rattle.gomod.specs.declared.keyword.Keyword.TheVariants.{Module, Require, Retract}
 use Rattle.gomod.specs.declared.fault.GoModFault.{GoModFault}
-use Rattle.gomod.specs.Lexer.{Lexeme}
-use Rattle.gomod.specs.Tokens.{AreTokens, AreTokensOf}
-use Rattle.gomod.specs.Symbols.{symbol_of, Keywords, is_module}
+use Rattle.modlex.specs.Lexer.{Lexeme}
+use Rattle.modlex.specs.Tokens.{AreTokens, AreTokensOf}
+use Rattle.modlex.specs.Symbols.{symbol_of}
+use Rattle.gomod.specs.Keywords.{Keywords, is_module}
 use Rattle.gomod.specs.Entries.{IsModuleEntry, IsPair}
 use Rattle.gomod.specs.Grammar.{Row, row, Directive, one, block, OpenBlock, keyword_of, keywords_in, Item, item, items_of, items, is_keyword, entries_under, rows_of, rows_of_open, AreWritten}
 use Rattle.gomod.specs.Reads.{Pointwise, rows_of_tokens}

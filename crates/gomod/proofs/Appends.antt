@@ -1,9 +1,10 @@
 -- Lines behind lines.
 use Rattle.std.proofs.Common.{◌≡◌, ℕ, ◌+◌, List, [], ◌∷◌, ◌++◌, map, length, refl, ap, sym, ◌∙◌, subst, arith, Result, Ok, Err}
 use Rattle.gomod.specs.declared.fault.GoModFault.{GoModFault}
-use Rattle.gomod.specs.Lexer.{Lexeme}
-use Rattle.gomod.specs.Symbols.{Symbol, symbol_of, Keywords}
-use Rattle.gomod.specs.Tokens.{AreTokens, AreTokensOf}
+use Rattle.modlex.specs.Lexer.{Lexeme}
+use Rattle.modlex.specs.Symbols.{Symbol, symbol_of}
+use Rattle.gomod.specs.Keywords.{Keywords}
+use Rattle.modlex.specs.Tokens.{AreTokens, AreTokensOf}
 use Rattle.gomod.specs.Grammar.{row, rows_from}
 use Rattle.gomod.specs.Reads.{rows_of_tokens}
 use Rattle.gomod.specs.Reading.{Context, Parts, nothing, ◌⊕◌, ◌>>=◌, bytes_say, lines_say}

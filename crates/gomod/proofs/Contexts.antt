@@ -4,7 +4,7 @@ use Rattle.std.specs.List.{list_any}
 use Rattle.std.proofs.lemmas.List.Folds.{list_any-append}
 use Rattle.gomod.specs.declared.keyword.Keyword.{Keyword}
 use Rattle.gomod.specs.declared.keyword.Keyword.TheVariants.{Module, Go, Require, Exclude, Replace, Retract}
-use Rattle.gomod.specs.Symbols.{Keywords, is_module, is_go, has_block}
+use Rattle.gomod.specs.Keywords.{Keywords, is_module, is_go, has_block}
 use Rattle.gomod.specs.Reading.{Context, has_stood, with_entry}
 use Rattle.gomod.specs.Grammar.{Row, Directive, OpenBlock, keyword_of, is_keyword, is_single, AreWritten}
 use Rattle.gomod.specs.Faults.{HasRoom, IsFilled}

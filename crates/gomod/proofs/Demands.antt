@@ -9,7 +9,7 @@ use Rattle.gomod.specs.Paths.{Version, is_path, is_loose_path, version_of, fits_
 use Rattle.gomod.specs.GoVersion.{is_go_version, is_file_path}
 use Rattle.gomod.specs.Entries.{Demand, module_path, loose_path, file_path, go_version, version, fitting_version, interval, IsMet, fault_of, FailsFirst}
 use Rattle.gomod.proofs.Orders.{is_below-true, is_below-from}
-use Rattle.gomod.proofs.Steps.{chosen}
+use Rattle.modlex.proofs.TokenSound.{chosen}
 
 -- the test of a demand
 abbrev pub fits_some : List ℕ → Option Version → Bool

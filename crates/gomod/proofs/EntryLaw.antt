@@ -8,8 +8,8 @@ use Rattle.gomod.specs.declared.fault.GoModFault.TheVariants as faults
 use Rattle.gomod.specs.declared.entries.Retraction.{Retraction}
 use Rattle.gomod.specs.Paths.{Version, is_path, is_loose_path, version_of, fits_path, is_below}
 use Rattle.gomod.specs.GoVersion.{is_go_version, is_file_path}
-use Rattle.gomod.specs.Symbols.{Symbol}
-use Rattle.gomod.specs.Words.{value_of}
+use Rattle.modlex.specs.Symbols.{Symbol}
+use Rattle.modlex.specs.Words.{value_of}
 use Rattle.gomod.specs.Reading.{◌>>=◌, version_found, path_word, version_word, fitting_word, pair, old_path, old_version, new_file, new_version, module_entry, go_entry, pair_entry, replace_entry, replace_three, replace_four, replace_five, interval, retract_entry, entry}
 use Rattle.gomod.specs.Entries.{Demand, fault_of, old_demands, old_version_demands, new_file_demands, new_version_demands}
 use Rattle.gomod.specs.Entries as asks

@@ -6,14 +6,15 @@ use Rattle.gomod.specs.declared.fault.GoModFault.TheVariants as faults
 use Rattle.gomod.specs.declared.entries.Requirement.{Requirement}
 use Rattle.gomod.specs.declared.entries.Retraction.{Retraction}
 use Rattle.gomod.specs.Paths.{Version, is_path, is_loose_path, version_of, fits_path, is_below}
-use Rattle.gomod.specs.Symbols.{Symbol, is_word}
-use Rattle.gomod.specs.Words.{value_of}
+use Rattle.modlex.specs.Symbols.{Symbol, is_word}
+use Rattle.modlex.specs.Words.{value_of}
 use Rattle.gomod.specs.Module.{interval_of}
 use Rattle.gomod.specs.Reading.{Parts, nothing, ◌>>=◌, version_found, path_word, version_word, fitting_word, pair, module_entry, go_entry, pair_entry, replace_entry, interval, retract_entry, are_interval_kinds, entry}
 use Rattle.gomod.specs.Entries.{IsModuleEntry, IsPair, IsSpan}
 use Rattle.gomod.specs.Grammar.{Row, row, Item, item, entries_under}
 use Rattle.gomod.specs.Reads.{Pointwise}
-use Rattle.gomod.proofs.Steps.{chosen, guarded, bound, ok_same}
+use Rattle.modlex.proofs.TokenSound.{chosen}
+use Rattle.gomod.proofs.Steps.{guarded, bound, ok_same}
 
 -- a retraction is that of an entry and has its line
 abbrev pub IsPlaced : Row → Retraction → Type 0

@@ -2,18 +2,19 @@
 use Rattle.std.proofs.Common.{◌≡◌, ℕ, true, false, List, [], ◌∷◌, refl, ap, sym, ◌∙◌, Option, Some, None, Result, Ok, Err, ◌⊎◌, inl, inr, ⊎_elim}
 use Rattle.std.specs.Str.{bytes_eq}
 use Rattle.std.proofs.lemmas.Slice.Eq.{bytes_eq-Decides}
-use Rattle.gomod.specs.declared.lexer.Kind.{Kind}
-use Rattle.gomod.specs.declared.lexer.Kind.TheVariants as kinds
+use Rattle.modlex.specs.declared.lexer.Kind.{Kind}
+use Rattle.modlex.specs.declared.lexer.Kind.TheVariants as kinds
 use Rattle.gomod.specs.declared.keyword.Keyword.{Keyword}
 use Rattle.gomod.specs.declared.fault.GoModFault.{GoModFault}
 use Rattle.gomod.specs.declared.fault.GoModFault.TheVariants as faults
-use Rattle.gomod.specs.Symbols.{Symbol, is_word_kind, opens_block_kind, closes_block_kind, Keywords, keyword_named, spelling}
+use Rattle.modlex.specs.Symbols.{Symbol, is_word_kind}
+use Rattle.gomod.specs.Keywords.{opens_block_kind, closes_block_kind, Keywords, keyword_named, spelling}
 use Rattle.gomod.specs.Reading.{Parts, entry, is_opening, is_closing}
 use Rattle.gomod.specs.Entries.{Demand, HasShape, IsRight, FailsFirst, fault_of, module_shape, go_shape, require_shape, exclude_shape, path_by_file, path_by_version, version_by_file, version_by_version, retract_version, retract_interval}
 use Rattle.gomod.proofs.Demands.{check-met, check-all, check-fails, outcome}
 use Rattle.gomod.proofs.Shapes.{demands_of, demands-from_shape, shape-from_demands}
 use Rattle.gomod.proofs.EntryLaw.{success, entry_success}
-use Rattle.gomod.proofs.Steps.{chosen}
+use Rattle.modlex.proofs.TokenSound.{chosen}
 
 succeeds : {A : Type 0} (r : Result A GoModFault) → success r ≡ Ok tt → (x : A) × (r ≡ Ok x)
 succeeds (Ok x) h = (x, refl)

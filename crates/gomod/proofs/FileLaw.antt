@@ -11,9 +11,10 @@ use Rattle.gomod.specs.declared.fault.GoModFault.TheVariants as faults
 use Rattle.gomod.specs.declared.entries.Requirement.{Requirement}
 use Rattle.gomod.specs.declared.entries.Retraction.{Retraction}
 use Rattle.gomod.specs.Paths.{Version, fits_path}
-use Rattle.gomod.specs.Lines.{lines}
-use Rattle.gomod.specs.Symbols.{Symbol, Keywords, is_module}
-use Rattle.gomod.specs.Words.{value_of}
+use Rattle.modlex.specs.Lines.{lines}
+use Rattle.modlex.specs.Symbols.{Symbol}
+use Rattle.gomod.specs.Keywords.{Keywords, is_module}
+use Rattle.modlex.specs.Words.{value_of}
 use Rattle.gomod.specs.Module.{GoModule, Interval, interval_of}
 use Rattle.gomod.specs.Entries.{IsModuleEntry, IsPair, IsSpan, IsVersionOf}
 use Rattle.gomod.specs.Grammar.{Row, Directive, OpenBlock, Item, items_of, keyword_of, keywords_in, items, is_keyword, entries_under, AreWritten}
@@ -21,7 +22,8 @@ use Rattle.gomod.specs.Reads.{Pointwise, FitsPath, Reads, rows_of_tokens}
 use Rattle.gomod.specs.Faults.{HasFirstFault, IsFirstUnfit, IsLastFault, Faulty}
 use Rattle.gomod.specs.FileLaws.{ReadsOrIsFaulty}
 use Rattle.gomod.specs.Reading.{Context, Parts, nothing, at_start, ◌⊕◌, ◌>>=◌, bytes_say, lines_say, fits_retraction, first_unfit, fitting_module, module_of, file_says, text_says, reading}
-use Rattle.gomod.proofs.Steps.{chosen, bound, fails, ok_same, err_same, ok_err, ok_or_err}
+use Rattle.modlex.proofs.TokenSound.{chosen}
+use Rattle.gomod.proofs.Steps.{bound, fails, ok_same, err_same, ok_err, ok_or_err}
 use Rattle.gomod.proofs.Contexts.{context_at, stands, module_same, written-alone}
 use Rattle.gomod.proofs.EntryMeaning.{IsPlaced, AreMeant, path_list}
 use Rattle.gomod.proofs.LineTokens.{fault_bytes}

@@ -1,19 +1,21 @@
 -- What is computed of a line is what it makes of the directives above it.
 use Rattle.std.proofs.Common.{◌≡◌, ℕ, Bool, true, false, not, ◌&&◌, List, [], ◌∷◌, ◌++◌, refl, ap, sym, ◌∙◌, subst, Option, Some, None, Result, Ok, Err, codes, ⊎_elim}
 use Rattle.std.specs.List.{list_all, AllByRecursion}
-use Rattle.gomod.specs.declared.lexer.Kind.{Kind}
-use Rattle.gomod.specs.declared.lexer.Kind.TheVariants as kinds
+use Rattle.modlex.specs.declared.lexer.Kind.{Kind}
+use Rattle.modlex.specs.declared.lexer.Kind.TheVariants as kinds
 use Rattle.gomod.specs.declared.keyword.Keyword.{Keyword}
 use Rattle.gomod.specs.declared.fault.GoModFault.{GoModFault}
 use Rattle.gomod.specs.declared.fault.GoModFault.TheVariants as faults
-use Rattle.gomod.specs.Symbols.{Symbol, Keywords, keyword_named, is_module, has_block, is_name_kind, opens_block_kind, closes_block_kind}
+use Rattle.modlex.specs.Symbols.{Symbol, is_name_kind}
+use Rattle.gomod.specs.Keywords.{Keywords, keyword_named, is_module, has_block, opens_block_kind, closes_block_kind}
 use Rattle.gomod.specs.Reading.{Context, Parts, nothing, last_path, ◌⊕◌, ◌>>=◌, has_stood, header, with_entry, entry, entry_says, is_opening, is_closing, directive, line_outside, line_inside, line_says}
 use Rattle.gomod.specs.declared.keyword.Keyword.TheVariants.{Module}
 use Rattle.gomod.specs.Reads.{Pointwise}
 use Rattle.gomod.specs.Entries.{IsModuleEntry}
 use Rattle.gomod.specs.Grammar.{Row, row, keyword_symbol, left, right, Directive, one, OpenBlock, Item, item, entries_under, IsKnown}
 use Rattle.gomod.specs.Faults.{HasRoom, IsFilled, IsKeyword}
-use Rattle.gomod.proofs.Steps.{chosen, guarded, bound}
+use Rattle.modlex.proofs.TokenSound.{chosen}
+use Rattle.gomod.proofs.Steps.{guarded, bound}
 use Rattle.gomod.proofs.Moves.{Move, blank, single, begins, inside, closes, with_row, closed, IsFresh, keywords_more, items_more}
 use Rattle.gomod.proofs.EntryMeaning.{AreMeant, path_list, entry_means}
 use Rattle.gomod.proofs.EntryRight.{entry_right, right_entry, shape_no_opening, shape_no_closing, named_spelling}

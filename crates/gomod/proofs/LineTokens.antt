@@ -1,41 +1,28 @@
--- The tokens of a line do not depend on where the line stands, but for their places.
+-- What a line says is what its tokens say, and its fault is computed.
 use Rattle.std.proofs.Common.{◌≡◌, ℕ, zero, suc, ◌+◌, ◌-◌, take, List, [], ◌∷◌, map, length, refl, ap, sym, ◌∙◌, subst, arith, Option, Some, None, Result, Ok, Err, ◌⊎◌, inl, inr, ⊎_elim}
 use Rattle.std.specs.List.{AllByRecursion}
-use Rattle.gomod.specs.declared.lexer.Kind.{Kind}
-use Rattle.gomod.specs.declared.lexer.TokenFault.{TokenFault}
-use Rattle.gomod.specs.declared.lexer.TokenFault.TheVariants as token_faults
+use Rattle.modlex.specs.declared.lexer.Kind.{Kind}
+use Rattle.modlex.specs.declared.lexer.TokenFault.{TokenFault}
+use Rattle.modlex.specs.declared.lexer.TokenFault.TheVariants as token_faults
 use Rattle.gomod.specs.declared.fault.GoModFault.{GoModFault}
 use Rattle.gomod.specs.declared.fault.GoModFault.TheVariants as faults
-use Rattle.gomod.specs.Bytes.{is_blank, is_slash_and}
-use Rattle.gomod.specs.Lexer.{Lexeme, lexeme, lexeme_at, line_tokens, tokens_behind, tokens_then}
-use Rattle.gomod.specs.Tokens.{AreTokens, IsLexeme}
-use Rattle.gomod.specs.Symbols.{symbol_of, Keywords}
+use Rattle.modlex.specs.Bytes.{is_blank, is_slash_and}
+use Rattle.modlex.specs.Lexer.{Lexeme, lexeme, lexeme_at, line_tokens, tokens_behind, tokens_then}
+use Rattle.modlex.specs.Tokens.{AreTokens, IsLexeme}
+use Rattle.modlex.specs.Symbols.{symbol_of}
+use Rattle.gomod.specs.Keywords.{Keywords}
 use Rattle.gomod.specs.Reading.{Context, Parts, ◌>>=◌, as_reader, line_says, bytes_say}
 use Rattle.gomod.specs.Grammar.{Directive, OpenBlock}
 use Rattle.gomod.specs.Faults.{IsLineFault}
-use Rattle.gomod.proofs.Steps.{chosen, bound, fails}
-use Rattle.gomod.proofs.TokenLaw.{tokens_behind-all}
-use Rattle.gomod.proofs.TokenSound.{tokens_behind-sound}
+use Rattle.modlex.proofs.TokenSound.{chosen}
+use Rattle.gomod.proofs.Steps.{bound, fails}
+use Rattle.modlex.proofs.TokenLaw.{tokens_behind-all}
+use Rattle.modlex.proofs.LineTokens.{moved, tokens_are, tokens_fault, ok_or_fault}
+use Rattle.modlex.proofs.TokenSound.{tokens_behind-sound}
 use Rattle.gomod.proofs.Contexts.{context_at, IsAlone}
 use Rattle.gomod.proofs.LineLaw.{IsPlain}
 use Rattle.gomod.proofs.RowFaults.{says_fault}
 use Rattle.gomod.proofs.OneFault.{fault_says}
-
--- the same tokens at another place
-pub record Moved (line at : ℕ) (bytes : List ℕ) (ts : List Lexeme) : Type 0 where
-  pub tokens : List Lexeme
-  pub are : AreTokens line at bytes tokens
-  pub same : map symbol_of tokens ≡ map symbol_of ts
-
-pub moved : (line at n place : ℕ) (bytes : List ℕ) (ts : List Lexeme) → AreTokens line at bytes ts → Moved n place bytes ts
-moved line at n place bytes [] h = record { tokens = []; are = h; same = refl }
-moved line at n place bytes (t ∷ ts) h =
-    let more = moved line (at + length h.0 + length t.text) n (place + length h.0 + length t.text) h.1 ts h.6 in
-    record {
-      tokens = lexeme t.kind n (place + length h.0) t.text ∷ more.tokens;
-      are = (h.0, h.1, h.2, h.3, h.4, refl, more.are);
-      same = ap (λ l. symbol_of t ∷ l) more.same;
-    }
 
 -- parentheses are spelled as themselves
 pub tokens_plain : (line at : ℕ) (bytes : List ℕ) (ts : List Lexeme) → AreTokens line at bytes ts → AllByRecursion IsPlain (map symbol_of ts)
@@ -44,11 +31,6 @@ tokens_plain line at bytes (t ∷ ts) h = (
   (λ is. subst (λ k. IsLexeme k t.text h.1) is h.3, λ is. subst (λ k. IsLexeme k t.text h.1) is h.3),
   tokens_plain line (at + length h.0 + length t.text) h.1 ts h.6,
 )
-
--- ---- the computed tokens of a line
-
-pub tokens_are : (line at : ℕ) (l : List ℕ) (ts : List Lexeme) → line_tokens line at l ≡ Ok ts → AreTokens line at l ts
-tokens_are line at l ts h = tokens_behind-sound (length l) line at l ts (omega arith) h
 
 -- a line with tokens says what they say
 pub bytes_say-tokens : (known : Keywords) (line at : ℕ) (c : Context) (l : List ℕ) (ts : List Lexeme) → AreTokens line at l ts → bytes_say known line c l ≡ line_says known line c (map symbol_of ts)
@@ -70,31 +52,6 @@ bytes_ok known line at c l x h =
     let b = bound (as_reader (line_tokens line 0 l)) (λ ts. line_says known line c (map symbol_of ts)) x h in
     let there = moved line 0 line at l b.0 (tokens_are line 0 l b.0 (read_ok (line_tokens line 0 l) b.0 b.1)) in
     (there.tokens, there.are, ap (line_says known line c) there.same ∙ b.2)
-
--- the lexer's only fault is that of its line
-after_fault : (front : List Lexeme) (r : Result (List Lexeme) TokenFault) (e : TokenFault) → tokens_then front r ≡ Err e → r ≡ Err e
-after_fault front (Ok ts) e h = cc
-after_fault front (Err d) e h = h
-
-found_fault : (line at b : ℕ) (bs : List ℕ) (e : TokenFault) (o : Option (Kind × ℕ)) → ((k : ℕ) → tokens_behind k line (at + 1) bs ≡ Err e → e ≡ token_faults.Lex line) → ◌≡◌ {A = Result (List Lexeme) TokenFault} (elim o [ None ↦ Err (token_faults.Lex line) | Some x ↦ tokens_then (lexeme x.0 line at (take x.1 (b ∷ bs)) ∷ []) (tokens_behind (x.1 - 1) line (at + 1) bs) ]) (Err e) → e ≡ token_faults.Lex line
-found_fault line at b bs e None below h = cc
-found_fault line at b bs e (Some x) below h = below (x.1 - 1) (after_fault (lexeme x.0 line at (take x.1 (b ∷ bs)) ∷ []) _ e h)
-
-pub tokens_fault : (skipped line at : ℕ) (bs : List ℕ) (e : TokenFault) → tokens_behind skipped line at bs ≡ Err e → e ≡ token_faults.Lex line
-tokens_fault skipped line at [] e h = cc
-tokens_fault (suc skipped) line at (b ∷ bs) e h = tokens_fault skipped line (at + 1) bs e h
-tokens_fault zero line at (b ∷ bs) e h =
-    ⊎_elim
-    (λ blank. tokens_fault 0 line (at + 1) bs e blank.1)
-    (λ solid. ⊎_elim
-    (λ comment. (let bad = comment.1 in cc))
-    (λ token. found_fault line at b bs e (lexeme_at (b ∷ bs)) (λ k. tokens_fault k line (at + 1) bs e) token.1)
-    (chosen (is_slash_and 47 b bs) _ _ _ solid.1))
-    (chosen (is_blank b) _ _ _ h)
-
-ok_or_fault : (r : Result (List Lexeme) TokenFault) → ((ts : List Lexeme) × (r ≡ Ok ts)) ⊎ ((e : TokenFault) × (r ≡ Err e))
-ok_or_fault (Ok ts) = inl (ts, refl)
-ok_or_fault (Err e) = inr (e, refl)
 
 reader_fault : (line : ℕ) (r : Result (List Lexeme) TokenFault) (f : GoModFault) → ((e : TokenFault) → r ≡ Err e → e ≡ token_faults.Lex line) → as_reader r ≡ Err f → (r ≡ Err (token_faults.Lex line)) × (f ≡ faults.Lex line)
 reader_fault line (Ok ts) f only h = cc

@@ -2,7 +2,8 @@
 use Rattle.std.proofs.Common.{◌≡◌, ℕ, true, false, List, [], ◌∷◌, ◌++◌, map, filter, ap, sym, ◌∙◌, append_assoc, append-nil, Option, Some, None}
 use Rattle.std.specs.List.{flat_map, list_any}
 use Rattle.gomod.specs.declared.keyword.Keyword.{Keyword}
-use Rattle.gomod.specs.Symbols.{Symbol, Keywords, has_block}
+use Rattle.modlex.specs.Symbols.{Symbol}
+use Rattle.gomod.specs.Keywords.{Keywords, has_block}
 use Rattle.gomod.specs.Entries.{IsRight}
 use Rattle.gomod.specs.Grammar.{Row, row, has_symbols, keyword_symbol, Directive, one, block, OpenBlock, opening, closing, rows_of, rows_of_open, keyword_of, keywords_in, Item, item, items_of, items, is_keyword, is_single, IsKnown}
 use Rattle.gomod.specs.Faults.{HasRoom, IsFilled}

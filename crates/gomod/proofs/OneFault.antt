@@ -6,7 +6,8 @@ use Rattle.gomod.specs.declared.keyword.Keyword.{Keyword}
 use Rattle.gomod.specs.declared.keyword.Keyword.TheVariants.{Module, Go, Require, Exclude, Replace, Retract}
 use Rattle.gomod.specs.declared.fault.GoModFault.{GoModFault}
 use Rattle.gomod.specs.declared.fault.GoModFault.TheVariants as faults
-use Rattle.gomod.specs.Symbols.{Symbol, Keywords}
+use Rattle.modlex.specs.Symbols.{Symbol}
+use Rattle.gomod.specs.Keywords.{Keywords}
 use Rattle.gomod.specs.Reading.{line_says}
 use Rattle.gomod.specs.Entries.{Demand, IsMet, IsRight, HasShape, FailsFirst, fault_of}
 use Rattle.gomod.specs.Grammar.{Row, keyword_symbol, left, right, Directive, OpenBlock, IsKnown, is_single}

@@ -1,16 +1,18 @@
 -- The fault that is computed of a line with tokens is the first that it has.
 use Rattle.std.proofs.Common.{◌≡◌, ℕ, true, false, not, ◌&&◌, List, [], ◌∷◌, refl, ap, sym, ◌∙◌, subst, Option, Some, None, Result, Ok, Err, inl, inr, ⊎_elim}
 use Rattle.std.proofs.lemmas.Bool.{both_ways}
-use Rattle.gomod.specs.declared.lexer.Kind.TheVariants as kinds
+use Rattle.modlex.specs.declared.lexer.Kind.TheVariants as kinds
 use Rattle.gomod.specs.declared.keyword.Keyword.{Keyword}
 use Rattle.gomod.specs.declared.fault.GoModFault.{GoModFault}
 use Rattle.gomod.specs.declared.fault.GoModFault.TheVariants as faults
-use Rattle.gomod.specs.Symbols.{Symbol, Keywords, keyword_named, is_module, has_block, is_name_kind, opens_block_kind, closes_block_kind}
+use Rattle.modlex.specs.Symbols.{Symbol, is_name_kind}
+use Rattle.gomod.specs.Keywords.{Keywords, keyword_named, is_module, has_block, opens_block_kind, closes_block_kind}
 use Rattle.gomod.specs.Reading.{Context, Parts, ◌⊕◌, has_stood, header, with_entry, entry, entry_says, is_opening, is_closing, directive, line_outside, line_inside, line_says}
 use Rattle.gomod.specs.Entries.{Demand, HasShape}
 use Rattle.gomod.specs.Grammar.{Directive, OpenBlock, is_single}
 use Rattle.gomod.specs.Faults.{HasRoom, IsFilled, IsKeyword, IsUnknown, IsRepeated, IsAllowed, IsRowFault}
-use Rattle.gomod.proofs.Steps.{chosen, fails}
+use Rattle.modlex.proofs.TokenSound.{chosen}
+use Rattle.gomod.proofs.Steps.{fails}
 use Rattle.gomod.proofs.Moves.{IsFresh}
 use Rattle.gomod.proofs.EntryRight.{entry_fault, IsEntryFault, shape_no_closing}
 use Rattle.gomod.proofs.Contexts.{context_at, stands, IsAlone, stood-fresh, stood-repeated, room-context, context-room, filled-context}

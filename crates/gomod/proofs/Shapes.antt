@@ -1,15 +1,15 @@
 -- The shapes of entries, computed.
 use Rattle.std.proofs.Common.{◌≡◌, Bool, true, false, ◌&&◌, cond, List, [], ◌∷◌, ◌++◌, refl, ap, subst, Option, Some, None, ⊎_elim}
 use Rattle.std.proofs.lemmas.Bool.{and_parts}
-use Rattle.gomod.specs.declared.lexer.Kind.{Kind}
-use Rattle.gomod.specs.declared.lexer.Kind.TheVariants as kinds
+use Rattle.modlex.specs.declared.lexer.Kind.{Kind}
+use Rattle.modlex.specs.declared.lexer.Kind.TheVariants as kinds
 use Rattle.gomod.specs.declared.keyword.Keyword.{Keyword}
 use Rattle.gomod.specs.declared.keyword.Keyword.TheVariants.{Module, Go, Require, Exclude, Replace, Retract}
-use Rattle.gomod.specs.Symbols.{Symbol, is_word, is_arrow_kind, is_word_kind}
-use Rattle.gomod.specs.Words.{value_of}
+use Rattle.modlex.specs.Symbols.{Symbol, is_word, is_arrow_kind, is_word_kind}
+use Rattle.modlex.specs.Words.{value_of}
 use Rattle.gomod.specs.Reading.{are_interval_kinds}
 use Rattle.gomod.specs.Entries.{Demand, module_path, go_version, version, interval, old_demands, old_version_demands, new_file_demands, new_version_demands, HasShape, module_shape, go_shape, require_shape, exclude_shape, path_by_file, path_by_version, version_by_file, version_by_version, retract_version, retract_interval}
-use Rattle.gomod.proofs.Steps.{chosen}
+use Rattle.modlex.proofs.TokenSound.{chosen}
 
 abbrev pub when : Bool → List Demand → Option (List Demand)
 when b ds = cond b (Some ds) None

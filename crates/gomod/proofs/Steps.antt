@@ -3,11 +3,6 @@ use Rattle.std.proofs.Common.{◌≡◌, Bool, true, false, cond, refl, Result, 
 use Rattle.gomod.specs.declared.fault.GoModFault.{GoModFault}
 use Rattle.gomod.specs.Reading.{◌>>=◌}
 
--- which way a test went
-pub chosen : {A : Type 0} (b : Bool) (x y z : A) → cond b x y ≡ z → ((b ≡ true) × (x ≡ z)) ⊎ ((b ≡ false) × (y ≡ z))
-chosen true x y z h = inl (refl, h)
-chosen false x y z h = inr (refl, h)
-
 -- both steps of a chain that does not fail
 pub bound : {A B : Type 0} (r : Result A GoModFault) (f : A → Result B GoModFault) (y : B) → r >>= f ≡ Ok y → (x : A) × (r ≡ Ok x) × (f x ≡ Ok y)
 bound (Ok x) f y h = (x, refl, h)

@@ -2,7 +2,8 @@
 use Rattle.std.proofs.Common.{◌≡◌, ℕ, ◌≤◌, true, List, [], ◌∷◌, ◌++◌, map, filter, length, refl, ap, sym, ◌∙◌, subst, arith, append_assoc, append-nil, Option, Some, None, ⊎_elim}
 use Rattle.std.specs.List.{flat_map, AllByRecursion}
 use Rattle.gomod.specs.declared.keyword.Keyword.{Keyword}
-use Rattle.gomod.specs.Symbols.{Symbol, Keywords}
+use Rattle.modlex.specs.Symbols.{Symbol}
+use Rattle.gomod.specs.Keywords.{Keywords}
 use Rattle.gomod.specs.Entries.{IsRight}
 use Rattle.gomod.specs.Grammar.{Row, row, has_symbols, keyword_symbol, Directive, one, block, OpenBlock, opening, closing, rows_of, rows_of_open, keyword_of, keywords_in, item, items, is_keyword, is_single, IsKnown, IsBlock, IsOpenBlock, AreWritten}
 use Rattle.gomod.proofs.Lists.{all-front, all-back, flat_map-join, filter-join, last_of, last_same, none-any, empty_list, length-join}

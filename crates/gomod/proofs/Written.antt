@@ -3,7 +3,7 @@ use Rattle.std.proofs.Common.{◌≡◌, ◌≤◌, Bool, true, false, List, [],
 use Rattle.std.specs.List.{AllByRecursion, list_any}
 use Rattle.gomod.specs.declared.keyword.Keyword.{Keyword}
 use Rattle.gomod.specs.declared.keyword.Keyword.TheVariants.{Module, Go, Require, Exclude, Replace, Retract}
-use Rattle.gomod.specs.Symbols.{Keywords}
+use Rattle.gomod.specs.Keywords.{Keywords}
 use Rattle.gomod.specs.Entries.{IsRight}
 use Rattle.gomod.specs.Grammar.{Row, row, has_symbols, Directive, one, OpenBlock, keyword_of, keywords_in, items, is_keyword, is_single, IsKnown, IsBlock, IsOpenBlock, AreWritten}
 use Rattle.gomod.proofs.Lists.{all-append, filter-join, any-none, length-join}

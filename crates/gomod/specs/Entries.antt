@@ -1,7 +1,7 @@
 -- What the entries of directives are: their shapes, what their words have to be, and what they stand for.
 use Rattle.std.specs.Prelude.{◌≡◌, ℕ, true, List, [], ◌∷◌, ◌++◌, Some, ◌⊎◌}
 use Rattle.std.specs.List.{AllByRecursion}
-use Rattle.gomod.specs.declared.lexer.Kind.TheVariants as kinds
+use Rattle.modlex.specs.declared.lexer.Kind.TheVariants as kinds
 use Rattle.gomod.specs.declared.keyword.Keyword.{Keyword}
 use Rattle.gomod.specs.declared.keyword.Keyword.TheVariants.{Module, Go, Require, Exclude, Replace, Retract}
 use Rattle.gomod.specs.declared.fault.GoModFault.{GoModFault}
@@ -10,8 +10,8 @@ use Rattle.gomod.specs.declared.entries.Requirement.{Requirement}
 use Rattle.gomod.specs.Paths.{Version, is_path, is_loose_path, version_of, fits_path, IsBelow}
 use Rattle.gomod.specs.GoVersion.{is_go_version, is_file_path}
 use Rattle.gomod.specs.Module.{Interval}
-use Rattle.gomod.specs.Symbols.{Symbol, is_word}
-use Rattle.gomod.specs.Words.{value_of}
+use Rattle.modlex.specs.Symbols.{Symbol, is_word}
+use Rattle.modlex.specs.Words.{value_of}
 
 -- ---- what words have to be
 

@@ -1,7 +1,7 @@
 -- A go.mod file reads, or it is faulty.
 use Rattle.std.specs.Prelude.{◌≡◌, ℕ, List, ◌⊎◌}
 use Rattle.gomod.specs.declared.fault.GoModFault.{GoModFault}
-use Rattle.gomod.specs.Symbols.{Keywords}
+use Rattle.gomod.specs.Keywords.{Keywords}
 use Rattle.gomod.specs.Module.{GoModule}
 use Rattle.gomod.specs.Reads.{Reads}
 use Rattle.gomod.specs.Faults.{Faulty}

@@ -3,10 +3,11 @@ use Rattle.std.specs.Prelude.{◌≡◌, ℕ, true, List, [], ◌∷◌, length,
 use Rattle.std.specs.List.{AllByRecursion}
 use Rattle.gomod.specs.declared.keyword.Keyword.TheVariants.{Module, Require, Retract}
 use Rattle.gomod.specs.Paths.{fits_path}
-use Rattle.gomod.specs.Lines.{lines}
-use Rattle.gomod.specs.Lexer.{Lexeme}
-use Rattle.gomod.specs.Tokens.{AreTokensOf}
-use Rattle.gomod.specs.Symbols.{Keywords, symbol_of}
+use Rattle.modlex.specs.Lines.{lines}
+use Rattle.modlex.specs.Lexer.{Lexeme}
+use Rattle.modlex.specs.Tokens.{AreTokensOf}
+use Rattle.modlex.specs.Symbols.{symbol_of}
+use Rattle.gomod.specs.Keywords.{Keywords}
 use Rattle.gomod.specs.Module.{GoModule, Interval}
 use Rattle.gomod.specs.Entries.{IsModuleEntry, IsPair, IsSpan}
 use Rattle.gomod.specs.Grammar.{Row, Directive, AreWritten, rows_from, items, entries_under}

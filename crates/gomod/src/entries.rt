@@ -1,14 +1,13 @@
 //! The entries of directives: the words of a line, and what they stand for.
 
 ghost use Rattle.std.specs.Prelude.{◌≡◌};
-ghost use Rattle.gomod.specs.Symbols.{symbol, symbols};
+ghost use Rattle.modlex.specs.Symbols.{symbol, symbols};
 ghost use Rattle.gomod.specs.Paths.{is_path, is_loose_path, is_below};
 ghost use Rattle.gomod.specs.Reading.{Gives, path_word, version_fault, version_word, fitting_word, module_entry, go_entry, pair, pair_entry, old_path, old_version, new_file, new_version, replace_three, replace_four, replace_five, replace_entry, are_interval_kinds, interval, retract_entry};
 
 use super::fault::GoModFault;
 use super::go_version::{is_file_path, is_go_version};
-use super::lexer::{Kind, Token};
-use super::words::{is_arrow, is_word, value};
+use modlex::{Kind, Token};
 use modpath::{LoosePath, ModulePath, PathError};
 use modver::{Version, VersionFault, compare, fits, fits_loose};
 use std::alloc::Global;
@@ -33,7 +32,7 @@ pub(crate) struct Retraction {
 fn module_path(alloc: Global, line: usize, word: &Token) -> Result<ModulePath, GoModFault>
     ensures { Gives (λ p. p) result (path_word line is_path (symbol word.now)) }
 {
-    let text = value(alloc, word)?;
+    let text = word.value(alloc)?;
     match ModulePath::parse(alloc, text.as_str()) {
         Ok(path) => Ok(path),
         Err(PathError::Fault(_)) => Err(GoModFault::Path(line)),
@@ -45,7 +44,7 @@ fn module_path(alloc: Global, line: usize, word: &Token) -> Result<ModulePath, G
 fn loose_path(alloc: Global, line: usize, word: &Token) -> Result<LoosePath, GoModFault>
     ensures { Gives (λ p. p) result (path_word line is_loose_path (symbol word.now)) }
 {
-    let text = value(alloc, word)?;
+    let text = word.value(alloc)?;
     match LoosePath::parse(alloc, text.as_str()) {
         Ok(path) => Ok(path),
         Err(PathError::Fault(_)) => Err(GoModFault::Path(line)),
@@ -56,7 +55,7 @@ fn loose_path(alloc: Global, line: usize, word: &Token) -> Result<LoosePath, GoM
 fn version(alloc: Global, line: usize, word: &Token) -> Result<Version, GoModFault>
     ensures { Gives (λ v. v) result (version_word line (symbol word.now)) }
 {
-    let text = value(alloc, word)?;
+    let text = word.value(alloc)?;
     match Version::parse(alloc, text.as_str()) {
         Ok(version) => Ok(version),
         Err(fault) => Err(version_fault(line, fault)),
@@ -129,7 +128,7 @@ pub(crate) fn module_entry(
     ensures { Gives (λ p. p) result (module_entry line (symbols tokens.now)) }
 {
     match tokens {
-        [word] if is_word(word) => module_path(alloc, line, word),
+        [word] if word.is_word() => module_path(alloc, line, word),
         _ => Err(GoModFault::Grammar(line)),
     }
 }
@@ -140,8 +139,8 @@ pub(crate) fn go_entry(alloc: Global, line: usize, tokens: &[Token]) -> Result<(
     ensures { Gives (λ o. o) result (go_entry line (symbols tokens.now)) }
 {
     match tokens {
-        [word] if is_word(word) => {
-            let text = value(alloc, word)?;
+        [word] if word.is_word() => {
+            let text = word.value(alloc)?;
             if is_go_version(text.as_bytes()) {
                 Ok(())
             } else {
@@ -176,7 +175,7 @@ pub(crate) fn pair_entry(
     ensures { Gives (λ r. r) result (pair_entry line (symbols tokens.now)) }
 {
     match tokens {
-        [first, second] if is_word(first) && is_word(second) => pair(alloc, line, first, second),
+        [first, second] if first.is_word() && second.is_word() => pair(alloc, line, first, second),
         _ => Err(GoModFault::Grammar(line)),
     }
 }
@@ -210,7 +209,7 @@ fn new_version(alloc: Global, line: usize, path: &Token, word: &Token) -> Result
 fn new_file(alloc: Global, line: usize, word: &Token) -> Result<(), GoModFault>
     ensures { Gives (λ o. o) result (new_file line (symbol word.now)) }
 {
-    let text = value(alloc, word)?;
+    let text = word.value(alloc)?;
     if is_file_path(text.as_bytes()) {
         Ok(())
     } else {
@@ -230,7 +229,7 @@ fn replace_three(
     ensures { Gives (λ o. o) result
         (replace_three line (symbol path.now) (symbol arrow.now) (symbol file.now)) }
 {
-    if is_word(path) && is_arrow(arrow) && is_word(file) {
+    if path.is_word() && arrow.is_arrow() && file.is_word() {
         old_path(alloc, line, path)?;
         return new_file(alloc, line, file);
     }
@@ -250,11 +249,11 @@ fn replace_four(
     ensures { Gives (λ o. o) result
         (replace_four line (symbol path.now) (symbol second.now) (symbol third.now) (symbol last.now)) }
 {
-    if is_word(path) && is_arrow(second) && is_word(third) && is_word(last) {
+    if path.is_word() && second.is_arrow() && third.is_word() && last.is_word() {
         old_path(alloc, line, path)?;
         return new_version(alloc, line, third, last);
     }
-    if is_word(path) && is_word(second) && is_arrow(third) && is_word(last) {
+    if path.is_word() && second.is_word() && third.is_arrow() && last.is_word() {
         old_version(alloc, line, path, second)?;
         return new_file(alloc, line, last);
     }
@@ -275,7 +274,12 @@ fn replace_five(
     ensures { Gives (λ o. o) result
         (replace_five line (symbol path.now) (symbol version.now) (symbol arrow.now) (symbol target.now) (symbol fitting.now)) }
 {
-    if is_word(path) && is_word(version) && is_arrow(arrow) && is_word(target) && is_word(fitting) {
+    if path.is_word()
+        && version.is_word()
+        && arrow.is_arrow()
+        && target.is_word()
+        && fitting.is_word()
+    {
         old_version(alloc, line, path, version)?;
         return new_version(alloc, line, target, fitting);
     }
@@ -304,8 +308,8 @@ fn is_interval(left: &Token, first: &Token, comma: &Token, second: &Token, right
     matches!(
         (left.kind, comma.kind, right.kind),
         (Kind::BracketLeft, Kind::Comma, Kind::BracketRight)
-    ) && is_word(first)
-        && is_word(second)
+    ) && first.is_word()
+        && second.is_word()
 }
 
 #[tactic(auto, unfolding(crate::specs::Reading::interval))]
@@ -336,7 +340,7 @@ pub(crate) fn retract_entry(
     ensures { Gives (λ r. r) result (retract_entry line (symbols tokens.now)) }
 {
     match tokens {
-        [only] if is_word(only) => {
+        [only] if only.is_word() => {
             let low = version(alloc, line, only)?;
             let high = version(alloc, line, only)?;
             Ok(Retraction { line, low, high })

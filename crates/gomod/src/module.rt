@@ -2,15 +2,15 @@
 
 ghost use Rattle.std.specs.Prelude.{◌≡◌, ◌↔◌, IsTrue, IsUtf8, Err};
 ghost use Rattle.std.specs.List.{list_any};
-ghost use Rattle.gomod.specs.Symbols.{profile_1};
+ghost use Rattle.gomod.specs.Keywords.{profile_1};
 ghost use Rattle.gomod.specs.Reading.{Gives, first_unfit, fits_retraction, file_says, text_says, reading};
 ghost use Rattle.gomod.specs.Module.{IsRetracted, is_retracted, covers, interval_of};
 ghost use Rattle.gomod.specs.State.{state_of};
 
 use super::entries::{Requirement, Retraction, is_below};
 use super::fault::GoModFault;
-use super::lexer::cut_line;
 use super::reader::{Reader, read_line};
+use modlex::cut_line;
 use modpath::ModulePath;
 use modver::{Version, fits};
 use std::alloc::Global;

@@ -3,7 +3,7 @@ use Rattle.std.proofs.Common.{◌≡◌, ℕ, List, [], refl, ◌∙◌, sym, ap
 use Rattle.std.specs.Prelude.{◌↔◌, Contains}
 use Rattle.gomod.specs.Module.{GoModule, IsRetracted}
 use Rattle.gomod.specs.Reading as gomod
-use Rattle.gomod.specs.Symbols.{profile_1}
+use Rattle.gomod.specs.Keywords.{profile_1}
 use Rattle.gomod.specs.declared.fault.GoModFault.{GoModFault}
 use Rattle.gomod.proofs.FileLaw.{reads-from_reading, reading-from_reads}
 use Rattle.latest.specs.Latest.{Versions, IsTop, among}

@@ -4,7 +4,7 @@ use Rattle.gomod.specs.Faults.{line_of}
 use Rattle.gomod.specs.Module.{GoModule}
 use Rattle.gomod.specs.Reading as gomod
 use Rattle.gomod.specs.Reads.{Reads}
-use Rattle.gomod.specs.Symbols.{profile_1}
+use Rattle.gomod.specs.Keywords.{profile_1}
 use Rattle.gomod.specs.declared.fault.GoModFault.{GoModFault}
 use Rattle.world.specs.declared.reading.Reading.{Reading}
 use Rattle.world.specs.declared.reading.Reading.TheVariants.{Module, Fault}

@@ -1,8 +1,8 @@
 use Rattle.std.proofs.Common.{◌≡◌, ap, sym, ◌∙◌, subst}
 use Rattle.gomod.specs.Paths.{version_of}
 use Rattle.gomod.specs.Reading.{Fails, version_fault, version_found, version_word}
-use Rattle.gomod.specs.Symbols.{symbol}
-use Rattle.gomod.specs.Words.{value_of}
+use Rattle.modlex.specs.Symbols.{symbol}
+use Rattle.modlex.specs.Words.{value_of}
 use Rattle.gomod.proofs.Orders.{version_of-canonical, version_of-unread}
 use Rattle.gomod.proofs.entries.version.Goals as goal
 

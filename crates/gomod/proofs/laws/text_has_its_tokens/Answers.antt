@@ -1,5 +1,0 @@
-use Rattle.gomod.proofs.TextTokens.{text_tokens-are}
-use Rattle.gomod.proofs.laws.text_has_its_tokens.Goals as goal
-
-pub returns : goal.returns
-returns c = text_tokens-are

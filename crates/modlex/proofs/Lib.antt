@@ -1,0 +1,9 @@
+pub mod Cuts
+pub mod TokenLoop
+pub mod Lines
+pub mod WordLemmas
+pub mod TokenLaw
+pub mod TokenSound
+pub mod LineTokens
+pub mod TextTokens
+pub mod ValueLaw

@@ -1,0 +1,55 @@
+-- The tokens that are computed of a line, its fault, and the same tokens at another place.
+use Rattle.std.proofs.Common.{◌≡◌, ℕ, zero, suc, ◌+◌, ◌-◌, take, List, [], ◌∷◌, map, length, refl, ap, arith, Option, Some, None, Result, Ok, Err, ◌⊎◌, inl, inr, ⊎_elim}
+use Rattle.modlex.specs.declared.lexer.Kind.{Kind}
+use Rattle.modlex.specs.declared.lexer.TokenFault.{TokenFault}
+use Rattle.modlex.specs.declared.lexer.TokenFault.TheVariants as token_faults
+use Rattle.modlex.specs.Bytes.{is_blank, is_slash_and}
+use Rattle.modlex.specs.Lexer.{Lexeme, lexeme, lexeme_at, line_tokens, tokens_behind, tokens_then}
+use Rattle.modlex.specs.Tokens.{AreTokens}
+use Rattle.modlex.specs.Symbols.{symbol_of}
+use Rattle.modlex.proofs.TokenSound.{chosen, tokens_behind-sound}
+
+-- the same tokens at another place
+pub record Moved (line at : ℕ) (bytes : List ℕ) (ts : List Lexeme) : Type 0 where
+  pub tokens : List Lexeme
+  pub are : AreTokens line at bytes tokens
+  pub same : map symbol_of tokens ≡ map symbol_of ts
+
+pub moved : (line at n place : ℕ) (bytes : List ℕ) (ts : List Lexeme) → AreTokens line at bytes ts → Moved n place bytes ts
+moved line at n place bytes [] h = record { tokens = []; are = h; same = refl }
+moved line at n place bytes (t ∷ ts) h =
+    let more = moved line (at + length h.0 + length t.text) n (place + length h.0 + length t.text) h.1 ts h.6 in
+    record {
+      tokens = lexeme t.kind n (place + length h.0) t.text ∷ more.tokens;
+      are = (h.0, h.1, h.2, h.3, h.4, refl, more.are);
+      same = ap (λ l. symbol_of t ∷ l) more.same;
+    }
+
+pub tokens_are : (line at : ℕ) (l : List ℕ) (ts : List Lexeme) → line_tokens line at l ≡ Ok ts → AreTokens line at l ts
+tokens_are line at l ts h = tokens_behind-sound (length l) line at l ts (omega arith) h
+
+-- the lexer's only fault is that of its line
+after_fault : (front : List Lexeme) (r : Result (List Lexeme) TokenFault) (e : TokenFault) → tokens_then front r ≡ Err e → r ≡ Err e
+after_fault front (Ok ts) e h = cc
+after_fault front (Err d) e h = h
+
+found_fault : (line at b : ℕ) (bs : List ℕ) (e : TokenFault) (o : Option (Kind × ℕ)) → ((k : ℕ) → tokens_behind k line (at + 1) bs ≡ Err e → e ≡ token_faults.Lex line) → ◌≡◌ {A = Result (List Lexeme) TokenFault} (elim o [ None ↦ Err (token_faults.Lex line) | Some x ↦ tokens_then (lexeme x.0 line at (take x.1 (b ∷ bs)) ∷ []) (tokens_behind (x.1 - 1) line (at + 1) bs) ]) (Err e) → e ≡ token_faults.Lex line
+found_fault line at b bs e None below h = cc
+found_fault line at b bs e (Some x) below h = below (x.1 - 1) (after_fault (lexeme x.0 line at (take x.1 (b ∷ bs)) ∷ []) _ e h)
+
+pub tokens_fault : (skipped line at : ℕ) (bs : List ℕ) (e : TokenFault) → tokens_behind skipped line at bs ≡ Err e → e ≡ token_faults.Lex line
+tokens_fault skipped line at [] e h = cc
+tokens_fault (suc skipped) line at (b ∷ bs) e h = tokens_fault skipped line (at + 1) bs e h
+tokens_fault zero line at (b ∷ bs) e h =
+    ⊎_elim
+    (λ blank. tokens_fault 0 line (at + 1) bs e blank.1)
+    (λ solid. ⊎_elim
+    (λ comment. (let bad = comment.1 in cc))
+    (λ token. found_fault line at b bs e (lexeme_at (b ∷ bs)) (λ k. tokens_fault k line (at + 1) bs e) token.1)
+    (chosen (is_slash_and 47 b bs) _ _ _ solid.1))
+    (chosen (is_blank b) _ _ _ h)
+
+-- a line has tokens or a fault
+pub ok_or_fault : (r : Result (List Lexeme) TokenFault) → ((ts : List Lexeme) × (r ≡ Ok ts)) ⊎ ((e : TokenFault) × (r ≡ Err e))
+ok_or_fault (Ok ts) = inl (ts, refl)
+ok_or_fault (Err e) = inr (e, refl)

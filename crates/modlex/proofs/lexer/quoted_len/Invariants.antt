@@ -1,0 +1,7 @@
+use Rattle.std.proofs.Common.{◌≡◌, ◌+◌, drop, false}
+use Rattle.std.specs.Option.{option_map}
+use Rattle.modlex.specs.Bytes.{quoted_len}
+use Rattle.modlex.proofs.lexer.quoted_len.Given as goal
+
+abbrev pub invariant-loop-i : goal.invariant-loop-i
+invariant-loop-i l = option_map (λ n. n + l.i) (quoted_len l.escaped (drop l.i l.bytes)) ≡ quoted_len false l.bytes

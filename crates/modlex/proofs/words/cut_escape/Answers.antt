@@ -1,0 +1,5 @@
+use Rattle.modlex.proofs.WordLemmas.{cut_escapes}
+use Rattle.modlex.proofs.words.cut_escape.Goals as goal
+
+pub returns-clause-value : goal.returns-clause-value
+returns-clause-value c = cut_escapes c.args.text.now _ c.split_once.ensures.cases

@@ -1,0 +1,38 @@
+-- The tokens of a line without their places.
+use Rattle.std.specs.Prelude.{ℕ, Bool, true, false, List, map}
+use Rattle.modlex.specs.declared.lexer.Kind.{Kind}
+use Rattle.modlex.specs.declared.lexer.Kind.TheVariants as kinds
+use Rattle.modlex.specs.declared.lexer.Token.{Token}
+use Rattle.modlex.specs.Lexer.{Lexeme, view, views}
+
+-- a token without its place
+pub record Symbol : Type 0 where
+  pub kind : Kind
+  pub text : List ℕ
+
+abbrev pub symbol_of : Lexeme → Symbol
+symbol_of t = record { kind = t.kind; text = t.text }
+
+abbrev pub symbol : Token → Symbol
+symbol t = symbol_of (view t)
+
+abbrev pub symbols : List Token → List Symbol
+symbols ts = map symbol_of (views ts)
+
+-- names and strings are words
+abbrev pub is_word_kind : Kind → Bool
+is_word_kind kinds.Name = true
+is_word_kind kinds.Quoted = true
+is_word_kind kinds.Raw = true
+is_word_kind _ = false
+
+abbrev pub is_word : Symbol → Bool
+is_word t = is_word_kind t.kind
+
+abbrev pub is_name_kind : Kind → Bool
+is_name_kind kinds.Name = true
+is_name_kind _ = false
+
+abbrev pub is_arrow_kind : Kind → Bool
+is_arrow_kind kinds.Arrow = true
+is_arrow_kind _ = false

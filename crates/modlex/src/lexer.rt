@@ -1,0 +1,276 @@
+//! The tokens of a go.mod file.
+
+ghost use Rattle.std.specs.Prelude.{◌≡◌, ◌+◌, ◌<◌, ◌≤◌, ◌^◌, ◌-◌, length, IsUtf8, MatchOption, IfSome, IfNone, IsTrue, Some, None, false, slice_index, drop, take, [], ◌∷◌};
+ghost use Rattle.std.specs.Str.{IsCharBoundary};
+ghost use Rattle.modlex.specs.Bytes.{is_blank, is_string_byte, is_name_byte, is_slash_and, quoted_len, raw_len, name_len};
+ghost use Rattle.modlex.specs.Lines.{lines};
+ghost use Rattle.modlex.specs.Lexer.{punctuation_kind, name_kind, lexeme_at, view, views, line_tokens, text_tokens, Gives};
+
+use std::alloc::{AllocError, AllocFailed, Global};
+
+/// What a token is.
+#[derive(Clone, Copy, Debug, PartialEq, Eq)]
+pub enum Kind {
+    Name,
+    Quoted,
+    Raw,
+    Arrow,
+    Comma,
+    ParenLeft,
+    ParenRight,
+    BracketLeft,
+    BracketRight,
+}
+
+/// Where a token stands in the text: its first byte, and the one behind its last.
+#[derive(Clone, Copy, Debug, PartialEq, Eq)]
+pub struct Span {
+    pub start: usize,
+    pub end: usize,
+}
+
+/// A token, whose text is a slice of the source.
+#[derive(Clone, Copy, Debug)]
+pub struct Token<'a> {
+    pub kind: Kind,
+    pub line: usize,
+    pub span: Span,
+    pub text: &'a str,
+}
+
+/// Why a text has no tokens.
+#[derive(Clone, Copy, Debug, PartialEq, Eq)]
+pub enum TokenFault {
+    /// The line has no tokens.
+    Lex(usize),
+    Memory,
+}
+
+impl From<AllocError> for TokenFault {
+    ghost use Rattle.modlex.specs.declared.lexer.TokenFault.TheVariants.{Memory};
+
+    ghost from_gives = { λ _ e. e ≡ Memory };
+
+    fn from(_: AllocError) -> Self {
+        TokenFault::Memory
+    }
+}
+
+impl<T: Drop> From<AllocFailed<T>> for TokenFault {
+    ghost use Rattle.modlex.specs.declared.lexer.TokenFault.TheVariants.{Memory};
+
+    ghost from_gives = { λ _ e. e ≡ Memory };
+
+    fn from(_: AllocFailed<T>) -> Self {
+        TokenFault::Memory
+    }
+}
+
+#[tactic(auto, unfolding(crate::specs::Bytes::is_blank))]
+fn is_blank(byte: u8) -> bool
+    ensures value { result ≡ is_blank byte }
+    ensures ascii { IsTrue result → byte < 128 }
+{
+    matches!(byte, b' ' | b'\t' | b'\r')
+}
+
+#[tactic(auto, unfolding(crate::specs::Bytes::is_string_byte))]
+fn is_string_byte(byte: u8) -> bool
+    ensures { result ≡ is_string_byte byte }
+{
+    byte >= 0x20 && byte != 0x7f
+}
+
+#[tactic(auto, unfolding(crate::specs::Bytes::is_name_byte))]
+fn is_name_byte(byte: u8) -> bool
+    ensures { result ≡ is_name_byte byte }
+{
+    byte > 0x20
+        && byte != 0x7f
+        && !matches!(
+            byte,
+            b'(' | b')' | b'[' | b']' | b',' | b'"' | b'`' | b'{' | b'}'
+        )
+}
+
+/// Whether a slash stands at a place, and then another byte.
+#[tactic(auto, unfolding(crate::specs::Bytes::is_slash_and))]
+fn is_slash_and(second: u8, bytes: &[u8], at: usize) -> bool
+    requires { at < length bytes.now }
+    ensures { result ≡ is_slash_and second (slice_index bytes.now at) (drop (at + 1) bytes.now) }
+{
+    bytes[at] == b'/' && at + 1 < bytes.len() && bytes[at + 1] == second
+}
+
+/// How far an interpreted string goes from behind its first quotation mark to behind its last.
+fn quoted_len(bytes: &[u8]) -> Option<usize>
+    ensures value { result ≡ quoted_len false bytes.now }
+    ensures within { IfSome result (λ n. (0 < n) × (n ≤ length bytes.now)) }
+    ensures ascii { IfSome result (λ n. slice_index bytes.now (n - 1) < 128) }
+{
+    let mut escaped = false;
+    for (i, &byte) in bytes.iter().enumerate() {
+        if !is_string_byte(byte) {
+            return None;
+        }
+        if !escaped && byte == b'"' {
+            return Some(i + 1);
+        }
+        escaped = !escaped && byte == b'\\';
+    }
+    None
+}
+
+/// The same of a raw string.
+fn raw_len(bytes: &[u8]) -> Option<usize>
+    ensures value { result ≡ raw_len bytes.now }
+    ensures within { IfSome result (λ n. (0 < n) × (n ≤ length bytes.now)) }
+    ensures ascii { IfSome result (λ n. slice_index bytes.now (n - 1) < 128) }
+{
+    for (i, &byte) in bytes.iter().enumerate() {
+        if !is_string_byte(byte) {
+            return None;
+        }
+        if byte == b'`' {
+            return Some(i + 1);
+        }
+    }
+    None
+}
+
+/// How far a name goes on; none where a `/*` stands in it.
+#[tactic(auto, using(crate::proofs::Cuts::name_ends))]
+fn name_len(bytes: &[u8]) -> Option<usize>
+    ensures value { result ≡ name_len bytes.now }
+    ensures within { IfSome result (λ n. n ≤ length bytes.now) }
+    ensures ascii { IfSome result (λ n. n < length bytes.now → slice_index bytes.now n < 128) }
+{
+    for (i, &byte) in bytes.iter().enumerate() {
+        if !is_name_byte(byte) || is_slash_and(b'/', bytes, i) {
+            return Some(i);
+        }
+        if is_slash_and(b'*', bytes, i) {
+            return None;
+        }
+    }
+    Some(bytes.len())
+}
+
+/// The kind of a token of one byte.
+fn punctuation_kind(byte: u8) -> Option<Kind>
+    ensures value { result ≡ punctuation_kind byte }
+    ensures ascii { IfSome result (λ _. byte < 128) }
+{
+    match byte {
+        b'(' => Some(Kind::ParenLeft),
+        b')' => Some(Kind::ParenRight),
+        b'[' => Some(Kind::BracketLeft),
+        b']' => Some(Kind::BracketRight),
+        b',' => Some(Kind::Comma),
+        _ => None,
+    }
+}
+
+fn name_kind(name: &[u8]) -> Kind
+    ensures { result ≡ name_kind name.now }
+{
+    if name == b"=>".as_slice() {
+        Kind::Arrow
+    } else {
+        Kind::Name
+    }
+}
+
+/// The token at the front, where neither a blank nor a comment stands: its kind and its length.
+#[tactic(auto, using(crate::proofs::Cuts::cuts), unfolding(crate::specs::Lexer::lexeme_at))]
+fn lexeme_at(bytes: &[u8]) -> Option<(Kind, usize)>
+    ensures value { result ≡ lexeme_at bytes.now }
+    ensures within { IfSome result (λ found. (0 < found.1) × (found.1 ≤ length bytes.now)) }
+    // No character is cut in two.
+    ensures boundary { IfSome result (λ found. IsUtf8 bytes.now → IsCharBoundary bytes.now found.1) }
+{
+    let (&first, rest) = bytes.split_first()?;
+    if let Some(kind) = punctuation_kind(first) {
+        return Some((kind, 1));
+    }
+    match first {
+        b'"' => Some((Kind::Quoted, quoted_len(rest)? + 1)),
+        b'`' => Some((Kind::Raw, raw_len(rest)? + 1)),
+        _ if !is_name_byte(first) || is_slash_and(b'*', bytes, 0) => None,
+        _ => {
+            let len = name_len(rest)? + 1;
+            Some((name_kind(&bytes[..len]), len))
+        }
+    }
+}
+
+/// The tokens of a line, which has a number and begins at a place of the text; the fault of a line
+/// that has none bears its number.
+pub fn line_tokens<'a>(
+    alloc: Global,
+    line: usize,
+    start: usize,
+    text: &'a str,
+) -> Result<Vec<Token<'a>>, TokenFault>
+    requires { start + length text.now < 2 ^ 64 }
+    ensures { Gives (λ v. views v.items) result (line_tokens line start text.now) }
+{
+    let mut out = Vec::new(alloc);
+    let mut at = start;
+    let mut rest = text;
+    'scan: while let Some(&first) = rest.as_bytes().first() {
+        let bytes = rest.as_bytes();
+        if is_blank(first) {
+            at += 1;
+            rest = rest.split_at(1).1;
+            continue;
+        }
+        if is_slash_and(b'/', bytes, 0) {
+            break;
+        }
+        let Some((kind, len)) = lexeme_at(bytes) else {
+            return Err(TokenFault::Lex(line));
+        };
+        let (text, behind) = rest.split_at(len);
+        let span = Span {
+            start: at,
+            end: at + len,
+        };
+        out.push(Token {
+            kind,
+            line,
+            span,
+            text,
+        })?;
+        at += len;
+        rest = behind;
+    }
+    Ok(out)
+}
+
+/// The first line and what stands behind its newline; none for a text of one line.
+pub fn cut_line(text: &str) -> Option<(&str, &str)>
+    ensures lines { MatchOption result (lines text.now ≡ text.now ∷ [])
+        (λ cut. lines text.now ≡ cut.0.now ∷ lines cut.1.now) }
+    ensures len { IfSome result (λ cut. length cut.0.now + 1 + length cut.1.now ≡ length text.now) }
+{
+    text.split_once('\n')
+}
+
+/// The tokens of a text, line by line, or the number of the first line that has none, from 1 on.
+pub fn tokens<'a>(alloc: Global, text: &'a str) -> Result<Vec<Token<'a>>, TokenFault>
+    ensures { Gives (λ v. views v.items) result (text_tokens text.now) }
+{
+    let mut out = Vec::new(alloc);
+    let mut number = 1;
+    let mut start = 0;
+    let mut rest = text;
+    'lines: while let Some((line, behind)) = cut_line(rest) {
+        out.extend_from_slice(&line_tokens(alloc, number, start, line)?)?;
+        number += 1;
+        start += line.len() + 1;
+        rest = behind;
+    }
+    out.extend_from_slice(&line_tokens(alloc, number, start, rest)?)?;
+    Ok(out)
+}

@@ -1,0 +1,89 @@
+//! What a token is, and what a word stands for.
+
+ghost use Rattle.std.specs.Prelude.{◌≡◌, ◌<◌, IfOk, string_bytes, MatchOption, encode_utf8, [], ◌∷◌, ◌++◌, IfSome, length};
+ghost use Rattle.modlex.specs.Symbols.{symbol, is_word, is_name_kind, is_arrow_kind};
+ghost use Rattle.modlex.specs.Words.{inside, plain_text, value_of};
+
+use super::lexer::{Kind, Token};
+use std::alloc::{AllocError, Global};
+
+impl<'a> Token<'a> {
+    /// Whether it is a name or a string.
+    pub fn is_word(&self) -> bool
+        ensures { result ≡ is_word (symbol self.now) }
+    {
+        matches!(self.kind, Kind::Name | Kind::Quoted | Kind::Raw)
+    }
+
+    /// Whether it is a name, as each keyword is.
+    pub fn is_name(&self) -> bool
+        ensures { result ≡ is_name_kind self.now.kind }
+    {
+        matches!(self.kind, Kind::Name)
+    }
+
+    /// Whether it is the arrow `=>`.
+    pub fn is_arrow(&self) -> bool
+        ensures { result ≡ is_arrow_kind self.now.kind }
+    {
+        matches!(self.kind, Kind::Arrow)
+    }
+
+    /// What it stands for: a string for its content, without marks and backslashes, all else for its
+    /// text. The error is that the system is out of memory.
+    #[tactic(auto, unfolding(crate::specs::Words::value_of))]
+    pub fn value(&self, alloc: Global) -> Result<String, AllocError>
+        ensures { IfOk result (λ text. string_bytes text ≡ value_of (symbol self.now)) }
+    {
+        match self.kind {
+            Kind::Quoted => plain_text(alloc, inside(self.text, '"')),
+            Kind::Raw => String::from_str(alloc, inside(self.text, '`')),
+            _ => String::from_str(alloc, self.text),
+        }
+    }
+}
+
+/// What stands between two quotation marks.
+fn inside(text: &str, mark: char) -> &str
+    requires { mark < 128 }
+    ensures { result.now ≡ inside mark text.now }
+{
+    let text = text.strip_prefix(mark).unwrap_or(text);
+    text.strip_suffix(mark).unwrap_or(text)
+}
+
+/// The first character and the text behind it.
+fn split_char(text: &str) -> Option<(char, &str)>
+    ensures { MatchOption result (text.now ≡ []) (λ x. text.now ≡ encode_utf8 x.0 ++ x.1.now) }
+{
+    let mut chars = text.chars();
+    let first = chars.next()?;
+    Some((first, chars.as_str()))
+}
+
+/// The texts round the first backslash.
+fn cut_escape(text: &str) -> Option<(&str, &str)>
+    ensures value { MatchOption result (plain_text text.now ≡ text.now)
+        (λ x. plain_text text.now ≡ x.0.now ++ plain_text (92 ∷ x.1.now)) }
+    ensures len { IfSome result (λ x. length x.1.now < length text.now) }
+{
+    text.split_once('\\')
+}
+
+/// A text in which each backslash stands for the character after it.
+fn plain_text(alloc: Global, text: &str) -> Result<String, AllocError>
+    ensures { IfOk result (λ out. string_bytes out ≡ plain_text text.now) }
+{
+    let mut out = String::new(alloc);
+    let mut rest = text;
+    'escapes: while let Some((before, behind)) = cut_escape(rest) {
+        out.push_str(before)?;
+        let Some((escaped, others)) = split_char(behind) else {
+            return Ok(out);
+        };
+        out.push(escaped)?;
+        rest = others;
+    }
+    out.push_str(rest)?;
+    Ok(out)
+}

@@ -24,9 +24,9 @@ unfoldable pub keyword_named : Keywords → List ℕ → Option Keyword
 keyword_named [] name = None
 keyword_named (k ∷ ks) name = if bytes_eq name (spelling k) then Some k else keyword_named ks name
 
--- the keywords of profile 1
-abbrev pub profile_1 : Keywords
-profile_1 = Module ∷ Go ∷ Require ∷ Exclude ∷ Replace ∷ Retract ∷ []
+-- the profile in force: the keywords that files are read by
+abbrev pub profile_in_force : Keywords
+profile_in_force = Module ∷ Go ∷ Require ∷ Exclude ∷ Replace ∷ Retract ∷ []
 
 abbrev pub is_module : Keyword → Bool
 is_module Module = true

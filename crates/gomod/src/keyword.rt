@@ -1,7 +1,7 @@
 //! The keywords of a go.mod file.
 
 ghost use Rattle.std.specs.Prelude.{◌≡◌};
-ghost use Rattle.gomod.specs.Keywords.{keyword_named, profile_1, is_module, has_block};
+ghost use Rattle.gomod.specs.Keywords.{keyword_named, profile_in_force, is_module, has_block};
 
 /// The keywords, each of which begins a directive. (Go Modules Reference, "go.mod files".)
 #[derive(Clone, Copy, Debug, PartialEq, Eq)]
@@ -18,7 +18,7 @@ impl Keyword {
     /// The keyword that a name is.
     #[tactic(auto, unfolding(crate::specs::Keywords::keyword_named))]
     pub(crate) fn named(name: &str) -> Option<Keyword>
-        ensures { result ≡ keyword_named profile_1 name.now }
+        ensures { result ≡ keyword_named profile_in_force name.now }
     {
         match name {
             "module" => Some(Keyword::Module),

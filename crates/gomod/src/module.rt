@@ -2,7 +2,7 @@
 
 ghost use Rattle.std.specs.Prelude.{◌≡◌, ◌↔◌, IsTrue, IsUtf8, Err};
 ghost use Rattle.std.specs.List.{list_any};
-ghost use Rattle.gomod.specs.Keywords.{profile_1};
+ghost use Rattle.gomod.specs.Keywords.{profile_in_force};
 ghost use Rattle.gomod.specs.Reading.{Gives, first_unfit, fits_retraction, file_says, text_says, reading};
 ghost use Rattle.gomod.specs.Module.{IsRetracted, is_retracted, covers, interval_of};
 ghost use Rattle.gomod.specs.State.{state_of};
@@ -38,7 +38,7 @@ impl GoMod {
     /// Reads a go.mod file, or names its first fault.
     #[tactic(auto, unfolding(crate::specs::Reading::reading))]
     pub fn read(alloc: Global, bytes: &[u8]) -> Result<GoMod, GoModFault>
-        ensures value { Gives (λ m. m) result (reading profile_1 bytes.now) }
+        ensures value { Gives (λ m. m) result (reading profile_in_force bytes.now) }
         ensures memory { result ≡ Err GoModFault.Memory → IsUtf8 bytes.now }
     {
         let Ok(text) = str::from_utf8(bytes) else {
@@ -142,7 +142,7 @@ fn finish(reader: Reader, last: usize) -> Result<GoMod, GoModFault>
 }
 
 fn read_text(alloc: Global, text: &str) -> Result<GoMod, GoModFault>
-    ensures { Gives (λ m. m) result (text_says profile_1 text.now) }
+    ensures { Gives (λ m. m) result (text_says profile_in_force text.now) }
 {
     let mut reader = Reader::new(alloc);
     let mut line = 1;

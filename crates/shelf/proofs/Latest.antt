@@ -3,7 +3,7 @@ use Rattle.std.proofs.Common.{◌≡◌, ℕ, List, [], refl, ◌∙◌, sym, ap
 use Rattle.std.specs.Prelude.{◌↔◌, Contains}
 use Rattle.gomod.specs.Module.{GoModule, IsRetracted}
 use Rattle.gomod.specs.Reading as gomod
-use Rattle.gomod.specs.Keywords.{profile_1}
+use Rattle.gomod.specs.Keywords.{profile_in_force}
 use Rattle.gomod.specs.declared.fault.GoModFault.{GoModFault}
 use Rattle.gomod.proofs.FileLaw.{reads-from_reading, reading-from_reads}
 use Rattle.latest.specs.Latest.{Versions, IsTop, among}
@@ -35,11 +35,11 @@ module_read (Module x) m e = let same : x ≡ m = cc e in ap Module same
 module_read (Fault line) m e = cc e
 
 says_read : (bytes : List ℕ) (m : GoModule) → reading_of bytes ≡ Module m → Says bytes m
-says_read bytes m e = reads-from_reading profile_1 bytes m (reading_ok (gomod.reading profile_1 bytes) m e)
+says_read bytes m e = reads-from_reading profile_in_force bytes m (reading_ok (gomod.reading profile_in_force bytes) m e)
 
 one_meaning : (bytes : List ℕ) (m n : GoModule) → Says bytes m → Says bytes n → m ≡ n
 one_meaning bytes m n a b =
-    let same : ◌≡◌ {A = Result GoModule GoModFault} (Ok m) (Ok n) = sym (reading-from_reads profile_1 bytes m a) ∙ reading-from_reads profile_1 bytes n b in
+    let same : ◌≡◌ {A = Result GoModule GoModFault} (Ok m) (Ok n) = sym (reading-from_reads profile_in_force bytes m a) ∙ reading-from_reads profile_in_force bytes n b in
     cc same
 
 -- ---- tops

@@ -4,14 +4,14 @@ use Rattle.gomod.specs.Faults.{line_of}
 use Rattle.gomod.specs.Module.{GoModule}
 use Rattle.gomod.specs.Reading as gomod
 use Rattle.gomod.specs.Reads.{Reads}
-use Rattle.gomod.specs.Keywords.{profile_1}
+use Rattle.gomod.specs.Keywords.{profile_in_force}
 use Rattle.gomod.specs.declared.fault.GoModFault.{GoModFault}
 use Rattle.world.specs.declared.reading.Reading.{Reading}
 use Rattle.world.specs.declared.reading.Reading.TheVariants.{Module, Fault}
 
 -- the file with these bytes says this
 abbrev pub Says : List ℕ → GoModule → Type 0
-Says bytes m = Reads profile_1 bytes m
+Says bytes m = Reads profile_in_force bytes m
 
 -- the same computed: what a file says, or the line of its fault
 abbrev pub told : Result GoModule GoModFault → Reading
@@ -20,7 +20,7 @@ told (Err f) = Fault (line_of f)
 
 -- what reading a go.mod gives
 abbrev pub reading_of : List ℕ → Reading
-reading_of bytes = told (gomod.reading profile_1 bytes)
+reading_of bytes = told (gomod.reading profile_in_force bytes)
 
 -- what a go.mod says, if it reads
 abbrev pub module_told : Reading → Option GoModule

@@ -1,24 +1,20 @@
 -- What a line says is what its tokens say, and its fault is computed.
-use Rattle.std.proofs.Common.{◌≡◌, ℕ, zero, suc, ◌+◌, ◌-◌, take, List, [], ◌∷◌, map, length, refl, ap, sym, ◌∙◌, subst, arith, Option, Some, None, Result, Ok, Err, ◌⊎◌, inl, inr, ⊎_elim}
+use Rattle.std.proofs.Common.{◌≡◌, ℕ, ◌+◌, List, [], ◌∷◌, map, length, refl, ap, sym, ◌∙◌, subst, Option, Result, Ok, Err, inl, inr, ⊎_elim}
 use Rattle.std.specs.List.{AllByRecursion}
-use Rattle.modlex.specs.declared.lexer.Kind.{Kind}
 use Rattle.modlex.specs.declared.lexer.TokenFault.{TokenFault}
 use Rattle.modlex.specs.declared.lexer.TokenFault.TheVariants as token_faults
 use Rattle.gomod.specs.declared.fault.GoModFault.{GoModFault}
 use Rattle.gomod.specs.declared.fault.GoModFault.TheVariants as faults
-use Rattle.modlex.specs.Bytes.{is_blank, is_slash_and}
-use Rattle.modlex.specs.Lexer.{Lexeme, lexeme, lexeme_at, line_tokens, tokens_behind, tokens_then}
+use Rattle.modlex.specs.Lexer.{Lexeme, line_tokens}
 use Rattle.modlex.specs.Tokens.{AreTokens, IsLexeme}
 use Rattle.modlex.specs.Symbols.{symbol_of}
 use Rattle.gomod.specs.Keywords.{Keywords}
 use Rattle.gomod.specs.Reading.{Context, Parts, ◌>>=◌, as_reader, line_says, bytes_say}
 use Rattle.gomod.specs.Grammar.{Directive, OpenBlock}
 use Rattle.gomod.specs.Faults.{IsLineFault}
-use Rattle.modlex.proofs.TokenSound.{chosen}
 use Rattle.gomod.proofs.Steps.{bound, fails}
 use Rattle.modlex.proofs.TokenLaw.{tokens_behind-all}
 use Rattle.modlex.proofs.LineTokens.{moved, tokens_are, tokens_fault, ok_or_fault}
-use Rattle.modlex.proofs.TokenSound.{tokens_behind-sound}
 use Rattle.gomod.proofs.Contexts.{context_at, IsAlone}
 use Rattle.gomod.proofs.LineLaw.{IsPlain}
 use Rattle.gomod.proofs.RowFaults.{says_fault}

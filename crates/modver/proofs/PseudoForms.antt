@@ -4,7 +4,6 @@ use Rattle.std.proofs.Math.Seq.{take-append_seam}
 use Rattle.std.proofs.lemmas.Bool.{cases_Bool, eqb-true}
 use Rattle.std.proofs.lemmas.List.{drop-drop, reverse-append, reverse-reverse, take-append-drop, take_all}
 use Rattle.std.proofs.lemmas.Slice.Eq.{bytes_eq-Decides}
-use Rattle.std.specs.Char.{is_ascii_digit}
 use Rattle.std.specs.List.{list_all}
 use Rattle.std.specs.Prelude.{codes, if◌then◌else◌}
 use Rattle.modver.specs.Class.{class_from, is_zero, may_precede, stamp_from, stamp_of, stamp_of_identifier}
@@ -14,7 +13,8 @@ use Rattle.modver.specs.SemanticVersion.{SemanticVersion}
 use Rattle.modver.specs.Time.{IsTime, fits_byte, fits_form, is_lower_hex, is_moment, time_of_stamp}
 use Rattle.modver.specs.declared.version.Class.TheVariants as class
 use Rattle.modver.proofs.DotParts.{reverse-some}
-use Rattle.modver.proofs.Forms.{digits-fit, fits_form-append, fits_form-part, length-fits, stamp-form}
+use Rattle.modver.proofs.Forms.{fits_form-append, fits_form-part, length-fits}
+use Rattle.modver.proofs.Times.{stamp-of_digits, stamp-passes}
 use Rattle.modver.proofs.Conditions.{and-both, and-first, and-second, le-nat_le, nat_le-true}
 use Rattle.modver.proofs.DotParts.{no-stamp}
 
@@ -29,14 +29,6 @@ hex-fit (f ∷ form) (b ∷ text) d h =
     let is : f ≡ 104 = eqb-true f 104 letter in
     let byte : is_lower_hex b ≡ true = rw is at (and-first (fits_byte f b) _ h) in
     rw byte (hex-fit form text (and-second (f == 104) _ d) (and-second (fits_byte f b) _ h))
-
-fit-digits : (form text : List ℕ) → list_all (λ f. f == 100) form ≡ true → length form ≡ length text → list_all is_ascii_digit text ≡ true → fits_form form text ≡ true
-fit-digits [] [] d e h = refl
-fit-digits [] (b ∷ text) d e h = absurd (omega arith)
-fit-digits (f ∷ form) [] d e h = absurd (omega arith)
-fit-digits (f ∷ form) (b ∷ text) d e h =
-    let letter = and-first (f == 100) _ d in
-    rw (letter, and-first (is_ascii_digit b) _ h) (fit-digits form text (and-second (f == 100) _ d) (omega arith) (and-second (is_ascii_digit b) _ h))
 
 fit-hex : (form text : List ℕ) → list_all (λ f. f == 104) form ≡ true → length form ≡ length text → list_all is_lower_hex text ≡ true → fits_form form text ≡ true
 fit-hex [] [] d e h = refl
@@ -62,10 +54,9 @@ form-stamped i form moment =
     let whole : take 12 (drop 15 i) ≡ drop 15 i = take_all 12 (drop 15 i) (omega arith) in
     record {
       revision = drop 15 i;
+      named = stamp-of_digits (take 14 i) stamp moment;
       same = sym (take-append-drop 14 i) ∙ ap (λ (t : List ℕ). take 14 i ++ t) (middle ∙ ap (λ (t : List ℕ). 45 ∷ t) (drop-drop 1 14 i));
-      digits = (sym (length-fits (codes "dddddddddddddd") (take 14 i) stamp), digits-fit (codes "dddddddddddddd") (take 14 i) refl stamp);
       hexadecimal = (rest, hex-fit (codes "hhhhhhhhhhhh") (drop 15 i) refl (rw whole at revision));
-      moment = moment;
     }
 
 take-front : (s t : List ℕ) (n : ℕ) → length s ≡ n → take n (s ++ t) ≡ s
@@ -81,11 +72,12 @@ stamped-of i stamp h = elim (cases_Bool (fits_form (codes "dddddddddddddd-hhhhhh
 
 of-stamped : (i stamp : List ℕ) → IsStamped i stamp → stamp_of_identifier i ≡ Some stamp
 of-stamped i stamp s =
-    let front : take 14 i ≡ stamp = rw s.same (take-front stamp (45 ∷ s.revision) 14 s.digits.0) in
+    let told = stamp-passes stamp s.named in
+    let front : take 14 i ≡ stamp = rw s.same (take-front stamp (45 ∷ s.revision) 14 (sym (length-fits (codes "dddddddddddddd") stamp told.0))) in
     let rest : fits_form (codes "-hhhhhhhhhhhh") (45 ∷ s.revision) ≡ true = fit-hex (codes "hhhhhhhhhhhh") s.revision refl (sym s.hexadecimal.0) s.hexadecimal.1 in
     let whole : fits_form (codes "dddddddddddddd-hhhhhhhhhhhh") i ≡ true = rw s.same
-    (fits_form-append (codes "dddddddddddddd") (codes "-hhhhhhhhhhhh") stamp (45 ∷ s.revision) (fit-digits (codes "dddddddddddddd") stamp refl (sym s.digits.0) s.digits.1) rest) in
-    rw (whole, front, s.moment) refl
+    (fits_form-append (codes "dddddddddddddd") (codes "-hhhhhhhhhhhh") stamp (45 ∷ s.revision) told.0 rest) in
+    rw (whole, front, told.1) refl
 
 -- ---- the three forms
 
@@ -148,7 +140,7 @@ stamp-of v stamp = (
 -- ---- classes
 
 stamped-time : (i stamp : List ℕ) → IsStamped i stamp → IsTime (time_of_stamp stamp)
-stamped-time i stamp s = record { form = stamp-form stamp (fit-digits (codes "dddddddddddddd") stamp refl (sym s.digits.0) s.digits.1); moment = s.moment }
+stamped-time i stamp s = record { at = s.named.at; digits = s.named.digits; exists = s.named.exists; same = ap time_of_stamp s.named.same }
 
 pub stamp-time : StampHasATime
 stamp-time v stamp (inl p) = stamped-time p.last stamp p.stamped

@@ -1,18 +1,15 @@
 -- What a pseudo-version is. (Go Modules Reference, "Pseudo-versions".)
 use Rattle.std.specs.Prelude.{ℕ, ◌≡◌, ◌≢◌, ◌≤◌, ◌⊎◌, true, List, [], ◌∷◌, ◌++◌, length, codes}
-use Rattle.std.specs.Char.{is_ascii_digit}
 use Rattle.std.specs.List.{list_all}
 use Rattle.modver.specs.SemanticVersion.{SemanticVersion}
-use Rattle.modver.specs.Time.{is_lower_hex, is_moment, time_of_stamp}
+use Rattle.modver.specs.Time.{IsStamp, is_lower_hex}
 
--- the last identifier of a pseudo-version: a stamp of 14 digits that name a date that exists and a time of day,
--- `-`, and a revision of 12 lower-case hexadecimal digits
+-- the last identifier of a pseudo-version: a stamp, `-`, and a revision of 12 lower-case hexadecimal digits
 pub record IsStamped (identifier stamp : List ℕ) : Type 0 where
   pub revision : List ℕ
   pub same : identifier ≡ stamp ++ 45 ∷ revision
-  pub digits : (length stamp ≡ 14) × (list_all is_ascii_digit stamp ≡ true)
+  pub named : IsStamp stamp
   pub hexadecimal : (length revision ≡ 12) × (list_all is_lower_hex revision ≡ true)
-  pub moment : is_moment (time_of_stamp stamp) ≡ true
 
 -- `vX.0.0-STAMP-REVISION`: there is no earlier version
 pub record HasNoBase (v : SemanticVersion) (stamp : List ℕ) : Type 0 where

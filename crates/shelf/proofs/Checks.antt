@@ -10,7 +10,7 @@ use Rattle.modpath.specs.Path.{is_path}
 use Rattle.modver.specs.SemanticVersion.{is_version, version_text}
 use Rattle.modver.proofs.Readings.{is-version}
 use Rattle.modver.specs.Class.{class_of}
-use Rattle.modver.specs.Time.{has_time_form, is_moment}
+use Rattle.modver.proofs.Times.{time-exact}
 use Rattle.modver.specs.declared.version.Class.{Class}
 use Rattle.modver.specs.declared.version.Class.TheVariants as class
 use Rattle.world.specs.declared.entry.Entry.{Entry}
@@ -107,7 +107,7 @@ time_form : (c : Class) (given : GivenTime) → is_bad_time given ≡ false → 
 time_form (class.Pseudo stamp) given well = refl
 time_form c Absent well = tt
 time_form c Malformed well = tt
-time_form c (At time) well = let both = and_parts (has_time_form time) (is_moment time) (not-false (is_time time) well) in record { form = both.0; moment = both.1 }
+time_form c (At time) well = (time-exact time).0 (not-false (is_time time) well)
 
 -- a go.mod that was read
 gomod_form : (path : List ℕ) (is_marked : Bool) (bytes : List ℕ) (r : Reading) → reading_of bytes ≡ r

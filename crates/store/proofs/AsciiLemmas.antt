@@ -15,6 +15,7 @@ use Rattle.modpath.proofs.BytesLaw.{is_path_byte, all_path_bytes}
 use Rattle.modver.specs.SemanticVersion.{SemanticVersion, is_identifier, is_identifier_byte, pre_release_text, build_text, mark_of}
 use Rattle.modver.specs.Reading.{IsCanonical}
 use Rattle.modver.specs.Time.{IsTime, fits_byte, fits_form}
+use Rattle.modver.proofs.Times.{time-form}
 use Rattle.world.specs.Names.{common, is_team_name, is_key, is_lower, is_digit}
 
 ascii_by : (p : ℕ → Bool) → ((b : ℕ) → p b ≡ true → b < 128) → (t : List ℕ) → list_all p t ≡ true → IsAscii t
@@ -59,7 +60,7 @@ formed_ascii (f ∷ form) (b ∷ t) small h =
     IsAscii-cons b t (digit_or_hex f b (below f first.0) parts.0) (formed_ascii form t first.1 parts.1)
 
 pub time_utf8 : (t : List ℕ) → IsTime t → IsUtf8 t
-time_utf8 t is = IsUtf8-from_ascii t (formed_ascii (codes "dddd-dd-ddTdd:dd:ddZ") t refl is.form)
+time_utf8 t is = IsUtf8-from_ascii t (formed_ascii (codes "dddd-dd-ddTdd:dd:ddZ") t refl (time-form t is))
 
 joined_ascii : (is : List (List ℕ)) → list_all is_identifier is ≡ true → IsAscii (join_with_byte 46 is)
 joined_ascii [] h = IsAscii-nil

@@ -5,6 +5,7 @@ use Rattle.std.proofs.lemmas.Bool.Decides.{nat_tests}
 use Rattle.std.specs.Char.{is_ascii_digit}
 use Rattle.std.specs.List.{list_all}
 use Rattle.modver.specs.Time.{IsTime, fits_byte, fits_form, is_lower_hex}
+use Rattle.modver.proofs.Times.{time-form}
 use Rattle.modver.specs.SemanticVersion.{IsVersion, SemanticVersion, version_text}
 use Rattle.serde_json.proofs.OnLiterals.{serde_json_on_literals}
 use Rattle.serde_json.specs.Data.{string}
@@ -58,7 +59,7 @@ fits-plain (f ∷ form) (b ∷ text) plain h =
     and_from _ _ (fits-plain-byte f b plains.0 both.0) (fits-plain form text plains.1 both.1)
 
 pub time-plain : (text : List ℕ) → IsTime text → list_all is_plain_byte text ≡ true
-time-plain text is = fits-plain (codes "dddd-dd-ddTdd:dd:ddZ") text refl is.form
+time-plain text is = fits-plain (codes "dddd-dd-ddTdd:dd:ddZ") text refl (time-form text is)
 
 -- ---- the object as it is written
 

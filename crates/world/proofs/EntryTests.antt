@@ -3,10 +3,10 @@ use Rattle.std.proofs.Common.{◌≡◌, ℕ, List, Bool, true, false, cond, ref
 use Rattle.std.specs.Prelude.{◌&&◌, ◌||◌, bytes_eq, is_ok, nat_le, not}
 use Rattle.std.proofs.lemmas.Bool.{and_parts, le-leb, leb-true, true≢false}
 use Rattle.modver.proofs.Readings.{version-of}
+use Rattle.modver.proofs.Times.{time-exact}
 use Rattle.modver.specs.Class.{class_of}
 use Rattle.modver.specs.Reading.{version_of}
 use Rattle.modver.specs.SemanticVersion.{SemanticVersion}
-use Rattle.modver.specs.Time.{has_time_form, is_moment}
 use Rattle.modver.specs.declared.version.Class.{Class}
 use Rattle.modver.specs.declared.version.Class.TheVariants as class
 use Rattle.world.specs.declared.entry.Entry.{Entry}
@@ -29,7 +29,7 @@ time_so : (c : Class) (time : Option (List ℕ)) → is_time_of c time ≡ true 
 time_so (class.Pseudo stamp) None e = absurd (true≢false (sym e))
 time_so (class.Pseudo stamp) (Some time) e = ap (λ (t : List ℕ). Some t) (text_same time stamp e)
 time_so c None e = tt
-time_so c (Some time) e = let parts = and_parts (has_time_form time) (is_moment time) e in record { form = parts.0; moment = parts.1 }
+time_so c (Some time) e = (time-exact time).0 e
 
 bare_if : (a b : Bool) → (not a || b) ≡ true → a ≡ true → b ≡ true
 bare_if true b e is = e
@@ -73,7 +73,7 @@ entry_so s path version e =
 time_passes : (c : Class) (time : Option (List ℕ)) → IsTimeOf c time → is_time_of c time ≡ true
 time_passes (class.Pseudo stamp) time is = ap (is_time_of (class.Pseudo stamp)) is ∙ text_self stamp
 time_passes c None is = refl
-time_passes c (Some time) is = both (has_time_form time) (is_moment time) is.form is.moment
+time_passes c (Some time) is = (time-exact time).1 is
 
 or_bare : (a b : Bool) → (a ≡ true → b ≡ true) → (not a || b) ≡ true
 or_bare true b f = f refl

@@ -1,10 +1,10 @@
 -- The forms of paths and of versions, by the definitions of their own crates.
 use Rattle.std.specs.Prelude.{ℕ, List, Bool, ◌&&◌, if◌then◌else◌, Option, Some, None}
-use Rattle.modver.specs.Time.{has_time_form, is_moment}
 use Rattle.modver.specs.Reading.{IsCanonical}
 use Rattle.modver.specs.SemanticVersion.{SemanticVersion}
 unfoldable pub use Rattle.modver.specs.SemanticVersion.{is_version}
 pub use Rattle.modver.specs.Fits.{fits}
+pub use Rattle.modver.specs.Time.{is_time}
 pub use Rattle.modpath.specs.Path.{IsPath, is_path, suffix_of}
 
 -- the path that a text is, if it is one
@@ -15,6 +15,3 @@ path_of t = if is_path t then Some t else None
 abbrev pub IsVersionText : List ℕ → Type 0
 IsVersionText t = (v : SemanticVersion) × IsCanonical t v
 
--- a text is a time
-abbrev pub is_time : List ℕ → Bool
-is_time t = has_time_form t && is_moment t

@@ -1,6 +1,7 @@
 pub mod AskLemmas
 pub mod CrashLemmas
 pub mod FirstLemmas
+pub mod HeadlineLemmas
 pub mod IsolationLemmas
 pub mod MessageLemmas
 pub mod ReadLemmas

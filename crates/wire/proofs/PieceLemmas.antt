@@ -5,7 +5,7 @@ use Rattle.std.proofs.lemmas.List.{append_assoc}
 use Rattle.httparse.specs.Grammar.{print_request}
 use Rattle.wire.specs.Message.{Request, ReadsMessage, ReadsMessages, End, Ends, IsStream}
 use Rattle.wire.specs.Pieces.{IsMessage, AreMessages}
-use Rattle.wire.proofs.StreamLemmas.{ReadsMessage-append, message_unique}
+use Rattle.wire.proofs.StreamLemmas.{ReadsMessage-append, message_unique, no_message_at_end}
 
 -- more bytes
 pub ReadsMessages-append : (bytes : List ℕ) (messages : List Request) (rest more : List ℕ)
@@ -73,6 +73,19 @@ pub a_stream_is_made_of_messages : (bytes : List ℕ) (messages : List Request) 
     → (pieces : List (List ℕ)) × (rest : List ℕ) × (bytes ≡ concat pieces ++ rest) × AreMessages pieces messages × Ends rest end
 a_stream_is_made_of_messages bytes messages end (rest, reads, ends) =
     let made = pieces_of bytes messages rest reads in (made.0, rest, made.1, made.2, ends)
+
+-- ---- what stands at the front of a stream
+
+-- messages that stand there are the first of its messages
+pub stream_begins : (bytes : List ℕ) (front messages : List Request) (rest : List ℕ) (end : End) → ReadsMessages bytes front rest
+    → IsStream bytes messages end → (more : List Request) × (messages ≡ front ++ more)
+stream_begins bytes [] messages rest end e stream = (messages, refl)
+stream_begins bytes (a ∷ as') [] rest end (after, first, others) (last, e, ends) =
+    absurd (no_message_at_end last end ends a after (subst (λ all. ReadsMessage all a after) e first))
+stream_begins bytes (a ∷ as') (b ∷ bs) rest end (after, first, others) (last, (behind, again, next), ends) =
+    let same = message_unique bytes a b after behind first again in
+    let more = stream_begins after as' bs rest end others (last, subst (λ all. ReadsMessages all bs last) (sym same.1) next, ends) in
+    (more.0, λ i. sym same.0 i ∷ more.1 i)
 
 -- ---- a message that is taken out
 

@@ -1,4 +1,5 @@
 pub mod Ask
+pub mod Calls
 pub mod Exchange
 pub mod First
 pub mod Headline

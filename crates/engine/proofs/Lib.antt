@@ -1,6 +1,9 @@
 pub mod AskLemmas
+pub mod CallLemmas
 pub mod CrashLemmas
 pub mod FirstLemmas
+pub mod FrontLemmas
+pub mod HeadlineLemmas
 pub mod IsolationLemmas
 pub mod MessageLemmas
 pub mod ReadLemmas

@@ -12,7 +12,7 @@ use Rattle.engine.specs.Served.{texts_of}
 use Rattle.engine.specs.Store.{GoesThrough}
 use Rattle.engine.specs.Turn.{Answered, CutShort}
 use Rattle.engine.specs.Written.{WritesPart}
-use Rattle.engine.proofs.MessageLemmas.{ReadsMessages-append, ReadsMessages-join}
+use Rattle.wire.proofs.PieceLemmas.{ReadsMessages-append, ReadsMessages-join}
 use Rattle.engine.proofs.StoreLemmas.{through_none, through_more}
 
 -- nothing has been answered

@@ -1,6 +1,8 @@
 pub mod Ask
+pub mod Calls
 pub mod Exchange
 pub mod First
+pub mod Headline
 pub mod Isolated
 pub mod Reply
 pub mod Served

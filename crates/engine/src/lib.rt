@@ -42,6 +42,7 @@ mod answer;
 mod ask;
 mod exchange;
 pub mod fault;
+pub mod laws;
 pub mod page;
 mod read;
 mod turn;

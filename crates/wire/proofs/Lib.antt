@@ -2,6 +2,7 @@ pub mod BegunLemmas
 pub mod FramingLemmas
 pub mod HeadLemmas
 pub mod StreamLemmas
+pub mod PieceLemmas
 pub mod ValuesLemmas
 pub mod CutLemmas
 pub mod PlainLemmas

@@ -1,6 +1,7 @@
 pub mod Framing
 pub mod Message
 pub mod Never
+pub mod Pieces
 pub mod Reply
 pub mod Info
 pub mod Values

@@ -1,6 +1,8 @@
 //! Laws of messages, streams, targets and replies, over the definitions alone.
-ghost use Rattle.std.specs.Prelude.{◌≡◌, ℕ, List, [], ◌++◌};
-ghost use Rattle.wire.specs.Message.{Request, ReadsMessage, End, IsStream};
+ghost use Rattle.std.specs.Prelude.{◌≡◌, ℕ, List, [], ◌∷◌, ◌++◌};
+ghost use Rattle.std.specs.List.{concat};
+ghost use Rattle.wire.specs.Message.{Request, ReadsMessage, ReadsMessages, End, Ends, IsStream};
+ghost use Rattle.wire.specs.Pieces.{IsMessage, AreMessages};
 ghost use Rattle.wire.specs.Target.{Asks, IsTextThroughout, ReadsTarget, target_of};
 ghost use Rattle.wire.specs.declared.request.Target.{Target};
 
@@ -12,6 +14,27 @@ pub fn no_message_begins_another()
 /// A stream is one list of messages, and has one end.
 pub fn one_stream()
     ensures { (bytes : List ℕ) (a b : List Request) (x y : End) → IsStream bytes a x → IsStream bytes b y → (a ≡ b) × (x ≡ y) }
+{}
+
+/// The bytes of some messages behind one another, and then a rest, are the stream of these messages with the end that the rest is.
+pub fn messages_make_a_stream()
+    ensures { (pieces : List (List ℕ)) (messages : List Request) (rest : List ℕ) (end : End) → AreMessages pieces messages → Ends rest end
+        → IsStream (concat pieces ++ rest) messages end }
+{}
+
+/// Each stream is so. So the bytes of any of its messages may be taken out: what is left is the stream of the other messages, with
+/// the same end.
+pub fn a_stream_is_made_of_messages()
+    ensures { (bytes : List ℕ) (messages : List Request) (end : End) → IsStream bytes messages end
+        → (pieces : List (List ℕ)) × (rest : List ℕ) × (bytes ≡ concat pieces ++ rest) × AreMessages pieces messages × Ends rest end }
+{}
+
+/// The bytes of a message may be taken out of a stream, wherever it stands: what is left is the stream of the other messages, with
+/// the same end.
+pub fn a_message_may_be_taken_out()
+    ensures { (front bytes back : List ℕ) (before after : List Request) (message : Request) (end : End)
+        → ReadsMessages front before [] → IsMessage bytes message
+        → IsStream (front ++ (bytes ++ back)) (before ++ message ∷ after) end → IsStream (front ++ back) (before ++ after) end }
 {}
 
 /// What is computed of a request is what it asks for.

@@ -1,0 +1,194 @@
+-- Two calls that answer one stream, the second without the bytes of others' messages.
+use Rattle.std.proofs.Common.{◌≡◌, ◌≢◌, ◌⊎◌, ℕ, List, [], ◌∷◌, ◌++◌, Bool, true, false, Option, Some, None, Result, Ok, Err, refl, ◌∙◌, sym, ap, subst, inl, inr, append-nil}
+use Rattle.std.specs.Prelude.{map}
+use Rattle.std.specs.List.{concat}
+use Rattle.wire.specs.Message.{Request, ReadsMessages, End, clean, too_large, bad, Ends, IsStream}
+use Rattle.wire.specs.Pieces.{AreMessages}
+use Rattle.wire.specs.declared.reply.Fixed.{Fixed}
+use Rattle.wire.specs.declared.reply.Fixed.TheVariants.{TooLarge, BadRequest, Unavailable}
+use Rattle.wire.proofs.PieceLemmas.{ReadsMessages-append, messages_make_a_stream, stream_begins}
+use Rattle.wire.proofs.StreamLemmas.{stream_unique}
+use Rattle.world.specs.Store.{Shown}
+use Rattle.world.specs.World.{World, IsWorld, chain}
+use Rattle.shelf.specs.declared.ask.Event.{Event}
+use Rattle.shelf.specs.declared.reply.Answer.{Answer}
+use Rattle.shelf.specs.declared.reply.Answer.TheVariants.{Replied, Failed}
+use Rattle.shelf.specs.Machine.{Run, after}
+use Rattle.shelf.specs.Isolation.{is_kept, kept, marked, IsAnsweredIfKept, KeptAnswered, IsReplied, AllReplied}
+use Rattle.engine.specs.Ask as spec
+use Rattle.engine.specs.Exchange.{Exchange, message_of, event_of, answer_of}
+use Rattle.engine.specs.Headline.{unavailable}
+use Rattle.engine.specs.Reply.{bytes_of, text_of}
+use Rattle.engine.specs.Served.{IsClosing, closing_bytes, texts_of, Ended, Serves}
+use Rattle.engine.specs.Calls.{kept_for, NoneUnavailable, end_bytes, WriteAlike, CallsTellAlike, AgreeAsFar, CallsTellAlikeAsFar}
+use Rattle.engine.specs.declared.fault.Io.{Io}
+use Rattle.engine.specs.declared.fault.Io.TheVariants as io
+use Rattle.engine.proofs.FrontLemmas.{run_front, none_front, texts_front, kept_texts, kept_messages, marks_front, kept_front, GoesAsFar, EndsBefore, either_ends}
+use Rattle.engine.proofs.HeadlineLemmas.{events_are, callers_are_told_alike}
+
+-- ---- the stream without some pieces
+
+marked_messages : (marks : List Bool) (pieces : List (List ℕ)) (messages : List Request) → AreMessages pieces messages
+    → AreMessages (marked marks pieces) (marked marks messages)
+marked_messages [] pieces messages are = tt
+marked_messages (mark ∷ marks) [] (m ∷ ms) are = absurd are
+marked_messages (mark ∷ marks) (piece ∷ pieces) [] are = absurd are
+marked_messages (true ∷ marks) [] [] are = tt
+marked_messages (false ∷ marks) [] [] are = tt
+marked_messages (true ∷ marks) (piece ∷ pieces) (m ∷ ms) are = (are.0, marked_messages marks pieces ms are.1)
+marked_messages (false ∷ marks) (piece ∷ pieces) (m ∷ ms) are = marked_messages marks pieces ms are.1
+
+-- ---- a call that came to the end
+
+-- what closed the stream is what its end asks for
+closed : (rest : List ℕ) (closing : Option Fixed) → IsClosing rest closing → closing ≢ Some Unavailable
+    → (end : End) × Ends rest end × (closing_bytes closing ≡ end_bytes end)
+closed rest None closes other = (clean, closes, refl)
+closed rest (Some TooLarge) closes other = (too_large, closes, refl)
+closed rest (Some BadRequest) closes other = (bad, closes, refl)
+closed rest (Some Unavailable) closes other = absurd (other refl)
+closed rest (Some f) closes other = absurd closes
+
+texts_joined : (xs : List Exchange) → texts_of xs ≡ concat (map text_of xs)
+texts_joined [] = refl
+texts_joined (x ∷ xs) = ap (λ texts. text_of x ++ texts) (texts_joined xs)
+
+-- it answered each message of the stream
+record CameToTheEnd (messages : List Request) (end : End) (xs : List Exchange) (out : List ℕ) : Type 0 where
+  all : map message_of xs ≡ messages
+  wrote : out ≡ concat (map text_of xs) ++ end_bytes end
+
+came_to_the_end : (old new : Shown) (before now : ℕ) (bytes : List ℕ) (unread written written_new : Option (List ℕ)) (messages : List Request) (end : End)
+    → IsStream bytes messages end → (call : Serves old new before now (Some bytes) unread written written_new (Ok tt))
+    → call.ends.1.0 ≢ Some Unavailable → CameToTheEnd messages end call.exchanges call.out
+came_to_the_end old new before now bytes unread written written_new messages end stream call other =
+    let at = closed call.rest call.ends.1.0 call.ends.1.1 other in
+    let reads = subst (λ all. ReadsMessages all (map message_of call.exchanges) call.rest) call.ends.0 call.reads in
+    let same = stream_unique bytes (map message_of call.exchanges) messages at.0 end (call.rest, reads, at.1) stream in
+    record {
+      all = same.0;
+      wrote = call.ends.1.2
+          ∙ ap (λ texts. texts ++ closing_bytes call.ends.1.0) (texts_joined call.exchanges)
+          ∙ ap (λ last. concat (map text_of call.exchanges) ++ last) (at.2 ∙ ap end_bytes same.1);
+    }
+
+-- ---- messages that were not answered by the 503
+
+answered_if : (mark : Bool) (m : Request) (a : Answer) → bytes_of m a ≢ unavailable → IsAnsweredIfKept mark a
+answered_if true m (Replied r) other = tt
+answered_if true m (Failed fault) other = absurd (other refl)
+answered_if false m a other = tt
+
+kept_answered : (w : World) (ss : List (List ℕ)) (xs : List Exchange) → NoneUnavailable (marked (kept w ss (map event_of xs)) (map text_of xs))
+    → KeptAnswered w ss (map event_of xs) (map answer_of xs)
+kept_answered w ss [] none = tt
+kept_answered w ss (x ∷ xs) none =
+    let marks : List Bool = kept (after w (event_of x)) ss (map event_of xs) in
+    elim (is_kept w ss (event_of x)) as (λ b. NoneUnavailable (marked (b ∷ marks) (text_of x ∷ map text_of xs)) → IsAnsweredIfKept b (answer_of x) × KeptAnswered (after w (event_of x)) ss (map event_of xs) (map answer_of xs)) [
+      | true ↦ λ n. (answered_if true x.message (answer_of x) n.0, kept_answered (after w (event_of x)) ss xs n.1)
+      | false ↦ λ n. (tt, kept_answered (after w (event_of x)) ss xs n)
+    ] none
+
+replied : (m : Request) (a : Answer) → bytes_of m a ≢ unavailable → IsReplied a
+replied m (Replied r) other = tt
+replied m (Failed fault) other = absurd (other refl)
+
+all_replied : (xs : List Exchange) → NoneUnavailable (map text_of xs) → AllReplied (map answer_of xs)
+all_replied [] none = tt
+all_replied (x ∷ xs) none = (replied x.message (answer_of x) none.0, all_replied xs none.1)
+
+-- ---- two calls
+
+module _ (w one two : World) (s : List ℕ) (is : IsWorld w) (full purged : List Exchange)
+    (run : Run w (map event_of full) (map answer_of full) one) (again : Run w (map event_of purged) (map answer_of purged) two)
+    (none : NoneUnavailable (map text_of purged)) where
+  -- the kept messages, as they were read, are written alike
+  abbrev Alike : List Event → List Request → Type 0
+  Alike events messages =
+      NoneUnavailable (marked (kept w (chain w s) events) (map text_of full)) → map message_of purged ≡ marked (kept w (chain w s) events) messages
+      → marked (kept w (chain w s) events) (map text_of full) ≡ map text_of purged
+
+  alike : Alike (map event_of full) (map message_of full)
+  alike others same =
+      callers_are_told_alike w one two s full purged is run (kept_answered w (chain w s) full others) same again (all_replied purged none)
+
+  pub texts_alike : (messages : List Request) → map message_of full ≡ messages → Alike (map spec.event_of messages) messages
+  texts_alike messages all =
+      subst (λ ms. Alike (map spec.event_of ms) ms) all (subst (λ es. Alike es (map message_of full)) (events_are full) alike)
+
+pub calls_tell_alike : (old new old_too new_too : Shown) → ((w : World) → old.stands w → IsWorld w) → CallsTellAlike old new old_too new_too
+calls_tell_alike old new old_too new_too sound w s pieces messages rest end before now before_too now_too unread written written_new unread_too written_too written_too_new stands honest stands_too honest_too are ends full purged other none other_too none_too =
+    let marks : List Bool = kept_for w s messages in
+    let first = came_to_the_end old new before now (concat pieces ++ rest) unread written written_new messages end
+    (messages_make_a_stream pieces messages rest end are ends) full other in
+    let second = came_to_the_end old_too new_too before_too now_too (concat (marked marks pieces) ++ rest) unread_too written_too written_too_new (marked marks messages) end
+    (messages_make_a_stream (marked marks pieces) (marked marks messages) rest end (marked_messages marks pieces messages are) ends) purged other_too in
+    let run = full.through.runs.at honest w stands in
+    let again = purged.through.runs.at honest_too w stands_too in
+    let same = sym (texts_alike w _ _ s (sound w stands) full.exchanges purged.exchanges run.run again.run none_too messages first.all none second.all) in
+    record {
+      all = first.all;
+      left = second.all;
+      texts = same;
+      wrote = first.wrote;
+      wrote_too = second.wrote ∙ ap (λ texts. concat texts ++ end_bytes end) same;
+    }
+
+-- ---- as far as both went
+
+-- what a call answered begins with its stream
+input_begins : (bytes : List ℕ) (unread : Option (List ℕ)) (xs : List Exchange) (input rest out : List ℕ) (result : Result (Unit {0}) Io)
+    → Ended (Some bytes) unread xs input rest out result → (more : List ℕ) × (bytes ≡ input ++ more)
+input_begins bytes unread xs input rest out (Ok u) (told, closing) = ([], sym told ∙ sym (append-nil input))
+input_begins bytes None xs input rest out (Err io.Read) (consumed, waits, is) = absurd consumed
+input_begins bytes (Some left) xs input rest out (Err io.Read) (consumed, waits, is) = (left, consumed)
+input_begins bytes unread xs input rest out (Err io.Write) (told, broken) = ([], sym told ∙ sym (append-nil input))
+
+-- so its messages are the first of the stream's
+first_messages : (old new : Shown) (before now : ℕ) (bytes : List ℕ) (unread written written_new : Option (List ℕ)) (result : Result (Unit {0}) Io)
+    (messages : List Request) (end : End) → IsStream bytes messages end → (call : Serves old new before now (Some bytes) unread written written_new result)
+    → (left : List Request) × (messages ≡ map message_of call.exchanges ++ left)
+first_messages old new before now bytes unread written written_new result messages end stream call =
+    let begins = input_begins bytes unread call.exchanges call.input call.rest call.out result call.ends in
+    let reads = ReadsMessages-append call.input (map message_of call.exchanges) call.rest begins.0 call.reads in
+    stream_begins bytes (map message_of call.exchanges) messages (call.rest ++ begins.0) end
+    (subst (λ all. ReadsMessages all (map message_of call.exchanges) (call.rest ++ begins.0)) (sym begins.1) reads) stream
+
+module _ (w one two : World) (s : List ℕ) (is : IsWorld w) where
+  -- two runs of which the second has the kept messages of the first
+  both : (full purged : List Exchange) → Run w (map event_of full) (map answer_of full) one → Run w (map event_of purged) (map answer_of purged) two
+      → NoneUnavailable (kept_texts w (chain w s) full) → NoneUnavailable (map text_of purged) → map message_of purged ≡ kept_messages w (chain w s) full
+      → kept_texts w (chain w s) full ≡ map text_of purged
+  both full purged run again others none same =
+      callers_are_told_alike w one two s full purged is run (kept_answered w (chain w s) full others) same again (all_replied purged none)
+
+as_far : (w one two : World) (s : List ℕ) → IsWorld w → (full purged : List Exchange) → Run w (map event_of full) (map answer_of full) one
+    → Run w (map event_of purged) (map answer_of purged) two → NoneUnavailable (kept_texts w (chain w s) full) → NoneUnavailable (map text_of purged)
+    → GoesAsFar w (chain w s) full purged ⊎ EndsBefore w (chain w s) full purged
+    → AgreeAsFar (kept_texts w (chain w s) full) (map text_of purged)
+as_far w one two s is full purged run again others none (inl (front, more, cut, same)) =
+    let all = ap (map text_of) cut ∙ texts_front front more in
+    let short = run_front w two front more (subst (λ xs. Run w (map event_of xs) (map answer_of xs) two) cut again) in
+    let alike = both w one short.0 s is full front run short.1 others (none_front (map text_of front) (map text_of more) (subst NoneUnavailable all none)) same in
+    (map text_of more, inr (all ∙ ap (λ texts. texts ++ map text_of more) (sym alike)))
+as_far w one two s is full purged run again others none (inr (front, more, cut, same)) =
+    let kept_so = kept_front w (chain w s) front more in
+    let all = ap (kept_texts w (chain w s)) cut ∙ kept_so.1 in
+    let short = run_front w one front more (subst (λ xs. Run w (map event_of xs) (map answer_of xs) one) cut run) in
+    let alike = both w short.0 two s is front purged short.1 again (none_front (kept_texts w (chain w s) front) kept_so.0 (subst NoneUnavailable all others)) none same in
+    (kept_so.0, inl (all ∙ ap (λ texts. texts ++ kept_so.0) alike))
+
+pub calls_tell_alike_as_far : (old new old_too new_too : Shown) → ((w : World) → old.stands w → IsWorld w) → CallsTellAlikeAsFar old new old_too new_too
+calls_tell_alike_as_far old new old_too new_too sound w s pieces messages rest end before now before_too now_too unread written written_new unread_too written_too written_too_new result result_too stands honest stands_too honest_too are ends full purged others none =
+    let marks : List Bool = kept_for w s messages in
+    let first = first_messages old new before now (concat pieces ++ rest) unread written written_new result messages end
+    (messages_make_a_stream pieces messages rest end are ends) full in
+    let second = first_messages old_too new_too before_too now_too (concat (marked marks pieces) ++ rest) unread_too written_too written_too_new result_too (marked marks messages) end
+    (messages_make_a_stream (marked marks pieces) (marked marks messages) rest end (marked_messages marks pieces messages are) ends) purged in
+    let cut = either_ends w (chain w s) full.exchanges purged.exchanges first.0 second.0 (ap (λ ms. marked (kept_for w s ms) ms) (sym first.1) ∙ second.1) in
+    let same : marked marks (map text_of full.exchanges) ≡ kept_texts w (chain w s) full.exchanges =
+    ap (λ ms. marked (kept_for w s ms) (map text_of full.exchanges)) first.1 ∙ marks_front w (chain w s) full.exchanges first.0 in
+    let run = full.through.runs.at honest w stands in
+    let again = purged.through.runs.at honest_too w stands_too in
+    subst (λ texts. AgreeAsFar texts (map text_of purged.exchanges)) (sym same)
+    (as_far w _ _ s (sound w stands) full.exchanges purged.exchanges run.run again.run (subst NoneUnavailable same others) none cut)

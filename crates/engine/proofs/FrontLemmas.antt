@@ -1,0 +1,107 @@
+-- The front of a run, and of what is kept of it.
+use Rattle.std.proofs.Common.{◌≡◌, ◌⊎◌, ℕ, List, [], ◌∷◌, ◌++◌, Bool, true, false, refl, ◌∙◌, sym, ap, subst, inl, inr}
+use Rattle.std.specs.Prelude.{map}
+use Rattle.wire.specs.Message.{Request}
+use Rattle.world.specs.World.{World}
+use Rattle.shelf.specs.declared.ask.Event.{Event}
+use Rattle.shelf.specs.declared.reply.Answer.TheVariants.{Replied, Failed}
+use Rattle.shelf.specs.Machine.{Run, after}
+use Rattle.shelf.specs.Isolation.{is_kept, kept, marked}
+use Rattle.engine.specs.Ask as spec
+use Rattle.engine.specs.Exchange.{Exchange, message_of, event_of, answer_of}
+use Rattle.engine.specs.Reply.{text_of}
+use Rattle.engine.specs.Calls.{NoneUnavailable}
+
+-- a run over the first messages
+pub run_front : (w new : World) (xs more : List Exchange) → Run w (map event_of (xs ++ more)) (map answer_of (xs ++ more)) new
+    → (mid : World) × Run w (map event_of xs) (map answer_of xs) mid
+run_front w new [] more run = (w, refl)
+run_front w new (x ∷ xs) more run =
+    elim (answer_of x) as (λ a. Run w (event_of x ∷ map event_of (xs ++ more)) (a ∷ map answer_of (xs ++ more)) new → (mid : World) × Run w (event_of x ∷ map event_of xs) (a ∷ map answer_of xs) mid) [
+      | Replied r ↦ λ so. let front = run_front (after w (event_of x)) new xs more so.1 in (front.0, (so.0, front.1))
+      | Failed fault ↦ λ so. let front = run_front w new xs more so in (front.0, front.1)
+    ] run
+
+pub none_front : (texts more : List (List ℕ)) → NoneUnavailable (texts ++ more) → NoneUnavailable texts
+none_front [] more none = tt
+none_front (t ∷ texts) more none = (none.0, none_front texts more none.1)
+
+pub texts_front : (xs more : List Exchange) → map text_of (xs ++ more) ≡ map text_of xs ++ map text_of more
+texts_front [] more = refl
+texts_front (x ∷ xs) more = ap (λ texts. text_of x ∷ texts) (texts_front xs more)
+
+-- ---- what is kept
+
+-- the texts of the kept messages among these
+abbrev pub kept_texts : World → List (List ℕ) → List Exchange → List (List ℕ)
+kept_texts w ss xs = marked (kept w ss (map event_of xs)) (map text_of xs)
+
+-- the kept messages among these
+abbrev pub kept_messages : World → List (List ℕ) → List Exchange → List Request
+kept_messages w ss xs = marked (kept w ss (map event_of xs)) (map message_of xs)
+
+marked_nothing : {A : Type 0} (marks : List Bool) → marked {A = A} marks [] ≡ []
+marked_nothing [] = refl
+marked_nothing (true ∷ marks) = refl
+marked_nothing (false ∷ marks) = refl
+
+-- the marks of more messages say the same of the first
+pub marks_front : (w : World) (ss : List (List ℕ)) (xs : List Exchange) (left : List Request)
+    → marked (kept w ss (map spec.event_of (map message_of xs ++ left))) (map text_of xs) ≡ kept_texts w ss xs
+marks_front w ss [] left = marked_nothing (kept w ss (map spec.event_of left))
+marks_front w ss (x ∷ xs) left =
+    let next = after w (event_of x) in
+    elim (is_kept w ss (event_of x)) as (λ b. marked (b ∷ kept next ss (map spec.event_of (map message_of xs ++ left))) (text_of x ∷ map text_of xs) ≡ marked (b ∷ kept next ss (map event_of xs)) (text_of x ∷ map text_of xs)) [
+      | true ↦ ap (λ texts. text_of x ∷ texts) (marks_front next ss xs left)
+      | false ↦ marks_front next ss xs left
+    ]
+
+pub kept_front : (w : World) (ss : List (List ℕ)) (xs more : List Exchange)
+    → (others : List (List ℕ)) × (kept_texts w ss (xs ++ more) ≡ kept_texts w ss xs ++ others)
+kept_front w ss [] more = (kept_texts w ss more, refl)
+kept_front w ss (x ∷ xs) more =
+    let next = after w (event_of x) in
+    let front = kept_front next ss xs more in (
+      front.0,
+      elim (is_kept w ss (event_of x)) as (λ b. marked (b ∷ kept next ss (map event_of (xs ++ more))) (text_of x ∷ map text_of (xs ++ more)) ≡ marked (b ∷ kept next ss (map event_of xs)) (text_of x ∷ map text_of xs) ++ front.0) [
+        | true ↦ ap (λ texts. text_of x ∷ texts) front.1
+        | false ↦ front.1
+      ],
+    )
+
+-- ---- where the one ends before the other
+
+-- the second list goes as far as the first, or farther
+abbrev pub GoesAsFar : World → List (List ℕ) → List Exchange → List Exchange → Type 0
+GoesAsFar w ss xs ys = (front more : List Exchange) × (ys ≡ front ++ more) × (map message_of front ≡ kept_messages w ss xs)
+
+-- it ends before
+abbrev pub EndsBefore : World → List (List ℕ) → List Exchange → List Exchange → Type 0
+EndsBefore w ss xs ys = (front more : List Exchange) × (xs ≡ front ++ more) × (map message_of ys ≡ kept_messages w ss front)
+
+-- the kept messages among these, where the first is kept or not
+abbrev headed : World → List (List ℕ) → Exchange → List Exchange → Bool → List Request
+headed w ss x xs b = marked (b ∷ kept (after w (event_of x)) ss (map event_of xs)) (message_of x ∷ map message_of xs)
+
+-- the exchanges of a stream, and those of the stream without what is not kept, each as far as they went
+pub either_ends : (w : World) (ss : List (List ℕ)) (xs ys : List Exchange) (left left_too : List Request)
+    → marked (kept w ss (map spec.event_of (map message_of xs ++ left))) (map message_of xs ++ left) ≡ map message_of ys ++ left_too
+    → GoesAsFar w ss xs ys ⊎ EndsBefore w ss xs ys
+either_ends w ss [] ys left left_too same = inl ([], ys, refl, refl)
+either_ends w ss (x ∷ xs) [] left left_too same = inr ([], x ∷ xs, refl, refl)
+either_ends w ss (x ∷ xs) (y ∷ ys) left left_too same =
+    let next = after w (event_of x) in
+    let ms = map message_of xs ++ left in
+    elim (is_kept w ss (event_of x)) as (λ b. is_kept w ss (event_of x) ≡ b → marked (b ∷ kept next ss (map spec.event_of ms)) (message_of x ∷ ms) ≡ message_of y ∷ (map message_of ys ++ left_too) → GoesAsFar w ss (x ∷ xs) (y ∷ ys) ⊎ EndsBefore w ss (x ∷ xs) (y ∷ ys)) [
+      | true ↦ λ near is.
+          let first : message_of y ≡ message_of x = cc is in
+          let others : marked (kept next ss (map spec.event_of ms)) ms ≡ map message_of ys ++ left_too = cc is in
+          elim (either_ends next ss xs ys left left_too others) [
+            | inl h ↦ inl (y ∷ h.0, h.1, ap (λ l. y ∷ l) h.2, (λ i. first i ∷ h.3 i) ∙ sym (ap (headed w ss x xs) near))
+            | inr h ↦ inr (x ∷ h.0, h.1, ap (λ l. x ∷ l) h.2, (λ i. first i ∷ h.3 i) ∙ sym (ap (headed w ss x h.0) near))
+          ]
+      | false ↦ λ far is. elim (either_ends next ss xs (y ∷ ys) left left_too is) [
+        | inl h ↦ inl (h.0, h.1, h.2, h.3 ∙ sym (ap (headed w ss x xs) far))
+        | inr h ↦ inr (x ∷ h.0, h.1, ap (λ l. x ∷ l) h.2, h.3 ∙ sym (ap (headed w ss x h.0) far))
+      ]
+    ] refl same

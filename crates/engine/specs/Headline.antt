@@ -1,0 +1,65 @@
+-- What the callers of a stream are told, in bytes: nothing of others, the same for good, and the latest version by the rules' words.
+use Rattle.std.specs.Prelude.{ℕ, ◌≡◌, ◌⊎◌, List, [], ◌∷◌, Option, map}
+use Rattle.latest.specs.Latest.{IsTop}
+use Rattle.modver.specs.SemanticVersion.{SemanticVersion}
+use Rattle.wire.specs.Message.{Request}
+use Rattle.wire.specs.Reply.{reply_bytes, fixed_bytes, info_bytes}
+use Rattle.wire.specs.declared.reply.Fixed.TheVariants.{NotFound, Unavailable}
+use Rattle.wire.specs.declared.reply.Kind.TheVariants.{Json}
+use Rattle.world.specs.World.{World, IsWorld, chain}
+use Rattle.shelf.specs.declared.ask.Ask.TheVariants.{Get}
+use Rattle.shelf.specs.declared.ask.Query.{Query}
+use Rattle.shelf.specs.declared.ask.Query.TheVariants.{Latest}
+use Rattle.shelf.specs.Machine.{Run}
+use Rattle.shelf.specs.Isolation.{kept, marked, belongs, KeptAnswered, AllReplied}
+use Rattle.shelf.specs.Immutability.{IsOfVersion}
+use Rattle.shelf.specs.PathLaws.{unretracted_versions, HasTime}
+use Rattle.engine.specs.Ask.{ask_of}
+use Rattle.engine.specs.Exchange.{Exchange, message_of, event_of, answer_of}
+use Rattle.engine.specs.Reply.{text_of, status_of}
+
+-- the 503
+abbrev pub unavailable : List ℕ
+unavailable = fixed_bytes Unavailable
+
+-- ---- nothing of others
+
+-- From one world the messages of a stream were answered, and those that are left of it without the messages of others, which are not
+-- kept: those that are kept are written the same, where none of them met a fault.
+abbrev pub CallersAreToldAlike : Type 0
+CallersAreToldAlike =
+    (old one two : World) (s : List ℕ) (full purged : List Exchange) → IsWorld old
+    → Run old (map event_of full) (map answer_of full) one
+    → KeptAnswered old (chain one s) (map event_of full) (map answer_of full)
+    → map message_of purged ≡ marked (kept old (chain one s) (map event_of full)) (map message_of full)
+    → Run old (map event_of purged) (map answer_of purged) two → AllReplied (map answer_of purged)
+    → marked (kept old (chain one s) (map event_of full)) (map text_of full) ≡ map text_of purged
+
+-- ---- the same for good
+
+-- Once a GET of one version by a key of s was answered 200, then after any messages the same GET by any key that then belongs to s is
+-- written the same, or the 503.
+abbrev pub BytesStayServed : Type 0
+BytesStayServed =
+    (old mid new : World) (s k later : List ℕ) (q : Query) (first last : Exchange) (between : List Exchange)
+    → IsWorld old → belongs old k s → IsOfVersion q → ask_of first.message ≡ Get k q → status_of first ≡ 200
+    → Run old (map event_of (first ∷ between)) (map answer_of (first ∷ between)) mid
+    → belongs mid later s → ask_of last.message ≡ Get later q → Run mid (event_of last ∷ []) (answer_of last ∷ []) new
+    → (text_of last ≡ text_of first) ⊎ (text_of last ≡ unavailable)
+
+-- ---- the latest version
+
+-- The text tells the latest version of a path: the name and the time of the highest version that the shelf sees and that the go.mod of
+-- the highest does not retract; or the 404, where there is none.
+abbrev pub TellsLatest : World → List ℕ → List ℕ → List ℕ → Type 0
+TellsLatest w s path text =
+    ((v : SemanticVersion) × (time : Option (List ℕ)) × IsTop (unretracted_versions w s path) v × HasTime w s path v time
+    × (text ≡ reply_bytes 200 Json (info_bytes v time)))
+    ⊎ (((v : SemanticVersion) → ¬ unretracted_versions w s path v) × (text ≡ fixed_bytes NotFound))
+
+-- So a GET of the latest version by a key of s is answered, or by the 503.
+abbrev pub LatestIsWritten : Type 0
+LatestIsWritten =
+    (old new : World) (s k path : List ℕ) (x : Exchange) → IsWorld old → belongs old k s → ask_of x.message ≡ Get k (Latest path)
+    → Run old (event_of x ∷ []) (answer_of x ∷ []) new
+    → TellsLatest old s path (text_of x) ⊎ (text_of x ≡ unavailable)

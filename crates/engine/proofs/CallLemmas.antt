@@ -10,20 +10,16 @@ use Rattle.wire.proofs.PieceLemmas.{ReadsMessages-append, messages_make_a_stream
 use Rattle.wire.proofs.StreamLemmas.{stream_unique}
 use Rattle.world.specs.Store.{Shown}
 use Rattle.world.specs.World.{World, IsWorld, chain}
-use Rattle.shelf.specs.declared.ask.Event.{Event}
-use Rattle.shelf.specs.declared.reply.Answer.{Answer}
-use Rattle.shelf.specs.declared.reply.Answer.TheVariants.{Replied, Failed}
-use Rattle.shelf.specs.Machine.{Run, after}
-use Rattle.shelf.specs.Isolation.{is_kept, kept, marked, IsAnsweredIfKept, KeptAnswered, IsReplied, AllReplied}
-use Rattle.engine.specs.Ask as spec
+use Rattle.shelf.specs.Machine.{Run}
+use Rattle.shelf.specs.Isolation.{kept, marked}
 use Rattle.engine.specs.Exchange.{Exchange, message_of, event_of, answer_of}
-use Rattle.engine.specs.Headline.{unavailable}
-use Rattle.engine.specs.Reply.{bytes_of, text_of}
+use Rattle.engine.specs.Headline.{NoneUnavailable, kept_messages, kept_texts}
+use Rattle.engine.specs.Reply.{text_of}
 use Rattle.engine.specs.Served.{IsClosing, closing_bytes, texts_of, Ended, Serves}
-use Rattle.engine.specs.Calls.{kept_for, NoneUnavailable, end_bytes, WriteAlike, CallsTellAlike, AgreeAsFar, CallsTellAlikeAsFar}
+use Rattle.engine.specs.Calls.{kept_for, end_bytes, WriteAlike, CallsTellAlike, AgreeAsFar, CallsTellAlikeAsFar}
 use Rattle.engine.specs.declared.fault.Io.{Io}
 use Rattle.engine.specs.declared.fault.Io.TheVariants as io
-use Rattle.engine.proofs.FrontLemmas.{run_front, none_front, texts_front, kept_texts, kept_messages, marks_front, kept_front, GoesAsFar, EndsBefore, either_ends}
+use Rattle.engine.proofs.FrontLemmas.{run_front, none_front, texts_front, marks_front, kept_front, GoesAsFar, EndsBefore, either_ends}
 use Rattle.engine.proofs.HeadlineLemmas.{events_are, callers_are_told_alike}
 
 -- ---- the stream without some pieces
@@ -72,60 +68,31 @@ came_to_the_end old new before now bytes unread written written_new messages end
           ∙ ap (λ last. concat (map text_of call.exchanges) ++ last) (at.2 ∙ ap end_bytes same.1);
     }
 
--- ---- messages that were not answered by the 503
+-- the texts of the messages that are kept of a stream
+texts_kept : (w : World) (s : List ℕ) (messages : List Request) (xs : List Exchange) (left : List Request) → messages ≡ map message_of xs ++ left
+    → marked (kept_for w s messages) (map text_of xs) ≡ kept_texts w (chain w s) xs
+texts_kept w s messages xs left is =
+    ap (λ ms. marked (kept_for w s ms) (map text_of xs)) is ∙ marks_front w (chain w s) xs left
 
-answered_if : (mark : Bool) (m : Request) (a : Answer) → bytes_of m a ≢ unavailable → IsAnsweredIfKept mark a
-answered_if true m (Replied r) other = tt
-answered_if true m (Failed fault) other = absurd (other refl)
-answered_if false m a other = tt
-
-kept_answered : (w : World) (ss : List (List ℕ)) (xs : List Exchange) → NoneUnavailable (marked (kept w ss (map event_of xs)) (map text_of xs))
-    → KeptAnswered w ss (map event_of xs) (map answer_of xs)
-kept_answered w ss [] none = tt
-kept_answered w ss (x ∷ xs) none =
-    let marks : List Bool = kept (after w (event_of x)) ss (map event_of xs) in
-    elim (is_kept w ss (event_of x)) as (λ b. NoneUnavailable (marked (b ∷ marks) (text_of x ∷ map text_of xs)) → IsAnsweredIfKept b (answer_of x) × KeptAnswered (after w (event_of x)) ss (map event_of xs) (map answer_of xs)) [
-      | true ↦ λ n. (answered_if true x.message (answer_of x) n.0, kept_answered (after w (event_of x)) ss xs n.1)
-      | false ↦ λ n. (tt, kept_answered (after w (event_of x)) ss xs n)
-    ] none
-
-replied : (m : Request) (a : Answer) → bytes_of m a ≢ unavailable → IsReplied a
-replied m (Replied r) other = tt
-replied m (Failed fault) other = absurd (other refl)
-
-all_replied : (xs : List Exchange) → NoneUnavailable (map text_of xs) → AllReplied (map answer_of xs)
-all_replied [] none = tt
-all_replied (x ∷ xs) none = (replied x.message (answer_of x) none.0, all_replied xs none.1)
-
--- ---- two calls
-
-module _ (w one two : World) (s : List ℕ) (is : IsWorld w) (full purged : List Exchange)
-    (run : Run w (map event_of full) (map answer_of full) one) (again : Run w (map event_of purged) (map answer_of purged) two)
-    (none : NoneUnavailable (map text_of purged)) where
-  -- the kept messages, as they were read, are written alike
-  abbrev Alike : List Event → List Request → Type 0
-  Alike events messages =
-      NoneUnavailable (marked (kept w (chain w s) events) (map text_of full)) → map message_of purged ≡ marked (kept w (chain w s) events) messages
-      → marked (kept w (chain w s) events) (map text_of full) ≡ map text_of purged
-
-  alike : Alike (map event_of full) (map message_of full)
-  alike others same =
-      callers_are_told_alike w one two s full purged is run (kept_answered w (chain w s) full others) same again (all_replied purged none)
-
-  pub texts_alike : (messages : List Request) → map message_of full ≡ messages → Alike (map spec.event_of messages) messages
-  texts_alike messages all =
-      subst (λ ms. Alike (map spec.event_of ms) ms) all (subst (λ es. Alike es (map message_of full)) (events_are full) alike)
+messages_kept : (w : World) (s : List ℕ) (messages : List Request) (xs : List Exchange) → map message_of xs ≡ messages
+    → marked (kept_for w s messages) messages ≡ kept_messages w (chain w s) xs
+messages_kept w s messages xs is =
+    ap (λ ms. marked (kept_for w s ms) ms) (sym is) ∙ ap (λ es. marked (kept w (chain w s) es) (map message_of xs)) (sym (events_are xs))
 
 pub calls_tell_alike : (old new old_too new_too : Shown) → ((w : World) → old.stands w → IsWorld w) → CallsTellAlike old new old_too new_too
-calls_tell_alike old new old_too new_too sound w s pieces messages rest end before now before_too now_too unread written written_new unread_too written_too written_too_new stands honest stands_too honest_too are ends full purged other none other_too none_too =
+calls_tell_alike old new old_too new_too sound w s messages end calls other other_too others none =
     let marks : List Bool = kept_for w s messages in
-    let first = came_to_the_end old new before now (concat pieces ++ rest) unread written written_new messages end
-    (messages_make_a_stream pieces messages rest end are ends) full other in
-    let second = came_to_the_end old_too new_too before_too now_too (concat (marked marks pieces) ++ rest) unread_too written_too written_too_new (marked marks messages) end
-    (messages_make_a_stream (marked marks pieces) (marked marks messages) rest end (marked_messages marks pieces messages are) ends) purged other_too in
-    let run = full.through.runs.at honest w stands in
-    let again = purged.through.runs.at honest_too w stands_too in
-    let same = sym (texts_alike w _ _ s (sound w stands) full.exchanges purged.exchanges run.run again.run none_too messages first.all none second.all) in
+    let full = calls.full in
+    let purged = calls.purged in
+    let first = came_to_the_end old new _ _ (concat calls.pieces ++ calls.rest) _ _ _ messages end
+    (messages_make_a_stream calls.pieces messages calls.rest end calls.are calls.ends) full other in
+    let second = came_to_the_end old_too new_too _ _ (concat (marked marks calls.pieces) ++ calls.rest) _ _ _ (marked marks messages) end
+    (messages_make_a_stream (marked marks calls.pieces) (marked marks messages) calls.rest end (marked_messages marks calls.pieces messages calls.are) calls.ends) purged other_too in
+    let kept_alike = texts_kept w s messages full.exchanges [] (sym first.all ∙ sym (append-nil (map message_of full.exchanges))) in
+    let run = full.through.runs.at calls.honest w calls.stands in
+    let again = purged.through.runs.at calls.honest_too w calls.stands_too in
+    let same = callers_are_told_alike w _ _ s full.exchanges purged.exchanges (sound w calls.stands) run.run again.run
+    (second.all ∙ messages_kept w s messages full.exchanges first.all) (subst NoneUnavailable kept_alike others) none ∙ sym kept_alike in
     record {
       all = first.all;
       left = second.all;
@@ -154,14 +121,6 @@ first_messages old new before now bytes unread written written_new result messag
     stream_begins bytes (map message_of call.exchanges) messages (call.rest ++ begins.0) end
     (subst (λ all. ReadsMessages all (map message_of call.exchanges) (call.rest ++ begins.0)) (sym begins.1) reads) stream
 
-module _ (w one two : World) (s : List ℕ) (is : IsWorld w) where
-  -- two runs of which the second has the kept messages of the first
-  both : (full purged : List Exchange) → Run w (map event_of full) (map answer_of full) one → Run w (map event_of purged) (map answer_of purged) two
-      → NoneUnavailable (kept_texts w (chain w s) full) → NoneUnavailable (map text_of purged) → map message_of purged ≡ kept_messages w (chain w s) full
-      → kept_texts w (chain w s) full ≡ map text_of purged
-  both full purged run again others none same =
-      callers_are_told_alike w one two s full purged is run (kept_answered w (chain w s) full others) same again (all_replied purged none)
-
 as_far : (w one two : World) (s : List ℕ) → IsWorld w → (full purged : List Exchange) → Run w (map event_of full) (map answer_of full) one
     → Run w (map event_of purged) (map answer_of purged) two → NoneUnavailable (kept_texts w (chain w s) full) → NoneUnavailable (map text_of purged)
     → GoesAsFar w (chain w s) full purged ⊎ EndsBefore w (chain w s) full purged
@@ -169,26 +128,27 @@ as_far : (w one two : World) (s : List ℕ) → IsWorld w → (full purged : Lis
 as_far w one two s is full purged run again others none (inl (front, more, cut, same)) =
     let all = ap (map text_of) cut ∙ texts_front front more in
     let short = run_front w two front more (subst (λ xs. Run w (map event_of xs) (map answer_of xs) two) cut again) in
-    let alike = both w one short.0 s is full front run short.1 others (none_front (map text_of front) (map text_of more) (subst NoneUnavailable all none)) same in
-    (map text_of more, inr (all ∙ ap (λ texts. texts ++ map text_of more) (sym alike)))
+    let alike = callers_are_told_alike w one short.0 s full front is run short.1 same others (none_front (map text_of front) (map text_of more) (subst NoneUnavailable all none)) in
+    (map text_of more, inr (all ∙ ap (λ texts. texts ++ map text_of more) alike))
 as_far w one two s is full purged run again others none (inr (front, more, cut, same)) =
     let kept_so = kept_front w (chain w s) front more in
     let all = ap (kept_texts w (chain w s)) cut ∙ kept_so.1 in
     let short = run_front w one front more (subst (λ xs. Run w (map event_of xs) (map answer_of xs) one) cut run) in
-    let alike = both w short.0 two s is front purged short.1 again (none_front (kept_texts w (chain w s) front) kept_so.0 (subst NoneUnavailable all others)) none same in
-    (kept_so.0, inl (all ∙ ap (λ texts. texts ++ kept_so.0) alike))
+    let alike = callers_are_told_alike w short.0 two s front purged is short.1 again same (none_front (kept_texts w (chain w s) front) kept_so.0 (subst NoneUnavailable all others)) none in
+    (kept_so.0, inl (all ∙ ap (λ texts. texts ++ kept_so.0) (sym alike)))
 
 pub calls_tell_alike_as_far : (old new old_too new_too : Shown) → ((w : World) → old.stands w → IsWorld w) → CallsTellAlikeAsFar old new old_too new_too
-calls_tell_alike_as_far old new old_too new_too sound w s pieces messages rest end before now before_too now_too unread written written_new unread_too written_too written_too_new result result_too stands honest stands_too honest_too are ends full purged others none =
+calls_tell_alike_as_far old new old_too new_too sound w s messages end result result_too calls others none =
     let marks : List Bool = kept_for w s messages in
-    let first = first_messages old new before now (concat pieces ++ rest) unread written written_new result messages end
-    (messages_make_a_stream pieces messages rest end are ends) full in
-    let second = first_messages old_too new_too before_too now_too (concat (marked marks pieces) ++ rest) unread_too written_too written_too_new result_too (marked marks messages) end
-    (messages_make_a_stream (marked marks pieces) (marked marks messages) rest end (marked_messages marks pieces messages are) ends) purged in
+    let full = calls.full in
+    let purged = calls.purged in
+    let first = first_messages old new _ _ (concat calls.pieces ++ calls.rest) _ _ _ result messages end
+    (messages_make_a_stream calls.pieces messages calls.rest end calls.are calls.ends) full in
+    let second = first_messages old_too new_too _ _ (concat (marked marks calls.pieces) ++ calls.rest) _ _ _ result_too (marked marks messages) end
+    (messages_make_a_stream (marked marks calls.pieces) (marked marks messages) calls.rest end (marked_messages marks calls.pieces messages calls.are) calls.ends) purged in
     let cut = either_ends w (chain w s) full.exchanges purged.exchanges first.0 second.0 (ap (λ ms. marked (kept_for w s ms) ms) (sym first.1) ∙ second.1) in
-    let same : marked marks (map text_of full.exchanges) ≡ kept_texts w (chain w s) full.exchanges =
-    ap (λ ms. marked (kept_for w s ms) (map text_of full.exchanges)) first.1 ∙ marks_front w (chain w s) full.exchanges first.0 in
-    let run = full.through.runs.at honest w stands in
-    let again = purged.through.runs.at honest_too w stands_too in
+    let same = texts_kept w s messages full.exchanges first.0 first.1 in
+    let run = full.through.runs.at calls.honest w calls.stands in
+    let again = purged.through.runs.at calls.honest_too w calls.stands_too in
     subst (λ texts. AgreeAsFar texts (map text_of purged.exchanges)) (sym same)
-    (as_far w _ _ s (sound w stands) full.exchanges purged.exchanges run.run again.run (subst NoneUnavailable same others) none cut)
+    (as_far w _ _ s (sound w calls.stands) full.exchanges purged.exchanges run.run again.run (subst NoneUnavailable same others) none cut)

@@ -10,7 +10,7 @@ use Rattle.shelf.specs.Isolation.{is_kept, kept, marked}
 use Rattle.engine.specs.Ask as spec
 use Rattle.engine.specs.Exchange.{Exchange, message_of, event_of, answer_of}
 use Rattle.engine.specs.Reply.{text_of}
-use Rattle.engine.specs.Calls.{NoneUnavailable}
+use Rattle.engine.specs.Headline.{NoneUnavailable, kept_messages, kept_texts}
 
 -- a run over the first messages
 pub run_front : (w new : World) (xs more : List Exchange) → Run w (map event_of (xs ++ more)) (map answer_of (xs ++ more)) new
@@ -31,14 +31,6 @@ texts_front [] more = refl
 texts_front (x ∷ xs) more = ap (λ texts. text_of x ∷ texts) (texts_front xs more)
 
 -- ---- what is kept
-
--- the texts of the kept messages among these
-abbrev pub kept_texts : World → List (List ℕ) → List Exchange → List (List ℕ)
-kept_texts w ss xs = marked (kept w ss (map event_of xs)) (map text_of xs)
-
--- the kept messages among these
-abbrev pub kept_messages : World → List (List ℕ) → List Exchange → List Request
-kept_messages w ss xs = marked (kept w ss (map event_of xs)) (map message_of xs)
 
 marked_nothing : {A : Type 0} (marks : List Bool) → marked {A = A} marks [] ≡ []
 marked_nothing [] = refl

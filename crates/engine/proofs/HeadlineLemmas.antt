@@ -1,5 +1,5 @@
 -- The laws of runs, in bytes.
-use Rattle.std.proofs.Common.{◌≡◌, ◌⊎◌, ℕ, List, [], ◌∷◌, Bool, true, false, Option, Some, None, refl, ◌∙◌, sym, ap, subst, inl, inr, arith}
+use Rattle.std.proofs.Common.{◌≡◌, ◌≢◌, ◌⊎◌, ℕ, List, [], ◌∷◌, Bool, true, false, Option, Some, None, refl, ◌∙◌, sym, ap, subst, inl, inr, arith}
 use Rattle.std.specs.Prelude.{map}
 use Rattle.std.specs.FinMap as fin
 use Rattle.modver.specs.SemanticVersion.{SemanticVersion, version_text}
@@ -15,8 +15,8 @@ use Rattle.shelf.specs.declared.reply.Answer.{Answer}
 use Rattle.shelf.specs.declared.reply.Answer.TheVariants.{Replied, Failed}
 use Rattle.shelf.specs.declared.reply.Reply.{Reply}
 use Rattle.shelf.specs.declared.reply.Reply.TheVariants as reply
-use Rattle.shelf.specs.Machine.{Run, keyed_reply, query_reply, gomod_reply, zip_reply, info_reply, latest_of, latest_reply}
-use Rattle.shelf.specs.Isolation.{kept, marked, belongs}
+use Rattle.shelf.specs.Machine.{Run, after, keyed_reply, query_reply, gomod_reply, zip_reply, info_reply, latest_of, latest_reply}
+use Rattle.shelf.specs.Isolation.{is_kept, marked, belongs, IsAnsweredIfKept, KeptAnswered, IsReplied, AllReplied}
 use Rattle.shelf.specs.Immutability.{IsOfVersion, IsFound, IsFailed}
 use Rattle.shelf.proofs.Isolated.{purged_runs_agree}
 use Rattle.shelf.proofs.Latest.{latest_is_the_top, none_is_latest}
@@ -25,7 +25,7 @@ use Rattle.engine.specs.Ask as spec
 use Rattle.engine.specs.Ask.{ask_of}
 use Rattle.engine.specs.Exchange.{Exchange, message_of, event_of, answer_of}
 use Rattle.engine.specs.Reply.{page_of, page_for, page_status, bytes_of, text_of, status_of}
-use Rattle.engine.specs.Headline.{unavailable, CallersAreToldAlike, BytesStayServed, TellsLatest, LatestIsWritten}
+use Rattle.engine.specs.Headline.{unavailable, NoneUnavailable, are_kept, kept_messages, kept_texts, CallersAreToldAlike, BytesStayServed, TellsLatest, LatestIsWritten}
 
 -- ---- nothing of others
 
@@ -56,15 +56,41 @@ marked_texts (false ∷ marks) [] = refl
 marked_texts (true ∷ marks) (x ∷ xs) = ap (λ ts. text_of x ∷ ts) (marked_texts marks xs)
 marked_texts (false ∷ marks) (x ∷ xs) = marked_texts marks xs
 
+-- a message that was not answered by the 503 was answered
+answered : (m : Request) (a : Answer) → bytes_of m a ≢ unavailable → IsAnsweredIfKept true a
+answered m (Replied r) other = tt
+answered m (Failed fault) other = absurd (other refl)
+
+kept_answered : (w : World) (ss : List (List ℕ)) (xs : List Exchange) → NoneUnavailable (kept_texts w ss xs)
+    → KeptAnswered w ss (map event_of xs) (map answer_of xs)
+kept_answered w ss [] none = tt
+kept_answered w ss (x ∷ xs) none =
+    let next : World = after w (event_of x) in
+    elim (is_kept w ss (event_of x)) as (λ b. NoneUnavailable (marked (b ∷ are_kept next ss xs) (text_of x ∷ map text_of xs)) → IsAnsweredIfKept b (answer_of x) × KeptAnswered next ss (map event_of xs) (map answer_of xs)) [
+      | true ↦ λ n. (answered x.message (answer_of x) n.0, kept_answered next ss xs n.1)
+      | false ↦ λ n. (tt, kept_answered next ss xs n)
+    ] none
+
+replied : (m : Request) (a : Answer) → bytes_of m a ≢ unavailable → IsReplied a
+replied m (Replied r) other = tt
+replied m (Failed fault) other = absurd (other refl)
+
+all_replied : (xs : List Exchange) → NoneUnavailable (map text_of xs) → AllReplied (map answer_of xs)
+all_replied [] none = tt
+all_replied (x ∷ xs) none = (replied x.message (answer_of x) none.0, all_replied xs none.1)
+
 pub callers_are_told_alike : CallersAreToldAlike
-callers_are_told_alike old one two s full purged is run told same again all =
-    let marks : List Bool = kept old (chain one s) (map event_of full) in
+callers_are_told_alike old one two s full purged is run again same others none =
+    let marks : List Bool = are_kept old (chain one s) full in
     let events : map event_of purged ≡ marked marks (map event_of full) =
     events_are purged ∙ ap (λ ms. map spec.event_of ms) same ∙ sym (marked_events marks (map message_of full)) ∙ ap (marked marks) (sym (events_are full)) in
     let answers : marked marks (map answer_of full) ≡ map answer_of purged =
-    purged_runs_agree old one two s (map event_of full) (map answer_of full) (map answer_of purged) is run told
-    (subst (λ es. Run old es (map answer_of purged) two) events again) all in
-    marked_texts marks full ∙ ap (texts_for (marked marks (map message_of full))) answers ∙ ap (λ ms. texts_for ms (map answer_of purged)) (sym same) ∙ sym (texts_are purged)
+    purged_runs_agree old one two s (map event_of full) (map answer_of full) (map answer_of purged) is run (kept_answered old (chain one s) full others)
+    (subst (λ es. Run old es (map answer_of purged) two) events again) (all_replied purged none) in
+    texts_are purged
+    ∙ ap (λ ms. texts_for ms (map answer_of purged)) same
+    ∙ ap (texts_for (kept_messages old (chain one s) full)) (sym answers)
+    ∙ sym (marked_texts marks full)
 
 -- ---- a query of one version or of the latest
 
@@ -103,21 +129,21 @@ failed_text m (Replied r) never = absurd never
 failed_text m (Failed fault) failed = refl
 
 pub bytes_stay_served : BytesStayServed
-bytes_stay_served old mid new s k later q first last between is own one asks ok run later_own asks_again again =
+bytes_stay_served old mid new s k later q first last events answers is own one asks ok run later_own asks_again again =
     by_answer (answer_of first) refl
   where
     by_answer : (a : Answer) → answer_of first ≡ a → (text_of last ≡ text_of first) ⊎ (text_of last ≡ unavailable)
     by_answer (Failed fault) told =
         let wrong : ◌≡◌ {A = ℕ} 503 200 = sym (ap (λ a. page_status (page_for first.message a)) told) ∙ ok in absurd (omega arith)
     by_answer (Replied r) told =
-        let before : Run old (Asked (Get k q) ∷ map event_of between) (Replied r ∷ map answer_of between) mid =
-        subst (λ e. Run old (e ∷ map event_of between) (Replied r ∷ map answer_of between) mid) (ap Asked asks)
-        (subst (λ a. Run old (event_of first ∷ map event_of between) (a ∷ map answer_of between) mid) told run) in
+        let before : Run old (Asked (Get k q) ∷ events) (Replied r ∷ answers) mid =
+        subst (λ e. Run old (e ∷ events) (Replied r ∷ answers) mid) (ap Asked asks)
+        (subst (λ a. Run old (event_of first ∷ events) (a ∷ answers) mid) told run) in
         let after : Run mid (Asked (Get later q) ∷ []) (answer_of last ∷ []) new = subst (λ e. Run mid (e ∷ []) (answer_of last ∷ []) new) (ap Asked asks_again) again in
         let reply : r ≡ query_reply old s q = keyed old s k q r own before.0 in
         let status = sym (ap (λ a. page_status (page_for first.message a)) (told ∙ ap Replied reply)) ∙ ok in
         let found : IsFound r = subst IsFound (sym reply) (found_reply first.message old s q one status) in
-        elim (stays_served old mid new s k later q r (map event_of between) (map answer_of between) (answer_of last) is own one found before later_own after) [
+        elim (stays_served old mid new s k later q r events answers (answer_of last) is own one found before later_own after) [
           | inl same ↦ inl (ap (bytes_of last.message) same ∙ found_bytes last.message first.message r found ∙ ap (bytes_of first.message) (sym told))
           | inr failed ↦ inr (failed_text last.message (answer_of last) failed)
         ]

@@ -1,6 +1,6 @@
 -- Two calls that answer one stream, the second without the bytes of others' messages.
 use Rattle.std.specs.Prelude.{◌≡◌, ◌≢◌, ◌⊎◌, ℕ, List, [], ◌++◌, Bool, Option, Some, map, Result, Ok}
-use Rattle.std.specs.List.{AllByRecursion, concat}
+use Rattle.std.specs.List.{concat}
 use Rattle.wire.specs.Message.{Request, End, clean, too_large, bad, Ends}
 use Rattle.wire.specs.Pieces.{AreMessages}
 use Rattle.wire.specs.Reply.{fixed_bytes}
@@ -10,7 +10,7 @@ use Rattle.world.specs.World.{World, chain}
 use Rattle.shelf.specs.Isolation.{kept, marked}
 use Rattle.engine.specs.Ask.{event_of}
 use Rattle.engine.specs.Exchange.{Exchange, message_of}
-use Rattle.engine.specs.Headline.{unavailable}
+use Rattle.engine.specs.Headline.{NoneUnavailable}
 use Rattle.engine.specs.Reply.{text_of}
 use Rattle.engine.specs.Served.{Serves}
 use Rattle.engine.specs.declared.fault.Io.{Io}
@@ -19,15 +19,39 @@ use Rattle.engine.specs.declared.fault.Io.{Io}
 abbrev pub kept_for : World → List ℕ → List Request → List Bool
 kept_for w s messages = kept w (chain w s) (map event_of messages)
 
--- none of the texts is the 503
-abbrev pub NoneUnavailable : List (List ℕ) → Type 0
-NoneUnavailable texts = AllByRecursion (λ text. text ≢ unavailable) texts
-
 -- what is written at the end of a stream: nothing, the 413, or the 400
 abbrev pub end_bytes : End → List ℕ
 end_bytes clean = []
 end_bytes too_large = fixed_bytes TooLarge
 end_bytes bad = fixed_bytes BadRequest
+
+-- Two calls of `answer_all` over stores that stood for one world, each on an honest disk. The stream is these messages, the bytes of each
+-- a piece, and then a rest with this end. The one call was told all of it, the other all but the pieces of others' messages.
+pub record AreTwoCalls
+    (old new old_too new_too : Shown) (w : World) (s : List ℕ) (messages : List Request) (end : End)
+    (result result_too : Result (Unit {0}) Io) : Type 0 where
+  pub stands : old.stands w
+  pub stands_too : old_too.stands w
+  pub honest : new.is_honest
+  pub honest_too : new_too.is_honest
+  pub pieces : List (List ℕ)
+  pub rest : List ℕ
+  pub are : AreMessages pieces messages
+  pub ends : Ends rest end
+  pub before : ℕ
+  pub now : ℕ
+  pub before_too : ℕ
+  pub now_too : ℕ
+  pub unread : Option (List ℕ)
+  pub unread_too : Option (List ℕ)
+  pub written : Option (List ℕ)
+  pub written_new : Option (List ℕ)
+  pub written_too : Option (List ℕ)
+  pub written_too_new : Option (List ℕ)
+  pub full : Serves old new before now (Some (concat pieces ++ rest)) unread written written_new result
+  pub purged :
+      Serves old_too new_too before_too now_too (Some (concat (marked (kept_for w s messages) pieces) ++ rest)) unread_too
+      written_too written_too_new result_too
 
 -- What two calls wrote, the one for these messages and the other for those that are marked: a text for each message, the same in both,
 -- and then the same for the end.
@@ -39,38 +63,24 @@ pub record WriteAlike
   pub wrote : out ≡ concat (map text_of one) ++ end_bytes end
   pub wrote_too : out_too ≡ concat (marked marks (map text_of one)) ++ end_bytes end
 
--- The stream is these messages, the bytes of each a piece, and then a rest with this end. One call was told all of it, another one, over
--- any store that stood for the same world, all but the pieces of others' messages. Both came to the end, and neither wrote the 503: not
--- in the place of what was left, and not for a message that is kept. Then they wrote alike.
+-- Where both ended well and neither wrote the 503, not in the place of what was left, and not for a message that is kept, they wrote alike.
 abbrev pub CallsTellAlike : Shown → Shown → Shown → Shown → Type 0
 CallsTellAlike old new old_too new_too =
-    (w : World) (s : List ℕ) (pieces : List (List ℕ)) (messages : List Request) (rest : List ℕ) (end : End)
-    (before now before_too now_too : ℕ) (unread written written_new unread_too written_too written_too_new : Option (List ℕ))
-    → old.stands w → new.is_honest → old_too.stands w → new_too.is_honest
-    → AreMessages pieces messages → Ends rest end
-    → (full : Serves old new before now (Some (concat pieces ++ rest)) unread written written_new (Ok tt))
-    → (purged : Serves old_too new_too before_too now_too
-    (Some (concat (marked (kept_for w s messages) pieces) ++ rest)) unread_too written_too written_too_new (Ok tt))
-    → full.ends.1.0 ≢ Some Unavailable → NoneUnavailable (marked (kept_for w s messages) (map text_of full.exchanges))
-    → purged.ends.1.0 ≢ Some Unavailable → NoneUnavailable (map text_of purged.exchanges)
-    → WriteAlike messages (kept_for w s messages) end full.exchanges purged.exchanges full.out purged.out
+    (w : World) (s : List ℕ) (messages : List Request) (end : End)
+    (calls : AreTwoCalls old new old_too new_too w s messages end (Ok tt) (Ok tt)) → let marks : List Bool = kept_for w s messages in
+    calls.full.ends.1.0 ≢ Some Unavailable → calls.purged.ends.1.0 ≢ Some Unavailable
+    → NoneUnavailable (marked marks (map text_of calls.full.exchanges)) → NoneUnavailable (map text_of calls.purged.exchanges)
+    → WriteAlike messages marks end calls.full.exchanges calls.purged.exchanges calls.full.out calls.purged.out
 
--- the texts of the one list begin with those of the other
+-- the one list begins with the other
 abbrev pub AgreeAsFar : List (List ℕ) → List (List ℕ) → Type 0
 AgreeAsFar one two = (more : List (List ℕ)) × ((one ≡ two ++ more) ⊎ (two ≡ one ++ more))
 
--- However the two calls ended, by a failed read or write or by the 503 in the place of what was left, which may be others': as far as
--- both answered the messages that are kept, and none of these by the 503, they are written the same.
+-- However they ended, by a failed read or write or by the 503 in the place of what was left, which may be others': as far as both answered
+-- the messages that are kept, and none of these by the 503, they are written the same.
 abbrev pub CallsTellAlikeAsFar : Shown → Shown → Shown → Shown → Type 0
 CallsTellAlikeAsFar old new old_too new_too =
-    (w : World) (s : List ℕ) (pieces : List (List ℕ)) (messages : List Request) (rest : List ℕ) (end : End)
-    (before now before_too now_too : ℕ) (unread written written_new unread_too written_too written_too_new : Option (List ℕ))
-    (result result_too : Result (Unit {0}) Io)
-    → old.stands w → new.is_honest → old_too.stands w → new_too.is_honest
-    → AreMessages pieces messages → Ends rest end
-    → (full : Serves old new before now (Some (concat pieces ++ rest)) unread written written_new result)
-    → (purged : Serves old_too new_too before_too now_too
-    (Some (concat (marked (kept_for w s messages) pieces) ++ rest)) unread_too written_too written_too_new result_too)
-    → NoneUnavailable (marked (kept_for w s messages) (map text_of full.exchanges))
-    → NoneUnavailable (map text_of purged.exchanges)
-    → AgreeAsFar (marked (kept_for w s messages) (map text_of full.exchanges)) (map text_of purged.exchanges)
+    (w : World) (s : List ℕ) (messages : List Request) (end : End) (result result_too : Result (Unit {0}) Io)
+    (calls : AreTwoCalls old new old_too new_too w s messages end result result_too) → let marks : List Bool = kept_for w s messages in
+    NoneUnavailable (marked marks (map text_of calls.full.exchanges)) → NoneUnavailable (map text_of calls.purged.exchanges)
+    → AgreeAsFar (marked marks (map text_of calls.full.exchanges)) (map text_of calls.purged.exchanges)

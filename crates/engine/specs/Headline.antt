@@ -1,5 +1,6 @@
 -- What the callers of a stream are told, in bytes: nothing of others, the same for good, and the latest version by the rules' words.
-use Rattle.std.specs.Prelude.{ℕ, ◌≡◌, ◌⊎◌, List, [], ◌∷◌, Option, map}
+use Rattle.std.specs.Prelude.{ℕ, ◌≡◌, ◌≢◌, ◌⊎◌, List, [], ◌∷◌, Bool, Option, map}
+use Rattle.std.specs.List.{AllByRecursion}
 use Rattle.latest.specs.Latest.{IsTop}
 use Rattle.modver.specs.SemanticVersion.{SemanticVersion}
 use Rattle.wire.specs.Message.{Request}
@@ -8,10 +9,12 @@ use Rattle.wire.specs.declared.reply.Fixed.TheVariants.{NotFound, Unavailable}
 use Rattle.wire.specs.declared.reply.Kind.TheVariants.{Json}
 use Rattle.world.specs.World.{World, IsWorld, chain}
 use Rattle.shelf.specs.declared.ask.Ask.TheVariants.{Get}
+use Rattle.shelf.specs.declared.ask.Event.{Event}
 use Rattle.shelf.specs.declared.ask.Query.{Query}
 use Rattle.shelf.specs.declared.ask.Query.TheVariants.{Latest}
+use Rattle.shelf.specs.declared.reply.Answer.{Answer}
 use Rattle.shelf.specs.Machine.{Run}
-use Rattle.shelf.specs.Isolation.{kept, marked, belongs, KeptAnswered, AllReplied}
+use Rattle.shelf.specs.Isolation.{kept, marked, belongs}
 use Rattle.shelf.specs.Immutability.{IsOfVersion}
 use Rattle.shelf.specs.PathLaws.{unretracted_versions, HasTime}
 use Rattle.engine.specs.Ask.{ask_of}
@@ -22,28 +25,42 @@ use Rattle.engine.specs.Reply.{text_of, status_of}
 abbrev pub unavailable : List ℕ
 unavailable = fixed_bytes Unavailable
 
+-- none of the texts is the 503
+abbrev pub NoneUnavailable : List (List ℕ) → Type 0
+NoneUnavailable texts = AllByRecursion (λ text. text ≢ unavailable) texts
+
 -- ---- nothing of others
 
--- From one world the messages of a stream were answered, and those that are left of it without the messages of others, which are not
--- kept: those that are kept are written the same, where none of them met a fault.
+-- which of the messages are kept: not one whose key belongs, at its moment, to another shelf than these
+abbrev pub are_kept : World → List (List ℕ) → List Exchange → List Bool
+are_kept w ss exchanges = kept w ss (map event_of exchanges)
+
+-- the messages that are kept, and the texts written for them
+abbrev pub kept_messages : World → List (List ℕ) → List Exchange → List Request
+kept_messages w ss exchanges = marked (are_kept w ss exchanges) (map message_of exchanges)
+
+abbrev pub kept_texts : World → List (List ℕ) → List Exchange → List (List ℕ)
+kept_texts w ss exchanges = marked (are_kept w ss exchanges) (map text_of exchanges)
+
+-- From one world some messages were answered, and in another run those that are kept of them, the others' taken out: these are written the
+-- same, where none of them was answered by the 503.
 abbrev pub CallersAreToldAlike : Type 0
 CallersAreToldAlike =
     (old one two : World) (s : List ℕ) (full purged : List Exchange) → IsWorld old
-    → Run old (map event_of full) (map answer_of full) one
-    → KeptAnswered old (chain one s) (map event_of full) (map answer_of full)
-    → map message_of purged ≡ marked (kept old (chain one s) (map event_of full)) (map message_of full)
-    → Run old (map event_of purged) (map answer_of purged) two → AllReplied (map answer_of purged)
-    → marked (kept old (chain one s) (map event_of full)) (map text_of full) ≡ map text_of purged
+    → Run old (map event_of full) (map answer_of full) one → Run old (map event_of purged) (map answer_of purged) two
+    → map message_of purged ≡ kept_messages old (chain one s) full
+    → NoneUnavailable (kept_texts old (chain one s) full) → NoneUnavailable (map text_of purged)
+    → map text_of purged ≡ kept_texts old (chain one s) full
 
 -- ---- the same for good
 
--- Once a GET of one version by a key of s was answered 200, then after any messages the same GET by any key that then belongs to s is
+-- Once a GET of one version by a key of s was answered 200, then after any events the same GET by any key that then belongs to s is
 -- written the same, or the 503.
 abbrev pub BytesStayServed : Type 0
 BytesStayServed =
-    (old mid new : World) (s k later : List ℕ) (q : Query) (first last : Exchange) (between : List Exchange)
+    (old mid new : World) (s k later : List ℕ) (q : Query) (first last : Exchange) (events : List Event) (answers : List Answer)
     → IsWorld old → belongs old k s → IsOfVersion q → ask_of first.message ≡ Get k q → status_of first ≡ 200
-    → Run old (map event_of (first ∷ between)) (map answer_of (first ∷ between)) mid
+    → Run old (event_of first ∷ events) (answer_of first ∷ answers) mid
     → belongs mid later s → ask_of last.message ≡ Get later q → Run mid (event_of last ∷ []) (answer_of last ∷ []) new
     → (text_of last ≡ text_of first) ⊎ (text_of last ≡ unavailable)
 

@@ -5,12 +5,14 @@ import re
 import shutil
 import signal
 import subprocess
+import threading
 
 from planted_lib.repository import PARTS, ROOT, RT, Unusable, read, write
 
 STAMP = "out/planted-proved"
 # The process groups of the checks that run, and the folders that they run in.
 RUNNING, ROOMS = set(), set()
+ENDS = threading.Event()
 
 # What a message says of a body.
 REFUTED = "an obligation is false"
@@ -35,6 +37,9 @@ def check(folder):
         RUNNING.add(ran.pid)
         text = ran.communicate()[0]
         RUNNING.discard(ran.pid)
+    if ENDS.is_set():
+        # (nothing is made anew while the rooms are removed)
+        threading.Event().wait()
     return ran.returncode, text
 
 
@@ -47,6 +52,7 @@ def copy(folder, to, parts):
 
 def stop(*_):
     """Ends the checks that run, removes their rooms, and ends."""
+    ENDS.set()
     for pid in [*RUNNING]:
         with contextlib.suppress(ProcessLookupError):
             os.killpg(pid, signal.SIGKILL)

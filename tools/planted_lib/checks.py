@@ -10,7 +10,7 @@ import threading
 from planted_lib.repository import PARTS, ROOT, RT, Unusable, read, write
 
 STAMP = "out/planted-proved"
-# The process groups of the checks that run, and the folders that they run in.
+# The process groups of the commands that run, the folders that they work in, and whether the tool ends.
 RUNNING, ROOMS = set(), set()
 ENDS = threading.Event()
 
@@ -30,28 +30,35 @@ LOST_NAME = re.compile(r": (?:Q: )*(?:record Q.* has no field|.{,60}(?:is not in
 STALE = re.compile(r"module .Rattle-\w+-.*Run the lower steps again")
 
 
-def check(folder):
-    """Runs rt check in a crate's folder, and returns its status and what it printed."""
+def run(words, folder):
+    """Runs a command in a folder, and returns its status and what it printed. It does not return once the tool ends."""
     how = {"stdin": subprocess.DEVNULL, "stdout": subprocess.PIPE, "stderr": subprocess.STDOUT, "errors": "replace"}
-    with subprocess.Popen([*RT, "check", "--jobs", "1"], cwd=folder, start_new_session=True, **how) as ran:
+    if ENDS.is_set():
+        threading.Event().wait()
+    with subprocess.Popen(words, cwd=folder, start_new_session=True, **how) as ran:
         RUNNING.add(ran.pid)
         text = ran.communicate()[0]
         RUNNING.discard(ran.pid)
     if ENDS.is_set():
-        # (nothing is made anew while the rooms are removed)
         threading.Event().wait()
     return ran.returncode, text
 
 
-def copy(folder, to, parts):
-    """Copies parts of a folder."""
-    for part in parts:
-        if os.path.isdir(f"{folder}/{part}"):
-            shutil.copytree(f"{folder}/{part}", f"{to}/{part}")
+def check(folder):
+    """Runs rt check in a crate's folder."""
+    return run([*RT, "check", "--jobs", "1"], folder)
+
+
+def copy(folder, to):
+    """Copies a folder, which there is, to a path where nothing is."""
+    os.makedirs(os.path.dirname(to), exist_ok=True)
+    status, text = run(["cp", "-r", folder, to], ".")
+    if status:
+        raise Unusable(f"it cannot be copied: {short(text)}")
 
 
 def stop(*_):
-    """Ends the checks that run, removes their rooms, and ends."""
+    """Ends the commands that run, removes their folders, and ends."""
     ENDS.set()
     for pid in [*RUNNING]:
         with contextlib.suppress(ProcessLookupError):
@@ -79,8 +86,10 @@ class Room:
     def __init__(self, crate, root, keep):
         self.crate, self.root, self.keep, self.checks = crate, root, keep, 0
         for it in [*crate.below, crate]:
-            copy(it.folder, f"{root}/crates/{it.name}", [*PARTS, "out/rlib" if it is not crate else "out/incremental"])
-        os.rename(f"{root}/crates/{crate.name}", f"{root}/kept")
+            to = f"{root}/crates/{it.name}" if it is not crate else f"{root}/kept"
+            for part in (*PARTS, "out/rlib" if it is not crate else "out/incremental"):
+                if os.path.isdir(f"{it.folder}/{part}"):
+                    copy(f"{it.folder}/{part}", f"{to}/{part}")
         write(f"{root}/crates.txt", "".join(f"{it.line}\n" for it in [*crate.below, crate]))
         if os.path.isfile(f"{ROOT}/HANDLES"):
             shutil.copy(f"{ROOT}/HANDLES", f"{root}/HANDLES")
@@ -89,7 +98,7 @@ class Room:
         """Checks a fresh copy of the crate with these bodies in it, and returns what was said of it."""
         folder = f"{self.root}/crates/{self.crate.name}"
         shutil.rmtree(folder, ignore_errors=True)
-        shutil.copytree(f"{self.root}/kept", folder)
+        copy(f"{self.root}/kept", folder)
         for path in {path for body in bodies for path, _ in body.lines}:
             rows = read(f"{folder}/{path}").split("\n")
             for file, at, line in [(*place, line) for body in bodies for place, line in body.lines.items()]:

@@ -1,0 +1,94 @@
+"""The crates of the repository in which the tool runs, and its files."""
+import hashlib
+import os
+import subprocess
+import sys
+from dataclasses import dataclass, field
+
+RT = os.environ.get("RT", "rt").split()
+PARTS = ("src", "specs", "proofs")
+
+
+class Unusable(Exception):
+    """Why an edit, or a crate, cannot be tried."""
+
+
+def read(path):
+    with open(path, encoding="utf-8", errors="replace") as it:
+        return it.read()
+
+
+def write(path, text):
+    with open(path, "w", encoding="utf-8") as it:
+        it.write(text)
+
+
+def root_above(folder):
+    """Returns the nearest folder at or above with a crates.txt."""
+    while not os.path.isfile(f"{folder}/crates.txt"):
+        if folder == os.path.dirname(folder):
+            sys.exit("planted: no crates.txt stands here or above: run it in the repository")
+        folder = os.path.dirname(folder)
+    return folder
+
+
+ROOT = root_above(os.getcwd())
+
+
+@dataclass
+class Crate:
+    """A crate of crates.txt, with the repository's crates below it, lowest first."""
+
+    name: str
+    line: str
+    below: list = field(default_factory=list)
+
+    @property
+    def folder(self):
+        return f"{ROOT}/crates/{self.name}"
+
+    def files(self):
+        """Returns the paths of the files that a check reads, within the crate's folder."""
+        found = []
+        for part in PARTS:
+            for at, _, names in os.walk(f"{self.folder}/{part}"):
+                found += [os.path.relpath(f"{at}/{it}", self.folder) for it in names]
+        return sorted(found)
+
+    def sum(self):
+        """Returns a sum of all that a check of the crate reads."""
+        made = hashlib.sha256(subprocess.run([*RT, "version"], capture_output=True).stdout)
+        for crate in [*self.below, self]:
+            made.update(crate.line.encode())
+            for path in crate.files():
+                made.update(f"{crate.name}/{path}\n{read(f'{crate.folder}/{path}')}".encode())
+        return made.hexdigest()
+
+
+def crates_of_repository():
+    """Returns the crates of crates.txt by name, each after those below it."""
+    rows = [it.partition("#")[0].strip() for it in read(f"{ROOT}/crates.txt").split("\n")]
+    rows = {it.partition(":")[0].split()[0]: it for it in rows if it}
+    found = {}
+
+    def add(name):
+        if name not in found:
+            uses = [add(it) for it in rows[name].partition(":")[2].split() if it in rows]
+            below = {low.name: low for it in uses for low in [*it.below, it]}
+            found[name] = Crate(name, rows[name], [*below.values()])
+        return found[name]
+
+    for name in rows:
+        add(name)
+    return found
+
+
+def changed_since(rev, crates):
+    """Returns the crates whose folder, or that of a crate below, differs from the revision."""
+    touched = set()
+    for words in (["diff", "--name-only", rev, "--"], ["ls-files", "-o", "--exclude-standard"]):
+        ran = subprocess.run(["git", "-C", ROOT, *words, "crates"], capture_output=True, text=True)
+        if ran.returncode:
+            sys.exit(f"planted: {ran.stderr.strip()}")
+        touched |= {it.split("/")[1] for it in ran.stdout.split("\n") if it.count("/") > 1}
+    return [it for it in crates if touched & {it.name, *[low.name for low in it.below]}]

@@ -50,9 +50,9 @@ scans pos acc seg nondigit lead (b ∷ rest) =
     either (is_letter b) _ _ (scans pos acc (seg + 1) true lead rest)
     (either (is_ascii_digit b) _ _ (scans pos acc (seg + 1) nondigit (starts_zero lead seg b) rest)
     (either (b == 46) _ _
-      (either (seg == 0) _ _ (λ e. cc (ap (λ (x : Error). x.kind) e))
-      (either (is_bad_zero pos seg nondigit lead) _ _ (λ e. cc (ap (λ (x : Error). x.kind) e)) (scans pos (acc + seg + 1) 0 false false rest)))
-      (part pos acc seg nondigit lead)))
+    (either (seg == 0) _ _ (λ e. cc (ap (λ (x : Error). x.kind) e))
+    (either (is_bad_zero pos seg nondigit lead) _ _ (λ e. cc (ap (λ (x : Error). x.kind) e)) (scans pos (acc + seg + 1) 0 false false rest)))
+    (part pos acc seg nondigit lead)))
 
 identifier : (pos : Position) (xs : List ℕ) → BlamesText (identifier_of pos xs)
 identifier pos xs = chain (scan pos 0 0 false false xs) _ (scans pos 0 0 false false xs)

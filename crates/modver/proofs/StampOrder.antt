@@ -91,10 +91,10 @@ ranked (i ∷ xs) (j ∷ ys) (Some x) None r p q f g = refl
 ranked (i ∷ xs) (j ∷ ys) (Some x) (Some y) r p q f g = ap (λ (o : Ordering). ordering_then o r) (time-number x y p q)
 
 -- rank by class, then by time, then by precedence
-pub rank-by : (u v : SemanticVersion)
+pub rank_by : (u v : SemanticVersion)
     → ordering_then (nat_cmp (class_rank u) (class_rank v)) (ordering_then (time_cmp (option_map time_of_stamp (stamp_of u)) (option_map time_of_stamp (stamp_of v))) (precedence u v))
     ≡ rank_cmp u v
-rank-by u v = ranked u.identifiers v.identifiers (stamp_of u) (stamp_of v) (precedence u v) (stamp-digits u) (stamp-digits v) (no-stamp u) (no-stamp v)
+rank_by u v = ranked u.identifiers v.identifiers (stamp_of u) (stamp_of v) (precedence u v) (stamp-digits u) (stamp-digits v) (no-stamp u) (no-stamp v)
 
 -- ---- class
 

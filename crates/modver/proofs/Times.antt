@@ -122,7 +122,7 @@ numbers-digits text h = record {
 numbers-same : (text : List ℕ) → has_time_form text ≡ true → text ≡ time_text (numbers text)
 numbers-same text h =
     let number-at : (place n : ℕ) → list_all (λ f. f == 100) (take n (drop place time_form)) ≡ true → length (take n (drop place time_form)) ≡ n
-        → take n (drop place text) ≡ padded n (number_at text place n)
+    → take n (drop place text) ≡ padded n (number_at text place n)
     = λ place n letters size. (number time_form text place n h letters size).same in
     let size : 20 ≡ length text = length-fits time_form text h in
     next text _ _ 0 4 (number-at 0 4 refl refl)
@@ -191,8 +191,15 @@ exists-so at h =
 
 exists-passes : (at : DateTime) → Exists at → exists at ≡ true
 exists-passes at e =
-    rw (le-nat_le 1 at.month e.month.0, le-nat_le at.month 12 e.month.1, le-nat_le 1 at.day e.day.0, le-nat_le at.day (days_in_month at.year at.month) e.day.1,
-    lt-ltb at.hour 24 e.hour, lt-ltb at.minute 60 e.minute, lt-ltb at.second 60 e.second) refl
+    rw (
+      le-nat_le 1 at.month e.month.0,
+      le-nat_le at.month 12 e.month.1,
+      le-nat_le 1 at.day e.day.0,
+      le-nat_le at.day (days_in_month at.year at.month) e.day.1,
+      lt-ltb at.hour 24 e.hour,
+      lt-ltb at.minute 60 e.minute,
+      lt-ltb at.second 60 e.second,
+    ) refl
 
 -- ---- times
 

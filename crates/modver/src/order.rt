@@ -11,6 +11,7 @@ use std::cmp::Ordering;
 
 /// The order of precedence, in which the mark does not count. It takes no memory. (SemVer 2.0.0,
 /// section 11.)
+#[tactic(auto, using(crate::proofs::Orders::precedence_of))]
 pub fn compare(left: &Version, right: &Version) -> Ordering
     ensures { result ≡ precedence left.now right.now }
 {
@@ -41,6 +42,7 @@ fn compare_times(left: Option<TimeText>, right: Option<TimeText>) -> Ordering
 /// The order of rank, by which the latest version is chosen: releases above pre-releases above
 /// pseudo-versions; among pseudo-versions by stamp, else by precedence. It takes no memory. (Go
 /// Modules Reference, "GOPROXY protocol", `@latest`.)
+#[tactic(auto, using(crate::proofs::StampOrder::rank_by))]
 pub fn rank_compare(left: &Version, right: &Version) -> Ordering
     ensures { result ≡ rank_cmp left.now right.now }
 {

@@ -14,4 +14,3 @@ path_of t = if is_path t then Some t else None
 -- a text is that of some version
 abbrev pub IsVersionText : List ℕ → Type 0
 IsVersionText t = (v : SemanticVersion) × IsCanonical t v
-

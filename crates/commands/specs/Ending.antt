@@ -1,5 +1,5 @@
 -- How a command ends, by what the store told.
-use Rattle.std.specs.Prelude.{ℕ, ◌≡◌, Result, Ok, Err}
+use Rattle.std.specs.Prelude.{ℕ, ◌≡◌, List, codes, Result, Ok, Err}
 use Rattle.world.specs.World.{World}
 use Rattle.world.specs.Store.{Shown, Does, HasCause}
 use Rattle.world.specs.declared.registry.Registered.{Registered}
@@ -8,6 +8,18 @@ use Rattle.world.specs.declared.registry.StoreFault.{StoreFault}
 use Rattle.world.specs.declared.registry.StoreFault.TheVariants as fault
 use Rattle.commands.specs.declared.refusal.Refusal.{Refusal}
 use Rattle.commands.specs.declared.refusal.Refusal.TheVariants as refusal
+
+-- the word that tells why a command was refused
+abbrev pub word : Refusal → List ℕ
+word refusal.Name = codes "name"
+word refusal.Taken = codes "taken"
+word refusal.NoTeam = codes "no-team"
+word refusal.NoKey = codes "no-key"
+word refusal.Device = codes "device"
+word refusal.Memory = codes "memory"
+word refusal.BadSchema = codes "bad-schema"
+word refusal.NotEmpty = codes "not-empty"
+word refusal.Io = codes "io"
 
 -- how a command of the registry ends
 abbrev pub ending : Result Registered StoreFault → Result (Unit {0}) Refusal

@@ -3,7 +3,6 @@ ghost use Rattle.std.specs.Prelude.{◌≡◌};
 ghost use Rattle.commands.specs.Ending as spec;
 
 use std::alloc::AllocError;
-use std::fmt;
 use world::registry::{Registered, StoreFault};
 
 /// Why a command was refused, with exit status 1.
@@ -29,18 +28,21 @@ pub enum Refusal {
     Io,
 }
 
-impl fmt::Display for Refusal {
-    fn fmt<W: fmt::Write>(&self, f: &mut fmt::Formatter<W>) -> fmt::Result {
+impl Refusal {
+    /// The word that tells it.
+    pub fn word(self) -> &'static str
+        ensures { result.now ≡ spec.word self }
+    {
         match self {
-            Refusal::Name => write!(f, "name"),
-            Refusal::Taken => write!(f, "taken"),
-            Refusal::NoTeam => write!(f, "no-team"),
-            Refusal::NoKey => write!(f, "no-key"),
-            Refusal::Device => write!(f, "device"),
-            Refusal::Memory => write!(f, "memory"),
-            Refusal::BadSchema => write!(f, "bad-schema"),
-            Refusal::NotEmpty => write!(f, "not-empty"),
-            Refusal::Io => write!(f, "io"),
+            Refusal::Name => "name",
+            Refusal::Taken => "taken",
+            Refusal::NoTeam => "no-team",
+            Refusal::NoKey => "no-key",
+            Refusal::Device => "device",
+            Refusal::Memory => "memory",
+            Refusal::BadSchema => "bad-schema",
+            Refusal::NotEmpty => "not-empty",
+            Refusal::Io => "io",
         }
     }
 }

@@ -1,2 +1,4 @@
+pub mod Ending
 pub mod Opened
+pub mod Run
 pub mod Task

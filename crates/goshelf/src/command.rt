@@ -1,29 +1,19 @@
 //! One whole run of the program.
-ghost use Rattle.std.specs.Prelude.{◌≤◌};
+ghost use Rattle.std.specs.Prelude.{◌≡◌, ◌⊎◌};
+ghost use Rattle.clap.specs.Values.{kind_of};
+ghost use Rattle.goshelf.specs.Ending.{status_of, IsSilent};
+ghost use Rattle.goshelf.specs.Run.{EndsShown, Exits, Runs};
 
 use crate::arguments::{parser, task_of};
+use crate::ending::Ending;
 use crate::task::perform;
+use clap::ArgMatches;
 use clap::error::ErrorKind;
 use commands::refusal::Refusal;
 use std::io::{self, Read, Write};
 use std::rt::HostRuntime;
-
-/// How a run ended, if not well.
-#[derive(Drop)]
-enum Ending {
-    /// The command was refused.
-    Refused(Refusal),
-    /// The outcome of a publish that does not accept was printed.
-    Told,
-    /// The parser's text is to be shown: help, the version, or what is wrong with the words.
-    Shown(clap::Error),
-}
-
-impl From<Refusal> for Ending {
-    fn from(refusal: Refusal) -> Ending {
-        Ending::Refused(refusal)
-    }
-}
+use store::open::FileShelves;
+use world::shelves::Shelves;
 
 /// One whole run of the program, by the words after its name. It answers the exit status:
 /// 0 done, 1 refused with one line `goshelf: <word>` on `errors` (or, of a publish, with its outcome on `output`),
@@ -35,72 +25,81 @@ pub fn command<I: Read, O: Write, E: Write>(
     output: &mut O,
     errors: &mut E,
 ) -> u8
-    ensures { result ≤ 2 }
+    ensures { Exits ⟦<FileShelves as Shelves>⟧.shown ⟦<FileShelves as Shelves>⟧.failure_count
+        (I.remaining input.old) (I.remaining input.new) (O.contents output.old) (O.contents output.new)
+        (E.contents errors.old) (E.contents errors.new) result }
 {
-    match run(rt, words, input, output) {
-        Ok(()) => 0,
-        Err(Ending::Refused(refusal)) => refuse(refusal, errors),
-        Err(Ending::Told) => 1,
-        Err(Ending::Shown(error)) => show(error, output, errors),
-    }
+    let ending = run(rt, words, input, output, errors);
+    ending.tell(errors);
+    ending.status()
 }
 
-/// Does what the words say.
-fn run<I: Read, O: Write>(
+/// Does what the words say, or shows the parser's text.
+fn run<I: Read, O: Write, E: Write>(
     rt: &HostRuntime,
     words: &[String],
     input: &mut I,
     output: &mut O,
-) -> Result<(), Ending> {
-    let parser = match parser(rt.alloc()) {
-        Ok(parser) => parser,
-        Err(_) => return Err(Ending::Refused(Refusal::Memory)),
+    errors: &mut E,
+) -> Ending
+    ensures runs { Runs ⟦<FileShelves as Shelves>⟧.shown ⟦<FileShelves as Shelves>⟧.failure_count
+        (I.remaining input.old) (I.remaining input.new) (O.contents output.old) (O.contents output.new) result }
+    ensures silent { IsSilent (E.contents errors.old) (E.contents errors.new) result }
+{
+    let Ok(parser) = parser(rt.alloc()) else {
+        return Ending::Refused(Refusal::Memory);
     };
-    let matches = match parser.try_get_matches_from(words) {
-        Ok(matches) => matches,
-        Err(error) => return Err(Ending::Shown(error)),
-    };
-    match task_of(&matches) {
-        Some(task) => match perform(rt, &task, input, output)? {
-            true => Ok(()),
-            false => Err(Ending::Told),
-        },
-        None => Ok(()),
+    match parser.try_get_matches_from(words) {
+        Ok(matches) => perform_matched(rt, &matches, input, output),
+        Err(error) => show(error, output, errors),
     }
 }
 
-/// Tells why a command was refused.
-fn refuse<E: Write>(refusal: Refusal, errors: &mut E) -> u8
-    ensures { result ≤ 2 }
+/// Does the task that the words ask for. The parser refuses words without a command.
+fn perform_matched<I: Read, O: Write>(
+    rt: &HostRuntime,
+    matches: &ArgMatches<'_>,
+    input: &mut I,
+    output: &mut O,
+) -> Ending
+    ensures { Runs ⟦<FileShelves as Shelves>⟧.shown ⟦<FileShelves as Shelves>⟧.failure_count
+        (I.remaining input.old) (I.remaining input.new) (O.contents output.old) (O.contents output.new) result }
 {
-    let _ = writeln!(errors, "goshelf: {refusal}");
-    1
+    match task_of(matches) {
+        Some(task) => Ending::of_task(perform(rt, &task, input, output)),
+        None => Ending::BadUsage,
+    }
 }
 
 /// Shows the parser's text: help and the version on the output, what is wrong with the words on `errors`.
-fn show<O: Write, E: Write>(error: clap::Error, output: &mut O, errors: &mut E) -> u8
-    ensures { result ≤ 2 }
+fn show<O: Write, E: Write>(error: clap::Error, output: &mut O, errors: &mut E) -> Ending
+    ensures ends { EndsShown (kind_of error) result }
+    ensures silent { IsSilent (E.contents errors.old) (E.contents errors.new) result }
 {
-    if error.kind() == ErrorKind::OutOfMemory {
-        return refuse(Refusal::Memory, errors);
-    }
-    if error.use_stderr() {
-        let _ = write!(errors, "{error}");
-        return 2;
-    }
-    match write!(output, "{error}") {
-        Ok(()) => 0,
-        Err(_) => refuse(Refusal::Io, errors),
+    match error.kind() {
+        ErrorKind::OutOfMemory => Ending::Refused(Refusal::Memory),
+        ErrorKind::DisplayHelp | ErrorKind::DisplayVersion => match write!(output, "{error}") {
+            Ok(()) => Ending::Done,
+            Err(_) => Ending::Refused(Refusal::Io),
+        },
+        _ => {
+            let _ = write!(errors, "{error}");
+            Ending::BadUsage
+        }
     }
 }
 
-/// Tells that the words could not be had: one of them is not text, or memory was refused.
+/// Tells that the words could not be had: one of them is not text, or memory was refused. It answers the exit status.
 pub fn words_refused<E: Write>(error: io::Error, errors: &mut E) -> u8
-    ensures { result ≤ 2 }
+    ensures { (result ≡ status_of (Ending.Refused Refusal.Memory)) ⊎ (result ≡ status_of Ending.BadUsage) }
 {
-    if error.kind() == io::ErrorKind::OutOfMemory {
-        return refuse(Refusal::Memory, errors);
-    }
-    let _ = writeln!(errors, "error: an argument is not text");
-    2
+    let ended = match error.kind() {
+        io::ErrorKind::OutOfMemory => Ending::Refused(Refusal::Memory),
+        _ => {
+            let _ = writeln!(errors, "error: an argument is not text");
+            Ending::BadUsage
+        }
+    };
+    ended.tell(errors);
+    ended.status()
 }

@@ -5,6 +5,7 @@
 
 mod arguments;
 mod command;
+mod ending;
 mod task;
 #[cfg(test)]
 mod tests;

@@ -1,0 +1,36 @@
+-- How a run ends, and what it tells of it.
+use Rattle.std.specs.Prelude.{ℕ, List, ◌≡◌, ◌++◌, codes, Bool, true, false, Option, Result, Ok, Err, OnOk}
+use Rattle.std.specs.Io.KnownBytes.{Appends}
+use Rattle.std.specs.declared.io.Error.{Error}
+use Rattle.commands.specs.Ending.{word}
+use Rattle.commands.specs.declared.refusal.Refusal.{Refusal}
+use Rattle.goshelf.specs.declared.ending.Ending.{Ending}
+use Rattle.goshelf.specs.declared.ending.Ending.TheVariants.{Done, NotAccepted, Refused, BadUsage}
+
+-- by what a task told: that it is accepted, that a publish is not, or why it was refused
+abbrev pub ending_of : Result Bool Refusal → Ending
+ending_of (Ok true) = Done
+ending_of (Ok false) = NotAccepted
+ending_of (Err why) = Refused why
+
+-- the exit status
+abbrev pub status_of : Ending → ℕ
+status_of Done = 0
+status_of NotAccepted = 1
+status_of (Refused why) = 1
+status_of BadUsage = 2
+
+-- the line that tells why a command was refused
+abbrev pub line_of : Refusal → List ℕ
+line_of why = codes "goshelf: " ++ (word why ++ codes "\n")
+
+module _ (errors errors_new : Option (List ℕ)) where
+  -- nothing was written to the errors, but where the parser's text told there what is wrong with the words
+  abbrev pub IsSilent : Ending → Type 0
+  IsSilent BadUsage = Unit {0}
+  IsSilent other = errors_new ≡ errors
+
+  -- Where the command was refused, the line of its word was written to the errors, or that write failed; else nothing was.
+  abbrev pub Says : Ending → Type 0
+  Says (Refused why) = (written : Result (Unit {0}) Error) × OnOk written (Appends errors errors_new (line_of why))
+  Says other = errors_new ≡ errors

@@ -1,0 +1,47 @@
+-- What one run of the program does.
+use Rattle.std.specs.Prelude.{ℕ, List, ◌≡◌, ◌⊎◌, Bool, Option, Result}
+use Rattle.clap.specs.declared.error.kind.ErrorKind.{ErrorKind}
+use Rattle.clap.specs.declared.error.kind.ErrorKind.TheVariants.{DisplayHelp, DisplayVersion, OutOfMemory}
+use Rattle.commands.specs.declared.refusal.Refusal.{Refusal}
+use Rattle.commands.specs.declared.refusal.Refusal.TheVariants.{Io, Memory}
+use Rattle.world.specs.Store.{Shown}
+use Rattle.goshelf.specs.Ending.{ending_of, status_of, IsSilent, Says}
+use Rattle.goshelf.specs.Task.{Performs}
+use Rattle.goshelf.specs.declared.ending.Ending.{Ending}
+use Rattle.goshelf.specs.declared.ending.Ending.TheVariants.{Done, Refused, BadUsage}
+use Rattle.goshelf.specs.declared.task.Task.{Task}
+
+-- How a run ends that shows the parser's text in place of a task, by the text's kind: help and the version are what was asked
+-- for, and Io where they can't be written; every other text is of bad usage.
+abbrev pub EndsShown : ErrorKind → Ending → Type 0
+EndsShown DisplayHelp ended = (ended ≡ Done) ⊎ (ended ≡ Refused Io)
+EndsShown DisplayVersion ended = (ended ≡ Done) ⊎ (ended ≡ Refused Io)
+EndsShown OutOfMemory ended = ended ≡ Refused Memory
+EndsShown other ended = ended ≡ BadUsage
+
+module _ {S : Type 0} (shown : S → Shown) (failures : S → ℕ) (unread unread_new written written_new : Option (List ℕ)) where
+  -- a task was done, and the run ends by what it told
+  pub record DoesTask (ended : Ending) : Type 0 where
+    pub task : Task
+    pub told : Result Bool Refusal
+    pub performs : Performs shown failures unread unread_new written written_new told task
+    pub ends : ended ≡ ending_of told
+
+  -- no task was done, the parser's text was shown, and nothing was read
+  pub record ShowsText (ended : Ending) : Type 0 where
+    pub kind : ErrorKind
+    pub ends : EndsShown kind ended
+    pub input : unread_new ≡ unread
+
+  -- a task was done, or the parser's text was shown
+  abbrev pub Runs : Ending → Type 0
+  Runs ended = DoesTask ended ⊎ ShowsText ended
+
+  -- The program ran, and told by its exit status, and on the errors, how the run ended.
+  pub record Exits (errors errors_new : Option (List ℕ)) (status : ℕ) : Type 0 where
+    pub ended : Ending
+    pub runs : Runs ended
+    pub errors_run : Option (List ℕ)
+    pub silent : IsSilent errors errors_run ended
+    pub says : Says errors_run errors_new ended
+    pub tells : status ≡ status_of ended

@@ -3,15 +3,17 @@
 ghost use Rattle.std.specs.Prelude.{◌≡◌, ◌≢◌, ◌⊎◌, false, IfErr, OnErr, OnOk, IsTrue};
 ghost use Rattle.sqlite.specs.Held.{state};
 ghost use Rattle.sqlite.specs.State.{HasCleanDisk};
-ghost use Rattle.store.specs.Schema.{no_schema};
-ghost use Rattle.store.specs.Opened.{IsSettled, Opens, IsBad, LeavesFirst, IsHindered, IsVast};
+ghost use Rattle.tables.specs.Schema.{no_schema};
+ghost use Rattle.tables.specs.Means.{IsSettled};
+ghost use Rattle.tables.specs.Causes.{IsHindered, IsVast};
+ghost use Rattle.store.specs.Opened.{Opens, IsBad, LeavesFirst};
 
-use crate::create::create;
-use crate::fit::is_fit;
 use crate::refusal::{Refusal, open_refusal};
-use crate::schema::{is_no_schema, is_store_schema};
 use sqlite::{Alter, Connection};
 use std::alloc::Global;
+use tables::create::create;
+use tables::fit::stand_for_world;
+use tables::schema::is_no_schema;
 
 /// Tests the tables that are there.
 fn find_tables<S: Alter>(alloc: Global, conn: &mut Connection<S>) -> Result<(), Refusal>
@@ -21,10 +23,7 @@ fn find_tables<S: Alter>(alloc: Global, conn: &mut Connection<S>) -> Result<(), 
     ensures bad { HasCleanDisk (state S.Store conn.new) → (state S.Store conn.old).now.schema ≢ no_schema → IfErr result (λ e. e ≡ Refusal.BadSchema → IsBad (state S.Store conn.old).now) }
     ensures device { HasCleanDisk (state S.Store conn.new) → IfErr result (λ e. e ≡ Refusal.Device → IsHindered (state S.Store conn.old) (state S.Store conn.new) ⊎ IsVast (state S.Store conn.old).now) }
 {
-    if !is_store_schema(conn.schema()) {
-        return Err(Refusal::BadSchema);
-    }
-    match is_fit(alloc, conn) {
+    match stand_for_world(alloc, conn) {
         Ok(true) => Ok(()),
         Ok(false) => Err(Refusal::BadSchema),
         Err(error) => Err(open_refusal(error)),

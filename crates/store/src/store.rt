@@ -5,7 +5,8 @@ ghost use Rattle.sqlite.specs.Held.{state};
 ghost use Rattle.sqlite.specs.State.{HasCleanDisk};
 ghost use Rattle.world.specs.Store.{GrewOrFull};
 ghost use Rattle.store.specs.Calls.{shown_of};
-ghost use Rattle.store.specs.Opened.{Opens, IsBad, LeavesFirst, IsHindered, IsVast};
+ghost use Rattle.tables.specs.Causes.{IsHindered, IsVast};
+ghost use Rattle.store.specs.Opened.{Opens, IsBad, LeavesFirst};
 
 use crate::adopt::open_tables;
 use crate::entries::{add_entry, count_entries, find_entry, find_heading};

@@ -1,8 +1,0 @@
-//! What holds of tables and worlds by their definitions alone.
-
-ghost use Rattle.store.specs.Laws.{StandForOne};
-
-/// Tables stand for at most one world.
-pub fn meaning()
-    ensures { StandForOne }
-{}

@@ -1,9 +1,14 @@
 -- Tables that are opened.
 use Rattle.std.proofs.Common.{◌≡◌, ◌⊎◌, true, false, refl, sym, ap, subst, ◌∙◌, inl, inr, IsTrue, true≢false, arith}
-use Rattle.std.specs.Prelude.{IsSome}
+use Rattle.std.specs.Prelude.{IsSome, List, [], ◌∷◌}
+use Rattle.std.specs.List.{AllZip}
+use Rattle.sqlite.specs.Order.{Row}
+use Rattle.sqlite_wal.specs.Recovery.{Image}
+use Rattle.sqlite.specs.Start.{FindsIn}
+use Rattle.sqlite_catalog.specs.Listing.{IsSound, IsTableRow}
 use Rattle.sqlite.specs.Tree.{Trees}
 use Rattle.sqlite.specs.Effect.{Database}
-use Rattle.sqlite.specs.State.{State, HasCleanDisk, IsUnchanged}
+use Rattle.sqlite.specs.State.{State, HasCleanDisk, IsUnchanged, IsLive}
 use Rattle.sqlite.specs.Schema.{Schema}
 use Rattle.world.specs.World.{World, IsWorld, only_common}
 use Rattle.tables.specs.Schema.{store_schema, no_schema}
@@ -11,6 +16,8 @@ use Rattle.tables.specs.Means.{StandFor, Holds, IsSettled, StandsForSome}
 use Rattle.store.specs.Calls.{shown_of, BeginsAt}
 use Rattle.tables.specs.Causes.{IsHindered, IsExcused, IsVast, HasReason}
 use Rattle.store.specs.Opened.{Opens}
+use Rattle.store.specs.Restart.{HoldsWorld}
+use Rattle.tables.proofs.OneWorld.{stand_for_one}
 use Rattle.store.specs.declared.refusal.Refusal.{Refusal}
 use Rattle.store.specs.declared.refusal.Refusal.TheVariants as refusal
 use Rattle.sqlite.specs.declared.error.Error.{Error}
@@ -52,6 +59,24 @@ module _ (old new : State) where
     | inl first ↦ subst (BeginsAt (shown_of new)) first.1 it.begins
     | inr found ↦ (let e : ◌≡◌ {A = Schema} store_schema no_schema = sym found.schema ∙ none in absurd (let t = ap (λ (s : Schema). s.tables) e in cc))
   ]
+
+-- trees that list no tables are not those of the schema
+unlisted : (db : Trees) → IsSound no_schema db → IsSound store_schema db → ⊥
+unlisted db none some = bare _ none.lists.listed.tables some.lists.listed.tables
+  where
+    bare : (rows : List Row) → AllZip IsTableRow rows [] → AllZip IsTableRow rows store_schema.tables → ⊥
+    bare [] none some = some
+    bare (r ∷ rows) none some = none
+
+-- where the files hold a database that stands for the world, the store begins there
+pub begins_found : (old new : State) (image : Image) → IsLive old → IsTrue old.is_open → old.now ≡ old.committed → FindsIn image old → Opens old new → (w : World) → HoldsWorld image w → BeginsAt (shown_of new) w
+begins_found old new image live opened settled finds it w held =
+    let trees : old.now.trees ≡ held.0 = ap (λ (d : Database). d.trees) settled ∙ finds.holds held.0 held.1 in
+    let stand : StandFor old.now.trees w = subst (λ db. StandFor db w) (sym trees) held.2 in
+    elim it.tables [
+      | inl first ↦ absurd (unlisted old.now.trees (subst (λ s. IsSound s old.now.trees) first.0 (live opened).0) stand.sound)
+      | inr found ↦ subst (BeginsAt (shown_of new)) (stand_for_one old.now.trees it.world w found.means stand.means) it.begins
+    ]
 
 -- ---- why one is refused
 

@@ -5,3 +5,4 @@ pub mod Reading
 pub mod Added
 pub mod Lists
 pub mod Opened
+pub mod Restart

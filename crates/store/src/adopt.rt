@@ -1,8 +1,9 @@
 //! The tables of a connection, found or made.
 
-ghost use Rattle.std.specs.Prelude.{◌≡◌, ◌≢◌, ◌⊎◌, false, IfErr, OnErr, OnOk, IsTrue};
+ghost use Rattle.std.specs.Prelude.{◌≡◌, ◌≤◌, ◌≢◌, ◌⊎◌, false, IfErr, OnErr, OnOk, IsTrue};
 ghost use Rattle.sqlite.specs.Held.{state};
 ghost use Rattle.sqlite.specs.State.{HasCleanDisk};
+ghost use Rattle.sqlite_trees.specs.View.{doubt};
 ghost use Rattle.tables.specs.Schema.{no_schema};
 ghost use Rattle.tables.specs.Means.{IsSettled};
 ghost use Rattle.tables.specs.Causes.{IsHindered, IsVast};
@@ -17,6 +18,7 @@ use tables::schema::is_no_schema;
 
 /// Tests the tables that are there.
 fn find_tables<S: Alter>(alloc: Global, conn: &mut Connection<S>) -> Result<(), Refusal>
+    ensures clean { doubt (state S.Store conn.old).is_clean ≤ doubt (state S.Store conn.new).is_clean }
     ensures opens { HasCleanDisk (state S.Store conn.new) → IsSettled (state S.Store conn.old) → OnOk result (Opens (state S.Store conn.old) (state S.Store conn.new)) }
     ensures kept { HasCleanDisk (state S.Store conn.new) → IsSettled (state S.Store conn.old) → IsTrue (state S.Store conn.new).is_open → OnErr result ((state S.Store conn.new).now ≡ (state S.Store conn.old).now) }
     ensures left { HasCleanDisk (state S.Store conn.new) → (db : _) → (state S.Store conn.new).may_leave db → OnErr result ((state S.Store conn.old).may_leave db) }
@@ -32,6 +34,7 @@ fn find_tables<S: Alter>(alloc: Global, conn: &mut Connection<S>) -> Result<(), 
 
 /// Makes the tables where there are none.
 fn make_tables<S: Alter>(conn: &mut Connection<S>) -> Result<(), Refusal>
+    ensures clean { doubt (state S.Store conn.old).is_clean ≤ doubt (state S.Store conn.new).is_clean }
     ensures opens { HasCleanDisk (state S.Store conn.new) → (state S.Store conn.old).now.schema ≡ no_schema → OnOk result (Opens (state S.Store conn.old) (state S.Store conn.new)) }
     ensures kept { HasCleanDisk (state S.Store conn.new) → IsTrue (state S.Store conn.new).is_open → OnErr result ((state S.Store conn.new).now ≡ (state S.Store conn.old).now) }
     ensures left { HasCleanDisk (state S.Store conn.new) → (state S.Store conn.old).now.schema ≡ no_schema → LeavesFirst (state S.Store conn.old) (state S.Store conn.new) }
@@ -47,6 +50,7 @@ fn make_tables<S: Alter>(conn: &mut Connection<S>) -> Result<(), Refusal>
 /// Finds the tables, or makes them where there are none. A connection in a transaction is refused as
 /// `Device`.
 pub(crate) fn open_tables<S: Alter>(alloc: Global, conn: &mut Connection<S>) -> Result<(), Refusal>
+    ensures clean { doubt (state S.Store conn.old).is_clean ≤ doubt (state S.Store conn.new).is_clean }
     ensures opens { HasCleanDisk (state S.Store conn.new) → OnOk result (Opens (state S.Store conn.old) (state S.Store conn.new)) }
     ensures kept { HasCleanDisk (state S.Store conn.new) → IsTrue (state S.Store conn.new).is_open → OnErr result ((state S.Store conn.new).now ≡ (state S.Store conn.old).now) }
     ensures left { HasCleanDisk (state S.Store conn.new) → OnErr result (LeavesFirst (state S.Store conn.old) (state S.Store conn.new)) }

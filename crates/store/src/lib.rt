@@ -25,6 +25,7 @@
 
 mod adopt;
 mod entries;
+pub mod laws;
 pub mod open;
 pub mod refusal;
 mod revoke;

@@ -15,12 +15,13 @@ use Rattle.sqlite.specs.Does.{Tally, Does}
 use Rattle.sqlite.specs.State.{State, ExecutesInside}
 use Rattle.sqlite.proofs.Callers.{IsPlain, command_of, runs_as}
 use Rattle.sqlite_tied.specs.Compute.{everything}
-use Rattle.store.specs.Schema.{store_schema, version_table, body_table}
+use Rattle.tables.specs.Schema.{store_schema, version_table, body_table}
 use Rattle.world.specs.declared.entry.Place.{Place}
 use Rattle.world.specs.declared.entry.Entry.{Entry}
-use Rattle.store.specs.Added.{Inserted, HasAdded, version_row, body_row}
+use Rattle.tables.specs.Inserted.{Inserted}
+use Rattle.store.specs.Added.{HasAdded, version_row, body_row}
 use Rattle.store.proofs.Texts.{add_version_text, add_body_text}
-use Rattle.store.proofs.InsertLemmas.{inserted, enforced, cast_null, cast_int}
+use Rattle.tables.proofs.InsertLemmas.{inserted, enforced, cast_null, cast_int}
 
 abbrev pub version_terms : List Term
 version_terms = lit Null ∷ lit Null ∷ col 0 0 ∷ col 0 1 ∷ col 0 2 ∷ col 0 3 ∷ col 0 4 ∷ []

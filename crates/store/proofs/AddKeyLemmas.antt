@@ -13,7 +13,7 @@ use Rattle.sqlite.specs.Does.{Tally, Does}
 use Rattle.sqlite.specs.State.{State}
 use Rattle.sqlite.proofs.Callers.{IsPlain, command_of}
 use Rattle.sqlite_tied.specs.Compute.{everything}
-use Rattle.store.specs.Schema.{store_schema, access_table}
+use Rattle.tables.specs.Schema.{store_schema, access_table}
 use Rattle.std.specs.FinMap as map
 use Rattle.std.specs.FinSet as set
 use Rattle.world.specs.declared.entry.Holder.{Holder}
@@ -23,15 +23,15 @@ use Rattle.world.specs.declared.registry.Registered.TheVariants.{Done, Name, Tak
 use Rattle.world.specs.World.{World, with_key, is_key}
 use Rattle.world.specs.Registry.{key_added, after_key_add}
 use Rattle.world.proofs.Orders.{texts_total, texts_exact, get_put}
-use Rattle.store.specs.Means.{Holds, IsAccess, Tabulates}
+use Rattle.tables.specs.Means.{may_publish, Holds, IsAccess, Tabulates}
 use Rattle.store.proofs.Texts.{add_key_text}
-use Rattle.store.specs.Views.{may_publish, with_key_added}
-use Rattle.store.proofs.InsertLemmas.{Inserted, inserted, cast_null, cast_int}
+use Rattle.store.specs.Views.{with_key_added}
+use Rattle.tables.proofs.InsertLemmas.{Inserted, inserted, cast_null, cast_int}
 use Rattle.store.proofs.WriteLemmas.{Rewrites, inserting}
 use Rattle.store.proofs.TabulateLemmas.{tabulates_put, numbered_put, put_apart}
 use Rattle.sqlite_rules.specs.Lists.{Has}
 use Rattle.sqlite_rules.proofs.ListLemmas.{all_from}
-use Rattle.store.proofs.Maps.{put_keeps, put_splits}
+use Rattle.tables.proofs.Maps.{put_keeps, put_splits}
 
 abbrev pub terms : List Term
 terms = lit Null ∷ col 0 0 ∷ col 0 1 ∷ col 0 2 ∷ []
@@ -51,7 +51,7 @@ module _ (limit : Option ℕ) (token : List ℕ) (g : Holder) where
   source : Row
   source = Null ∷ key_params token g
 
-  added : (db : Database) (text : List ℕ) (tally : Tally) (after : Database) → db.schema ≡ store_schema → Does limit Rattle.store.proofs.InsertLemmas.enforced (key_params token g) db text None (Insert 2 (Values terms 4)) (Ok (tally, after))
+  added : (db : Database) (text : List ℕ) (tally : Tally) (after : Database) → db.schema ≡ store_schema → Does limit Rattle.tables.proofs.InsertLemmas.enforced (key_params token g) db text None (Insert 2 (Values terms 4)) (Ok (tally, after))
       → (after.schema ≡ store_schema) × Inserted db.trees after.trees access_table (Int (next_rowid (db.trees 4)) ∷ key_params token g)
   added db text tally after has h =
       let it = inserted limit access_table refl (key_params token g) terms 4 (Null ∷ key_params token g) refl (λ _. refl) 2 refl db text tally after has h in

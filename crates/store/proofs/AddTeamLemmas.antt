@@ -17,14 +17,14 @@ use Rattle.world.specs.declared.registry.Registered.TheVariants.{Done, Name}
 use Rattle.world.specs.World.{World, with_team, is_team_name}
 use Rattle.world.specs.Registry.{team_added, after_team_add}
 use Rattle.world.proofs.Sound.{still}
-use Rattle.store.specs.Schema.{store_schema, shelf_table}
-use Rattle.store.specs.Means.{Holds, IsShelf}
+use Rattle.tables.specs.Schema.{store_schema, shelf_table}
+use Rattle.tables.specs.Means.{Holds, IsShelf}
 use Rattle.store.specs.Views.{with_team_added}
 use Rattle.store.proofs.Texts.{add_shelf_text}
-use Rattle.store.proofs.InsertLemmas.{Inserted, inserted, enforced, cast_null}
+use Rattle.tables.proofs.InsertLemmas.{Inserted, inserted, enforced, cast_null}
 use Rattle.store.proofs.WriteLemmas.{Rewrites, inserting}
 use Rattle.store.proofs.TabulateLemmas.{tabulates_put}
-use Rattle.store.proofs.Maps.{text_put, text_splits}
+use Rattle.tables.proofs.Maps.{text_put, text_splits}
 
 abbrev pub terms : List Term
 terms = lit Null ∷ col 0 0 ∷ []

@@ -1,5 +1,5 @@
 -- What a statement that writes nothing leaves of the store.
-use Rattle.std.proofs.Common.{◌≡◌, ◌≤◌, ◌⊎◌, ℕ, IfOk, IfErr, false, List, [], Option, Some, None, Ok, Err, Result, inl, inr, refl, sym, ap, subst, ◌∙◌, arith, IsTrue}
+use Rattle.std.proofs.Common.{◌≡◌, ◌≤◌, ℕ, IfOk, IfErr, false, List, [], Option, Some, None, Ok, Err, Result, inl, inr, refl, sym, ap, subst, ◌∙◌, arith, IsTrue}
 use Rattle.sqlite_trees.specs.View.{doubt}
 use Rattle.sqlite.specs.Order.{Row}
 use Rattle.sqlite.specs.Effect.{Database, Reads, RefusesToRead}
@@ -8,20 +8,16 @@ use Rattle.sqlite.specs.Command.TheVariants.{Select, Rows}
 use Rattle.sqlite_trees.specs.declared.error.StoreError.{StoreError}
 use Rattle.sqlite_trees.specs.declared.error.StoreError.TheVariants.{OutOfMemory, Io, Corrupt, Full, Broken, Unstorable}
 use Rattle.sqlite.specs.declared.error.Error.TheVariants.{QueryReturnedNoRows}
-use Rattle.sqlite_resolve.specs.declared.compiled.Compiled.{Compiled}
 use Rattle.sqlite.specs.declared.error.Error.{Error}
-use Rattle.sqlite_schema.specs.declared.command.Returning.{Returning}
 use Rattle.sqlite.specs.Clock.{timed}
 use Rattle.sqlite.specs.Listing.{understood, reads_listing}
-use Rattle.sqlite.specs.State.{State, HasCleanDisk, IsUnchanged, IsRolledBack, IsNotRun, FailsToQuery, FailsToShow, store_error, QueriesRow, Shown, Survives, CommitsShowing, Fails, ShowsRows}
+use Rattle.sqlite.specs.State.{State, HasCleanDisk, IsUnchanged, IsNotRun, FailsToQuery, FailsToShow, store_error, QueriesRow, Shown, Survives, CommitsShowing, ShowsRows}
 use Rattle.sqlite.proofs.Callers.{IsPlain, command_of, never_commits, first_as, reads_as}
 use Rattle.world.specs.World.{World}
-use Rattle.store.specs.Schema.{store_schema}
-use Rattle.store.specs.Means.{Holds, Stands, StandFor}
+use Rattle.tables.specs.Schema.{store_schema}
+use Rattle.tables.specs.Means.{Holds, Stands, StandFor}
+use Rattle.tables.proofs.FailureLemmas.{Kept, was_clean, failed_query}
 use Rattle.store.specs.Calls.{Spares, Selects}
-
-abbrev pub Kept : State → State → Type 0
-Kept old new = IsUnchanged old new ⊎ IsRolledBack old new
 
 kept_open : (old new : State) → Kept old new → IsTrue new.is_open → IsTrue old.is_open
 kept_open old new (inl same) shown = same.0.was_open
@@ -43,32 +39,9 @@ kept_holds old new w (inr back) shown h =
       trees = subst (λ (d : Database). StandFor d.trees w) (sym now) h.trees;
     }
 
-pub was_clean : (old new : State) → doubt old.is_clean ≤ doubt new.is_clean → HasCleanDisk new → HasCleanDisk old
-was_clean old new up clean = omega arith
-
 pub kept_stands : (old new : State) (w : World) → doubt old.is_clean ≤ doubt new.is_clean → (HasCleanDisk new → Kept old new) → Stands old w → Stands new w
 kept_stands old new w up kept h clean shown =
     let k = kept clean in kept_holds old new w k shown (h (was_clean old new up clean) (kept_open old new k shown))
-
--- ---- a failure
-
-failed : (old new : State) (big : Type 0) (e : Error) → Fails old new big e → Kept old new
-failed old new big e h = inr h.3
-
-pub not_run : (old new : State) (sql : List ℕ) (params : Row) (e : Error) → IsNotRun old new sql params e → Kept old new
-unfolding IsNotRun
-not_run old new sql params e (inl h) = inl h.1
-not_run old new sql params e (inr h) = failed old new _ e h
-
-failed_show : (sql : List ℕ) (old new : State) (e : Error) (c : Compiled) (params : Row) (what : Option Returning) → FailsToShow old new sql c params e what → Kept old new
-failed_show sql old new e c params None it = inl it.3
-failed_show sql old new e c params (Some what) (inl refused) = inl refused.1
-failed_show sql old new e c params (Some what) (inr fails) = failed old new _ e fails
-
-pub failed_query : (sql : List ℕ) (params : Row) (old new : State) (e : Error) → FailsToQuery sql params old new e → Kept old new
-unfolding FailsToQuery
-failed_query sql params old new e (inl h) = not_run old new sql params e h
-failed_query sql params old new e (inr h) = failed_show sql old new e h.0 (timed params h.0.formats h.1.now) h.0.returning h.2
 
 -- ---- a query that has no RETURNING
 

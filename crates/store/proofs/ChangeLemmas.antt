@@ -1,14 +1,12 @@
 -- Calls one after another.
-use Rattle.std.proofs.Common.{◌≡◌, ◌≤◌, Bool, true, false, inl, inr, refl, sym, subst, ◌∙◌, arith, IsTrue, true≢false, Result, Ok, Err, IsErr, is_ok, IfOk, OnOk, Option, Some, None, is_some, option_map}
+use Rattle.std.proofs.Common.{◌≡◌, ◌≤◌, Bool, true, false, inl, refl, sym, subst, arith, IsTrue, true≢false, Result, Ok, Err, IsErr, is_ok, IfOk, OnOk, Option, Some, None, is_some, option_map}
 use Rattle.sqlite_trees.specs.View.{doubt}
 use Rattle.sqlite.specs.Tree.{Trees}
-use Rattle.sqlite.specs.State.{State, HasCleanDisk, KeepsCommit}
-use Rattle.sqlite.specs.Steps.{FailsToCommit}
-use Rattle.sqlite.specs.declared.error.Error.{Error}
+use Rattle.sqlite.specs.State.{State, HasCleanDisk}
 use Rattle.world.specs.World.{World}
-use Rattle.store.specs.Means.{Holds, Stands}
+use Rattle.tables.specs.Means.{Holds, Stands}
 use Rattle.store.specs.Calls.{Spares, LeavesOnly, ChangesAt, Changes}
-use Rattle.store.proofs.CallLemmas.{was_clean}
+use Rattle.tables.proofs.FailureLemmas.{was_clean}
 use Rattle.store.proofs.WriteLemmas.{open_leaves}
 
 -- nothing was written, and the call failed
@@ -58,11 +56,6 @@ not_ok (Err e) h = refl
 pub some_mapped : {A B : Type 0} (f : A → B) (o : Option A) → is_some o ≡ is_some (option_map f o)
 some_mapped f None = refl
 some_mapped f (Some x) = refl
-
--- a commit that failed goes back to what was committed before
-pub undone_now : (begun last exit : State) (e : Error) → KeepsCommit begun last → IsTrue last.in_transaction → FailsToCommit last exit e → IsTrue exit.is_open → IsTrue begun.is_open × (exit.now ≡ begun.committed)
-undone_now begun last exit e keeps inside (inl fails) shown = (keeps.was_open (fails.3.was_open shown), (fails.3.undone shown).0 ∙ keeps.committed (fails.3.was_open shown))
-undone_now begun last exit e keeps inside (inr late) shown = absurd (true≢false (sym inside ∙ late.1))
 
 pub on_weaker : {A E : Type 0} {P Q : Type 0} (r : Result A E) → (P → Q) → OnOk r P → OnOk r Q
 on_weaker (Ok x) then h = then h

@@ -22,16 +22,16 @@ use Rattle.world.specs.declared.entry.Entry.{Entry}
 use Rattle.world.specs.declared.entry.Seen.{Seen}
 use Rattle.world.specs.declared.entry.Heading.{Heading}
 use Rattle.world.specs.World.{World, common, place, seen_at, view, first_on, heading_of, without_zip, heading}
-use Rattle.store.specs.Schema.{store_schema}
+use Rattle.tables.specs.Schema.{store_schema}
 use Rattle.store.specs.declared.entries.VersionRow.{VersionRow}
-use Rattle.store.specs.Means.{Means, IsVersion, IsAt}
+use Rattle.tables.specs.Means.{Means, IsVersion, IsAt}
 use Rattle.store.specs.Reading.{IsRowOf, HasZip}
 use Rattle.store.specs.Lookup.{lookup, passes, FirstFound}
 use Rattle.store.specs.Calls.{Selects}
 use Rattle.store.proofs.Texts.{row_text, zip_text}
-use Rattle.store.proofs.ValueLemmas.{equals_text, equals_itself}
+use Rattle.tables.proofs.ValueLemmas.{equals_text, equals_itself}
 use Rattle.store.proofs.LookupLemmas.{selected_found}
-use Rattle.store.proofs.TransactionLemmas.{same_place}
+use Rattle.tables.proofs.CountedRows.{same_place}
 
 abbrev pub by_place : List Term
 by_place = op2 (Compare Eq Binary) (col 1 2) (col 0 0) ∷ op2 (Compare Eq Binary) (col 1 3) (col 0 1) ∷ op2 (Compare Eq Binary) (col 1 4) (col 0 2) ∷ []

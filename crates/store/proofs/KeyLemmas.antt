@@ -13,18 +13,18 @@ use Rattle.sqlite.specs.Listing.{understood, reads_listing}
 use Rattle.sqlite.specs.Command.TheVariants.{Select}
 use Rattle.sqlite.proofs.Callers.{IsPlain, command_of}
 use Rattle.sqlite_tied.specs.Compute.{everything}
-use Rattle.store.specs.Schema.{store_schema}
+use Rattle.tables.specs.Schema.{store_schema}
 use Rattle.std.specs.FinMap as map
 use Rattle.world.specs.declared.entry.Holder.{Holder}
 use Rattle.world.specs.declared.entry.Right.{Right}
 use Rattle.world.specs.declared.entry.Right.TheVariants.{Reads, Publishes}
 use Rattle.world.specs.World.{World}
-use Rattle.store.specs.Views.{may_publish}
-use Rattle.store.specs.Means.{Means}
+use Rattle.tables.specs.Means.{may_publish}
+use Rattle.tables.specs.Means.{Means}
 use Rattle.store.specs.Lookup.{lookup, passes, FirstFound}
 use Rattle.store.specs.Calls.{Selects}
 use Rattle.store.proofs.Texts.{key_text}
-use Rattle.store.proofs.ValueLemmas.{equals_text, equals_itself}
+use Rattle.tables.proofs.ValueLemmas.{equals_text, equals_itself}
 use Rattle.store.proofs.LookupLemmas.{selected_found}
 
 abbrev pub by_token : List Term

@@ -1,18 +1,23 @@
 -- Tables that are opened.
-use Rattle.std.proofs.Common.{◌≡◌, ◌⊎◌, true, false, Ok, refl, sym, ap, subst, ◌∙◌, inl, inr, IsTrue, true≢false, arith}
-use Rattle.std.specs.Prelude.{IsSome}
+use Rattle.std.proofs.Common.{◌≡◌, ◌⊎◌, true, false, refl, sym, ap, subst, ◌∙◌, inl, inr, IsTrue, true≢false, arith}
+use Rattle.std.specs.Prelude.{IsSome, List, [], ◌∷◌}
+use Rattle.std.specs.List.{AllZip}
+use Rattle.sqlite.specs.Order.{Row}
+use Rattle.sqlite_wal.specs.Recovery.{Image}
+use Rattle.sqlite.specs.Start.{FindsIn}
+use Rattle.sqlite_catalog.specs.Listing.{IsSound, IsTableRow}
 use Rattle.sqlite.specs.Tree.{Trees}
 use Rattle.sqlite.specs.Effect.{Database}
-use Rattle.sqlite.specs.State.{State, HasCleanDisk, IsLive}
-use Rattle.sqlite_catalog.specs.Listing.{IsSound}
+use Rattle.sqlite.specs.State.{State, HasCleanDisk, IsUnchanged, IsLive}
 use Rattle.sqlite.specs.Schema.{Schema}
 use Rattle.world.specs.World.{World, IsWorld, only_common}
-use Rattle.store.specs.Schema.{store_schema, no_schema}
-use Rattle.store.specs.Means.{StandFor, Holds}
+use Rattle.tables.specs.Schema.{store_schema, no_schema}
+use Rattle.tables.specs.Means.{StandFor, Holds, IsSettled, StandsForSome}
 use Rattle.store.specs.Calls.{shown_of, BeginsAt}
-use Rattle.store.specs.Walks.{Looks, Tests}
-use Rattle.store.specs.Fit.{AreFit}
-use Rattle.store.specs.Opened.{IsSettled, Opens, IsBad, IsHindered, IsExcused, IsVast, HasReason}
+use Rattle.tables.specs.Causes.{IsHindered, IsExcused, IsVast, HasReason}
+use Rattle.store.specs.Opened.{Opens}
+use Rattle.store.specs.Restart.{HoldsWorld}
+use Rattle.tables.proofs.OneWorld.{stand_for_one}
 use Rattle.store.specs.declared.refusal.Refusal.{Refusal}
 use Rattle.store.specs.declared.refusal.Refusal.TheVariants as refusal
 use Rattle.sqlite.specs.declared.error.Error.{Error}
@@ -22,8 +27,6 @@ use Rattle.sqlite_trees.specs.declared.memory.MemStore.{MemStore}
 use Rattle.sqlite.specs.Held.{Held, state, IsNew}
 use Rattle.sqlite.specs.Steps.{over_memory, IsEmpty}
 use Rattle.store.proofs.WriteLemmas.{open_leaves}
-use Rattle.store.proofs.WorldOf.{world_of, fit_means, fit_world}
-use Rattle.store.proofs.WorldFits.{world_fits}
 
 module _ (old new : State) where
   -- a store that holds a world begins at it
@@ -34,30 +37,21 @@ module _ (old new : State) where
     left = λ db may. let it = open_leaves new w (λ db. law db opened) holds db may in (it.0, it.1, inl it.2);
   }
 
-  pub tables_found : ((db : Trees) → IsTrue new.is_open → new.may_leave db → db ≡ new.committed.trees) → IsSettled old → IsLive old → old.now.schema ≡ store_schema → HasCleanDisk new → Tests old new (Ok true) AreFit → Opens old new
-  tables_found law settled live has clean tests =
-      let shows = (tests.same clean has).0 in
-      let db = old.now.trees in
-      let sound : IsSound store_schema db = subst (λ s. IsSound s db) has (live shows.was_open).0 in
-      let fit = (tests.answer clean has).0 refl in
-      let w = world_of db in
-      let means = fit_means db sound fit in
-      let holds : Holds new w = record {
-        schema = ap (λ (d : Database). d.schema) shows.now_is ∙ has;
+  pub tables_found : ((db : Trees) → IsTrue new.is_open → new.may_leave db → db ≡ new.committed.trees) → IsSettled old → HasCleanDisk new → IsUnchanged old new → StandsForSome old.now → Opens old new
+  tables_found law settled clean same some =
+      let shows = same.0 in
+      let holds : Holds new some.world = record {
+        schema = ap (λ (d : Database). d.schema) shows.now_is ∙ some.schema;
         settled = shows.now_is ∙ (settled.committed shows.was_open ∙ sym shows.committed_is);
         autocommit = shows.mode ∙ settled.autocommit;
-        trees = subst (λ (d : Database). StandFor d.trees w) (sym shows.now_is) (record { sound = sound; means = means });
+        trees = subst (λ (d : Database). StandFor d.trees some.world) (sym shows.now_is) some.trees;
       } in
-      record { is_open = shows.is_open; world = w; tables = inr (record { schema = has; same = shows.now_is; means = means }); begins = begins_at law shows.is_open clean w holds (fit_world db sound fit) }
-
-  pub looked_kept : IsSettled old → old.now.schema ≡ store_schema → HasCleanDisk new → Looks old new → IsTrue new.is_open → new.now ≡ old.now
-  looked_kept settled has clean looks opened = elim (looks.kept clean has) [
-    | inl same ↦ same.0.now_is
-    | inr back ↦ (back.undone opened).0 ∙ sym (settled.committed (back.was_open opened))
-  ]
-
-  pub tables_bad : (old.now.schema ≡ no_schema → ⊥) → old.now.schema ≡ store_schema → HasCleanDisk new → Tests old new (Ok false) AreFit → IsBad old.now
-  tables_bad some has clean tests = record { some = some; none = λ _ w means is. true≢false (sym ((tests.answer clean has).1 (world_fits old.now.trees w means is))) }
+      record {
+        is_open = shows.is_open;
+        world = some.world;
+        tables = inr (record { schema = some.schema; same = shows.now_is; means = some.trees.means });
+        begins = begins_at law shows.is_open clean some.world holds some.is;
+      }
 
   -- where there were no tables, the store begins with `common` alone
   pub begins_first : old.now.schema ≡ no_schema → Opens old new → BeginsAt (shown_of new) only_common
@@ -65,6 +59,24 @@ module _ (old new : State) where
     | inl first ↦ subst (BeginsAt (shown_of new)) first.1 it.begins
     | inr found ↦ (let e : ◌≡◌ {A = Schema} store_schema no_schema = sym found.schema ∙ none in absurd (let t = ap (λ (s : Schema). s.tables) e in cc))
   ]
+
+-- trees that list no tables are not those of the schema
+unlisted : (db : Trees) → IsSound no_schema db → IsSound store_schema db → ⊥
+unlisted db none some = bare _ none.lists.listed.tables some.lists.listed.tables
+  where
+    bare : (rows : List Row) → AllZip IsTableRow rows [] → AllZip IsTableRow rows store_schema.tables → ⊥
+    bare [] none some = some
+    bare (r ∷ rows) none some = none
+
+-- where the files hold a database that stands for the world, the store begins there
+pub begins_found : (old new : State) (image : Image) → IsLive old → IsTrue old.is_open → old.now ≡ old.committed → FindsIn image old → Opens old new → (w : World) → HoldsWorld image w → BeginsAt (shown_of new) w
+begins_found old new image live opened settled finds it w held =
+    let trees : old.now.trees ≡ held.0 = ap (λ (d : Database). d.trees) settled ∙ finds.holds held.0 held.1 in
+    let stand : StandFor old.now.trees w = subst (λ db. StandFor db w) (sym trees) held.2 in
+    elim it.tables [
+      | inl first ↦ absurd (unlisted old.now.trees (subst (λ s. IsSound s old.now.trees) first.0 (live opened).0) stand.sound)
+      | inr found ↦ subst (BeginsAt (shown_of new)) (stand_for_one old.now.trees it.world w found.means stand.means) it.begins
+    ]
 
 -- ---- why one is refused
 

@@ -38,15 +38,15 @@ use Rattle.world.specs.declared.registry.Registered.TheVariants.{Done, NoKey}
 use Rattle.world.specs.World.{World, text_cmp, without_key}
 use Rattle.world.specs.Registry.{after_key_revoke}
 use Rattle.world.proofs.Orders.{texts_total, texts_exact}
-use Rattle.store.specs.Schema.{store_schema, access_table}
-use Rattle.store.specs.Means.{Holds, IsAccess, IsNumbered, Tabulates}
+use Rattle.tables.specs.Schema.{store_schema, access_table}
+use Rattle.tables.specs.Means.{Holds, IsAccess, IsNumbered, Tabulates}
 use Rattle.store.specs.Views.{with_key_revoked}
 use Rattle.store.specs.Lookup.{lookup, AreFound}
 use Rattle.store.proofs.Texts.{revoke_key_text}
-use Rattle.store.proofs.ValueLemmas.{tied, equals_text, equals_itself}
+use Rattle.tables.proofs.ValueLemmas.{tied, equals_text, equals_itself}
 use Rattle.store.proofs.LookupLemmas.{answers_found}
 use Rattle.store.proofs.KeyLemmas.{by_token}
-use Rattle.store.proofs.InsertLemmas.{went, same_value, enforced}
+use Rattle.tables.proofs.InsertLemmas.{went, same_value, enforced}
 use Rattle.store.proofs.WriteLemmas.{Rewrites, deleting}
 use Rattle.std.proofs.lemmas.Bool.{and_parts}
 

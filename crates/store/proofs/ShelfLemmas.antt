@@ -12,14 +12,14 @@ use Rattle.sqlite.specs.Listing.{understood, reads_listing}
 use Rattle.sqlite.specs.Command.TheVariants.{Select}
 use Rattle.sqlite.proofs.Callers.{IsPlain, command_of}
 use Rattle.sqlite_tied.specs.Compute.{everything}
-use Rattle.store.specs.Schema.{store_schema}
+use Rattle.tables.specs.Schema.{store_schema}
 use Rattle.std.specs.FinSet as set
 use Rattle.world.specs.World.{World}
-use Rattle.store.specs.Means.{Means}
+use Rattle.tables.specs.Means.{Means}
 use Rattle.store.specs.Lookup.{lookup, FirstFound}
 use Rattle.store.specs.Calls.{Selects}
 use Rattle.store.proofs.Texts.{shelf_text}
-use Rattle.store.proofs.ValueLemmas.{equals_text, equals_itself}
+use Rattle.tables.proofs.ValueLemmas.{equals_text, equals_itself}
 use Rattle.store.proofs.LookupLemmas.{selected_found}
 
 abbrev by_name : List Term

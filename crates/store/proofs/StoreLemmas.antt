@@ -6,9 +6,9 @@ use Rattle.sqlite.specs.State.{State, HasCleanDisk}
 use Rattle.world.specs.declared.registry.StoreFault.{StoreFault}
 use Rattle.world.specs.World.{World, IsWorld}
 use Rattle.world.specs.Store.{Does, DoesWhere, DoesAt, Reads}
-use Rattle.store.specs.Means.{StandsFor}
+use Rattle.tables.specs.Means.{StandsFor}
 use Rattle.store.specs.Calls.{Spares, LeavesOnly, LeavesEither, ChangesAt, shown_of}
-use Rattle.store.proofs.CallLemmas.{was_clean}
+use Rattle.tables.proofs.FailureLemmas.{was_clean}
 
 narrow : (s : State) (w : World) → LeavesEither s w w → LeavesOnly s (λ x. x ≡ w)
 narrow s w only db may = let it = only db may in (it.0, it.1, elim it.2 [ inl e ↦ e | inr e ↦ e ])

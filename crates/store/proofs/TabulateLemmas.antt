@@ -15,8 +15,8 @@ use Rattle.sqlite_trees.specs.Tree.{IsAscending, put_row}
 use Rattle.sqlite.specs.Edit.{put_all, are_fresh}
 use Rattle.sqlite_rules.proofs.ListLemmas.{all_from, all_has}
 use Rattle.sqlite_rules.proofs.TableLemmas.{put_all_has, put_all_keeps, put_all_adds, put_has}
-use Rattle.store.specs.Means.{Tabulates, IsNumbered}
-use Rattle.store.proofs.ValueLemmas.{int_itself, fresh_before}
+use Rattle.tables.specs.Means.{Tabulates, IsNumbered}
+use Rattle.tables.proofs.ValueLemmas.{int_itself, fresh_before}
 
 pub tabulates_put : {X : Type 0} (IsRow : Row → X → Type 0) (rows : List Row) (row : Row) (x : X) (P Q : X → Type 0) → are_fresh rows (row ∷ []) ≡ true → IsRow row x
     → ((y : X) → P y → Q y) → Q x → ((y : X) → Q y → (y ≡ x) ⊎ P y) → Tabulates IsRow rows P → Tabulates IsRow (put_all rows (row ∷ [])) Q

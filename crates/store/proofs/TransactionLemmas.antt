@@ -13,19 +13,21 @@ use Rattle.sqlite.specs.declared.error.Error.{Error}
 use Rattle.sqlite_catalog.specs.Listing.{IsSound}
 use Rattle.sqlite_rules.specs.Lists.{Has}
 use Rattle.sqlite_rules.proofs.TableLemmas.{put_all_has, put_all_keeps, put_all_adds}
-use Rattle.store.specs.Schema.{store_schema, version_table, body_table}
+use Rattle.tables.specs.Schema.{store_schema, version_table, body_table}
 use Rattle.world.specs.declared.entry.Place.{Place}
 use Rattle.world.specs.declared.entry.Entry.{Entry}
 use Rattle.world.specs.World.{World, with_entry}
 use Rattle.world.proofs.Orders.{places_total, places_exact, get_put}
-use Rattle.store.specs.Means.{Means, Holds, Stands, StandFor, Tabulates, IsVersion, IsAt, is_numbered_as}
+use Rattle.tables.specs.Means.{Means, Holds, Stands, StandFor, Tabulates, IsVersion, IsAt, is_numbered_as}
 use Rattle.sqlite.specs.Edit.{are_fresh, put_all}
 use Rattle.sqlite_rules.proofs.ListLemmas.{all_from}
-use Rattle.store.proofs.Maps.{put_keeps, put_splits}
-use Rattle.store.proofs.ValueLemmas.{int_itself, fresh_before, fresh_after, equal_turned}
-use Rattle.store.specs.Added.{Inserted, HasAdded, version_row, body_row}
+use Rattle.tables.proofs.Maps.{put_keeps, put_splits}
+use Rattle.tables.proofs.ValueLemmas.{int_itself, fresh_before, fresh_after, equal_turned}
+use Rattle.tables.specs.Inserted.{Inserted}
+use Rattle.store.specs.Added.{HasAdded, version_row, body_row}
 use Rattle.store.specs.Calls.{ChangesAt}
-use Rattle.store.proofs.CallLemmas.{was_clean}
+use Rattle.tables.proofs.FailureLemmas.{was_clean}
+use Rattle.tables.proofs.CountedRows.{same_place}
 use Rattle.store.proofs.TabulateLemmas.{tabulates_put, put_apart}
 use Rattle.store.proofs.WriteLemmas.{open_leaves}
 
@@ -47,14 +49,6 @@ among_more bodies more new still split row x apart it = record {
     | inr was ↦ it.only b was tied
   ];
 }
-
--- a row names one place
-pub same_place : (row : Row) (p q : Place) → IsAt row p → IsAt row q → p ≡ q
-same_place row p q at also =
-    let shelf : p.shelf ≡ q.shelf = let e = sym at.0 ∙ also.0 in cc in
-    let path : p.path ≡ q.path = let e = sym at.1 ∙ also.1 in cc in
-    let version : p.version ≡ q.version = let e = sym at.2 ∙ also.2 in cc in
-    λ i. record { shelf = shelf i; path = path i; version = version i }
 
 new_or_old : (mid before after : List Row) (new : Row) → after ≡ put_all mid (new ∷ []) → mid ≡ before → (b : Row) → Has after b → (b ≡ new) ⊎ Has before b
 new_or_old mid before after new made same b h = elim (put_all_has (new ∷ []) mid b (subst (λ l. Has l b) made h)) [

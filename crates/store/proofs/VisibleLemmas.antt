@@ -24,15 +24,15 @@ use Rattle.world.specs.Visible.{versions_seen, paths_seen}
 use Rattle.world.proofs.Orders.{texts_total, texts_exact}
 use Rattle.world.proofs.Sound.{still}
 use Rattle.world.proofs.Seen.{contains_versions, contains_paths}
-use Rattle.store.specs.Schema.{store_schema}
-use Rattle.store.specs.Means.{Means, IsAt}
+use Rattle.tables.specs.Schema.{store_schema}
+use Rattle.tables.specs.Means.{Means, IsAt}
 use Rattle.store.specs.Lookup.{lookup, AreFound}
 use Rattle.store.specs.Lists.{Adds, AddsTexts, AddsVersions, AddsPaths, IsShown}
-use Rattle.store.proofs.Maps.{text_put, text_splits}
+use Rattle.tables.proofs.Maps.{text_put, text_splits}
 use Rattle.store.proofs.Texts.{versions_text, paths_text}
-use Rattle.store.proofs.ValueLemmas.{equals_text, equals_itself}
+use Rattle.tables.proofs.ValueLemmas.{equals_text, equals_itself}
 use Rattle.store.proofs.LookupLemmas.{all_found}
-use Rattle.store.proofs.TransactionLemmas.{same_place}
+use Rattle.tables.proofs.CountedRows.{same_place}
 
 -- ---- the versions of a path on a shelf
 

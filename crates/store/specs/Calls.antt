@@ -8,9 +8,9 @@ use Rattle.sqlite.specs.Listing.{understood}
 use Rattle.sqlite.specs.State.{State, HasCleanDisk}
 use Rattle.sqlite.proofs.Callers.{command_of}
 use Rattle.world.specs.World.{World}
-use Rattle.store.specs.Schema.{store_schema}
+use Rattle.tables.specs.Schema.{store_schema}
 use Rattle.world.specs.Store.{Shown}
-use Rattle.store.specs.Means.{Stands, StandsFor, StandFor}
+use Rattle.tables.specs.Means.{Stands, StandsFor, StandFor}
 
 -- it shows the same world, and a crash leaves nothing that it did not leave before
 pub record Spares (old new : State) : Type 0 where

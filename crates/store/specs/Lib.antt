@@ -1,13 +1,8 @@
-pub mod Schema
-pub mod Means
 pub mod Views
 pub mod Lookup
 pub mod Calls
 pub mod Reading
 pub mod Added
-pub mod Made
 pub mod Lists
-pub mod Walks
-pub mod Fit
 pub mod Opened
-pub mod Laws
+pub mod Restart

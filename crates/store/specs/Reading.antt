@@ -11,8 +11,8 @@ use Rattle.world.specs.declared.entry.Place.{Place}
 use Rattle.world.specs.declared.entry.Entry.{Entry}
 use Rattle.world.specs.World.{World, heading_of}
 use Rattle.store.specs.declared.entries.VersionRow.{VersionRow}
-use Rattle.store.specs.Means.{IsVersion}
-use Rattle.store.specs.Schema.{body_table}
+use Rattle.tables.specs.Means.{IsVersion}
+use Rattle.tables.specs.Schema.{body_table}
 
 -- what the row of a version shows, and the entry that the row is of
 pub record IsRowOf (db : Trees) (w : World) (p : Place) (v : VersionRow) : Type 0 where

@@ -1,13 +1,8 @@
--- Values of the program as the definitions see them.
-use Rattle.std.specs.Prelude.{ℕ, List, Bool, true, false}
+-- Worlds that the commands of the registry make.
+use Rattle.std.specs.Prelude.{ℕ, List}
 use Rattle.world.specs.declared.entry.Right.{Right}
-use Rattle.world.specs.declared.entry.Right.TheVariants.{Reads, Publishes}
 use Rattle.world.specs.World.{World}
 use Rattle.world.specs.Registry.{key_added, after_key_add, key_revoked, after_key_revoke, team_added, after_team_add}
-
-abbrev pub may_publish : Right → Bool
-may_publish Reads = false
-may_publish Publishes = true
 
 -- the world once a key was asked for
 abbrev pub with_key_added : List ℕ → List ℕ → Right → World → World

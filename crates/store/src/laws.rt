@@ -1,8 +1,13 @@
-//! What holds of tables and worlds by their definitions alone.
+//! What holds of a store by the definitions alone.
 
-ghost use Rattle.store.specs.Laws.{StandForOne};
+ghost use Rattle.sqlite.specs.Held.{state};
+ghost use Rattle.store.specs.Restart.{IsThereAfterRestart};
 
-/// Tables stand for at most one world.
-pub fn meaning()
-    ensures { StandForOne }
+use sqlite::Alter;
+
+/// What was accepted is there after a restart. Once a change has answered Ok, a crash leaves the world
+/// after it alone (the clauses of `Shelves`), so files that a crash leaves hold that world, and a store
+/// that is opened over them begins at it (`SqlShelves::open_from`).
+pub fn restart<S: Alter>()
+    ensures { (conn : _) → IsThereAfterRestart (state S.Store conn) }
 {}

@@ -1,26 +1,15 @@
 //! Team shelves as rows of SQL tables, behind the trait `world::shelves::Shelves`.
 //!
-//! A store holds five STRICT tables, schema 1:
-//!
-//! | table | a row is | columns |
-//! |---|---|---|
-//! | `meta` | the number of the schema, 1, under the name `schema` | `name`, `value` |
-//! | `shelf` | a shelf; `common` is always there | `name` |
-//! | `access` | a key, the shelf that it belongs to and whether it may publish | `token`, `shelf`, `publish` |
-//! | `version` | a version of a module on a shelf, its time and its go.mod | `id`, `shelf`, `path`, `version`, `time`, `mod` |
-//! | `body` | the zip of the version that has the same number | `id`, `zip` |
-//!
-//! The tables stand for one world: each row of `shelf` is a shelf, each row of `access` a key, and
-//! each row of `version`, with its row of `body`, an entry; each key and each entry has one row.
-//! The numbers of the rows and their order mean nothing. A store is opened over tables that are these
-//! and stand for a world, or over none at all; everything else is refused and stays as it was.
+//! Which tables these are, and which world they stand for, is told in the crate `tables`. A store is
+//! opened over tables that are these and stand for a world, or over none at all; everything else is
+//! refused and stays as it was.
 //!
 //! A change is one transaction. So a crash leaves the world before it or the world after it, and
 //! once the change has answered Ok, the world after it alone.
 //!
 //! | call | its statements |
 //! |---|---|
-//! | `adopt` | each row of each table once, in walks that keep the row before; or the five tables where there are none |
+//! | `adopt` | those of `tables::fit::stand_for_world`, or where there are no tables of `tables::create::create` |
 //! | `key` | the row of `access` that has the key |
 //! | `entry` | the row of `version` on the own shelf, or else on `common`, then its row of `body` |
 //! | `heading` | the row of `version` on the own shelf, or else on `common`, and no row of `body` |
@@ -35,17 +24,13 @@
 #![tactic(auto)]
 
 mod adopt;
-mod create;
 mod entries;
-mod fit;
 pub mod laws;
 pub mod open;
 pub mod refusal;
 mod revoke;
-mod schema;
 mod shelves;
 pub mod store;
 #[cfg(test)]
 mod tests;
 mod visible;
-mod walk;

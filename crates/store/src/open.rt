@@ -5,12 +5,14 @@ ghost use Rattle.sqlite.specs.Held.{state};
 ghost use Rattle.sqlite.specs.Files.{file_state};
 ghost use Rattle.sqlite.specs.State.{HasCleanDisk};
 ghost use Rattle.sqlite.specs.Steps.{over_memory};
+ghost use Rattle.sqlite_wal.specs.Files.{image_at};
 ghost use Rattle.world.specs.World.{only_common};
 ghost use Rattle.store.specs.Calls.{shown_of, BeginsAt};
+ghost use Rattle.store.specs.Restart.{HoldsWorld};
 
 use crate::refusal::Refusal;
 use crate::store::SqlShelves;
-use sqlite::{Connection, Error, ErrorCode, File, FileStore, MemStore};
+use sqlite::{Connection, Error, ErrorCode, File, FileFrom, FileStore, MemStore, Start, Unknown};
 use std::alloc::Global;
 use std::rt::HostRuntime;
 
@@ -35,27 +37,44 @@ impl SqlShelves<MemStore> {
     }
 }
 
-impl SqlShelves<FileStore<File>> {
-    /// The store of a file, which is made if it is not there. A file whose tables are those of the
-    /// schema is opened with the world that they stand for, and an empty one with the shelf `common`
-    /// alone.
+impl<T: Start> SqlShelves<FileStore<FileFrom<T>>> {
+    /// The store of the files at a path, where `T` stands for what they hold: the database file, which
+    /// is made if it is not there, and its log. Files whose tables are those of the schema are opened
+    /// with the world that they stand for, and empty ones with the shelf `common` alone.
     ///
-    /// It is refused as `BadSchema` where the file holds no database, other tables, or tables that
+    /// It is refused as `BadSchema` where the files hold no database, other tables, or tables that
     /// stand for no world; as `Memory` where memory was wanted; and as `Device` where the disk failed,
-    /// or the system or the name does not let the file be opened. The file then stays as it was.
-    pub fn open_file(rt: &HostRuntime, path: &str) -> Result<FileShelves, Refusal>
+    /// or the system or the name does not let the files be opened. They then stay as they were.
+    pub fn open_from(
+        rt: &HostRuntime,
+        path: &str,
+        start: T,
+    ) -> Result<SqlShelves<FileStore<FileFrom<T>>>, Refusal>
         ensures memory { path.now ≡ codes ":memory:" → result ≡ Err Refusal.Device }
         ensures begins { IfOk result (λ s. HasCleanDisk (file_state s.conn) → (w : _) × BeginsAt (shown_of (file_state s.conn)) w) }
+        ensures found { IfOk result (λ s. HasCleanDisk (file_state s.conn) → (w : _) → HoldsWorld (image_at T.Start) w → BeginsAt (shown_of (file_state s.conn)) w) }
         ensures none_failed { IfOk result (λ s. s.failures ≡ 0) }
     {
-        let conn = match Connection::open(rt, path) {
+        let conn = match Connection::open_from(rt, path, false, start) {
             Ok(conn) => conn,
-            Err(error) => return Err(file_refusal(error)),
+            Err((error, _)) => return Err(file_refusal(error)),
         };
         match SqlShelves::adopt(rt.alloc(), conn) {
             Ok(shelves) => Ok(shelves),
             Err((refusal, _)) => Err(refusal),
         }
+    }
+}
+
+impl SqlShelves<FileStore<File>> {
+    /// The store of a file, as `open_from` opens it where nothing is known of what the file holds. It
+    /// is supposed that a write that was torn by a crash leaves each byte old or new.
+    pub fn open_file(rt: &HostRuntime, path: &str) -> Result<FileShelves, Refusal>
+        ensures memory { path.now ≡ codes ":memory:" → result ≡ Err Refusal.Device }
+        ensures begins { IfOk result (λ s. HasCleanDisk (file_state s.conn) → (w : _) × BeginsAt (shown_of (file_state s.conn)) w) }
+        ensures none_failed { IfOk result (λ s. s.failures ≡ 0) }
+    {
+        SqlShelves::open_from(rt, path, Unknown)
     }
 }
 

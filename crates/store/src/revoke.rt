@@ -6,7 +6,7 @@ ghost use Rattle.sqlite.specs.State.{HasCleanDisk};
 ghost use Rattle.sqlite_trees.specs.View.{doubt};
 ghost use Rattle.world.specs.World.{without_key};
 ghost use Rattle.world.specs.Registry.{key_revoked};
-ghost use Rattle.store.specs.Means.{Stands};
+ghost use Rattle.tables.specs.Means.{Stands};
 ghost use Rattle.store.specs.Calls.{ChangesAt, Changes};
 ghost use Rattle.store.specs.Views.{with_key_revoked};
 

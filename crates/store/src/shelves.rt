@@ -14,10 +14,10 @@ ghost use Rattle.sqlite.specs.State.{HasCleanDisk, Survives};
 ghost use Rattle.sqlite_trees.specs.View.{doubt};
 ghost use Rattle.world.specs.World.{is_key, is_team_name, with_key, with_team};
 ghost use Rattle.world.specs.Registry.{key_added, team_added};
-ghost use Rattle.store.specs.Schema.{store_schema};
-ghost use Rattle.store.specs.Means.{Stands};
+ghost use Rattle.tables.specs.Schema.{store_schema};
+ghost use Rattle.tables.specs.Means.{Stands, may_publish};
 ghost use Rattle.store.specs.Calls.{Spares, Selects, ChangesAt, Changes};
-ghost use Rattle.store.specs.Views.{may_publish, with_key_added, with_team_added};
+ghost use Rattle.store.specs.Views.{with_key_added, with_team_added};
 
 use sqlite::types::ValueRef;
 use sqlite::{Alter, Connection, Error, Row, params};

@@ -3,9 +3,11 @@
 ghost use Rattle.std.specs.Prelude.{◌≡◌, ◌≤◌, ◌⊎◌, IfOk, IfErr, IsTrue};
 ghost use Rattle.sqlite.specs.Held.{state};
 ghost use Rattle.sqlite.specs.State.{HasCleanDisk};
+ghost use Rattle.sqlite_trees.specs.View.{doubt};
 ghost use Rattle.world.specs.Store.{GrewOrFull};
 ghost use Rattle.store.specs.Calls.{shown_of};
-ghost use Rattle.store.specs.Opened.{Opens, IsBad, LeavesFirst, IsHindered, IsVast};
+ghost use Rattle.tables.specs.Causes.{IsHindered, IsVast};
+ghost use Rattle.store.specs.Opened.{Opens, IsBad, LeavesFirst};
 
 use crate::adopt::open_tables;
 use crate::entries::{add_entry, count_entries, find_entry, find_heading};
@@ -171,6 +173,7 @@ impl<S: Alter> SqlShelves<S> {
         alloc: Global,
         mut conn: Connection<S>,
     ) -> Result<SqlShelves<S>, (Refusal, Connection<S>)>
+        ensures clean { IfOk result (λ s. doubt (state S.Store conn).is_clean ≤ doubt (state S.Store s.conn).is_clean) }
         ensures opens { IfOk result (λ s. HasCleanDisk (state S.Store s.conn) → Opens (state S.Store conn) (state S.Store s.conn)) }
         ensures none_failed { IfOk result (λ s. s.failures ≡ 0) }
         // Where this is refused, the connection shows what it showed, and a crash leaves what it left before or the made tables.

@@ -9,8 +9,8 @@ ghost use Rattle.sqlite.specs.State.{HasCleanDisk};
 ghost use Rattle.sqlite.specs.Values.{bound};
 ghost use Rattle.sqlite.proofs.Callers.{command_of};
 ghost use Rattle.world.specs.Visible.{versions_seen, paths_seen};
-ghost use Rattle.store.specs.Schema.{store_schema};
-ghost use Rattle.store.specs.Means.{Stands};
+ghost use Rattle.tables.specs.Schema.{store_schema};
+ghost use Rattle.tables.specs.Means.{Stands};
 ghost use Rattle.store.specs.Calls.{Spares};
 ghost use Rattle.store.specs.Lists.{AddsTexts, AddsVersions, AddsPaths};
 

@@ -1,9 +1,8 @@
 use Rattle.std.proofs.Common.{refl, inl}
 use Rattle.sqlite.specs.Held.{state}
 use Rattle.world.specs.World.{only_common}
-use Rattle.store.proofs.FirstWorld.{first_world}
-use Rattle.store.proofs.OpenLemmas.{begins_at}
-use Rattle.store.proofs.OpenLemmas.{told_device}
+use Rattle.world.proofs.OnlyCommon.{only_common_stands}
+use Rattle.store.proofs.OpenLemmas.{begins_at, told_device}
 use Rattle.store.proofs.adopt.make_tables.Goals as goal
 
 pub returns-in-Ok-clause-opens : goal.returns-in-Ok-clause-opens
@@ -13,7 +12,7 @@ returns-in-Ok-clause-opens g c clean none =
       is_open = h.0;
       world = only_common;
       tables = inl (none, refl);
-      begins = begins_at (state g.S.Store c.args.conn.now) (state g.S.Store c.create.new.conn) (λ db shown may. g.met.S.Store.settled c.create.new.conn.store db shown may) h.0 clean only_common h.1 first_world;
+      begins = begins_at (state g.S.Store c.args.conn.now) (state g.S.Store c.create.new.conn) (λ db shown may. g.met.S.Store.settled c.create.new.conn.store db shown may) h.0 clean only_common h.1 only_common_stands;
     }
 
 pub returns-in-Err-clause-device : goal.returns-in-Err-clause-device

@@ -2,7 +2,7 @@ use Rattle.std.proofs.Common.{refl, subst}
 use Rattle.sqlite.specs.Held.{state}
 use Rattle.store.specs.Calls.{Selects}
 use Rattle.store.proofs.Texts.{count_text}
-use Rattle.store.proofs.CallLemmas.{was_clean}
+use Rattle.tables.proofs.FailureLemmas.{was_clean}
 use Rattle.store.proofs.ChangeLemmas.{weaker}
 use Rattle.store.proofs.CountLemmas.{count_plain, count_tables, count_read, path_params}
 use Rattle.store.proofs.entries.count_entries.Goals as goal

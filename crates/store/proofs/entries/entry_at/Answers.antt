@@ -3,7 +3,8 @@ use Rattle.sqlite.specs.Held.{state}
 use Rattle.sqlite.specs.Effect.{Database}
 use Rattle.world.specs.declared.entry.Place.{Place}
 use Rattle.store.specs.Reading.{HasRow, HasZip}
-use Rattle.store.proofs.CallLemmas.{spares_then, was_clean}
+use Rattle.tables.proofs.FailureLemmas.{was_clean}
+use Rattle.store.proofs.CallLemmas.{spares_then}
 use Rattle.store.proofs.HeadingLemmas.{entry_whole, entry_lacks}
 use Rattle.store.proofs.entries.entry_at.Goals as goal
 

@@ -1,6 +1,7 @@
 use Rattle.std.proofs.Common.{sym, ◌∙◌}
 use Rattle.sqlite.specs.Held.{state}
-use Rattle.store.proofs.CallLemmas.{spares_then, was_clean}
+use Rattle.tables.proofs.FailureLemmas.{was_clean}
+use Rattle.store.proofs.CallLemmas.{spares_then}
 use Rattle.store.proofs.HeadingLemmas.{view_own, view_common}
 use Rattle.store.proofs.ChangeLemmas.{weaker}
 use Rattle.store.proofs.entries.find_entry.Goals as goal

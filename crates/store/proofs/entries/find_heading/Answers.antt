@@ -1,6 +1,7 @@
 use Rattle.std.proofs.Common.{sym, ◌∙◌}
 use Rattle.sqlite.specs.Held.{state}
-use Rattle.store.proofs.CallLemmas.{spares_then, was_clean}
+use Rattle.tables.proofs.FailureLemmas.{was_clean}
+use Rattle.store.proofs.CallLemmas.{spares_then}
 use Rattle.store.proofs.HeadingLemmas.{heading_own, heading_common}
 use Rattle.store.proofs.ChangeLemmas.{weaker}
 use Rattle.store.proofs.entries.find_heading.Goals as goal

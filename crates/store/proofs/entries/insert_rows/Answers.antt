@@ -4,7 +4,7 @@ use Rattle.sqlite.specs.State.{ExecutesInside}
 use Rattle.world.specs.declared.entry.Place.{Place}
 use Rattle.world.specs.declared.entry.Entry.{Entry}
 use Rattle.store.proofs.Texts.{add_version_text, add_body_text}
-use Rattle.store.proofs.CallLemmas.{was_clean}
+use Rattle.tables.proofs.FailureLemmas.{was_clean}
 use Rattle.store.proofs.AddEntryLemmas.{both_added, time_bound, version_params, body_params}
 use Rattle.store.proofs.entries.insert_rows.Goals as goal
 

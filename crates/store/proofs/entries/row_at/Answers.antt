@@ -3,7 +3,7 @@ use Rattle.sqlite.specs.Held.{state}
 use Rattle.world.specs.declared.entry.Place.{Place}
 use Rattle.store.specs.Calls.{Selects}
 use Rattle.store.proofs.Texts.{row_text}
-use Rattle.store.proofs.CallLemmas.{was_clean}
+use Rattle.tables.proofs.FailureLemmas.{was_clean}
 use Rattle.store.proofs.HeadingLemmas.{row_plain, row_tables, row_read, row_lacks, place_params}
 use Rattle.store.proofs.entries.row_at.Goals as goal
 

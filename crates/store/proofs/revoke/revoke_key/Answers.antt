@@ -3,7 +3,7 @@ use Rattle.std.specs.FinMap as map
 use Rattle.sqlite.specs.Held.{state}
 use Rattle.store.specs.Calls.{ChangesAt, Changes}
 use Rattle.store.specs.Views.{with_key_revoked}
-use Rattle.store.proofs.CallLemmas.{was_clean}
+use Rattle.tables.proofs.FailureLemmas.{was_clean}
 use Rattle.store.proofs.ChangeLemmas.{spared, refused, spares_changes, not_ok}
 use Rattle.store.proofs.RevokeLemmas.{unknown_same, known_gone}
 use Rattle.store.proofs.revoke.revoke_key.Goals as goal

@@ -4,7 +4,7 @@ use Rattle.world.specs.declared.registry.Registered.TheVariants.{Done}
 use Rattle.world.specs.Registry.{team_added}
 use Rattle.store.specs.Calls.{ChangesAt, Changes}
 use Rattle.store.specs.Views.{with_team_added}
-use Rattle.store.proofs.CallLemmas.{was_clean}
+use Rattle.tables.proofs.FailureLemmas.{was_clean}
 use Rattle.store.proofs.AddTeamLemmas.{team_same, team_new}
 use Rattle.world.proofs.Sound.{new_team}
 use Rattle.store.proofs.ChangeLemmas.{spared, refused, spares_changes, not_ok}

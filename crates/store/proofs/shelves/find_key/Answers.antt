@@ -3,7 +3,7 @@ use Rattle.sqlite.specs.declared.types.Value.TheVariants.{Text}
 use Rattle.sqlite.specs.Held.{state}
 use Rattle.store.specs.Calls.{Selects}
 use Rattle.store.proofs.Texts.{key_text}
-use Rattle.store.proofs.CallLemmas.{was_clean}
+use Rattle.tables.proofs.FailureLemmas.{was_clean}
 use Rattle.store.proofs.KeyLemmas.{key_plain, key_tables, key_found, key_some, key_none}
 use Rattle.store.proofs.shelves.find_key.Goals as goal
 

@@ -1,5 +1,5 @@
 use Rattle.sqlite.specs.Held.{state}
-use Rattle.store.proofs.CallLemmas.{was_clean}
+use Rattle.tables.proofs.FailureLemmas.{was_clean}
 use Rattle.store.proofs.ChangeLemmas.{on_weaker}
 use Rattle.store.proofs.VisibleLemmas.{versions_plain, versions_tables, versions_added}
 use Rattle.store.proofs.visible.add_versions.Goals as goal

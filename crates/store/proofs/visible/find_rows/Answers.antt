@@ -2,7 +2,8 @@ use Rattle.std.proofs.Common.{[]}
 use Rattle.sqlite.specs.Held.{state}
 use Rattle.sqlite.specs.State.{HasCleanDisk}
 use Rattle.sqlite.specs.Values.{bound}
-use Rattle.store.proofs.CallLemmas.{quiet_spares, not_run, rows_spares, was_open, all_selected}
+use Rattle.tables.proofs.FailureLemmas.{not_run}
+use Rattle.store.proofs.CallLemmas.{quiet_spares, rows_spares, was_open, all_selected}
 use Rattle.store.proofs.ChangeLemmas.{weaker}
 use Rattle.store.proofs.visible.find_rows.Goals as goal
 

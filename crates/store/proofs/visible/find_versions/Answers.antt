@@ -1,5 +1,6 @@
 use Rattle.sqlite.specs.Held.{state}
-use Rattle.store.proofs.CallLemmas.{spares_then, was_clean}
+use Rattle.tables.proofs.FailureLemmas.{was_clean}
+use Rattle.store.proofs.CallLemmas.{spares_then}
 use Rattle.store.proofs.VisibleLemmas.{versions_whole}
 use Rattle.store.proofs.visible.find_versions.Goals as goal
 

@@ -1,5 +1,0 @@
-use Rattle.store.proofs.RowFits.{no_shelf}
-use Rattle.store.proofs.fit.ShelfRowsRowTest.passes.Goals as goal
-
-pub returns-in_default-clause-verdict : goal.returns-in_default-clause-verdict
-returns-in_default-clause-verdict c = no_shelf c.args.row.now (rw c.in_default.is at c.in_ok-name.ensures.found)

@@ -1,5 +1,0 @@
-use Rattle.store.proofs.OneWorld.{stand_for_one}
-use Rattle.store.proofs.laws.meaning.Goals as goal
-
-pub returns : goal.returns
-returns c = stand_for_one

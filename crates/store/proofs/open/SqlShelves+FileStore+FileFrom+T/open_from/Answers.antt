@@ -1,0 +1,15 @@
+use Rattle.sqlite.specs.Files.{file_state}
+use Rattle.tables.proofs.FailureLemmas.{was_clean}
+use Rattle.store.proofs.OpenLemmas.{begins_found}
+use Rattle.store.proofs.open.SqlShelves+FileStore+FileFrom+T.open_from.Goals as goal
+
+pub returns-in-Ok-adopt-clause-begins : goal.returns-in-Ok-adopt-clause-begins
+returns-in-Ok-adopt-clause-begins g c clean = let it = c.in-Ok-adopt.ensures.opens clean in (it.world, it.begins)
+
+pub returns-in-Ok-adopt-clause-found : goal.returns-in-Ok-adopt-clause-found
+returns-in-Ok-adopt-clause-found g c clean w held =
+    let old = file_state c.in-Ok.conn in
+    let new = file_state c.in-Ok-adopt.shelves.conn in
+    let was = was_clean old new c.in-Ok-adopt.ensures.clean clean in
+    let opened = c.in-Ok.ensures.opened was in
+    begins_found old new _ opened.1 opened.0.is_open opened.0.clean (c.in-Ok.ensures.found was) (c.in-Ok-adopt.ensures.opens clean) w held

@@ -1,0 +1,330 @@
+-- What the walks over the rows of the tables tell.
+use Rattle.std.proofs.Common.{◌≡◌, ◌≤◌, ◌++◌, ◌||◌, ◌⊎◌, ℕ, Bool, true, false, List, [], ◌∷◌, map, Option, Some, None, Ok, Err, Result, OnOk, IfOk, inl, inr, refl, sym, ap, subst, ◌∙◌, arith, Decides, true≢false, append_assoc, Less, Equal, IsPermutation}
+use Rattle.std.specs.Ordering.{is_lt, ordering_then, int_cmp}
+use Rattle.std.specs.declared.cmp.Ordering.{Ordering}
+use Rattle.std.specs.Cmp.{IsTotalOrder, tied_itself, int_cmp_total}
+use Rattle.std.specs.FinMap.{IsAntisymmetric, int_cmp-IsAntisymmetric}
+use Rattle.std.proofs.lemmas.List.Sorted.{IsPermutation-sym}
+use Rattle.sqlite.specs.declared.types.Value.{Value}
+use Rattle.sqlite.specs.declared.types.Value.TheVariants.{Text}
+use Rattle.sqlite.specs.Order.{Row, column}
+use Rattle.sqlite.specs.Tree.{Trees}
+use Rattle.sqlite.specs.Effect.{Database}
+use Rattle.sqlite.specs.Query.{key_cmp}
+use Rattle.sqlite.specs.declared.error.Error.{Error}
+use Rattle.sqlite.specs.State.{State, HasCleanDisk, IsUnchanged}
+use Rattle.sqlite.specs.Collation.TheVariants.{Binary}
+use Rattle.sqlite_value.specs.Keys.{ascending}
+use Rattle.sqlite_value.proofs.OrderLemmas.{value_cmp-Text, value_cmp-Int, then-Equal}
+use Rattle.sqlite_trees.specs.Tree.{IsAscending}
+use Rattle.sqlite_trees.proofs.ListLemmas.{ascending_weaker}
+use Rattle.sqlite_rules.specs.Lists.{Has}
+use Rattle.sqlite_rules.proofs.ListLemmas.{has_left, has_right}
+use Rattle.world.specs.declared.entry.Place.{Place}
+use Rattle.world.specs.World.{text_cmp, place_cmp, version_limit}
+use Rattle.world.proofs.Orders.{texts_total, texts_exact, places_total, places_exact}
+use Rattle.tables.specs.Schema.{store_schema}
+use Rattle.tables.specs.Walks.{Looks, Tests, Pass, Walks, MayFollow, run_with}
+use Rattle.tables.specs.Fit
+use Rattle.tables.specs.Fit.{joined}
+use Rattle.tables.specs.declared.fit.MetaRows.{MetaRows}
+use Rattle.tables.specs.declared.fit.ShelfRows.{ShelfRows}
+use Rattle.tables.specs.declared.fit.KeyRows.{KeyRows}
+use Rattle.tables.specs.declared.fit.NumberRows.{NumberRows}
+use Rattle.tables.specs.declared.fit.EntryRows.{EntryRows}
+use Rattle.tables.proofs.Texts.{meta_rows_text, shelf_rows_text, key_rows_text, number_rows_text, entry_rows_text}
+use Rattle.tables.proofs.Ascending.{has_permuted, Adjacent, adjacent_both, adjacent_among, ascends, ascends_permuted, across, apart_below, filter_permuted}
+use Rattle.tables.proofs.ListingLemmas.{all_listed, first_listed, meta_rows_is, shelf_rows_is, key_rows_is, number_rows_is, entry_rows_is, meta_listed, shelves_listed, keys_listed, numbers_listed, entries_listed, InOrder, keys_in_order, numbers_in_order, entries_in_order, place_columns}
+use Rattle.tables.proofs.RunLemmas.{adjacent_apart, last_of, many_on, many_more, push_on, run_within, few_in_all}
+
+-- ---- a walk as a test
+
+pub told : (old new : State) (b : Bool) (P : Trees → Type 0) → Looks old new → (HasCleanDisk new → old.now.schema ≡ store_schema → IsUnchanged old new) → (HasCleanDisk new → old.now.schema ≡ store_schema → Decides b (P old.now.trees)) → Tests old new (Ok b) P
+told old new b P looks same answer = record { looks = looks; same = same; answer = answer }
+
+pub no_answer : (old new : State) (e : Error) (P : Trees → Type 0) → Looks old new → Tests old new (Err e) P
+no_answer old new e P looks = record { looks = looks; same = λ _ _. tt; answer = λ _ _. tt }
+
+pub refused : {A : Type 0} → (A → ⊥) → Decides false A
+refused no' = (λ t. absurd (true≢false (sym t)), λ a. absurd (no' a))
+
+pub passed : {A : Type 0} → A → Decides true A
+passed a = (λ _. a, λ _. refl)
+
+-- each row passes, or one does not
+pub walked : {X : Type 0} (Fits : X → Row → Type 0) (Keeps : X → Row → X → Type 0) (sql : List ℕ) (old new : State) (result : Result Bool Error) (start end : X) (P : Trees → Type 0) → Looks old new
+    → (HasCleanDisk new → old.now.schema ≡ store_schema → OnOk result (IsUnchanged old new)) → (HasCleanDisk new → old.now.schema ≡ store_schema → IfOk result (Walks Fits Keeps sql old.now start end))
+    → (Walks Fits Keeps sql old.now start end true → P old.now.trees) → (Walks Fits Keeps sql old.now start end false → P old.now.trees → ⊥) → Tests old new result P
+walked Fits Keeps sql old new (Ok true) start end P looks same answer yes' no' = told old new true P looks same (λ clean has. passed (yes' (answer clean has)))
+walked Fits Keeps sql old new (Ok false) start end P looks same answer yes' no' = told old new false P looks same (λ clean has. refused (no' (answer clean has)))
+walked Fits Keeps sql old new (Err e) start end P looks same answer yes' no' = no_answer old new e P looks
+
+pass_each : {X : Type 0} (Fits : X → Row → Type 0) (Keeps : X → Row → X → Type 0) (start : X) (rows : List Row) (end : X) → Pass Fits Keeps start rows end → (row : Row) → Has rows row → (x : X) × Fits x row
+pass_each {X} Fits Keeps start [] end p row there = absurd there
+pass_each {X} Fits Keeps start (r ∷ rows) end p row (inl same) = (start, subst (Fits start) (sym same) p.0)
+pass_each {X} Fits Keeps start (r ∷ rows) end p row (inr later) = pass_each Fits Keeps p.1 rows end p.3 row later
+
+-- a row that is listed at this place
+pub at_place : (rows tail : List Row) (row : Row) → Has ((rows ++ row ∷ []) ++ tail) row
+at_place rows tail row = has_left (rows ++ row ∷ []) tail row (has_right rows (row ∷ []) row (inl refl))
+
+-- it stands after those before it
+after_all : (P : Row → Row → Type 0) (rows tail : List Row) (row r : Row) → IsAscending P ((rows ++ row ∷ []) ++ tail) → Has rows r → P r row
+after_all P rows tail row r up there = across P rows (row ∷ tail) (subst (IsAscending P) (append_assoc rows (row ∷ []) tail) up) r row there (inl refl)
+
+-- ---- meta
+
+abbrev pub MetaFits : MetaRows → Row → Type 0
+MetaFits rows row = Fit.IsSchemaRow row
+
+abbrev pub MetaKeeps : MetaRows → Row → MetaRows → Type 0
+MetaKeeps rows row next = next.has_row ≡ true
+
+met : (start : MetaRows) (rows : List Row) (end : MetaRows) → Pass MetaFits MetaKeeps start rows end → (end ≡ start) × (rows ≡ []) ⊎ ((r : Row) × Has rows r × (end.has_row ≡ true))
+met start [] end p = inl (p, refl)
+met start (r ∷ rows) end p = elim (met p.1 rows end p.3) [ inl none ↦ inr (r, inl refl, ap (λ (x : MetaRows). x.has_row) none.0 ∙ p.2) | inr it ↦ inr (it.0, inr it.1, it.2) ]
+
+module _ (db : Database) (start end : MetaRows) where
+  pub meta_true : start.has_row ≡ false → Walks MetaFits MetaKeeps meta_rows_text db start end true → Decides end.has_row (Fit.IsMetaFit (map Fit.meta_shown (db.trees 0)))
+  meta_true new w =
+      let same = meta_listed db.trees w.0 (all_listed meta_rows_text _ _ _ _ meta_rows_is db w.0 w.1) in
+      elim (met start w.0 end w.2) [
+        | inl none ↦ (
+            let unseen : end.has_row ≡ false = ap (λ (x : MetaRows). x.has_row) none.0 ∙ new in
+            (λ t. absurd (true≢false (sym t ∙ unseen)), λ fit. absurd (subst (λ l. Has l fit.some.0) none.1 (has_permuted w.0 _ fit.some.0 (IsPermutation-sym _ _ same) fit.some.1))))
+        | inr it ↦ (
+          λ _. record {
+            each = λ row there. (pass_each MetaFits MetaKeeps start w.0 end w.2 row (has_permuted w.0 _ row (IsPermutation-sym _ _ same) there)).1;
+            some = (it.0, has_permuted _ w.0 it.0 same it.1);
+          },
+          λ _. it.2,
+        )
+      ]
+
+  pub meta_false : Walks MetaFits MetaKeeps meta_rows_text db start end false → Fit.IsMetaFit (map Fit.meta_shown (db.trees 0)) → ⊥
+  meta_false w fit =
+      let first = first_listed meta_rows_text _ _ _ _ meta_rows_is db (w.0 ++ w.1 ∷ []) w.3 in
+      let same = meta_listed db.trees _ first.1 in
+      w.5 (fit.each w.1 (has_permuted _ _ w.1 same (at_place w.0 first.0 w.1)))
+
+-- ---- shelf
+
+abbrev pub ShelfFits : ShelfRows → Row → Type 0
+ShelfFits rows row = Fit.IsShelfRow row
+
+abbrev pub ShelfKeeps : ShelfRows → Row → ShelfRows → Type 0
+ShelfKeeps rows row next = next.has_common ≡ (rows.has_common || Fit.is_common (column row 0))
+
+or_true : (a b : Bool) → (a || b) ≡ true → (a ≡ true) ⊎ (b ≡ true)
+or_true true b h = inl refl
+or_true false b h = inr h
+
+or_first : (a b : Bool) → a ≡ true → (a || b) ≡ true
+or_first true b h = refl
+or_first false b h = absurd (true≢false (sym h))
+
+or_second : (a b : Bool) → b ≡ true → (a || b) ≡ true
+or_second true b h = refl
+or_second false b h = h
+
+common_stays : (start : ShelfRows) (rows : List Row) (end : ShelfRows) → Pass ShelfFits ShelfKeeps start rows end → start.has_common ≡ true → end.has_common ≡ true
+common_stays start [] end p h = ap (λ (x : ShelfRows). x.has_common) p ∙ h
+common_stays start (r ∷ rows) end p h = common_stays p.1 rows end p.3 (p.2 ∙ or_first start.has_common _ h)
+
+common_met : (start : ShelfRows) (rows : List Row) (end : ShelfRows) → Pass ShelfFits ShelfKeeps start rows end → end.has_common ≡ true → (start.has_common ≡ true) ⊎ ((r : Row) × Has rows r × (Fit.is_common (column r 0) ≡ true))
+common_met start [] end p h = inl (ap (λ (x : ShelfRows). x.has_common) (sym p) ∙ h)
+common_met start (r ∷ rows) end p h = elim (common_met p.1 rows end p.3 h) [
+  | inl here ↦ elim (or_true start.has_common (Fit.is_common (column r 0)) (sym p.2 ∙ here)) [ inl before ↦ inl before | inr now ↦ inr (r, inl refl, now) ]
+  | inr later ↦ inr (later.0, inr later.1, later.2)
+]
+
+common_noted : (start : ShelfRows) (rows : List Row) (end : ShelfRows) → Pass ShelfFits ShelfKeeps start rows end → (r : Row) → Has rows r → Fit.is_common (column r 0) ≡ true → end.has_common ≡ true
+common_noted start [] end p r there h = absurd there
+common_noted start (x ∷ rows) end p r (inl same) h = common_stays p.1 rows end p.3 (p.2 ∙ or_second start.has_common _ (ap (λ y. Fit.is_common (column y 0)) (sym same) ∙ h))
+common_noted start (x ∷ rows) end p r (inr later) h = common_noted p.1 rows end p.3 r later h
+
+module _ (db : Database) (start end : ShelfRows) where
+  pub shelves_true : start.has_common ≡ false → Walks ShelfFits ShelfKeeps shelf_rows_text db start end true → Decides end.has_common (Fit.AreShelvesFit (map Fit.name_shown (db.trees 2)))
+  shelves_true new w =
+      let same = shelves_listed db.trees w.0 (all_listed shelf_rows_text _ _ _ _ shelf_rows_is db w.0 w.1) in
+      let back = λ (r : Row) (there : Has (map Fit.name_shown (db.trees 2)) r). has_permuted w.0 _ r (IsPermutation-sym _ _ same) there in (
+        λ has. record {
+          each = λ row there. (pass_each ShelfFits ShelfKeeps start w.0 end w.2 row (back row there)).1;
+          has_common = elim (common_met start w.0 end w.2 has) [ inl old ↦ absurd (true≢false (sym old ∙ new)) | inr it ↦ (it.0, has_permuted _ w.0 it.0 same it.1, it.2) ];
+        },
+        λ fit. common_noted start w.0 end w.2 fit.has_common.0 (back fit.has_common.0 fit.has_common.1) fit.has_common.2,
+      )
+
+  pub shelves_false : Walks ShelfFits ShelfKeeps shelf_rows_text db start end false → Fit.AreShelvesFit (map Fit.name_shown (db.trees 2)) → ⊥
+  shelves_false w fit =
+      let first = first_listed shelf_rows_text _ _ _ _ shelf_rows_is db (w.0 ++ w.1 ∷ []) w.3 in
+      let same = shelves_listed db.trees _ first.1 in
+      w.5 (fit.each w.1 (has_permuted _ _ w.1 same (at_place w.0 first.0 w.1)))
+
+-- ---- access: rows in the order of a key, each with a key of its own
+
+not_itself : {K : Type 0} {R : K → K → Ordering} → IsTotalOrder R → (a b : K) → R a b ≡ Less → a ≡ b → ⊥
+not_itself {K} {R} o a b less same = let e : Less ≡ Equal = sym less ∙ (ap (R a) (sym same) ∙ tied_itself o a) in absurd (cc)
+
+module _ {T K : Type 0} {R : K → K → Ordering} (total : IsTotalOrder R) (exact : IsAntisymmetric R) (IsRow : Row → Type 0) (key : Row → K) (last : T → Option K)
+    (in_order : (a b : Row) → IsRow a → IsRow b → key_cmp 0 (ascending Binary ∷ []) (column a 0 ∷ []) (column b 0 ∷ []) ≡ R (key a) (key b)) where
+  abbrev OnceFits : T → Row → Type 0
+  OnceFits x row = IsRow row × (last x ≡ Some (key row) → ⊥)
+
+  abbrev OnceKeeps : T → Row → T → Type 0
+  OnceKeeps x row next = last next ≡ Some (key row)
+
+  abbrev KeysApart : Row → Row → Type 0
+  KeysApart a b = key a ≡ key b → ⊥
+
+  turned : (a b : Row) → KeysApart a b → KeysApart b a
+  turned a b apart same = apart (sym same)
+
+  rise : (start end : T) (rows : List Row) → InOrder rows → Pass OnceFits OnceKeeps start rows end → IsAscending (λ a b. R (key a) (key b) ≡ Less) rows
+  rise start end rows sorted p =
+      let apart = adjacent_apart OnceFits OnceKeeps last key (λ x row next keeps. keeps) (λ x row fits. fits.1) start rows end p in
+      let each = λ (r : Row) (there : Has rows r). (pass_each OnceFits OnceKeeps start rows end p r there).1.0 in
+      let upto = adjacent_among _ (λ a b. is_lt (R (key b) (key a)) ≡ false) rows (λ a b here there h. ap is_lt (sym (in_order b a (each b there) (each a here))) ∙ h) sorted in
+      ascends (λ a b. R (key a) (key b) ≡ Less) (λ a b c. total.trans (key a) (key b) (key c)) rows (adjacent_both _ _ _ (λ a b upto apart. apart_below total exact (key a) (key b) upto apart) rows upto apart)
+
+  once_true : (start end : T) (rows all : List Row) → IsPermutation all rows → InOrder rows → Pass OnceFits OnceKeeps start rows end → Fit.AreOnce IsRow key all
+  once_true start end rows all same sorted p =
+      let back = IsPermutation-sym _ _ same in
+      record {
+        each = λ row there. (pass_each OnceFits OnceKeeps start rows end p row (has_permuted rows all row back there)).1.0;
+        once = ascends_permuted KeysApart turned rows all back (ascending_weaker _ KeysApart (λ a b less tie. not_itself total (key a) (key b) less tie) rows (rise start end rows sorted p));
+      }
+
+  once_false : (start kept : T) → last start ≡ None → (rows : List Row) (row : Row) (tail all : List Row) → IsPermutation all ((rows ++ row ∷ []) ++ tail) → Pass OnceFits OnceKeeps start rows kept → (OnceFits kept row → ⊥) → Fit.AreOnce IsRow key all → ⊥
+  once_false start kept new rows row tail all same p unfit fit =
+      let once = ascends_permuted KeysApart turned all _ same fit.once in
+      unfit (
+        fit.each row (has_permuted all _ row same (at_place rows tail row)),
+        λ is. elim (last_of OnceFits OnceKeeps last key (λ x row next keeps. keeps) start rows kept p (key row) is) [
+          | inl old ↦ absurd (let e = sym new ∙ old in cc)
+          | inr it ↦ after_all KeysApart rows tail row it.0 once it.1 it.2
+        ],
+      )
+
+-- texts in SQL's order are in ours
+texts_in_order : (a b : Row) → Fit.IsKeyRow a → Fit.IsKeyRow b → key_cmp 0 (ascending Binary ∷ []) (column a 0 ∷ []) (column b 0 ∷ []) ≡ text_cmp (Fit.key_in a) (Fit.key_in b)
+texts_in_order a b one two = rw (one.1, two.1) (then-Equal _ ∙ value_cmp-Text one.0 two.0)
+
+ints_in_order : (a b : Row) → Fit.IsNumberRow a → Fit.IsNumberRow b → key_cmp 0 (ascending Binary ∷ []) (column a 0 ∷ []) (column b 0 ∷ []) ≡ int_cmp (Fit.number_in a) (Fit.number_in b)
+ints_in_order a b one two = rw (one.1, two.1) (then-Equal _ ∙ value_cmp-Int one.0 two.0)
+
+abbrev pub KeyFits : KeyRows → Row → Type 0
+KeyFits rows row = Fit.IsKeyRow row × (rows.last ≡ Some (Fit.key_in row) → ⊥)
+
+abbrev pub KeyKeeps : KeyRows → Row → KeyRows → Type 0
+KeyKeeps rows row next = next.last ≡ Some (Fit.key_in row)
+
+abbrev pub NumberFits : NumberRows → Row → Type 0
+NumberFits rows row = Fit.IsNumberRow row × (rows.last ≡ Some (Fit.number_in row) → ⊥)
+
+abbrev pub NumberKeeps : NumberRows → Row → NumberRows → Type 0
+NumberKeeps rows row next = next.last ≡ Some (Fit.number_in row)
+
+module _ (db : Database) where
+  pub keys_true : (start end : KeyRows) → Walks KeyFits KeyKeeps key_rows_text db start end true → Fit.AreKeysFit (map Fit.name_shown (db.trees 4))
+  keys_true start end w =
+      let it = all_listed key_rows_text _ _ _ _ key_rows_is db w.0 w.1 in
+      once_true texts_total texts_exact Fit.IsKeyRow Fit.key_in (λ (x : KeyRows). x.last) texts_in_order start end w.0 _ (keys_listed db.trees w.0 it) (keys_in_order db.trees w.0 it) w.2
+
+  pub keys_false : (start end : KeyRows) → start.last ≡ None → Walks KeyFits KeyKeeps key_rows_text db start end false → Fit.AreKeysFit (map Fit.name_shown (db.trees 4)) → ⊥
+  keys_false start end new w =
+      let first = first_listed key_rows_text _ _ _ _ key_rows_is db (w.0 ++ w.1 ∷ []) w.3 in
+      once_false texts_total texts_exact Fit.IsKeyRow Fit.key_in (λ (x : KeyRows). x.last) texts_in_order start w.2 new w.0 w.1 first.0 _ (keys_listed db.trees _ first.1) w.4 w.5
+
+  pub numbers_true : (start end : NumberRows) → Walks NumberFits NumberKeeps number_rows_text db start end true → Fit.AreNumbersFit (map Fit.number_shown (db.trees 4))
+  numbers_true start end w =
+      let it = all_listed number_rows_text _ _ _ _ number_rows_is db w.0 w.1 in
+      once_true int_cmp_total int_cmp-IsAntisymmetric Fit.IsNumberRow Fit.number_in (λ (x : NumberRows). x.last) ints_in_order start end w.0 _ (numbers_listed db.trees w.0 it) (numbers_in_order db.trees w.0 it) w.2
+
+  pub numbers_false : (start end : NumberRows) → start.last ≡ None → Walks NumberFits NumberKeeps number_rows_text db start end false → Fit.AreNumbersFit (map Fit.number_shown (db.trees 4)) → ⊥
+  numbers_false start end new w =
+      let first = first_listed number_rows_text _ _ _ _ number_rows_is db (w.0 ++ w.1 ∷ []) w.3 in
+      once_false int_cmp_total int_cmp-IsAntisymmetric Fit.IsNumberRow Fit.number_in (λ (x : NumberRows). x.last) ints_in_order start w.2 new w.0 w.1 first.0 _ (numbers_listed db.trees _ first.1) w.4 w.5
+
+-- ---- version and body
+
+abbrev pub EntryFits : EntryRows → Row → Type 0
+EntryFits rows row = Fit.IsEntryRow row × MayFollow rows.last rows.many (Fit.place_in row)
+
+abbrev pub EntryKeeps : EntryRows → Row → EntryRows → Type 0
+EntryKeeps rows row next = (next.last ≡ Some (Fit.place_in row)) × (next.many ≡ run_with rows.last rows.many (Fit.place_in row))
+
+abbrev PlacesApart : Row → Row → Type 0
+PlacesApart a b = Fit.place_in a ≡ Fit.place_in b → ⊥
+
+places_turned : (a b : Row) → PlacesApart a b → PlacesApart b a
+places_turned a b apart same = apart (sym same)
+
+abbrev IsPlaced : Row → Type 0
+IsPlaced row = (column row 0 ≡ Text (Fit.place_in row).shelf) × (column row 1 ≡ Text (Fit.place_in row).path) × (column row 2 ≡ Text (Fit.place_in row).version)
+
+held_text : (v : Value) (t : List ℕ) → v ≡ Text t → v ≡ Text (Fit.text_in v)
+held_text v t is = is ∙ ap (λ x. Text (Fit.text_in x)) (sym is)
+
+placed : (row : Row) → Fit.IsEntryRow row → IsPlaced row
+placed row it = (held_text (column row 0) it.0.shelf it.2.shelf, held_text (column row 1) it.0.path it.2.path, held_text (column row 2) it.0.version it.2.version)
+
+-- places in SQL's order are in ours
+places_in_order : (a b : Row) → IsPlaced a → IsPlaced b → key_cmp 0 (ascending Binary ∷ ascending Binary ∷ ascending Binary ∷ []) (place_columns a) (place_columns b) ≡ place_cmp (Fit.place_in a) (Fit.place_in b)
+places_in_order a b one two = rw (one.0, one.1, one.2, two.0, two.1, two.2)
+    (λ i. ordering_then (value_cmp-Text (Fit.place_in a).shelf (Fit.place_in b).shelf i)
+    (ordering_then (value_cmp-Text (Fit.place_in a).path (Fit.place_in b).path i)
+    ((then-Equal _ ∙ value_cmp-Text (Fit.place_in a).version (Fit.place_in b).version) i)))
+
+may_differ : (o : Option Place) (many : ℕ) (q : Place) → MayFollow o many q → o ≡ Some q → ⊥
+may_differ None many q may is = let e = is in absurd (cc)
+may_differ (Some p) many q may is = may.0 (let e = is in cc)
+
+module _ (db : Database) (start end : EntryRows) where
+  entries_rise : (rows : List Row) → Adjacent (λ a b. is_lt (key_cmp 0 (ascending Binary ∷ ascending Binary ∷ ascending Binary ∷ []) (place_columns b) (place_columns a)) ≡ false) rows → Pass EntryFits EntryKeeps start rows end
+      → IsAscending (λ a b. place_cmp (Fit.place_in a) (Fit.place_in b) ≡ Less) rows
+  entries_rise rows sorted p =
+      let apart = adjacent_apart EntryFits EntryKeeps (λ (x : EntryRows). x.last) Fit.place_in (λ x row next keeps. keeps.0) (λ x row fits. may_differ x.last x.many (Fit.place_in row) fits.1) start rows end p in
+      let each = λ (r : Row) (there : Has rows r). placed r (pass_each EntryFits EntryKeeps start rows end p r there).1.0 in
+      let upto = adjacent_among _ (λ a b. is_lt (place_cmp (Fit.place_in b) (Fit.place_in a)) ≡ false) rows (λ a b here there h. ap is_lt (sym (places_in_order b a (each b there) (each a here))) ∙ h) sorted in
+      ascends (λ a b. place_cmp (Fit.place_in a) (Fit.place_in b) ≡ Less) (λ a b c. places_total.trans (Fit.place_in a) (Fit.place_in b) (Fit.place_in c)) rows
+      (adjacent_both _ _ _ (λ a b upto apart. apart_below places_total places_exact (Fit.place_in a) (Fit.place_in b) upto apart) rows upto apart)
+
+  pub entries_true : start.last ≡ None → Walks EntryFits EntryKeeps entry_rows_text db start end true → Fit.AreEntriesFit (joined (db.trees 6) (db.trees 8))
+  entries_true new w =
+      let it = all_listed entry_rows_text _ _ _ _ entry_rows_is db w.0 w.1 in
+      let same = entries_listed db.trees w.0 it in
+      let back = IsPermutation-sym _ _ same in
+      let rise = entries_rise w.0 (entries_in_order db.trees w.0 it) w.2 in
+      record {
+        each = λ row there. (pass_each EntryFits EntryKeeps start w.0 end w.2 row (has_permuted w.0 _ row back there)).1.0;
+        once = ascends_permuted PlacesApart places_turned w.0 _ back (ascending_weaker _ PlacesApart (λ a b less same. not_itself places_total (Fit.place_in a) (Fit.place_in b) less same) w.0 rise);
+        few = λ s p.
+            let few = few_in_all EntryFits EntryKeeps (λ (x : EntryRows). x.last) (λ (x : EntryRows). x.many) (λ x row next keeps. keeps) (λ x row fits. fits.1) start w.0 end new rise w.2 s p in
+            subst (λ n. n ≤ version_limit) (sym (filter_permuted (λ row. Fit.is_on s p (Fit.place_in row)) w.0 _ back)) few;
+      }
+
+  pub entries_false : start.last ≡ None → Walks EntryFits EntryKeeps entry_rows_text db start end false → Fit.AreEntriesFit (joined (db.trees 6) (db.trees 8)) → ⊥
+  entries_false new w fit =
+      let first = first_listed entry_rows_text _ _ _ _ entry_rows_is db (w.0 ++ w.1 ∷ []) w.3 in
+      let same = entries_listed db.trees _ first.1 in
+      let once = ascends_permuted PlacesApart places_turned _ _ same fit.once in
+      let few = λ (s p : List ℕ). subst (λ n. n ≤ version_limit) (sym (filter_permuted (λ row. Fit.is_on s p (Fit.place_in row)) _ _ same)) (fit.few s p) in
+      w.5 (fit.each w.1 (has_permuted _ _ w.1 same (at_place w.0 first.0 w.1)), follows w first.0 once few w.2.last refl)
+    where
+      follows : (w : Walks EntryFits EntryKeeps entry_rows_text db start end false) (tail : List Row) → IsAscending PlacesApart ((w.0 ++ w.1 ∷ []) ++ tail) → ((s p : List ℕ) → many_on s p ((w.0 ++ w.1 ∷ []) ++ tail) ≤ version_limit)
+          → (o : Option Place) → w.2.last ≡ o → MayFollow o w.2.many (Fit.place_in w.1)
+      follows w tail once few None is = tt
+      follows w tail once few (Some p) is =
+          let row = w.1 in (
+            λ same. elim (last_of EntryFits EntryKeeps (λ (x : EntryRows). x.last) Fit.place_in (λ x row next keeps. keeps.0) start w.0 w.2 w.4 p is) [
+              | inl old ↦ absurd (let e = sym new ∙ old in cc)
+              | inr it ↦ after_all PlacesApart w.0 tail row it.0 once it.1 (it.2 ∙ same)
+            ],
+            λ on.
+                let run = run_within EntryFits EntryKeeps (λ (x : EntryRows). x.last) (λ (x : EntryRows). x.many) (λ x row next keeps. keeps) [] start w.0 w.2 (λ q old. absurd (let e = sym new ∙ old in cc)) w.4 p is in
+                let more = push_on p.shelf p.path w.0 row on in
+                let all = many_more p.shelf p.path (w.0 ++ row ∷ []) tail in
+                let most = few p.shelf p.path in
+                omega (arith, run, more, all, most),
+          )

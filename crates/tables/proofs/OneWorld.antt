@@ -1,0 +1,80 @@
+-- Tables stand for at most one world.
+use Rattle.std.proofs.Common.{◌≡◌, ℕ, Bool, true, false, pos, cond, List, Option, Some, None, refl, sym, subst, ◌∙◌, IsTrue}
+use Rattle.std.specs.declared.cmp.Ordering.{Ordering}
+use Rattle.std.specs.FinMap as map
+use Rattle.std.specs.FinSet as set
+use Rattle.sqlite.specs.declared.types.Value.{Value}
+use Rattle.sqlite.specs.declared.types.Value.TheVariants.{Int, Text, Blob}
+use Rattle.sqlite.specs.Order.{Row, column}
+use Rattle.world.specs.declared.entry.Place.{Place}
+use Rattle.world.specs.declared.entry.Entry.{Entry}
+use Rattle.world.specs.declared.entry.Holder.{Holder}
+use Rattle.world.specs.declared.entry.Right.{Right}
+use Rattle.world.specs.declared.entry.Right.TheVariants.{Reads, Publishes}
+use Rattle.world.proofs.Orders.{texts_total, texts_exact, places_total, places_exact}
+use Rattle.tables.specs.Means.{may_publish}
+use Rattle.tables.specs.Means.{Tabulates, IsAccess, IsVersion, IsShelf}
+use Rattle.tables.specs.Laws.{StandForOne}
+use Rattle.tables.proofs.RowFits.{time_told}
+use Rattle.tables.proofs.CountedRows.{same_place}
+
+-- where a row is of one thing alone, the things of a table are the same however they are named
+carried : {X : Type 0} (IsRow : Row → X → Type 0) (rows : List Row) (P Q : X → Type 0) → ((row : Row) (x y : X) → IsRow row x → IsRow row y → y ≡ x) → Tabulates IsRow rows P → Tabulates IsRow rows Q → (x : X) → P x → Q x
+carried IsRow rows P Q one p q x holds =
+    let from = p.found x holds in
+    let to = q.each from.0 from.1 in
+    subst Q (one from.0 x to.0 from.2 to.1) to.2
+
+same_got : {K X : Type 0} {R : K → K → Ordering} (m n : map.FinMap R X) (k : K) → ((x : X) → map.get m k ≡ Some x → map.get n k ≡ Some x) → ((x : X) → map.get n k ≡ Some x → map.get m k ≡ Some x) → map.get m k ≡ map.get n k
+same_got {K} {X} {R} m n k there back = go (map.get m k) (map.get n k) refl refl
+  where
+    go : (a b : Option X) → map.get m k ≡ a → map.get n k ≡ b → map.get m k ≡ map.get n k
+    go (Some x) b one two = one ∙ sym (there x one)
+    go None (Some x) one two = back x two ∙ sym two
+    go None None one two = one ∙ sym two
+
+same_test : (a b : Bool) → (a ≡ true → b ≡ true) → (b ≡ true → a ≡ true) → a ≡ b
+same_test true b there back = sym (there refl)
+same_test false true there back = back refl
+same_test false false there back = refl
+
+texts_same : (v : Value) (s t : List ℕ) → v ≡ Text s → v ≡ Text t → t ≡ s
+texts_same v s t one two = let e = sym two ∙ one in cc
+
+blobs_same : (v : Value) (s t : List ℕ) → v ≡ Blob s → v ≡ Blob t → t ≡ s
+blobs_same v s t one two = let e = sym two ∙ one in cc
+
+rights_same : (v : Value) (r s : Right) → v ≡ Int (cond (may_publish r) (pos 1) (pos 0)) → v ≡ Int (cond (may_publish s) (pos 1) (pos 0)) → s ≡ r
+rights_same v Reads Reads one two = refl
+rights_same v Publishes Publishes one two = refl
+rights_same v Reads Publishes one two = let e = sym two ∙ one in absurd (cc)
+rights_same v Publishes Reads one two = let e = sym two ∙ one in absurd (cc)
+
+one_access : (row : Row) (x y : List ℕ × Holder) → IsAccess row x → IsAccess row y → y ≡ x
+one_access row x y one two =
+    let key = texts_same (column row 1) x.0 y.0 one.0 two.0 in
+    let shelf = texts_same (column row 2) x.1.shelf y.1.shelf one.1 two.1 in
+    let right = rights_same (column row 3) x.1.right y.1.right one.2 two.2 in
+    λ i. (key i, record { shelf = shelf i; right = right i })
+
+one_version : (bodies : List Row) (row : Row) (x y : Place × Entry) → IsVersion bodies row x → IsVersion bodies row y → y ≡ x
+one_version bodies row x y one two =
+    let place = same_place row y.0 x.0 two.place one.place in
+    let gomod = blobs_same (column row 6) x.1.gomod y.1.gomod one.gomod two.gomod in
+    let zip = blobs_same (column one.body 2) x.1.zip y.1.zip one.zip (two.only one.body one.there one.same) in
+    let time : y.1.time ≡ x.1.time = time_told (column row 5) y.1.time two.time ∙ sym (time_told (column row 5) x.1.time one.time) in
+    λ i. (place i, record { gomod = gomod i; zip = zip i; time = time i })
+
+one_shelf : (row : Row) (x y : List ℕ) → IsShelf row x → IsShelf row y → y ≡ x
+one_shelf row = texts_same (column row 1)
+
+pub stand_for_one : StandForOne
+stand_for_one db w x one two =
+    let keys = map.same_map texts_total texts_exact w.keys x.keys (λ k. same_got w.keys x.keys k (λ h. carried IsAccess (db 4) (λ it. map.get w.keys it.0 ≡ Some it.1) (λ it. map.get x.keys it.0 ≡ Some it.1) one_access one.access two.access (k, h))
+    (λ h. carried IsAccess (db 4) (λ it. map.get x.keys it.0 ≡ Some it.1) (λ it. map.get w.keys it.0 ≡ Some it.1) one_access two.access one.access (k, h))) in
+    let shelves = set.same_set texts_total texts_exact w.shelves x.shelves (λ s. same_test _ _ (carried IsShelf (db 2) (λ s. IsTrue (set.contains w.shelves s)) (λ s. IsTrue (set.contains x.shelves s)) one_shelf one.shelves two.shelves s)
+    (carried IsShelf (db 2) (λ s. IsTrue (set.contains x.shelves s)) (λ s. IsTrue (set.contains w.shelves s)) one_shelf two.shelves one.shelves s)) in
+    let entries = map.same_map places_total places_exact w.entries x.entries
+    (λ q. same_got w.entries x.entries q (λ e. carried (IsVersion (db 8)) (db 6) (λ it. map.get w.entries it.0 ≡ Some it.1) (λ it. map.get x.entries it.0 ≡ Some it.1) (one_version (db 8)) one.entries two.entries (q, e))
+    (λ e. carried (IsVersion (db 8)) (db 6) (λ it. map.get x.entries it.0 ≡ Some it.1) (λ it. map.get w.entries it.0 ≡ Some it.1) (one_version (db 8)) two.entries one.entries (q, e))) in
+    λ i. record { keys = keys i; shelves = shelves i; entries = entries i }

@@ -1,0 +1,72 @@
+-- What a row that fits has in its columns.
+use Rattle.std.proofs.Common.{◌≡◌, Bool, false, true≢false, List, [], ℕ, Option, Some, None, IfSome, Decides, sym, ap, subst, ◌∙◌}
+use Rattle.std.specs.Str.{IsUtf8}
+use Rattle.sqlite.specs.declared.types.Value.{Value}
+use Rattle.sqlite.specs.declared.types.Value.TheVariants.{Null, Int, Real, Text, Blob}
+use Rattle.sqlite.specs.Values.{or_null}
+use Rattle.sqlite.specs.Order.{Row, column}
+use Rattle.world.specs.declared.entry.Place.{Place}
+use Rattle.world.specs.declared.entry.Entry.{Entry}
+use Rattle.world.specs.World.{place, IsEntry}
+use Rattle.tables.specs.Fit.{IsShelfRow, IsKeyRow, IsEntryRow, ShowsFiles, text_in, place_in}
+use Rattle.modver.specs.Time.{IsTime}
+use Rattle.tables.proofs.EntryTests.{entry_timed}
+use Rattle.tables.proofs.AsciiLemmas.{shelf_utf8, key_utf8, path_utf8, version_utf8}
+
+abbrev pub HasNoText : Row → ℕ → Type 0
+HasNoText row at = (t : List ℕ) → column row at ≡ Text t → IsUtf8 t → ⊥
+
+pub no_shelf : (row : Row) → HasNoText row 0 → IsShelfRow row → ⊥
+no_shelf row none fits = none fits.0 fits.1 (shelf_utf8 fits.0 fits.2)
+
+pub no_key : (row : Row) → HasNoText row 0 → IsKeyRow row → ⊥
+no_key row none fits = none fits.0 fits.1 (key_utf8 fits.0 fits.2)
+
+pub no_path : (row : Row) → HasNoText row 1 → IsEntryRow row → ⊥
+no_path row none fits = none fits.0.path fits.2.path (path_utf8 fits.0.path fits.2.may.path)
+
+pub no_version : (row : Row) → HasNoText row 2 → IsEntryRow row → ⊥
+no_version row none fits = none fits.0.version fits.2.version (version_utf8 fits.2.may.version.0 fits.0.version fits.2.may.version.1)
+
+pub place_shown : (row : Row) (s p v : List ℕ) → column row 0 ≡ Text s → column row 1 ≡ Text p → column row 2 ≡ Text v → place s p v ≡ place_in row
+place_shown row s p v one two three = λ i. record { shelf = text_in (sym one i); path = text_in (sym two i); version = text_in (sym three i) }
+
+pub entry_shown : (row : Row) (s p v : List ℕ) (e : Entry) → column row 0 ≡ Text s → IsUtf8 s → column row 1 ≡ Text p → column row 2 ≡ Text v → ShowsFiles row e → IsEntry (place s p v) e → IsEntryRow row
+entry_shown row s p v e one utf8 two three files may = (place s p v, e, record { shelf = one; path = two; version = three; files = files; utf8 = utf8; may = may })
+
+-- the text that a value is, or none
+abbrev pub time_in : Value → Option (List ℕ)
+time_in Null = None
+time_in (Int n) = None
+time_in (Real x) = None
+time_in (Text t) = Some t
+time_in (Blob b) = None
+
+pub time_told : (v : Value) (time : Option (List ℕ)) → v ≡ or_null Text time → time ≡ time_in v
+time_told v None is = ap time_in (sym is)
+time_told v (Some t) is = ap time_in (sym is)
+
+pub same_entry : (row : Row) (d e : Entry) → ShowsFiles row d → ShowsFiles row e → d ≡ e
+same_entry row d e one two =
+    let gomod : d.gomod ≡ e.gomod = let f = sym one.gomod ∙ two.gomod in cc in
+    let zip : d.zip ≡ e.zip = let f = sym one.zip ∙ two.zip in cc in
+    let time : d.time ≡ e.time = time_told (column row 3) d.time one.time ∙ sym (time_told (column row 3) e.time two.time) in
+    λ i. record { gomod = gomod i; zip = zip i; time = time i }
+
+-- the files of a row tell whether it shows an entry that may stand there
+pub entry_told : (row : Row) (p v : List ℕ) (e : Entry) (b : Bool) → ShowsFiles row e → ((s : List ℕ) → Decides b (IsEntry (place s p v) e)) → Decides b ((x : Entry) × ShowsFiles row x × ((s : List ℕ) → IsEntry (place s p v) x))
+entry_told row p v e b files told = (λ t. (e, files, λ s. (told s).0 t), λ x. (told []).1 (subst (IsEntry (place [] p v)) (same_entry row x.0 e x.1 files) (x.2 [])))
+
+pub no_time : (row : Row) (p v : List ℕ) → ((t : Option (List ℕ)) → column row 3 ≡ or_null Text t → IfSome t IsTime → ⊥) → ((e : Entry) × ShowsFiles row e × ((s : List ℕ) → IsEntry (place s p v) e)) → ⊥
+no_time row p v none it = none it.0.time it.1.time (entry_timed (place [] p v) it.0 (it.2 []))
+
+-- the row shows no entry that may stand at its place, whatever its shelf is
+pub none_shown : (row : Row) (p v : List ℕ) (b : Bool) → column row 1 ≡ Text p → column row 2 ≡ Text v → b ≡ false → Decides b ((e : Entry) × ShowsFiles row e × ((s : List ℕ) → IsEntry (place s p v) e)) → IsEntryRow row → ⊥
+none_shown row p v b path version is_none told fits =
+    let q : Place = fits.0 in
+    let e : Entry = fits.1 in
+    let is : IsEntry q e = fits.2.may in
+    let one : q.path ≡ p = let f = sym fits.2.path ∙ path in cc in
+    let two : q.version ≡ v = let f = sym fits.2.version ∙ version in cc in
+    let anywhere : (s : List ℕ) → IsEntry (place s q.path q.version) e = λ s. record { path = is.path; version = is.version; fits = is.fits; gomod = is.gomod; zip = is.zip; time = is.time; reads = is.reads } in
+    true≢false (sym (told.1 (e, fits.2.files, λ s. subst (λ (x : List ℕ). IsEntry (place s p x) e) two (subst (λ (x : List ℕ). IsEntry (place s x q.version) e) one (anywhere s)))) ∙ is_none)

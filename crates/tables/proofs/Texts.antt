@@ -1,0 +1,17 @@
+-- The queries of the walks.
+use Rattle.std.specs.Prelude.{codes, List, ℕ}
+
+abbrev pub meta_rows_text : List ℕ
+meta_rows_text = codes "SELECT name, value FROM meta"
+
+abbrev pub shelf_rows_text : List ℕ
+shelf_rows_text = codes "SELECT name FROM shelf"
+
+abbrev pub key_rows_text : List ℕ
+key_rows_text = codes "SELECT token FROM access ORDER BY token"
+
+abbrev pub number_rows_text : List ℕ
+number_rows_text = codes "SELECT rowid FROM access ORDER BY rowid"
+
+abbrev pub entry_rows_text : List ℕ
+entry_rows_text = codes "SELECT v.shelf, v.path, v.version, v.time, v.mod, b.zip FROM version AS v LEFT JOIN body AS b ON b.id = v.id ORDER BY v.shelf, v.path, v.version"

@@ -1,0 +1,247 @@
+-- Why a walk over the rows of the tables fails.
+use Rattle.std.proofs.Common.{◌≡◌, ◌≤◌, ◌⊎◌, ◌+◌, ◌*◌, ◌^◌, ◌++◌, ℕ, Bool, true, false, cond, List, [], ◌∷◌, length, map, filter, Option, None, Ok, Err, Result, inl, inr, refl, sym, ap, subst, ◌∙◌, arith, codes, IfErr, true≢false, length-append, nat_lt, ltb-true, ltb-false, lit≤}
+use Rattle.std.specs.Prelude.{IsSome, IsErrAnd}
+use Rattle.std.proofs.lemmas.Bool.{cases_Bool}
+use Rattle.std.proofs.lemmas.List.{length-map}
+use Rattle.std.proofs.lemmas.List.Sorted.{length_permutation}
+use Rattle.sqlite_trees.specs.View.{doubt}
+use Rattle.sqlite.specs.Tree.{Trees}
+use Rattle.sqlite.specs.Order.{Row}
+use Rattle.sqlite_trees.specs.declared.store.Store.{Ghosts}
+use Rattle.sqlite.specs.Held.{Held, state}
+use Rattle.sqlite.specs.Command.TheVariants.{Select}
+use Rattle.sqlite.specs.Term.{Term, col, eval, eval_all}
+use Rattle.sqlite.specs.Query.{Join, inner, end, matches, or_nulls}
+use Rattle.sqlite.specs.Program.{overlay}
+use Rattle.sqlite.specs.Effect.{Database, ReadsFirst, RefusesToRead, RefusesQuery}
+use Rattle.sqlite_sql.specs.Query.{has_no_fold}
+use Rattle.sqlite_sql.proofs.QueryLemmas.{no_fold_overflows}
+use Rattle.sqlite_value.specs.declared.keys.Key.{Key}
+use Rattle.sqlite_rules.specs.Lists.{Has}
+use Rattle.sqlite_rules.proofs.ProbeLemmas.{has_mapped}
+use Rattle.sqlite_tied.specs.Compute.{everything}
+use Rattle.sqlite.specs.declared.error.Error.{Error}
+use Rattle.sqlite.specs.declared.error.Error.TheVariants.{SqliteFailure}
+use Rattle.sqlite.specs.declared.error.ErrorCode.TheVariants.{TypeMismatch}
+use Rattle.sqlite.specs.Listing.{understood, reads_listing, IsSourceOf}
+use Rattle.sqlite.specs.State.{State, HasCleanDisk, IsUnchanged, Survives, Begins, FailsToQuery}
+use Rattle.sqlite.proofs.Callers.{IsPlain, command_of}
+use Rattle.tables.specs.Schema.{store_schema, meta_table, shelf_table, access_table, version_table, body_table}
+use Rattle.tables.specs.Means.{is_numbered_as}
+use Rattle.tables.specs.Fit.{joined, entry_shown}
+use Rattle.tables.specs.Walks.{Tests, IsAlone, IsWalkable, ShowsTooMany}
+use Rattle.tables.specs.Causes.{IsExcused, IsVast, HasReason}
+use Rattle.tables.proofs.Texts.{meta_rows_text, shelf_rows_text, key_rows_text, number_rows_text, entry_rows_text}
+use Rattle.tables.proofs.FailureLemmas.{was_clean}
+use Rattle.tables.proofs.Ascending.{has_permuted}
+use Rattle.tables.proofs.FitTests.{at_place}
+use Rattle.tables.proofs.WalkLemmas.{unchanged_schema, some_walked}
+use Rattle.tables.proofs.CauseLemmas.{unrun, IsOnItsWay, excused_since, on_its_way}
+use Rattle.tables.proofs.ListingLemmas.{listing, listed_rows, first_listed, IsListing, of_table, of_entries, with_bodies, entry_columns, by_token, by_number, by_place, meta_rows_is, shelf_rows_is, key_rows_is, number_rows_is, entry_rows_is}
+
+-- ---- one query
+
+module _ (sql : List ℕ) (width : ℕ) (it : IsWalkable sql width) (plain : IsPlain (understood store_schema sql)) (unlisted : reads_listing store_schema sql ≡ false) where
+  pub query_excused : (old new : State) (e : Error) → old.now.schema ≡ store_schema → FailsToQuery sql [] old new e → IsExcused old new e
+  unfolding FailsToQuery
+  query_excused old new e has (inl unread) = unrun sql old new store_schema has (command_of (understood store_schema sql)) refl plain it.alone e unread
+  query_excused old new e has (inr h) =
+      let known : Ok h.0 ≡ understood store_schema sql = sym h.1.is ∙ ap (λ s. understood s sql) has in
+      let bare = subst IsPlain (sym known) plain in
+      let shown = rw (bare.0, bare.1) at h.2 in
+      let same : shown.0 ≡ old.now = subst (λ b. IsSourceOf b old.now shown.0) (ap (λ s. reads_listing s sql) has ∙ unlisted) shown.1 in
+      let refused = subst (λ k. RefusesToRead old.step_limit k shown.0 [] e) (ap command_of known) shown.2 in
+      inr (inr (inl (it.allowed old.step_limit shown.0 e (ap (λ (d : Database). d.schema) same ∙ has) refused)))
+
+  -- after some rows
+  module _ (old mid : State) (has : old.now.schema ≡ store_schema) (same : IsUnchanged old mid) where
+    pub next_excused : (new : State) (e : Error) → Survives old mid (λ _. ⊥) → FailsToQuery sql [] mid new e → IsExcused old new e
+    next_excused new e survives h = excused_since old mid new e (on_its_way old mid (λ _. ⊥) survives same.0.is_open) (query_excused mid new e (unchanged_schema old mid same has) h)
+
+    pub given_wide : (rows : List Row) (row : Row) → Begins sql [] mid (rows ++ row ∷ []) → length row ≡ width
+    given_wide rows row begins = it.wide old.now rows row (some_walked sql plain unlisted old mid mid has same (rows ++ row ∷ []) begins)
+
+    pub too_many : (rows : List Row) → Begins sql [] mid rows → 2 ^ 128 ≤ length rows + 1 → ShowsTooMany sql old.now
+    too_many rows begins many = (rows, some_walked sql plain unlisted old mid mid has same rows begins, many)
+
+-- an error that is handed on
+pub told_error : {X E : Type 0} (P : E → Type 0) (r : Result X E) (e : E) → IsErrAnd r (λ x. x ≡ e) → P e → IfErr r P
+told_error P (Ok x) e same h = tt
+told_error P (Err x) e same h = subst P (sym same) h
+
+pub excused_same : {S : Type 0} (g : Ghosts S) (old : State) (x y : Held S) (e : Error) (Q : Type 0) → x ≡ y → IsExcused old (state g x) e → IsExcused old (state g y) e ⊎ Q
+excused_same g old x y e Q same h = inl (subst (λ z. IsExcused old (state g z) e) same h)
+
+-- ---- a query that lists rows
+
+-- each row has a value for each column
+listed_width : (from : Join) (project : List Term) (order : List (Term × Key)) (db : Trees) (out : List Row) → IsListing (listing from project order) db out → (row : Row) → Has out row → length row ≡ length project
+listed_width from project order db out it row there =
+    let e = has_mapped (eval_all project) (matches db [] from ([] ∷ [])) row (has_permuted (map (eval_all project) (matches db [] from ([] ∷ []))) out row (listed_rows from project order db out it) there) in
+    ap length e.2 ∙ length-map project (λ t. eval t e.0)
+
+module _ (sql : List ℕ) (from : Join) (project : List Term) (order : List (Term × Key)) (names : List (List ℕ)) (is : command_of (understood store_schema sql) ≡ Select (record { lets = []; body = listing from project order }) names) where
+  is_walkable : has_no_fold from ≡ true → ((db : Database) → db.schema ≡ store_schema → RefusesQuery None db (record { lets = []; body = listing from project order }) [] (SqliteFailure TypeMismatch) → ⊥) → IsAlone sql (understood store_schema sql) → IsWalkable sql (length project)
+  is_walkable foldless typed alone = record { alone = alone; allowed = allowed; wide = wide }
+    where
+      allowed : (limit : Option ℕ) (db : Database) (e : Error) → db.schema ≡ store_schema → RefusesToRead limit (command_of (understood store_schema sql)) db [] e → IsSome limit
+      allowed limit db e has h = elim (subst (λ k. RefusesToRead limit k db [] e) is h) [
+        | inl (named, wrong) ↦ absurd (typed db has (inl (refl, wrong)))
+        | inr (inl (named, inl none)) ↦ absurd none
+        | inr (inl (named, inr over)) ↦ absurd (no_fold_overflows (overlay db.trees []) from ([] ∷ []) foldless over)
+        | inr (inr (named, limited)) ↦ limited
+      ]
+
+      wide : (db : Database) (rows : List Row) (row : Row) → ReadsFirst (command_of (understood store_schema sql)) db [] (rows ++ row ∷ []) → length row ≡ length project
+      wide db rows row h =
+          let first = first_listed sql from project order names is db (rows ++ row ∷ []) h in
+          listed_width from project order (overlay db.trees []) ((rows ++ row ∷ []) ++ first.0) first.1 row (at_place rows first.0 row)
+
+  -- so many are there
+  many_listed : (db : Database) → ShowsTooMany sql db → 2 ^ 128 ≤ length (map (eval_all project) (matches (overlay db.trees []) [] from ([] ∷ []))) + 1
+  many_listed db h =
+      let first = first_listed sql from project order names is db h.0 h.1 in
+      let same = length_permutation (map (eval_all project) (matches (overlay db.trees []) [] from ([] ∷ []))) (h.0 ++ first.0) (listed_rows from project order (overlay db.trees []) (h.0 ++ first.0) first.1) in
+      let all = length-append h.0 first.0 in
+      let long = h.2 in
+      omega (arith, same, all, long)
+
+-- so many are in a table
+many_rows : (sql : List ℕ) (tree : ℕ) (project : List Term) (order : List (Term × Key)) (names : List (List ℕ)) → command_of (understood store_schema sql) ≡ Select (record { lets = []; body = listing (inner tree end) project order }) names
+    → (db : Database) → overlay db.trees [] tree ≡ db.trees tree → ShowsTooMany sql db → 2 ^ 64 ≤ length (db.trees tree)
+many_rows sql tree project order names is db plain h =
+    let long = many_listed sql (inner tree end) project order names is db h in
+    let all = ap length (of_table tree project (overlay db.trees [])) in
+    let each = length-map (overlay db.trees [] tree) (λ row. eval_all project ([] ∷ row ∷ [])) in
+    let there = ap length plain in
+    omega (arith, long, all, each, there)
+
+-- ---- the queries
+
+meta_typed : (db : Database) → db.schema ≡ store_schema → RefusesQuery None db (record { lets = []; body = listing (inner 0 end) (col 1 1 ∷ col 1 2 ∷ []) [] }) [] (SqliteFailure TypeMismatch) → ⊥
+unfolding understood everything
+meta_typed db has h = elim h [ inl (same, wrong) ↦ true≢false (rw has at wrong) | inr (inl (other, over)) ↦ absurd (cc) | inr (inr (other, some)) ↦ true≢false (sym some) ]
+
+meta_alone : IsAlone meta_rows_text (understood store_schema meta_rows_text)
+unfolding understood everything
+meta_alone = (lit≤ tt, refl)
+
+pub meta_walkable : IsWalkable meta_rows_text 2
+meta_walkable = is_walkable meta_rows_text (inner 0 end) (col 1 1 ∷ col 1 2 ∷ []) [] (codes "name" ∷ codes "value" ∷ []) meta_rows_is refl meta_typed meta_alone
+
+pub meta_vast : (db : Database) → db.schema ≡ store_schema → ShowsTooMany meta_rows_text db → IsVast db
+meta_vast db has h = record { schema = has; table = meta_table; listed = inl refl; rows = many_rows meta_rows_text 0 (col 1 1 ∷ col 1 2 ∷ []) [] (codes "name" ∷ codes "value" ∷ []) meta_rows_is db refl h }
+
+shelf_typed : (db : Database) → db.schema ≡ store_schema → RefusesQuery None db (record { lets = []; body = listing (inner 2 end) (col 1 1 ∷ []) [] }) [] (SqliteFailure TypeMismatch) → ⊥
+unfolding understood everything
+shelf_typed db has h = elim h [ inl (same, wrong) ↦ true≢false (rw has at wrong) | inr (inl (other, over)) ↦ absurd (cc) | inr (inr (other, some)) ↦ true≢false (sym some) ]
+
+shelf_alone : IsAlone shelf_rows_text (understood store_schema shelf_rows_text)
+unfolding understood everything
+shelf_alone = (lit≤ tt, refl)
+
+pub shelf_walkable : IsWalkable shelf_rows_text 1
+shelf_walkable = is_walkable shelf_rows_text (inner 2 end) (col 1 1 ∷ []) [] (codes "name" ∷ []) shelf_rows_is refl shelf_typed shelf_alone
+
+pub shelf_vast : (db : Database) → db.schema ≡ store_schema → ShowsTooMany shelf_rows_text db → IsVast db
+shelf_vast db has h = record { schema = has; table = shelf_table; listed = inr (inl refl); rows = many_rows shelf_rows_text 2 (col 1 1 ∷ []) [] (codes "name" ∷ []) shelf_rows_is db refl h }
+
+key_typed : (db : Database) → db.schema ≡ store_schema → RefusesQuery None db (record { lets = []; body = listing (inner 4 end) (col 1 1 ∷ []) by_token }) [] (SqliteFailure TypeMismatch) → ⊥
+unfolding understood everything
+key_typed db has h = elim h [ inl (same, wrong) ↦ true≢false (rw has at wrong) | inr (inl (other, over)) ↦ absurd (cc) | inr (inr (other, some)) ↦ true≢false (sym some) ]
+
+key_alone : IsAlone key_rows_text (understood store_schema key_rows_text)
+unfolding understood everything
+key_alone = (lit≤ tt, refl)
+
+pub key_walkable : IsWalkable key_rows_text 1
+key_walkable = is_walkable key_rows_text (inner 4 end) (col 1 1 ∷ []) by_token (codes "token" ∷ []) key_rows_is refl key_typed key_alone
+
+pub key_vast : (db : Database) → db.schema ≡ store_schema → ShowsTooMany key_rows_text db → IsVast db
+key_vast db has h = record { schema = has; table = access_table; listed = inr (inr (inl refl)); rows = many_rows key_rows_text 4 (col 1 1 ∷ []) by_token (codes "token" ∷ []) key_rows_is db refl h }
+
+number_typed : (db : Database) → db.schema ≡ store_schema → RefusesQuery None db (record { lets = []; body = listing (inner 4 end) (col 1 0 ∷ []) by_number }) [] (SqliteFailure TypeMismatch) → ⊥
+unfolding understood everything
+number_typed db has h = elim h [ inl (same, wrong) ↦ true≢false (rw has at wrong) | inr (inl (other, over)) ↦ absurd (cc) | inr (inr (other, some)) ↦ true≢false (sym some) ]
+
+number_alone : IsAlone number_rows_text (understood store_schema number_rows_text)
+unfolding understood everything
+number_alone = (lit≤ tt, refl)
+
+pub number_walkable : IsWalkable number_rows_text 1
+number_walkable = is_walkable number_rows_text (inner 4 end) (col 1 0 ∷ []) by_number (codes "rowid" ∷ []) number_rows_is refl number_typed number_alone
+
+pub number_vast : (db : Database) → db.schema ≡ store_schema → ShowsTooMany number_rows_text db → IsVast db
+number_vast db has h = record { schema = has; table = access_table; listed = inr (inr (inl refl)); rows = many_rows number_rows_text 4 (col 1 0 ∷ []) by_number (codes "rowid" ∷ []) number_rows_is db refl h }
+
+abbrev entry_names : List (List ℕ)
+entry_names = codes "shelf" ∷ codes "path" ∷ codes "version" ∷ codes "time" ∷ codes "mod" ∷ codes "zip" ∷ []
+
+entry_typed : (db : Database) → db.schema ≡ store_schema → RefusesQuery None db (record { lets = []; body = listing with_bodies entry_columns by_place }) [] (SqliteFailure TypeMismatch) → ⊥
+unfolding understood everything
+entry_typed db has h = elim h [ inl (same, wrong) ↦ true≢false (rw has at wrong) | inr (inl (other, over)) ↦ absurd (cc) | inr (inr (other, some)) ↦ true≢false (sym some) ]
+
+entry_alone : IsAlone entry_rows_text (understood store_schema entry_rows_text)
+unfolding understood everything
+entry_alone = (lit≤ tt, refl)
+
+pub entry_walkable : IsWalkable entry_rows_text 6
+entry_walkable = is_walkable entry_rows_text with_bodies entry_columns by_place entry_names entry_rows_is refl entry_typed entry_alone
+
+filter_few : {X : Type 0} (p : X → Bool) (xs : List X) → length (filter p xs) ≤ length xs
+filter_few p [] = omega arith
+filter_few {X} p (x ∷ xs) = go (p x) (filter_few p xs)
+  where
+    go : (b : Bool) → length (filter p xs) ≤ length xs → length (cond b (x ∷ filter p xs) (filter p xs)) ≤ length (x ∷ xs)
+    go true h = omega (arith, h)
+    go false h = omega (arith, h)
+
+nulls_few : (bodies : List Row) → length bodies + 1 ≤ 2 ^ 64 → length (or_nulls bodies) ≤ 2 ^ 64
+nulls_few [] few = omega arith
+nulls_few (b ∷ bodies) few = omega (arith, few)
+
+-- a version is shown once for each body, or once
+joined_few : (versions bodies : List Row) → length bodies + 1 ≤ 2 ^ 64 → length (joined versions bodies) ≤ 2 ^ 64 * length versions
+joined_few [] bodies few = omega arith
+joined_few (row ∷ versions) bodies few =
+    let own = filter (λ body. is_numbered_as body row) bodies in
+    let fewer = filter_few (λ body. is_numbered_as body row) bodies in
+    let nulls = nulls_few own (omega (arith, few, fewer)) in
+    let shown = length-map (or_nulls own) (entry_shown row) in
+    let both = length-append (map (entry_shown row) (or_nulls own)) (joined versions bodies) in
+    let rest = joined_few versions bodies few in
+    omega (arith, nulls, shown, both, rest)
+
+pub entry_vast : (db : Database) → db.schema ≡ store_schema → ShowsTooMany entry_rows_text db → IsVast db
+entry_vast db has h =
+    let listed = many_listed entry_rows_text with_bodies entry_columns by_place entry_names entry_rows_is db h in
+    let same : length (map (eval_all entry_columns) (matches (overlay db.trees []) [] with_bodies ([] ∷ []))) ≡ length (joined (db.trees 6) (db.trees 8)) = ap length (of_entries (overlay db.trees [])) in
+    let long : 2 ^ 128 ≤ length (joined (db.trees 6) (db.trees 8)) + 1 = omega (arith, listed, same) in
+    elim (cases_Bool (nat_lt (length (db.trees 8)) (2 ^ 64))) [
+      | inl low ↦ (
+          let few = ltb-true (length (db.trees 8)) (2 ^ 64) low in
+          let most = joined_few (db.trees 6) (db.trees 8) (omega (arith, few)) in
+          let rows : 2 ^ 64 ≤ length (db.trees 6) = omega (arith, long, most) in
+          record { schema = has; table = version_table; listed = inr (inr (inr (inl refl))); rows = rows })
+      | inr high ↦ record { schema = has; table = body_table; listed = inr (inr (inr (inr (inl refl)))); rows = ltb-false (length (db.trees 8)) (2 ^ 64) high }
+    ]
+
+-- ---- one walk after the other
+
+pub walk_reason : (sql : List ℕ) (old new : State) (r : Result Bool Error) → (ShowsTooMany sql old.now → IsVast old.now) → IfErr r (λ e. IsExcused old new e ⊎ ShowsTooMany sql old.now) → IfErr r (HasReason old new)
+walk_reason sql old new (Ok b) vast h = tt
+walk_reason sql old new (Err e) vast (inl excused) = inl excused
+walk_reason sql old new (Err e) vast (inr many) = inr (vast many)
+
+-- after a test that was passed
+module _ (a b c : State) (P : Trees → Type 0) (first : Tests a b (Ok true) P) (up : doubt b.is_clean ≤ doubt c.is_clean) (clean : HasCleanDisk c) (has : a.now.schema ≡ store_schema) where
+  pub then_reason : (r : Result Bool Error) → (HasCleanDisk c → b.now.schema ≡ store_schema → IfErr r (HasReason b c)) → IfErr r (HasReason a c)
+  then_reason (Ok x) next = tt
+  then_reason (Err e) next =
+      let was = was_clean b c up clean in
+      let same : IsUnchanged a b = first.same was has in
+      let way : IsOnItsWay a b = record { is_open = same.0.is_open; limit = first.looks.limit was has; counts = first.looks.counts was has } in
+      elim (next clean (unchanged_schema a b same has)) [
+        | inl excused ↦ inl (excused_since a b c e way excused)
+        | inr vast ↦ inr (subst IsVast same.0.now_is vast)
+      ]

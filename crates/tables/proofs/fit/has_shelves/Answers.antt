@@ -1,0 +1,37 @@
+use Rattle.std.proofs.Common.{false, Err, refl}
+use Rattle.tables.proofs.Texts.{shelf_rows_text}
+use Rattle.sqlite.specs.Held.{state}
+use Rattle.tables.specs.declared.fit.ShelfRows.{ShelfRows}
+use Rattle.tables.proofs.ListingLemmas.{shelf_rows_plain, shelf_rows_tables}
+use Rattle.tables.proofs.FitTests.{told, refused, shelves_true, shelves_false}
+use Rattle.tables.proofs.WalkCauses.{shelf_walkable, shelf_vast, walk_reason, told_error}
+use Rattle.tables.proofs.fit.has_shelves.Goals as goal
+
+abbrev start : ShelfRows
+start = record { has_common = false }
+
+pub rows_pass-requires-clause-plain : goal.rows_pass-requires-clause-plain
+rows_pass-requires-clause-plain g c = shelf_rows_plain
+
+pub rows_pass-requires-clause-tables : goal.rows_pass-requires-clause-tables
+rows_pass-requires-clause-tables g c = shelf_rows_tables
+
+pub rows_pass-requires-clause-walkable : goal.rows_pass-requires-clause-walkable
+rows_pass-requires-clause-walkable g c = shelf_walkable
+
+pub returns-then-not-branch-clause-tests : goal.returns-then-not-branch-clause-tests
+returns-then-not-branch-clause-tests g c =
+    let old = state g.S.Store c.args.conn.now in
+    told old (state g.S.Store c.rows_pass.new.conn) false _ c.rows_pass.ensures.looks c.in_ok-rows_pass.ensures.same
+    (λ clean has. refused (shelves_false old.now start c.rows_pass.new.test (rw c.if-not-branch.true at (c.in_ok-rows_pass.ensures.answer clean has))))
+
+pub returns-clause-tests : goal.returns-clause-tests
+returns-clause-tests g c =
+    let old = state g.S.Store c.args.conn.now in
+    told old (state g.S.Store c.rows_pass.new.conn) c.rows_pass.new.test.has_common _ c.rows_pass.ensures.looks c.in_ok-rows_pass.ensures.same
+    (λ clean has. shelves_true old.now start c.rows_pass.new.test refl (rw c.if-not-branch.false at (c.in_ok-rows_pass.ensures.answer clean has)))
+
+pub returns-in_err-rows_pass-clause-cause : goal.returns-in_err-rows_pass-clause-cause
+returns-in_err-rows_pass-clause-cause g c clean has =
+    let old = state g.S.Store c.args.conn.now in
+    told_error _ c.from_residual.result c.in_err-rows_pass.field-0.0 c.from_residual.ensures.1 (walk_reason shelf_rows_text old (state g.S.Store c.rows_pass.new.conn) (Err _) (shelf_vast old.now has) (c.in_err-rows_pass.ensures.cause clean has))

@@ -1,0 +1,130 @@
+-- What the rows of the tables have to be to stand for a world.
+use Rattle.std.specs.Prelude.{◌≡◌, ◌≤◌, ◌⊎◌, ◌&&◌, ℕ, ℤ, pos, Bool, true, List, [], ◌∷◌, length, map, filter, flat_map, bytes_eq, codes, IsUtf8}
+use Rattle.sqlite.specs.declared.types.Value.{Value}
+use Rattle.sqlite.specs.declared.types.Value.TheVariants.{Null, Int, Real, Text, Blob}
+use Rattle.sqlite.specs.Order.{Row, column}
+use Rattle.sqlite.specs.Tree.{Trees}
+use Rattle.sqlite.specs.Query.{or_nulls}
+use Rattle.sqlite.specs.Values.{or_null}
+use Rattle.sqlite_trees.specs.Tree.{IsAscending}
+use Rattle.sqlite_rules.specs.Lists.{Has}
+use Rattle.world.specs.declared.entry.Place.{Place}
+use Rattle.world.specs.declared.entry.Entry.{Entry}
+use Rattle.world.specs.World.{IsEntry, common, is_team_name, is_key, version_limit}
+use Rattle.tables.specs.Means.{is_numbered_as}
+use Rattle.tables.specs.Schema.{meta_table, shelf_table, access_table, version_table, body_table}
+
+abbrev pub text_in : Value → List ℕ
+text_in Null = []
+text_in (Int n) = []
+text_in (Real x) = []
+text_in (Text t) = t
+text_in (Blob b) = []
+
+abbrev pub int_in : Value → ℤ
+int_in Null = pos 0
+int_in (Int n) = n
+int_in (Real x) = pos 0
+int_in (Text t) = pos 0
+int_in (Blob b) = pos 0
+
+-- ---- what is read of each row
+
+abbrev pub meta_shown : Row → Row
+meta_shown row = column row 1 ∷ column row 2 ∷ []
+
+abbrev pub name_shown : Row → Row
+name_shown row = column row 1 ∷ []
+
+abbrev pub number_shown : Row → Row
+number_shown row = column row 0 ∷ []
+
+-- the row of a version with the row of a body, or with none
+abbrev pub entry_shown : Row → Row → Row
+entry_shown row body = column row 2 ∷ column row 3 ∷ column row 4 ∷ column row 5 ∷ column row 6 ∷ column body 2 ∷ []
+
+-- each row of a version with each row of a body that has its number, or alone where there is none
+abbrev pub joined : List Row → List Row → List Row
+joined versions bodies = flat_map (λ row. map (entry_shown row) (or_nulls (filter (λ body. is_numbered_as body row) bodies))) versions
+
+-- ---- one row
+
+abbrev pub IsSchemaRow : Row → Type 0
+IsSchemaRow row = (column row 0 ≡ Text (codes "schema")) × (column row 1 ≡ Int (pos 1))
+
+abbrev pub IsShelfRow : Row → Type 0
+IsShelfRow row = (name : List ℕ) × (column row 0 ≡ Text name) × ((name ≡ common) ⊎ (is_team_name name ≡ true))
+
+abbrev pub is_common : Value → Bool
+is_common v = bytes_eq (text_in v) common
+
+abbrev pub IsKeyRow : Row → Type 0
+IsKeyRow row = (key : List ℕ) × (column row 0 ≡ Text key) × (is_key key ≡ true)
+
+abbrev pub key_in : Row → List ℕ
+key_in row = text_in (column row 0)
+
+abbrev pub IsNumberRow : Row → Type 0
+IsNumberRow row = (n : ℤ) × (column row 0 ≡ Int n)
+
+abbrev pub number_in : Row → ℤ
+number_in row = int_in (column row 0)
+
+-- the row shows the entry but for its place
+pub record ShowsFiles (row : Row) (e : Entry) : Type 0 where
+  pub time : column row 3 ≡ or_null Text e.time
+  pub gomod : column row 4 ≡ Blob e.gomod
+  pub zip : column row 5 ≡ Blob e.zip
+
+-- the row shows an entry that may stand at its place
+pub record ShowsEntry (row : Row) (q : Place) (e : Entry) : Type 0 where
+  pub shelf : column row 0 ≡ Text q.shelf
+  pub path : column row 1 ≡ Text q.path
+  pub version : column row 2 ≡ Text q.version
+  pub files : ShowsFiles row e
+  pub utf8 : IsUtf8 q.shelf
+  pub may : IsEntry q e
+
+abbrev pub IsEntryRow : Row → Type 0
+IsEntryRow row = (q : Place) × (e : Entry) × ShowsEntry row q e
+
+abbrev pub place_in : Row → Place
+place_in row = record { shelf = text_in (column row 0); path = text_in (column row 1); version = text_in (column row 2) }
+
+-- the place is one of the path on the shelf
+abbrev pub is_on : List ℕ → List ℕ → Place → Bool
+is_on s p q = bytes_eq q.shelf s && bytes_eq q.path p
+
+-- ---- the rows of a table
+
+pub record IsMetaFit (rows : List Row) : Type 0 where
+  pub each : (row : Row) → Has rows row → IsSchemaRow row
+  pub some : (row : Row) × Has rows row
+
+pub record AreShelvesFit (rows : List Row) : Type 0 where
+  pub each : (row : Row) → Has rows row → IsShelfRow row
+  pub has_common : (row : Row) × Has rows row × (is_common (column row 0) ≡ true)
+
+-- each row is so, and no two have one key
+pub record AreOnce {K : Type 0} (IsRow : Row → Type 0) (key : Row → K) (rows : List Row) : Type 0 where
+  pub each : (row : Row) → Has rows row → IsRow row
+  pub once : IsAscending (λ a b. key a ≡ key b → ⊥) rows
+
+abbrev pub AreKeysFit : List Row → Type 0
+AreKeysFit = AreOnce IsKeyRow key_in
+
+abbrev pub AreNumbersFit : List Row → Type 0
+AreNumbersFit = AreOnce IsNumberRow number_in
+
+-- each place once, and not too many of a path on a shelf
+pub record AreEntriesFit (rows : List Row) : Type 0 where
+  pub each : (row : Row) → Has rows row → IsEntryRow row
+  pub once : IsAscending (λ a b. place_in a ≡ place_in b → ⊥) rows
+  pub few : (s p : List ℕ) → length (filter (λ row. is_on s p (place_in row)) rows) ≤ version_limit
+
+pub record AreFit (db : Trees) : Type 0 where
+  pub named : IsMetaFit (map meta_shown (db meta_table.tree))
+  pub shelves : AreShelvesFit (map name_shown (db shelf_table.tree))
+  pub access : AreKeysFit (map name_shown (db access_table.tree))
+  pub numbers : AreNumbersFit (map number_shown (db access_table.tree))
+  pub entries : AreEntriesFit (joined (db version_table.tree) (db body_table.tree))

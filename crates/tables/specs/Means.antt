@@ -1,0 +1,129 @@
+-- The world that the tables stand for. No row number and no order of rows occurs here.
+use Rattle.std.specs.Prelude.{ℕ, ℤ, Bool, true, false, pos, if◌then◌else◌, List, Some, IsTrue, codes, ◌≡◌}
+use Rattle.sqlite.specs.declared.types.Value.TheVariants.{Int, Text, Blob}
+use Rattle.sqlite.specs.Order.{Row, column}
+use Rattle.sqlite.specs.Values.{or_null}
+use Rattle.sqlite.specs.Collation.TheVariants.{Binary}
+use Rattle.sqlite.specs.Tree.{Trees, rowid}
+use Rattle.sqlite_trees.specs.Tree.{IsAscending}
+use Rattle.sqlite_schema.specs.Rules.{equal}
+use Rattle.sqlite_rules.specs.Lists.{Has}
+use Rattle.sqlite_catalog.specs.Listing.{IsSound}
+use Rattle.sqlite.specs.Effect.{Database}
+use Rattle.sqlite.specs.State.{State, HasCleanDisk}
+use Rattle.std.specs.FinMap as map
+use Rattle.std.specs.FinSet as set
+use Rattle.world.specs.declared.entry.Holder.{Holder}
+use Rattle.world.specs.declared.entry.Right.{Right}
+use Rattle.world.specs.declared.entry.Right.TheVariants.{Reads, Publishes}
+use Rattle.world.specs.declared.entry.Place.{Place}
+use Rattle.world.specs.declared.entry.Entry.{Entry}
+use Rattle.world.specs.World.{World, IsWorld}
+use Rattle.tables.specs.Schema.{store_schema, meta_table, shelf_table, access_table, version_table, body_table}
+
+-- the rows and the facts say the same: each row is of a fact that holds, and each fact that holds has a row
+pub record Tabulates {X : Type 0} (IsRow : Row → X → Type 0) (rows : List Row) (Holds : X → Type 0) : Type 0 where
+  pub each : (row : Row) → Has rows row → (x : X) × IsRow row x × Holds x
+  pub found : (x : X) → Holds x → (row : Row) × Has rows row × IsRow row x
+
+-- the schema is named by its number
+abbrev pub schema_named : List ℕ × ℤ
+schema_named = (codes "schema", pos 1)
+
+abbrev pub IsMeta : Row → List ℕ × ℤ → Type 0
+IsMeta row it = (column row 1 ≡ Text it.0) × (column row 2 ≡ Int it.1)
+
+abbrev pub IsShelf : Row → List ℕ → Type 0
+IsShelf row name = column row 1 ≡ Text name
+
+-- whether a key may publish, as its row tells it
+abbrev pub may_publish : Right → Bool
+may_publish Reads = false
+may_publish Publishes = true
+
+abbrev pub flag : Bool → Row → Type 0
+flag b row = column row 3 ≡ Int (if b then pos 1 else pos 0)
+
+abbrev pub IsAccess : Row → List ℕ × Holder → Type 0
+IsAccess row it = (column row 1 ≡ Text it.0) × (column row 2 ≡ Text it.1.shelf) × flag (may_publish it.1.right) row
+
+-- the rows have one number, as SQL compares them
+abbrev pub is_numbered_as : Row → Row → Bool
+is_numbered_as a b = equal Binary (rowid a) (rowid b)
+
+-- each row has a number, and no other row has it
+pub record IsNumbered (rows : List Row) : Type 0 where
+  pub number : (row : Row) → Has rows row → (n : ℤ) × (rowid row ≡ Int n)
+  pub own : (a b : Row) → Has rows a → Has rows b → rowid a ≡ rowid b → a ≡ b
+
+-- the place that a row of `version` names
+abbrev pub IsAt : Row → Place → Type 0
+IsAt row p = (column row 2 ≡ Text p.shelf) × (column row 3 ≡ Text p.path) × (column row 4 ≡ Text p.version)
+
+-- no two rows of `access` are of one key
+abbrev pub IsEachTokenOnce : List Row → Type 0
+IsEachTokenOnce = IsAscending (λ a b. (token : List ℕ) → column a 1 ≡ Text token → column b 1 ≡ Text token → ⊥)
+
+-- no two rows of `body` have one number
+abbrev pub IsEachNumberOnce : List Row → Type 0
+IsEachNumberOnce = IsAscending (λ a b. is_numbered_as a b ≡ false)
+
+-- no two rows of `version` name one place
+abbrev pub IsEachPlaceOnce : List Row → Type 0
+IsEachPlaceOnce = IsAscending (λ a b. (p : Place) → IsAt a p → IsAt b p → ⊥)
+
+-- a row of `version`, with a row of `body` that has its number, whose zip is that of each that has it
+pub record IsVersion (bodies : List Row) (row : Row) (it : Place × Entry) : Type 0 where
+  pub place : IsAt row it.0
+  pub time : column row 5 ≡ or_null Text it.1.time
+  pub gomod : column row 6 ≡ Blob it.1.gomod
+  pub body : Row
+  pub there : Has bodies body
+  pub same : is_numbered_as body row ≡ true
+  pub zip : column body 2 ≡ Blob it.1.zip
+  pub only : (other : Row) → Has bodies other → is_numbered_as other row ≡ true → column other 2 ≡ Blob it.1.zip
+
+pub record Means (db : Trees) (w : World) : Type 0 where
+  pub named : Tabulates IsMeta (db meta_table.tree) (λ it. it ≡ schema_named)
+  pub shelves : Tabulates IsShelf (db shelf_table.tree) (λ name. IsTrue (set.contains w.shelves name))
+  pub access : Tabulates IsAccess (db access_table.tree) (λ it. map.get w.keys it.0 ≡ Some it.1)
+  pub numbered : IsNumbered (db access_table.tree)
+  pub entries : Tabulates (IsVersion (db body_table.tree)) (db version_table.tree) (λ it. map.get w.entries it.0 ≡ Some it.1)
+  -- each key, each body and each place has one row
+  pub tokens : IsEachTokenOnce (db access_table.tree)
+  pub bodies : IsEachNumberOnce (db body_table.tree)
+  pub places : IsEachPlaceOnce (db version_table.tree)
+
+-- the trees are the tables of the schema, obey its rules, and stand for the world
+pub record StandFor (db : Trees) (w : World) : Type 0 where
+  pub sound : IsSound store_schema db
+  pub means : Means db w
+
+-- the tables are those of the schema, and stand for a world
+pub record StandsForSome (db : Database) : Type 0 where
+  pub schema : db.schema ≡ store_schema
+  pub world : World
+  pub trees : StandFor db.trees world
+  pub is : IsWorld world
+
+-- if the tables are those of the schema, they stand for no world
+abbrev pub StandsForNone : Database → Type 0
+StandsForNone db = db.schema ≡ store_schema → (w : World) → Means db.trees w → IsWorld w → ⊥
+
+-- in no transaction, so all that it shows is committed
+pub record IsSettled (s : State) : Type 0 where
+  pub autocommit : s.in_transaction ≡ false
+  pub committed : IsTrue s.is_open → s.now ≡ s.committed
+
+-- What a connection shows while it is open, with all of it committed. It says nothing where a file was written by others, or the disk has failed for good.
+pub record Holds (s : State) (w : World) : Type 0 where
+  pub schema : s.now.schema ≡ store_schema
+  pub settled : s.now ≡ s.committed
+  pub autocommit : s.in_transaction ≡ false
+  pub trees : StandFor s.now.trees w
+
+abbrev pub Stands : State → World → Type 0
+Stands s w = HasCleanDisk s → IsTrue s.is_open → Holds s w
+
+abbrev pub StandsFor : State → World → Type 0
+StandsFor s w = Stands s w × IsWorld w

@@ -1,0 +1,71 @@
+-- Tests of the tables, which read them and write nothing, and rows that are tested one after the other.
+use Rattle.std.specs.Prelude.{◌≡◌, ◌≤◌, ◌<◌, ◌⊎◌, ◌+◌, ◌^◌, ℕ, Bool, true, false, if◌then◌else◌, List, [], ◌∷◌, ◌++◌, length, Option, Some, None, IsSome, Result, Ok, Err, IfOk, OnOk, Decides}
+use Rattle.sqlite_trees.specs.View.{doubt}
+use Rattle.sqlite.specs.Tree.{Trees}
+use Rattle.sqlite.specs.Order.{Row}
+use Rattle.sqlite.specs.declared.error.Error.{Error}
+use Rattle.sqlite.specs.State.{State, HasCleanDisk, IsUnchanged, IsRolledBack}
+use Rattle.sqlite.specs.Effect.{Database, Reads, ReadsFirst, RefusesToRead}
+use Rattle.sqlite_resolve.specs.declared.compiled.Compiled.{Compiled}
+use Rattle.sqlite_resolve.specs.declared.error.CompileError.{CompileError}
+use Rattle.sqlite.specs.Listing.{understood}
+use Rattle.sqlite.proofs.Callers.{command_of}
+use Rattle.world.specs.declared.entry.Place.{Place}
+use Rattle.world.specs.World.{version_limit}
+use Rattle.tables.specs.Schema.{store_schema}
+use Rattle.tables.specs.Fit.{is_on}
+
+-- it leaves the tables and the limit as they are, no fault is forgotten, and a crash leaves nothing that it did not leave before
+pub record Looks (old new : State) : Type 0 where
+  pub clean : doubt old.is_clean ≤ doubt new.is_clean
+  pub left : HasCleanDisk new → old.now.schema ≡ store_schema → (db : Trees) → new.may_leave db → old.may_leave db
+  pub kept : HasCleanDisk new → old.now.schema ≡ store_schema → IsUnchanged old new ⊎ IsRolledBack old new
+  pub limit : HasCleanDisk new → old.now.schema ≡ store_schema → new.step_limit ≡ old.step_limit
+  pub counts : HasCleanDisk new → old.now.schema ≡ store_schema → old.faults ≤ new.faults
+
+-- the answer tells whether the tables are so
+pub record Tests (old new : State) (result : Result Bool Error) (P : Trees → Type 0) : Type 0 where
+  pub looks : Looks old new
+  pub same : HasCleanDisk new → old.now.schema ≡ store_schema → OnOk result (IsUnchanged old new)
+  pub answer : HasCleanDisk new → old.now.schema ≡ store_schema → IfOk result (λ b. Decides b (P old.now.trees))
+
+module _ {X : Type 0} (Fits : X → Row → Type 0) (Keeps : X → Row → X → Type 0) where
+  -- each row fits after those before it, of which something is kept
+  abbrev pub Pass : X → List Row → X → Type 0
+  Pass kept [] end = end ≡ kept
+  Pass kept (r ∷ rows) end = Fits kept r × (next : X) × Keeps kept r next × Pass next rows end
+
+  -- each row that the query shows fits, or one of the first does not
+  abbrev pub Walks : List ℕ → Database → X → X → Bool → Type 0
+  Walks sql db start end true = (rows : List Row) × Reads (command_of (understood store_schema sql)) db [] rows × Pass start rows end
+  Walks sql db start end false =
+      (rows : List Row) × (row : Row) × (kept : X) × ReadsFirst (command_of (understood store_schema sql)) db [] (rows ++ row ∷ []) × Pass start rows kept × (Fits kept row → ⊥)
+
+-- ---- the queries that may be walked over
+
+-- the text is one statement, with no parameter
+abbrev pub IsAlone : List ℕ → Result Compiled CompileError → Type 0
+IsAlone sql (Ok c) = (length sql ≤ c.tail) × (c.names ≡ [])
+IsAlone sql (Err e) = ⊥
+
+-- nothing but a limit on its steps refuses the query, and each row that it shows has so many values
+pub record IsWalkable (sql : List ℕ) (width : ℕ) : Type 0 where
+  pub alone : IsAlone sql (understood store_schema sql)
+  pub allowed : (limit : Option ℕ) (db : Database) (e : Error) → db.schema ≡ store_schema → RefusesToRead limit (command_of (understood store_schema sql)) db [] e → IsSome limit
+  pub wide : (db : Database) (rows : List Row) (row : Row) → ReadsFirst (command_of (understood store_schema sql)) db [] (rows ++ row ∷ []) → length row ≡ width
+
+-- the query shows more rows than a walk counts
+abbrev pub ShowsTooMany : List ℕ → Database → Type 0
+ShowsTooMany sql db = (rows : List Row) × ReadsFirst (command_of (understood store_schema sql)) db [] rows × (2 ^ 128 ≤ length rows + 1)
+
+-- ---- one place after another, in order
+
+-- a place may come after the last one, with which so many of its path on its shelf have come
+abbrev pub MayFollow : Option Place → ℕ → Place → Type 0
+MayFollow None many q = Unit {0}
+MayFollow (Some p) many q = (p ≡ q → ⊥) × (is_on p.shelf p.path q ≡ true → many < version_limit)
+
+-- how many have come with it
+abbrev pub run_with : Option Place → ℕ → Place → ℕ
+run_with None many q = 1
+run_with (Some p) many q = if is_on p.shelf p.path q then many + 1 else 1

@@ -1,0 +1,383 @@
+//! Whether the rows of the tables stand for a world.
+
+ghost use Rattle.std.specs.Prelude.{◌≡◌, ◌≤◌, ◌||◌, ◌⊎◌, pos, map, length, true, false, IfOk, IfErr, IfSome, OnOk, IsTrue, Decides, MatchOption, IsUtf8, Some};
+ghost use Rattle.modver.specs.Time.{IsTime};
+ghost use Rattle.sqlite.specs.declared.types.Value.TheVariants.{Int, Text as StoredText, Blob};
+ghost use Rattle.sqlite.specs.Order.{Row as Shown, column};
+ghost use Rattle.sqlite.specs.Values.{or_null};
+ghost use Rattle.sqlite.specs.Held.{state};
+ghost use Rattle.sqlite.specs.State.{HasCleanDisk, IsUnchanged};
+ghost use Rattle.sqlite_trees.specs.View.{doubt};
+ghost use Rattle.tables.specs.Schema.{store_schema};
+ghost use Rattle.tables.specs.Means.{IsSettled, StandsForSome, StandsForNone};
+ghost use Rattle.tables.specs.Causes.{HasReason};
+ghost use Rattle.tables.specs.Walks.{Tests, MayFollow, run_with};
+ghost use Rattle.world.specs.World.{place, IsEntry};
+ghost use Rattle.tables.specs.Fit.{IsSchemaRow, IsShelfRow, IsKeyRow, IsNumberRow, IsEntryRow, ShowsFiles, is_common, key_in, number_in, place_in, is_on, IsMetaFit, AreShelvesFit, AreKeysFit, AreNumbersFit, AreEntriesFit, AreFit, meta_shown, name_shown, number_shown, joined};
+
+use crate::schema::is_store_schema;
+use crate::walk::{RowTest, rows_pass};
+use modver::{TimeText, read_time};
+use sqlite::types::ValueRef;
+use sqlite::{Alter, Connection, Error, ErrorCode, Row};
+use std::alloc::Global;
+use world::entry::{EntryRef, Place};
+use world::entry_test::may_stand;
+use world::names::{is_key, is_team_name};
+use world::text::Text;
+
+/// The text of a column, if it is one.
+fn text_at(row: &Row, at: usize) -> Result<Option<&str>, Error>
+    ensures found { IfOk result (λ found. MatchOption found ((t : _) → column row.now at ≡ StoredText t → IsUtf8 t → ⊥) (λ t. (column row.now at ≡ StoredText t.now) × IsUtf8 t.now)) }
+    ensures past { IfErr result (λ _. length row.now ≤ at) }
+{
+    match row.get_ref(at)? {
+        ValueRef::Text(bytes) => match std::str::from_utf8(bytes) {
+            Ok(text) => Ok(Some(text)),
+            Err(_) => Ok(None),
+        },
+        _ => Ok(None),
+    }
+}
+
+/// The bytes of a column, if it has any.
+fn blob_at(row: &Row, at: usize) -> Result<Option<&[u8]>, Error>
+    ensures found { IfOk result (λ found. MatchOption found ((b : _) → column row.now at ≡ Blob b → ⊥) (λ b. column row.now at ≡ Blob b.now)) }
+    ensures past { IfErr result (λ _. length row.now ≤ at) }
+{
+    match row.get_ref(at)? {
+        ValueRef::Blob(bytes) => Ok(Some(bytes)),
+        _ => Ok(None),
+    }
+}
+
+/// The time that bytes are, if they are one.
+fn time_of(bytes: &[u8]) -> Option<TimeText>
+    ensures { MatchOption result (IsTime bytes.now → ⊥) (λ t. t ≡ bytes.now) }
+{
+    match std::str::from_utf8(bytes) {
+        Ok(text) => read_time(text).ok(),
+        Err(_) => None,
+    }
+}
+
+/// The time of a column, or none where it is NULL, if it is one of the two.
+fn time_at(row: &Row, at: usize) -> Result<Option<Option<TimeText>>, Error>
+    ensures found { IfOk result (λ found. MatchOption found ((t : _) → column row.now at ≡ or_null StoredText t → IfSome t IsTime → ⊥) (λ t. column row.now at ≡ or_null StoredText t)) }
+    ensures past { IfErr result (λ _. length row.now ≤ at) }
+{
+    match row.get_ref(at)? {
+        ValueRef::Null => Ok(Some(None)),
+        ValueRef::Text(bytes) => match time_of(bytes) {
+            Some(time) => Ok(Some(Some(time))),
+            None => Ok(None),
+        },
+        _ => Ok(None),
+    }
+}
+
+/// The number of a column, if it is one.
+fn int_at(row: &Row, at: usize) -> Result<Option<i64>, Error>
+    ensures found { IfOk result (λ found. MatchOption found ((n : _) → column row.now at ≡ Int n → ⊥) (λ n. column row.now at ≡ Int n)) }
+    ensures past { IfErr result (λ _. length row.now ≤ at) }
+{
+    match row.get_ref(at)? {
+        ValueRef::Int(n) => Ok(Some(n)),
+        _ => Ok(None),
+    }
+}
+
+/// Whether a column is the number 1.
+fn is_one_at(row: &Row, at: usize) -> Result<bool, Error>
+    ensures found { IfOk result (λ b. Decides b (column row.now at ≡ Int (pos 1))) }
+    ensures past { IfErr result (λ _. length row.now ≤ at) }
+{
+    Ok(matches!(row.get_ref(at)?, ValueRef::Int(1)))
+}
+
+/// The rows of `meta`: each names schema 1.
+#[derive(Drop)]
+struct MetaRows {
+    has_row: bool,
+}
+
+impl RowTest for MetaRows {
+    ghost width = { 2 };
+
+    ghost Fits = { λ _ row. IsSchemaRow row };
+
+    ghost Keeps = { λ _ _ next. next.has_row ≡ true };
+
+    fn passes(&mut self, row: &Row) -> Result<bool, Error> {
+        if text_at(row, 0)? != Some("schema") || !is_one_at(row, 1)? {
+            return Ok(false);
+        }
+        self.has_row = true;
+        Ok(true)
+    }
+}
+
+/// The rows of `shelf`: each is `common` or a team.
+#[derive(Drop)]
+struct ShelfRows {
+    has_common: bool,
+}
+
+impl RowTest for ShelfRows {
+    ghost width = { 1 };
+
+    ghost Fits = { λ _ row. IsShelfRow row };
+
+    ghost Keeps = { λ rows row next. next.has_common ≡ (rows.has_common || is_common (column row 0)) };
+
+    fn passes(&mut self, row: &Row) -> Result<bool, Error> {
+        let Some(name) = text_at(row, 0)? else {
+            return Ok(false);
+        };
+        if name == "common" {
+            self.has_common = true;
+            return Ok(true);
+        }
+        Ok(is_team_name(name))
+    }
+}
+
+/// The rows of `access` in the order of their keys: each key is well formed, and comes once.
+#[derive(Drop)]
+struct KeyRows {
+    alloc: Global,
+    last: Option<Text>,
+}
+
+impl RowTest for KeyRows {
+    ghost width = { 1 };
+
+    ghost Fits = { λ rows row. IsKeyRow row × (rows.last ≡ Some (key_in row) → ⊥) };
+
+    ghost Keeps = { λ _ row next. next.last ≡ Some (key_in row) };
+
+    fn passes(&mut self, row: &Row) -> Result<bool, Error> {
+        let Some(key) = text_at(row, 0)? else {
+            return Ok(false);
+        };
+        if !is_key(key) || is_last(&self.last, key) {
+            return Ok(false);
+        }
+        self.last = Some(Text::copy_of(self.alloc, key)?);
+        Ok(true)
+    }
+}
+
+fn is_last(last: &Option<Text>, text: &str) -> bool
+    ensures { Decides result (last.now ≡ Some text.now) }
+{
+    match last {
+        Some(last) => last.as_str() == text,
+        None => false,
+    }
+}
+
+/// The rows of `access` in the order of their numbers: each has one, and no other has it.
+#[derive(Drop)]
+struct NumberRows {
+    last: Option<i64>,
+}
+
+impl RowTest for NumberRows {
+    ghost width = { 1 };
+
+    ghost Fits = { λ rows row. IsNumberRow row × (rows.last ≡ Some (number_in row) → ⊥) };
+
+    ghost Keeps = { λ _ row next. next.last ≡ Some (number_in row) };
+
+    fn passes(&mut self, row: &Row) -> Result<bool, Error> {
+        let Some(number) = int_at(row, 0)? else {
+            return Ok(false);
+        };
+        if self.last == Some(number) {
+            return Ok(false);
+        }
+        self.last = Some(number);
+        Ok(true)
+    }
+}
+
+/// The rows of entries in the order of their places: each entry may stand at its place, no place comes
+/// twice, and no path too often on a shelf.
+#[derive(Drop)]
+struct EntryRows {
+    alloc: Global,
+    last: Option<Place>,
+    many: u64,
+}
+
+impl RowTest for EntryRows {
+    ghost width = { 6 };
+
+    ghost Fits = { λ rows row. IsEntryRow row × MayFollow rows.last rows.many (place_in row) };
+
+    ghost Keeps = { λ rows row next. (next.last ≡ Some (place_in row)) × (next.many ≡ run_with rows.last rows.many (place_in row)) };
+
+    fn passes(&mut self, row: &Row) -> Result<bool, Error> {
+        let Some(place) = entry_place(self.alloc, row)? else {
+            return Ok(false);
+        };
+        let Some(many) = run_up_to(&self.last, self.many, &place) else {
+            return Ok(false);
+        };
+        self.last = Some(place);
+        self.many = many;
+        Ok(true)
+    }
+}
+
+/// The place of an entry that a row shows, if the entry may stand there.
+fn entry_place(alloc: Global, row: &Row) -> Result<Option<Place>, Error>
+    ensures found { IfOk result (λ found. MatchOption found (IsEntryRow row.now → ⊥) (λ q. (q ≡ place_in row.now) × IsEntryRow row.now)) }
+    ensures memory { 6 ≤ length row.now → IfErr result (λ e. e ≡ Error.SqliteFailure ErrorCode.OutOfMemory) }
+{
+    let Some(shelf) = text_at(row, 0)? else {
+        return Ok(None);
+    };
+    let Some(path) = text_at(row, 1)? else {
+        return Ok(None);
+    };
+    let Some(version) = text_at(row, 2)? else {
+        return Ok(None);
+    };
+    if !shows_entry(alloc, row, path, version)? {
+        return Ok(None);
+    }
+    Ok(Some(Place::new(alloc, shelf, path, version)?))
+}
+
+/// Whether the other columns of a row show an entry that may stand at a path and a version.
+fn shows_entry(alloc: Global, row: &Row, path: &str, version: &str) -> Result<bool, Error>
+    ensures verdict { IfOk result (λ may. Decides may ((e : _) × ShowsFiles row.now e × ((s : _) → IsEntry (place s path.now version.now) e))) }
+    ensures memory { 6 ≤ length row.now → IfErr result (λ e. e ≡ Error.SqliteFailure ErrorCode.OutOfMemory) }
+{
+    let Some(gomod) = blob_at(row, 4)? else {
+        return Ok(false);
+    };
+    let Some(zip) = blob_at(row, 5)? else {
+        return Ok(false);
+    };
+    let Some(time) = time_at(row, 3)? else {
+        return Ok(false);
+    };
+    Ok(may_stand(alloc, path, version, &EntryRef { gomod, zip, time })?)
+}
+
+/// How many of a path on its shelf have come with this place, if it may follow the last one.
+fn run_up_to(last: &Option<Place>, many: u64, place: &Place) -> Option<u64>
+    ensures { MatchOption result (MayFollow last.now many place.now → ⊥) (λ n. MayFollow last.now many place.now × (n ≡ run_with last.now many place.now)) }
+{
+    let Some(last) = last else {
+        return Some(1);
+    };
+    if *last == *place {
+        return None;
+    }
+    if place.shelf != last.shelf || place.path != last.path {
+        return Some(1);
+    }
+    if many < 4096 { Some(many + 1) } else { None }
+}
+
+/// Whether `meta` names schema 1 and nothing else.
+fn has_schema<S: Alter>(conn: &mut Connection<S>) -> Result<bool, Error>
+    ensures tests { Tests (state S.Store conn.old) (state S.Store conn.new) result (λ db. IsMetaFit (map meta_shown (db 0))) }
+    ensures cause { HasCleanDisk (state S.Store conn.new) → (state S.Store conn.old).now.schema ≡ store_schema → IfErr result (HasReason (state S.Store conn.old) (state S.Store conn.new)) }
+{
+    let mut rows = MetaRows { has_row: false };
+    if !rows_pass(conn, "SELECT name, value FROM meta", &mut rows)? {
+        return Ok(false);
+    }
+    Ok(rows.has_row)
+}
+
+/// Whether each shelf has a good name, and `common` is there.
+fn has_shelves<S: Alter>(conn: &mut Connection<S>) -> Result<bool, Error>
+    ensures tests { Tests (state S.Store conn.old) (state S.Store conn.new) result (λ db. AreShelvesFit (map name_shown (db 2))) }
+    ensures cause { HasCleanDisk (state S.Store conn.new) → (state S.Store conn.old).now.schema ≡ store_schema → IfErr result (HasReason (state S.Store conn.old) (state S.Store conn.new)) }
+{
+    let mut rows = ShelfRows { has_common: false };
+    if !rows_pass(conn, "SELECT name FROM shelf", &mut rows)? {
+        return Ok(false);
+    }
+    Ok(rows.has_common)
+}
+
+/// Whether each key is well formed, and comes once.
+fn has_keys<S: Alter>(alloc: Global, conn: &mut Connection<S>) -> Result<bool, Error>
+    ensures tests { Tests (state S.Store conn.old) (state S.Store conn.new) result (λ db. AreKeysFit (map name_shown (db 4))) }
+    ensures cause { HasCleanDisk (state S.Store conn.new) → (state S.Store conn.old).now.schema ≡ store_schema → IfErr result (HasReason (state S.Store conn.old) (state S.Store conn.new)) }
+{
+    let mut rows = KeyRows { alloc, last: None };
+    rows_pass(conn, "SELECT token FROM access ORDER BY token", &mut rows)
+}
+
+/// Whether each key has a number of its own.
+fn has_numbers<S: Alter>(conn: &mut Connection<S>) -> Result<bool, Error>
+    ensures tests { Tests (state S.Store conn.old) (state S.Store conn.new) result (λ db. AreNumbersFit (map number_shown (db 4))) }
+    ensures cause { HasCleanDisk (state S.Store conn.new) → (state S.Store conn.old).now.schema ≡ store_schema → IfErr result (HasReason (state S.Store conn.old) (state S.Store conn.new)) }
+{
+    let mut rows = NumberRows { last: None };
+    rows_pass(conn, "SELECT rowid FROM access ORDER BY rowid", &mut rows)
+}
+
+/// Whether each version with its body is an entry that may stand at its place, each place comes once,
+/// and no path too often on a shelf.
+fn has_entries<S: Alter>(alloc: Global, conn: &mut Connection<S>) -> Result<bool, Error>
+    ensures tests { Tests (state S.Store conn.old) (state S.Store conn.new) result (λ db. AreEntriesFit (joined (db 6) (db 8))) }
+    ensures cause { HasCleanDisk (state S.Store conn.new) → (state S.Store conn.old).now.schema ≡ store_schema → IfErr result (HasReason (state S.Store conn.old) (state S.Store conn.new)) }
+{
+    let mut rows = EntryRows {
+        alloc,
+        last: None,
+        many: 0,
+    };
+    rows_pass(
+        conn,
+        "SELECT v.shelf, v.path, v.version, v.time, v.mod, b.zip FROM version AS v LEFT JOIN body AS b ON b.id = v.id ORDER BY v.shelf, v.path, v.version",
+        &mut rows,
+    )
+}
+
+/// Whether the rows of all tables are such as stand for a world.
+fn is_fit<S: Alter>(alloc: Global, conn: &mut Connection<S>) -> Result<bool, Error>
+    ensures tests { Tests (state S.Store conn.old) (state S.Store conn.new) result AreFit }
+    ensures cause { HasCleanDisk (state S.Store conn.new) → (state S.Store conn.old).now.schema ≡ store_schema → IfErr result (HasReason (state S.Store conn.old) (state S.Store conn.new)) }
+{
+    if !has_schema(conn)? {
+        return Ok(false);
+    }
+    if !has_shelves(conn)? {
+        return Ok(false);
+    }
+    if !has_keys(alloc, conn)? {
+        return Ok(false);
+    }
+    if !has_numbers(conn)? {
+        return Ok(false);
+    }
+    has_entries(alloc, conn)
+}
+
+/// Whether the tables are those of the schema and stand for a world. Nothing is written.
+///
+/// An error tells that memory was wanted, that the connection is shut or limited in its steps, that
+/// the disk failed, or that a table has 2^64 rows, one for each rowid.
+pub fn stand_for_world<S: Alter>(alloc: Global, conn: &mut Connection<S>) -> Result<bool, Error>
+    ensures clean { doubt (state S.Store conn.old).is_clean ≤ doubt (state S.Store conn.new).is_clean }
+    ensures found { HasCleanDisk (state S.Store conn.new) → IfOk result (λ b. IsTrue b → IsUnchanged (state S.Store conn.old) (state S.Store conn.new) × StandsForSome (state S.Store conn.old).now) }
+    ensures none { HasCleanDisk (state S.Store conn.new) → IfOk result (λ b. b ≡ false → StandsForNone (state S.Store conn.old).now) }
+    ensures kept { HasCleanDisk (state S.Store conn.new) → IsSettled (state S.Store conn.old) → IsTrue (state S.Store conn.new).is_open → (state S.Store conn.new).now ≡ (state S.Store conn.old).now }
+    ensures left { HasCleanDisk (state S.Store conn.new) → (db : _) → (state S.Store conn.new).may_leave db → (state S.Store conn.old).may_leave db }
+    ensures cause { HasCleanDisk (state S.Store conn.new) → IfErr result (HasReason (state S.Store conn.old) (state S.Store conn.new)) }
+{
+    if !is_store_schema(conn.schema()) {
+        return Ok(false);
+    }
+    is_fit(alloc, conn)
+}

@@ -1,0 +1,56 @@
+//! Rows that a query shows, tested one after the other.
+
+ghost use Rattle.std.specs.Prelude.{◌≡◌, ◌⊎◌, length, false, ℕ, IfOk, IfErr, OnOk, MatchBool};
+ghost use Rattle.sqlite.specs.Held.{state};
+ghost use Rattle.sqlite.specs.Order.{Row as Shown};
+ghost use Rattle.sqlite.specs.State.{HasCleanDisk, IsUnchanged};
+ghost use Rattle.sqlite.specs.Given.{IsPlain};
+ghost use Rattle.sqlite.specs.Listing.{understood, reads_listing};
+ghost use Rattle.tables.specs.Schema.{store_schema};
+ghost use Rattle.tables.specs.Causes.{IsExcused};
+ghost use Rattle.tables.specs.Walks.{Looks, Walks, IsWalkable, ShowsTooMany};
+
+use sqlite::{Alter, Connection, Error, ErrorCode, Row};
+
+/// A test of rows that come one after the other, which keeps something of those before.
+pub(crate) trait RowTest {
+    /// How many values a row has.
+    ghost width: { ℕ };
+
+    /// What a row has to be, by what is kept of those before it.
+    ghost Fits: { Self → Shown → Type 0 };
+
+    /// What is kept once a row has passed.
+    ghost Keeps: { Self → Shown → Self → Type 0 };
+
+    fn passes(&mut self, row: &Row) -> Result<bool, Error>
+        ensures verdict { IfOk result (λ passes. MatchBool passes (Fits self.old row.now × Keeps self.old row.now self.new) (Fits self.old row.now → ⊥)) }
+        ensures memory { length row.now ≡ width → IfErr result (λ e. e ≡ Error.SqliteFailure ErrorCode.OutOfMemory) };
+}
+
+/// Whether each row that a query shows passes.
+pub(crate) fn rows_pass<S: Alter, T: RowTest>(
+    conn: &mut Connection<S>,
+    sql: &str,
+    test: &mut T,
+) -> Result<bool, Error>
+    requires plain { IsPlain (understood store_schema sql.now) }
+    requires tables { reads_listing store_schema sql.now ≡ false }
+    requires walkable { IsWalkable sql.now T.width }
+    ensures looks { Looks (state S.Store conn.old) (state S.Store conn.new) }
+    ensures same { HasCleanDisk (state S.Store conn.new) → (state S.Store conn.old).now.schema ≡ store_schema → OnOk result (IsUnchanged (state S.Store conn.old) (state S.Store conn.new)) }
+    ensures answer { HasCleanDisk (state S.Store conn.new) → (state S.Store conn.old).now.schema ≡ store_schema → IfOk result (Walks T.Fits T.Keeps sql.now (state S.Store conn.old).now test.old test.new) }
+    ensures cause { HasCleanDisk (state S.Store conn.new) → (state S.Store conn.old).now.schema ≡ store_schema → IfErr result (λ e. IsExcused (state S.Store conn.old) (state S.Store conn.new) e ⊎ ShowsTooMany sql.now (state S.Store conn.old).now) }
+{
+    let mut rows = conn.query(sql, &[])?;
+    'rows: for _turn in 0..u128::MAX {
+        let Some(row) = rows.next()? else {
+            return Ok(true);
+        };
+        if !test.passes(row)? {
+            return Ok(false);
+        }
+    }
+    // So many rows come only where a table has one for each rowid.
+    Err(Error::SqliteFailure(ErrorCode::TooBig))
+}

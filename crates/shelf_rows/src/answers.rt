@@ -1,0 +1,108 @@
+//! Answers to streams, from readers and to writers that cut them and fail.
+use crate::doubles::{Sink, Source, shelves};
+use crate::stream::{ANSWER_ENDS, ANSWERS, BAD_REQUEST, ENDS, STREAM};
+use engine::{Io, answer_all, answer_one};
+use std::alloc::Global;
+use std::io::ErrorKind;
+
+/// Answers a stream from shelves on which nothing stands.
+fn serve(alloc: Global, reader: &mut Source, writer: &mut Sink) -> Result<(), Io> {
+    let Ok(mut shelves) = shelves(alloc) else {
+        return Err(Io::Read);
+    };
+    answer_all(alloc, reader, writer, &mut shelves)
+}
+
+/// Answers its first message.
+fn serve_one(alloc: Global, reader: &mut Source, writer: &mut Sink) -> Result<Option<u16>, Io> {
+    let Ok(mut shelves) = shelves(alloc) else {
+        return Err(Io::Read);
+    };
+    answer_one(alloc, reader, writer, &mut shelves)
+}
+
+#[test]
+fn answers_the_stored_run_however_it_is_cut(rt: HostRuntime) {
+    for piece in 1..400 {
+        let mut writer = Sink::new(rt.alloc(), usize::MAX);
+        let result = serve(rt.alloc(), &mut Source::new(STREAM, piece), &mut writer);
+        assert!(rt; result == Ok(()));
+        assert!(rt; writer.taken.as_slice() == ANSWERS, "in pieces of {piece}");
+    }
+}
+
+#[test]
+fn answers_nothing_to_an_empty_input(rt: HostRuntime) {
+    let mut writer = Sink::new(rt.alloc(), usize::MAX);
+    let mut reader = Source::new(b"", 1);
+    assert!(rt; serve(rt.alloc(), &mut reader, &mut writer) == Ok(()));
+    assert!(rt; serve_one(rt.alloc(), &mut reader, &mut writer) == Ok(None));
+    assert!(rt; writer.taken.is_empty());
+}
+
+#[test]
+fn answers_400_to_a_stream_that_is_cut_within_a_message(rt: HostRuntime) {
+    for len in 1..ENDS[0] {
+        let mut writer = Sink::new(rt.alloc(), usize::MAX);
+        let result = serve(
+            rt.alloc(),
+            &mut Source::new(&STREAM[..len], 4096),
+            &mut writer,
+        );
+        assert!(rt; result == Ok(()));
+        assert!(rt; writer.taken.as_slice() == BAD_REQUEST, "at {len}");
+    }
+}
+
+#[test]
+fn answers_one_and_reads_no_more(rt: HostRuntime) {
+    let mut writer = Sink::new(rt.alloc(), usize::MAX);
+    let mut reader = Source::new(STREAM, 1);
+    let status = serve_one(rt.alloc(), &mut reader, &mut writer);
+    assert!(rt; status == Ok(Some(201)));
+    assert!(rt; writer.taken.as_slice() == &ANSWERS[..ANSWER_ENDS[0]]);
+    assert!(rt; reader.rest == &STREAM[ENDS[0]..]);
+}
+
+/// How many bytes are written for so many bytes of the stream, where they are followed by nothing.
+fn answered(len: usize) -> usize {
+    let mut bytes = 0;
+    for (end, answer) in ENDS.iter().zip(ANSWER_ENDS.iter()) {
+        if *end <= len {
+            bytes = *answer;
+        }
+    }
+    bytes
+}
+
+#[test]
+fn has_answered_what_was_read_when_a_read_fails(rt: HostRuntime) {
+    for reads in 0..STREAM.len() {
+        let mut reader = Source::new(STREAM, 1);
+        reader.reads = reads as u64;
+        reader.failure = ErrorKind::ConnectionReset;
+        let mut writer = Sink::new(rt.alloc(), usize::MAX);
+        assert!(rt; serve(rt.alloc(), &mut reader, &mut writer) == Err(Io::Read));
+        assert!(rt; writer.taken.len() == answered(reads), "at {reads}");
+        assert!(rt; reader.rest.len() == STREAM.len() - reads);
+    }
+}
+
+#[test]
+fn has_written_a_beginning_when_a_write_fails(rt: HostRuntime) {
+    for room in 0..ANSWERS.len() {
+        let mut writer = Sink::new(rt.alloc(), room);
+        let result = serve(rt.alloc(), &mut Source::new(STREAM, 50), &mut writer);
+        assert!(rt; result == Err(Io::Write));
+        assert!(rt; writer.taken.as_slice() == &ANSWERS[..room]);
+    }
+}
+
+#[test]
+fn has_written_all_when_the_flush_fails(rt: HostRuntime) {
+    let mut writer = Sink::new(rt.alloc(), usize::MAX);
+    writer.flushes = false;
+    let result = serve(rt.alloc(), &mut Source::new(STREAM, 50), &mut writer);
+    assert!(rt; result == Err(Io::Write));
+    assert!(rt; writer.taken.as_slice() == ANSWERS);
+}

@@ -1,0 +1,106 @@
+//! Readers and writers that fail, and shelves to answer from.
+use shelf::entry::Right;
+use shelf::map_shelves::MapShelves;
+use shelf::reply::StoreFault;
+use shelf::shelves::Shelves;
+use std::alloc::Global;
+use std::io;
+use std::io::{Error, ErrorKind, Read, Write};
+
+/// The shelf `common` and the teams alpha and beta, with their keys.
+pub fn shelves(alloc: Global) -> Result<MapShelves, StoreFault> {
+    let mut shelves = MapShelves::new(alloc)?;
+    register(&mut shelves)?;
+    Ok(shelves)
+}
+
+fn register(shelves: &mut MapShelves) -> Result<(), StoreFault> {
+    shelves.team_add("alpha")?;
+    shelves.team_add("beta")?;
+    shelves.key_add("alpha", "alphakey00000001", Right::Publishes)?;
+    shelves.key_add("alpha", "alphareader00001", Right::Reads)?;
+    shelves.key_add("beta", "betakey000000001", Right::Publishes)?;
+    shelves.key_add("common", "commonkey0000001", Right::Publishes)?;
+    Ok(())
+}
+
+/// Gives its bytes in pieces; the read after so many fails.
+#[derive(Drop)]
+pub struct Source<'a> {
+    pub rest: &'a [u8],
+    pub piece: usize,
+    pub reads: u64,
+    pub failure: ErrorKind,
+}
+
+impl<'a> Source<'a> {
+    pub fn new(rest: &'a [u8], piece: usize) -> Source<'a> {
+        Source {
+            rest,
+            piece,
+            reads: u64::MAX,
+            failure: ErrorKind::Interrupted,
+        }
+    }
+}
+
+impl<'a> Read for Source<'a> {
+    fn read(&mut self, buf: &mut [u8]) -> io::Result<usize> {
+        if self.reads == 0 {
+            self.reads = u64::MAX;
+            return Err(Error::from(self.failure));
+        }
+        self.reads -= 1;
+        let n = self.rest.len().min(self.piece).min(buf.len());
+        buf[..n].copy_from_slice(&self.rest[..n]);
+        self.rest = &self.rest[n..];
+        Ok(n)
+    }
+}
+
+/// Takes its bytes in pieces; fails once it has so many, and where it is flushed if it is to.
+#[derive(Drop)]
+pub struct Sink {
+    pub taken: Vec<u8>,
+    pub piece: usize,
+    pub room: usize,
+    pub interrupts: bool,
+    pub flushes: bool,
+}
+
+impl Sink {
+    pub fn new(alloc: Global, room: usize) -> Sink {
+        Sink {
+            taken: Vec::new(alloc),
+            piece: 7,
+            room,
+            interrupts: true,
+            flushes: true,
+        }
+    }
+}
+
+impl Write for Sink {
+    fn write(&mut self, buf: &[u8]) -> io::Result<usize> {
+        if self.interrupts {
+            self.interrupts = false;
+            return Err(Error::from(ErrorKind::Interrupted));
+        }
+        let n = buf.len().min(self.piece).min(self.room);
+        if n == 0 {
+            return Err(Error::from(ErrorKind::BrokenPipe));
+        }
+        self.taken.extend_from_slice(&buf[..n])?;
+        self.room -= n;
+        self.interrupts = true;
+        Ok(n)
+    }
+
+    fn flush(&mut self) -> io::Result<()> {
+        if self.flushes {
+            Ok(())
+        } else {
+            Err(Error::from(ErrorKind::BrokenPipe))
+        }
+    }
+}

@@ -1,0 +1,129 @@
+//! Stores in files. Each test has a folder of its own.
+use crate::calls::wrong_row;
+use sqlite::Connection;
+use std::fs;
+use std::test::Fail;
+use store::refusal::Refusal;
+use store::store::SqlShelves;
+
+/// Puts a team and a version into a store.
+const FILL: &str = "\
+team-add|alpha = Done
+insert|alpha|example.com/lib|v1.0.0|module example.com/lib;|Z = ()
+";
+
+/// What the store then has.
+const FULL: &str = "\
+entry|alpha|example.com/lib|v1.0.0 = alpha|module example.com/lib;|Z|
+team-add|alpha = Taken
+";
+
+/// The first row of a script that the store in a file answers otherwise.
+fn wrong_row_of_file<'a>(rt: &HostRuntime, file: &str, script: &'a str) -> Result<&'a str, Fail> {
+    let mut shelves = SqlShelves::open_file(rt, file)?;
+    wrong_row(rt.alloc(), &mut shelves, script)
+}
+
+#[test]
+fn a_file_keeps_its_shelves(rt: HostRuntime) -> Result<(), Fail> {
+    let _ = fs::remove_dir_all(&rt, "store_kept_test");
+    fs::create_dir(&rt, "store_kept_test")?;
+    assert_eq!(rt; wrong_row_of_file(&rt, "store_kept_test/a.db", FILL)?, "");
+    assert_eq!(rt; wrong_row_of_file(&rt, "store_kept_test/a.db", FULL)?, "");
+    fs::remove_dir_all(&rt, "store_kept_test")?;
+    Ok(())
+}
+
+fn refusal(rt: &HostRuntime, file: &str) -> Option<Refusal> {
+    match SqlShelves::open_file(rt, file) {
+        Ok(_) => None,
+        Err(refusal) => Some(refusal),
+    }
+}
+
+/// A file with one table.
+fn make_foreign(rt: &HostRuntime, file: &str) -> Result<(), Fail> {
+    let mut conn = Connection::open(rt, file)?;
+    conn.execute_batch("CREATE TABLE x (a INTEGER) STRICT")?;
+    conn.close()?;
+    Ok(())
+}
+
+/// Whether bytes that are no such store are refused as a file, and stay.
+fn stays(rt: &HostRuntime, file: &str, bytes: &[u8]) -> Result<bool, Fail> {
+    fs::write(rt, file, bytes)?;
+    let told = refusal(rt, file);
+    let after = fs::read(rt, file)?;
+    Ok(told == Some(Refusal::BadSchema) && after.as_slice() == bytes)
+}
+
+/// The bytes of a file, once its log is copied into it.
+fn bytes_of(rt: &HostRuntime, file: &str) -> Result<Vec<u8>, Fail> {
+    Connection::open(rt, file)?.close()?;
+    Ok(fs::read(rt, file)?)
+}
+
+/// The bytes up to a place.
+fn cut(bytes: &[u8], place: usize) -> &[u8] {
+    match bytes.split_at_checked(place) {
+        Some((front, _)) => front,
+        None => bytes,
+    }
+}
+
+/// Turns every bit of a byte.
+fn flip(bytes: &mut Vec<u8>, place: usize) {
+    if let Some(byte) = bytes.get_mut(place) {
+        *byte ^= 255;
+    }
+}
+
+#[test]
+fn a_damaged_file_is_refused(rt: HostRuntime) -> Result<(), Fail> {
+    let _ = fs::remove_dir_all(&rt, "store_damaged_test");
+    fs::create_dir(&rt, "store_damaged_test")?;
+    fs::write(&rt, "store_damaged_test/a.db", "")?;
+    assert_eq!(rt;
+        wrong_row_of_file(&rt, "store_damaged_test/a.db", FILL)?,
+        ""
+    );
+    let mut bytes = bytes_of(&rt, "store_damaged_test/a.db")?;
+    assert!(rt;
+        stays(
+            &rt,
+            "store_damaged_test/cut.db",
+            cut(bytes.as_slice(), 5000)
+        )?
+    );
+    flip(&mut bytes, 4096);
+    assert!(rt; stays(&rt, "store_damaged_test/page.db", bytes.as_slice())?);
+    flip(&mut bytes, 0);
+    assert!(rt; stays(&rt, "store_damaged_test/head.db", bytes.as_slice())?);
+    assert_eq!(rt;
+        wrong_row_of_file(&rt, "store_damaged_test/a.db", FULL)?,
+        ""
+    );
+    fs::remove_dir_all(&rt, "store_damaged_test")?;
+    Ok(())
+}
+
+#[test]
+fn a_foreign_file_is_refused(rt: HostRuntime) -> Result<(), Fail> {
+    let _ = fs::remove_dir_all(&rt, "store_foreign_test");
+    fs::create_dir(&rt, "store_foreign_test")?;
+    make_foreign(&rt, "store_foreign_test/a.db")?;
+    let bytes = bytes_of(&rt, "store_foreign_test/a.db")?;
+    assert!(rt; stays(&rt, "store_foreign_test/a.db", bytes.as_slice())?);
+    assert!(rt;
+        stays(
+            &rt,
+            "store_foreign_test/text.db",
+            b"This is a text and no database."
+        )?
+    );
+    assert_eq!(rt; refusal(&rt, "store_foreign_test"), Some(Refusal::Device));
+    assert_eq!(rt; refusal(&rt, ":memory:"), Some(Refusal::Device));
+    assert_eq!(rt; refusal(&rt, ""), Some(Refusal::Device));
+    fs::remove_dir_all(&rt, "store_foreign_test")?;
+    Ok(())
+}

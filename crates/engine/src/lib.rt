@@ -49,6 +49,3 @@ mod write;
 
 pub use answer::{answer_all, answer_one};
 pub use fault::Io;
-
-#[cfg(test)]
-mod tests;

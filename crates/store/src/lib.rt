@@ -45,7 +45,5 @@ mod revoke;
 mod schema;
 mod shelves;
 pub mod store;
-#[cfg(test)]
-mod tests;
 mod visible;
 mod walk;

@@ -50,6 +50,3 @@ mod write;
 
 pub use answer::{answer_all, answer_one};
 pub use fault::Io;
-
-#[cfg(test)]
-mod tests;

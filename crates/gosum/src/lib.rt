@@ -9,9 +9,6 @@
 //! | `module example.com/lib` and a newline | `h1:4OAnUP7RpKJ0hg7ydNi+A/luktLxx7xSrw0c+FeAtlc=` |
 #![tactic(auto)]
 
-#[cfg(test)]
-mod tests;
-
 ghost use Rattle.std.specs.Prelude.{◌≡◌, IfOk, string_bytes};
 ghost use Rattle.modver.specs.SemanticVersion.{version_text};
 ghost use Rattle.gosum.specs.Sum.{file_line, hash_of, line_of};

@@ -21,8 +21,6 @@
 
 pub mod laws;
 mod lexer;
-#[cfg(test)]
-mod tests;
 mod words;
 
 pub use crate::lexer::{Kind, Span, Token, TokenFault, cut_line, line_tokens, tokens};

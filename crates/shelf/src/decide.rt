@@ -3,9 +3,6 @@ ghost use Rattle.std.specs.Prelude.{◌≡◌, option_copied, unwrap_or, Some, t
 ghost use Rattle.shelf.specs.Machine as spec;
 ghost use Rattle.shelf.specs.declared.reply.Decision.TheVariants.{Published};
 
-#[cfg(test)]
-mod tests;
-
 use crate::ask::{GivenTime, Publish};
 use crate::reply::{Decision, Refusal};
 use gomod::GoMod;

@@ -79,6 +79,3 @@ pub fn run_in_memory(
     let answers = run(alloc, &mut shelves, events)?;
     Ok((shelves, answers))
 }
-
-#[cfg(test)]
-mod tests;

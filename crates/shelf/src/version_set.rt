@@ -4,9 +4,6 @@ ghost use Rattle.std.specs.FinSet as set;
 ghost use Rattle.modver.specs.SemanticVersion.{version_text};
 ghost use Rattle.world.specs.Lines.{in_order, lines_of};
 
-#[cfg(test)]
-mod tests;
-
 use modver::{Version, compare};
 use std::alloc::{AllocError, Global};
 use std::cmp::Ordering;

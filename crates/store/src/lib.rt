@@ -31,6 +31,4 @@ pub mod refusal;
 mod revoke;
 mod shelves;
 pub mod store;
-#[cfg(test)]
-mod tests;
 mod visible;

@@ -48,6 +48,3 @@ pub use reply::{Fixed, Kind, StatusCode};
 pub use request::{Query, Target};
 pub use targets::target;
 pub use text::Text;
-
-#[cfg(test)]
-mod tests;

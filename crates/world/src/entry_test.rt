@@ -3,9 +3,6 @@ ghost use Rattle.std.specs.Prelude.{◌≡◌, IfOk};
 ghost use Rattle.world.specs.EntryTest as spec;
 ghost use Rattle.world.specs.GoMods.{reading_of};
 
-#[cfg(test)]
-mod tests;
-
 use crate::entry::{EntryRef, MAX_GOMOD, MAX_ZIP};
 use crate::forms::{path_of, version_of};
 use crate::reading::Reading;

@@ -216,6 +216,3 @@ impl Shelves for MapShelves {
         Ok(Registered::Done)
     }
 }
-
-#[cfg(test)]
-mod tests;

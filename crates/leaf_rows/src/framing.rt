@@ -1,5 +1,8 @@
-use crate::{Bad, Framer, Memory, Next};
+//! Messages out of a stream. (RFC 9112.)
+use crate::rows::{column, with_lines};
 use std::alloc::Global;
+use std::test::Fail;
+use wire::{Bad, Framer, Memory, Next};
 
 const PUT: &[u8] =
     b"PUT /k/alphakey00000001/example.com/lib/@v/v1.0.0 HTTP/1.1\r\nMod-Length: 23\r\nContent-Length: 23\r\n\r\nmodule example.com/lib\n";
@@ -113,108 +116,49 @@ fn answer(alloc: Global, bytes: &[u8]) -> Result<&'static str, Memory> {
     })
 }
 
+/// First bytes of streams, and what each gives; `;` stands for a newline.
+const FRONTS: &str = "\
+GET / HTTP/1.0;;|message
+\r;\r;GET / HTTP/1.1\r;\r;|message
+GET / HTTP/1.1\r;content-length: 0\r;\r;|message
+GET /ü HTTP/1.1\r;\r;|message
+GET / HTTP/1.1\r;Content-Length: 1\r;\r;ab|message
+GET / HTTP/1.1\r;Content-Length: \t1 \r;\r;a|message
+|more
+\r;\r;|more
+GET / HTTP/1.1\r;Content-Length: 17825792\r;\r;|more
+GET / HTTP/1.1\r;Content-Length: 17825793\r;\r;|413
+GET / HTTP/1.1\r;Content-Length: 9999999999\r;\r;|413
+GET / HTTP/1.1\r;Content-Length: 10000000000\r;\r;|400
+GET / HTTP/1.1\r;Content-Length: \r;\r;|400
+GET / HTTP/1.1\r;Content-Length: 00\r;\r;|400
+GET / HTTP/1.1\r;Content-Length: +23\r;\r;|400
+GET / HTTP/1.1\r;Content-Length: 023\r;\r;|400
+GET / HTTP/1.1\r;Content-Length: 0x17\r;\r;|400
+GET / HTTP/1.1\r;Content-Length: 99999999999\r;\r;|400
+GET / HTTP/1.1\r;Content-Length: 1\r;Content-Length: 1\r;\r;a|400
+GET / HTTP/1.1\r;Transfer-Encoding: identity\r;\r;|400
+GET / HTTP/1.1\r;Content-Length: 9999999999\r;transfer-encoding: x\r;\r;|400
+GET / HTTP/2.0\r;\r;|400
+PUT / HTTP/1.1;Content-Length: 1;;a|message
+GET / HTTP/1.1\r;Content-Length : 1\r;\r;a|400
+GET / HTTP/1.1\r;Content-Length: 1, 1\r;\r;a|400
+GET / HTTP/1.1\r;Content-Length: 1\r; 2\r;\r;a|400
+GET / HTTP/1.1\r;Transfer-Encoding:\r;\r;|400
+GET /\u{0} HTTP/1.1\r;\r;|400
+";
+
 #[test]
-fn fronts_are_what_they_are(rt: HostRuntime) {
-    let rows = [
-        (b"GET / HTTP/1.0\n\n".as_slice(), "message"),
-        (b"\r\n\r\nGET / HTTP/1.1\r\n\r\n".as_slice(), "message"),
-        (
-            b"GET / HTTP/1.1\r\ncontent-length: 0\r\n\r\n".as_slice(),
-            "message",
-        ),
-        (b"GET /\xc3\xbc HTTP/1.1\r\n\r\n".as_slice(), "message"),
-        (
-            b"GET / HTTP/1.1\r\nContent-Length: 1\r\n\r\nab".as_slice(),
-            "message",
-        ),
-        (
-            b"GET / HTTP/1.1\r\nContent-Length: \t1 \r\n\r\na".as_slice(),
-            "message",
-        ),
-        (b"".as_slice(), "more"),
-        (b"\r\n\r\n".as_slice(), "more"),
-        (
-            b"GET / HTTP/1.1\r\nContent-Length: 17825792\r\n\r\n".as_slice(),
-            "more",
-        ),
-        (
-            b"GET / HTTP/1.1\r\nContent-Length: 17825793\r\n\r\n".as_slice(),
-            "413",
-        ),
-        (
-            b"GET / HTTP/1.1\r\nContent-Length: 9999999999\r\n\r\n".as_slice(),
-            "413",
-        ),
-        (
-            b"GET / HTTP/1.1\r\nContent-Length: 10000000000\r\n\r\n".as_slice(),
-            "400",
-        ),
-        (
-            b"GET / HTTP/1.1\r\nContent-Length: \r\n\r\n".as_slice(),
-            "400",
-        ),
-        (
-            b"GET / HTTP/1.1\r\nContent-Length: 00\r\n\r\n".as_slice(),
-            "400",
-        ),
-        (
-            b"GET / HTTP/1.1\r\nContent-Length: +23\r\n\r\n".as_slice(),
-            "400",
-        ),
-        (
-            b"GET / HTTP/1.1\r\nContent-Length: 023\r\n\r\n".as_slice(),
-            "400",
-        ),
-        (
-            b"GET / HTTP/1.1\r\nContent-Length: 0x17\r\n\r\n".as_slice(),
-            "400",
-        ),
-        (
-            b"GET / HTTP/1.1\r\nContent-Length: 99999999999\r\n\r\n".as_slice(),
-            "400",
-        ),
-        (
-            b"GET / HTTP/1.1\r\nContent-Length: 1\r\nContent-Length: 1\r\n\r\na".as_slice(),
-            "400",
-        ),
-        (
-            b"GET / HTTP/1.1\r\nTransfer-Encoding: identity\r\n\r\n".as_slice(),
-            "400",
-        ),
-        (
-            b"GET / HTTP/1.1\r\nContent-Length: 9999999999\r\ntransfer-encoding: x\r\n\r\n".as_slice(),
-            "400",
-        ),
-        (b"GET /\xff HTTP/1.1\r\n\r\n".as_slice(), "400"),
-        (b"GET / HTTP/2.0\r\n\r\n".as_slice(), "400"),
-        (
-            b"PUT / HTTP/1.1\nContent-Length: 1\n\na".as_slice(),
-            "message",
-        ),
-        (
-            b"GET / HTTP/1.1\r\nContent-Length : 1\r\n\r\na".as_slice(),
-            "400",
-        ),
-        (
-            b"GET / HTTP/1.1\r\nContent-Length: 1, 1\r\n\r\na".as_slice(),
-            "400",
-        ),
-        (
-            b"GET / HTTP/1.1\r\nContent-Length: 1\r\n 2\r\n\r\na".as_slice(),
-            "400",
-        ),
-        (
-            b"GET / HTTP/1.1\r\nTransfer-Encoding:\r\n\r\n".as_slice(),
-            "400",
-        ),
-        (b"GET /\x00 HTTP/1.1\r\n\r\n".as_slice(), "400"),
-    ];
-    for (bytes, wanted) in rows {
+fn fronts_are_what_they_are(rt: HostRuntime) -> Result<(), Fail> {
+    for row in FRONTS.lines() {
+        let bytes = with_lines(rt.alloc(), column(row, 0))?;
         assert!(rt;
-            answer(rt.alloc(), bytes).is_ok_and(|word| word == wanted),
-            "at {bytes:?}"
+            answer(rt.alloc(), bytes.as_bytes())? == column(row, 1),
+            "{row}"
         );
     }
+    assert!(rt; answer(rt.alloc(), b"GET /\xff HTTP/1.1\r\n\r\n")? == "400");
+    Ok(())
 }
 
 /// A head of so many headers, of which the last is this one, and of at least so many bytes; an empty line stands before it.
@@ -231,50 +175,44 @@ fn head_of(alloc: Global, headers: u8, last: &[u8], length: usize) -> Result<Vec
     Ok(head)
 }
 
+/// Heads: how many headers; the last of them, where `;` stands for a newline; how many bytes at least; and what each gives.
+const HEADS: &str = "\
+64|A: b|0|message
+65|A: b|0|400
+65|Content-Length: 9999999999|0|400
+1|A: |16384|message
+1|A: |16385|400
+1|Content-Length: 9999999999\r;A: |16385|400
+";
+
 #[test]
-fn heads_have_limits(rt: HostRuntime) {
-    let rows = [
-        (64, b"A: b".as_slice(), 0, "message"),
-        (65, b"A: b".as_slice(), 0, "400"),
-        (65, b"Content-Length: 9999999999".as_slice(), 0, "400"),
-        (1, b"A: ".as_slice(), 16_384, "message"),
-        (1, b"A: ".as_slice(), 16_385, "400"),
-        (
-            1,
-            b"Content-Length: 9999999999\r\nA: ".as_slice(),
-            16_385,
-            "400",
-        ),
-    ];
-    for (headers, last, length, wanted) in rows {
-        match head_of(rt.alloc(), headers, last, length) {
-            Ok(head) => {
-                assert!(rt;
-                    answer(rt.alloc(), &head).is_ok_and(|word| word == wanted),
-                    "{headers} headers, {length} bytes"
-                );
-                assert!(rt; length == 0 || head.len() == length);
-            }
-            Err(_) => assert!(rt; false),
-        }
+fn heads_have_limits(rt: HostRuntime) -> Result<(), Fail> {
+    for row in HEADS.lines() {
+        let headers = column(row, 0).parse::<u8>()?;
+        let last = with_lines(rt.alloc(), column(row, 1))?;
+        let length = column(row, 2).parse::<usize>()?;
+        let head = head_of(rt.alloc(), headers, last.as_bytes(), length)?;
+        assert!(rt; length == 0 || head.len() == length, "{row}");
+        assert!(rt; answer(rt.alloc(), &head)? == column(row, 3), "{row}");
     }
-    // 16,383 bytes of a head that is not whole, and one more.
-    match head_of(rt.alloc(), 1, b"A: ", 20_000) {
-        Ok(head) => {
-            assert!(rt; answer(rt.alloc(), first(&head, 16_383)).is_ok_and(|word| word == "more"));
-            assert!(rt; answer(rt.alloc(), first(&head, 16_384)).is_ok_and(|word| word == "400"));
-        }
-        Err(_) => assert!(rt; false),
-    }
-    // Empty lines alone, which belong to the head that they stand before.
-    let lines = [b'\n'; 16_384];
-    assert!(rt; answer(rt.alloc(), first(&lines, 16_383)).is_ok_and(|word| word == "more"));
-    assert!(rt; answer(rt.alloc(), &lines).is_ok_and(|word| word == "400"));
+    Ok(())
 }
 
 /// The first so many bytes.
 fn first(bytes: &[u8], count: usize) -> &[u8] {
     &bytes[..count.min(bytes.len())]
+}
+
+/// A head that is not whole, and then empty lines alone, which belong to the head that they stand before.
+#[test]
+fn a_head_is_waited_for_up_to_its_limit(rt: HostRuntime) -> Result<(), Fail> {
+    let head = head_of(rt.alloc(), 1, b"A: ", 20_000)?;
+    assert!(rt; answer(rt.alloc(), first(&head, 16_383))? == "more");
+    assert!(rt; answer(rt.alloc(), first(&head, 16_384))? == "400");
+    let lines = vec![in rt.alloc(); b'\n'; 16_384]?;
+    assert!(rt; answer(rt.alloc(), first(&lines, 16_383))? == "more");
+    assert!(rt; answer(rt.alloc(), &lines)? == "400");
+    Ok(())
 }
 
 /// The line after a message belongs to the head of the next one.

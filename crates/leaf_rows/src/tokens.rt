@@ -1,39 +1,49 @@
-// Tokens of texts, and what they stand for, worked out by hand.
+//! Tokens of texts and of lines, and what they stand for. (Go Modules Reference, "go.mod files", lexical elements.)
+use modlex::{Span, Token, TokenFault, cut_line, line_tokens, tokens};
+use std::alloc::{AllocError, Global};
+use std::test::Fail;
 
-use crate::{Kind, Span, TokenFault, cut_line, line_tokens, tokens};
+/// A text, and its tokens: the kind, the line and the slice of each.
+const TEXT: &str = "go 1.21rc1\na => // x\n[\"b\\\"\",`c`]\n( =>x)";
+
+const TOKENS: &str = "\
+Name 1 go
+Name 1 1.21rc1
+Name 2 a
+Arrow 2 =>
+BracketLeft 3 [
+Quoted 3 \"b\\\"\"
+Comma 3 ,
+Raw 3 `c`
+BracketRight 3 ]
+ParenLeft 4 (
+Name 4 =>x
+ParenRight 4 )
+";
+
+/// The kind, the line and the slice of a token.
+fn shown(alloc: Global, token: &Token) -> Result<String, AllocError> {
+    format!(in alloc; "{:?} {} {}", token.kind, token.line, token.text)
+}
+
+/// Whether the span of a token is where its slice stands.
+fn is_at_its_span(text: &str, token: &Token) -> bool {
+    match text.get(token.span.start..token.span.end) {
+        Some(slice) => slice == token.text,
+        None => false,
+    }
+}
 
 #[test]
-fn tokens_of_texts(rt: HostRuntime) {
-    let wanted = [
-        (Kind::Name, 1, "go"),
-        (Kind::Name, 1, "1.21rc1"),
-        (Kind::Name, 2, "a"),
-        (Kind::Arrow, 2, "=>"),
-        (Kind::BracketLeft, 3, "["),
-        (Kind::Quoted, 3, "\"b\\\"\""),
-        (Kind::Comma, 3, ","),
-        (Kind::Raw, 3, "`c`"),
-        (Kind::BracketRight, 3, "]"),
-        (Kind::ParenLeft, 4, "("),
-        (Kind::Name, 4, "=>x"),
-        (Kind::ParenRight, 4, ")"),
-    ];
-    let text = "go 1.21rc1\na => // x\n[\"b\\\"\",`c`]\n( =>x)";
-    match tokens(rt.alloc(), text) {
-        Ok(found) => {
-            assert!(rt; found.len() == wanted.len());
-            for (token, (kind, line, slice)) in found.iter().zip(wanted) {
-                assert!(rt; token.kind == kind && token.line == line, "{slice}");
-                assert!(rt; token.text == slice, "{slice}");
-                assert!(rt;
-                    text.get(token.span.start..token.span.end) == Some(slice),
-                    "{slice}"
-                );
-            }
-        }
-        Err(_) => assert!(rt; false),
+fn texts_have_tokens(rt: HostRuntime) -> Result<(), Fail> {
+    let found = tokens(rt.alloc(), TEXT)?;
+    assert!(rt; found.len() == 12);
+    for (token, row) in found.iter().zip(TOKENS.lines()) {
+        assert!(rt; shown(rt.alloc(), token)?.as_str() == row, "{row}");
+        assert!(rt; is_at_its_span(TEXT, token), "{row}");
     }
     assert!(rt; tokens(rt.alloc(), "a\nb {").err() == Some(TokenFault::Lex(2)));
+    Ok(())
 }
 
 #[test]

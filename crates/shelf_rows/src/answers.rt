@@ -1,11 +1,9 @@
-mod doubles;
-mod stream;
-
-use crate::{Io, answer_all, answer_one};
-use doubles::{Sink, Source, shelves};
+//! Answers to streams, from readers and to writers that cut them and fail.
+use crate::doubles::{Sink, Source, shelves};
+use crate::stream::{ANSWER_ENDS, ANSWERS, BAD_REQUEST, ENDS, STREAM};
+use engine::{Io, answer_all, answer_one};
 use std::alloc::Global;
 use std::io::ErrorKind;
-use stream::{ANSWER_ENDS, ANSWERS, BAD_REQUEST, ENDS, STREAM};
 
 /// Answers a stream from shelves on which nothing stands.
 fn serve(alloc: Global, reader: &mut Source, writer: &mut Sink) -> Result<(), Io> {

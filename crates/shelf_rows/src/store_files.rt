@@ -1,55 +1,35 @@
 //! Stores in files. Each test has a folder of its own.
-use crate::refusal::Refusal;
-use crate::store::SqlShelves;
-use modpath::ModulePath;
-use modver::Version;
+use crate::calls::wrong_row;
 use sqlite::Connection;
 use std::fs;
 use std::test::Fail;
-use world::entry::EntryRef;
-use world::registry::Registered;
-use world::shelves::Shelves;
+use store::refusal::Refusal;
+use store::store::SqlShelves;
 
-/// Opens a file, and puts a team and a version into it.
-fn fill(rt: &HostRuntime, file: &str) -> Result<bool, Fail> {
-    let path = ModulePath::parse(rt.alloc(), "example.com/lib")?;
-    let version = Version::parse(rt.alloc(), "v1.0.0")?;
-    let entry = EntryRef {
-        gomod: b"module example.com/lib\n",
-        zip: b"Z",
-        time: None,
-    };
-    let Ok(mut shelves) = SqlShelves::open_file(rt, file) else {
-        return Ok(false);
-    };
-    Ok(
-        shelves.team_add("alpha") == Ok(Registered::Done)
-            && shelves.insert("alpha", &path, &version, &entry) == Ok(()),
-    )
-}
+/// Puts a team and a version into a store.
+const FILL: &str = "\
+team-add|alpha = Done
+insert|alpha|example.com/lib|v1.0.0|module example.com/lib;|Z = ()
+";
 
-/// Whether the file has what was put into it.
-fn is_full(rt: &HostRuntime, file: &str) -> Result<bool, Fail> {
-    let path = ModulePath::parse(rt.alloc(), "example.com/lib")?;
-    let version = Version::parse(rt.alloc(), "v1.0.0")?;
-    let Ok(mut shelves) = SqlShelves::open_file(rt, file) else {
-        return Ok(false);
-    };
-    let Ok(Some(seen)) = shelves.entry("alpha", &path, &version) else {
-        return Ok(false);
-    };
-    Ok(
-        seen.entry.zip.as_slice() == b"Z".as_slice()
-            && shelves.team_add("alpha") == Ok(Registered::Taken),
-    )
+/// What the store then has.
+const FULL: &str = "\
+entry|alpha|example.com/lib|v1.0.0 = alpha|module example.com/lib;|Z|
+team-add|alpha = Taken
+";
+
+/// The first row of a script that the store in a file answers otherwise.
+fn wrong_row_of_file<'a>(rt: &HostRuntime, file: &str, script: &'a str) -> Result<&'a str, Fail> {
+    let mut shelves = SqlShelves::open_file(rt, file)?;
+    wrong_row(rt.alloc(), &mut shelves, script)
 }
 
 #[test]
 fn a_file_keeps_its_shelves(rt: HostRuntime) -> Result<(), Fail> {
     let _ = fs::remove_dir_all(&rt, "store_kept_test");
     fs::create_dir(&rt, "store_kept_test")?;
-    assert!(rt; fill(&rt, "store_kept_test/a.db")?);
-    assert!(rt; is_full(&rt, "store_kept_test/a.db")?);
+    assert_eq!(rt; wrong_row_of_file(&rt, "store_kept_test/a.db", FILL)?, "");
+    assert_eq!(rt; wrong_row_of_file(&rt, "store_kept_test/a.db", FULL)?, "");
     fs::remove_dir_all(&rt, "store_kept_test")?;
     Ok(())
 }
@@ -103,7 +83,10 @@ fn a_damaged_file_is_refused(rt: HostRuntime) -> Result<(), Fail> {
     let _ = fs::remove_dir_all(&rt, "store_damaged_test");
     fs::create_dir(&rt, "store_damaged_test")?;
     fs::write(&rt, "store_damaged_test/a.db", "")?;
-    assert!(rt; fill(&rt, "store_damaged_test/a.db")?);
+    assert_eq!(rt;
+        wrong_row_of_file(&rt, "store_damaged_test/a.db", FILL)?,
+        ""
+    );
     let mut bytes = bytes_of(&rt, "store_damaged_test/a.db")?;
     assert!(rt;
         stays(
@@ -116,7 +99,10 @@ fn a_damaged_file_is_refused(rt: HostRuntime) -> Result<(), Fail> {
     assert!(rt; stays(&rt, "store_damaged_test/page.db", bytes.as_slice())?);
     flip(&mut bytes, 0);
     assert!(rt; stays(&rt, "store_damaged_test/head.db", bytes.as_slice())?);
-    assert!(rt; is_full(&rt, "store_damaged_test/a.db")?);
+    assert_eq!(rt;
+        wrong_row_of_file(&rt, "store_damaged_test/a.db", FULL)?,
+        ""
+    );
     fs::remove_dir_all(&rt, "store_damaged_test")?;
     Ok(())
 }

@@ -1,0 +1,110 @@
+//! What reads as a go.mod, and the fault of what does not. (Go Modules Reference, "go.mod files".)
+use crate::rows::{column, named, with_lines};
+use gomod::{GoMod, GoModFault};
+use std::test::Fail;
+
+/// Texts, and the fault that each has as a go.mod; `;` stands for the end of a line.
+const WORKED: &str = "\
+|NoModule
+module example.com/a;retract [v1.1.0, v1.0.0];|Interval(2)
+module example.com/a;module example.com/b;|Twice(2)
+module example.com/a;go 1.021;|GoVersion(2)
+go 1.21rc1;|NoModule
+module example.com/a;require (;example.com/x v1.0.0;|Grammar(4)
+module example.com/a;require example.com/x v2.0.0;|Version(2)
+module example.com/a;replace example.com/x => ../x;|-
+module example.com/a;replace example.com/x => x;|Path(2)
+module example.com/a;replace example.com/x => ..;|-
+module example.com/a;replace example.com/x => ./ü;|-
+module example.com/a;require mymod v0.0.0;replace mymod => ./mymod;|-
+module example.com/a;require mymod v2.0.0;|Version(2)
+module mymod;|Path(1)
+module example.com/a /* c */;|Lex(1)
+module example.com/a;toolchain {;|Lex(2)
+module \"gopkg.in/yaml.v2\";require \"gopkg.in/check.v1\" v0.0.0-20161208181325-20d25e280405;|-
+module example.com/a;require gopkg.in/check.v1 v0.0.0;|Version(2)
+module example.com/a/v2;retract v1.0.0;|Version(2)
+\"module\" example.com/a|Grammar(1)
+module example.com/a;;toolchain go1.21.0;|Unknown(3)
+module example.com/a // text|-
+module example.com/a;require ( )|Grammar(2)
+module \"example.com/a\"|-
+";
+
+/// The same: which fault comes first.
+const ORDER: &str = "\
+module example.com/a;module;|Twice(2)
+module example.com/a;module (;|Twice(2)
+module example.com/a;module a b;|Twice(2)
+go 1.21;go;|Twice(2)
+go (;|Grammar(1)
+);|Grammar(1)
+module (;);|Grammar(2)
+module (;example.com/a;example.com/b;);|Grammar(3)
+module (;;example.com/a // the path;;);|-
+bogus {;|Lex(1)
+bogus (;module x;|Unknown(1)
+require example.com/x/ v1;|Path(1)
+require (;|Grammar(2)
+require (;)|NoModule
+require (;require (;|Grammar(2)
+module example.com/a;retract [v1.0.0, v2];|Version(2)
+retract v1.0.0;retract [v0.1.0, v2.0.0];module example.com/a;|Version(2)
+module example.com/a;replace a v1.0.0 => b v1.0.0;|Path(2)
+module example.com/a;replace a => b.c v9.0.0;|Version(2)
+module example.com/a;replace a =>b.c v1.0.0;|Grammar(2)
+go 1.21.0;go 1.22.0;|Twice(2)
+module example.com/a;go 1.21beta2;|-
+module example.com/a;go 1;|GoVersion(2)
+module example.com/a;go \"1.20\";|-
+\"module;|Lex(1)
+module `example.com/a;`;|Lex(1)
+module \"example.com/\\a\";|-
+module example.com/a//x;|-
+module example.com/a\r;\r;go 1.21\r;|-
+module example.com/a // \u{1};|-
+module example.com/a\u{7f};|Lex(1)
+module example.com/a\u{0};|Lex(1)
+module\texample.com/a\u{c};|Lex(1)
+";
+
+/// Files, and whether the module directive stands alone in each.
+const BARE: &str = "\
+module example.com/a|true
+// A library.;;module \"example.com/a\" // alone;|true
+// x;module (;example.com/a;);|true
+module example.com/a;require (;);|false
+go 1.21;module example.com/a|false
+";
+
+#[test]
+fn texts_read_or_have_a_fault(rt: HostRuntime) -> Result<(), Fail> {
+    for row in WORKED.lines().chain(ORDER.lines()) {
+        let text = with_lines(rt.alloc(), column(row, 0))?;
+        let fault = GoMod::read(rt.alloc(), text.as_bytes()).err();
+        assert!(rt;
+            named(rt.alloc(), fault)?.as_str() == column(row, 1),
+            "{row}"
+        );
+    }
+    Ok(())
+}
+
+#[test]
+fn faults_have_lines(rt: HostRuntime) {
+    let fault = GoMod::read(rt.alloc(), b"module \xff").err();
+    assert!(rt; fault == Some(GoModFault::Utf8));
+    assert!(rt; GoModFault::Utf8.line() == 0);
+    assert!(rt; GoModFault::NoModule.line() == 0);
+    assert!(rt; GoModFault::Unknown(7).line() == 7);
+}
+
+#[test]
+fn files_are_bare_or_not(rt: HostRuntime) -> Result<(), Fail> {
+    for row in BARE.lines() {
+        let text = with_lines(rt.alloc(), column(row, 0))?;
+        let module = GoMod::read(rt.alloc(), text.as_bytes())?;
+        assert!(rt; module.is_bare() == (column(row, 1) == "true"), "{row}");
+    }
+    Ok(())
+}

@@ -1,0 +1,224 @@
+//! go.mod files in the style of public modules, and what they say, worked out by hand.
+use crate::rows::column;
+use gomod::{GoMod, Requirement};
+use modver::{Version, VersionFault};
+use std::alloc::{AllocError, Global};
+use std::test::Fail;
+
+/// Files, with `====` between them. The first line says of the file below it: the module's path; what it requires; versions that it
+/// retracts; and versions that it does not.
+const FILES: &str = "\
+example.com/a||v1.0.5 v1.1.0-rc.1 v1.1.0|v1.0.5-rc.1 v1.1.1
+module example.com/a
+retract [v1.0.5, v1.1.0]
+====
+github.com/davecgh/go-spew|||
+module github.com/davecgh/go-spew
+====
+github.com/gorilla/mux|||
+module github.com/gorilla/mux
+
+go 1.20
+====
+golang.org/x/tools|github.com/google/go-cmp v0.6.0 github.com/yuin/goldmark v1.4.13 golang.org/x/mod v0.22.0 golang.org/x/telemetry v0.0.0-20240521205824-bda55230c457 ||v0.1.0
+// Tools.
+module golang.org/x/tools
+
+go 1.22.0 // see the notes
+
+require (
+\tgithub.com/google/go-cmp v0.6.0
+
+\tgithub.com/yuin/goldmark v1.4.13 // indirect
+\t\"golang.org/x/mod\" v0.22.0
+)
+
+require golang.org/x/telemetry v0.0.0-20240521205824-bda55230c457
+====
+gopkg.in/yaml.v3|gopkg.in/check.v1 v0.0.0-20161208181325-20d25e280405 ||
+module \"gopkg.in/yaml.v3\"
+
+require (
+\t\"gopkg.in/check.v1\" v0.0.0-20161208181325-20d25e280405
+)
+====
+github.com/spf13/cobra|github.com/cpuguy83/go-md2man/v2 v2.0.6 github.com/inconshreveable/mousetrap v1.1.0 gopkg.in/yaml.v3 v3.0.1 ||
+module github.com/spf13/cobra
+
+go 1.15
+
+require (
+\tgithub.com/cpuguy83/go-md2man/v2 v2.0.6
+\tgithub.com/inconshreveable/mousetrap v1.1.0
+\tgopkg.in/yaml.v3 v3.0.1
+)
+====
+github.com/docker/cli|github.com/Azure/go-autorest v14.2.0+incompatible github.com/docker/docker v28.0.0-rc.1+incompatible github.com/docker/libtrust v0.0.0-20160708172513-aabc10ec26b7 ||
+module github.com/docker/cli
+
+// 'vendor.mod' is this file's other name (see the notes).
+
+go 1.23rc1
+
+require (
+\tgithub.com/Azure/go-autorest v14.2.0+incompatible
+\tgithub.com/docker/docker v28.0.0-rc.1+incompatible // v28.0.0
+)
+
+require (
+\tgithub.com/docker/libtrust v0.0.0-20160708172513-aabc10ec26b7 // indirect
+)
+====
+k8s.io/kubernetes|k8s.io/api v0.0.0 k8s.io/utils v0.0.0-20241104100929-3ea5e8cea738 ||
+// This is a generated file. Do not edit directly.
+
+module k8s.io/kubernetes
+
+go 1.24.0
+
+require (
+\tk8s.io/api v0.0.0
+\tk8s.io/utils v0.0.0-20241104100929-3ea5e8cea738
+)
+
+replace (
+\tk8s.io/api => ./staging/src/k8s.io/api
+\tk8s.io/client-go => ./staging/src/k8s.io/client-go
+)
+====
+go.etcd.io/etcd/v3|go.etcd.io/etcd/api/v3 v3.6.0-alpha.0 ||
+module go.etcd.io/etcd/v3
+
+replace (
+\tgo.etcd.io/etcd/api/v3 => ./api
+\tgithub.com/coreos/bbolt v1.3.4 => go.etcd.io/bbolt v1.3.4 // moved
+)
+
+replace github.com/old/grpc => github.com/new/grpc/v2 v2.1.0
+replace github.com/old/grpc v1.0.0 => /src/grpc
+
+// It does not build.
+exclude github.com/old/grpc v1.1.0
+
+exclude (
+\tgithub.com/old/grpc v1.2.0-beta.1
+)
+
+require go.etcd.io/etcd/api/v3 v3.6.0-alpha.0
+====
+github.com/redis/go-redis/v9|github.com/bsm/ginkgo/v2 v2.12.0 github.com/dgryski/go-rendezvous v0.0.0-20200823014737-9f7001d12a5f |v9.7.2 v9.5.4|v9.7.1 v9.6.0
+module github.com/redis/go-redis/v9
+
+go 1.18
+
+require (
+\tgithub.com/bsm/ginkgo/v2 v2.12.0
+\tgithub.com/dgryski/go-rendezvous v0.0.0-20200823014737-9f7001d12a5f
+)
+
+retract (
+\tv9.7.2 // Released by accident. Please use v9.7.3.
+\tv9.5.4 // Released by accident. Please use v9.6.0.
+)
+====
+github.com/foo/bar/v3||v3.0.0-alpha v3.0.0-alpha.1 v3.0.0 v3.1.3 v3.1.5 v3.9.0-rc.1|v3.0.1 v3.1.6-0.20240101000000-aaaaaaaaaaaa v3.9.0
+module github.com/foo/bar/v3
+
+// Published before the interface was settled,
+// and withdrawn with all its betas.
+retract [v3.0.0-alpha, v3.0.0]
+
+retract (
+\t// It loses data.
+\t[ v3.1.0 , v3.1.5 ]
+
+\tv3.9.0-rc.1 // Only the tag was wrong (see [v3.9.0]).
+)
+====
+example.com/shop|internal v0.0.0 shop/prices/v2 v2.0.0 ||
+module example.com/shop
+
+require (
+\tinternal v0.0.0
+\tshop/prices/v2 v2.0.0
+)
+
+replace internal => ../internal
+
+replace shop/prices/v2 v2.0.0 => ..
+====
+example.com/strings|github.com/a/b v1.0.0 github.com/c/d v0.1.0 github.com/e/f v0.2.0 |v1.0.0 v1.2.0-rc.1|v1.0.1 v1.2.1
+module `example.com/strings`
+
+go \"1.21\"
+
+require \"github.com/a/b\" \"v1.0.0\"
+require `github.com/c/d` v0.1.0 // a \"comment\"
+require \"github.com/\\e/f\" v0.2.0
+replace \"github.com/a/b\" => \"./a directory/of \\\"ours\\\", (old)\"
+retract \"v1.0.0\"
+retract [`v1.1.0`,\"v1.2.0\"]
+====
+example.com/windows|github.com/a/b v1.0.0 github.com/c/d v1.0.0 ||
+require github.com/a/b v1.0.0\r
+require(\r
+  github.com/c/d  v1.0.0 \t\r
+)\r
+\r
+module (\r
+\texample.com/windows//the path\r
+)\r
+go 1.9.2\r
+require (\r
+)";
+
+/// A requirement as words.
+fn words_of(alloc: Global, requirement: &Requirement) -> Result<String, AllocError> {
+    format!(in alloc;
+        "{} {} ",
+        requirement.path.as_str(),
+        requirement.version.as_str()
+    )
+}
+
+/// What a file requires, as words.
+fn required(alloc: Global, module: &GoMod) -> Result<String, AllocError> {
+    let mut words = String::new(alloc);
+    for requirement in module.required() {
+        words.push_str(words_of(alloc, requirement)?.as_str())?;
+    }
+    Ok(words)
+}
+
+/// Whether a file retracts each of these versions, or none.
+fn retracts(alloc: Global, module: &GoMod, texts: &str, each: bool) -> Result<bool, VersionFault> {
+    for text in texts.split_whitespace() {
+        let version = Version::parse(alloc, text)?;
+        if module.retracts(&version) != each {
+            return Ok(false);
+        }
+    }
+    Ok(true)
+}
+
+#[test]
+fn files_require_and_retract(rt: HostRuntime) -> Result<(), Fail> {
+    for file in FILES.split("====\n") {
+        let (said, text) = file.split_once('\n').ok_or("no file")?;
+        let module = GoMod::read(rt.alloc(), text.as_bytes())?;
+        assert!(rt; module.module().as_str() == column(said, 0), "{said}");
+        assert!(rt;
+            required(rt.alloc(), &module)?.as_str() == column(said, 1),
+            "{said}"
+        );
+        assert!(rt;
+            retracts(rt.alloc(), &module, column(said, 2), true)?,
+            "{said}"
+        );
+        assert!(rt;
+            retracts(rt.alloc(), &module, column(said, 3), false)?,
+            "{said}"
+        );
+    }
+    Ok(())
+}

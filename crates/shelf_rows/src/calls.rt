@@ -1,0 +1,162 @@
+//! The calls of a store, whichever it is, and their answers as texts.
+use crate::rows::{answer_of, call_of, column, named, with_lines};
+use modpath::ModulePath;
+use modver::{TimeText, Version, read_time};
+use std::alloc::Global;
+use std::str::from_utf8;
+use std::test::Fail;
+use world::entry::{EntryRef, Right};
+use world::shelves::Shelves;
+
+/// Makes the calls of a script, one a line, and gives the first that has another answer; empty where each has its own. A call is its
+/// name and its arguments; `key-add` adds a key that publishes, `reader-add` one that reads. `;` stands for a newline in a go.mod.
+pub fn wrong_row<'a, S: Shelves>(
+    alloc: Global,
+    shelves: &mut S,
+    script: &'a str,
+) -> Result<&'a str, Fail> {
+    for row in script.lines() {
+        let wanted = answer_of(alloc, row)?;
+        let answer = answered(alloc, shelves, call_of(row))?;
+        if answer.as_str() != wanted.as_str() {
+            return Ok(row);
+        }
+    }
+    Ok("")
+}
+
+/// The answer to a call.
+fn answered<S: Shelves>(alloc: Global, shelves: &mut S, call: &str) -> Result<String, Fail> {
+    let (first, second) = (column(call, 1), column(call, 2));
+    match column(call, 0) {
+        "failures" => Ok(named(alloc, Ok(shelves.failures()))?),
+        "team-add" => Ok(named(alloc, shelves.team_add(first))?),
+        "key-add" => Ok(named(alloc, shelves.key_add(first, second, Right::Publishes))?),
+        "reader-add" => Ok(named(alloc, shelves.key_add(first, second, Right::Reads))?),
+        "key-revoke" => Ok(named(alloc, shelves.key_revoke(first))?),
+        "key" => key(alloc, shelves, first),
+        "paths" => paths(alloc, shelves, first),
+        _ => of_path(alloc, shelves, call),
+    }
+}
+
+/// What a key holds.
+fn key<S: Shelves>(alloc: Global, shelves: &mut S, key: &str) -> Result<String, Fail> {
+    match shelves.key(key)? {
+        Some(holder) => Ok(format!(in alloc; "{} {:?}", holder.shelf.as_str(), holder.right)?),
+        None => Ok(String::from_str(alloc, "none")?),
+    }
+}
+
+fn paths<S: Shelves>(alloc: Global, shelves: &mut S, shelf: &str) -> Result<String, Fail> {
+    let lines = shelves.paths(shelf)?.lines(alloc)?;
+    Ok(String::from_str(alloc, from_utf8(lines.as_slice())?)?)
+}
+
+/// The answer to a call that names a shelf and a path.
+fn of_path<S: Shelves>(alloc: Global, shelves: &mut S, call: &str) -> Result<String, Fail> {
+    let shelf = column(call, 1);
+    let path = ModulePath::parse(alloc, column(call, 2))?;
+    match column(call, 0) {
+        "count" => Ok(named(alloc, shelves.count(shelf, &path))?),
+        "versions" => versions(alloc, shelves, shelf, &path),
+        _ => of_version(alloc, shelves, &path, call),
+    }
+}
+
+fn versions<S: Shelves>(
+    alloc: Global,
+    shelves: &mut S,
+    shelf: &str,
+    path: &ModulePath,
+) -> Result<String, Fail> {
+    let lines = shelves.versions(shelf, path)?.lines(alloc)?;
+    Ok(String::from_str(alloc, from_utf8(lines.as_slice())?)?)
+}
+
+/// The answer to a call that names a version of the path too.
+fn of_version<S: Shelves>(
+    alloc: Global,
+    shelves: &mut S,
+    path: &ModulePath,
+    call: &str,
+) -> Result<String, Fail> {
+    let shelf = column(call, 1);
+    let version = Version::parse(alloc, column(call, 3))?;
+    match column(call, 0) {
+        "insert" => insert(alloc, shelves, path, &version, call),
+        "entry" => entry(alloc, shelves, shelf, path, &version),
+        "heading" => heading(alloc, shelves, shelf, path, &version),
+        _ => Ok(String::from_str(alloc, "no such call")?),
+    }
+}
+
+/// A time; an empty text is none.
+pub fn time_of(text: &str) -> Result<Option<TimeText>, Fail> {
+    if text.is_empty() {
+        return Ok(None);
+    }
+    Ok(Some(read_time(text)?))
+}
+
+/// Puts an entry: behind the version stand its go.mod, its zip and its time.
+fn insert<S: Shelves>(
+    alloc: Global,
+    shelves: &mut S,
+    path: &ModulePath,
+    version: &Version,
+    call: &str,
+) -> Result<String, Fail> {
+    let gomod = with_lines(alloc, column(call, 4))?;
+    let entry = EntryRef {
+        gomod: gomod.as_bytes(),
+        zip: column(call, 5).as_bytes(),
+        time: time_of(column(call, 6))?,
+    };
+    Ok(named(
+        alloc,
+        shelves.insert(column(call, 1), path, version, &entry),
+    )?)
+}
+
+/// The shelf of an entry, its go.mod, its zip and its time.
+fn entry<S: Shelves>(
+    alloc: Global,
+    shelves: &mut S,
+    shelf: &str,
+    path: &ModulePath,
+    version: &Version,
+) -> Result<String, Fail> {
+    let Some(seen) = shelves.entry(shelf, path, version)? else {
+        return Ok(String::from_str(alloc, "none")?);
+    };
+    let entry = seen.entry.as_ref();
+    let gomod = from_utf8(entry.gomod)?;
+    let zip = from_utf8(entry.zip)?;
+    let time = shown_time(&entry.time);
+    Ok(format!(in alloc; "{}|{gomod}|{zip}|{time}", seen.shelf.as_str())?)
+}
+
+/// The go.mod of an entry, and its time.
+fn heading<S: Shelves>(
+    alloc: Global,
+    shelves: &mut S,
+    shelf: &str,
+    path: &ModulePath,
+    version: &Version,
+) -> Result<String, Fail> {
+    let Some(heading) = shelves.heading(shelf, path, version)? else {
+        return Ok(String::from_str(alloc, "none")?);
+    };
+    let gomod = from_utf8(heading.gomod.as_slice())?;
+    let time = shown_time(&heading.time);
+    Ok(format!(in alloc; "{gomod}|{time}")?)
+}
+
+/// A time as its text; none is the empty one.
+fn shown_time(time: &Option<TimeText>) -> &str {
+    match time {
+        Some(time) => time.as_str(),
+        None => "",
+    }
+}

@@ -1,0 +1,125 @@
+//! The checks of a publish, row by row.
+use crate::rows::{answer_of, call_of, column, with_lines};
+use modpath::ModulePath;
+use modver::{Version, read_time};
+use shelf::ask::{Body, GivenTime, Publish};
+use shelf::decide::decide;
+use std::alloc::{AllocError, Global};
+use std::test::Fail;
+use world::bytes::Bytes;
+use world::entry::{Entry, Right};
+use world::reading::Reading;
+
+/// A publish of `example.com/lib` and its decision: the right of the key; the version; the time; the go.mod and the zip, `-` where
+/// they are not told apart; the go.mod as it is read; the zip and the time of the entry that is
+/// seen; the number of versions. `;` stands for a newline.
+const DECISIONS: &str = "\
+none|v1.0.0||module example.com/lib;|a|-|a||0 = NotFound
+Reads|v2.0.0|malformed|-||-|||0 = Forbidden
+Publishes|v2.0.0|malformed|-||-|||0 = BadLength
+Publishes|v1.0.0||module example.com/lib;|a|;|a||4096 = Refused(BadGoMod(0))
+Publishes|v1.0.0||module example.com/lib;|a|module example.com/lib;|a||4096 = Same
+Publishes|v1.0.0||module example.com/lib;|a|module example.com/lib;|b||4096 = Conflict
+Publishes|v1.0.0||module example.com/lib;|a|module example.com/lib;|||4096 = Full
+Publishes|v1.0.0||module example.com/lib;|a|module example.com/lib;|||4095 = Published
+Publishes|v1.0.0||module example.com/lib;||module example.com/lib;|||0 = Published
+Publishes|v1.0.0|2024-01-01T00:00:01Z|module example.com/lib;||module example.com/lib;|||0 = Published
+Publishes|v2.0.0|malformed|module example.com/lib;||module example.com/lib;|||0 = Refused(MajorMismatch)
+Publishes|v2.0.0+incompatible||module example.com/lib;||module example.com/lib;|||0 = Published
+Publishes|v1.0.0|malformed|module example.com/lib;||module example.com/lib;|||0 = Refused(BadTime)
+Publishes|v0.0.0-20240101000000-aaaaaaaaaaaa||module example.com/lib;||module example.com/lib;|||0 = Published
+Publishes|v0.0.0-20240101000000-aaaaaaaaaaaa|2024-01-01T00:00:00Z|module example.com/lib;||module example.com/lib;|||0 = Published
+Publishes|v0.0.0-20240101000000-aaaaaaaaaaaa|2024-01-01T00:00:01Z|module example.com/lib;||module example.com/lib;|||0 = Refused(TimeMismatch)
+Publishes|v0.0.0-20240101000000-aaaaaaaaaaaa|malformed|module example.com/lib;||module example.com/lib;|||0 = Refused(BadTime)
+Publishes|v1.0.0||module example.com/lib;;require (;example.com/x 1.0.0;);||module example.com/lib;;require (;example.com/x 1.0.0;);|||0 = Refused(BadGoMod(4))
+Publishes|v1.0.0||module example.com/other;||module example.com/other;|||0 = Refused(ModulePath)
+Publishes|v1.0.0||module example.com/lib;require example.com/x v1.0.0;||module example.com/lib;require example.com/x v1.0.0;|||0 = Published
+Publishes|v2.1.0+incompatible||module example.com/lib;require example.com/x v1.0.0;||module example.com/lib;require example.com/x v1.0.0;|||0 = Refused(IncompatibleGoMod)
+Publishes|v2.1.0+incompatible||module example.com/lib;||module example.com/lib;|||0 = Published
+Publishes|v1.0.0|2024-02-29T23:59:59Z|module example.com/lib;|a|module example.com/lib;|a|2024-02-29T23:59:59Z|1 = Same
+Publishes|v1.0.0||module example.com/lib;|a|module example.com/lib;|a|2024-02-29T23:59:59Z|1 = Conflict
+";
+
+fn given(text: &str) -> Result<GivenTime, Fail> {
+    match text {
+        "" => Ok(GivenTime::Absent),
+        "malformed" => Ok(GivenTime::Malformed),
+        _ => Ok(GivenTime::At(read_time(text)?)),
+    }
+}
+
+fn body(alloc: Global, gomod: &str, zip: &str) -> Result<Option<Body>, AllocError> {
+    if gomod == "-" {
+        return Ok(None);
+    }
+    let gomod = with_lines(alloc, gomod)?;
+    let gomod = Bytes::copy_of(alloc, gomod.as_bytes())?;
+    let zip = Bytes::copy_of(alloc, zip.as_bytes())?;
+    Ok(Some(Body { gomod, zip }))
+}
+
+fn publish(alloc: Global, row: &str) -> Result<Publish, Fail> {
+    let body = body(alloc, column(row, 3), column(row, 4))?;
+    Ok(Publish {
+        path: ModulePath::parse(alloc, "example.com/lib")?,
+        version: Version::parse(alloc, column(row, 1))?,
+        body,
+        time: given(column(row, 2))?,
+    })
+}
+
+fn right(text: &str) -> Option<Right> {
+    match text {
+        "Publishes" => Some(Right::Publishes),
+        "Reads" => Some(Right::Reads),
+        _ => None,
+    }
+}
+
+fn reading(alloc: Global, text: &str) -> Result<Option<Reading>, AllocError> {
+    if text == "-" {
+        return Ok(None);
+    }
+    let gomod = with_lines(alloc, text)?;
+    Ok(Some(Reading::of(alloc, gomod.as_bytes())?))
+}
+
+/// The entry that a publish with the go.mod of the path makes; none for no zip.
+fn seen(alloc: Global, zip: &str, time: &str) -> Result<Option<Entry>, Fail> {
+    if zip.is_empty() {
+        return Ok(None);
+    }
+    let publish = Publish {
+        path: ModulePath::parse(alloc, "example.com/lib")?,
+        version: Version::parse(alloc, "v1.0.0")?,
+        body: body(alloc, "module example.com/lib;", zip)?,
+        time: given(time)?,
+    };
+    let offered = publish.entry().ok_or("no files")?;
+    Ok(Some(Entry::copy_of(alloc, &offered)?))
+}
+
+fn decided(alloc: Global, row: &str) -> Result<String, Fail> {
+    let publish = publish(alloc, row)?;
+    let reading = reading(alloc, column(row, 5))?;
+    let seen = seen(alloc, column(row, 6), column(row, 7))?;
+    let count = column(row, 8).parse::<u64>()?;
+    let decision = decide(
+        &publish,
+        right(column(row, 0)),
+        reading.as_ref(),
+        seen.as_ref(),
+        count,
+    );
+    Ok(format!(in alloc; "{decision:?}")?)
+}
+
+#[test]
+fn the_first_check_that_fails_decides(rt: HostRuntime) -> Result<(), Fail> {
+    for row in DECISIONS.lines() {
+        let wanted = answer_of(rt.alloc(), row)?;
+        let decision = decided(rt.alloc(), call_of(row))?;
+        assert!(rt; decision.as_str() == wanted.as_str(), "{row}");
+    }
+    Ok(())
+}

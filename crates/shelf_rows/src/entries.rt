@@ -1,0 +1,41 @@
+//! Which entries may stand at a path and a version.
+use crate::calls::time_of;
+use crate::rows::{answer_of, call_of, column, with_lines};
+use std::test::Fail;
+use world::entry::EntryRef;
+use world::entry_test::may_stand;
+
+/// A path, a version, a go.mod in which `;` stands for a newline, a time, and whether they may stand together.
+const ENTRIES: &str = "\
+example.com/lib|v1.0.0|module example.com/lib;| = true
+example.com/lib|v1.0.0|module example.com/lib;|2019-11-09T02:19:32Z = true
+example.com/lib|v1.0.0|module example.com/lib;go 1.21;| = true
+example.com/lib/v2|v2.0.0|module example.com/lib/v2;| = true
+example.com/lib|v2.0.0+incompatible|module example.com/lib;| = true
+example.com/lib|v0.0.0-20191109021931-daa7c04131f5|module example.com/lib;|2019-11-09T02:19:31Z = true
+mymod|v1.0.0|module mymod;| = false
+example.com/lib|1.0.0|module example.com/lib;| = false
+example.com/lib|v2.0.0|module example.com/lib;| = false
+example.com/lib|v1.0.0|module example.com/lib/v2;| = false
+example.com/lib|v1.0.0|module;| = false
+example.com/lib|v2.0.0+incompatible|module example.com/lib;go 1.21;| = false
+example.com/lib|v0.0.0-20191109021931-daa7c04131f5|module example.com/lib;|2019-11-09T02:19:32Z = false
+example.com/lib|v0.0.0-20191109021931-daa7c04131f5|module example.com/lib;| = false
+";
+
+#[test]
+fn entries_may_stand_or_not(rt: HostRuntime) -> Result<(), Fail> {
+    for row in ENTRIES.lines() {
+        let columns = call_of(row);
+        let wanted = answer_of(rt.alloc(), row)?;
+        let gomod = with_lines(rt.alloc(), column(columns, 2))?;
+        let entry = EntryRef {
+            gomod: gomod.as_bytes(),
+            zip: b"zip",
+            time: time_of(column(columns, 3))?,
+        };
+        let may = may_stand(rt.alloc(), column(columns, 0), column(columns, 1), &entry)?;
+        assert!(rt; may == (wanted.as_str() == "true"), "{row}");
+    }
+    Ok(())
+}

@@ -1,0 +1,161 @@
+//! Runs of the machine on shelves in memory.
+use crate::rows::{answer_of, call_of, column, with_lines};
+use modpath::ModulePath;
+use modver::Version;
+use shelf::ask::{Ask, Body, Event, GivenTime, Publish, Query};
+use shelf::reply::{Answer, Reply};
+use shelf::run::{run, run_in_memory};
+use std::alloc::{AllocError, Global};
+use std::process::Abort;
+use std::str::from_utf8;
+use std::test::Fail;
+use world::bytes::Bytes;
+use world::entry::Right;
+use world::text::Text;
+
+/// Runs, with `====` between them: events and their answers. What stands before `----` is run first, and then the rest on the
+/// shelves that it left. What is asked is asked of `v1.0.0`; `;` stands for a newline.
+const RUNS: &str = "\
+team-add|alpha = Done
+team-add|beta = Done
+----
+key-add|alpha|alphakey00000001 = Done
+key-add|beta|betakey000000001 = Done
+key-add|common|commonkey0000001 = Done
+put|alphakey00000001|example.com/lib|module example.com/lib;| = Published
+mod|alphakey00000001|example.com/lib = go.mod module example.com/lib;
+zip|alphakey00000001|example.com/lib = zip 
+mod|nosuchkey0000001|example.com/lib = not found
+====
+team-add|alpha = Done
+team-add|beta = Done
+----
+key-add|alpha|alphakey00000001 = Done
+key-add|beta|betakey000000001 = Done
+key-add|common|commonkey0000001 = Done
+put|commonkey0000001|example.com/x|module example.com/x;|X = Published
+mod|alphakey00000001|example.com/x = go.mod module example.com/x;
+put|alphakey00000001|example.com/x|module example.com/x;|Y = Conflict
+put|alphakey00000001|example.com/x|module example.com/x;|X = Same
+====
+team-add|alpha = Done
+team-add|beta = Done
+----
+key-add|alpha|alphakey00000001 = Done
+key-add|beta|betakey000000001 = Done
+key-add|common|commonkey0000001 = Done
+put|alphakey00000001|example.com/y|module example.com/y;|a = Published
+put|commonkey0000001|example.com/y|module example.com/y;|c = Published
+zip|alphakey00000001|example.com/y = zip a
+zip|betakey000000001|example.com/y = zip c
+====
+team-add|Alpha = Name
+team-add|common = Name
+team-add|alpha = Done
+team-add|alpha = Taken
+----
+reader-add|nosuch|short = Name
+reader-add|nosuch|alphakey00000001 = NoTeam
+reader-add|alpha|alphakey00000001 = Done
+reader-add|common|alphakey00000001 = Taken
+reader-add|nosuch|alphakey00000001 = NoTeam
+";
+
+/// The files of a version are asked for.
+fn get(alloc: Global, call: &str, is_zip: bool) -> Result<Event, Fail> {
+    let key = Text::copy_of(alloc, column(call, 1))?;
+    let path = ModulePath::parse(alloc, column(call, 2))?;
+    let version = Version::parse(alloc, "v1.0.0")?;
+    let query = if is_zip {
+        Query::Zip { path, version }
+    } else {
+        Query::GoMod { path, version }
+    };
+    Ok(Event::Asked(Ask::Get { key, query }))
+}
+
+fn put(alloc: Global, call: &str) -> Result<Event, Fail> {
+    let key = Text::copy_of(alloc, column(call, 1))?;
+    let gomod = with_lines(alloc, column(call, 3))?;
+    let body = Body {
+        gomod: Bytes::copy_of(alloc, gomod.as_bytes())?,
+        zip: Bytes::copy_of(alloc, column(call, 4).as_bytes())?,
+    };
+    let publish = Publish {
+        path: ModulePath::parse(alloc, column(call, 2))?,
+        version: Version::parse(alloc, "v1.0.0")?,
+        body: Some(body),
+        time: GivenTime::Absent,
+    };
+    Ok(Event::Asked(Ask::Put { key, publish }))
+}
+
+fn key_add(alloc: Global, call: &str, right: Right) -> Result<Event, AllocError> {
+    let shelf = Text::copy_of(alloc, column(call, 1))?;
+    let key = Text::copy_of(alloc, column(call, 2))?;
+    Ok(Event::KeyAdd { shelf, key, right })
+}
+
+fn event(alloc: Global, call: &str) -> Result<Event, Fail> {
+    match column(call, 0) {
+        "put" => put(alloc, call),
+        "zip" => get(alloc, call, true),
+        "mod" => get(alloc, call, false),
+        "key-add" => Ok(key_add(alloc, call, Right::Publishes)?),
+        "reader-add" => Ok(key_add(alloc, call, Right::Reads)?),
+        _ => Ok(Event::TeamAdd {
+            name: Text::copy_of(alloc, column(call, 1))?,
+        }),
+    }
+}
+
+fn events(alloc: Global, script: &str) -> Result<Vec<Event>, Fail> {
+    let mut events = Vec::new(alloc);
+    for row in script.lines() {
+        let event = event(alloc, call_of(row))?;
+        events.push(event).map_err(AllocError::from)?;
+    }
+    Ok(events)
+}
+
+/// An answer as a text.
+fn shown(alloc: Global, answer: &Answer) -> Result<String, Fail> {
+    let Answer::Replied(reply) = answer else {
+        return Ok(String::from_str(alloc, "failed")?);
+    };
+    match reply {
+        Reply::NotFound => Ok(String::from_str(alloc, "not found")?),
+        Reply::Decided(decision) => Ok(format!(in alloc; "{decision:?}")?),
+        Reply::Registry(registered) => Ok(format!(in alloc; "{registered:?}")?),
+        Reply::GoMod(bytes) => Ok(format!(in alloc; "go.mod {}", from_utf8(bytes.as_slice())?)?),
+        Reply::Zip(bytes) => Ok(format!(in alloc; "zip {}", from_utf8(bytes.as_slice())?)?),
+        _ => Ok(String::from_str(alloc, "another reply")?),
+    }
+}
+
+fn assert_answers(
+    rt: &impl Abort,
+    alloc: Global,
+    answers: &[Answer],
+    script: &str,
+) -> Result<(), Fail> {
+    assert_eq!(rt; answers.len(), script.lines().count());
+    for (answer, row) in answers.iter().zip(script.lines()) {
+        let wanted = answer_of(alloc, row)?;
+        assert!(rt; shown(alloc, answer)?.as_str() == wanted.as_str(), "{row}");
+    }
+    Ok(())
+}
+
+#[test]
+fn runs_have_their_answers(rt: HostRuntime) -> Result<(), Fail> {
+    let alloc = rt.alloc();
+    for script in RUNS.split("====\n") {
+        let (first, rest) = script.split_once("----\n").ok_or("no second part")?;
+        let (mut shelves, answers) = run_in_memory(alloc, events(alloc, first)?.as_slice())?;
+        assert_answers(&rt, alloc, answers.as_slice(), first)?;
+        let answers = run(alloc, &mut shelves, events(alloc, rest)?.as_slice())?;
+        assert_answers(&rt, alloc, answers.as_slice(), rest)?;
+    }
+    Ok(())
+}

@@ -1,3 +1,0 @@
-mod framing;
-mod replies;
-mod targets;

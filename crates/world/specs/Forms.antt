@@ -1,5 +1,5 @@
 -- The forms of paths and of versions, by the definitions of their own crates.
-use Rattle.std.specs.Prelude.{ℕ, List, Bool, ◌&&◌, if◌then◌else◌, Option, Some, None}
+use Rattle.std.specs.Prelude.{ℕ, List, if◌then◌else◌, Option, Some, None}
 use Rattle.modver.specs.Reading.{IsCanonical}
 use Rattle.modver.specs.SemanticVersion.{SemanticVersion}
 unfoldable pub use Rattle.modver.specs.SemanticVersion.{is_version}

@@ -16,7 +16,7 @@ use Rattle.engine.specs.Exchange.{Exchange, message_of, event_of, answer_of}
 use Rattle.engine.specs.Headline.{NoneUnavailable, kept_messages, kept_texts}
 use Rattle.engine.specs.Reply.{text_of}
 use Rattle.engine.specs.Served.{IsClosing, closing_bytes, texts_of, Ended, Serves}
-use Rattle.engine.specs.Calls.{kept_for, end_bytes, WriteAlike, CallsTellAlike, AgreeAsFar, CallsTellAlikeAsFar}
+use Rattle.engine.specs.Calls.{kept_for, end_bytes, CallsTellAlike, AgreeAsFar, CallsTellAlikeAsFar}
 use Rattle.engine.specs.declared.fault.Io.{Io}
 use Rattle.engine.specs.declared.fault.Io.TheVariants as io
 use Rattle.engine.proofs.FrontLemmas.{run_front, none_front, texts_front, marks_front, kept_front, GoesAsFar, EndsBefore, either_ends}

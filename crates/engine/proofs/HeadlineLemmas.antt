@@ -22,9 +22,8 @@ use Rattle.shelf.proofs.Isolated.{purged_runs_agree}
 use Rattle.shelf.proofs.Latest.{latest_is_the_top, none_is_latest}
 use Rattle.shelf.proofs.Served.{stays_served}
 use Rattle.engine.specs.Ask as spec
-use Rattle.engine.specs.Ask.{ask_of}
 use Rattle.engine.specs.Exchange.{Exchange, message_of, event_of, answer_of}
-use Rattle.engine.specs.Reply.{page_of, page_for, page_status, bytes_of, text_of, status_of}
+use Rattle.engine.specs.Reply.{page_of, page_for, page_status, bytes_of, text_of}
 use Rattle.engine.specs.Headline.{unavailable, NoneUnavailable, are_kept, kept_messages, kept_texts, CallersAreToldAlike, BytesStayServed, TellsLatest, LatestIsWritten}
 
 -- ---- nothing of others

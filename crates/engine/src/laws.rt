@@ -4,24 +4,30 @@ ghost use Rattle.engine.specs.Headline.{CallersAreToldAlike, BytesStayServed, La
 
 use shelf::shelves::Shelves;
 
-/// A caller is written what it would be written if no message with a key of another team had come.
+/// A caller is written what it would be written if no message with a key of another team had come: in two runs from one world, one
+/// with the others' messages and one without, the texts of the messages that are kept are the same, where none of them is the 503.
 pub fn isolation()
     ensures { CallersAreToldAlike }
 {}
 
-/// What was once written for a version is written for good.
+/// What was once written with 200 for a version is written for good, to any key that then belongs to the shelf, or the 503.
 pub fn immutability()
     ensures { BytesStayServed }
 {}
 
-/// What is written for `@latest` is the highest version that the go.mod of the highest does not retract.
+/// What is written for `@latest` is the name and the time of the highest version that the key's shelf sees and that the go.mod of the
+/// highest does not retract, or the 404 where there is none; or the 503.
 pub fn latest_version()
     ensures { LatestIsWritten }
 {}
 
 /// Two calls of [`answer_all`](crate::answer_all), over any two stores that stand for one world, one told a stream and one the same
-/// stream without the bytes of others' messages, write the same for the messages that are kept, and close the stream alike.
+/// stream without the bytes of others' messages: where both end well and neither writes the 503 for a kept message or in the place of
+/// what is left, the second writes what the first writes without the texts for others. However they end, as far as both go the
+/// messages that are kept are written the same.
 pub fn isolation_of_calls<S: Shelves, T: Shelves>()
-    ensures whole { (old new : S) (old_too new_too : T) → CallsTellAlike (S.shown old) (S.shown new) (T.shown old_too) (T.shown new_too) }
-    ensures as_far { (old new : S) (old_too new_too : T) → CallsTellAlikeAsFar (S.shown old) (S.shown new) (T.shown old_too) (T.shown new_too) }
+    ensures whole { (old new : S) (old_too new_too : T)
+        → CallsTellAlike (S.shown old) (S.shown new) (T.shown old_too) (T.shown new_too) }
+    ensures as_far { (old new : S) (old_too new_too : T)
+        → CallsTellAlikeAsFar (S.shown old) (S.shown new) (T.shown old_too) (T.shown new_too) }
 {}

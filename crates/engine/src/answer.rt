@@ -13,10 +13,10 @@ use crate::fault::Io;
 use crate::read::read_more;
 use crate::turn::{Taken, Turn, take};
 use crate::write::{close, close_first, flush};
-use shelf::shelves::Shelves;
 use std::alloc::Global;
 use std::io::{Read, Write};
 use wire::{Framer, Message};
+use world::shelves::Shelves;
 
 /// Answers all whole messages that the framer holds.
 fn answer_held<W: Write, S: Shelves>(

@@ -7,10 +7,10 @@ ghost use Rattle.engine.specs.Ask as spec;
 
 use modver::read_time;
 use shelf::ask::{Ask, Body, GivenTime, Publish, Query};
-use shelf::bytes::Bytes;
-use shelf::text::Text;
 use std::alloc::{AllocError, Global};
 use wire::{Memory, Message, Query as Wanted, Target, target};
+use world::bytes::Bytes;
+use world::text::Text;
 
 /// What the message asks. The go.mod of a publish is the first bytes of its body, as many as `Mod-Length` says, and its time
 /// is that of its `Version-Time`.

@@ -11,13 +11,14 @@ use crate::ask::ask_of;
 use crate::fault::Io;
 use crate::page::{Page, page_of};
 use crate::write::write_page;
-use shelf::reply::{Reply, StoreFault};
-use shelf::shelves::Shelves;
+use shelf::reply::Reply;
 use shelf::step::step;
 use std::alloc::Global;
 use std::io::Write;
 use wire::Message;
 use wire::reply::{Fixed, StatusCode};
+use world::registry::StoreFault;
+use world::shelves::Shelves;
 
 /// What is written for what the machine answered: its reply, or 503 where the store met a fault, or where there is no memory
 /// for the body of the reply.

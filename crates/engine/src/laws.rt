@@ -2,7 +2,7 @@
 ghost use Rattle.engine.specs.Calls.{CallsTellAlike, CallsTellAlikeAsFar};
 ghost use Rattle.engine.specs.Headline.{CallersAreToldAlike, BytesStayServed, LatestIsWritten};
 
-use shelf::shelves::Shelves;
+use world::shelves::Shelves;
 
 /// A caller is written what it would be written if no message with a key of another team had come: in two runs from one world, one
 /// with the others' messages and one without, the texts of the messages that are kept are the same, where none of them is the 503.

@@ -4,11 +4,11 @@ ghost use Rattle.wire.specs.Message.{Request};
 ghost use Rattle.engine.specs.Reply as spec;
 ghost use Rattle.engine.specs.Reply.{IsComposed};
 
-use shelf::bytes::Bytes;
 use shelf::reply::{Decision, Refusal, Reply};
 use std::alloc::Global;
 use wire::reply::{Fixed, Kind};
 use wire::{Memory, info_body};
+use world::bytes::Bytes;
 
 /// A reply as it is written.
 #[derive(Drop)]

@@ -37,12 +37,10 @@
 //! | alpha asks for its zip; beta does | `a`; `c` |
 //! | beta publishes it with the zip `a` | Conflict |
 //!
-//! [`shelves::Shelves`] is what a store has to do (of the crate `world`, whose modules are passed on here), [`step::step`] answers one request over any store, and
+//! What a store has to do is the trait `Shelves` of the crate `world`. [`step::step`] answers one request over any store, and
 //! [`run::run`] a list of requests and commands of the registry. [`laws`] says what then holds of every list:
 //! a shelf is told nothing of the requests of others, and what was served once is served for good.
 #![tactic(auto)]
-
-pub use world::{bytes, entry, entry_test, map_shelves, names, reading, shelves, text, text_set};
 
 pub mod ask;
 pub mod decide;

@@ -7,7 +7,7 @@ ghost use Rattle.world.specs.Store.{Reads, HasCause};
 ghost use Rattle.shelf.specs.Versions.{AllOf};
 
 use crate::ask::Query;
-use crate::reply::{Reply, StoreFault};
+use crate::reply::Reply;
 use crate::versions::{highest, highest_left, listed, named};
 use gomod::GoMod;
 use modpath::ModulePath;
@@ -15,6 +15,7 @@ use modver::Version;
 use std::alloc::{AllocError, Global};
 use world::entry::{Heading, Seen};
 use world::reading::Reading;
+use world::registry::StoreFault;
 use world::shelves::Shelves;
 
 /// Answers a GET.

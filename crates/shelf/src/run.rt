@@ -7,10 +7,11 @@ ghost use Rattle.world.specs.Store.{Does, HasCause, GrewOrFull};
 ghost use Rattle.world.specs.World.{only_common};
 
 use crate::ask::Event;
-use crate::reply::{Answer, Reply, StoreFault};
+use crate::reply::{Answer, Reply};
 use crate::step::step;
 use std::alloc::{AllocError, Global};
 use world::map_shelves::MapShelves;
+use world::registry::StoreFault;
 use world::shelves::Shelves;
 
 /// Does what one event says.

@@ -10,10 +10,11 @@ ghost use Rattle.shelf.specs.declared.reply.Decision.TheVariants.{Published};
 use crate::ask::{Ask, Publish};
 use crate::decide::{decide, gomod_refusal, refusal};
 use crate::queries::answer_query;
-use crate::reply::{Decision, Reply, StoreFault};
+use crate::reply::{Decision, Reply};
 use std::alloc::{AllocError, Global};
 use world::entry::Holder;
 use world::reading::Reading;
+use world::registry::StoreFault;
 use world::shelves::Shelves;
 
 /// Answers a request.

@@ -1,11 +1,11 @@
 //! Readers and writers that fail, and shelves to answer from.
-use shelf::entry::Right;
-use shelf::map_shelves::MapShelves;
-use shelf::reply::StoreFault;
-use shelf::shelves::Shelves;
 use std::alloc::Global;
 use std::io;
 use std::io::{Error, ErrorKind, Read, Write};
+use world::entry::Right;
+use world::map_shelves::MapShelves;
+use world::registry::StoreFault;
+use world::shelves::Shelves;
 
 /// The shelf `common` and the teams alpha and beta, with their keys.
 pub fn shelves(alloc: Global) -> Result<MapShelves, StoreFault> {

@@ -1,15 +1,15 @@
 //! The worked rows on one store, in a file, in tables in memory and in maps, and the whole reply to each.
 use crate::tests::runs::{column, new_folder, on_store};
 use engine::answer_all;
-use shelf::entry::Right;
-use shelf::map_shelves::MapShelves;
-use shelf::reply::StoreFault;
-use shelf::shelves::Shelves;
 use std::alloc::{AllocError, Global};
 use std::fs;
 use std::rt::HostRuntime;
 use std::test::Fail;
 use store::store::SqlShelves;
+use world::entry::Right;
+use world::map_shelves::MapShelves;
+use world::registry::StoreFault;
+use world::shelves::Shelves;
 
 /// The worked rows, one a line: method, key and target of the request; status, kind and body of the reply; of a PUT also the
 /// go.mod, the zip and further lines of its head. `;` stands for the end of a line. A line without columns names those below it.

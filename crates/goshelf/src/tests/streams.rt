@@ -1,9 +1,9 @@
 //! Streams as they stand, and the replies to each.
 use crate::tests::rows::{answered, push_lines, register, reply};
 use crate::tests::runs::column;
-use shelf::map_shelves::MapShelves;
 use std::alloc::{AllocError, Global};
 use std::test::Fail;
+use world::map_shelves::MapShelves;
 
 /// Streams on one store, one a line: the bytes; status, kind and body of each reply, of which `&` stands before the second. `;`
 /// stands for the end of a line. A line without columns names those below it.

@@ -1,13 +1,9 @@
 //! The bytes of replies.
-use crate::rows::{column, named, versions, with_lines};
-use modpath::ModulePath;
+use crate::rows::{column, named, with_lines};
 use modver::{Version, read_time};
 use std::alloc::Global;
 use std::test::Fail;
-use wire::{
-    Fixed, Kind, StatusCode, fixed, fixed_line, info_body, paths_body, push_line, put_head,
-    reply_head, versions_body,
-};
+use wire::{Fixed, Kind, StatusCode, fixed, fixed_line, info_body, put_head, reply_head};
 
 const FIXED: &[Fixed] = &[
     Fixed::AlreadyPublished,
@@ -110,35 +106,5 @@ fn info_bodies_have_their_texts(rt: HostRuntime) -> Result<(), Fail> {
         let body = info_body(rt.alloc(), &version, read_time(column(row, 1)).ok())?;
         assert!(rt; body.as_slice() == column(row, 2).as_bytes(), "{row}");
     }
-    Ok(())
-}
-
-/// Each version and a newline.
-#[test]
-fn lists_of_versions_have_their_texts(rt: HostRuntime) -> Result<(), Fail> {
-    let list = versions(rt.alloc(), "v1.0.0-rc.2 v1.0.0-rc.10 v1.0.0")?;
-    let body = versions_body(rt.alloc(), list.as_slice())?;
-    assert!(rt; body.as_slice() == b"v1.0.0-rc.2\nv1.0.0-rc.10\nv1.0.0\n".as_slice());
-    Ok(())
-}
-
-/// The paths that the words of a text write.
-fn paths(alloc: Global, texts: &str) -> Result<Vec<ModulePath>, Fail> {
-    let mut list = Vec::new(alloc);
-    for text in texts.split_whitespace() {
-        list.push(ModulePath::parse(alloc, text)?)?;
-    }
-    Ok(list)
-}
-
-/// Each path and a newline; none is the empty body.
-#[test]
-fn lists_of_paths_have_their_texts(rt: HostRuntime) -> Result<(), Fail> {
-    let list = paths(rt.alloc(), "example.com/x example.com/y")?;
-    let mut body = paths_body(rt.alloc(), list.as_slice())?;
-    assert!(rt; body.as_slice() == b"example.com/x\nexample.com/y\n".as_slice());
-    push_line(&mut body, "z")?;
-    assert!(rt; body.as_slice() == b"example.com/x\nexample.com/y\nz\n".as_slice());
-    assert!(rt; paths_body(rt.alloc(), &[])?.is_empty());
     Ok(())
 }

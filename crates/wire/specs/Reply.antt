@@ -1,6 +1,5 @@
 -- The bytes of replies. (RFC 9112, sections 4 and 5, in this server's own profile.)
 use Rattle.std.specs.Prelude.{ℕ, List, [], ◌++◌, length, codes, decimal, unwrap_or, Option, Some, None}
-use Rattle.std.specs.List.{flat_map}
 use Rattle.http.specs.StatusCode.{code_digits, reason_phrase}
 use Rattle.modver.specs.SemanticVersion.{SemanticVersion, version_text}
 use Rattle.wire.specs.declared.reply.Kind.{Kind}
@@ -88,14 +87,3 @@ line_bytes answer = code_digits (fixed_status answer) ++ codes " " ++ fixed_text
 abbrev pub info_bytes : SemanticVersion → Option (List ℕ) → List ℕ
 info_bytes version (Some time) = codes "{\"Time\":\"" ++ time ++ codes "\",\"Version\":\"" ++ version_text version ++ codes "\"}"
 info_bytes version None = codes "{\"Version\":\"" ++ version_text version ++ codes "\"}"
-
--- the body of a list: the text of each item, and a newline
-abbrev pub lines_bytes : {A : Type 0} → (A → List ℕ) → List A → List ℕ
-lines_bytes text items = flat_map (λ item. text item ++ codes "\n") items
-
--- the bodies that list versions, and paths
-abbrev pub versions_bytes : List SemanticVersion → List ℕ
-versions_bytes versions = lines_bytes version_text versions
-
-abbrev pub paths_bytes : List (List ℕ) → List ℕ
-paths_bytes paths = lines_bytes (λ path. path) paths

@@ -25,10 +25,10 @@
 //! a fixed body take no memory.
 #![tactic(auto)]
 
-pub mod bodies;
 mod cut;
 pub mod framer;
 mod head;
+pub mod info;
 pub mod laws;
 pub mod message;
 mod places;
@@ -40,8 +40,8 @@ mod routes;
 pub mod targets;
 pub mod text;
 
-pub use bodies::{info_body, paths_body, push_line, versions_body};
 pub use framer::{Bad, Framer, Next};
+pub use info::info_body;
 pub use message::{Memory, Message};
 pub use put::{fixed, fixed_line, put_head, reply_head};
 pub use reply::{Fixed, Kind, StatusCode};

@@ -1,7 +1,7 @@
 use Rattle.std.proofs.Common.{ap, ◌∙◌}
 use Rattle.serde_json.specs.Written.{compact_text, has_float}
 use Rattle.wire.proofs.InfoLemmas.{info-written, no-float}
-use Rattle.wire.proofs.bodies.info_body.Goals as goal
+use Rattle.wire.proofs.info.info_body.Goals as goal
 
 pub returns : goal.returns
 returns c =

@@ -1,0 +1,36 @@
+//! The body that tells a version and its time.
+ghost use Rattle.std.specs.Prelude.{◌≡◌, IfOk, IfSome, OnOk};
+ghost use Rattle.modver.specs.SemanticVersion.{IsVersion};
+ghost use Rattle.modver.specs.Time.{IsTime};
+ghost use Rattle.serde_json.specs.View.{view};
+ghost use Rattle.wire.specs.Info.{info_object};
+ghost use Rattle.wire.specs.Reply.{info_bytes};
+
+use crate::message::Memory;
+use modver::{TimeText, Version};
+use serde_json::{Value, json};
+use std::alloc::{AllocError, Global};
+
+/// The object that tells a version and its time, where it has one.
+fn info(alloc: Global, version: &Version, time: Option<TimeText>) -> Result<Value, AllocError>
+    ensures told { IfOk result (λ value. view value ≡ info_object version.now time) }
+    ensures valid { OnOk result (IsVersion version.now × IfSome time IsTime) }
+{
+    match time {
+        Some(time) => { json!(in alloc; {"Time": time.as_str(), "Version": version.as_str()}) }
+        None => json!(in alloc; {"Version": version.as_str()}),
+    }
+}
+
+/// The body that tells a version and its time, where it has one, as `{"Version":"v1.0.0"}`. `Memory` where there is no
+/// room for it.
+pub fn info_body(
+    alloc: Global,
+    version: &Version,
+    time: Option<TimeText>,
+) -> Result<Vec<u8>, Memory>
+    ensures { IfOk result (λ body. body.items ≡ info_bytes version.now time) }
+{
+    let text = info(alloc, version, time)?.to_string(alloc)?;
+    Ok(text.into_bytes())
+}

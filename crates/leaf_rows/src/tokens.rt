@@ -1,4 +1,5 @@
 //! Tokens of texts and of lines, and what they stand for. (Go Modules Reference, "go.mod files", lexical elements.)
+use crate::rows::column;
 use modlex::{Span, Token, TokenFault, cut_line, line_tokens, tokens};
 use std::alloc::{AllocError, Global};
 use std::test::Fail;
@@ -63,31 +64,30 @@ fn lines_of_texts(rt: HostRuntime) {
     assert!(rt; line_tokens(rt.alloc(), 7, 0, "a /* b").err() == Some(TokenFault::Lex(7)));
 }
 
+/// A text of one token, whether it is a word, a name, the arrow, and the value that it stands for.
+const WORDS: &str = "\
+require|true|true|false|require
+\"a \\\\ \\\"b\\\"\"|true|false|false|a \\ \"b\"
+`c\\d`|true|false|false|c\\d
+\"\"|true|false|false|
+=>|false|false|true|=>
+,|false|false|false|,
+";
+
 #[test]
-fn words_and_their_values(rt: HostRuntime) {
-    let wanted = [
-        ("require", true, "require"),
-        ("\"a \\\\ \\\"b\\\"\"", true, "a \\ \"b\""),
-        ("`c\\d`", true, "c\\d"),
-        ("\"\"", true, ""),
-        ("=>", false, "=>"),
-        (",", false, ","),
-    ];
-    for (text, is_word, value) in wanted {
-        match tokens(rt.alloc(), text) {
-            Ok(found) => match found.as_slice() {
-                [token] => {
-                    assert!(rt; token.is_word() == is_word, "{text}");
-                    assert!(rt; token.is_name() == (text == "require"), "{text}");
-                    assert!(rt; token.is_arrow() == (text == "=>"), "{text}");
-                    match token.value(rt.alloc()) {
-                        Ok(found) => assert!(rt; found.as_str() == value, "{text}"),
-                        Err(_) => assert!(rt; false, "{text}"),
-                    }
-                }
-                _ => assert!(rt; false, "{text}"),
-            },
-            Err(_) => assert!(rt; false, "{text}"),
+fn words_have_their_values(rt: HostRuntime) -> Result<(), Fail> {
+    for row in WORDS.lines() {
+        let found = tokens(rt.alloc(), column(row, 0))?;
+        assert!(rt; found.len() == 1, "{row}");
+        for token in found.iter() {
+            assert!(rt; token.is_word() == (column(row, 1) == "true"), "{row}");
+            assert!(rt; token.is_name() == (column(row, 2) == "true"), "{row}");
+            assert!(rt; token.is_arrow() == (column(row, 3) == "true"), "{row}");
+            assert!(rt;
+                token.value(rt.alloc())?.as_str() == column(row, 4),
+                "{row}"
+            );
         }
     }
+    Ok(())
 }

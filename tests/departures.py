@@ -1,0 +1,102 @@
+#!/usr/bin/env python3
+"""Where this profile is not Go's: what golang.org/x/mod says of each row, and what a publish of it is answered here.
+
+Run it beside the gate, where Debian's golang-go and golang-golang-x-mod-dev are at hand and the program is built
+(`cd crates/goshelf && rt run -- --version`), or with the program's path as its argument. It prints the table of
+docs/DEPARTURES.md.
+"""
+
+import os
+import subprocess
+import sys
+import tempfile
+
+ROOT = os.path.dirname(os.path.dirname(os.path.abspath(__file__)))
+PROGRAM = os.path.join(ROOT, "crates", "goshelf", "out", "goshelf")
+KEY = "alphakey00000001"
+LONG_PATH = "example.com/" + "a" * 244
+LONG_VERSION = "v1.0.0-" + "a" * 122
+
+# What a row is about, and the row: a path, a path and a version, or the text of a go.mod.
+ROWS = [
+    ("`gopkg.in` with `-unstable`", "path", "gopkg.in/yaml.v2-unstable"),
+    ("a path of 256 bytes", "path", LONG_PATH),
+    ("the mark at a suffix", "version", "example.com/x/v2", "v2.0.0+incompatible"),
+    ("the mark on major 1", "version", "example.com/x", "v1.0.0+incompatible"),
+    ("the mark on major 0", "version", "example.com/x", "v0.1.0+incompatible"),
+    ("another build part", "version", "example.com/x", "v1.0.0+meta"),
+    ("a version of 129 bytes", "version", "example.com/x", LONG_VERSION),
+    ("a revision in upper case", "version", "example.com/x", "v0.0.0-20240131120000-ABCDEFABCDEF"),
+    ("a revision that is not hex", "version", "example.com/x", "v0.0.0-20240131120000-ghijklghijkl"),
+    ("a stamp of no date", "version", "example.com/x", "v0.0.0-20240230120000-abcdefabcdef"),
+    ("a stamp of no time of day", "version", "example.com/x", "v0.0.0-20240131250000-abcdefabcdef"),
+    ("an empty go.mod", "gomod", r""),
+    ("`go 0.0`", "gomod", r"module example.com/x\ngo 0.0\n"),
+    ("`go` with three numbers", "gomod", r"module example.com/x\ngo 1.21.0\n"),
+    ("`toolchain`", "gomod", r"module example.com/x\ntoolchain go1.21.0\n"),
+    ("an unknown directive", "gomod", r"module example.com/x\nfrobnicate y\n"),
+    ("a raw string as a value", "gomod", r"module `example.com/x`\n"),
+    ("an escape in a value", "gomod", r'module "example.com\u002fx"' + r"\n"),
+    ("a keyword in quotation marks", "gomod", r'"module" example.com/x\n'),
+    ("a required version that is not canonical", "gomod", r"module example.com/x\nrequire example.com/y v1\n"),
+    ("a retracted interval from high to low", "gomod", r"module example.com/x\nretract [v1.1.0, v1.0.0]\n"),
+    ("a retraction of another major", "gomod", r"module example.com/x\nretract v2.0.0\n"),
+    ("a replacement by a Windows path", "gomod", r"module example.com/x\nreplace example.com/y => C:\y\n"),
+    ("a required path without a dot in its first element", "gomod",
+     r"module example.com/x\nrequire mymod v0.0.0\nreplace mymod => ./mymod\n"),
+]
+
+
+def go_says(rows):
+    """What golang.org/x/mod says of each row."""
+    with tempfile.TemporaryDirectory() as room:
+        program = os.path.join(room, "departures")
+        source = os.path.join(ROOT, "tests", "departures.go")
+        settings = dict(os.environ, GO111MODULE="off", GOPATH="/usr/share/gocode", GOFLAGS="", GOCACHE=os.path.join(room, "cache"))
+        subprocess.run(["go", "build", "-o", program, source], check=True, env=settings)
+        text = "".join("\t".join(row[1:]) + "\n" for row in rows)
+        return subprocess.run([program], input=text, capture_output=True, text=True, check=True).stdout.splitlines()
+
+
+def escaped(text):
+    """The case escape of the GOPROXY protocol."""
+    return "".join("!" + c.lower() if c.isupper() else c for c in text)
+
+
+def put(row):
+    """The bytes of a publish of the row."""
+    kind, rest = row[1], row[2:]
+    if kind == "gomod":
+        path, version, gomod = "example.com/x", "v1.0.0", rest[0].replace(r"\n", "\n")
+    else:
+        path = rest[0]
+        version = rest[1] if kind == "version" else "v2.0.0" if path.startswith("gopkg.in/") else "v1.0.0"
+        gomod = f"module {path}\n"
+    body = gomod.encode() + b"zip"
+    head = f"PUT /k/{KEY}/{escaped(path)}/@v/{escaped(version)} HTTP/1.1\r\nMod-Length: {len(gomod)}\r\nContent-Length: {len(body)}\r\n\r\n"
+    return head.encode() + body
+
+
+def answer(program, row):
+    """The status and the body that a publish of the row is answered."""
+    ran = subprocess.run([program, "answer", "--mem", "--team", "alpha", "--key", KEY], input=put(row), capture_output=True, check=True)
+    head, _, body = ran.stdout.partition(b"\r\n\r\n")
+    return f"{head.split()[1].decode()} `{body.decode().strip()}`"
+
+
+def shown(row):
+    """The input of a row, for the table."""
+    text = " ".join(row[2:]) or "(nothing)"
+    text = text if len(text) <= 60 else text[:24] + ".." + text[-4:]
+    return "`" + text.replace("`", "'").replace("|", "\\|") + "`"
+
+
+def main():
+    program = sys.argv[1] if len(sys.argv) > 1 else PROGRAM
+    print("| what | input | `golang.org/x/mod` | a publish here |\n|---|---|---|---|")
+    for row, said in zip(ROWS, go_says(ROWS)):
+        print(f"| {row[0]} | {shown(row)} | {said} | {answer(program, row)} |")
+
+
+if __name__ == "__main__":
+    main()

@@ -1,4 +1,5 @@
 pub mod Ending
+pub mod Exit
 pub mod Opening
 pub mod Publish
 pub mod Work

@@ -6,11 +6,12 @@
 //! | `publish` | asks the machine to publish two files, and prints the line of its outcome | [`publish`] |
 //! | `answer` | answers the requests of a reader from a store, or from shelves in memory that begin with one team and its key | [`answer`], [`memory`] |
 //!
-//! [`work`] does what is asked of a store; [`refusal`] has the words that tell why a command was refused. Nothing here
-//! opens a store or reads the words of a command line.
+//! [`work`] does what is asked of a store; [`refusal`] has the words that tell why a command was refused, and [`exit`] how a run
+//! ends: its exit status, and the line of that word. Nothing here opens a store or reads the words of a command line.
 #![tactic(auto)]
 
 pub mod answer;
+pub mod exit;
 pub mod files;
 pub mod memory;
 pub mod publish;

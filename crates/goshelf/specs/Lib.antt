@@ -1,4 +1,3 @@
-pub mod Ending
 pub mod Opened
 pub mod Run
 pub mod Task

@@ -5,10 +5,10 @@ use Rattle.clap.specs.declared.error.kind.ErrorKind.TheVariants.{DisplayHelp, Di
 use Rattle.commands.specs.declared.refusal.Refusal.{Refusal}
 use Rattle.commands.specs.declared.refusal.Refusal.TheVariants.{Io, Memory}
 use Rattle.world.specs.Store.{Shown}
-use Rattle.goshelf.specs.Ending.{ending_of, status_of, IsSilent, Says}
+use Rattle.commands.specs.Exit.{ending_of, status_of, IsSilent, Says}
 use Rattle.goshelf.specs.Task.{Performs}
-use Rattle.goshelf.specs.declared.ending.Ending.{Ending}
-use Rattle.goshelf.specs.declared.ending.Ending.TheVariants.{Done, Refused, BadUsage}
+use Rattle.commands.specs.declared.exit.Ending.{Ending}
+use Rattle.commands.specs.declared.exit.Ending.TheVariants.{Done, Refused, BadUsage}
 use Rattle.goshelf.specs.declared.task.Task.{Task}
 
 -- How a run ends that shows the parser's text in place of a task, by the text's kind: help and the version are what was asked

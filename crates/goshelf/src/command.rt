@@ -1,14 +1,14 @@
 //! One whole run of the program.
 ghost use Rattle.std.specs.Prelude.{◌≡◌, ◌⊎◌};
 ghost use Rattle.clap.specs.Values.{kind_of};
-ghost use Rattle.goshelf.specs.Ending.{status_of, IsSilent};
+ghost use Rattle.commands.specs.Exit.{status_of, IsSilent};
 ghost use Rattle.goshelf.specs.Run.{EndsShown, Exits, Runs};
 
 use crate::arguments::{parser, task_of};
-use crate::ending::Ending;
 use crate::task::perform;
 use clap::ArgMatches;
 use clap::error::ErrorKind;
+use commands::exit::Ending;
 use commands::refusal::Refusal;
 use std::io::{self, Read, Write};
 use std::rt::HostRuntime;

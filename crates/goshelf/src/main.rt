@@ -5,7 +5,6 @@
 
 mod arguments;
 mod command;
-mod ending;
 mod task;
 #[cfg(test)]
 mod tests;

@@ -4,8 +4,8 @@ use Rattle.std.specs.Io.KnownBytes.{Appends}
 use Rattle.std.specs.declared.io.Error.{Error}
 use Rattle.commands.specs.Ending.{word}
 use Rattle.commands.specs.declared.refusal.Refusal.{Refusal}
-use Rattle.goshelf.specs.declared.ending.Ending.{Ending}
-use Rattle.goshelf.specs.declared.ending.Ending.TheVariants.{Done, NotAccepted, Refused, BadUsage}
+use Rattle.commands.specs.declared.exit.Ending.{Ending}
+use Rattle.commands.specs.declared.exit.Ending.TheVariants.{Done, NotAccepted, Refused, BadUsage}
 
 -- by what a task told: that it is accepted, that a publish is not, or why it was refused
 abbrev pub ending_of : Result Bool Refusal → Ending

@@ -1,9 +1,9 @@
 //! How a run ends: its exit status, and the line that tells why a command was refused.
 ghost use Rattle.std.specs.Prelude.{◌≡◌, OnOk};
 ghost use Rattle.std.specs.Io.KnownBytes.{Appends};
-ghost use Rattle.goshelf.specs.Ending as spec;
+ghost use Rattle.commands.specs.Exit as spec;
 
-use commands::refusal::Refusal;
+use crate::refusal::Refusal;
 use std::io::{self, Write};
 
 /// How a run ended.

@@ -21,7 +21,7 @@ module _ {T : Type 0} (old new : State) where
     at = λ clean w stands. record {
       answer = answer clean w stands;
       stays = (spares.stays w stands.0, stands.1);
-      left = λ only db may. only db (spares.left clean w stands.0 db may);
+      left = λ x y only db may. only db (spares.left clean w stands.0 db may);
     };
   }
 

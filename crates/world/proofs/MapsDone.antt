@@ -20,7 +20,7 @@ done old new w x value next answer same is = record {
 
 -- the answer is the value, and nothing changes
 pub told : {T : Type 0} (m w : World) (x value : T) → ((m ≡ w) × IsWorld w) → x ≡ value → ReadsAt (in_memory m) (in_memory m) w (Ok x) value
-told m w x value is answer = record { answer = answer; stays = is; left = λ left. left }
+told m w x value is answer = record { answer = answer; stays = is; left = λ x y left. left }
 
 pub team_done : (w : World) (t : List ℕ) → is_team_name t ≡ true → set.contains w.shelves t ≡ false → team_added w t ≡ Done
 team_done w t named free = rw (named, free) refl

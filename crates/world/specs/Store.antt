@@ -34,11 +34,11 @@ pub record DoesWhere {T : Type 0} (fits : World → Type 0) (old new : Shown) (r
 abbrev pub Does : {T : Type 0} → Shown → Shown → Result T StoreFault → (World → T) → (World → World) → Type 0
 Does old new result value next = DoesWhere (λ _. Unit {0}) old new result value next
 
--- In this world, a call answers the value, or fails, and changes nothing.
+-- In this world, a call answers the value, or fails, and changes nothing. It adds nothing to what a crash may leave.
 pub record ReadsAt {T : Type 0} (old new : Shown) (w : World) (result : Result T StoreFault) (value : T) : Type 0 where
   pub answer : IfOk result (λ x. x ≡ value)
   pub stays : new.stands w
-  pub left : old.leaves w w → new.leaves w w
+  pub left : (x y : World) → old.leaves x y → new.leaves x y
 
 pub record Reads {T : Type 0} (old new : Shown) (result : Result T StoreFault) (value : World → T) : Type 0 where
   pub honest : new.is_honest → old.is_honest

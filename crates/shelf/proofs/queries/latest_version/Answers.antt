@@ -38,6 +38,6 @@ returns-clause-reads g c =
           record {
             answer = the_latest w s p texts vs told.answer c.in_ok-versions.ensures c.in-Some.newest.now _ _ _ (top p all) shown.answer c.in_ok-gomod.ensures (left p all);
             stays = shown.stays;
-            left = λ was. shown.left (told.left was);
+            left = λ x y was. shown.left x y (told.left x y was);
           };
     }

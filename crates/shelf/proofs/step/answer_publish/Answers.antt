@@ -18,5 +18,5 @@ returns-clause-does g c =
           let then =
           subst (λ o. DoesAt (shown c.key.new.self) (shown c.publish_to.new.shelves) w c.publish_to.result (decision w o c.args.publish.now) (after_decision w o c.args.publish.now (decision w o c.args.publish.now))) (sym found)
           (does.at h w key.stays there) in
-          record { answer = then.answer; ok = then.ok; err = then.err; left = λ was. then.left (key.left was); kept = λ was. then.kept (key.left was) };
+          record { answer = then.answer; ok = then.ok; err = then.err; left = λ was. then.left (key.left w w was); kept = λ was. then.kept (key.left w w was) };
     }

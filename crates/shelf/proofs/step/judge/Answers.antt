@@ -14,7 +14,7 @@ returns-in-Some-clause-reads g c =
       at = λ honest w stands. record {
         answer = sym (refused p (Some h.right) (gomod_of p) (entry_seen w h.shelf p) (count w h.shelf p.path) _ (sym c.refusal.ensures ∙ c.in-Some.is));
         stays = stands;
-        left = λ was. was;
+        left = λ x y was. was;
       };
     }
 
@@ -30,6 +30,6 @@ returns-in-Some-gomod_refusal-clause-reads g c =
       at = λ honest w stands. record {
         answer = sym (refused_by_gomod p (Some h.right) (gomod_of p) (entry_seen w h.shelf p) (count w h.shelf p.path) _ (sym c.refusal.ensures ∙ c.in_default.is) failing);
         stays = stands;
-        left = λ was. was;
+        left = λ x y was. was;
       };
     }

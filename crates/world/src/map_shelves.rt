@@ -1,8 +1,8 @@
 //! Shelves in memory.
-ghost use Rattle.std.specs.Prelude.{◌≡◌, option_copied, option_map, IfOk};
+ghost use Rattle.std.specs.Prelude.{◌≡◌, option_copied, option_map, IfOk, IsOk};
 ghost use Rattle.std.specs.FinMap as map;
 ghost use Rattle.modver.specs.SemanticVersion.{version_text};
-ghost use Rattle.world.specs.World.{only_common, place, seen_at, heading_of};
+ghost use Rattle.world.specs.World.{only_common, place, seen_at, heading_of, count};
 
 use crate::entry::{Entry, EntryRef, Heading, Holder, Right, Seen};
 use crate::maps::entry_map::EntryMap;
@@ -100,6 +100,8 @@ impl MapShelves {
 impl Shelves for MapShelves {
     ghost use Rattle.std.proofs.Common.{inl, inr};
     ghost use Rattle.world.specs.InMemory.{in_memory};
+    ghost use Rattle.world.specs.Registry.{key_revoked, after_key_revoke};
+    ghost use Rattle.world.specs.Store.{Does, Reads, HasCause};
 
     ghost shown = { in_memory };
 
@@ -163,7 +165,12 @@ impl Shelves for MapShelves {
         Ok(paths)
     }
 
-    fn count(&mut self, shelf: &str, path: &ModulePath) -> Result<u64, StoreFault> {
+    /// How many versions of the path stand on the shelf. It takes no memory.
+    fn count(&mut self, shelf: &str, path: &ModulePath) -> Result<u64, StoreFault>
+        ensures reads { Reads (in_memory self.old) (in_memory self.new) result (λ w. count w shelf.now path.now) }
+        ensures cause { HasCause 0 0 result }
+        ensures answers { IsOk result }
+    {
         Ok(self.entries.count(shelf, path.as_str()) as u64)
     }
 
@@ -208,7 +215,13 @@ impl Shelves for MapShelves {
         Ok(Registered::Done)
     }
 
-    fn key_revoke(&mut self, key: &str) -> Result<Registered, StoreFault> {
+    /// Takes a key away. It takes no memory.
+    fn key_revoke(&mut self, key: &str) -> Result<Registered, StoreFault>
+        ensures does { Does (in_memory self.old) (in_memory self.new) result
+            (λ w. key_revoked w key.now) (λ w. after_key_revoke w key.now (key_revoked w key.now)) }
+        ensures cause { HasCause 0 0 result }
+        ensures answers { IsOk result }
+    {
         if !self.keys.contains_key(key) {
             return Ok(Registered::NoKey);
         }

@@ -7,11 +7,8 @@ use crate::ask::{GivenTime, Publish};
 use crate::reply::{Decision, Refusal};
 use gomod::GoMod;
 use modver::{Class, TimeText, class, fits};
-use world::entry::{Entry, EntryRef, MAX_GOMOD, MAX_ZIP, Right};
+use world::entry::{Entry, EntryRef, MAX_GOMOD, MAX_VERSIONS, MAX_ZIP, Right};
 use world::reading::Reading;
-
-/// The most versions of one path on one shelf.
-pub const MAX_VERSIONS: u64 = 4096;
 
 /// The outcome of the checks of a publish by a key with this right (none: an unknown key), whose
 /// go.mod was read so (none: a check before fails), where this entry is visible and so many versions

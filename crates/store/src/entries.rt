@@ -20,6 +20,7 @@ use modver::{TimeText, read_time};
 use sqlite::{Alter, Connection, Error, ErrorCode, Row, Transaction, params};
 use world::bytes::Bytes;
 use world::entry::{Entry, EntryRef, Heading, Seen};
+use world::names::COMMON;
 use world::text::Text;
 
 /// What the row of a version shows, with its number.
@@ -147,7 +148,7 @@ pub(crate) fn find_entry<S: Alter>(
 {
     match entry_at(conn, shelf, path, version)? {
         Some(seen) => Ok(Some(seen)),
-        None => entry_at(conn, "common", path, version),
+        None => entry_at(conn, COMMON, path, version),
     }
 }
 
@@ -180,7 +181,7 @@ pub(crate) fn find_heading<S: Alter>(
 {
     match heading_at(conn, shelf, path, version)? {
         Some(heading) => Ok(Some(heading)),
-        None => heading_at(conn, "common", path, version),
+        None => heading_at(conn, COMMON, path, version),
     }
 }
 

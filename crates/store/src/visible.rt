@@ -17,6 +17,7 @@ ghost use Rattle.store.specs.Lists.{AddsTexts, AddsVersions, AddsPaths};
 use sqlite::types::ValueRef;
 use sqlite::{Alter, Connection, Error, Row, params};
 use std::alloc::Global;
+use world::names::COMMON;
 use world::text_set::TextSet;
 
 /// The rows of the answer to a query.
@@ -94,7 +95,7 @@ pub(crate) fn find_versions<S: Alter>(
 {
     let mut texts = TextSet::new(alloc);
     add_versions(conn, shelf, path, &mut texts)?;
-    add_versions(conn, "common", path, &mut texts)?;
+    add_versions(conn, COMMON, path, &mut texts)?;
     Ok(texts)
 }
 
@@ -109,6 +110,6 @@ pub(crate) fn find_paths<S: Alter>(
 {
     let mut texts = TextSet::new(alloc);
     add_paths(conn, shelf, &mut texts)?;
-    add_paths(conn, "common", &mut texts)?;
+    add_paths(conn, COMMON, &mut texts)?;
     Ok(texts)
 }

@@ -21,9 +21,9 @@ use modver::{TimeText, read_time};
 use sqlite::types::ValueRef;
 use sqlite::{Alter, Connection, Error, ErrorCode, Row};
 use std::alloc::Global;
-use world::entry::{EntryRef, Place};
+use world::entry::{EntryRef, MAX_VERSIONS, Place};
 use world::entry_test::may_stand;
-use world::names::{is_key, is_team_name};
+use world::names::{COMMON, is_key, is_team_name};
 use world::text::Text;
 
 /// The text of a column, if it is one.
@@ -134,7 +134,7 @@ impl RowTest for ShelfRows {
         let Some(name) = text_at(row, 0)? else {
             return Ok(false);
         };
-        if name == "common" {
+        if name == COMMON {
             self.has_common = true;
             return Ok(true);
         }
@@ -281,7 +281,11 @@ fn run_up_to(last: &Option<Place>, many: u64, place: &Place) -> Option<u64>
     if place.shelf != last.shelf || place.path != last.path {
         return Some(1);
     }
-    if many < 4096 { Some(many + 1) } else { None }
+    if many < MAX_VERSIONS {
+        Some(many + 1)
+    } else {
+        None
+    }
 }
 
 /// Whether `meta` names schema 1 and nothing else.

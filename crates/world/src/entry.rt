@@ -14,6 +14,9 @@ pub const MAX_GOMOD: usize = 1_048_576;
 /// The most bytes of a zip.
 pub const MAX_ZIP: usize = 16_777_216;
 
+/// The most versions of one path on one shelf.
+pub const MAX_VERSIONS: u64 = 4_096;
+
 /// Where an entry stands. The path and the version are their texts.
 #[derive(PartialEq, Eq, PartialOrd, Ord, Drop)]
 pub struct Place {

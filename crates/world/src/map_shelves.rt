@@ -7,7 +7,7 @@ ghost use Rattle.world.specs.World.{only_common, place, seen_at, heading_of, cou
 use crate::entry::{Entry, EntryRef, Heading, Holder, Right, Seen};
 use crate::maps::entry_map::EntryMap;
 use crate::maps::text_map::TextMap;
-use crate::names;
+use crate::names::{COMMON, is_key, is_team_name};
 use crate::registry::{Registered, StoreFault};
 use crate::shelves::Shelves;
 use crate::text::Text;
@@ -16,9 +16,6 @@ use modpath::ModulePath;
 use modver::Version;
 use std::alloc::{AllocError, Global};
 use std::marker::Model;
-
-/// The shelf that every shelf sees.
-pub const COMMON: &str = "common";
 
 /// Shelves in ordered maps, which contracts see as their world.
 #[derive(Drop)]
@@ -189,7 +186,7 @@ impl Shelves for MapShelves {
     }
 
     fn team_add(&mut self, name: &str) -> Result<Registered, StoreFault> {
-        if !names::is_team_name(name) {
+        if !is_team_name(name) {
             return Ok(Registered::Name);
         }
         if self.shelves.contains(name) {
@@ -200,7 +197,7 @@ impl Shelves for MapShelves {
     }
 
     fn key_add(&mut self, shelf: &str, key: &str, right: Right) -> Result<Registered, StoreFault> {
-        if !names::is_key(key) {
+        if !is_key(key) {
             return Ok(Registered::Name);
         }
         if !self.shelves.contains(shelf) {

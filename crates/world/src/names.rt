@@ -3,12 +3,15 @@ ghost use Rattle.std.specs.Prelude.{◌≡◌, ◌||◌, nat_eq};
 ghost use Rattle.std.specs.List.{list_all};
 ghost use Rattle.world.specs.Names as spec;
 
+/// The shelf that every shelf sees.
+pub const COMMON: &str = "common";
+
 /// 1 to 32 bytes of `a-z0-9-`, the first a letter, and not `common`.
 pub fn is_team_name(name: &str) -> bool
     ensures { result ≡ spec.is_team_name name.now }
 {
     let bytes = name.as_bytes();
-    bytes.len() <= 32 && begins_lower(bytes) && all_name_bytes(bytes) && name != "common"
+    bytes.len() <= 32 && begins_lower(bytes) && all_name_bytes(bytes) && name != COMMON
 }
 
 /// 16 to 64 bytes of `a-z0-9`.

@@ -12,6 +12,18 @@ use Rattle.tables.specs.Schema.{store_schema}
 use Rattle.world.specs.Store.{Shown}
 use Rattle.tables.specs.Means.{Stands, StandsFor, StandFor}
 
+-- so it is of a connection before and after, as far as no answer of the disk was wrong
+abbrev pub Honestly : State → State → (State → State → Type 0) → Type 0
+Honestly old new P = HasCleanDisk new → P old new
+
+-- so it is, besides, in each world that its tables stood for
+abbrev pub InEachWorld : State → State → (State → State → World → Type 0) → Type 0
+InEachWorld old new P = Honestly old new (λ old new. (w : World) → Stands old w → P old new w)
+
+-- a connection is open, as far as no answer of the disk was wrong
+abbrev pub IsOpenIfHonest : State → Type 0
+IsOpenIfHonest s = HasCleanDisk s → IsTrue s.is_open
+
 -- it shows the same world, and a crash leaves nothing that it did not leave before
 pub record Spares (old new : State) : Type 0 where
   pub clean : doubt old.is_clean ≤ doubt new.is_clean

@@ -6,12 +6,12 @@ ghost use Rattle.sqlite.specs.declared.types.Value.TheVariants.{Int, Text as Sto
 ghost use Rattle.sqlite.specs.Order.{column};
 ghost use Rattle.sqlite.specs.Values.{or_null};
 ghost use Rattle.sqlite.specs.Held.{state};
-ghost use Rattle.sqlite.specs.State.{HasCleanDisk, KeepsCommit, Survives};
+ghost use Rattle.sqlite.specs.State.{KeepsCommit, Survives};
 ghost use Rattle.sqlite_trees.specs.View.{doubt};
 ghost use Rattle.world.specs.World.{place, seen_at, view, heading_of, heading, count, with_entry};
 ghost use Rattle.tables.specs.Schema.{store_schema};
-ghost use Rattle.tables.specs.Means.{Stands, StandsFor};
-ghost use Rattle.store.specs.Calls.{Spares, ChangesAt};
+ghost use Rattle.tables.specs.Means.{StandsFor};
+ghost use Rattle.store.specs.Calls.{Honestly, InEachWorld, IsOpenIfHonest, Spares, ChangesAt};
 ghost use Rattle.store.specs.Reading.{HasRow, HasZip};
 ghost use Rattle.store.specs.Added.{HasAdded};
 
@@ -52,7 +52,8 @@ fn read_stamp(row: &Row) -> Result<Option<TimeText>, Error>
 }
 
 fn read_version(row: &Row) -> Result<VersionRow, Error>
-    ensures { IfOk result (λ v. (column row.now 0 ≡ Int v.id) × (column row.now 1 ≡ StoredText v.shelf) × (column row.now 2 ≡ or_null StoredText v.heading.time) × (column row.now 3 ≡ Blob v.heading.gomod)) }
+    ensures { IfOk result (λ v. (column row.now 0 ≡ Int v.id) × (column row.now 1 ≡ StoredText v.shelf)
+        × (column row.now 2 ≡ or_null StoredText v.heading.time) × (column row.now 3 ≡ Blob v.heading.gomod)) }
 {
     let id: i64 = row.get(0)?;
     let shelf: String = row.get(1)?;
@@ -76,9 +77,11 @@ fn row_at<S: Alter>(
     version: &str,
 ) -> Result<Option<VersionRow>, Error>
     ensures spares { Spares (state S.Store conn.old) (state S.Store conn.new) }
-    ensures same { HasCleanDisk (state S.Store conn.new) → (w : _) → Stands (state S.Store conn.old) w → OnOk result ((state S.Store conn.new).now ≡ (state S.Store conn.old).now) }
-    ensures answer { HasCleanDisk (state S.Store conn.new) → (w : _) → Stands (state S.Store conn.old) w → IfOk result (λ found. IsTrue (state S.Store conn.old).is_open × IsTrue (state S.Store conn.new).is_open
-        × HasRow (state S.Store conn.old).now.trees w (place shelf.now path.now version.now) found) }
+    ensures same { InEachWorld (state S.Store conn.old) (state S.Store conn.new) (λ old new _.
+        OnOk result (new.now ≡ old.now)) }
+    ensures answer { InEachWorld (state S.Store conn.old) (state S.Store conn.new) (λ old new w.
+        IfOk result (λ found. IsTrue old.is_open × IsTrue new.is_open
+        × HasRow old.now.trees w (place shelf.now path.now version.now) found)) }
 {
     match find_row(
         conn,
@@ -100,8 +103,8 @@ fn read_zip(row: &Row) -> Result<Bytes, Error>
 /// The zip that has this number.
 fn find_zip<S: Alter>(conn: &mut Connection<S>, id: i64) -> Result<Option<Bytes>, Error>
     ensures spares { Spares (state S.Store conn.old) (state S.Store conn.new) }
-    ensures answer { HasCleanDisk (state S.Store conn.new) → (w : _) → Stands (state S.Store conn.old) w → IfOk result (λ found. IsTrue (state S.Store conn.old).is_open × IsTrue (state S.Store conn.new).is_open
-        × HasZip (state S.Store conn.old).now.trees id found) }
+    ensures answer { InEachWorld (state S.Store conn.old) (state S.Store conn.new) (λ old new w.
+        IfOk result (λ found. IsTrue old.is_open × IsTrue new.is_open × HasZip old.now.trees id found)) }
 {
     match find_row(conn, "SELECT zip FROM body WHERE id = ?1", params![id])? {
         Some(row) => Ok(Some(read_zip(&row)?)),
@@ -117,8 +120,9 @@ fn entry_at<S: Alter>(
     version: &str,
 ) -> Result<Option<Seen>, Error>
     ensures spares { Spares (state S.Store conn.old) (state S.Store conn.new) }
-    ensures answer { HasCleanDisk (state S.Store conn.new) → (w : _) → Stands (state S.Store conn.old) w → IfOk result (λ found. IsTrue (state S.Store conn.old).is_open × IsTrue (state S.Store conn.new).is_open
-        × (found ≡ seen_at (map.get w.entries (place shelf.now path.now version.now)) shelf.now)) }
+    ensures answer { InEachWorld (state S.Store conn.old) (state S.Store conn.new) (λ old new w.
+        IfOk result (λ found. IsTrue old.is_open × IsTrue new.is_open
+        × (found ≡ seen_at (map.get w.entries (place shelf.now path.now version.now)) shelf.now))) }
 {
     let Some(row) = row_at(conn, shelf, path, version)? else {
         return Ok(None);
@@ -144,7 +148,8 @@ pub(crate) fn find_entry<S: Alter>(
     version: &str,
 ) -> Result<Option<Seen>, Error>
     ensures spares { Spares (state S.Store conn.old) (state S.Store conn.new) }
-    ensures answer { HasCleanDisk (state S.Store conn.new) → (w : _) → Stands (state S.Store conn.old) w → IfOk result (λ found. found ≡ view w shelf.now path.now version.now) }
+    ensures answer { InEachWorld (state S.Store conn.old) (state S.Store conn.new) (λ _ _ w.
+        IfOk result (λ found. found ≡ view w shelf.now path.now version.now)) }
 {
     match entry_at(conn, shelf, path, version)? {
         Some(seen) => Ok(Some(seen)),
@@ -160,8 +165,9 @@ fn heading_at<S: Alter>(
     version: &str,
 ) -> Result<Option<Heading>, Error>
     ensures spares { Spares (state S.Store conn.old) (state S.Store conn.new) }
-    ensures answer { HasCleanDisk (state S.Store conn.new) → (w : _) → Stands (state S.Store conn.old) w → IfOk result (λ found. IsTrue (state S.Store conn.old).is_open × IsTrue (state S.Store conn.new).is_open
-        × (found ≡ option_map heading_of (map.get w.entries (place shelf.now path.now version.now)))) }
+    ensures answer { InEachWorld (state S.Store conn.old) (state S.Store conn.new) (λ old new w.
+        IfOk result (λ found. IsTrue old.is_open × IsTrue new.is_open
+        × (found ≡ option_map heading_of (map.get w.entries (place shelf.now path.now version.now))))) }
 {
     match row_at(conn, shelf, path, version)? {
         Some(row) => Ok(Some(row.heading)),
@@ -177,7 +183,8 @@ pub(crate) fn find_heading<S: Alter>(
     version: &str,
 ) -> Result<Option<Heading>, Error>
     ensures spares { Spares (state S.Store conn.old) (state S.Store conn.new) }
-    ensures answer { HasCleanDisk (state S.Store conn.new) → (w : _) → Stands (state S.Store conn.old) w → IfOk result (λ found. found ≡ heading w shelf.now path.now version.now) }
+    ensures answer { InEachWorld (state S.Store conn.old) (state S.Store conn.new) (λ _ _ w.
+        IfOk result (λ found. found ≡ heading w shelf.now path.now version.now)) }
 {
     match heading_at(conn, shelf, path, version)? {
         Some(heading) => Ok(Some(heading)),
@@ -202,7 +209,8 @@ pub(crate) fn count_entries<S: Alter>(
     path: &str,
 ) -> Result<u64, Error>
     ensures spares { Spares (state S.Store conn.old) (state S.Store conn.new) }
-    ensures answer { HasCleanDisk (state S.Store conn.new) → (w : _) → StandsFor (state S.Store conn.old) w → IfOk result (λ n. n ≡ count w shelf.now path.now) }
+    ensures answer { Honestly (state S.Store conn.old) (state S.Store conn.new) (λ old _.
+        (w : _) → StandsFor old w → IfOk result (λ n. n ≡ count w shelf.now path.now)) }
 {
     match find_row(
         conn,
@@ -234,9 +242,11 @@ fn insert_rows<'p, S: Alter>(
 ) -> Result<(), Error>
     ensures same_reference { tx.new.conn.ghost_name ≡ tx.old.conn.ghost_name }
     ensures survives { Survives (state S.Store tx.old.conn.now) (state S.Store tx.new.conn.now) (λ _. ⊥) }
-    ensures kept { HasCleanDisk (state S.Store tx.new.conn.now) → IsTrue (state S.Store tx.old.conn.now).in_transaction → KeepsCommit (state S.Store tx.old.conn.now) (state S.Store tx.new.conn.now) }
-    ensures added { HasCleanDisk (state S.Store tx.new.conn.now) → IsTrue (state S.Store tx.old.conn.now).in_transaction → (state S.Store tx.old.conn.now).now.schema ≡ store_schema
-        → OnOk result (HasAdded (state S.Store tx.old.conn.now) (state S.Store tx.new.conn.now) (place shelf.now path.now version.now) entry.now) }
+    ensures kept { Honestly (state S.Store tx.old.conn.now) (state S.Store tx.new.conn.now) (λ old new.
+        IsTrue old.in_transaction → KeepsCommit old new) }
+    ensures added { Honestly (state S.Store tx.old.conn.now) (state S.Store tx.new.conn.now) (λ old new.
+        IsTrue old.in_transaction → old.now.schema ≡ store_schema
+        → OnOk result (HasAdded old new (place shelf.now path.now version.now) entry.now)) }
 {
     let time = time_text(&entry.time);
     tx.execute(
@@ -260,8 +270,10 @@ fn insert_entry<S: Alter>(
     entry: &EntryRef,
 ) -> Result<(), Error>
     ensures clean { doubt (state S.Store conn.old).is_clean ≤ doubt (state S.Store conn.new).is_clean }
-    ensures changes { (HasCleanDisk (state S.Store conn.old) → IsTrue (state S.Store conn.old).is_open) → (w : _) → map.get w.entries (place shelf.now path.now version.now) ≡ None
-        → ChangesAt (state S.Store conn.old) (state S.Store conn.new) (is_ok result) w (with_entry w (place shelf.now path.now version.now) entry.now) }
+    ensures changes { IsOpenIfHonest (state S.Store conn.old) → (w : _)
+        → map.get w.entries (place shelf.now path.now version.now) ≡ None
+        → ChangesAt (state S.Store conn.old) (state S.Store conn.new) (is_ok result) w
+        (with_entry w (place shelf.now path.now version.now) entry.now) }
 {
     if !conn.is_autocommit() {
         return Err(Error::SqliteFailure(ErrorCode::TransactionState));
@@ -281,8 +293,9 @@ pub(crate) fn add_entry<S: Alter>(
     entry: &EntryRef,
 ) -> Result<(), Error>
     ensures clean { doubt (state S.Store conn.old).is_clean ≤ doubt (state S.Store conn.new).is_clean }
-    ensures changes { HasCleanDisk (state S.Store conn.new) → (w : _) → Stands (state S.Store conn.old) w → map.get w.entries (place shelf.now path.now version.now) ≡ None
-        → ChangesAt (state S.Store conn.old) (state S.Store conn.new) (is_ok result) w (with_entry w (place shelf.now path.now version.now) entry.now) }
+    ensures changes { InEachWorld (state S.Store conn.old) (state S.Store conn.new) (λ old new w.
+        map.get w.entries (place shelf.now path.now version.now) ≡ None
+        → ChangesAt old new (is_ok result) w (with_entry w (place shelf.now path.now version.now) entry.now)) }
 {
     // A connection that is shut refuses this, so the next line finds the tables.
     has_shelf(conn, shelf)?;

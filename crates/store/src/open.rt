@@ -51,8 +51,10 @@ impl<T: Start> SqlShelves<FileStore<FileFrom<T>>> {
         start: T,
     ) -> Result<SqlShelves<FileStore<FileFrom<T>>>, Refusal>
         ensures memory { path.now ≡ codes ":memory:" → result ≡ Err Refusal.Device }
-        ensures begins { IfOk result (λ s. HasCleanDisk (file_state s.conn) → (w : _) × BeginsAt (shown_of (file_state s.conn)) w) }
-        ensures found { IfOk result (λ s. HasCleanDisk (file_state s.conn) → (w : _) → HoldsWorld (image_at T.Start) w → BeginsAt (shown_of (file_state s.conn)) w) }
+        ensures begins { IfOk result (λ s. HasCleanDisk (file_state s.conn)
+            → (w : _) × BeginsAt (shown_of (file_state s.conn)) w) }
+        ensures found { IfOk result (λ s. HasCleanDisk (file_state s.conn) → (w : _)
+            → HoldsWorld (image_at T.Start) w → BeginsAt (shown_of (file_state s.conn)) w) }
         ensures none_failed { IfOk result (λ s. s.failures ≡ 0) }
     {
         let conn = match Connection::open_from(rt, path, false, start) {
@@ -71,7 +73,8 @@ impl SqlShelves<FileStore<File>> {
     /// is supposed that a write that was torn by a crash leaves each byte old or new.
     pub fn open_file(rt: &HostRuntime, path: &str) -> Result<FileShelves, Refusal>
         ensures memory { path.now ≡ codes ":memory:" → result ≡ Err Refusal.Device }
-        ensures begins { IfOk result (λ s. HasCleanDisk (file_state s.conn) → (w : _) × BeginsAt (shown_of (file_state s.conn)) w) }
+        ensures begins { IfOk result (λ s. HasCleanDisk (file_state s.conn)
+            → (w : _) × BeginsAt (shown_of (file_state s.conn)) w) }
         ensures none_failed { IfOk result (λ s. s.failures ≡ 0) }
     {
         SqlShelves::open_from(rt, path, Unknown)

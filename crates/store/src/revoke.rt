@@ -1,13 +1,11 @@
 //! Keys that are taken away, over SQL tables.
 
-ghost use Rattle.std.specs.Prelude.{◌≡◌, ◌≤◌, IfOk, is_ok, IsTrue};
+ghost use Rattle.std.specs.Prelude.{◌≡◌, ◌≤◌, IfOk, is_ok};
 ghost use Rattle.sqlite.specs.Held.{state};
-ghost use Rattle.sqlite.specs.State.{HasCleanDisk};
 ghost use Rattle.sqlite_trees.specs.View.{doubt};
 ghost use Rattle.world.specs.World.{without_key};
 ghost use Rattle.world.specs.Registry.{key_revoked};
-ghost use Rattle.tables.specs.Means.{Stands};
-ghost use Rattle.store.specs.Calls.{ChangesAt, Changes};
+ghost use Rattle.store.specs.Calls.{InEachWorld, IsOpenIfHonest, ChangesAt, Changes};
 ghost use Rattle.store.specs.Views.{with_key_revoked};
 
 use crate::shelves::find_key;
@@ -17,7 +15,7 @@ use world::registry::Registered;
 /// Takes the row of a key away.
 fn delete_key<S: Alter>(conn: &mut Connection<S>, token: &str) -> Result<(), Error>
     ensures clean { doubt (state S.Store conn.old).is_clean ≤ doubt (state S.Store conn.new).is_clean }
-    ensures changes { (HasCleanDisk (state S.Store conn.old) → IsTrue (state S.Store conn.old).is_open) → (w : _)
+    ensures changes { IsOpenIfHonest (state S.Store conn.old) → (w : _)
         → ChangesAt (state S.Store conn.old) (state S.Store conn.new) (is_ok result) w (without_key w token.now) }
 {
     match conn.execute("DELETE FROM access WHERE token = ?1", params![token]) {
@@ -31,8 +29,10 @@ pub(crate) fn revoke_key<S: Alter>(
     conn: &mut Connection<S>,
     token: &str,
 ) -> Result<Registered, Error>
-    ensures changes { Changes (state S.Store conn.old) (state S.Store conn.new) (is_ok result) (with_key_revoked token.now) }
-    ensures answer { HasCleanDisk (state S.Store conn.new) → (w : _) → Stands (state S.Store conn.old) w → IfOk result (λ r. r ≡ key_revoked w token.now) }
+    ensures changes { Changes (state S.Store conn.old) (state S.Store conn.new) (is_ok result)
+        (with_key_revoked token.now) }
+    ensures answer { InEachWorld (state S.Store conn.old) (state S.Store conn.new) (λ _ _ w.
+        IfOk result (λ r. r ≡ key_revoked w token.now)) }
 {
     if find_key(conn, token)?.is_none() {
         return Ok(Registered::NoKey);

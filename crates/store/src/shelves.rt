@@ -10,13 +10,12 @@ ghost use Rattle.sqlite.specs.Held.{state};
 ghost use Rattle.sqlite.specs.Given.{IsPlain};
 ghost use Rattle.sqlite.specs.Listing.{understood, reads_listing};
 ghost use Rattle.sqlite.specs.Values.{bound};
-ghost use Rattle.sqlite.specs.State.{HasCleanDisk, Survives};
 ghost use Rattle.sqlite_trees.specs.View.{doubt};
 ghost use Rattle.world.specs.World.{is_key, is_team_name, with_key, with_team};
 ghost use Rattle.world.specs.Registry.{key_added, team_added};
 ghost use Rattle.tables.specs.Schema.{store_schema};
-ghost use Rattle.tables.specs.Means.{Stands, may_publish};
-ghost use Rattle.store.specs.Calls.{Spares, Selects, ChangesAt, Changes};
+ghost use Rattle.tables.specs.Means.{may_publish};
+ghost use Rattle.store.specs.Calls.{InEachWorld, IsOpenIfHonest, Spares, Selects, ChangesAt, Changes};
 ghost use Rattle.store.specs.Views.{with_key_added, with_team_added};
 
 use sqlite::types::ValueRef;
@@ -43,8 +42,11 @@ pub(crate) fn find_row<S: Alter>(
     requires plain { IsPlain (understood store_schema sql.now) }
     requires tables { reads_listing store_schema sql.now ≡ false }
     ensures spares { Spares (state S.Store conn.old) (state S.Store conn.new) }
-    ensures row { HasCleanDisk (state S.Store conn.new) → (w : _) → Stands (state S.Store conn.old) w → IfOk result (λ found. IsTrue (state S.Store conn.old).is_open × IsTrue (state S.Store conn.new).is_open × Selects sql.now (bound params.now) (state S.Store conn.old).now found) }
-    ensures same { HasCleanDisk (state S.Store conn.new) → (w : _) → Stands (state S.Store conn.old) w → OnOk result ((state S.Store conn.new).now ≡ (state S.Store conn.old).now) }
+    ensures row { InEachWorld (state S.Store conn.old) (state S.Store conn.new) (λ old new w.
+        IfOk result (λ found. IsTrue old.is_open × IsTrue new.is_open
+        × Selects sql.now (bound params.now) old.now found)) }
+    ensures same { InEachWorld (state S.Store conn.old) (state S.Store conn.new) (λ old new _.
+        OnOk result (new.now ≡ old.now)) }
 {
     // A connection that is shut refuses this, so the next line finds the tables.
     conn.prepare(sql)?;
@@ -57,7 +59,8 @@ pub(crate) fn find_row<S: Alter>(
 
 /// What a row of `access` shows of a key.
 fn read_holder(row: &Row) -> Result<Holder, Error>
-    ensures { IfOk result (λ h. (column row.now 0 ≡ StoredText h.shelf) × ((n : _) × (column row.now 1 ≡ Int n) × (may_publish h.right ≡ not (int_eq n (pos 0))))) }
+    ensures { IfOk result (λ h. (column row.now 0 ≡ StoredText h.shelf)
+        × ((n : _) × (column row.now 1 ≡ Int n) × (may_publish h.right ≡ not (int_eq n (pos 0))))) }
 {
     let shelf: String = row.get(0)?;
     let publishes: bool = row.get(1)?;
@@ -78,7 +81,8 @@ pub(crate) fn find_key<S: Alter>(
     token: &str,
 ) -> Result<Option<Holder>, Error>
     ensures spares { Spares (state S.Store conn.old) (state S.Store conn.new) }
-    ensures answer { HasCleanDisk (state S.Store conn.new) → (w : _) → Stands (state S.Store conn.old) w → IfOk result (λ found. IsTrue (state S.Store conn.old).is_open × IsTrue (state S.Store conn.new).is_open × (found ≡ map.get w.keys token.now)) }
+    ensures answer { InEachWorld (state S.Store conn.old) (state S.Store conn.new) (λ old new w.
+        IfOk result (λ found. IsTrue old.is_open × IsTrue new.is_open × (found ≡ map.get w.keys token.now))) }
 {
     match find_row(
         conn,
@@ -93,7 +97,8 @@ pub(crate) fn find_key<S: Alter>(
 /// Whether there is a shelf of this name.
 pub(crate) fn has_shelf<S: Alter>(conn: &mut Connection<S>, name: &str) -> Result<bool, Error>
     ensures spares { Spares (state S.Store conn.old) (state S.Store conn.new) }
-    ensures answer { HasCleanDisk (state S.Store conn.new) → (w : _) → Stands (state S.Store conn.old) w → IfOk result (λ found. IsTrue (state S.Store conn.old).is_open × IsTrue (state S.Store conn.new).is_open × (found ≡ set.contains w.shelves name.now)) }
+    ensures answer { InEachWorld (state S.Store conn.old) (state S.Store conn.new) (λ old new w.
+        IfOk result (λ found. IsTrue old.is_open × IsTrue new.is_open × (found ≡ set.contains w.shelves name.now))) }
 {
     let found = find_row(
         conn,
@@ -111,8 +116,10 @@ fn insert_key<S: Alter>(
     right: Right,
 ) -> Result<(), Error>
     ensures clean { doubt (state S.Store conn.old).is_clean ≤ doubt (state S.Store conn.new).is_clean }
-    ensures changes { (HasCleanDisk (state S.Store conn.old) → IsTrue (state S.Store conn.old).is_open) → (w : _) → map.get w.keys token.now ≡ None
-        → ChangesAt (state S.Store conn.old) (state S.Store conn.new) (is_ok result) w (with_key w token.now (record { shelf = shelf.now; right = right })) }
+    ensures changes { IsOpenIfHonest (state S.Store conn.old) → (w : _)
+        → map.get w.keys token.now ≡ None
+        → ChangesAt (state S.Store conn.old) (state S.Store conn.new) (is_ok result) w
+        (with_key w token.now (record { shelf = shelf.now; right = right })) }
 {
     let publishes = may_publish(right);
     match conn.execute(
@@ -132,7 +139,8 @@ fn judge_key<S: Alter>(
 ) -> Result<Registered, Error>
     requires { is_key token.now ≡ true }
     ensures spares { Spares (state S.Store conn.old) (state S.Store conn.new) }
-    ensures answer { HasCleanDisk (state S.Store conn.new) → (w : _) → Stands (state S.Store conn.old) w → IfOk result (λ r. IsTrue (state S.Store conn.new).is_open × (r ≡ key_added w shelf.now token.now)) }
+    ensures answer { InEachWorld (state S.Store conn.old) (state S.Store conn.new) (λ _ new w.
+        IfOk result (λ r. IsTrue new.is_open × (r ≡ key_added w shelf.now token.now))) }
 {
     if !has_shelf(conn, shelf)? {
         return Ok(Registered::NoTeam);
@@ -151,8 +159,10 @@ pub(crate) fn add_key<S: Alter>(
     right: Right,
 ) -> Result<Registered, Error>
     requires { is_key token.now ≡ true }
-    ensures changes { Changes (state S.Store conn.old) (state S.Store conn.new) (is_ok result) (with_key_added shelf.now token.now right) }
-    ensures answer { HasCleanDisk (state S.Store conn.new) → (w : _) → Stands (state S.Store conn.old) w → IfOk result (λ r. r ≡ key_added w shelf.now token.now) }
+    ensures changes { Changes (state S.Store conn.old) (state S.Store conn.new) (is_ok result)
+        (with_key_added shelf.now token.now right) }
+    ensures answer { InEachWorld (state S.Store conn.old) (state S.Store conn.new) (λ _ _ w.
+        IfOk result (λ r. r ≡ key_added w shelf.now token.now)) }
 {
     let registered = judge_key(conn, shelf, token)?;
     if registered == Registered::Done {
@@ -164,7 +174,8 @@ pub(crate) fn add_key<S: Alter>(
 /// Writes the row of a shelf that is not there.
 fn insert_shelf<S: Alter>(conn: &mut Connection<S>, name: &str) -> Result<(), Error>
     ensures clean { doubt (state S.Store conn.old).is_clean ≤ doubt (state S.Store conn.new).is_clean }
-    ensures changes { (HasCleanDisk (state S.Store conn.old) → IsTrue (state S.Store conn.old).is_open) → (w : _) → set.contains w.shelves name.now ≡ false
+    ensures changes { IsOpenIfHonest (state S.Store conn.old) → (w : _)
+        → set.contains w.shelves name.now ≡ false
         → ChangesAt (state S.Store conn.old) (state S.Store conn.new) (is_ok result) w (with_team w name.now) }
 {
     match conn.execute("INSERT INTO shelf (name) VALUES (?1)", params![name]) {
@@ -177,7 +188,8 @@ fn insert_shelf<S: Alter>(conn: &mut Connection<S>, name: &str) -> Result<(), Er
 fn judge_team<S: Alter>(conn: &mut Connection<S>, name: &str) -> Result<Registered, Error>
     requires { is_team_name name.now ≡ true }
     ensures spares { Spares (state S.Store conn.old) (state S.Store conn.new) }
-    ensures answer { HasCleanDisk (state S.Store conn.new) → (w : _) → Stands (state S.Store conn.old) w → IfOk result (λ r. IsTrue (state S.Store conn.new).is_open × (r ≡ team_added w name.now)) }
+    ensures answer { InEachWorld (state S.Store conn.old) (state S.Store conn.new) (λ _ new w.
+        IfOk result (λ r. IsTrue new.is_open × (r ≡ team_added w name.now))) }
 {
     if has_shelf(conn, name)? {
         return Ok(Registered::Taken);
@@ -188,8 +200,10 @@ fn judge_team<S: Alter>(conn: &mut Connection<S>, name: &str) -> Result<Register
 /// Adds a team whose name keeps the rule, unless it is taken.
 pub(crate) fn add_team<S: Alter>(conn: &mut Connection<S>, name: &str) -> Result<Registered, Error>
     requires { is_team_name name.now ≡ true }
-    ensures changes { Changes (state S.Store conn.old) (state S.Store conn.new) (is_ok result) (with_team_added name.now) }
-    ensures answer { HasCleanDisk (state S.Store conn.new) → (w : _) → Stands (state S.Store conn.old) w → IfOk result (λ r. r ≡ team_added w name.now) }
+    ensures changes { Changes (state S.Store conn.old) (state S.Store conn.new) (is_ok result)
+        (with_team_added name.now) }
+    ensures answer { InEachWorld (state S.Store conn.old) (state S.Store conn.new) (λ _ _ w.
+        IfOk result (λ r. r ≡ team_added w name.now)) }
 {
     let registered = judge_team(conn, name)?;
     if registered == Registered::Done {

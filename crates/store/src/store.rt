@@ -2,10 +2,9 @@
 
 ghost use Rattle.std.specs.Prelude.{◌≡◌, ◌≤◌, ◌⊎◌, IfOk, IfErr, IsTrue};
 ghost use Rattle.sqlite.specs.Held.{state};
-ghost use Rattle.sqlite.specs.State.{HasCleanDisk};
 ghost use Rattle.sqlite_trees.specs.View.{doubt};
 ghost use Rattle.world.specs.Store.{GrewOrFull};
-ghost use Rattle.store.specs.Calls.{shown_of};
+ghost use Rattle.store.specs.Calls.{Honestly, shown_of};
 ghost use Rattle.tables.specs.Causes.{IsHindered, IsVast};
 ghost use Rattle.store.specs.Opened.{Opens, IsBad, LeavesFirst};
 
@@ -174,14 +173,17 @@ impl<S: Alter> SqlShelves<S> {
         mut conn: Connection<S>,
     ) -> Result<SqlShelves<S>, (Refusal, Connection<S>)>
         ensures clean { IfOk result (λ s. doubt (state S.Store conn).is_clean ≤ doubt (state S.Store s.conn).is_clean) }
-        ensures opens { IfOk result (λ s. HasCleanDisk (state S.Store s.conn) → Opens (state S.Store conn) (state S.Store s.conn)) }
+        ensures opens { IfOk result (λ s. Honestly (state S.Store conn) (state S.Store s.conn) Opens) }
         ensures none_failed { IfOk result (λ s. s.failures ≡ 0) }
         // Where this is refused, the connection shows what it showed, and a crash leaves what it left before or the made tables.
-        ensures kept { IfErr result (λ e. HasCleanDisk (state S.Store e.1) → IsTrue (state S.Store e.1).is_open → (state S.Store e.1).now ≡ (state S.Store conn).now) }
-        ensures crash { IfErr result (λ e. HasCleanDisk (state S.Store e.1) → LeavesFirst (state S.Store conn) (state S.Store e.1)) }
-        ensures bad { IfErr result (λ e. HasCleanDisk (state S.Store e.1) → e.0 ≡ Refusal.BadSchema → IsBad (state S.Store conn).now) }
+        ensures kept { IfErr result (λ e. Honestly (state S.Store conn) (state S.Store e.1) (λ old new.
+            IsTrue new.is_open → new.now ≡ old.now)) }
+        ensures crash { IfErr result (λ e. Honestly (state S.Store conn) (state S.Store e.1) LeavesFirst) }
+        ensures bad { IfErr result (λ e. Honestly (state S.Store conn) (state S.Store e.1) (λ old _.
+            e.0 ≡ Refusal.BadSchema → IsBad old.now)) }
         // `Device` has one of these causes.
-        ensures device { IfErr result (λ e. HasCleanDisk (state S.Store e.1) → e.0 ≡ Refusal.Device → IsTrue (state S.Store conn).in_transaction ⊎ (IsHindered (state S.Store conn) (state S.Store e.1) ⊎ IsVast (state S.Store conn).now)) }
+        ensures device { IfErr result (λ e. Honestly (state S.Store conn) (state S.Store e.1) (λ old new.
+            e.0 ≡ Refusal.Device → IsTrue old.in_transaction ⊎ (IsHindered old new ⊎ IsVast old.now))) }
     {
         match open_tables(alloc, &mut conn) {
             Ok(()) => Ok(SqlShelves {

@@ -5,13 +5,11 @@ ghost use Rattle.sqlite.specs.Effect.{Reads};
 ghost use Rattle.sqlite.specs.Given.{IsPlain};
 ghost use Rattle.sqlite.specs.Held.{state};
 ghost use Rattle.sqlite.specs.Listing.{understood, reads_listing};
-ghost use Rattle.sqlite.specs.State.{HasCleanDisk};
 ghost use Rattle.sqlite.specs.Values.{bound};
 ghost use Rattle.sqlite.proofs.Callers.{command_of};
 ghost use Rattle.world.specs.Visible.{versions_seen, paths_seen};
 ghost use Rattle.tables.specs.Schema.{store_schema};
-ghost use Rattle.tables.specs.Means.{Stands};
-ghost use Rattle.store.specs.Calls.{Spares};
+ghost use Rattle.store.specs.Calls.{InEachWorld, Spares};
 ghost use Rattle.store.specs.Lists.{AddsTexts, AddsVersions, AddsPaths};
 
 use sqlite::types::ValueRef;
@@ -29,8 +27,9 @@ fn find_rows<S: Alter>(
     requires plain { IsPlain (understood store_schema sql.now) }
     requires tables { reads_listing store_schema sql.now ≡ false }
     ensures spares { Spares (state S.Store conn.old) (state S.Store conn.new) }
-    ensures rows { HasCleanDisk (state S.Store conn.new) → (w : _) → Stands (state S.Store conn.old) w → IfOk result (λ rows. IsTrue (state S.Store conn.old).is_open
-        × Reads (command_of (understood store_schema sql.now)) (state S.Store conn.old).now (bound params.now) rows.items) }
+    ensures rows { InEachWorld (state S.Store conn.old) (state S.Store conn.new) (λ old _ w.
+        IfOk result (λ rows. IsTrue old.is_open
+        × Reads (command_of (understood store_schema sql.now)) old.now (bound params.now) rows.items)) }
 {
     // A connection that is shut refuses this, so the next line finds the tables.
     conn.prepare(sql)?;
@@ -56,7 +55,8 @@ fn add_versions<S: Alter>(
     texts: &mut TextSet,
 ) -> Result<(), Error>
     ensures spares { Spares (state S.Store conn.old) (state S.Store conn.new) }
-    ensures adds { HasCleanDisk (state S.Store conn.new) → (w : _) → Stands (state S.Store conn.old) w → OnOk result (AddsVersions w shelf.now path.now texts.old texts.new) }
+    ensures adds { InEachWorld (state S.Store conn.old) (state S.Store conn.new) (λ _ _ w.
+        OnOk result (AddsVersions w shelf.now path.now texts.old texts.new)) }
 {
     let rows = find_rows(
         conn,
@@ -73,7 +73,8 @@ fn add_paths<S: Alter>(
     texts: &mut TextSet,
 ) -> Result<(), Error>
     ensures spares { Spares (state S.Store conn.old) (state S.Store conn.new) }
-    ensures adds { HasCleanDisk (state S.Store conn.new) → (w : _) → Stands (state S.Store conn.old) w → OnOk result (AddsPaths w shelf.now texts.old texts.new) }
+    ensures adds { InEachWorld (state S.Store conn.old) (state S.Store conn.new) (λ _ _ w.
+        OnOk result (AddsPaths w shelf.now texts.old texts.new)) }
 {
     let rows = find_rows(
         conn,
@@ -91,7 +92,8 @@ pub(crate) fn find_versions<S: Alter>(
     path: &str,
 ) -> Result<TextSet, Error>
     ensures spares { Spares (state S.Store conn.old) (state S.Store conn.new) }
-    ensures answer { HasCleanDisk (state S.Store conn.new) → (w : _) → Stands (state S.Store conn.old) w → IfOk result (λ texts. texts ≡ versions_seen w shelf.now path.now) }
+    ensures answer { InEachWorld (state S.Store conn.old) (state S.Store conn.new) (λ _ _ w.
+        IfOk result (λ texts. texts ≡ versions_seen w shelf.now path.now)) }
 {
     let mut texts = TextSet::new(alloc);
     add_versions(conn, shelf, path, &mut texts)?;
@@ -106,7 +108,8 @@ pub(crate) fn find_paths<S: Alter>(
     shelf: &str,
 ) -> Result<TextSet, Error>
     ensures spares { Spares (state S.Store conn.old) (state S.Store conn.new) }
-    ensures answer { HasCleanDisk (state S.Store conn.new) → (w : _) → Stands (state S.Store conn.old) w → IfOk result (λ texts. texts ≡ paths_seen w shelf.now) }
+    ensures answer { InEachWorld (state S.Store conn.old) (state S.Store conn.new) (λ _ _ w.
+        IfOk result (λ texts. texts ≡ paths_seen w shelf.now)) }
 {
     let mut texts = TextSet::new(alloc);
     add_paths(conn, shelf, &mut texts)?;

@@ -99,5 +99,7 @@ fn on_file<I: Read, O: Write>(
         Ok(shelves) => shelves,
         Err(unopened) => return Err(open_refusal(unopened)),
     };
-    work_on(rt, &mut shelves, work, input, output)
+    let told = work_on(rt, &mut shelves, work, input, output);
+    shelves.close();
+    told
 }

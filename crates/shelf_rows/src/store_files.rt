@@ -21,7 +21,9 @@ team-add|alpha = Taken
 /// The first row of a script that the store in a file answers otherwise.
 fn wrong_row_of_file<'a>(rt: &HostRuntime, file: &str, script: &'a str) -> Result<&'a str, Fail> {
     let mut shelves = SqlShelves::open_file(rt, file)?;
-    wrong_row(rt.alloc(), &mut shelves, script)
+    let row = wrong_row(rt.alloc(), &mut shelves, script);
+    shelves.close();
+    row
 }
 
 #[test]
@@ -36,7 +38,10 @@ fn a_file_keeps_its_shelves(rt: HostRuntime) -> Result<(), Fail> {
 
 fn refusal(rt: &HostRuntime, file: &str) -> Option<Refusal> {
     match SqlShelves::open_file(rt, file) {
-        Ok(_) => None,
+        Ok(shelves) => {
+            shelves.close();
+            None
+        }
         Err(refusal) => Some(refusal),
     }
 }
@@ -44,9 +49,9 @@ fn refusal(rt: &HostRuntime, file: &str) -> Option<Refusal> {
 /// A file with one table.
 fn make_foreign(rt: &HostRuntime, file: &str) -> Result<(), Fail> {
     let mut conn = Connection::open(rt, file)?;
-    conn.execute_batch("CREATE TABLE x (a INTEGER) STRICT")?;
+    let made = conn.execute_batch("CREATE TABLE x (a INTEGER) STRICT");
     conn.close()?;
-    Ok(())
+    Ok(made?)
 }
 
 /// Whether bytes that are no such store are refused as a file, and stay.

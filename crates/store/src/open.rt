@@ -79,6 +79,9 @@ impl SqlShelves<FileStore<File>> {
     {
         SqlShelves::open_from(rt, path, Unknown)
     }
+
+    /// Lets the store of a file go. What was acknowledged stands in its files already, so that nothing is left to do or to fail.
+    pub fn close(self) {}
 }
 
 /// What a failure to open a file is told as.

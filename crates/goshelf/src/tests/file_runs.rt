@@ -103,8 +103,9 @@ fn each_run_opens_what_the_runs_before_it_wrote(rt: HostRuntime) -> Result<(), F
 /// Makes a database that is no store.
 fn foreign(rt: &HostRuntime, path: &str) -> Result<(), Error> {
     let mut conn = Connection::open(rt, path)?;
-    conn.execute_batch("CREATE TABLE x (a INTEGER) STRICT")?;
-    conn.close()
+    let made = conn.execute_batch("CREATE TABLE x (a INTEGER) STRICT");
+    conn.close()?;
+    made
 }
 
 /// Files that are no store: the command; the file; the word on standard error.

@@ -4,7 +4,7 @@ use Rattle.goshelf.proofs.task.on_file.Goals as goal
 pub returns : goal.returns
 returns g c = inl (record {
   begun = c.in-Ok.shelves;
-  ended = c.work_on.new.shelves;
+  ended = c.work_on-told.new.shelves;
   begins = record { world = c.in-Ok.ensures.begins; none_failed = c.in-Ok.ensures.none_failed };
-  works = c.work_on.ensures;
+  works = c.work_on-told.ensures;
 })

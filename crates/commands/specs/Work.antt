@@ -8,6 +8,7 @@ use Rattle.world.specs.declared.registry.Registered.{Registered}
 use Rattle.commands.specs.Ending.{Registers}
 use Rattle.commands.specs.Opening.{AnswersAll}
 use Rattle.commands.specs.Publish.{asked_by, PublishesFiles}
+use Rattle.commands.specs.Serve.{Listens}
 use Rattle.commands.specs.declared.refusal.Refusal.{Refusal}
 use Rattle.commands.specs.declared.work.Work.{Work}
 use Rattle.commands.specs.declared.work.Work.TheVariants as work
@@ -43,7 +44,15 @@ module _ {S : Type 0} (shown : S → Shown) (failures : S → ℕ) (old new : Mo
         old.unread new.unread old.written new.written ended
     pub told : result ≡ acceptance ended
 
-  -- What is done by the kind of work: nothing, one command of the registry, one publish, or all requests of the input are answered.
+  -- connections were served from the store, and nothing was read of the input
+  pub record ServesPort (port connections : ℕ) (result : Result Bool Refusal) : Type 0 where
+    pub ended : Result (Unit {0}) Refusal
+    pub serves : Listens shown failures old.store new.store port connections old.written new.written ended
+    pub told : result ≡ acceptance ended
+    pub unread : new.unread ≡ old.unread
+
+  -- What is done by the kind of work: nothing, one command of the registry, one publish, all requests of the input are answered,
+  -- or one request on each of some connections is.
   abbrev pub Works : Result Bool Refusal → Work → Type 0
   Works result work.Open = (new ≡ old) × (result ≡ Ok true)
   Works result (work.TeamAdd team) =
@@ -56,3 +65,4 @@ module _ {S : Type 0} (shown : S → Shown) (failures : S → ℕ) (old new : Mo
   Works result (work.Publish words files) =
       PublishesFiles shown failures old.store new.store (asked_by words) old.written new.written result × (new.unread ≡ old.unread)
   Works result work.Answer = AnswersFrom result
+  Works result (work.Serve port connections) = ServesPort port connections result

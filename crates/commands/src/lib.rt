@@ -5,6 +5,7 @@
 //! | `team-add`, `key-add`, `key-revoke` | one command of the registry, as the machine does it | [`registry`] |
 //! | `publish` | asks the machine to publish two files, and prints the line of its outcome | [`publish`] |
 //! | `answer` | answers the requests of a reader from a store, or from shelves in memory that begin with one team and its key | [`answer`], [`memory`] |
+//! | `serve` | binds a port, prints it, and answers one request on each of some connections | [`serve`] |
 //!
 //! [`work`] does what is asked of a store; [`refusal`] has the words that tell why a command was refused, and [`exit`] how a run
 //! ends: its exit status, and the line of that word. Nothing here opens a store or reads the words of a command line.
@@ -17,4 +18,5 @@ pub mod memory;
 pub mod publish;
 pub mod refusal;
 pub mod registry;
+pub mod serve;
 pub mod work;

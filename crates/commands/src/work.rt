@@ -6,6 +6,7 @@ use crate::answer::answer_from;
 use crate::publish::{Files, Words, publish};
 use crate::refusal::Refusal;
 use crate::registry::{add_key, add_team, revoke_key};
+use crate::serve::serve;
 use std::io::{Read, Write};
 use std::rt::HostRuntime;
 use world::shelves::Shelves;
@@ -36,6 +37,11 @@ pub enum Work<'a> {
     },
     /// `answer --db F`: answers the requests on the input.
     Answer,
+    /// `serve`: answers one request on each of so many connections to a port.
+    Serve {
+        port: u16,
+        connections: u32,
+    },
 }
 
 /// Does a work on a store, and tells whether it was accepted: only a publish may be told so and not be.
@@ -61,6 +67,9 @@ pub fn work_on<S: Shelves, I: Read, O: Write>(
         Work::KeyRevoke { key } => acceptance(revoke_key(shelves, key)),
         Work::Publish { words, files } => publish(rt, shelves, words, files, output),
         Work::Answer => acceptance(answer_from(rt.alloc(), shelves, input, output)),
+        Work::Serve { port, connections } => {
+            acceptance(serve(rt, shelves, *port, *connections, output))
+        }
     }
 }
 

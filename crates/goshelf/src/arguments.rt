@@ -1,5 +1,6 @@
 //! The command line: its commands, their options and their help.
 use crate::task::Task;
+use clap::builder::ValueParser;
 use clap::{Arg, ArgAction, ArgMatches, Command};
 use commands::publish::{Files, Words};
 use commands::work::Work;
@@ -17,10 +18,20 @@ struct CommandRow {
 #[derive(Clone, Copy, Drop)]
 struct OptionRow {
     name: &'static str,
-    /// What help calls its value; a flag takes none.
-    value: Option<&'static str>,
+    value: Value,
     needed: Needed,
     help: &'static str,
+}
+
+/// What an option takes, by what help calls it.
+#[derive(Clone, Copy, Drop)]
+enum Value {
+    /// Nothing: it is a flag.
+    Flag,
+    /// A text.
+    Text(&'static str),
+    /// A number from 0 to this most.
+    Number(&'static str, u64),
 }
 
 /// When an option has to be given.
@@ -37,7 +48,7 @@ enum Needed {
 }
 
 /// The commands, in the order of the help.
-static COMMANDS: [CommandRow; 6] = [
+static COMMANDS: [CommandRow; 7] = [
     CommandRow {
         name: "init",
         about: "Makes a store with the shelf common alone, in a file that has no bytes",
@@ -68,12 +79,17 @@ static COMMANDS: [CommandRow; 6] = [
         about: "Answers the HTTP requests on standard input, on standard output",
         options: &ANSWER,
     },
+    CommandRow {
+        name: "serve",
+        about: "Answers one HTTP request on each of some connections to 127.0.0.1",
+        options: &SERVE,
+    },
 ];
 
 /// The file of the store.
 const DB: OptionRow = OptionRow {
     name: "db",
-    value: Some("F"),
+    value: Value::Text("F"),
     needed: Needed::Always,
     help: "The file of the store; one that is missing or empty has the shelf common alone",
 };
@@ -84,7 +100,7 @@ const TEAM_ADD: [OptionRow; 2] = [
     DB,
     OptionRow {
         name: "team",
-        value: Some("T"),
+        value: Value::Text("T"),
         needed: Needed::Always,
         help: "The team: 1 to 32 bytes of a-z, 0-9 and -, the first a letter, not common",
     },
@@ -94,19 +110,19 @@ const KEY_ADD: [OptionRow; 4] = [
     DB,
     OptionRow {
         name: "shelf",
-        value: Some("S"),
+        value: Value::Text("S"),
         needed: Needed::Always,
         help: "The shelf that the key belongs to: a team, or common",
     },
     OptionRow {
         name: "key",
-        value: Some("K"),
+        value: Value::Text("K"),
         needed: Needed::Always,
         help: "The key: 16 to 64 bytes of a-z and 0-9, which no shelf has",
     },
     OptionRow {
         name: "read-only",
-        value: None,
+        value: Value::Flag,
         needed: Needed::Never,
         help: "The key may read, and not publish",
     },
@@ -116,7 +132,7 @@ const KEY_REVOKE: [OptionRow; 2] = [
     DB,
     OptionRow {
         name: "key",
-        value: Some("K"),
+        value: Value::Text("K"),
         needed: Needed::Always,
         help: "The key to take away; it is free again then",
     },
@@ -126,37 +142,37 @@ const PUBLISH: [OptionRow; 7] = [
     DB,
     OptionRow {
         name: "key",
-        value: Some("K"),
+        value: Value::Text("K"),
         needed: Needed::Always,
         help: "A key that may publish",
     },
     OptionRow {
         name: "module",
-        value: Some("P"),
+        value: Value::Text("P"),
         needed: Needed::Always,
         help: "The module path, as its go.mod names it",
     },
     OptionRow {
         name: "version",
-        value: Some("V"),
+        value: Value::Text("V"),
         needed: Needed::Always,
         help: "The version, as v1.0.0",
     },
     OptionRow {
         name: "mod",
-        value: Some("FILE"),
+        value: Value::Text("FILE"),
         needed: Needed::Always,
         help: "The file of the go.mod",
     },
     OptionRow {
         name: "zip",
-        value: Some("FILE"),
+        value: Value::Text("FILE"),
         needed: Needed::Always,
         help: "The file of the zip",
     },
     OptionRow {
         name: "time",
-        value: Some("T"),
+        value: Value::Text("T"),
         needed: Needed::Never,
         help: "The time of the version, as 2024-01-31T23:59:59Z",
     },
@@ -169,21 +185,37 @@ const ANSWER: [OptionRow; 4] = [
     },
     OptionRow {
         name: "mem",
-        value: None,
+        value: Value::Flag,
         needed: Needed::InsteadOf("db"),
         help: "Keep the shelves in memory, beginning with one team and its key",
     },
     OptionRow {
         name: "team",
-        value: Some("T"),
+        value: Value::Text("T"),
         needed: Needed::InsteadOf("db"),
         help: "With --mem, the team: 1 to 32 bytes of a-z, 0-9 and -, the first a letter, not common",
     },
     OptionRow {
         name: "key",
-        value: Some("K"),
+        value: Value::Text("K"),
         needed: Needed::InsteadOf("db"),
         help: "With --mem, the team's publishing key: 16 to 64 bytes of a-z and 0-9",
+    },
+];
+
+const SERVE: [OptionRow; 3] = [
+    DB,
+    OptionRow {
+        name: "port",
+        value: Value::Number("N", u16::MAX as u64),
+        needed: Needed::Always,
+        help: "The port, 0 to 65535; 0 lets the system choose, and the port is printed",
+    },
+    OptionRow {
+        name: "connections",
+        value: Value::Number("M", u32::MAX as u64),
+        needed: Needed::Never,
+        help: "How many connections to serve, one after another, 0 to 4294967295, which it is without this; one that fails counts",
     },
 ];
 
@@ -237,8 +269,11 @@ fn argument<'a>(alloc: Global, row: &OptionRow) -> Result<Arg<'a>, AllocError> {
 fn option<'a>(alloc: Global, row: &OptionRow) -> Arg<'a> {
     let option = Arg::new(alloc, row.name).long(row.name).help(row.help);
     match row.value {
-        Some(value) => option.value_name(value),
-        None => option.action(ArgAction::SetTrue),
+        Value::Flag => option.action(ArgAction::SetTrue),
+        Value::Text(name) => option.value_name(name),
+        Value::Number(name, most) => option
+            .value_name(name)
+            .value_parser(ValueParser::unsigned(0, most)),
     }
 }
 
@@ -286,6 +321,10 @@ fn work_of<'a>(name: &str, matches: &ArgMatches<'a>) -> Option<Work<'a>> {
             key: text(matches, "key"),
         }),
         "publish" => Some(publish_of(matches)),
+        "serve" => Some(Work::Serve {
+            port: matches.get_one("port").unwrap_or(0),
+            connections: matches.get_one("connections").unwrap_or(u32::MAX),
+        }),
         _ => None,
     }
 }

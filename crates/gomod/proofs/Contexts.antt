@@ -1,15 +1,17 @@
 -- What stands above a line, by its directives.
-use Rattle.std.proofs.Common.{◌≡◌, ℕ, ◌<◌, ◌≤◌, Bool, true, false, not, ◌&&◌, ◌||◌, List, [], ◌∷◌, ◌++◌, map, filter, length, refl, ap, sym, ◌∙◌, arith, Option, Some, None}
+use Rattle.std.proofs.Common.{◌≡◌, ℕ, ◌<◌, ◌≤◌, Bool, true, false, not, ◌&&◌, ◌||◌, cond, List, [], ◌∷◌, ◌++◌, map, filter, length, refl, ap, sym, ◌∙◌, arith, append-nil, Option, Some, None}
 use Rattle.std.specs.List.{list_any}
+use Rattle.std.proofs.lemmas.Bool.{and_parts}
 use Rattle.std.proofs.lemmas.List.Folds.{list_any-append}
 use Rattle.gomod.specs.declared.keyword.Keyword.{Keyword}
-use Rattle.gomod.specs.declared.keyword.Keyword.TheVariants.{Module, Go, Require, Exclude, Replace, Retract}
-use Rattle.gomod.specs.Keywords.{Keywords, is_module, is_go, has_block}
-use Rattle.gomod.specs.Reading.{Context, has_stood, with_entry}
+use Rattle.gomod.specs.declared.keyword.Keyword.TheVariants.{Module, Go, Toolchain, Require, Exclude, Replace, Retract, Tool, Godebug, Ignore}
+use Rattle.gomod.specs.Keywords.{Keywords, is_module, has_block}
+use Rattle.gomod.specs.Reading.{Context, has_stood, stood_with, with_entry}
 use Rattle.gomod.specs.Grammar.{Row, Directive, OpenBlock, keyword_of, is_keyword, is_single, AreWritten}
 use Rattle.gomod.specs.Faults.{HasRoom, IsFilled}
 use Rattle.gomod.proofs.Lists.{map-join, filter-join, none-any, length-join}
 use Rattle.gomod.proofs.Moves.{IsFresh, closed, with_row}
+use Rattle.gomod.proofs.Written.{same_keyword}
 
 -- whether a directive of the keyword stands above
 abbrev pub stands : Keyword → List Directive → Bool
@@ -19,59 +21,29 @@ abbrev pub has_entry : List Row → Bool
 has_entry [] = false
 has_entry (r ∷ rs) = true
 
+-- the keywords of the directives without blocks
+abbrev pub has_no_block : Keyword → Bool
+has_no_block k = not (has_block k)
+
+abbrev pub stood_in : List Directive → List Keyword
+stood_in ds = filter has_no_block (map keyword_of ds)
+
 -- the context behind directives and an open block
 abbrev pub context_at : List Directive → Option OpenBlock → Context
-context_at ds None = record { block = None; has_module = stands Module ds; has_go = stands Go ds }
-context_at ds (Some b) = record { block = Some b.keyword; has_module = stands Module ds || (is_module b.keyword && has_entry b.entries); has_go = stands Go ds }
+context_at ds None = record { block = None; has_module = stands Module ds; stood = stood_in ds }
+context_at ds (Some b) = record { block = Some b.keyword; has_module = stands Module ds || (is_module b.keyword && has_entry b.entries); stood = stood_in ds }
 
 pub module_same : (k : Keyword) → is_keyword Module k ≡ is_module k
 module_same Module = refl
 module_same Go = refl
+module_same Toolchain = refl
 module_same Require = refl
 module_same Exclude = refl
 module_same Replace = refl
 module_same Retract = refl
-
-pub go_same : (k : Keyword) → is_keyword Go k ≡ is_go k
-go_same Module = refl
-go_same Go = refl
-go_same Require = refl
-go_same Exclude = refl
-go_same Replace = refl
-go_same Retract = refl
-
-pub block_no_go : (k : Keyword) → has_block k ≡ true → is_go k ≡ false
-block_no_go Module h = refl
-block_no_go Go h = cc
-block_no_go Require h = refl
-block_no_go Exclude h = refl
-block_no_go Replace h = refl
-block_no_go Retract h = refl
-
--- a keyword that may stand once and does not stand above
-pub fresh-stood : (ds : List Directive) (k : Keyword) → IsFresh ds k → has_stood (context_at ds None) k ≡ false
-fresh-stood ds Module h = h refl
-fresh-stood ds Go h = h refl
-fresh-stood ds Require h = refl
-fresh-stood ds Exclude h = refl
-fresh-stood ds Replace h = refl
-fresh-stood ds Retract h = refl
-
-pub stood-fresh : (ds : List Directive) (k : Keyword) → has_stood (context_at ds None) k ≡ false → IsFresh ds k
-stood-fresh ds Module h = λ only. h
-stood-fresh ds Go h = λ only. h
-stood-fresh ds Require h = λ only. cc
-stood-fresh ds Exclude h = λ only. cc
-stood-fresh ds Replace h = λ only. cc
-stood-fresh ds Retract h = λ only. cc
-
-pub stood-repeated : (ds : List Directive) (k : Keyword) → has_stood (context_at ds None) k ≡ true → (is_single k ≡ true) × (stands k ds ≡ true)
-stood-repeated ds Module h = (refl, h)
-stood-repeated ds Go h = (refl, h)
-stood-repeated ds Require h = cc
-stood-repeated ds Exclude h = cc
-stood-repeated ds Replace h = cc
-stood-repeated ds Retract h = cc
+module_same Tool = refl
+module_same Godebug = refl
+module_same Ignore = refl
 
 or_none : (a : Bool) → (a || false) ≡ a
 or_none true = refl
@@ -85,25 +57,83 @@ and_one : (a : Bool) → (a && true) ≡ a
 and_one true = refl
 and_one false = refl
 
+-- a keyword that stands among those without blocks stands, and has no block
+any_part : (b c w x : Bool) → (b ≡ true → w ≡ c) → cond c (b || (w && x)) (w && x) ≡ (w && (b || x))
+any_part true true w x h = let is = h refl in rw is refl
+any_part true false w x h = let is = h refl in rw is refl
+any_part false true w x h = refl
+any_part false false w x h = refl
+
+any_cond : (k j : Keyword) (js : List Keyword) (c : Bool) → list_any (is_keyword k) (cond c (j ∷ js) js) ≡ cond c (is_keyword k j || list_any (is_keyword k) js) (list_any (is_keyword k) js)
+any_cond k j js true = refl
+any_cond k j js false = refl
+
+any_without : (k : Keyword) (ks : List Keyword) → list_any (is_keyword k) (filter has_no_block ks) ≡ (has_no_block k && list_any (is_keyword k) ks)
+any_without k [] = sym (and_none (has_no_block k))
+any_without k (j ∷ js) =
+    any_cond k j (filter has_no_block js) (has_no_block j)
+    ∙ ap (λ x. cond (has_no_block j) (is_keyword k j || x) x) (any_without k js)
+    ∙ any_part (is_keyword k j) (has_no_block j) (has_no_block k) (list_any (is_keyword k) js) (λ same. ap has_no_block (same_keyword k j same))
+
+-- a directive has stood if it may stand once and stands above
+pub stood_is : (ds : List Directive) (k : Keyword) → has_stood (context_at ds None) k ≡ (is_single k && stands k ds)
+stood_is ds Module = refl
+stood_is ds Go = any_without Go (map keyword_of ds)
+stood_is ds Toolchain = any_without Toolchain (map keyword_of ds)
+stood_is ds Require = any_without Require (map keyword_of ds)
+stood_is ds Exclude = any_without Exclude (map keyword_of ds)
+stood_is ds Replace = any_without Replace (map keyword_of ds)
+stood_is ds Retract = any_without Retract (map keyword_of ds)
+stood_is ds Tool = any_without Tool (map keyword_of ds)
+stood_is ds Godebug = any_without Godebug (map keyword_of ds)
+stood_is ds Ignore = any_without Ignore (map keyword_of ds)
+
+-- a keyword that may stand once and does not stand above
+pub fresh-stood : (ds : List Directive) (k : Keyword) → IsFresh ds k → has_stood (context_at ds None) k ≡ false
+fresh-stood ds k h = stood_is ds k ∙ not_both (is_single k) (stands k ds) h
+  where
+    not_both : (a b : Bool) → (a ≡ true → b ≡ false) → (a && b) ≡ false
+    not_both true b e = e refl
+    not_both false b e = refl
+
+pub stood-fresh : (ds : List Directive) (k : Keyword) → has_stood (context_at ds None) k ≡ false → IsFresh ds k
+stood-fresh ds k h only = sym (ap (λ b. b && stands k ds) only) ∙ sym (stood_is ds k) ∙ h
+
+pub stood-repeated : (ds : List Directive) (k : Keyword) → has_stood (context_at ds None) k ≡ true → (is_single k ≡ true) × (stands k ds ≡ true)
+stood-repeated ds k h = and_parts (is_single k) (stands k ds) (sym (stood_is ds k) ∙ h)
+
 pub stands-more : (j : Keyword) (ds : List Directive) (d : Directive) → stands j (ds ++ d ∷ []) ≡ (stands j ds || is_keyword j (keyword_of d))
 stands-more j ds d =
     ap (list_any (is_keyword j)) (map-join keyword_of ds (d ∷ [])) ∙ list_any-append (is_keyword j) (map keyword_of ds) (keyword_of d ∷ [])
     ∙ ap (λ b. stands j ds || b) (or_none (is_keyword j (keyword_of d)))
+
+with_by : (b : Bool) (ks : List Keyword) (k : Keyword) → ks ++ cond (not b) (k ∷ []) [] ≡ cond b ks (ks ++ k ∷ [])
+with_by true ks k = append-nil ks
+with_by false ks k = refl
+
+stood_in-more : (ds : List Directive) (d : Directive) → stood_in (ds ++ d ∷ []) ≡ stood_with (stood_in ds) (keyword_of d)
+stood_in-more ds d =
+    ap (filter has_no_block) (map-join keyword_of ds (d ∷ []))
+    ∙ filter-join has_no_block (map keyword_of ds) (keyword_of d ∷ [])
+    ∙ with_by (has_block (keyword_of d)) (stood_in ds) (keyword_of d)
+
+stood_same : (ks : List Keyword) (k : Keyword) → has_block k ≡ true → stood_with ks k ≡ ks
+stood_same ks k h = ap (λ b. cond b ks (ks ++ k ∷ [])) h
 
 -- a directive on one line
 pub context-single : (ds : List Directive) (k : Keyword) (d : Directive) → keyword_of d ≡ k → with_entry (context_at ds None) k ≡ context_at (ds ++ d ∷ []) None
 context-single ds k d is = λ i. record {
   block = None;
   has_module = (ap (λ b. stands Module ds || b) (sym (module_same k) ∙ ap (is_keyword Module) (sym is)) ∙ sym (stands-more Module ds d)) i;
-  has_go = (ap (λ b. stands Go ds || b) (sym (go_same k) ∙ ap (is_keyword Go) (sym is)) ∙ sym (stands-more Go ds d)) i;
+  stood = (ap (stood_with (stood_in ds)) (sym is) ∙ sym (stood_in-more ds d)) i;
 }
 
 -- a block begins
-pub context-begins : (ds : List Directive) (k : Keyword) (line : ℕ) → ◌≡◌ {A = Context} (record { block = Some k; has_module = stands Module ds; has_go = stands Go ds }) (context_at ds (Some (record { keyword = k; first = line; entries = [] })))
+pub context-begins : (ds : List Directive) (k : Keyword) (line : ℕ) → ◌≡◌ {A = Context} (record { block = Some k; has_module = stands Module ds; stood = stood_in ds }) (context_at ds (Some (record { keyword = k; first = line; entries = [] })))
 context-begins ds k line = λ i. record {
   block = Some k;
   has_module = (sym (or_none (stands Module ds)) ∙ ap (λ b. stands Module ds || b) (sym (and_none (is_module k)))) i;
-  has_go = stands Go ds;
+  stood = stood_in ds;
 }
 
 some_entry : (rs : List Row) (r : Row) → has_entry (rs ++ r ∷ []) ≡ true
@@ -121,7 +151,7 @@ pub context-inside : (ds : List Directive) (b : OpenBlock) (r : Row) → has_blo
 context-inside ds b r h = λ i. record {
   block = Some b.keyword;
   has_module = (absorbs (stands Module ds) (is_module b.keyword) (has_entry b.entries) ∙ ap (λ x. stands Module ds || x) (sym (and_one (is_module b.keyword)) ∙ ap (λ x. is_module b.keyword && x) (sym (some_entry b.entries r)))) i;
-  has_go = (ap (λ x. stands Go ds || x) (block_no_go b.keyword h) ∙ or_none (stands Go ds)) i;
+  stood = stood_same (stood_in ds) b.keyword h i;
 }
 
 filled_entry : (m : Bool) (rs : List Row) → (m ≡ true → 0 < length rs) → (m && has_entry rs) ≡ m
@@ -130,11 +160,11 @@ filled_entry true (r ∷ rs) h = refl
 filled_entry false rs h = refl
 
 -- a block ends
-pub context-closes : (ds : List Directive) (b : OpenBlock) (line : ℕ) → has_block b.keyword ≡ true → IsFilled b → ◌≡◌ {A = Context} (record { block = None; has_module = (context_at ds (Some b)).has_module; has_go = stands Go ds }) (context_at (ds ++ closed b line ∷ []) None)
+pub context-closes : (ds : List Directive) (b : OpenBlock) (line : ℕ) → has_block b.keyword ≡ true → IsFilled b → ◌≡◌ {A = Context} (record { block = None; has_module = (context_at ds (Some b)).has_module; stood = stood_in ds }) (context_at (ds ++ closed b line ∷ []) None)
 context-closes ds b line h filled = λ i. record {
   block = None;
   has_module = (ap (λ x. stands Module ds || x) (filled_entry (is_module b.keyword) b.entries filled ∙ sym (module_same b.keyword)) ∙ sym (stands-more Module ds (closed b line))) i;
-  has_go = (sym (or_none (stands Go ds)) ∙ ap (λ x. stands Go ds || x) (sym (block_no_go b.keyword h) ∙ sym (go_same b.keyword)) ∙ sym (stands-more Go ds (closed b line))) i;
+  stood = (sym (stood_same (stood_in ds) b.keyword h) ∙ sym (stood_in-more ds (closed b line))) i;
 }
 
 -- where a block of module is open, no other module stands above

@@ -2,7 +2,7 @@
 use Rattle.std.proofs.Common.{◌≡◌, ℕ, Bool, true, false, not, cond, List, [], ◌∷◌, ◌++◌, refl, ap, sym, ◌∙◌, Option, Some, None, Result, Ok, Err}
 use Rattle.std.specs.Option.{is_some}
 use Rattle.gomod.specs.declared.keyword.Keyword.{Keyword}
-use Rattle.gomod.specs.declared.keyword.Keyword.TheVariants.{Module, Go, Require, Exclude, Replace, Retract}
+use Rattle.gomod.specs.declared.keyword.Keyword.TheVariants.{Module, Go, Toolchain, Require, Exclude, Replace, Retract, Tool, Godebug, Ignore}
 use Rattle.gomod.specs.declared.fault.GoModFault.{GoModFault}
 use Rattle.gomod.specs.declared.fault.GoModFault.TheVariants as faults
 use Rattle.gomod.specs.declared.entries.Retraction.{Retraction}
@@ -10,11 +10,11 @@ use Rattle.gomod.specs.Paths.{Version, is_path, is_loose_path, version_of, fits_
 use Rattle.gomod.specs.GoVersion.{is_go_version, is_file_path}
 use Rattle.modlex.specs.Symbols.{Symbol}
 use Rattle.modlex.specs.Words.{value_of}
-use Rattle.gomod.specs.Reading.{◌>>=◌, version_found, path_word, version_word, fitting_word, pair, old_path, old_version, new_file, new_version, module_entry, go_entry, pair_entry, replace_entry, replace_three, replace_four, replace_five, interval, retract_entry, entry}
+use Rattle.gomod.specs.Reading.{◌>>=◌, version_found, path_word, version_word, fitting_word, pair, old_path, old_version, new_file, new_version, module_entry, go_entry, word_entry, pair_entry, replace_entry, replace_three, replace_four, replace_five, interval, retract_entry, entry}
 use Rattle.gomod.specs.Entries.{Demand, fault_of, old_demands, old_version_demands, new_file_demands, new_version_demands}
 use Rattle.gomod.specs.Entries as asks
 use Rattle.gomod.proofs.Demands.{meets, fits_some, not_above, check, outcome}
-use Rattle.gomod.proofs.Shapes.{when, demands_of}
+use Rattle.gomod.proofs.Shapes.{when, any_demands, demands_of}
 
 -- whether a step fails, and how
 abbrev pub success : {A : Type 0} → Result A GoModFault → Result (Unit {0}) GoModFault
@@ -153,6 +153,11 @@ unfolding go_entry
 go_success line (w ∷ []) = outcome_when line _ _ _ (success-cond (is_go_version (value_of w)) _ _)
 go_success line _ = refl
 
+word_success : (line : ℕ) (ts : List Symbol) → success (word_entry line ts) ≡ outcome line (any_demands ts)
+unfolding word_entry
+word_success line (w ∷ []) = outcome_when line _ _ _ refl
+word_success line _ = refl
+
 retract_success : (line : ℕ) (ts : List Symbol) → success (retract_entry line ts) ≡ outcome line (demands_of Retract ts)
 unfolding retract_entry
 retract_success line (v ∷ []) = outcome_when line _ _ _ (success-keeps (version_word line v) _ ∙ version_success line v)
@@ -165,7 +170,11 @@ pub entry_success : (line : ℕ) (k : Keyword) (ts : List Symbol) → success (e
 unfolding entry
 entry_success line Module ts = success-keeps (module_entry line ts) _ ∙ module_success line ts
 entry_success line Go ts = success-keeps (go_entry line ts) _ ∙ go_success line ts
+entry_success line Toolchain ts = success-keeps (word_entry line ts) _ ∙ word_success line ts
 entry_success line Require ts = success-keeps (pair_entry line ts) _ ∙ pair_entry_success line ts
 entry_success line Exclude ts = success-keeps (pair_entry line ts) _ ∙ pair_entry_success line ts ∙ ap (outcome line) (exclude_same ts)
 entry_success line Replace ts = success-keeps (replace_entry line ts) _ ∙ replace_success line ts
 entry_success line Retract ts = success-keeps (retract_entry line ts) _ ∙ retract_success line ts
+entry_success line Tool ts = success-keeps (word_entry line ts) _ ∙ word_success line ts
+entry_success line Godebug ts = success-keeps (word_entry line ts) _ ∙ word_success line ts
+entry_success line Ignore ts = success-keeps (word_entry line ts) _ ∙ word_success line ts

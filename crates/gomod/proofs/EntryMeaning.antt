@@ -1,7 +1,7 @@
 -- What is computed of an entry is what its words stand for.
 use Rattle.std.proofs.Common.{◌≡◌, ℕ, Bool, true, ◌&&◌, cond, List, [], ◌∷◌, refl, ap, sym, ◌∙◌, subst, Option, Some, None, Ok, Err, inl, inr, ⊎_elim}
 use Rattle.gomod.specs.declared.keyword.Keyword.{Keyword}
-use Rattle.gomod.specs.declared.keyword.Keyword.TheVariants.{Module, Go, Require, Exclude, Replace, Retract}
+use Rattle.gomod.specs.declared.keyword.Keyword.TheVariants.{Module, Go, Toolchain, Require, Exclude, Replace, Retract, Tool, Godebug, Ignore}
 use Rattle.gomod.specs.declared.fault.GoModFault.TheVariants as faults
 use Rattle.gomod.specs.declared.entries.Requirement.{Requirement}
 use Rattle.gomod.specs.declared.entries.Retraction.{Retraction}
@@ -9,7 +9,7 @@ use Rattle.gomod.specs.Paths.{Version, is_path, is_loose_path, version_of, fits_
 use Rattle.modlex.specs.Symbols.{Symbol, is_word}
 use Rattle.modlex.specs.Words.{value_of}
 use Rattle.gomod.specs.Module.{interval_of}
-use Rattle.gomod.specs.Reading.{Parts, nothing, ◌>>=◌, version_found, path_word, version_word, fitting_word, pair, module_entry, go_entry, pair_entry, replace_entry, interval, retract_entry, are_interval_kinds, entry}
+use Rattle.gomod.specs.Reading.{Parts, nothing, ◌>>=◌, version_found, path_word, version_word, fitting_word, pair, module_entry, go_entry, word_entry, pair_entry, replace_entry, interval, retract_entry, are_interval_kinds, entry}
 use Rattle.gomod.specs.Entries.{IsModuleEntry, IsPair, IsSpan}
 use Rattle.gomod.specs.Grammar.{Row, row, Item, item, entries_under}
 use Rattle.gomod.specs.Reads.{Pointwise}
@@ -105,6 +105,9 @@ entry_means line Module ts q h =
 entry_means line Go ts q h =
     let b = bound (go_entry line ts) (λ o. Ok nothing) q h in
     subst (Entry line Go ts) (ok_same _ q b.2) (record { paths = tt; required = tt; retractions = tt }, refl)
+entry_means line Toolchain ts q h =
+    let b = bound (word_entry line ts) (λ o. Ok nothing) q h in
+    subst (Entry line Toolchain ts) (ok_same _ q b.2) (record { paths = tt; required = tt; retractions = tt }, refl)
 entry_means line Require ts q h =
     let b = bound (pair_entry line ts) (λ r. Ok (record { module_path = None; required = r ∷ []; retractions = []; bare = true })) q h in
     subst (Entry line Require ts) (ok_same _ q b.2) (record { paths = tt; required = (pair_entry_means line ts b.0 b.1, tt); retractions = tt }, refl)
@@ -117,3 +120,12 @@ entry_means line Replace ts q h =
 entry_means line Retract ts q h =
     let b = bound (retract_entry line ts) (λ r. Ok (record { module_path = None; required = []; retractions = r ∷ []; bare = true })) q h in
     subst (Entry line Retract ts) (ok_same _ q b.2) (record { paths = tt; required = tt; retractions = (retract_means line ts b.0 b.1, tt) }, refl)
+entry_means line Tool ts q h =
+    let b = bound (word_entry line ts) (λ o. Ok nothing) q h in
+    subst (Entry line Tool ts) (ok_same _ q b.2) (record { paths = tt; required = tt; retractions = tt }, refl)
+entry_means line Godebug ts q h =
+    let b = bound (word_entry line ts) (λ o. Ok nothing) q h in
+    subst (Entry line Godebug ts) (ok_same _ q b.2) (record { paths = tt; required = tt; retractions = tt }, refl)
+entry_means line Ignore ts q h =
+    let b = bound (word_entry line ts) (λ o. Ok nothing) q h in
+    subst (Entry line Ignore ts) (ok_same _ q b.2) (record { paths = tt; required = tt; retractions = tt }, refl)

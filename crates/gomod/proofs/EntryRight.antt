@@ -10,7 +10,7 @@ use Rattle.gomod.specs.declared.fault.GoModFault.TheVariants as faults
 use Rattle.modlex.specs.Symbols.{Symbol, is_word_kind}
 use Rattle.gomod.specs.Keywords.{opens_block_kind, closes_block_kind, Keywords, keyword_named, spelling}
 use Rattle.gomod.specs.Reading.{Parts, entry, is_opening, is_closing}
-use Rattle.gomod.specs.Entries.{Demand, HasShape, IsRight, FailsFirst, fault_of, module_shape, go_shape, require_shape, exclude_shape, path_by_file, path_by_version, version_by_file, version_by_version, retract_version, retract_interval}
+use Rattle.gomod.specs.Entries.{Demand, HasShape, IsRight, FailsFirst, fault_of, module_shape, word_shape, go_shape, require_shape, exclude_shape, path_by_file, path_by_version, version_by_file, version_by_version, retract_version, retract_interval}
 use Rattle.gomod.proofs.Demands.{check-met, check-all, check-fails, outcome}
 use Rattle.gomod.proofs.Shapes.{demands_of, demands-from_shape, shape-from_demands}
 use Rattle.gomod.proofs.EntryLaw.{success, entry_success}
@@ -73,6 +73,7 @@ word_kind_closes kinds.BracketRight h = refl
 
 pub shape_no_opening : (k : Keyword) (ts : List Symbol) (ds : List Demand) → HasShape k ts ds → is_opening ts ≡ false
 shape_no_opening _ _ _ (module_shape w hw) = word_kind_opens w.kind hw
+shape_no_opening _ _ _ (word_shape k w hk hw) = word_kind_opens w.kind hw
 shape_no_opening _ _ _ (go_shape w hw) = word_kind_opens w.kind hw
 shape_no_opening _ _ _ (require_shape p v hp hv) = refl
 shape_no_opening _ _ _ (exclude_shape p v hp hv) = refl
@@ -85,6 +86,7 @@ shape_no_opening _ _ _ (retract_interval l v c w r hl hv hc hw hr) = refl
 
 pub shape_no_closing : (k : Keyword) (ts : List Symbol) (ds : List Demand) → HasShape k ts ds → is_closing ts ≡ false
 shape_no_closing _ _ _ (module_shape w hw) = word_kind_closes w.kind hw
+shape_no_closing _ _ _ (word_shape k w hk hw) = word_kind_closes w.kind hw
 shape_no_closing _ _ _ (go_shape w hw) = word_kind_closes w.kind hw
 shape_no_closing _ _ _ (require_shape p v hp hv) = refl
 shape_no_closing _ _ _ (exclude_shape p v hp hv) = refl

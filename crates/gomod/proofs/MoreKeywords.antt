@@ -1,8 +1,9 @@
 -- What is read with some keywords is read the same with more.
-use Rattle.std.proofs.Common.{ℕ, List, [], ◌∷◌}
+use Rattle.std.proofs.Common.{ℕ, List, [], ◌∷◌, refl}
 use Rattle.std.specs.List.{AllByRecursion}
 use Rattle.gomod.specs.declared.keyword.Keyword.{Keyword}
-use Rattle.gomod.specs.Keywords.{Keywords}
+use Rattle.gomod.specs.declared.keyword.Keyword.TheVariants.{Module, Go, Require, Exclude, Replace, Retract}
+use Rattle.gomod.specs.Keywords.{Keywords, keyword_named, profile_1, profile_2}
 use Rattle.gomod.specs.Module.{GoModule}
 use Rattle.gomod.specs.Grammar.{IsKnown}
 use Rattle.gomod.specs.Reads.{Reads}
@@ -32,3 +33,14 @@ reads_more known more bytes m within r = record {
   fitting = r.fitting;
   bare = r.bare;
 }
+
+-- the second profile has each keyword of the first
+pub profile_1-within : IsWithin profile_1 profile_2
+unfolding keyword_named
+profile_1-within Module h = refl
+profile_1-within Go h = refl
+profile_1-within Require h = refl
+profile_1-within Exclude h = refl
+profile_1-within Replace h = refl
+profile_1-within Retract h = refl
+profile_1-within _ h = cc

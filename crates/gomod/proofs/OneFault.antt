@@ -3,7 +3,7 @@ use Rattle.std.proofs.Common.{◌≡◌, ℕ, true, List, [], ◌∷◌, refl, a
 use Rattle.std.specs.List.{AllByRecursion}
 use Rattle.std.proofs.lemmas.Bool.{both_ways}
 use Rattle.gomod.specs.declared.keyword.Keyword.{Keyword}
-use Rattle.gomod.specs.declared.keyword.Keyword.TheVariants.{Module, Go, Require, Exclude, Replace, Retract}
+use Rattle.gomod.specs.declared.keyword.Keyword.TheVariants.{Module, Go, Toolchain, Require, Exclude, Replace, Retract, Tool, Godebug, Ignore}
 use Rattle.gomod.specs.declared.fault.GoModFault.{GoModFault}
 use Rattle.gomod.specs.declared.fault.GoModFault.TheVariants as faults
 use Rattle.modlex.specs.Symbols.{Symbol}
@@ -90,10 +90,14 @@ no_fault known ds o line ts f no_unknown no_twice allowed met h =
 empty_shape : (k : Keyword) (ds : List Demand) → ¬ HasShape k [] ds
 empty_shape Module ds h = let e = demands-from_shape Module [] ds h in cc
 empty_shape Go ds h = let e = demands-from_shape Go [] ds h in cc
+empty_shape Toolchain ds h = let e = demands-from_shape Toolchain [] ds h in cc
 empty_shape Require ds h = let e = demands-from_shape Require [] ds h in cc
 empty_shape Exclude ds h = let e = demands-from_shape Exclude [] ds h in cc
 empty_shape Replace ds h = let e = demands-from_shape Replace [] ds h in cc
 empty_shape Retract ds h = let e = demands-from_shape Retract [] ds h in cc
+empty_shape Tool ds h = let e = demands-from_shape Tool [] ds h in cc
+empty_shape Godebug ds h = let e = demands-from_shape Godebug [] ds h in cc
+empty_shape Ignore ds h = let e = demands-from_shape Ignore [] ds h in cc
 
 right_met : (k : Keyword) (ts : List Symbol) → IsRight k ts → (ds : List Demand) → HasShape k ts ds → AllByRecursion IsMet ds
 right_met k ts h ds shape = subst (AllByRecursion IsMet) (shape_same k ts h.0 ds h.1 shape) h.2

@@ -1,22 +1,29 @@
 -- The shapes of entries, computed.
-use Rattle.std.proofs.Common.{◌≡◌, Bool, true, false, ◌&&◌, cond, List, [], ◌∷◌, ◌++◌, refl, ap, subst, Option, Some, None, ⊎_elim}
+use Rattle.std.proofs.Common.{◌≡◌, Bool, true, false, ◌&&◌, cond, List, [], ◌∷◌, ◌++◌, refl, ap, ◌∙◌, subst, Option, Some, None, ⊎_elim}
 use Rattle.std.proofs.lemmas.Bool.{and_parts}
 use Rattle.modlex.specs.declared.lexer.Kind.{Kind}
 use Rattle.modlex.specs.declared.lexer.Kind.TheVariants as kinds
 use Rattle.gomod.specs.declared.keyword.Keyword.{Keyword}
-use Rattle.gomod.specs.declared.keyword.Keyword.TheVariants.{Module, Go, Require, Exclude, Replace, Retract}
+use Rattle.gomod.specs.declared.keyword.Keyword.TheVariants.{Module, Go, Toolchain, Require, Exclude, Replace, Retract, Tool, Godebug, Ignore}
 use Rattle.modlex.specs.Symbols.{Symbol, is_word, is_arrow_kind, is_word_kind}
+use Rattle.gomod.specs.Keywords.{takes_any_word}
 use Rattle.modlex.specs.Words.{value_of}
 use Rattle.gomod.specs.Reading.{are_interval_kinds}
-use Rattle.gomod.specs.Entries.{Demand, module_path, go_version, version, interval, old_demands, old_version_demands, new_file_demands, new_version_demands, HasShape, module_shape, go_shape, require_shape, exclude_shape, path_by_file, path_by_version, version_by_file, version_by_version, retract_version, retract_interval}
+use Rattle.gomod.specs.Entries.{Demand, module_path, go_version, version, interval, old_demands, old_version_demands, new_file_demands, new_version_demands, HasShape, module_shape, word_shape, go_shape, require_shape, exclude_shape, path_by_file, path_by_version, version_by_file, version_by_version, retract_version, retract_interval}
 use Rattle.modlex.proofs.TokenSound.{chosen}
 
 abbrev pub when : Bool → List Demand → Option (List Demand)
 when b ds = cond b (Some ds) None
 
+-- one word, which may be any word
+abbrev pub any_demands : List Symbol → Option (List Demand)
+any_demands (w ∷ []) = when (is_word w) []
+any_demands _ = None
+
 abbrev pub demands_of : Keyword → List Symbol → Option (List Demand)
 demands_of Module (w ∷ []) = when (is_word w) (module_path (value_of w) ∷ [])
 demands_of Go (w ∷ []) = when (is_word w) (go_version (value_of w) ∷ [])
+demands_of Toolchain ts = any_demands ts
 demands_of Require (p ∷ v ∷ []) = when (is_word p && is_word v) (old_version_demands p v)
 demands_of Exclude (p ∷ v ∷ []) = when (is_word p && is_word v) (old_version_demands p v)
 demands_of Replace (p ∷ a ∷ f ∷ []) = when (is_word p && is_arrow_kind a.kind && is_word f) (old_demands p ++ new_file_demands f)
@@ -28,6 +35,9 @@ demands_of Replace (p ∷ v ∷ a ∷ q ∷ w ∷ []) =
 demands_of Retract (v ∷ []) = when (is_word v) (version (value_of v) ∷ [])
 demands_of Retract (l ∷ v ∷ c ∷ w ∷ r ∷ []) =
     when (are_interval_kinds l.kind v.kind c.kind w.kind r.kind) (version (value_of v) ∷ version (value_of w) ∷ interval (value_of v) (value_of w) ∷ [])
+demands_of Tool ts = any_demands ts
+demands_of Godebug ts = any_demands ts
+demands_of Ignore ts = any_demands ts
 demands_of _ _ = None
 
 when_some : (b : Bool) (ds es : List Demand) → when b ds ≡ Some es → (b ≡ true) × (ds ≡ es)
@@ -63,8 +73,16 @@ word_no_arrow kinds.ParenRight h = refl
 word_no_arrow kinds.BracketLeft h = refl
 word_no_arrow kinds.BracketRight h = refl
 
+demands_any : (k : Keyword) (ts : List Symbol) → takes_any_word k ≡ true → demands_of k ts ≡ any_demands ts
+demands_any Toolchain ts h = refl
+demands_any Tool ts h = refl
+demands_any Godebug ts h = refl
+demands_any Ignore ts h = refl
+demands_any _ ts h = cc
+
 pub demands-from_shape : (k : Keyword) (ts : List Symbol) (ds : List Demand) → HasShape k ts ds → demands_of k ts ≡ Some ds
 demands-from_shape _ _ _ (module_shape w hw) = rw hw refl
+demands-from_shape _ _ _ (word_shape k w hk hw) = demands_any k (w ∷ []) hk ∙ ap (λ b. when b []) hw
 demands-from_shape _ _ _ (go_shape w hw) = rw hw refl
 demands-from_shape _ _ _ (require_shape p v hp hv) = rw (hp, hv) refl
 demands-from_shape _ _ _ (exclude_shape p v hp hv) = rw (hp, hv) refl
@@ -101,9 +119,14 @@ interval_kinds kinds.BracketLeft v kinds.Comma w kinds.BracketRight h =
     let both = and_parts _ _ h in record { left = refl; low = both.0; comma = refl; high = both.1; right = refl }
 interval_kinds _ v _ w _ h = cc
 
+any_from : (k : Keyword) (ts : List Symbol) (ds : List Demand) → takes_any_word k ≡ true → any_demands ts ≡ Some ds → HasShape k ts ds
+any_from k (w ∷ []) ds is h = let x = when_some _ _ ds h in shape_as k (w ∷ []) _ ds x.1 (word_shape k w is x.0)
+any_from k _ ds is h = cc
+
 pub shape-from_demands : (k : Keyword) (ts : List Symbol) (ds : List Demand) → demands_of k ts ≡ Some ds → HasShape k ts ds
 shape-from_demands Module (w ∷ []) ds h = let x = when_some _ _ ds h in shape_as Module (w ∷ []) _ ds x.1 (module_shape w x.0)
 shape-from_demands Go (w ∷ []) ds h = let x = when_some _ _ ds h in shape_as Go (w ∷ []) _ ds x.1 (go_shape w x.0)
+shape-from_demands Toolchain ts ds h = any_from Toolchain ts ds refl h
 shape-from_demands Require (p ∷ v ∷ []) ds h =
     let x = when_some _ _ ds h in let b = and_parts _ _ x.0 in shape_as Require (p ∷ v ∷ []) _ ds x.1 (require_shape p v b.0 b.1)
 shape-from_demands Exclude (p ∷ v ∷ []) ds h =
@@ -125,4 +148,7 @@ shape-from_demands Retract (v ∷ []) ds h = let x = when_some _ _ ds h in shape
 shape-from_demands Retract (l ∷ v ∷ c ∷ w ∷ r ∷ []) ds h =
     let x = when_some _ _ ds h in let k = interval_kinds _ _ _ _ _ x.0 in
     shape_as Retract (l ∷ v ∷ c ∷ w ∷ r ∷ []) _ ds x.1 (retract_interval l v c w r k.left k.low k.comma k.high k.right)
+shape-from_demands Tool ts ds h = any_from Tool ts ds refl h
+shape-from_demands Godebug ts ds h = any_from Godebug ts ds refl h
+shape-from_demands Ignore ts ds h = any_from Ignore ts ds refl h
 shape-from_demands _ _ ds h = cc

@@ -2,7 +2,7 @@
 use Rattle.std.proofs.Common.{◌≡◌, ◌≤◌, Bool, true, false, List, [], ◌∷◌, ◌++◌, map, filter, length, refl, ap, sym, ◌∙◌, subst, arith, append-nil, Option}
 use Rattle.std.specs.List.{AllByRecursion, list_any}
 use Rattle.gomod.specs.declared.keyword.Keyword.{Keyword}
-use Rattle.gomod.specs.declared.keyword.Keyword.TheVariants.{Module, Go, Require, Exclude, Replace, Retract}
+use Rattle.gomod.specs.declared.keyword.Keyword.TheVariants.{Module, Go, Toolchain, Require, Exclude, Replace, Retract, Tool, Godebug, Ignore}
 use Rattle.gomod.specs.Keywords.{Keywords}
 use Rattle.gomod.specs.Entries.{IsRight}
 use Rattle.gomod.specs.Grammar.{Row, row, has_symbols, Directive, one, OpenBlock, keyword_of, keywords_in, items, is_keyword, is_single, IsKnown, IsBlock, IsOpenBlock, AreWritten}
@@ -12,19 +12,27 @@ use Rattle.gomod.proofs.Moves.{Move, blank, single, begins, inside, closes, clos
 pub same_keyword : (j k : Keyword) → is_keyword j k ≡ true → j ≡ k
 same_keyword Module Module h = refl
 same_keyword Go Go h = refl
+same_keyword Toolchain Toolchain h = refl
 same_keyword Require Require h = refl
 same_keyword Exclude Exclude h = refl
 same_keyword Replace Replace h = refl
 same_keyword Retract Retract h = refl
+same_keyword Tool Tool h = refl
+same_keyword Godebug Godebug h = refl
+same_keyword Ignore Ignore h = refl
 same_keyword _ _ h = cc
 
 pub is_keyword-itself : (k : Keyword) → is_keyword k k ≡ true
 is_keyword-itself Module = refl
 is_keyword-itself Go = refl
+is_keyword-itself Toolchain = refl
 is_keyword-itself Require = refl
 is_keyword-itself Exclude = refl
 is_keyword-itself Replace = refl
 is_keyword-itself Retract = refl
+is_keyword-itself Tool = refl
+is_keyword-itself Godebug = refl
+is_keyword-itself Ignore = refl
 
 -- ---- a line more
 

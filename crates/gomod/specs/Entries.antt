@@ -9,6 +9,7 @@ use Rattle.gomod.specs.declared.fault.GoModFault.TheVariants as faults
 use Rattle.gomod.specs.declared.entries.Requirement.{Requirement}
 use Rattle.gomod.specs.Paths.{Version, is_path, is_loose_path, version_of, fits_path, IsBelow}
 use Rattle.gomod.specs.GoVersion.{is_go_version, is_file_path}
+use Rattle.gomod.specs.Keywords.{takes_any_word}
 use Rattle.gomod.specs.Module.{Interval}
 use Rattle.modlex.specs.Symbols.{Symbol, is_word}
 use Rattle.modlex.specs.Words.{value_of}
@@ -90,6 +91,7 @@ pub data HasShape : Keyword → List Symbol → List Demand → Type 0 where
   version_by_version : (p v a q w : Symbol) → IsWord p → IsWord v → IsArrow a → IsWord q → IsWord w → HasShape Replace (p ∷ v ∷ a ∷ q ∷ w ∷ []) (old_version_demands p v ++ new_version_demands q w)
   retract_version : (v : Symbol) → IsWord v → HasShape Retract (v ∷ []) (version (value_of v) ∷ [])
   retract_interval : (l v c w r : Symbol) → l.kind ≡ kinds.BracketLeft → IsWord v → c.kind ≡ kinds.Comma → IsWord w → r.kind ≡ kinds.BracketRight → HasShape Retract (l ∷ v ∷ c ∷ w ∷ r ∷ []) (version (value_of v) ∷ version (value_of w) ∷ interval (value_of v) (value_of w) ∷ [])
+  word_shape : (k : Keyword) (w : Symbol) → takes_any_word k ≡ true → IsWord w → HasShape k (w ∷ []) []
 
 -- the entry has a shape, and its words are what they have to be
 abbrev pub IsRight : Keyword → List Symbol → Type 0

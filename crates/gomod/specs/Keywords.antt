@@ -1,19 +1,23 @@
 -- The keywords of a go.mod file, and the profile, which says which of them are read.
-use Rattle.std.specs.Prelude.{ℕ, Bool, true, false, List, [], ◌∷◌, codes, Option, Some, None, if◌then◌else◌}
+use Rattle.std.specs.Prelude.{ℕ, Bool, true, false, List, [], ◌∷◌, ◌++◌, codes, Option, Some, None, if◌then◌else◌}
 use Rattle.std.specs.Str.{bytes_eq}
 use Rattle.modlex.specs.declared.lexer.Kind.{Kind}
 use Rattle.modlex.specs.declared.lexer.Kind.TheVariants as kinds
 use Rattle.gomod.specs.declared.keyword.Keyword.{Keyword}
-use Rattle.gomod.specs.declared.keyword.Keyword.TheVariants.{Module, Go, Require, Exclude, Replace, Retract}
+use Rattle.gomod.specs.declared.keyword.Keyword.TheVariants.{Module, Go, Toolchain, Require, Exclude, Replace, Retract, Tool, Godebug, Ignore}
 
 -- how a keyword is spelled
 abbrev pub spelling : Keyword → List ℕ
 spelling Module = codes "module"
 spelling Go = codes "go"
+spelling Toolchain = codes "toolchain"
 spelling Require = codes "require"
 spelling Exclude = codes "exclude"
 spelling Replace = codes "replace"
 spelling Retract = codes "retract"
+spelling Tool = codes "tool"
+spelling Godebug = codes "godebug"
+spelling Ignore = codes "ignore"
 
 -- the keywords that a profile has
 abbrev pub Keywords : Type 0
@@ -24,22 +28,34 @@ unfoldable pub keyword_named : Keywords → List ℕ → Option Keyword
 keyword_named [] name = None
 keyword_named (k ∷ ks) name = if bytes_eq name (spelling k) then Some k else keyword_named ks name
 
+-- the first profile, and the second, which has four keywords more
+abbrev pub profile_1 : Keywords
+profile_1 = Module ∷ Go ∷ Require ∷ Exclude ∷ Replace ∷ Retract ∷ []
+
+abbrev pub profile_2 : Keywords
+profile_2 = profile_1 ++ Toolchain ∷ Tool ∷ Godebug ∷ Ignore ∷ []
+
 -- the profile in force: the keywords that files are read by
 abbrev pub profile_in_force : Keywords
-profile_in_force = Module ∷ Go ∷ Require ∷ Exclude ∷ Replace ∷ Retract ∷ []
+profile_in_force = profile_2
 
 abbrev pub is_module : Keyword → Bool
 is_module Module = true
 is_module _ = false
 
-abbrev pub is_go : Keyword → Bool
-is_go Go = true
-is_go _ = false
-
 -- whether a directive may be a block
 abbrev pub has_block : Keyword → Bool
 has_block Go = false
+has_block Toolchain = false
 has_block _ = true
+
+-- whether its entry is one word, which may be any word
+abbrev pub takes_any_word : Keyword → Bool
+takes_any_word Toolchain = true
+takes_any_word Tool = true
+takes_any_word Godebug = true
+takes_any_word Ignore = true
+takes_any_word _ = false
 
 -- the parentheses of a block
 abbrev pub opens_block_kind : Kind → Bool

@@ -3,7 +3,7 @@
 ghost use Rattle.std.specs.Prelude.{◌≡◌};
 ghost use Rattle.modlex.specs.Symbols.{symbol, symbols};
 ghost use Rattle.gomod.specs.Paths.{is_path, is_loose_path, is_below};
-ghost use Rattle.gomod.specs.Reading.{Gives, path_word, version_fault, version_word, fitting_word, module_entry, go_entry, pair, pair_entry, old_path, old_version, new_file, new_version, replace_three, replace_four, replace_five, replace_entry, are_interval_kinds, interval, retract_entry};
+ghost use Rattle.gomod.specs.Reading.{Gives, path_word, version_fault, version_word, fitting_word, module_entry, go_entry, word_entry, pair, pair_entry, old_path, old_version, new_file, new_version, replace_three, replace_four, replace_five, replace_entry, are_interval_kinds, interval, retract_entry};
 
 use super::fault::GoModFault;
 use super::go_version::{is_file_path, is_go_version};
@@ -147,6 +147,17 @@ pub(crate) fn go_entry(alloc: Global, line: usize, tokens: &[Token]) -> Result<(
                 Err(GoModFault::GoVersion(line))
             }
         }
+        _ => Err(GoModFault::Grammar(line)),
+    }
+}
+
+/// `toolchain`, `tool`, `godebug` and `ignore`: one word, which may be any word.
+#[tactic(auto, unfolding(crate::specs::Reading::word_entry))]
+pub(crate) fn word_entry(line: usize, tokens: &[Token]) -> Result<(), GoModFault>
+    ensures { result ≡ word_entry line (symbols tokens.now) }
+{
+    match tokens {
+        [word] if word.is_word() => Ok(()),
         _ => Err(GoModFault::Grammar(line)),
     }
 }

@@ -8,10 +8,14 @@ ghost use Rattle.gomod.specs.Keywords.{keyword_named, profile_in_force, is_modul
 pub(crate) enum Keyword {
     Module,
     Go,
+    Toolchain,
     Require,
     Exclude,
     Replace,
     Retract,
+    Tool,
+    Godebug,
+    Ignore,
 }
 
 impl Keyword {
@@ -27,6 +31,10 @@ impl Keyword {
             "exclude" => Some(Keyword::Exclude),
             "replace" => Some(Keyword::Replace),
             "retract" => Some(Keyword::Retract),
+            "toolchain" => Some(Keyword::Toolchain),
+            "tool" => Some(Keyword::Tool),
+            "godebug" => Some(Keyword::Godebug),
+            "ignore" => Some(Keyword::Ignore),
             _ => None,
         }
     }
@@ -41,6 +49,6 @@ impl Keyword {
     pub(crate) fn has_block(self) -> bool
         ensures { result ≡ has_block self }
     {
-        !matches!(self, Keyword::Go)
+        !matches!(self, Keyword::Go | Keyword::Toolchain)
     }
 }

@@ -119,7 +119,7 @@ fn finish(reader: Reader, last: usize) -> Result<GoMod, GoModFault>
     let Reader {
         block,
         module,
-        has_go: _,
+        stood: _,
         required,
         retractions,
         bare,

@@ -25,7 +25,7 @@ module \"gopkg.in/yaml.v2\";require \"gopkg.in/check.v1\" v0.0.0-20161208181325-
 module example.com/a;require gopkg.in/check.v1 v0.0.0;|Version(2)
 module example.com/a/v2;retract v1.0.0;|Version(2)
 \"module\" example.com/a|Grammar(1)
-module example.com/a;;toolchain go1.21.0;|Unknown(3)
+module example.com/a;;frobnicate go1.21.0;|Unknown(3)
 module example.com/a // text|-
 module example.com/a;require ( )|Grammar(2)
 module \"example.com/a\"|-
@@ -68,6 +68,51 @@ module example.com/a\u{0};|Lex(1)
 module\texample.com/a\u{c};|Lex(1)
 ";
 
+/// The same of `toolchain`, `tool`, `godebug` and `ignore`, whose words may be any.
+const ANY_WORDS: &str = "\
+module example.com/a;toolchain go1.21.0;|-
+module example.com/a;;toolchain go1.21.0;|-
+module example.com/a;toolchain go1.21.0;toolchain go1.21.0;|Twice(3)
+module example.com/a;tool example.com/x/cmd;|-
+module example.com/a;\"tool\" example.com/x/cmd;|Grammar(2)
+module example.com/a;tool a b;|Grammar(2)
+module example.com/a;godebug a=b;|-
+module example.com/a;ignore ./x;|-
+module example.com/a;bogus a;|Unknown(2)
+module example.com/a;toolchain default // as it comes;|-
+module example.com/a;toolchain `go1.24.1`;|-
+module example.com/a;toolchain \"\";|-
+module example.com/a;toolchain;|Grammar(2)
+module example.com/a;toolchain go1.21.0 local;|Grammar(2)
+module example.com/a;toolchain =>;|Grammar(2)
+module example.com/a;toolchain (;|Grammar(2)
+module example.com/a;toolchain (;go1.21.0;);|Grammar(2)
+module example.com/a;\"toolchain\" go1.21.0;|Grammar(2)
+toolchain go1.21.0;toolchain (;|Twice(2)
+toolchain go1.21.0;toolchain;|Twice(2)
+toolchain go1.21.0;go 1.21;module example.com/a;|-
+toolchain go1.21.0;go 1.21;go 1.21;|Twice(3)
+toolchain go1.21.0;|NoModule
+module example.com/a;tool;|Grammar(2)
+module example.com/a;tool ( );|Grammar(2)
+module example.com/a;tool [x];|Grammar(2)
+module example.com/a;tool x;tool x;tool (;);tool (;x // again;\"x\";``;);|-
+module example.com/a;tool (;a b;);|Grammar(3)
+module example.com/a;tool (;;tool x;);|Grammar(4)
+module example.com/a;tool (;x);|Grammar(3)
+module example.com/a;tool (;x;|Grammar(4)
+module example.com/a;godebug a = b;|Grammar(2)
+module example.com/a;godebug a=>b;|-
+module example.com/a;godebug (;\"default=go1.21\" // the default;;\tpanicnil=1;);|-
+module example.com/a;godebug (;panicnil=1, x=2;);|Grammar(3)
+module example.com/a;ignore ./a b;|Grammar(2)
+module example.com/a;ignore (;./node_modules;static;\"a b\";);ignore .;|-
+module example.com/a;ignore (;{;);|Lex(3)
+module example.com/a;Tool x;|Unknown(2)
+module example.com/a;tools (;x;);|Unknown(2)
+module example.com/a;godebug=1;|Unknown(2)
+";
+
 /// Files, and whether the module directive stands alone in each.
 const BARE: &str = "\
 module example.com/a|true
@@ -75,11 +120,15 @@ module example.com/a|true
 // x;module (;example.com/a;);|true
 module example.com/a;require (;);|false
 go 1.21;module example.com/a|false
+module example.com/a;toolchain go1.21.0;|false
+tool x;module example.com/a|false
+module example.com/a;godebug default=go1.21;|false
+module example.com/a;ignore (;);|false
 ";
 
 #[test]
 fn texts_read_or_have_a_fault(rt: HostRuntime) -> Result<(), Fail> {
-    for row in WORKED.lines().chain(ORDER.lines()) {
+    for row in WORKED.lines().chain(ORDER.lines()).chain(ANY_WORDS.lines()) {
         let text = with_lines(rt.alloc(), column(row, 0))?;
         let fault = GoMod::read(rt.alloc(), text.as_bytes()).err();
         assert!(rt;

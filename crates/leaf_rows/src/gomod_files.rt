@@ -159,6 +159,66 @@ replace \"github.com/a/b\" => \"./a directory/of \\\"ours\\\", (old)\"
 retract \"v1.0.0\"
 retract [`v1.1.0`,\"v1.2.0\"]
 ====
+golang.org/x/vulndb|github.com/BurntSushi/toml v1.5.0 golang.org/x/mod v0.27.0 golang.org/x/tools v0.36.0 ||
+module golang.org/x/vulndb
+
+go 1.24.0
+
+toolchain go1.24.6 // the one that builds it
+
+require (
+\tgithub.com/BurntSushi/toml v1.5.0
+\tgolang.org/x/mod v0.27.0
+\tgolang.org/x/tools v0.36.0 // indirect
+)
+
+tool golang.org/x/tools/cmd/stringer
+====
+k8s.io/apiserver|k8s.io/api v0.34.0 |v0.31.0-beta.0|v0.31.0
+// This is a generated file. Do not edit directly.
+
+module k8s.io/apiserver
+
+go 1.24.0
+
+godebug default=go1.24
+
+require k8s.io/api v0.34.0
+
+retract v0.31.0-beta.0
+====
+example.com/site|example.com/site/tools v0.3.0 ||
+module example.com/site
+
+go 1.25
+
+godebug (
+\tdefault=go1.21
+\tpanicnil=1 // until it is mended
+\t`asynctimerchan=0`
+)
+
+ignore (
+\t./node_modules
+
+\tstatic // built beside it
+\t\"content/a draft\"
+)
+
+tool (
+\t// The pages.
+\texample.com/site/tools/pages
+\t\"example.com/site/cmd/\\s\"
+)
+
+ignore third_party/javascript
+
+tool example.com/site/tools/links
+
+require example.com/site/tools v0.3.0
+
+toolchain \"go1.25rc1\"
+====
 example.com/windows|github.com/a/b v1.0.0 github.com/c/d v1.0.0 ||
 require github.com/a/b v1.0.0\r
 require(\r

@@ -1,4 +1,6 @@
 //! Connections of this process to itself.
+mod in_time;
+
 use crate::serve_on;
 use std::io::{Read, Write};
 use std::net::{Shutdown, TcpListener, TcpStream};

@@ -4,6 +4,7 @@
 //! |---|---|---|
 //! | `team-add`, `key-add`, `key-revoke` | one command of the registry, as the machine does it | [`registry`] |
 //! | `publish` | asks the machine to publish two files, and prints the line of its outcome | [`publish`] |
+//! | `inventory`, `requires` | prints what a shelf sees, and what a version requires | [`report`], [`inventory`], [`requirements`] |
 //! | `answer` | answers the requests of a reader from a store, or from shelves in memory that begin with one team and its key | [`answer`], [`memory`] |
 //!
 //! [`work`] does what is asked of a store; [`refusal`] has the words that tell why a command was refused, and [`exit`] how a run
@@ -13,8 +14,12 @@
 pub mod answer;
 pub mod exit;
 pub mod files;
+pub mod inventory;
+mod inventory_text;
 pub mod memory;
 pub mod publish;
 pub mod refusal;
 pub mod registry;
+pub mod report;
+pub mod requirements;
 pub mod work;

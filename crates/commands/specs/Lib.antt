@@ -1,6 +1,11 @@
 pub mod Ending
 pub mod Exit
+pub mod Inventory
+pub mod Lines
 pub mod Opening
 pub mod Publish
+pub mod Reading
+pub mod Report
+pub mod Requirements
 pub mod Serve
 pub mod Work

@@ -4,6 +4,7 @@
 //! |---|---|---|
 //! | `team-add`, `key-add`, `key-revoke` | one command of the registry, as the machine does it | [`registry`] |
 //! | `publish` | asks the machine to publish two files, and prints the line of its outcome | [`publish`] |
+//! | `inventory`, `requires` | prints what a shelf sees, and what a version requires | [`report`], [`inventory`], [`requirements`] |
 //! | `answer` | answers the requests of a reader from a store, or from shelves in memory that begin with one team and its key | [`answer`], [`memory`] |
 //! | `serve` | binds a port, prints it, and answers one request on each of some connections | [`serve`] |
 //!
@@ -14,9 +15,13 @@
 pub mod answer;
 pub mod exit;
 pub mod files;
+pub mod inventory;
+mod inventory_text;
 pub mod memory;
 pub mod publish;
 pub mod refusal;
 pub mod registry;
+pub mod report;
+pub mod requirements;
 pub mod serve;
 pub mod work;

@@ -24,6 +24,8 @@ pub enum Refusal {
     BadSchema,
     /// The file has bytes already.
     NotEmpty,
+    /// The shelf of the key sees no such version, or there is no such key.
+    NotFound,
     /// The input, the output or a file failed.
     Io,
 }
@@ -42,6 +44,7 @@ impl Refusal {
             Refusal::Memory => "memory",
             Refusal::BadSchema => "bad-schema",
             Refusal::NotEmpty => "not-empty",
+            Refusal::NotFound => "not-found",
             Refusal::Io => "io",
         }
     }

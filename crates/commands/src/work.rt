@@ -6,6 +6,7 @@ use crate::answer::answer_from;
 use crate::publish::{Files, Words, publish};
 use crate::refusal::Refusal;
 use crate::registry::{add_key, add_team, revoke_key};
+use crate::report::{Named, print_inventory, print_requirements};
 use crate::serve::serve;
 use std::io::{Read, Write};
 use std::rt::HostRuntime;
@@ -34,6 +35,14 @@ pub enum Work<'a> {
     Publish {
         words: Words<'a>,
         files: Files<'a>,
+    },
+    /// `inventory`: prints what the shelf of a key sees.
+    Inventory {
+        key: &'a str,
+    },
+    /// `requires`: prints what the go.mod of a version requires.
+    Requires {
+        version: Named<'a>,
     },
     /// `answer --db F`: answers the requests on the input.
     Answer,
@@ -66,6 +75,8 @@ pub fn work_on<S: Shelves, I: Read, O: Write>(
         } => acceptance(add_key(shelves, shelf, key, *read_only)),
         Work::KeyRevoke { key } => acceptance(revoke_key(shelves, key)),
         Work::Publish { words, files } => publish(rt, shelves, words, files, output),
+        Work::Inventory { key } => print_inventory(rt.alloc(), shelves, key, output),
+        Work::Requires { version } => print_requirements(rt.alloc(), shelves, version, output),
         Work::Answer => acceptance(answer_from(rt.alloc(), shelves, input, output)),
         Work::Serve { port, connections } => {
             acceptance(serve(rt, shelves, *port, *connections, output))

@@ -39,6 +39,11 @@ version_cmp = then_cmp precedence (on version_text (slice_cmp nat_cmp))
 pub versions_total : IsTotalOrder version_cmp
 versions_total = then_total precedence_total (on_total version_text nat_list_cmp_total)
 
+-- the versions of a list by precedence
+abbrev pub ordered : List SemanticVersion → set.FinSet version_cmp
+ordered [] = set.empty
+ordered (v ∷ vs) = set.insert (ordered vs) v
+
 -- a pseudo-version is not listed
 abbrev pub is_listed : Class → Bool
 is_listed (class.Pseudo time) = false

@@ -50,4 +50,4 @@ pub mod reply;
 pub mod run;
 pub mod step;
 pub mod version_set;
-mod versions;
+pub mod versions;

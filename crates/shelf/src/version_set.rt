@@ -15,8 +15,8 @@ use world::bytes::Bytes;
 /// A version that is compared by precedence, and where that is equal by its text.
 /// (SemVer 2.0.0, section 11.)
 #[derive(Drop)]
-struct Ranked {
-    version: Version,
+pub struct Ranked {
+    pub version: Version,
 }
 
 impl Model for Ranked {
@@ -125,7 +125,8 @@ impl VersionSet {
         Ok(())
     }
 
-    fn iter(&self) -> Iter<'_, Ranked>
+    /// The versions in their order. It takes no memory.
+    pub fn iter(&self) -> Iter<'_, Ranked>
         ensures { result ≡ in_order self.now }
     {
         self.tree.iter()

@@ -1,4 +1,4 @@
-//! The versions that texts name, those of them that are listed, and the highest.
+//! The versions that texts name, in the order of their precedence; those of them that are listed, and the highest.
 ghost use Rattle.std.specs.Prelude.{◌≡◌, ℕ, List, IfOk, option_copied};
 ghost use Rattle.modver.specs.Class.{class_of};
 ghost use Rattle.world.specs.Lines.{in_order};
@@ -37,6 +37,17 @@ pub fn listed(alloc: Global, mut versions: Vec<Version>) -> Result<VersionSet, A
         }
     }
     Ok(listed)
+}
+
+/// All versions of a list, in the order of their precedence.
+pub fn ordered(alloc: Global, mut versions: Vec<Version>) -> Result<VersionSet, AllocError>
+    ensures { IfOk result (λ s. s ≡ spec.ordered versions.items) }
+{
+    let mut ordered = VersionSet::new(alloc);
+    while let Some(version) = versions.pop() {
+        ordered.insert(version)?;
+    }
+    Ok(ordered)
 }
 
 fn is_listed(version: &Version) -> bool

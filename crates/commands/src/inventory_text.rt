@@ -1,0 +1,122 @@
+//! The inventory as CSV. (RFC 4180.)
+ghost use Rattle.std.specs.Prelude.{◌≡◌, [], ◌∷◌, ◌++◌, decimal, IfOk, OnOk};
+ghost use Rattle.std.specs.Io.KnownBytes.{Appends};
+ghost use Rattle.csv.specs.Records.{fields_of, partial_of};
+ghost use Rattle.csv.specs.Writing.{text_written};
+ghost use Rattle.commands.specs.Inventory as spec;
+ghost use Rattle.commands.specs.Lines.{IsBetweenLines};
+
+use crate::inventory::Row;
+use csv::{ByteRecord, Writer};
+use itoa::Buffer;
+use modver::{Class, TimeText, class};
+use std::alloc::{AllocError, Global};
+use std::io::Write;
+use world::bytes::Bytes;
+
+/// The header, and a line for each row.
+pub fn text_of(alloc: Global, rows: &[Row]) -> Result<Bytes, AllocError>
+    ensures { IfOk result (λ text. text ≡ spec.text_of rows.now) }
+{
+    let mut writer = Writer::from_writer(Vec::new(alloc));
+    write_all(alloc, &mut writer, rows)?;
+    match writer.into_inner() {
+        Ok(text) => Ok(Bytes::new(text)),
+        Err(_) => Err(AllocError),
+    }
+}
+
+/// Writes the header, and a line for each row.
+fn write_all<W: Write + Drop>(
+    alloc: Global,
+    writer: &mut Writer<W>,
+    rows: &[Row],
+) -> Result<(), AllocError>
+    requires between { IsBetweenLines writer.old }
+    ensures text { OnOk result (Appends (text_written W.contents writer.old) (text_written W.contents writer.new) (spec.text_of rows.now)) }
+{
+    let header = header(alloc)?;
+    write_line(writer, &header)?;
+    for row in rows {
+        let fields = fields_of_row(alloc, row)?;
+        write_line(writer, &fields)?;
+    }
+    Ok(())
+}
+
+/// Writes a line of these fields.
+#[tactic(auto, unfolding(crate::specs::Inventory::line))]
+fn write_line<W: Write + Drop>(
+    writer: &mut Writer<W>,
+    fields: &ByteRecord,
+) -> Result<(), AllocError>
+    requires between { IsBetweenLines writer.old }
+    ensures between { OnOk result (IsBetweenLines writer.new) }
+    ensures text { OnOk result (Appends (text_written W.contents writer.old) (text_written W.contents writer.new) (spec.line (fields_of fields.now))) }
+{
+    match writer.write_byte_record(fields) {
+        Ok(()) => Ok(()),
+        Err(_) => Err(AllocError),
+    }
+}
+
+/// The fields of the header.
+fn header(alloc: Global) -> Result<ByteRecord, AllocError>
+    ensures { IfOk result (λ fields. fields_of fields ≡ spec.header) }
+{
+    let mut fields = ByteRecord::new(alloc);
+    fields.push_field(b"path")?;
+    fields.push_field(b"version")?;
+    fields.push_field(b"shelf")?;
+    fields.push_field(b"class")?;
+    fields.push_field(b"time")?;
+    fields.push_field(b"mod_bytes")?;
+    fields.push_field(b"zip_bytes")?;
+    Ok(fields)
+}
+
+/// The fields of a row.
+fn fields_of_row(alloc: Global, row: &Row) -> Result<ByteRecord, AllocError>
+    ensures { IfOk result (λ fields. fields_of fields ≡ spec.fields row.now) }
+{
+    let mut fields = ByteRecord::new(alloc);
+    fields.push_field(row.path.as_str().as_bytes())?;
+    fields.push_field(row.version.as_str().as_bytes())?;
+    fields.push_field(row.shelf.as_str().as_bytes())?;
+    fields.push_field(class_word(class(&row.version)).as_bytes())?;
+    fields.push_field(time_field(&row.time).as_bytes())?;
+    push_number(&mut fields, row.gomod_bytes)?;
+    push_number(&mut fields, row.zip_bytes)?;
+    Ok(fields)
+}
+
+/// Adds a number as a field.
+fn push_number(fields: &mut ByteRecord, number: usize) -> Result<(), AllocError>
+    requires whole { partial_of fields.old ≡ [] }
+    ensures fields { OnOk result (fields_of fields.new ≡ fields_of fields.old ++ (decimal number ∷ [])) }
+    ensures whole { OnOk result (partial_of fields.new ≡ []) }
+{
+    let mut digits = Buffer::new();
+    fields.push_field(digits.format(number).as_bytes())
+}
+
+/// The word of a class of versions.
+fn class_word(class: Class) -> &'static str
+    ensures { result.now ≡ spec.class_word class }
+{
+    match class {
+        Class::Release => "release",
+        Class::Pre => "pre",
+        Class::Pseudo(_) => "pseudo",
+    }
+}
+
+/// The time of a version; empty where it has none.
+fn time_field(time: &Option<TimeText>) -> &str
+    ensures { result.now ≡ spec.time_field time.now }
+{
+    match time {
+        Some(time) => time.as_str(),
+        None => "",
+    }
+}

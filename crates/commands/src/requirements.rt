@@ -1,0 +1,86 @@
+//! `requires`: what the go.mod of a version requires. (Go Modules Reference, "require directive".)
+ghost use Rattle.std.specs.Prelude.{◌≡◌, IfOk};
+ghost use Rattle.std.specs.FinMap as map;
+ghost use Rattle.modver.specs.Reading.{version_of};
+ghost use Rattle.world.specs.Forms.{path_of};
+ghost use Rattle.world.specs.Store.{Reads, HasCause};
+ghost use Rattle.commands.specs.Requirements as spec;
+
+use gomod::Requirement;
+use modpath::ModulePath;
+use modver::Version;
+use std::alloc::{AllocError, Global};
+use world::bytes::Bytes;
+use world::entry::Heading;
+use world::forms::{path_of, version_of};
+use world::reading::Reading;
+use world::registry::StoreFault;
+use world::shelves::Shelves;
+
+/// What the go.mod of a version requires, a line `path version` each, in its order. None where the path or the version
+/// does not read, there is no such key, or its shelf does not see the version.
+pub fn requirements<S: Shelves>(
+    alloc: Global,
+    shelves: &mut S,
+    key: &str,
+    path: &str,
+    version: &str,
+) -> Result<Option<Bytes>, StoreFault>
+    ensures reads { Reads (S.shown shelves.old) (S.shown shelves.new) result
+        (λ w. spec.required_by w (map.get w.keys key.now) (path_of path.now) (version_of version.now)) }
+    ensures cause { HasCause (S.failure_count shelves.old) (S.failure_count shelves.new) result }
+{
+    let Some(path) = path_of(alloc, path)? else {
+        return Ok(None);
+    };
+    let Some(version) = version_of(alloc, version)? else {
+        return Ok(None);
+    };
+    let Some(holder) = shelves.key(key)? else {
+        return Ok(None);
+    };
+    required_on(alloc, shelves, holder.shelf.as_str(), &path, &version)
+}
+
+/// What the go.mod of a version requires that a shelf sees.
+fn required_on<S: Shelves>(
+    alloc: Global,
+    shelves: &mut S,
+    shelf: &str,
+    path: &ModulePath,
+    version: &Version,
+) -> Result<Option<Bytes>, StoreFault>
+    ensures reads { Reads (S.shown shelves.old) (S.shown shelves.new) result
+        (λ w. spec.required_on w shelf.now path.now version.now) }
+    ensures cause { HasCause (S.failure_count shelves.old) (S.failure_count shelves.new) result }
+{
+    let heading = shelves.heading(shelf, path, version)?;
+    Ok(required_in(alloc, heading)?)
+}
+
+/// What the go.mod of a version that is seen requires.
+fn required_in(alloc: Global, heading: Option<Heading>) -> Result<Option<Bytes>, AllocError>
+    ensures { IfOk result (λ lines. lines ≡ spec.required_in heading) }
+{
+    let Some(heading) = heading else {
+        return Ok(None);
+    };
+    match Reading::of(alloc, heading.gomod.as_slice())? {
+        Reading::Module(module) => Ok(Some(lines_of(alloc, module.required())?)),
+        Reading::Fault(_) => Ok(None),
+    }
+}
+
+/// A line `path version` for each requirement.
+fn lines_of(alloc: Global, required: &[Requirement]) -> Result<Bytes, AllocError>
+    ensures { IfOk result (λ lines. lines ≡ spec.lines_of required.now) }
+{
+    let mut lines = Vec::new(alloc);
+    for requirement in required {
+        lines.extend_from_slice(requirement.path.as_str().as_bytes())?;
+        lines.push(b' ')?;
+        lines.extend_from_slice(requirement.version.as_str().as_bytes())?;
+        lines.push(b'\n')?;
+    }
+    Ok(Bytes::new(lines))
+}

@@ -1,3 +1,1 @@
-pub mod Opened
 pub mod Run
-pub mod Task

@@ -6,10 +6,10 @@ use Rattle.commands.specs.declared.refusal.Refusal.{Refusal}
 use Rattle.commands.specs.declared.refusal.Refusal.TheVariants.{Io, Memory}
 use Rattle.world.specs.Store.{Shown}
 use Rattle.commands.specs.Exit.{ending_of, status_of, IsSilent, Says}
-use Rattle.goshelf.specs.Task.{Performs}
+use Rattle.tasks.specs.Task.{Performs}
 use Rattle.commands.specs.declared.exit.Ending.{Ending}
 use Rattle.commands.specs.declared.exit.Ending.TheVariants.{Done, Refused, BadUsage}
-use Rattle.goshelf.specs.declared.task.Task.{Task}
+use Rattle.tasks.specs.declared.Task.{Task}
 
 -- How a run ends that shows the parser's text in place of a task, by the text's kind: help and the version are what was asked
 -- for, and Io where they can't be written; every other text is of bad usage.

@@ -1,10 +1,10 @@
 //! The command line: its commands, their options and their help.
-use crate::task::Task;
 use clap::builder::ValueParser;
 use clap::{Arg, ArgAction, ArgMatches, Command};
 use commands::publish::{Files, Words};
 use commands::work::Work;
 use std::alloc::{AllocError, Global};
+use tasks::Task;
 
 /// A command as help tells of it.
 #[derive(Clone, Copy, Drop)]

@@ -5,7 +5,6 @@ ghost use Rattle.commands.specs.Exit.{status_of, IsSilent};
 ghost use Rattle.goshelf.specs.Run.{EndsShown, Exits, Runs};
 
 use crate::arguments::{parser, task_of};
-use crate::task::perform;
 use clap::ArgMatches;
 use clap::error::ErrorKind;
 use commands::exit::Ending;
@@ -13,6 +12,7 @@ use commands::refusal::Refusal;
 use std::io::{self, Read, Write};
 use std::rt::HostRuntime;
 use store::open::FileShelves;
+use tasks::perform;
 use world::shelves::Shelves;
 
 /// One whole run of the program, by the words after its name. It answers the exit status:

@@ -5,7 +5,6 @@
 
 mod arguments;
 mod command;
-mod task;
 #[cfg(test)]
 mod tests;
 

@@ -10,9 +10,9 @@ use Rattle.commands.specs.declared.refusal.Refusal.{Refusal}
 use Rattle.commands.specs.declared.refusal.Refusal.TheVariants.{NotEmpty}
 use Rattle.commands.specs.declared.work.Work.{Work}
 use Rattle.commands.specs.declared.work.Work.TheVariants.{Open}
-use Rattle.goshelf.specs.Opened.{unopened, unmade}
-use Rattle.goshelf.specs.declared.task.Task.{Task}
-use Rattle.goshelf.specs.declared.task.Task.TheVariants as task
+use Rattle.tasks.specs.Opened.{unopened, unmade}
+use Rattle.tasks.specs.declared.Task.{Task}
+use Rattle.tasks.specs.declared.Task.TheVariants as task
 
 -- how `init` ends, by how the work on its store did
 abbrev pub made : Result Bool Refusal → Result Bool Refusal

@@ -1,4 +1,4 @@
-use Rattle.goshelf.proofs.task.perform.Goals as goal
+use Rattle.tasks.proofs.perform.Goals as goal
 
 pub returns-in-OnStore : goal.returns-in-OnStore
 returns-in-OnStore g c = rw c.in-OnStore.is c.on_file.ensures

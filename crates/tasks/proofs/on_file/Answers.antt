@@ -1,5 +1,5 @@
 use Rattle.std.proofs.Common.{inl}
-use Rattle.goshelf.proofs.task.on_file.Goals as goal
+use Rattle.tasks.proofs.on_file.Goals as goal
 
 pub returns : goal.returns
 returns g c = inl (record {

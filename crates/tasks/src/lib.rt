@@ -1,7 +1,17 @@
-//! What the words of a run ask for, and doing it.
+//! What a run of the program does: on the store of a file, or on shelves in memory.
+//!
+//! | task | what it does |
+//! |---|---|
+//! | [`Task::Init`] | makes a store with the shelf `common` alone, in a file that has no bytes |
+//! | [`Task::AnswerInMemory`] | answers requests from shelves in memory |
+//! | [`Task::OnStore`] | opens the store of a file and does one work of `commands` on it |
+//!
+//! One function alone holds the store of a file. Nothing here reads the words of a command line.
+#![tactic(auto)]
+
 ghost use Rattle.std.specs.Prelude.{◌≡◌};
-ghost use Rattle.goshelf.specs.Opened as spec;
-ghost use Rattle.goshelf.specs.Task.{Performs, Inits, WorksOnFile};
+ghost use Rattle.tasks.specs.Opened as spec;
+ghost use Rattle.tasks.specs.Task.{Performs, Inits, WorksOnFile};
 
 use commands::files::holds_bytes;
 use commands::memory::answer_in_memory;

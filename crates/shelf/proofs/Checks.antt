@@ -1,38 +1,34 @@
 -- What the outcome of the checks of a publish says of each of them.
-use Rattle.std.proofs.Common.{◌≡◌, ℕ, ◌<◌, List, [], ◌∷◌, ◌++◌, Bool, true, false, cond, refl, ◌∙◌, sym, ap, subst, Option, Some, None, length}
-use Rattle.std.specs.Prelude.{bytes_eq, ◌&&◌, not, is_none, is_some, option_map, unwrap_or, nat_lt, nat_le}
+use Rattle.std.proofs.Common.{◌≡◌, ℕ, ◌<◌, List, [], ◌∷◌, ◌++◌, Bool, true, false, cond, refl, ◌∙◌, sym, ap, subst, Option, Some, None}
+use Rattle.std.specs.Prelude.{not, is_none, is_some, option_map, unwrap_or, nat_le}
 use Rattle.std.specs.List.{list_any}
 use Rattle.std.specs.Option.{option_or}
 use Rattle.std.specs.FinMap as map
 use Rattle.std.specs.FinSet as set
-use Rattle.std.proofs.lemmas.Bool.{true≢false, and_parts, or_parts, not-false, ltb-false, leb-false}
+use Rattle.std.proofs.lemmas.Bool.{true≢false, and_parts, or_parts, not-false, leb-false}
 use Rattle.modpath.specs.Path.{is_path}
 use Rattle.modver.specs.SemanticVersion.{is_version, version_text}
 use Rattle.modver.proofs.Readings.{is-version}
 use Rattle.modver.specs.Class.{class_of}
-use Rattle.modver.proofs.Times.{time-exact}
 use Rattle.modver.specs.declared.version.Class.{Class}
-use Rattle.modver.specs.declared.version.Class.TheVariants as class
 use Rattle.world.specs.declared.entry.Entry.{Entry}
 use Rattle.world.specs.declared.entry.Seen.{Seen}
 use Rattle.world.specs.declared.entry.Holder.{Holder}
 use Rattle.world.specs.declared.entry.Right.{Right}
 use Rattle.world.specs.declared.entry.Right.TheVariants.{Reads, Publishes}
 use Rattle.shelf.specs.declared.ask.Body.{Body}
-use Rattle.shelf.specs.declared.ask.GivenTime.{GivenTime}
-use Rattle.shelf.specs.declared.ask.GivenTime.TheVariants.{Absent, At, Malformed}
 use Rattle.shelf.specs.declared.ask.Publish.{Publish}
 use Rattle.world.specs.declared.reading.Reading.{Reading}
-use Rattle.world.specs.declared.reading.Reading.TheVariants.{Module, Fault}
 use Rattle.shelf.specs.declared.reply.Decision.{Decision}
 use Rattle.shelf.specs.declared.reply.Decision.TheVariants.{Published, Same, Conflict, Full}
-use Rattle.world.specs.Forms.{is_time, fits, suffix_of}
-use Rattle.world.specs.GoMods.{reading_of, IsGoModOf}
-use Rattle.world.specs.World.{World, IsEntry, IsTimeOf, common, seen_at, first_on, view, count, gomod_limit, zip_limit, version_limit}
-use Rattle.shelf.specs.Machine.{first_failing, is_readable, may_publish, is_too_large, is_bad_time, entry_time, entry_of, has_fault, names_other, has_more, gomod_of, is_same, offered, request_checks, gomod_checks, shelf_checks, decided, entry_seen, decision, place_of}
+use Rattle.world.specs.Forms.{fits, suffix_of}
+use Rattle.world.specs.GoMods.{reading_of}
+use Rattle.world.specs.World.{World, IsEntry, common, seen_at, first_on, view, count, version_limit}
+use Rattle.shelf.specs.Machine.{first_failing, is_readable, may_publish, is_too_large, entry_time, entry_of, gomod_of, is_same, offered, request_checks, gomod_checks, shelf_checks, decided, entry_seen, decision, place_of}
 use Rattle.world.specs.Store.{IsRoomFor}
+use Rattle.world.specs.EntryTest.{is_small, is_time_of}
+use Rattle.world.proofs.EntryTests.{gomod_so, small_so, time_so}
 use Rattle.world.proofs.PathForm.{path_form}
-use Rattle.world.proofs.Orders.{text_same}
 
 -- ---- one list of checks after another
 
@@ -100,26 +96,6 @@ abbrev pub is_same_answer : Decision → Bool
 is_same_answer Same = true
 is_same_answer d = false
 
--- ---- forms
-
--- the time of an entry is that of its version
-time_form : (c : Class) (given : GivenTime) → is_bad_time given ≡ false → IsTimeOf c (entry_time c given)
-time_form (class.Pseudo stamp) given well = refl
-time_form c Absent well = tt
-time_form c Malformed well = tt
-time_form c (At time) well = (time-exact time).0 (not-false (is_time time) well)
-
--- a go.mod that was read
-gomod_form : (path : List ℕ) (is_marked : Bool) (bytes : List ℕ) (r : Reading) → reading_of bytes ≡ r
-    → has_fault (Some r) ≡ false → names_other path (Some r) ≡ false → (is_marked && has_more (Some r)) ≡ false → IsGoModOf path is_marked bytes
-gomod_form path is_marked bytes (Fault line) read sound named bare = absurd (true≢false sound)
-gomod_form path is_marked bytes (Module m) read sound named bare = record {
-  says = m;
-  reads = read;
-  names = text_same m.path path (not-false (bytes_eq m.path path) named);
-  bare = λ is. not-false m.bare (ap (λ b. b && not m.bare) (sym is) ∙ bare);
-}
-
 -- ---- a publish that passed the checks of itself and of its go.mod
 
 pub record Passing (p : Publish) (right : Option Right) (reading : Option Reading) : Type 0 where
@@ -144,18 +120,19 @@ entry_form : (s : List ℕ) (p : Publish) (right : Option Right) (b : Body) → 
 entry_form s p right b body is =
     let forms = and_parts (is_path p.path) (is_version p.version) (not-false (is_readable p) is.own.0) in
     let files = is.own.1.1.1.1 in
+    let c : Class = class_of p.version in
     let small : is_too_large (Some (entry_of p b)) ≡ false = ap (λ o. is_too_large (option_map (entry_of p) o)) (sym body) ∙ files.0 in
-    let sizes = or_parts (nat_lt gomod_limit (length b.gomod)) (nat_lt zip_limit (length b.zip)) small in
+    let sizes = small_so (entry_of p b) (not-false (is_small (entry_of p b)) small) in
     let read : gomod_of p ≡ Some (reading_of b.gomod) = ap (option_map (λ (x : Body). reading_of x.gomod)) body in
     let gomod : Passed (gomod_checks p (Some (reading_of b.gomod))) = subst (λ o. Passed (gomod_checks p o)) read is.gomod in
     record {
       path = path_form p.path forms.0;
       version = (p.version, (is-version p.version).0 forms.1);
       fits = not-false (fits (suffix_of p.path) p.version) files.1.0;
-      gomod = ltb-false gomod_limit (length b.gomod) sizes.0;
-      zip = ltb-false zip_limit (length b.zip) sizes.1;
-      time = time_form (class_of p.version) p.time files.1.1.0;
-      reads = gomod_form p.path p.version.marked b.gomod (reading_of b.gomod) refl gomod.0 gomod.1.0 gomod.1.1.0;
+      gomod = sizes.0;
+      zip = sizes.1;
+      time = time_so c (entry_time c p.time) (not-false (is_time_of c (entry_time c p.time)) files.1.1.1.0);
+      reads = gomod_so p.path p.version.marked b.gomod (reading_of b.gomod) refl gomod.0 gomod.1.0 gomod.1.1.0;
     }
 
 -- ---- a publish that was stored

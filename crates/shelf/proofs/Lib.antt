@@ -1,6 +1,7 @@
 pub mod InMemory
 pub mod VersionOrder
 pub mod Checks
+pub mod Misfits
 pub mod Runs
 pub mod Views
 pub mod Alike

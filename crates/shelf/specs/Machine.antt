@@ -1,5 +1,5 @@
 -- The machine: the reply to each event and the world after it, alone and in a list.
-use Rattle.std.specs.Prelude.{ℕ, ◌≡◌, ◌⊎◌, List, [], ◌∷◌, ◌++◌, Bool, true, false, not, ◌&&◌, ◌||◌, if◌then◌else◌, nat_le, nat_lt, length, Option, Some, None, is_some, is_none, option_map, unwrap_or, bytes_eq}
+use Rattle.std.specs.Prelude.{ℕ, ◌≡◌, ◌⊎◌, List, [], ◌∷◌, ◌++◌, Bool, true, false, not, ◌&&◌, nat_le, Option, Some, None, is_some, is_none, option_map, unwrap_or, bytes_eq}
 use Rattle.std.specs.FinMap as map
 use Rattle.modver.specs.SemanticVersion.{version_text}
 use Rattle.world.specs.declared.entry.Place.{Place}
@@ -32,22 +32,20 @@ use Rattle.modver.specs.Class.{class_of}
 use Rattle.modver.specs.SemanticVersion.{SemanticVersion}
 use Rattle.modver.specs.declared.version.Class.{Class}
 use Rattle.modver.specs.declared.version.Class.TheVariants as class
+use Rattle.world.specs.declared.entry_test.Misfit.{Misfit}
+use Rattle.world.specs.declared.entry_test.Misfit.TheVariants as misfit
 use Rattle.world.specs.declared.reading.Reading.{Reading}
-use Rattle.world.specs.declared.reading.Reading.TheVariants.{Module, Fault}
+pub use Rattle.world.specs.EntryTest.{first_failing}
+use Rattle.world.specs.EntryTest.{is_small, is_time_of, has_fault, fault_line, names_other, has_more}
 use Rattle.world.specs.Forms.{is_path, is_version, is_time, fits, suffix_of}
 use Rattle.world.specs.GoMods.{reading_of, module_told}
 use Rattle.world.specs.Lines.{in_order}
 use Rattle.world.specs.Registry.{team_added, key_added, key_revoked, after_team_add, after_key_add, after_key_revoke}
 use Rattle.shelf.specs.Versions.{named, listed, highest, unretracted}
 use Rattle.world.specs.Visible.{versions_seen, paths_seen}
-use Rattle.world.specs.World.{World, gomod_limit, zip_limit, version_limit, place, view, heading, count, with_entry}
+use Rattle.world.specs.World.{World, version_limit, place, view, heading, count, with_entry}
 
 -- ---- the checks of a publish
-
--- the answer of the first check that fails
-abbrev pub first_failing : List (Bool × Decision) → Option Decision
-first_failing [] = None
-first_failing (check ∷ checks) = if check.0 then Some check.1 else first_failing checks
 
 -- whether the path and the version are well formed
 abbrev pub is_readable : Publish → Bool
@@ -58,10 +56,10 @@ may_publish None = false
 may_publish (Some Reads) = false
 may_publish (Some Publishes) = true
 
--- the time of an entry: of a pseudo-version that of its stamp, of another version the given one
+-- the time of an entry: the given one; where none is, of a pseudo-version that of its stamp
 abbrev pub entry_time : Class → GivenTime → Option (List ℕ)
-entry_time (class.Pseudo stamp) given = Some stamp
 entry_time c (At time) = Some time
+entry_time (class.Pseudo stamp) given = Some stamp
 entry_time c given = None
 
 -- the entry that its files make
@@ -74,7 +72,7 @@ offered p = option_map (entry_of p) p.body
 
 abbrev pub is_too_large : Option Entry → Bool
 is_too_large None = false
-is_too_large (Some e) = nat_lt gomod_limit (length e.gomod) || nat_lt zip_limit (length e.zip)
+is_too_large (Some e) = not (is_small e)
 
 -- what is given is no time
 abbrev pub is_bad_time : GivenTime → Bool
@@ -82,10 +80,9 @@ is_bad_time Absent = false
 is_bad_time (At time) = not (is_time time)
 is_bad_time Malformed = true
 
--- the time that is given is not that of the stamp
+-- the time that the entry has by what is given is not that of its version
 abbrev pub is_other_time : Class → GivenTime → Bool
-is_other_time (class.Pseudo stamp) (At time) = not (bytes_eq stamp time)
-is_other_time c given = false
+is_other_time c given = not (is_time_of c (entry_time c given))
 
 -- the checks of the version and of the time that is given, each with its answer
 abbrev pub version_checks : Publish → List (Bool × Decision)
@@ -95,43 +92,49 @@ version_checks p =
     ∷ (is_other_time (class_of p.version) p.time, Refused refusal.TimeMismatch)
     ∷ []
 
+-- the checks of the entry that is handed in, and of the time that is given, each with its answer
+abbrev pub entry_checks : Publish → List (Bool × Decision)
+entry_checks p =
+    (is_none p.body, BadLength)
+    ∷ (is_too_large (offered p), TooLarge)
+    ∷ version_checks p
+
 -- the checks of a publish alone, by a key with this right (none: an unknown key), each with its answer
 abbrev pub request_checks : Publish → Option Right → List (Bool × Decision)
 request_checks p right =
     (not (is_readable p), NotFound)
     ∷ (is_none right, NotFound)
     ∷ (not (may_publish right), Forbidden)
-    ∷ (is_none p.body, BadLength)
-    ∷ (is_too_large (offered p), TooLarge)
-    ∷ version_checks p
+    ∷ entry_checks p
 
 -- ---- the go.mod of a publish, if it was read
 
-abbrev pub has_fault : Option Reading → Bool
-has_fault (Some (Fault line)) = true
-has_fault reading = false
+-- it was read, and this holds of it
+abbrev pub if_read : (Reading → Bool) → Option Reading → Bool
+if_read holds None = false
+if_read holds (Some reading) = holds reading
 
-abbrev pub fault_line : Option Reading → ℕ
-fault_line (Some (Fault line)) = line
-fault_line reading = 0
-
--- it names another path
-abbrev pub names_other : List ℕ → Option Reading → Bool
-names_other p (Some (Module m)) = not (bytes_eq m.path p)
-names_other p reading = false
-
--- it has more than its module directive
-abbrev pub has_more : Option Reading → Bool
-has_more (Some (Module m)) = not m.bare
-has_more reading = false
+-- the line of its fault, if it was read
+abbrev pub line_read : Option Reading → ℕ
+line_read None = 0
+line_read (Some reading) = fault_line reading
 
 -- its checks, each with its answer
 abbrev pub gomod_checks : Publish → Option Reading → List (Bool × Decision)
 gomod_checks p reading =
-    (has_fault reading, Refused (refusal.BadGoMod (fault_line reading)))
-    ∷ (names_other p.path reading, Refused refusal.ModulePath)
-    ∷ (p.version.marked && has_more reading, Refused refusal.IncompatibleGoMod)
+    (if_read has_fault reading, Refused (refusal.BadGoMod (line_read reading)))
+    ∷ (if_read (names_other p.path) reading, Refused refusal.ModulePath)
+    ∷ (p.version.marked && if_read has_more reading, Refused refusal.IncompatibleGoMod)
     ∷ []
+
+-- the answer to an entry that may not stand, by the first of its checks that fails
+abbrev pub told : Misfit → Decision
+told misfit.TooLarge = TooLarge
+told misfit.Version = Refused refusal.MajorMismatch
+told misfit.Time = Refused refusal.TimeMismatch
+told (misfit.GoMod line) = Refused (refusal.BadGoMod line)
+told misfit.ModulePath = Refused refusal.ModulePath
+told misfit.NotBare = Refused refusal.IncompatibleGoMod
 
 -- what reading the go.mod of a publish gives
 abbrev pub gomod_of : Publish → Option Reading

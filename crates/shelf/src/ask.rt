@@ -98,13 +98,13 @@ impl Publish {
         }
     }
 
-    /// The time of the entry: of a pseudo-version that of its stamp, of another version the given one.
+    /// The time of the entry: the given one; where none is, of a pseudo-version that of its stamp.
     pub fn entry_time(&self) -> Option<TimeText>
         ensures { result ≡ entry_time (class_of self.now.version) self.now.time }
     {
         match (class(&self.version), self.time) {
-            (Class::Pseudo(time), _) => Some(time),
             (_, GivenTime::At(time)) => Some(time),
+            (Class::Pseudo(time), _) => Some(time),
             _ => None,
         }
     }

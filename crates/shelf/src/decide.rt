@@ -5,9 +5,9 @@ ghost use Rattle.shelf.specs.declared.reply.Decision.TheVariants.{Published};
 
 use crate::ask::{GivenTime, Publish};
 use crate::reply::{Decision, Refusal};
-use gomod::GoMod;
-use modver::{Class, TimeText, class, fits};
-use world::entry::{Entry, EntryRef, MAX_GOMOD, MAX_VERSIONS, MAX_ZIP, Right};
+use modver::TimeText;
+use world::entry::{Entry, MAX_VERSIONS, Right};
+use world::entry_test::{Misfit, module_misfit, own_misfit};
 use world::reading::Reading;
 
 /// The outcome of the checks of a publish by a key with this right (none: an unknown key), whose
@@ -35,24 +35,22 @@ pub fn decide(
 pub fn gomod_refusal(publish: &Publish, gomod: Option<&Reading>) -> Option<Decision>
     ensures { result ≡ spec.first_failing (spec.gomod_checks publish.now (option_copied gomod.entry)) }
 {
-    match gomod {
-        None => None,
-        Some(Reading::Fault(line)) => Some(Decision::Refused(Refusal::BadGoMod(*line))),
-        Some(Reading::Module(module)) => module_refusal(publish, module),
-    }
+    let misfit = module_misfit(&publish.path, &publish.version, gomod?)?;
+    Some(told(misfit))
 }
 
-/// The answer of the first check of a go.mod that reads that fails.
-fn module_refusal(publish: &Publish, gomod: &GoMod) -> Option<Decision>
-    ensures { result ≡ spec.first_failing (spec.gomod_checks publish.now (Some (Reading.Module gomod.now))) }
+/// The answer to an entry that may not stand.
+fn told(misfit: Misfit) -> Decision
+    ensures { result ≡ spec.told misfit }
 {
-    if gomod.module().as_str() != publish.path.as_str() {
-        return Some(Decision::Refused(Refusal::ModulePath));
+    match misfit {
+        Misfit::TooLarge => Decision::TooLarge,
+        Misfit::Version => Decision::Refused(Refusal::MajorMismatch),
+        Misfit::Time => Decision::Refused(Refusal::TimeMismatch),
+        Misfit::GoMod(line) => Decision::Refused(Refusal::BadGoMod(line)),
+        Misfit::ModulePath => Decision::Refused(Refusal::ModulePath),
+        Misfit::NotBare => Decision::Refused(Refusal::IncompatibleGoMod),
     }
-    if publish.version.is_marked() && !gomod.is_bare() {
-        return Some(Decision::Refused(Refusal::IncompatibleGoMod));
-    }
-    None
 }
 
 /// The answer of the first check of the publish alone that fails. It takes no memory.
@@ -66,34 +64,31 @@ pub fn refusal(publish: &Publish, right: Option<Right>) -> Option<Decision>
     if right == Right::Reads {
         return Some(Decision::Forbidden);
     }
+    entry_refusal(publish)
+}
+
+/// The answer of the first check of the entry and of the given time that fails.
+fn entry_refusal(publish: &Publish) -> Option<Decision>
+    ensures { result ≡ spec.first_failing (spec.entry_checks publish.now) }
+{
     let Some(entry) = publish.entry() else {
         return Some(Decision::BadLength);
     };
-    if is_too_large(&entry) {
-        return Some(Decision::TooLarge);
+    // An entry whose given time is malformed has the time of its stamp, or none, so no check of its time fails.
+    let is_bad = is_bad_time(publish.time);
+    if let Some(misfit) = own_misfit(&publish.path, &publish.version, &entry) {
+        return Some(told(misfit));
     }
-    version_refusal(publish)
-}
-
-/// The answer of the first check of the version and its time that fails.
-fn version_refusal(publish: &Publish) -> Option<Decision>
-    ensures { result ≡ spec.first_failing (spec.version_checks publish.now) }
-{
-    if !fits(&publish.path, &publish.version) {
-        return Some(Decision::Refused(Refusal::MajorMismatch));
-    }
-    if is_bad_time(publish.time) {
+    if is_bad {
         return Some(Decision::Refused(Refusal::BadTime));
-    }
-    if is_other_time(class(&publish.version), publish.time) {
-        return Some(Decision::Refused(Refusal::TimeMismatch));
     }
     None
 }
 
 /// The type of a time holds only a time.
 fn is_bad_time(given: GivenTime) -> bool
-    ensures { result ≡ spec.is_bad_time given }
+    ensures exact { result ≡ spec.is_bad_time given }
+    ensures malformed { result ≡ true → given ≡ GivenTime.Malformed }
 {
     match given {
         GivenTime::Absent => false,
@@ -102,18 +97,6 @@ fn is_bad_time(given: GivenTime) -> bool
             let _time = time.as_str();
             false
         }
-    }
-}
-
-fn is_other_time(class: Class, given: GivenTime) -> bool
-    ensures { result ≡ spec.is_other_time class given }
-{
-    let GivenTime::At(time) = given else {
-        return false;
-    };
-    match class {
-        Class::Pseudo(stamp) => stamp.as_str() != time.as_str(),
-        _ => false,
     }
 }
 
@@ -141,12 +124,6 @@ fn decide_by_shelf(publish: &Publish, seen: Option<&Entry>, count: u64) -> Decis
         return Decision::Full;
     }
     Decision::Published
-}
-
-fn is_too_large(entry: &EntryRef) -> bool
-    ensures { result ≡ spec.is_too_large (Some entry.now) }
-{
-    entry.gomod.len() > MAX_GOMOD || entry.zip.len() > MAX_ZIP
 }
 
 fn is_same(entry: &Entry, publish: &Publish) -> bool

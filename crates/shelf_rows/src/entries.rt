@@ -1,9 +1,13 @@
 //! Which entries may stand at a path and a version.
 use crate::calls::time_of;
 use crate::rows::{answer_of, call_of, column, with_lines};
+use modpath::ModulePath;
+use modver::Version;
+use std::alloc::Global;
 use std::test::Fail;
 use world::entry::EntryRef;
-use world::entry_test::may_stand;
+use world::entry_test::{Misfit, may_stand, module_misfit, own_misfit};
+use world::reading::Reading;
 
 /// A path, a version, a go.mod in which `;` stands for a newline, a time, and whether they may stand together.
 const ENTRIES: &str = "\
@@ -36,6 +40,45 @@ fn entries_may_stand_or_not(rt: HostRuntime) -> Result<(), Fail> {
         };
         let may = may_stand(rt.alloc(), column(columns, 0), column(columns, 1), &entry)?;
         assert!(rt; may == (wanted.as_str() == "true"), "{row}");
+    }
+    Ok(())
+}
+
+/// The same columns, and the first check that fails, or `fits`.
+const MISFITS: &str = "\
+example.com/lib|v1.0.0|module example.com/lib;| = fits
+example.com/lib|v2.0.0|module example.com/other;| = Version
+example.com/lib|v0.0.0-20240101000000-aaaaaaaaaaaa|module example.com/other;|2024-01-01T00:00:01Z = Time
+example.com/lib|v1.0.0|module example.com/lib;;require (;example.com/x 1.0.0;);| = GoMod(4)
+example.com/lib|v2.1.0+incompatible|module example.com/other;require example.com/x v1.0.0;| = ModulePath
+example.com/lib|v2.1.0+incompatible|module example.com/lib;require example.com/x v1.0.0;| = NotBare
+";
+
+fn misfit(alloc: Global, columns: &str) -> Result<Option<Misfit>, Fail> {
+    let path = ModulePath::parse(alloc, column(columns, 0))?;
+    let version = Version::parse(alloc, column(columns, 1))?;
+    let gomod = with_lines(alloc, column(columns, 2))?;
+    let entry = EntryRef {
+        gomod: gomod.as_bytes(),
+        zip: b"zip",
+        time: time_of(column(columns, 3))?,
+    };
+    if let Some(misfit) = own_misfit(&path, &version, &entry) {
+        return Ok(Some(misfit));
+    }
+    let reading = Reading::of(alloc, gomod.as_bytes())?;
+    Ok(module_misfit(&path, &version, &reading))
+}
+
+#[test]
+fn the_first_check_of_an_entry_that_fails_is_told(rt: HostRuntime) -> Result<(), Fail> {
+    for row in MISFITS.lines() {
+        let wanted = answer_of(rt.alloc(), row)?;
+        let told = match misfit(rt.alloc(), call_of(row))? {
+            None => String::from_str(rt.alloc(), "fits")?,
+            Some(misfit) => format!(in rt.alloc(); "{misfit:?}")?,
+        };
+        assert!(rt; told.as_str() == wanted.as_str(), "{row}");
     }
     Ok(())
 }

@@ -1,16 +1,25 @@
--- Whether an entry may stand at a path and a version, computed.
-use Rattle.std.specs.Prelude.{ℕ, ◌≡◌, ◌↔◌, Bool, true, false, not, ◌&&◌, ◌||◌, nat_le, length, List, Option, Some, None, bytes_eq}
+-- Whether an entry may stand at a path and a version: its checks in their order, computed.
+use Rattle.std.specs.Prelude.{ℕ, ◌≡◌, ◌↔◌, Bool, true, false, not, ◌&&◌, nat_le, length, List, [], ◌∷◌, Option, Some, None, is_none, bytes_eq, if◌then◌else◌}
 use Rattle.modver.specs.Class.{class_of}
 use Rattle.modver.specs.Reading.{version_of}
 use Rattle.modver.specs.SemanticVersion.{SemanticVersion}
 use Rattle.modver.specs.declared.version.Class.{Class}
 use Rattle.modver.specs.declared.version.Class.TheVariants as class
 use Rattle.world.specs.declared.entry.Entry.{Entry}
+use Rattle.world.specs.declared.entry_test.Misfit.{Misfit}
+use Rattle.world.specs.declared.entry_test.Misfit.TheVariants as misfit
 use Rattle.world.specs.declared.reading.Reading.{Reading}
 use Rattle.world.specs.declared.reading.Reading.TheVariants.{Module, Fault}
 use Rattle.world.specs.Forms.{fits, path_of, is_time, suffix_of}
 use Rattle.world.specs.GoMods.{reading_of}
 use Rattle.world.specs.World.{IsEntry, place, gomod_limit, zip_limit}
+
+-- what stands beside the first check that fails
+abbrev pub first_failing : {A : Type 0} → List (Bool × A) → Option A
+first_failing [] = None
+first_failing (check ∷ checks) = if check.0 then Some check.1 else first_failing checks
+
+-- ---- what an entry has to be
 
 -- the files are within the limits
 abbrev pub is_small : Entry → Bool
@@ -23,16 +32,60 @@ is_time_of (class.Pseudo stamp) (Some time) = bytes_eq time stamp
 is_time_of c None = true
 is_time_of c (Some time) = is_time time
 
--- a go.mod reads, names the path, and is bare where the version has the mark
-abbrev pub is_gomod_of : List ℕ → Bool → Reading → Bool
-is_gomod_of path is_marked (Fault line) = false
-is_gomod_of path is_marked (Module m) = bytes_eq m.path path && (not is_marked || m.bare)
+-- ---- what its go.mod, as it was read, must not be
+
+-- it does not read
+abbrev pub has_fault : Reading → Bool
+has_fault (Fault line) = true
+has_fault (Module m) = false
+
+-- the line of its fault
+abbrev pub fault_line : Reading → ℕ
+fault_line (Fault line) = line
+fault_line (Module m) = 0
+
+-- it names another path
+abbrev pub names_other : List ℕ → Reading → Bool
+names_other path (Fault line) = false
+names_other path (Module m) = not (bytes_eq m.path path)
+
+-- it has more than its module directive
+abbrev pub has_more : Reading → Bool
+has_more (Fault line) = false
+has_more (Module m) = not m.bare
+
+-- ---- the checks in their order, each with what it tells where it fails
+
+abbrev pub own_checks : List ℕ → SemanticVersion → Entry → List (Bool × Misfit)
+own_checks path v e =
+    (not (is_small e), misfit.TooLarge)
+    ∷ (not (fits (suffix_of path) v), misfit.Version)
+    ∷ (not (is_time_of (class_of v) e.time), misfit.Time)
+    ∷ []
+
+-- those of its go.mod, where this tells whether the version has the mark
+abbrev pub module_checks : List ℕ → Bool → Reading → List (Bool × Misfit)
+module_checks path is_marked reading =
+    (has_fault reading, misfit.GoMod (fault_line reading))
+    ∷ (names_other path reading, misfit.ModulePath)
+    ∷ (is_marked && has_more reading, misfit.NotBare)
+    ∷ []
+
+-- the first check of an entry that fails, beside its go.mod
+abbrev pub own_misfit : List ℕ → SemanticVersion → Entry → Option Misfit
+own_misfit path v e = first_failing (own_checks path v e)
+
+-- the first check of its go.mod that fails
+abbrev pub module_misfit : List ℕ → Bool → Reading → Option Misfit
+module_misfit path is_marked reading = first_failing (module_checks path is_marked reading)
+
+-- ---- the test
 
 -- the entry goes with the path and the version, if there are such
 abbrev pub goes_with : Option (List ℕ) → Option SemanticVersion → Entry → Bool
 goes_with None v e = false
 goes_with (Some p) None e = false
-goes_with (Some p) (Some v) e = fits (suffix_of p) v && is_small e && is_time_of (class_of v) e.time && is_gomod_of p v.marked (reading_of e.gomod)
+goes_with (Some p) (Some v) e = is_none (own_misfit p v e) && is_none (module_misfit p v.marked (reading_of e.gomod))
 
 -- an entry may stand at the path and the version that these texts are
 abbrev pub is_entry : List ℕ → List ℕ → Entry → Bool

@@ -1,18 +1,74 @@
-//! Whether an entry may stand at a path and a version, for a store that takes over tables.
+//! What an entry must pass to stand at a path and a version: one table of checks, for a publish and
+//! for a store that takes over tables.
 ghost use Rattle.std.specs.Prelude.{◌≡◌, IfOk};
 ghost use Rattle.world.specs.EntryTest as spec;
-ghost use Rattle.world.specs.GoMods.{reading_of};
 
 use crate::entry::{EntryRef, MAX_GOMOD, MAX_ZIP};
 use crate::forms::{path_of, version_of};
 use crate::reading::Reading;
+use gomod::GoMod;
 use modpath::ModulePath;
 use modver::{Class, TimeText, Version, class, fits};
 use std::alloc::{AllocError, Global};
 
-/// Whether an entry may stand at the path and the version that these texts are: both are well formed
-/// and go together, the files are within the limits, the time is that of the version, and the go.mod
-/// is that of the path. (Go Modules Reference, "Module paths", "Versions" and "go.mod files".)
+/// Why an entry may not stand at a path and a version, in the order of the checks.
+#[derive(Clone, Copy, Debug, PartialEq, Eq)]
+pub enum Misfit {
+    /// The go.mod or the zip has more bytes than its limit.
+    TooLarge,
+    /// The path has no such version. (Go Modules Reference, "Major version suffixes".)
+    Version,
+    /// The time is not that of the version: that of its stamp, for a pseudo-version.
+    Time,
+    /// The go.mod does not read; the number of the faulty line, 0 where the fault has none.
+    GoMod(usize),
+    /// The go.mod names another path.
+    ModulePath,
+    /// The version has the mark, and the go.mod has more than its module directive.
+    NotBare,
+}
+
+/// The first check of an entry that fails, beside those of its go.mod. It takes no memory.
+pub fn own_misfit(path: &ModulePath, version: &Version, entry: &EntryRef) -> Option<Misfit>
+    ensures { result ≡ spec.own_misfit path.now version.now entry.now }
+{
+    if !is_small(entry) {
+        return Some(Misfit::TooLarge);
+    }
+    if !fits(path, version) {
+        return Some(Misfit::Version);
+    }
+    if !is_time_of(class(version), entry.time) {
+        return Some(Misfit::Time);
+    }
+    None
+}
+
+/// The first check of a go.mod, as it was read, that fails. It takes no memory.
+pub fn module_misfit(path: &ModulePath, version: &Version, gomod: &Reading) -> Option<Misfit>
+    ensures { result ≡ spec.module_misfit path.now version.now.marked gomod.now }
+{
+    match gomod {
+        Reading::Fault(line) => Some(Misfit::GoMod(*line)),
+        Reading::Module(says) => misfit_of(path, version, says),
+    }
+}
+
+/// The first check of a go.mod that reads that fails.
+fn misfit_of(path: &ModulePath, version: &Version, says: &GoMod) -> Option<Misfit>
+    ensures { result ≡ spec.module_misfit path.now version.now.marked (Reading.Module says.now) }
+{
+    if says.module().as_str() != path.as_str() {
+        return Some(Misfit::ModulePath);
+    }
+    if version.is_marked() && !says.is_bare() {
+        return Some(Misfit::NotBare);
+    }
+    None
+}
+
+/// Whether an entry may stand at the path and the version that these texts are: both are well formed,
+/// and no check of the entry fails. (Go Modules Reference, "Module paths", "Versions" and "go.mod files".)
 pub fn may_stand(
     alloc: Global,
     path: &str,
@@ -27,10 +83,11 @@ pub fn may_stand(
     let Some(version) = version_of(alloc, version)? else {
         return Ok(false);
     };
-    if !fits(&path, &version) || !is_small(entry) || !is_time_of(class(&version), entry.time) {
+    if own_misfit(&path, &version, entry).is_some() {
         return Ok(false);
     }
-    has_gomod_of(alloc, &path, &version, entry.gomod)
+    let gomod = Reading::of(alloc, entry.gomod)?;
+    Ok(module_misfit(&path, &version, &gomod).is_none())
 }
 
 fn is_small(entry: &EntryRef) -> bool
@@ -50,22 +107,5 @@ fn is_time_of(class: Class, time: Option<TimeText>) -> bool
     match class {
         Class::Pseudo(stamp) => text == stamp.as_str(),
         _ => true,
-    }
-}
-
-/// Whether a go.mod is that of a path and a version.
-fn has_gomod_of(
-    alloc: Global,
-    path: &ModulePath,
-    version: &Version,
-    bytes: &[u8],
-) -> Result<bool, AllocError>
-    ensures { IfOk result (λ b. b ≡ spec.is_gomod_of path.now version.now.marked (reading_of bytes.now)) }
-{
-    match Reading::of(alloc, bytes)? {
-        Reading::Fault(_) => Ok(false),
-        Reading::Module(module) => Ok(
-            module.module().as_str() == path.as_str() && (!version.is_marked() || module.is_bare()),
-        ),
     }
 }

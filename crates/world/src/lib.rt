@@ -13,11 +13,11 @@
 //!
 //! Nothing here knows of requests: the crate `shelf` answers them over any [`shelves::Shelves`]. A contract says
 //! what a call does in each world that the store stands for, and to what a crash may leave.
-//! [`map_shelves::MapShelves`] keeps the shelves in ordered maps. [`entry_test::may_stand`] is the test of an entry
-//! for a store that takes over tables, and [`laws`] says that it is exact. [`entry`] has what stands on a shelf and what
-//! a key holds, [`names`] the rules of team names and keys, [`forms`] the path and the version that a text is,
-//! [`reading`] what a go.mod says, and [`registry`] what a command of the registry comes to and why a store fails;
-//! contracts see the types of [`bytes`], [`text`] and [`text_set`] as lists and sets.
+//! [`map_shelves::MapShelves`] keeps the shelves in ordered maps. [`entry_test`] has the checks of an entry, for a
+//! publish and for a store that takes over tables, and [`laws`] says that they are exact. [`entry`] has what stands
+//! on a shelf and what a key holds, [`names`] the rules of team names and keys, [`forms`] the path and the version
+//! that a text is, [`reading`] what a go.mod says, and [`registry`] what a command of the registry comes to and why
+//! a store fails; contracts see the types of [`bytes`], [`text`] and [`text_set`] as lists and sets.
 #![tactic(auto)]
 
 pub mod bytes;

@@ -2,5 +2,6 @@
 mod file_runs;
 mod rows;
 mod runs;
+mod sockets;
 mod streams;
 mod words;

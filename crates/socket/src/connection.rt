@@ -26,7 +26,12 @@ pub struct Answered<R, W> {
     pub told: Result<Option<u16>, Io>,
 }
 
-/// Answers the first request of a peer, which has its time for the request and its time for the reply.
+/// Answers the first request of a peer (RFC 9112, in the crate `wire`'s profile), as `engine::answer_one` does. All reads together
+/// have 10 seconds and one more for each 262,144 bytes that were read, and so have all writes; the time begins at the first of
+/// them. One that begins later fails, and so does one for which the clock can't be read.
+///
+/// `Io::Read`: nothing was done, and nothing written. `Io::Write`: a beginning of the reply was written, or the flush alone
+/// failed; the shelves are as after the request.
 pub fn answer_in_time<C: Clock, R: Read + Drop, W: Write + Drop, S: Shelves>(
     alloc: Global,
     clock: &C,

@@ -35,6 +35,7 @@ fn run(rt: &HostRuntime, line: &str) -> Result<Ended, Fail> {
 
 /// Words that are bad usage, one run a line.
 const BAD: &str = "
+serv
 serve
 init
 team-add --db none.db
@@ -46,6 +47,14 @@ answer --team alpha --key alphakey00000001
 answer --mem --team alpha --key alphakey00000001 --db none.db
 answer --db none.db --team alpha
 answer --db none.db --db none.db
+serve --port 0
+serve --db none.db --connections 1
+serve --db none.db --port 65536 --connections 0
+serve --db none.db --port 0 --connections 4294967296
+serve --db none.db --port x --connections 0
+serve --db none.db --port=-1 --connections 0
+serve --db none.db --port 0 --connections
+serve --db none.db --port 0 --connections x
 ";
 
 /// Each command with its options.
@@ -56,6 +65,7 @@ key-add | --db --shelf --key --read-only
 key-revoke | --db --key
 publish | --db --key --module --version --mod --zip --time
 answer | --db --mem --team --key
+serve | --db --port --connections
 ";
 
 #[test]

@@ -11,8 +11,12 @@ use Rattle.std.proofs.lemmas.Str.{IsUtf8-from_ascii}
 use Rattle.modver.specs.Time.{has_time_form, is_moment}
 use Rattle.modver.proofs.Forms.{fits_form-ascii}
 use Rattle.wire.specs.Framing.{texts}
+use Rattle.wire.specs.Message.{Request}
+use Rattle.wire.specs.declared.request.Query.TheVariants as wanted
+use Rattle.wire.specs.declared.request.Target.{Target}
+use Rattle.wire.specs.declared.request.Target.TheVariants as target
 use Rattle.shelf.specs.declared.ask.GivenTime.TheVariants.{Malformed}
-use Rattle.engine.specs.Ask.{is_length, time_in, given_time}
+use Rattle.engine.specs.Ask.{is_length, time_in, given_time, ask_at, asking_of, is_summed, sum_at, sum_by, sum_of, target_in}
 
 last_of : (a b c d : Bool) → (a && b && not c && d) ≡ true → d ≡ true
 last_of true true false d e = e
@@ -45,3 +49,18 @@ time_or_not text false moment form m never = rw form refl
 -- what is no text is no time
 pub no_text : (text : List ℕ) → (IsUtf8 text → ⊥) → time_in text ≡ Malformed
 no_text text never = time_or_not text (has_time_form text) (is_moment text) refl refl never
+
+-- the go.sum line that is asked for is that of the go.mod that the machine is asked for
+sum_at_target : (m : Request) (t : Target) → sum_by (record { ask = ask_at m t; is_summed = is_summed t }) ≡ sum_at t
+sum_at_target m target.Unreadable = refl
+sum_at_target m (target.Put key path version) = refl
+sum_at_target m (target.Get key (wanted.Info path version)) = refl
+sum_at_target m (target.Get key (wanted.GoMod path version)) = refl
+sum_at_target m (target.Get key (wanted.Zip path version)) = refl
+sum_at_target m (target.Get key (wanted.List path)) = refl
+sum_at_target m (target.Get key (wanted.Latest path)) = refl
+sum_at_target m (target.Get key wanted.Modules) = refl
+sum_at_target m (target.Get key (wanted.GoSum path version)) = refl
+
+pub sum_asked : (m : Request) → sum_by (asking_of m) ≡ sum_of m
+sum_asked m = sum_at_target m (target_in m)

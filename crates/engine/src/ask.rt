@@ -12,12 +12,49 @@ use wire::{Memory, Message, Query as Wanted, Target, target};
 use world::bytes::Bytes;
 use world::text::Text;
 
+/// What a message asks of the machine.
+#[derive(Drop)]
+pub(crate) struct Asking {
+    pub(crate) ask: Ask,
+    /// A go.mod is asked for, to tell its go.sum line.
+    pub(crate) is_summed: bool,
+}
+
 /// What the message asks. The go.mod of a publish is the first bytes of its body, as many as `Mod-Length` says, and its time
 /// is that of its `Version-Time`.
-pub(crate) fn ask_of(alloc: Global, message: Message) -> Result<Ask, Memory>
-    ensures { IfOk result (λ ask. ask ≡ spec.ask_of (view message)) }
+pub(crate) fn asking_of(alloc: Global, message: Message) -> Result<Asking, Memory>
+    ensures { IfOk result (λ asking. asking ≡ spec.asking_of (view message)) }
 {
-    match target(alloc, &message.method, &message.target)? {
+    let target = target(alloc, &message.method, &message.target)?;
+    let is_summed = is_summed(&target);
+    let ask = ask_at(message, target)?;
+    Ok(Asking { ask, is_summed })
+}
+
+/// Whether a go.sum line is asked for.
+fn is_summed(target: &Target) -> bool
+    ensures { result ≡ spec.is_summed target.now }
+{
+    match target {
+        Target::Get { query, .. } => is_sum(query),
+        _ => false,
+    }
+}
+
+fn is_sum(wanted: &Wanted) -> bool
+    ensures { result ≡ spec.is_sum wanted.now }
+{
+    match wanted {
+        Wanted::GoSum { .. } => true,
+        _ => false,
+    }
+}
+
+/// What a message with this target asks.
+fn ask_at(message: Message, target: Target) -> Result<Ask, AllocError>
+    ensures { IfOk result (λ ask. ask ≡ spec.ask_at (view message) target) }
+{
+    match target {
         Target::Unreadable => Ok(Ask::Unreadable),
         Target::Get { key, query } => Ok(Ask::Get {
             key: Text::new(key.into_string()),
@@ -39,6 +76,7 @@ pub(crate) fn ask_of(alloc: Global, message: Message) -> Result<Ask, Memory>
     }
 }
 
+/// The query of the machine: a go.sum line is made of the go.mod.
 fn query_of(wanted: Wanted) -> Query
     ensures { result ≡ spec.query_of wanted }
 {
@@ -49,6 +87,7 @@ fn query_of(wanted: Wanted) -> Query
         Wanted::List { path } => Query::List { path },
         Wanted::Latest { path } => Query::Latest { path },
         Wanted::Modules => Query::Modules,
+        Wanted::GoSum { path, version } => Query::GoMod { path, version },
     }
 }
 

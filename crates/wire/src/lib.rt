@@ -18,6 +18,7 @@
 //! | `GET /k/key/example.com/lib/@v/list` | the versions of `example.com/lib` |
 //! | `GET /k/key/example.com/lib/@latest` | its latest version |
 //! | `GET /k/key/-/modules` | the paths; the dash and its slash are spelled plainly |
+//! | `GET /k/key/-/gosum/example.com/lib/@v/v1.0.0` | the go.sum line of `v1.0.0` of `example.com/lib` |
 //! | `PUT /k/key/example.com/lib/@v/v1.0.0` | to publish `example.com/lib` at `v1.0.0` |
 //! | `GET /k/key/example.com/Lib/@v/v1.0.0.mod` | nothing: upper-case letters are escaped |
 //!

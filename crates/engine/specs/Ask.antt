@@ -1,9 +1,7 @@
 -- What a message asks of the machine.
-use Rattle.std.specs.Prelude.{ℕ, List, [], ◌∷◌, Bool, true, false, ◌&&◌, not, if◌then◌else◌, Option, Some, None, nat_le, nat_lt, nat_eq, length, take, drop, slice_index}
-use Rattle.std.specs.List.{list_all}
-use Rattle.std.specs.Char.{is_ascii_digit}
-use Rattle.std.specs.Str.Parse.{digits_value}
+use Rattle.std.specs.Prelude.{ℕ, List, [], ◌∷◌, Bool, true, false, if◌then◌else◌, Option, Some, None, nat_le, length, take, drop}
 use Rattle.modver.specs.SemanticVersion.{SemanticVersion}
+use Rattle.wire.specs.Length.{length_value}
 use Rattle.wire.specs.Message.{Request}
 use Rattle.wire.specs.Target.{target_of}
 use Rattle.wire.specs.declared.request.Query.{Query as Wanted}
@@ -21,16 +19,6 @@ use Rattle.shelf.specs.declared.ask.Event.{Event}
 use Rattle.shelf.specs.declared.ask.Event.TheVariants.{Asked}
 use Rattle.world.specs.Forms.{is_time}
 use Rattle.engine.specs.declared.ask.Asking.{Asking}
-
--- `0`, or one to ten decimal digits of which the first is not 0
-abbrev pub is_length : List ℕ → Bool
-is_length text =
-    nat_lt 0 (length text) && nat_le (length text) 10
-    && not (nat_lt 1 (length text) && nat_eq (slice_index text 0) 48) && list_all is_ascii_digit text
-
--- the number that a length value writes
-abbrev pub length_value : List ℕ → Option ℕ
-length_value text = if is_length text then Some (digits_value 10 text) else None
 
 -- a number that is not above the most
 abbrev pub at_most : ℕ → Option ℕ → Option ℕ

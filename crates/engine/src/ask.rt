@@ -1,14 +1,12 @@
 //! What a message asks of the machine.
 ghost use Rattle.std.specs.Prelude.{◌≡◌, IfOk};
-ghost use Rattle.std.specs.Char.{is_ascii_digit};
-ghost use Rattle.std.specs.List.{list_all};
 ghost use Rattle.wire.specs.Framing.{view, texts};
 ghost use Rattle.engine.specs.Ask as spec;
 
 use modver::read_time;
 use shelf::ask::{Ask, Body, GivenTime, Publish, Query};
 use std::alloc::{AllocError, Global};
-use wire::{Memory, Message, Query as Wanted, Target, target};
+use wire::{Memory, Message, Query as Wanted, Target, length_value, target};
 use world::bytes::Bytes;
 use world::text::Text;
 
@@ -142,37 +140,4 @@ fn gomod_len(values: &[Vec<u8>], most: usize) -> Option<usize>
     };
     let len = length_value(text)?;
     if len <= most { Some(len) } else { None }
-}
-
-/// The number that a length value writes.
-fn length_value(text: &[u8]) -> Option<usize>
-    ensures { result ≡ spec.length_value text.now }
-{
-    if !is_length(text) {
-        return None;
-    }
-    let mut n = 0;
-    for digit in text {
-        n = n * 10 + (*digit - b'0') as usize;
-    }
-    Some(n)
-}
-
-/// Whether a text is `0`, or one to ten decimal digits of which the first is not 0.
-fn is_length(text: &[u8]) -> bool
-    ensures { result ≡ spec.is_length text.now }
-{
-    if text.is_empty() || text.len() > 10 {
-        return false;
-    }
-    if text.len() > 1 && text[0] == b'0' {
-        return false;
-    }
-    are_digits(text)
-}
-
-fn are_digits(text: &[u8]) -> bool
-    ensures { result ≡ list_all is_ascii_digit text.now }
-{
-    text.iter().all(|c| c.is_ascii_digit())
 }

@@ -31,6 +31,7 @@ pub mod framer;
 mod head;
 pub mod info;
 pub mod laws;
+pub mod length;
 pub mod message;
 mod places;
 pub mod put;
@@ -43,6 +44,7 @@ pub mod text;
 
 pub use framer::{Bad, Framer, Next};
 pub use info::info_body;
+pub use length::length_value;
 pub use message::{Memory, Message};
 pub use put::{fixed, fixed_line, put_head, reply_head};
 pub use reply::{Fixed, Kind, StatusCode};

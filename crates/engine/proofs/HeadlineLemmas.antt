@@ -23,7 +23,7 @@ use Rattle.shelf.proofs.Latest.{latest_is_the_top, none_is_latest}
 use Rattle.shelf.proofs.Served.{stays_served}
 use Rattle.engine.specs.Ask as spec
 use Rattle.engine.specs.Exchange.{Exchange, message_of, event_of, answer_of}
-use Rattle.engine.specs.Reply.{page_of, page_for, page_status, bytes_of, text_of}
+use Rattle.engine.specs.Reply.{reply_page, page_of, page_for, page_bytes, page_status, bytes_of, text_of}
 use Rattle.engine.specs.Headline.{unavailable, NoneUnavailable, are_kept, kept_messages, kept_texts, CallersAreToldAlike, BytesStayServed, TellsLatest, LatestIsWritten}
 
 -- ---- nothing of others
@@ -117,20 +117,32 @@ found_reply m w s (query.Zip p v) one is = found_zip m (view w s p (version_text
 found_reply m w s (query.Info p v) one is = found_info m v (heading w s p (version_text v)) is
 found_reply m w s q one is = absurd one
 
-found_bytes : (m n : Request) (r : Reply) → IsFound r → bytes_of m (Replied r) ≡ bytes_of n (Replied r)
-found_bytes m n (reply.GoMod b) is = refl
-found_bytes m n (reply.Zip b) is = refl
-found_bytes m n (reply.Info v time) is = refl
-found_bytes m n r is = absurd is
+found_bytes : (m n : Request) (r : Reply) → spec.sum_of m ≡ spec.sum_of n → IsFound r → bytes_of m (Replied r) ≡ bytes_of n (Replied r)
+found_bytes m n (reply.GoMod b) same is = ap (λ sum. page_bytes (reply_page sum (reply.GoMod b))) same
+found_bytes m n (reply.Zip b) same is = refl
+found_bytes m n (reply.Info v time) same is = refl
+found_bytes m n r same is = absurd is
 
 failed_text : (m : Request) (a : Answer) → IsFailed a → bytes_of m a ≡ unavailable
 failed_text m (Replied r) never = absurd never
 failed_text m (Failed fault) failed = refl
 
 pub bytes_stay_served : BytesStayServed
-bytes_stay_served old mid new s k later q first last events answers is own one asks ok run later_own asks_again again =
+bytes_stay_served old mid new s k later wanted first last events answers is own one targets ok run later_own targets_again again =
     by_answer (answer_of first) refl
   where
+    q : Query
+    q = spec.query_of wanted
+
+    asks : spec.ask_of first.message ≡ Get k q
+    asks = ap (spec.ask_at first.message) targets
+
+    asks_again : spec.ask_of last.message ≡ Get later q
+    asks_again = ap (spec.ask_at last.message) targets_again
+
+    sums : spec.sum_of last.message ≡ spec.sum_of first.message
+    sums = ap spec.sum_at targets_again ∙ sym (ap spec.sum_at targets)
+
     by_answer : (a : Answer) → answer_of first ≡ a → (text_of last ≡ text_of first) ⊎ (text_of last ≡ unavailable)
     by_answer (Failed fault) told =
         let wrong : ◌≡◌ {A = ℕ} 503 200 = sym (ap (λ a. page_status (page_for first.message a)) told) ∙ ok in absurd (omega arith)
@@ -143,7 +155,7 @@ bytes_stay_served old mid new s k later q first last events answers is own one a
         let status = sym (ap (λ a. page_status (page_for first.message a)) (told ∙ ap Replied reply)) ∙ ok in
         let found : IsFound r = subst IsFound (sym reply) (found_reply first.message old s q one status) in
         elim (stays_served old mid new s k later q r events answers (answer_of last) is own one found before later_own after) [
-          | inl same ↦ inl (ap (bytes_of last.message) same ∙ found_bytes last.message first.message r found ∙ ap (bytes_of first.message) (sym told))
+          | inl same ↦ inl (ap (bytes_of last.message) same ∙ found_bytes last.message first.message r sums found ∙ ap (bytes_of first.message) (sym told))
           | inr failed ↦ inr (failed_text last.message (answer_of last) failed)
         ]
 

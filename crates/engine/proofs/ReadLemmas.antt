@@ -5,7 +5,7 @@ use Rattle.std.specs.Io.KnownBytes.{Consumes, IsAtEnd}
 use Rattle.wire.specs.Message.{Ends, clean, bad}
 use Rattle.wire.specs.Framing.{HasMessage, IsUnfinished}
 use Rattle.wire.proofs.StreamLemmas.{ReadsMessage-append, no_message_at_end}
-use Rattle.engine.specs.Served.{Tells}
+use Rattle.engine.specs.Served.{read_limit, Tells}
 
 -- a reader at its end told nothing more
 pub Tells_end : (old new : Option (List ℕ)) → Consumes old new [] → IsAtEnd new → Tells old []
@@ -27,7 +27,7 @@ pub are_some : (bytes : List ℕ) (n : ℕ) → 0 < n → n ≤ length bytes →
 are_some bytes n some within e = absurd (omega (arith, ap length e, length-take-le n bytes within))
 
 -- they are no more than the buffer holds
-pub are_few : (bytes : List ℕ) (n : ℕ) → n ≤ length bytes → length bytes ≤ 4096 → length (take n bytes) ≤ 4096
+pub are_few : (bytes : List ℕ) (n : ℕ) → n ≤ length bytes → length bytes ≤ read_limit → length (take n bytes) ≤ read_limit
 are_few bytes n within room = omega (arith, length-take-le n bytes within)
 
 -- bytes that begin with a message are some

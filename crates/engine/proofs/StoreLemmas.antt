@@ -1,16 +1,17 @@
 -- A store goes through messages: none, one, and more after others.
-use Rattle.std.proofs.Common.{◌≡◌, ℕ, ◌≤◌, List, [], ◌∷◌, ◌++◌, map, refl, sym, subst, ap, ◌∙◌, inl, inr, Result, Ok, Err, arith, append-nil}
+use Rattle.std.proofs.Common.{◌≡◌, ℕ, ◌≤◌, List, [], ◌∷◌, ◌++◌, map, Option, refl, sym, subst, ap, ◌∙◌, inl, inr, Result, Ok, Err, arith, append-nil}
 use Rattle.std.proofs.lemmas.List.{map-append}
+use Rattle.modver.specs.SemanticVersion.{SemanticVersion}
 use Rattle.wire.specs.Message.{Request}
 use Rattle.shelf.specs.declared.ask.Ask.{Ask}
 use Rattle.shelf.specs.declared.reply.Reply.{Reply}
-use Rattle.shelf.specs.declared.reply.Reply.TheVariants.{Info, Versions, Paths}
+use Rattle.shelf.specs.declared.reply.Reply.TheVariants.{GoMod, Info, Versions, Paths}
 use Rattle.world.specs.declared.registry.StoreFault.{StoreFault}
 use Rattle.world.specs.World.{World}
 use Rattle.shelf.specs.Machine.{ask_reply, after_ask, HasBody}
 use Rattle.world.specs.Store.{Shown, Does, HasCause, GrewOrFull}
 use Rattle.shelf.proofs.Changes.{bodies_change_nothing}
-use Rattle.engine.specs.Ask.{ask_of}
+use Rattle.engine.specs.Ask.{ask_of, sum_of}
 use Rattle.engine.specs.Exchange.{Exchange, Outcome, Unserved, Met, Told, event_of, answer_of, AllUnmet}
 use Rattle.engine.specs.Reply.{IsComposed, IsOutcome}
 use Rattle.engine.specs.Store.{GoesThrough, LeavesTwo, world_at}
@@ -31,11 +32,12 @@ grown_next before mid now less (inl grew) = inl (omega arith)
 grown_next before mid now less (inr full) = inr full
 
 -- a body that is composed is one
-composed_body : (r : Reply) → IsComposed r → HasBody r
-composed_body (Info v time) composed = tt
-composed_body (Versions vs) composed = tt
-composed_body (Paths ps) composed = tt
-composed_body other composed = absurd composed
+composed_body : (sum : Option (List ℕ × SemanticVersion)) (r : Reply) → IsComposed sum r → HasBody r
+composed_body sum (GoMod b) composed = tt
+composed_body sum (Info v time) composed = tt
+composed_body sum (Versions vs) composed = tt
+composed_body sum (Paths ps) composed = tt
+composed_body sum other composed = absurd composed
 
 -- ---- none
 
@@ -137,11 +139,11 @@ module _ (old new : Shown) (before now : ℕ) (m : Request) (ask : Ask) (is : as
       kept h w stands was = subst (λ x. new.leaves x x) (same h w stands) ((does.at h w stands tt).kept was)
 
   -- it answered
-  pub through_asked : (told : Result Reply StoreFault) (outcome : Outcome) → IsOutcome told outcome
+  pub through_asked : (told : Result Reply StoreFault) (outcome : Outcome) → IsOutcome (sum_of m) told outcome
       → Does {T = Reply} old new told (λ w. ask_reply w ask) (λ w. after_ask w ask) → HasCause {T = Reply} before now told
       → GoesThrough old new before now (record { message = m; outcome = outcome } ∷ [])
   through_asked (Ok reply) (Told r) same does cause = rw same (through_told reply does cause)
-  through_asked (Ok reply) Unserved composed does cause = through_unshown reply (composed_body reply composed) does cause
+  through_asked (Ok reply) Unserved composed does cause = through_unshown reply (composed_body (sum_of m) reply composed) does cause
   through_asked (Ok reply) (Met f) wrong does cause = absurd wrong
   through_asked (Err fault) (Met f) same does cause = rw same (through_met fault does cause)
   through_asked (Err fault) Unserved wrong does cause = absurd wrong

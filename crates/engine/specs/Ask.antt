@@ -1,8 +1,7 @@
 -- What a message asks of the machine.
-use Rattle.std.specs.Prelude.{ℕ, List, [], ◌∷◌, Bool, ◌&&◌, not, if◌then◌else◌, Option, Some, None, nat_le, nat_lt, nat_eq, length, take, drop, slice_index}
-use Rattle.std.specs.List.{list_all}
-use Rattle.std.specs.Char.{is_ascii_digit}
-use Rattle.std.specs.Str.Parse.{digits_value}
+use Rattle.std.specs.Prelude.{ℕ, List, [], ◌∷◌, Bool, true, false, if◌then◌else◌, Option, Some, None, nat_le, length, take, drop}
+use Rattle.modver.specs.SemanticVersion.{SemanticVersion}
+use Rattle.wire.specs.Length.{length_value}
 use Rattle.wire.specs.Message.{Request}
 use Rattle.wire.specs.Target.{target_of}
 use Rattle.wire.specs.declared.request.Query.{Query as Wanted}
@@ -19,16 +18,7 @@ use Rattle.shelf.specs.declared.ask.Ask.TheVariants as ask
 use Rattle.shelf.specs.declared.ask.Event.{Event}
 use Rattle.shelf.specs.declared.ask.Event.TheVariants.{Asked}
 use Rattle.world.specs.Forms.{is_time}
-
--- `0`, or one to ten decimal digits of which the first is not 0
-abbrev pub is_length : List ℕ → Bool
-is_length text =
-    nat_lt 0 (length text) && nat_le (length text) 10
-    && not (nat_lt 1 (length text) && nat_eq (slice_index text 0) 48) && list_all is_ascii_digit text
-
--- the number that a length value writes
-abbrev pub length_value : List ℕ → Option ℕ
-length_value text = if is_length text then Some (digits_value 10 text) else None
+use Rattle.engine.specs.declared.ask.Asking.{Asking}
 
 -- a number that is not above the most
 abbrev pub at_most : ℕ → Option ℕ → Option ℕ
@@ -60,6 +50,7 @@ given_time [] = Absent
 given_time (text ∷ []) = time_in text
 given_time (text ∷ other ∷ more) = Malformed
 
+-- the query of the machine: a go.sum line is made of the go.mod
 abbrev pub query_of : Wanted → Query
 query_of (wanted.Info path version) = query.Info path version
 query_of (wanted.GoMod path version) = query.GoMod path version
@@ -67,6 +58,7 @@ query_of (wanted.Zip path version) = query.Zip path version
 query_of (wanted.List path) = query.List path
 query_of (wanted.Latest path) = query.Latest path
 query_of wanted.Modules = query.Modules
+query_of (wanted.GoSum path version) = query.GoMod path version
 
 abbrev pub ask_at : Request → Target → Ask
 ask_at m target.Unreadable = ask.Unreadable
@@ -74,9 +66,48 @@ ask_at m (target.Get key wanted) = ask.Get key (query_of wanted)
 ask_at m (target.Put key path version) =
     ask.Put key (record { path = path; version = version; body = body_of m; time = given_time m.version_times })
 
+-- what a message asks for by its method and its target
+abbrev pub target_in : Request → Target
+target_in m = target_of m.method m.target
+
 abbrev pub ask_of : Request → Ask
-ask_of m = ask_at m (target_of m.method m.target)
+ask_of m = ask_at m (target_in m)
 
 -- the event that a message is
 abbrev pub event_of : Request → Event
 event_of m = Asked (ask_of m)
+
+-- ---- go.sum lines
+
+-- the version whose go.sum line is asked for
+abbrev pub sum_in : Wanted → Option (List ℕ × SemanticVersion)
+sum_in (wanted.GoSum path version) = Some (path, version)
+sum_in other = None
+
+abbrev pub sum_at : Target → Option (List ℕ × SemanticVersion)
+sum_at (target.Get key wanted) = sum_in wanted
+sum_at other = None
+
+abbrev pub sum_of : Request → Option (List ℕ × SemanticVersion)
+sum_of m = sum_at (target_in m)
+
+-- whether a go.sum line is asked for
+abbrev pub is_sum : Wanted → Bool
+is_sum (wanted.GoSum path version) = true
+is_sum other = false
+
+abbrev pub is_summed : Target → Bool
+is_summed (target.Get key wanted) = is_sum wanted
+is_summed other = false
+
+abbrev pub asking_of : Request → Asking
+asking_of m = record { ask = ask_of m; is_summed = is_summed (target_in m) }
+
+-- the version whose go.mod is asked for
+abbrev pub gomod_asked : Ask → Option (List ℕ × SemanticVersion)
+gomod_asked (ask.Get key (query.GoMod path version)) = Some (path, version)
+gomod_asked other = None
+
+-- the version whose go.sum line is told, by what is asked of the machine
+abbrev pub sum_by : Asking → Option (List ℕ × SemanticVersion)
+sum_by asking = if asking.is_summed then gomod_asked asking.ask else None

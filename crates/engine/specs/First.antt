@@ -9,7 +9,7 @@ use Rattle.engine.specs.Exchange.{Exchange}
 use Rattle.engine.specs.Reply.{text_of, status_of}
 use Rattle.engine.specs.Store.{GoesThrough}
 use Rattle.engine.specs.Written.{WritesPart}
-use Rattle.engine.specs.Served.{Tells, IsClosing, closing_bytes, closing_status}
+use Rattle.engine.specs.Served.{read_limit, Tells, IsClosing, closing_bytes, closing_status}
 use Rattle.engine.specs.declared.fault.Io.{Io}
 use Rattle.engine.specs.declared.fault.Io.TheVariants as io
 
@@ -36,7 +36,7 @@ abbrev pub first_exchanges : First → List Exchange
 first_exchanges (Answers x) = x ∷ []
 first_exchanges (Closes closing) = []
 
--- It stands first in what the reader tells, and no more was read than was needed: before the last read, of at most 4,096 bytes,
+-- It stands first in what the reader tells, and no more was read than was needed: before the last read, of no more bytes than the limit,
 -- there was no whole message, and the stream could go on.
 pub record TakesFirst (unread unread_new : Option (List ℕ)) (first : First) : Type 0 where
   pub input : List ℕ
@@ -45,7 +45,7 @@ pub record TakesFirst (unread unread_new : Option (List ℕ)) (first : First) : 
   pub early : List ℕ
   pub last : List ℕ
   pub consumed : Consumes unread unread_new (early ++ last)
-  pub few : length last ≤ 4096
+  pub few : length last ≤ read_limit
   pub unfinished : IsUnfinished early
 
 -- The first message was answered as the machine answers it, or the stream closed without one: the number tells which status was

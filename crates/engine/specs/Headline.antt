@@ -5,19 +5,20 @@ use Rattle.latest.specs.Latest.{IsTop}
 use Rattle.modver.specs.SemanticVersion.{SemanticVersion}
 use Rattle.wire.specs.Message.{Request}
 use Rattle.wire.specs.Reply.{reply_bytes, fixed_bytes, info_bytes}
+use Rattle.wire.specs.declared.request.Query.{Query as Wanted}
+use Rattle.wire.specs.declared.request.Target.TheVariants as target
 use Rattle.wire.specs.declared.reply.Fixed.TheVariants.{NotFound, Unavailable}
 use Rattle.wire.specs.declared.reply.Kind.TheVariants.{Json}
 use Rattle.world.specs.World.{World, IsWorld, chain}
 use Rattle.shelf.specs.declared.ask.Ask.TheVariants.{Get}
 use Rattle.shelf.specs.declared.ask.Event.{Event}
-use Rattle.shelf.specs.declared.ask.Query.{Query}
 use Rattle.shelf.specs.declared.ask.Query.TheVariants.{Latest}
 use Rattle.shelf.specs.declared.reply.Answer.{Answer}
 use Rattle.shelf.specs.Machine.{Run}
 use Rattle.shelf.specs.Isolation.{kept, marked, belongs}
 use Rattle.shelf.specs.Immutability.{IsOfVersion}
 use Rattle.shelf.specs.PathLaws.{unretracted_versions, HasTime}
-use Rattle.engine.specs.Ask.{ask_of}
+use Rattle.engine.specs.Ask.{ask_of, query_of, target_in}
 use Rattle.engine.specs.Exchange.{Exchange, message_of, event_of, answer_of}
 use Rattle.engine.specs.Reply.{text_of, status_of}
 
@@ -55,13 +56,13 @@ CallersAreToldAlike =
 -- ---- the same for good
 
 -- Once a GET of one version by a key of s was answered 200, then after any events the same GET by any key that then belongs to s is
--- written the same, or the 503.
+-- written the same, or the 503. It asks for the time of the version, for its go.mod, its zip or its go.sum line.
 abbrev pub BytesStayServed : Type 0
 BytesStayServed =
-    (old mid new : World) (s k later : List ℕ) (q : Query) (first last : Exchange) (events : List Event) (answers : List Answer)
-    → IsWorld old → belongs old k s → IsOfVersion q → ask_of first.message ≡ Get k q → status_of first ≡ 200
+    (old mid new : World) (s k later : List ℕ) (q : Wanted) (first last : Exchange) (events : List Event) (answers : List Answer)
+    → IsWorld old → belongs old k s → IsOfVersion (query_of q) → target_in first.message ≡ target.Get k q → status_of first ≡ 200
     → Run old (event_of first ∷ events) (answer_of first ∷ answers) mid
-    → belongs mid later s → ask_of last.message ≡ Get later q → Run mid (event_of last ∷ []) (answer_of last ∷ []) new
+    → belongs mid later s → target_in last.message ≡ target.Get later q → Run mid (event_of last ∷ []) (answer_of last ∷ []) new
     → (text_of last ≡ text_of first) ⊎ (text_of last ≡ unavailable)
 
 -- ---- the latest version

@@ -1,6 +1,7 @@
 -- The bytes and the status of an answer to a request.
-use Rattle.std.specs.Prelude.{◌≡◌, ℕ, List, map, Result, Ok, Err}
-use Rattle.modver.specs.SemanticVersion.{version_text}
+use Rattle.std.specs.Prelude.{◌≡◌, ℕ, List, ◌++◌, codes, Option, Some, None, map, Result, Ok, Err}
+use Rattle.gosum.specs.Sum.{line_of}
+use Rattle.modver.specs.SemanticVersion.{SemanticVersion, version_text}
 use Rattle.wire.specs.Message.{Request}
 use Rattle.wire.specs.Reply.{reply_bytes, fixed_bytes, fixed_status, info_bytes}
 use Rattle.wire.specs.declared.reply.Fixed.{Fixed}
@@ -16,6 +17,7 @@ use Rattle.shelf.specs.declared.reply.Refusal.TheVariants as refusal
 use Rattle.shelf.specs.declared.reply.Reply.{Reply}
 use Rattle.shelf.specs.declared.reply.Reply.TheVariants as reply
 use Rattle.world.specs.declared.registry.StoreFault.{StoreFault}
+use Rattle.engine.specs.Ask.{sum_of}
 use Rattle.engine.specs.Exchange.{Exchange, Outcome, Unserved, Met, Told, answer_of}
 use Rattle.engine.specs.declared.page.Page.{Page}
 use Rattle.engine.specs.declared.page.Page.TheVariants as page
@@ -41,37 +43,56 @@ fixed_of (decision.Refused why) = refusal_of why
 fixed_of decision.Conflict = fixed.Conflict
 fixed_of decision.Full = fixed.Full
 
--- A reply to a request as it is written; the outcome of a command, which no request gets, reads as not found. A version is told
--- by its info object, and versions and paths by one line each.
+-- a go.mod as it is told: as it was received, or by its go.sum line and a newline, where that of its version is asked for
+abbrev pub gomod_body : Option (List ℕ × SemanticVersion) → List ℕ → List ℕ
+gomod_body None text = text
+gomod_body (Some (path, version)) text = line_of path (version_text version) text ++ codes "\n"
+
+-- A reply as it is written, where the go.sum line of this version is asked for, or of none; the outcome of a command, which no
+-- request gets, reads as not found. A version is told by its info object, and versions and paths by one line each.
+abbrev pub reply_page : Option (List ℕ × SemanticVersion) → Reply → Page
+reply_page sum reply.NotFound = page.Fixed fixed.NotFound
+reply_page sum (reply.Decided decision) = page.Fixed (fixed_of decision)
+reply_page sum (reply.GoMod text) = page.Body kind.TextPlain (gomod_body sum text)
+reply_page sum (reply.Zip zip) = page.Body kind.Zip zip
+reply_page sum (reply.Info version time) = page.Body kind.Json (info_bytes version time)
+reply_page sum (reply.Versions versions) = page.Body kind.TextPlain (lines_of (map version_text (in_order versions)))
+reply_page sum (reply.Paths paths) = page.Body kind.TextPlain (lines_of (in_order paths))
+reply_page sum (reply.Registry outcome) = page.Fixed fixed.NotFound
+
+-- a reply to a request as it is written
 abbrev pub page_of : Request → Reply → Page
-page_of m reply.NotFound = page.Fixed fixed.NotFound
-page_of m (reply.Decided decision) = page.Fixed (fixed_of decision)
-page_of m (reply.GoMod text) = page.Body kind.TextPlain text
-page_of m (reply.Zip zip) = page.Body kind.Zip zip
-page_of m (reply.Info version time) = page.Body kind.Json (info_bytes version time)
-page_of m (reply.Versions versions) = page.Body kind.TextPlain (lines_of (map version_text (in_order versions)))
-page_of m (reply.Paths paths) = page.Body kind.TextPlain (lines_of (in_order paths))
-page_of m (reply.Registry outcome) = page.Fixed fixed.NotFound
+page_of m reply = reply_page (sum_of m) reply
+
+-- a go.sum line is asked for
+abbrev pub IsSummed : Option (List ℕ × SemanticVersion) → Type 0
+IsSummed None = ⊥
+IsSummed (Some version) = Unit {0}
 
 -- a reply whose body is composed, and is no file as it was received
-abbrev pub IsComposed : Reply → Type 0
-IsComposed (reply.Info version time) = Unit {0}
-IsComposed (reply.Versions versions) = Unit {0}
-IsComposed (reply.Paths paths) = Unit {0}
-IsComposed other = ⊥
+abbrev pub IsComposed : Option (List ℕ × SemanticVersion) → Reply → Type 0
+IsComposed sum (reply.GoMod text) = IsSummed sum
+IsComposed sum (reply.Info version time) = Unit {0}
+IsComposed sum (reply.Versions versions) = Unit {0}
+IsComposed sum (reply.Paths paths) = Unit {0}
+IsComposed sum other = ⊥
 
 -- What becomes of a message, by what the machine answered: its reply is told, or it is not for want of memory for a body that
 -- is composed; or the store met a fault.
-abbrev pub IsOutcome : Result Reply StoreFault → Outcome → Type 0
-IsOutcome (Ok reply) (Told told) = told ≡ reply
-IsOutcome (Ok reply) Unserved = IsComposed reply
-IsOutcome (Err fault) (Met met) = met ≡ fault
-IsOutcome answer outcome = ⊥
+abbrev pub IsOutcome : Option (List ℕ × SemanticVersion) → Result Reply StoreFault → Outcome → Type 0
+IsOutcome sum (Ok reply) (Told told) = told ≡ reply
+IsOutcome sum (Ok reply) Unserved = IsComposed sum reply
+IsOutcome sum (Err fault) (Met met) = met ≡ fault
+IsOutcome sum answer outcome = ⊥
 
--- an answer to a request as it is written: the reply, or the 503
+-- an answer as it is written: the reply, or the 503
+abbrev pub answer_page : Option (List ℕ × SemanticVersion) → Answer → Page
+answer_page sum (Replied reply) = reply_page sum reply
+answer_page sum (Failed fault) = page.Fixed fixed.Unavailable
+
+-- an answer to a request as it is written
 abbrev pub page_for : Request → Answer → Page
-page_for m (Replied reply) = page_of m reply
-page_for m (Failed fault) = page.Fixed fixed.Unavailable
+page_for m answer = answer_page (sum_of m) answer
 
 abbrev pub page_bytes : Page → List ℕ
 page_bytes (page.Fixed answer) = fixed_bytes answer

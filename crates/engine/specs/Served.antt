@@ -15,6 +15,10 @@ use Rattle.engine.specs.Written.{IsBeginning}
 use Rattle.engine.specs.declared.fault.Io.{Io}
 use Rattle.engine.specs.declared.fault.Io.TheVariants as io
 
+-- the most bytes of a read
+abbrev pub read_limit : ℕ
+read_limit = 4096
+
 -- the input is what the reader tells, where it tells
 abbrev pub Tells : Option (List ℕ) → List ℕ → Type 0
 Tells None input = ⊤

@@ -9,7 +9,7 @@ use Rattle.engine.specs.Exchange.{Exchange, message_of}
 use Rattle.engine.specs.Reply.{text_of}
 use Rattle.engine.specs.Store.{GoesThrough}
 use Rattle.engine.specs.Written.{IsBeginning, WritesPart}
-use Rattle.engine.specs.Served.{Tells, IsClosing, texts_of}
+use Rattle.engine.specs.Served.{read_limit, Tells, IsClosing, texts_of}
 use Rattle.engine.specs.declared.fault.Io.{Io}
 use Rattle.engine.specs.declared.fault.Io.TheVariants as io
 use Rattle.engine.specs.declared.turn.Turn.{Turn}
@@ -27,9 +27,9 @@ Takes old (taken.Close closing) new =
 -- what a read gave the framer, or why it closes the stream; memory is wanted only for bytes that came
 abbrev pub ReadsOn : Framing → Framing → Option (List ℕ) → Option (List ℕ) → Result Turn Io → Type 0
 ReadsOn old new unread unread_new (Ok turn.Go) =
-    (bytes : List ℕ) × Consumes unread unread_new bytes × (length bytes ≤ 4096) × (new ≡ record old { held = old.held ++ bytes })
+    (bytes : List ℕ) × Consumes unread unread_new bytes × (length bytes ≤ read_limit) × (new ≡ record old { held = old.held ++ bytes })
 ReadsOn old new unread unread_new (Ok (turn.Close closing)) =
-    (bytes : List ℕ) × Consumes unread unread_new bytes × (length bytes ≤ 4096)
+    (bytes : List ℕ) × Consumes unread unread_new bytes × (length bytes ≤ read_limit)
     × ((all : List ℕ) × Tells unread all × IsClosing (old.held ++ all) closing)
     × (closing ≡ Some fixed.Unavailable → bytes ≢ [])
 ReadsOn old new unread unread_new (Err e) = (e ≡ io.Read) × Keeps unread unread_new

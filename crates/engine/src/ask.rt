@@ -1,23 +1,58 @@
 //! What a message asks of the machine.
 ghost use Rattle.std.specs.Prelude.{◌≡◌, IfOk};
-ghost use Rattle.std.specs.Char.{is_ascii_digit};
-ghost use Rattle.std.specs.List.{list_all};
 ghost use Rattle.wire.specs.Framing.{view, texts};
 ghost use Rattle.engine.specs.Ask as spec;
 
 use modver::read_time;
 use shelf::ask::{Ask, Body, GivenTime, Publish, Query};
 use std::alloc::{AllocError, Global};
-use wire::{Memory, Message, Query as Wanted, Target, target};
+use wire::{Memory, Message, Query as Wanted, Target, length_value, target};
 use world::bytes::Bytes;
 use world::text::Text;
 
+/// What a message asks of the machine.
+#[derive(Drop)]
+pub(crate) struct Asking {
+    pub(crate) ask: Ask,
+    /// A go.mod is asked for, to tell its go.sum line.
+    pub(crate) is_summed: bool,
+}
+
 /// What the message asks. The go.mod of a publish is the first bytes of its body, as many as `Mod-Length` says, and its time
 /// is that of its `Version-Time`.
-pub(crate) fn ask_of(alloc: Global, message: Message) -> Result<Ask, Memory>
-    ensures { IfOk result (λ ask. ask ≡ spec.ask_of (view message)) }
+pub(crate) fn asking_of(alloc: Global, message: Message) -> Result<Asking, Memory>
+    ensures { IfOk result (λ asking. asking ≡ spec.asking_of (view message)) }
 {
-    match target(alloc, &message.method, &message.target)? {
+    let target = target(alloc, &message.method, &message.target)?;
+    let is_summed = is_summed(&target);
+    let ask = ask_at(message, target)?;
+    Ok(Asking { ask, is_summed })
+}
+
+/// Whether a go.sum line is asked for.
+fn is_summed(target: &Target) -> bool
+    ensures { result ≡ spec.is_summed target.now }
+{
+    match target {
+        Target::Get { query, .. } => is_sum(query),
+        _ => false,
+    }
+}
+
+fn is_sum(wanted: &Wanted) -> bool
+    ensures { result ≡ spec.is_sum wanted.now }
+{
+    match wanted {
+        Wanted::GoSum { .. } => true,
+        _ => false,
+    }
+}
+
+/// What a message with this target asks.
+fn ask_at(message: Message, target: Target) -> Result<Ask, AllocError>
+    ensures { IfOk result (λ ask. ask ≡ spec.ask_at (view message) target) }
+{
+    match target {
         Target::Unreadable => Ok(Ask::Unreadable),
         Target::Get { key, query } => Ok(Ask::Get {
             key: Text::new(key.into_string()),
@@ -39,6 +74,7 @@ pub(crate) fn ask_of(alloc: Global, message: Message) -> Result<Ask, Memory>
     }
 }
 
+/// The query of the machine: a go.sum line is made of the go.mod.
 fn query_of(wanted: Wanted) -> Query
     ensures { result ≡ spec.query_of wanted }
 {
@@ -49,6 +85,7 @@ fn query_of(wanted: Wanted) -> Query
         Wanted::List { path } => Query::List { path },
         Wanted::Latest { path } => Query::Latest { path },
         Wanted::Modules => Query::Modules,
+        Wanted::GoSum { path, version } => Query::GoMod { path, version },
     }
 }
 
@@ -103,37 +140,4 @@ fn gomod_len(values: &[Vec<u8>], most: usize) -> Option<usize>
     };
     let len = length_value(text)?;
     if len <= most { Some(len) } else { None }
-}
-
-/// The number that a length value writes.
-fn length_value(text: &[u8]) -> Option<usize>
-    ensures { result ≡ spec.length_value text.now }
-{
-    if !is_length(text) {
-        return None;
-    }
-    let mut n = 0;
-    for digit in text {
-        n = n * 10 + (*digit - b'0') as usize;
-    }
-    Some(n)
-}
-
-/// Whether a text is `0`, or one to ten decimal digits of which the first is not 0.
-fn is_length(text: &[u8]) -> bool
-    ensures { result ≡ spec.is_length text.now }
-{
-    if text.is_empty() || text.len() > 10 {
-        return false;
-    }
-    if text.len() > 1 && text[0] == b'0' {
-        return false;
-    }
-    are_digits(text)
-}
-
-fn are_digits(text: &[u8]) -> bool
-    ensures { result ≡ list_all is_ascii_digit text.now }
-{
-    text.iter().all(|c| c.is_ascii_digit())
 }

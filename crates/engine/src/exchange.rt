@@ -1,13 +1,13 @@
 //! A message and its reply.
 ghost use Rattle.std.specs.Prelude.{◌≡◌, ◌∷◌, [], IfOk};
 ghost use Rattle.wire.specs.Framing.{view};
-ghost use Rattle.wire.specs.Message.{Request};
 ghost use Rattle.engine.specs.Exchange.{Exchange, Outcome, answer_to};
-ghost use Rattle.engine.specs.Reply.{IsOutcome, page_for, page_to, text_of, status_of};
+ghost use Rattle.engine.specs.Ask.{sum_by};
+ghost use Rattle.engine.specs.Reply.{IsOutcome, answer_page, page_to, text_of, status_of};
 ghost use Rattle.engine.specs.Store.{GoesThrough};
 ghost use Rattle.engine.specs.Written.{Writes};
 
-use crate::ask::ask_of;
+use crate::ask::{Asking, asking_of};
 use crate::fault::Io;
 use crate::page::{Page, page_of};
 use crate::write::write_page;
@@ -22,13 +22,14 @@ use world::shelves::Shelves;
 
 /// What is written for what the machine answered: its reply, or 503 where the store met a fault, or where there is no memory
 /// for the body of the reply.
-fn page_told(alloc: Global, told: Result<Reply, StoreFault>) -> Page
-    ensures { (outcome : Outcome) × IsOutcome told outcome × ((m : Request) → result ≡ page_for m (answer_to outcome)) }
+fn page_told(alloc: Global, asking: &Asking, told: Result<Reply, StoreFault>) -> Page
+    ensures { (outcome : Outcome) × IsOutcome (sum_by asking.now) told outcome
+        × (result ≡ answer_page (sum_by asking.now) (answer_to outcome)) }
 {
     let Ok(reply) = told else {
         return Page::Fixed(Fixed::Unavailable);
     };
-    match page_of(alloc, reply) {
+    match page_of(alloc, asking, reply) {
         Ok(page) => page,
         Err(_) => Page::Fixed(Fixed::Unavailable),
     }
@@ -41,11 +42,11 @@ fn page_for<S: Shelves>(alloc: Global, shelves: &mut S, message: Message) -> Pag
         GoesThrough (S.shown shelves.old) (S.shown shelves.new) (S.failure_count shelves.old) (S.failure_count shelves.new) (x ∷ [])
         × (result ≡ page_to x)) }
 {
-    let Ok(ask) = ask_of(alloc, message) else {
+    let Ok(asking) = asking_of(alloc, message) else {
         return Page::Fixed(Fixed::Unavailable);
     };
-    let told = step(alloc, shelves, &ask);
-    page_told(alloc, told)
+    let told = step(alloc, shelves, &asking.ask);
+    page_told(alloc, &asking, told)
 }
 
 /// Answers one message, and tells the status that was written.

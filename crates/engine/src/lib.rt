@@ -26,6 +26,7 @@
 //! | the machine's reply | what is written |
 //! |---|---|
 //! | a go.mod or a zip | 200 and its bytes as they were received |
+//! | a go.mod, where its go.sum line was asked for | 200 and the line, ended by a newline |
 //! | a version and its time | 200 and `{"Time":"..","Version":".."}`, or `{"Version":".."}` without a time |
 //! | versions, or paths | 200 and one a line, each ended by a newline |
 //! | not found, or the outcome of a publish | a fixed text |

@@ -1,9 +1,14 @@
 //! Replies as they are written.
-ghost use Rattle.std.specs.Prelude.{◌≡◌, IfOk, OnErr};
-ghost use Rattle.wire.specs.Message.{Request};
+ghost use Rattle.std.specs.Prelude.{◌≡◌, Some, IfOk, OnErr};
+ghost use Rattle.engine.specs.Ask.{sum_by};
 ghost use Rattle.engine.specs.Reply as spec;
-ghost use Rattle.engine.specs.Reply.{IsComposed};
+ghost use Rattle.engine.specs.Reply.{IsComposed, IsSummed};
 
+use crate::ask::Asking;
+use gosum::sum_line;
+use modpath::ModulePath;
+use modver::Version;
+use shelf::ask::{Ask, Query};
 use shelf::reply::{Decision, Refusal, Reply};
 use std::alloc::Global;
 use wire::reply::{Fixed, Kind};
@@ -50,15 +55,47 @@ pub fn fixed_of(decision: Decision) -> Fixed
     }
 }
 
-/// A reply of the machine as it is written. `Memory` only for a body that is composed; a file is moved, as it was received.
-pub(crate) fn page_of(alloc: Global, reply: Reply) -> Result<Page, Memory>
-    ensures page { (m : Request) → IfOk result (λ page. page ≡ spec.page_of m reply) }
-    ensures memory { OnErr result (IsComposed reply) }
+/// The go.sum line of a go.mod, and a newline. `Memory` where there is no room for it.
+fn sum_body(
+    alloc: Global,
+    path: &ModulePath,
+    version: &Version,
+    gomod: &[u8],
+) -> Result<Bytes, Memory>
+    ensures { IfOk result (λ body. body ≡ spec.gomod_body (Some (path.now, version.now)) gomod.now) }
+{
+    let mut line = sum_line(alloc, path, version, gomod)?;
+    line.push_str("\n")?;
+    Ok(Bytes::new(line.into_bytes()))
+}
+
+/// A go.mod as it is told: as it was received, or by its go.sum line where that is asked for. `Memory` only for the line.
+fn gomod_body(alloc: Global, asking: &Asking, gomod: Bytes) -> Result<Bytes, Memory>
+    ensures body { IfOk result (λ body. body ≡ spec.gomod_body (sum_by asking.now) gomod) }
+    ensures memory { OnErr result (IsSummed (sum_by asking.now)) }
+{
+    if !asking.is_summed {
+        return Ok(gomod);
+    }
+    match &asking.ask {
+        Ask::Get {
+            query: Query::GoMod { path, version },
+            ..
+        } => sum_body(alloc, path, version, gomod.as_slice()),
+        _ => Ok(gomod),
+    }
+}
+
+/// A reply of the machine to what was asked as it is written. `Memory` only for a body that is composed; a file is moved, as it was
+/// received.
+pub(crate) fn page_of(alloc: Global, asking: &Asking, reply: Reply) -> Result<Page, Memory>
+    ensures page { IfOk result (λ page. page ≡ spec.reply_page (sum_by asking.now) reply) }
+    ensures memory { OnErr result (IsComposed (sum_by asking.now) reply) }
 {
     match reply {
         Reply::NotFound | Reply::Registry(_) => Ok(Page::Fixed(Fixed::NotFound)),
         Reply::Decided(decision) => Ok(Page::Fixed(fixed_of(decision))),
-        Reply::GoMod(text) => Ok(Page::Body(Kind::TextPlain, text)),
+        Reply::GoMod(text) => Ok(Page::Body(Kind::TextPlain, gomod_body(alloc, asking, text)?)),
         Reply::Zip(zip) => Ok(Page::Body(Kind::Zip, zip)),
         Reply::Info { version, time } => {
             let body = info_body(alloc, &version, time)?;

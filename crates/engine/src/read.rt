@@ -13,6 +13,9 @@ use wire::reply::Fixed;
 /// How often a call that was interrupted is made anew.
 pub(crate) const TRIES: u32 = 1_000;
 
+/// The most bytes of a read.
+const READ_LIMIT: usize = 4_096;
+
 /// Reads once; a call that is interrupted is made anew.
 fn read_some<R: Read>(reader: &mut R, chunk: &mut [u8]) -> Result<usize, Io>
     requires { 0 < length chunk.old }
@@ -38,7 +41,7 @@ pub(crate) fn read_more<R: Read>(reader: &mut R, framer: &mut Framer) -> Result<
     requires { IsUnfinished framer.old.held }
     ensures { ReadsOn framer.old framer.new (R.remaining reader.old) (R.remaining reader.new) result }
 {
-    let mut chunk = [0; 4096];
+    let mut chunk = [0; READ_LIMIT];
     match read_some(reader, &mut chunk)? {
         0 if framer.is_empty() => Ok(Turn::Close(None)),
         0 => Ok(Turn::Close(Some(Fixed::BadRequest))),

@@ -18,6 +18,8 @@ mod hashes;
 #[cfg(test)]
 mod latest_versions;
 #[cfg(test)]
+mod lengths;
+#[cfg(test)]
 mod module_paths;
 #[cfg(test)]
 mod orders;

@@ -14,7 +14,7 @@ pub fn with_lines(alloc: Global, column: &str) -> Result<String, AllocError> {
     column.replace(alloc, ";", "\n")
 }
 
-/// The name of a fault as a table has it; `-` for none.
+/// The name of a fault, or a number, as a table has it; `-` for none.
 pub fn named<F: Debug + Copy>(alloc: Global, fault: Option<F>) -> Result<String, AllocError> {
     match fault {
         Some(fault) => format!(in alloc; "{fault:?}"),

@@ -35,6 +35,7 @@ fn shown(alloc: Global, method: &[u8], text: &[u8]) -> Result<String, Memory> {
             Query::List { path } => of_path(alloc, "list", &key, &path),
             Query::Latest { path } => of_path(alloc, "latest", &key, &path),
             Query::Modules => Ok(format!(in alloc; "modules {}", key.as_str())?),
+            Query::GoSum { path, version } => of_version(alloc, "sum", &key, &path, &version),
         },
         Target::Put { key, path, version } => of_version(alloc, "put", &key, &path, &version),
     }
@@ -99,7 +100,19 @@ GET /k/key/%2D/modules|-
 GET /k/key/%2Fmodules|-
 GET /k/key/modules|-
 GET /k/key/-/example.com/lib/@latest|-
-GET /k/key/-/gosum/example.com/lib/@v/v1.0.0|-
+GET /k/key/-/gosum/example.com/lib/@v/v1.0.0|sum key example.com/lib v1.0.0
+GET /k/key/-/gosum%2Fexample.com/!lib/%40v/v1.0.0-a.mod|sum key example.com/Lib v1.0.0-a.mod
+GET /k/key/-/gosum/example.com/lib/@v/v2.0.0%2Bincompatible|sum key example.com/lib v2.0.0+incompatible
+GET /k/key/-/gosum/example.com/lib/@v/v1.0.0.mod|-
+GET /k/key/-/gosum/example.com/lib/@v/list|-
+GET /k/key/-/gosum/example.com/lib/@latest|-
+GET /k/key/-/gosum/example.com/Lib/@v/v1.0.0|-
+GET /k/key/-/gosum/|-
+GET /k/key/-/gosum|-
+GET /k/key/-/Gosum/example.com/lib/@v/v1.0.0|-
+GET /k/key/-%2Fgosum/example.com/lib/@v/v1.0.0|-
+GET /k/key/%2D/gosum/example.com/lib/@v/v1.0.0|-
+PUT /k/key/-/gosum/example.com/lib/@v/v1.0.0|-
 GET /-/modules|-
 PUT /k/key/example.com/!lib/@v/v1.0.0|put key example.com/Lib v1.0.0
 PUT /k/key/example.com%2Flib/@v/v1.0.0-a.zip|put key example.com/lib v1.0.0-a.zip

@@ -14,7 +14,8 @@ pub fn shelves(alloc: Global) -> Result<MapShelves, StoreFault> {
     Ok(shelves)
 }
 
-fn register(shelves: &mut MapShelves) -> Result<(), StoreFault> {
+/// Adds the teams and the keys.
+pub fn register<S: Shelves>(shelves: &mut S) -> Result<(), StoreFault> {
     shelves.team_add("alpha")?;
     shelves.team_add("beta")?;
     shelves.key_add("alpha", "alphakey00000001", Right::Publishes)?;

@@ -30,4 +30,6 @@ mod stores;
 #[cfg(test)]
 mod stream;
 #[cfg(test)]
+mod sums;
+#[cfg(test)]
 mod version_sets;

@@ -10,6 +10,7 @@ pub mod VersionLemmas
 pub mod PlainBytes
 pub mod InfoLemmas
 pub mod InsertLemmas
+pub mod LengthLemmas
 pub mod RouteLemmas
 pub mod WalkLemmas
 pub mod TargetLemmas

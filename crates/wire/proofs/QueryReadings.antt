@@ -14,8 +14,8 @@ use Rattle.modpath.specs.Escape.{escaped}
 use Rattle.modpath.specs.ModulePath.{BeginsWith}
 use Rattle.modpath.specs.Path.{IsPath, check_of, first_element}
 use Rattle.modver.specs.SemanticVersion.{SemanticVersion, version_text}
-use Rattle.wire.specs.Place.{IsPlace, cut_of, path_of, version_from, without_end, without_start}
-use Rattle.wire.specs.Query.{IsQuery, asked_by, asked_of, ending_of, first_some, of_path, own_of, part_of, query_for, query_in, split_part, text_eq, without_ending}
+use Rattle.wire.specs.Place.{IsPlace, cut_of, path_of, place_of, version_from, without_end, without_start}
+use Rattle.wire.specs.Query.{IsQuery, asked_by, asked_of, ending_of, first_some, of_path, own_of, part_of, query_for, query_in, split_part, sum_at, summed_of, text_eq, without_ending}
 use Rattle.wire.specs.Route.{area_of, is_own}
 use Rattle.wire.specs.declared.routes.Area.{Area}
 use Rattle.wire.specs.declared.routes.Area.TheVariants as area
@@ -23,9 +23,9 @@ use Rattle.wire.specs.declared.queries.Part.{Part}
 use Rattle.wire.specs.declared.queries.Part.TheVariants as part
 use Rattle.wire.specs.declared.request.Query.{Query}
 use Rattle.wire.specs.declared.request.Query.TheVariants as query
-use Rattle.wire.proofs.PlaceReadings.{path-cut, path-is, path-taken, version-is, version-taken}
+use Rattle.wire.proofs.PlaceReadings.{path-cut, path-is, path-taken, place-is, place-taken as whole-taken, version-is, version-taken}
 use Rattle.wire.proofs.RouteReadings.{StandsIn, area-is, area-path, own-is}
-use Rattle.wire.proofs.TargetLemmas.{cut-is, end-is, end-taken, if-some, map-some, start-is, then-some}
+use Rattle.wire.proofs.TargetLemmas.{cut-is, end-is, end-taken, map-some, start-is, then-some}
 
 pub same-text : (xs ys : List ℕ) → text_eq xs ys ≡ true → xs ≡ ys
 same-text xs ys h = (pointwise_decides Decides-eqb xs ys).0 h
@@ -171,11 +171,16 @@ place-taken rest path v p is =
     of-path-taken rest path (codes "v/" ++ (escaped (version_text v) ++ ending_of p)) (query_for p path v) is.whole is.path_is
     (part-taken path (escaped (version_text v)) v p (version-taken v is.version_is))
 
-own-taken : (rest behind : List ℕ) → rest ≡ codes "-/" ++ behind → percent_decode behind ≡ codes "modules" → IsTaken rest query.Modules
-own-taken rest [] whole decodes = cc (percent_decode-nil, decodes)
-own-taken rest (b ∷ behind) whole decodes =
+own-taken : (rest behind text : List ℕ) (asked : Query) → rest ≡ codes "-/" ++ behind → percent_decode behind ≡ text → own_of text ≡ Some asked
+    → IsTaken rest asked
+own-taken rest [] text asked whole decodes taken =
+    let none : own_of [] ≡ Some asked = subst (λ (l : List ℕ). own_of l ≡ Some asked) (sym decodes ∙ percent_decode-nil) taken in cc none
+own-taken rest (b ∷ behind) text asked whole decodes taken =
     let long : nat_lt 2 (length (codes "-/" ++ (b ∷ behind))) ≡ true = lt-ltb 2 _ (omega arith) in
-    record { where_is = area.Shelf; behind = b ∷ behind; found = rw (whole, long) refl; taken = rw decodes refl }
+    record { where_is = area.Shelf; behind = b ∷ behind; found = rw (whole, long) refl; taken = rw decodes taken }
+
+summed-taken : (text path : List ℕ) (v : SemanticVersion) → IsPlace text path v [] → own_of (codes "gosum/" ++ text) ≡ Some (query.GoSum path v)
+summed-taken text path v is = rw (whole-taken text path v is) refl
 
 pub query-taken : (rest : List ℕ) (asked : Query) → IsQuery rest asked → IsTaken rest asked
 query-taken rest (query.Info path v) is = place-taken rest path v part.Info is
@@ -183,7 +188,9 @@ query-taken rest (query.GoMod path v) is = place-taken rest path v part.GoMod is
 query-taken rest (query.Zip path v) is = place-taken rest path v part.Zip is
 query-taken rest (query.List path) is = of-path-taken rest path (codes "v/list") (query.List path) is.whole is.path_is refl
 query-taken rest (query.Latest path) is = of-path-taken rest path (codes "latest") (query.Latest path) is.whole is.path_is refl
-query-taken rest query.Modules is = own-taken rest is.behind is.whole is.decodes
+query-taken rest query.Modules is = own-taken rest is.behind (codes "modules") query.Modules is.whole is.decodes refl
+query-taken rest (query.GoSum path v) is =
+    own-taken rest is.own.behind (codes "gosum/" ++ is.text) (query.GoSum path v) is.own.whole is.own.decodes (summed-taken is.text path v is.place)
 
 -- ---- and back
 
@@ -235,9 +242,22 @@ asked-is rest asked h =
     of-path-is rest inner.0 (outer.0).1 asked whole path.1 inner.2
 
 own-query : (rest behind : List ℕ) (asked : Query) → rest ≡ codes "-/" ++ behind → own_of (percent_decode behind) ≡ Some asked → IsQuery rest asked
-own-query rest behind asked whole h =
-    let found = if-some (text_eq (percent_decode behind) (codes "modules")) query.Modules asked h in
-    subst (IsQuery rest) found.1 (record { behind = behind; whole = whole; decodes = same-text (percent_decode behind) (codes "modules") found.0 })
+own-query rest behind asked whole h = elim (cases_Bool (text_eq (percent_decode behind) (codes "modules"))) [
+  | inl modules ↦
+      let same : query.Modules ≡ asked = cc (rw modules at h) in
+      subst (IsQuery rest) same (record { behind = behind; whole = whole; decodes = same-text (percent_decode behind) (codes "modules") modules })
+  | inr other ↦
+      let text = percent_decode behind in
+      let outer = then-some summed_of (without_start (codes "gosum/") text) asked (rw other at h) in
+      let inner = map-some sum_at (place_of outer.0) asked outer.2 in
+      let place = inner.0 in
+      let is : IsQuery rest (query.GoSum place.path place.version) = record {
+        text = outer.0;
+        own = record { behind = behind; whole = whole; decodes = start-is (codes "gosum/") text outer.0 outer.1 };
+        place = place-is outer.0 place inner.1;
+      } in
+      subst (IsQuery rest) inner.2 is
+]
 
 query-by : (rest behind : List ℕ) (a : Area) (asked : Query) → StandsIn a rest behind → query_in a behind ≡ Some asked → IsQuery rest asked
 query-by rest behind area.Shelf asked stands h = own-query rest behind asked stands h

@@ -90,6 +90,9 @@ query-ascii rest (query.Zip path version) is = place-ascii (percent_decode rest)
 query-ascii rest (query.List path) is = path-ascii (percent_decode rest) path (codes "/@v/list") (ascii-from (codes "/@v/list") refl) is
 query-ascii rest (query.Latest path) is = path-ascii (percent_decode rest) path (codes "/@latest") (ascii-from (codes "/@latest") refl) is
 query-ascii rest query.Modules is = own-ascii rest (codes "modules") (ascii-from (codes "modules") refl) is
+query-ascii rest (query.GoSum path version) is =
+    let plain = IsAscii-append (codes "gosum/") is.text (ascii-from (codes "gosum/") refl) (place-ascii is.text path version [] IsAscii-nil is.place) in
+    own-ascii rest (codes "gosum/" ++ is.text) plain is.own
 
 pub readable-text : (method text : List ℕ) (asked : Target) → Asks method text asked → IsTextThroughout text
 readable-text method text target.Unreadable a = absurd a

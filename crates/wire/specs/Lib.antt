@@ -1,5 +1,6 @@
 pub mod Framing
 pub mod Message
+pub mod Length
 pub mod Never
 pub mod Pieces
 pub mod Reply

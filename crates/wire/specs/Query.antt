@@ -1,10 +1,11 @@
 -- What a GET asks for by the rest behind the key. (Go Modules Reference, "GOPROXY protocol"; `-/` is this server's own.)
-use Rattle.std.specs.Prelude.{◌≡◌, ℕ, nat_eq, Bool, List, ◌++◌, codes, Option, Some, None, option_map, if◌then◌else◌}
+use Rattle.std.specs.Prelude.{◌≡◌, ℕ, nat_eq, Bool, List, [], ◌++◌, codes, Option, Some, None, option_map, if◌then◌else◌}
 use Rattle.std.specs.Option.{option_and_then}
 use Rattle.std.specs.Cmp.Lexicographic.{pointwise}
 use Rattle.percent_encoding.specs.Percent.{percent_decode}
 use Rattle.modver.specs.SemanticVersion.{SemanticVersion}
-use Rattle.wire.specs.Place.{IsPathWith, IsPlace, cut_of, path_of, version_from, without_end, without_start}
+use Rattle.wire.specs.Place.{IsPathWith, IsPlace, cut_of, path_of, place_of, version_from, without_end, without_start}
+use Rattle.wire.specs.declared.places.Place.{Place}
 use Rattle.wire.specs.declared.queries.Part.{Part}
 use Rattle.wire.specs.declared.queries.Part.TheVariants as part
 use Rattle.wire.specs.declared.routes.Area.{Area}
@@ -18,6 +19,12 @@ pub record IsOwn (rest text : List ℕ) : Type 0 where
   pub whole : rest ≡ codes "-/" ++ behind
   pub decodes : percent_decode behind ≡ text
 
+-- the same, where the text is `gosum/`, and then a path, `/@v/` and a version in their escaped forms
+pub record IsOwnPlace (rest path : List ℕ) (version : SemanticVersion) : Type 0 where
+  pub text : List ℕ
+  pub own : IsOwn rest (codes "gosum/" ++ text)
+  pub place : IsPlace text path version []
+
 -- what a GET asks for
 abbrev pub IsQuery : List ℕ → Query → Type 0
 IsQuery rest (query.Info path version) = IsPlace (percent_decode rest) path version (codes ".info")
@@ -26,6 +33,7 @@ IsQuery rest (query.Zip path version) = IsPlace (percent_decode rest) path versi
 IsQuery rest (query.List path) = IsPathWith (percent_decode rest) path (codes "/@v/list")
 IsQuery rest (query.Latest path) = IsPathWith (percent_decode rest) path (codes "/@latest")
 IsQuery rest query.Modules = IsOwn rest (codes "modules")
+IsQuery rest (query.GoSum path version) = IsOwnPlace rest path version
 
 -- ---- the same, computed
 
@@ -77,9 +85,18 @@ unfoldable pub asked_of : List ℕ → Option Query
 asked_of text =
     option_and_then (λ (parts : List ℕ × List ℕ). option_and_then (λ path. of_path path parts.1) (path_of parts.0)) (cut_of text)
 
+-- the go.sum line of the version at a place
+abbrev pub sum_at : Place → Query
+sum_at place = query.GoSum place.path place.version
+
+abbrev pub summed_of : List ℕ → Option Query
+summed_of text = option_map sum_at (place_of text)
+
 -- what is asked of the shelf itself
 abbrev pub own_of : List ℕ → Option Query
-own_of text = if text_eq text (codes "modules") then Some query.Modules else None
+own_of text =
+    if text_eq text (codes "modules") then Some query.Modules
+    else option_and_then summed_of (without_start (codes "gosum/") text)
 
 -- what a GET asks for in an area
 abbrev pub query_in : Area → List ℕ → Option Query

@@ -18,6 +18,7 @@
 //! | `GET /k/key/example.com/lib/@v/list` | the versions of `example.com/lib` |
 //! | `GET /k/key/example.com/lib/@latest` | its latest version |
 //! | `GET /k/key/-/modules` | the paths; the dash and its slash are spelled plainly |
+//! | `GET /k/key/-/gosum/example.com/lib/@v/v1.0.0` | the go.sum line of `v1.0.0` of `example.com/lib` |
 //! | `PUT /k/key/example.com/lib/@v/v1.0.0` | to publish `example.com/lib` at `v1.0.0` |
 //! | `GET /k/key/example.com/Lib/@v/v1.0.0.mod` | nothing: upper-case letters are escaped |
 //!
@@ -30,6 +31,7 @@ pub mod framer;
 mod head;
 pub mod info;
 pub mod laws;
+pub mod length;
 pub mod message;
 mod places;
 pub mod put;
@@ -42,6 +44,7 @@ pub mod text;
 
 pub use framer::{Bad, Framer, Next};
 pub use info::info_body;
+pub use length::length_value;
 pub use message::{Memory, Message};
 pub use put::{fixed, fixed_line, put_head, reply_head};
 pub use reply::{Fixed, Kind, StatusCode};

@@ -4,7 +4,7 @@ ghost use Rattle.percent_encoding.specs.Percent.{percent_decode as percent_decod
 ghost use Rattle.wire.specs.Query as spec;
 
 use crate::message::Memory;
-use crate::places::{cut, read_path, read_version};
+use crate::places::{Place, cut, read_path, read_place, read_version};
 use crate::request::Query;
 use crate::routes::Area;
 use modpath::ModulePath;
@@ -35,19 +35,31 @@ pub(crate) fn read_query(alloc: Global, area: Area, rest: &str) -> Result<Option
 {
     let text = decoded(alloc, rest)?;
     match area {
-        Area::Shelf => Ok(read_own(&text)),
+        Area::Shelf => read_own(alloc, &text),
         Area::Path => read_asked(alloc, &text),
     }
 }
 
 /// What is asked of the shelf itself.
-fn read_own(text: &[u8]) -> Option<Query>
-    ensures { result ≡ spec.own_of text.now }
+fn read_own(alloc: Global, text: &[u8]) -> Result<Option<Query>, Memory>
+    ensures { IfOk result (λ found. found ≡ spec.own_of text.now) }
 {
     if text == b"modules".as_slice() {
-        Some(Query::Modules)
-    } else {
-        None
+        return Ok(Some(Query::Modules));
+    }
+    match text.strip_prefix(b"gosum/") {
+        Some(place) => read_summed(alloc, place),
+        None => Ok(None),
+    }
+}
+
+/// The query for the go.sum line of the version at a place.
+fn read_summed(alloc: Global, text: &[u8]) -> Result<Option<Query>, Memory>
+    ensures { IfOk result (λ found. found ≡ spec.summed_of text.now) }
+{
+    match read_place(alloc, text)? {
+        Some(Place { path, version }) => Ok(Some(Query::GoSum { path, version })),
+        None => Ok(None),
     }
 }
 

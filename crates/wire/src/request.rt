@@ -18,6 +18,8 @@ pub enum Query {
     Latest { path: ModulePath },
     /// The paths.
     Modules,
+    /// The go.sum line of a version.
+    GoSum { path: ModulePath, version: Version },
 }
 
 /// What a request asks for.

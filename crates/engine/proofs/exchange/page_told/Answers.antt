@@ -3,10 +3,10 @@ use Rattle.engine.specs.Exchange.{Unserved, Met, Told}
 use Rattle.engine.proofs.exchange.page_told.Goals as goal
 
 pub returns-in_default : goal.returns-in_default
-returns-in_default c = rw c.in_default.is (Met c.in_default.field-0, refl, λ m. refl)
+returns-in_default c = rw c.in_default.is (Met c.in_default.field-0, refl, refl)
 
 pub returns-in-Ok-page_of : goal.returns-in-Ok-page_of
-returns-in-Ok-page_of c = rw c.in-Ok.is (Told c.in-Ok.reply, refl, λ m. c.in-Ok-page_of.ensures.page m)
+returns-in-Ok-page_of c = rw c.in-Ok.is (Told c.in-Ok.reply, refl, c.in-Ok-page_of.ensures.page)
 
 pub returns-in-Err : goal.returns-in-Err
-returns-in-Err c = rw c.in-Ok.is (Unserved, c.in-Err.ensures.memory, λ m. refl)
+returns-in-Err c = rw c.in-Ok.is (Unserved, c.in-Err.ensures.memory, refl)

@@ -3,13 +3,14 @@ use Rattle.std.proofs.lemmas.Bool.{false≢true}
 use Rattle.std.specs.Io.KnownBytes.{Consumes}
 use Rattle.engine.proofs.ReadLemmas.{Tells_end, ends_badly, some_came, are_some, are_few}
 use Rattle.engine.proofs.ServedLemmas.{left_of, Tells_left, Tells_after}
+use Rattle.engine.specs.Served.{read_limit}
 use Rattle.engine.proofs.read.read_more.Goals as goal
 
 pub returns-in-0-2 : goal.returns-in-0-2
 returns-in-0-2 g c =
     let ok : Consumes _ _ [] = rw c.in-0.is at c.in_ok-n.ensures.ok in
     let some : c.args.framer.now.held ≢ [] = λ e. false≢true (sym c.if-is_empty.false ∙ c.is_empty.ensures.1 e) in
-    let few : length {A = ℕ} [] ≤ 4096 = omega arith in
+    let few : length {A = ℕ} [] ≤ read_limit = omega arith in
     ([], ok, few, ([], Tells_end _ _ ok (c.in_ok-n.ensures.end c.in-0.is), ends_badly _ c.requires some), λ same. cc)
 
 pub returns-in-Err : goal.returns-in-Err
@@ -35,5 +36,5 @@ pub returns-in-0 : goal.returns-in-0
 returns-in-0 g c =
     let ok : Consumes _ _ [] = rw c.in-0.is at c.in_ok-n.ensures.ok in
     let held = append-nil c.args.framer.now.held ∙ c.is_empty.ensures.0 c.if-is_empty.true in
-    let few : length {A = ℕ} [] ≤ 4096 = omega arith in
+    let few : length {A = ℕ} [] ≤ read_limit = omega arith in
     ([], ok, few, ([], Tells_end _ _ ok (c.in_ok-n.ensures.end c.in-0.is), held), λ same. cc)

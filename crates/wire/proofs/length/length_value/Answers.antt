@@ -3,8 +3,8 @@ use Rattle.std.specs.Char.{IsAsciiDigit}
 use Rattle.std.proofs.lemmas.Int.Digits.{digits_value_more}
 use Rattle.std.proofs.Math.Nat.{pow-succ'}
 use Rattle.std.proofs.lemmas.Str.{digit_value_digit}
-use Rattle.engine.proofs.AskLemmas.{digit_at}
-use Rattle.engine.proofs.ask.length_value.Goals as goal
+use Rattle.wire.proofs.LengthLemmas.{digit_at}
+use Rattle.wire.proofs.length.length_value.Goals as goal
 
 pub loop-digit-preserved : goal.loop-digit-preserved
 loop-digit-preserved c =

@@ -1,6 +1,6 @@
 use Rattle.std.proofs.Common.{◌≡◌, ◌<◌, take, ◌^◌}
 use Rattle.std.specs.Str.Parse.{digits_value}
-use Rattle.engine.proofs.ask.length_value.Given as goal
+use Rattle.wire.proofs.length.length_value.Given as goal
 
 abbrev pub invariant-loop-digit : goal.invariant-loop-digit
 invariant-loop-digit l = record {

@@ -63,5 +63,5 @@ pub(crate) fn answer_message<W: Write, S: Shelves>(
         × IfOk result (λ status. status ≡ status_of x)) }
 {
     let page = page_for(alloc, shelves, message);
-    write_page(writer, &page)
+    write_page(alloc, writer, &page)
 }

@@ -35,6 +35,9 @@
 //! store met a fault; then it changed nothing. Files and fixed texts are written with no more memory, so nothing but the writer
 //! can fail once the machine has decided on a publish: one that the store accepted is never answered 503.
 //!
+//! A fixed text is one write, and so is a head with a body of at most 65,536 bytes, where there is memory to put them behind one another;
+//! else the head is written and then the body. The bytes are the same.
+//!
 //! A read or a write that is interrupted is made anew, a thousand times at most. A reader or a writer that fails gives
 //! [`Io`]: what was done before stays, and the contracts of [`answer_all`] and [`answer_one`] say what was written.
 #![tactic(auto)]

@@ -10,9 +10,13 @@ ghost use Rattle.engine.specs.Written.{Writes};
 use crate::fault::Io;
 use crate::page::Page;
 use crate::read::TRIES;
+use std::alloc::{AllocError, Global};
 use std::io::{ErrorKind, Write};
 use wire::reply::{Fixed, Kind, StatusCode};
 use wire::{fixed, put_head};
+
+/// The most bytes of a body that is written with its head.
+const JOINED_LIMIT: usize = 65_536;
 
 /// Writes some of the bytes; a call that is interrupted is made anew.
 fn write_some<W: Write>(writer: &mut W, bytes: &[u8]) -> Result<usize, Io>
@@ -45,12 +49,27 @@ pub(crate) fn write_bytes<W: Write>(writer: &mut W, bytes: &[u8]) -> Result<(), 
     Ok(())
 }
 
-/// Writes one text after another.
-fn write_both<W: Write>(writer: &mut W, first: &[u8], second: &[u8]) -> Result<(), Io>
-    ensures { Writes (W.contents writer.old) (W.contents writer.new) (first.now ++ second.now) result }
+/// One text behind another. An `Err` tells that memory was refused.
+fn joined(alloc: Global, first: &[u8], second: &[u8]) -> Result<Vec<u8>, AllocError>
+    ensures { IfOk result (λ text. text.items ≡ first.now ++ second.now) }
 {
-    write_bytes(writer, first)?;
-    write_bytes(writer, second)
+    let mut text = Vec::with_capacity(alloc, first.len() + second.len())?;
+    text.extend_from_slice(first)?;
+    text.extend_from_slice(second)?;
+    Ok(text)
+}
+
+/// Writes a head and then a body: a short body in one with its head, where there is memory to join them.
+fn write_both<W: Write>(alloc: Global, writer: &mut W, head: &[u8], body: &[u8]) -> Result<(), Io>
+    ensures { Writes (W.contents writer.old) (W.contents writer.new) (head.now ++ body.now) result }
+{
+    if body.len() <= JOINED_LIMIT {
+        if let Ok(text) = joined(alloc, head, body) {
+            return write_bytes(writer, &text);
+        }
+    }
+    write_bytes(writer, head)?;
+    write_bytes(writer, body)
 }
 
 /// Writes a fixed reply, with no memory, and answers its status.
@@ -64,25 +83,34 @@ fn write_fixed<W: Write>(writer: &mut W, answer: Fixed) -> Result<StatusCode, Io
     Ok(answer.status())
 }
 
-/// Writes a 200 with a body, with no memory and no copy of the body, and answers its status.
-fn write_body<W: Write>(writer: &mut W, kind: Kind, body: &[u8]) -> Result<StatusCode, Io>
+/// Writes a 200 with a body, and answers its status. Memory is used, where there is some, only to write a short body with its head.
+fn write_body<W: Write>(
+    alloc: Global,
+    writer: &mut W,
+    kind: Kind,
+    body: &[u8],
+) -> Result<StatusCode, Io>
     ensures bytes { Writes (W.contents writer.old) (W.contents writer.new) (reply_bytes 200 kind body.now) result }
     ensures status { IfOk result (λ status. status ≡ 200) }
 {
     let mut buf = [0; 160];
     let len = put_head(kind, body.len(), &mut buf);
-    write_both(writer, &buf[..len], body)?;
+    write_both(alloc, writer, &buf[..len], body)?;
     Ok(StatusCode::OK)
 }
 
-/// Writes a reply, with no memory, and answers its status.
-pub(crate) fn write_page<W: Write>(writer: &mut W, page: &Page) -> Result<StatusCode, Io>
+/// Writes a reply, and answers its status. No want of memory stops it.
+pub(crate) fn write_page<W: Write>(
+    alloc: Global,
+    writer: &mut W,
+    page: &Page,
+) -> Result<StatusCode, Io>
     ensures bytes { Writes (W.contents writer.old) (W.contents writer.new) (page_bytes page.now) result }
     ensures status { IfOk result (λ status. status ≡ page_status page.now) }
 {
     match page {
         Page::Fixed(answer) => write_fixed(writer, *answer),
-        Page::Body(kind, body) => write_body(writer, *kind, body.as_slice()),
+        Page::Body(kind, body) => write_body(alloc, writer, *kind, body.as_slice()),
     }
 }
 

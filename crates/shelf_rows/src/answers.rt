@@ -2,8 +2,9 @@
 use crate::doubles::{Sink, Source, shelves};
 use crate::stream::{ANSWER_ENDS, ANSWERS, BAD_REQUEST, ENDS, STREAM};
 use engine::{Io, answer_all, answer_one};
-use std::alloc::Global;
+use std::alloc::{AllocError, Global};
 use std::io::ErrorKind;
+use std::test::Fail;
 
 /// Answers a stream from shelves on which nothing stands.
 fn serve(alloc: Global, reader: &mut Source, writer: &mut Sink) -> Result<(), Io> {
@@ -105,4 +106,40 @@ fn has_written_all_when_the_flush_fails(rt: HostRuntime) {
     let result = serve(rt.alloc(), &mut Source::new(STREAM, 50), &mut writer);
     assert!(rt; result == Err(Io::Write));
     assert!(rt; writer.taken.as_slice() == ANSWERS);
+}
+
+/// A publish of a zip of this length, and a GET of it.
+fn zip_of(alloc: Global, len: usize) -> Result<String, AllocError> {
+    let zip = "z".repeat(alloc, len)?;
+    format!(in alloc;
+        "PUT /k/alphakey00000001/example.com/lib/@v/v1.0.0 HTTP/1.1\r\nMod-Length: 23\r\nContent-Length: {}\r\n\r\nmodule example.com/lib\n{}GET /k/alphakey00000001/example.com/lib/@v/v1.0.0.zip HTTP/1.1\r\n\r\n",
+        23 + len,
+        zip.as_str(),
+    )
+}
+
+/// In how many writes a publish of such a zip and a GET of it are answered.
+fn writes_for(alloc: Global, len: usize) -> Result<u64, Fail> {
+    let stream = zip_of(alloc, len)?;
+    let mut writer = Sink::new(alloc, usize::MAX);
+    writer.piece = usize::MAX;
+    serve(
+        alloc,
+        &mut Source::new(stream.as_bytes(), 4096),
+        &mut writer,
+    )?;
+    Ok(writer.writes)
+}
+
+#[test]
+fn writes_a_head_and_a_short_body_at_once(rt: HostRuntime) -> Result<(), Fail> {
+    let mut writer = Sink::new(rt.alloc(), usize::MAX);
+    writer.piece = usize::MAX;
+    let result = serve(rt.alloc(), &mut Source::new(STREAM, 4096), &mut writer);
+    assert!(rt; result == Ok(()));
+    assert!(rt; writer.taken.as_slice() == ANSWERS);
+    assert_eq!(rt; writer.writes, 4);
+    assert_eq!(rt; writes_for(rt.alloc(), 65_536)?, 2);
+    assert_eq!(rt; writes_for(rt.alloc(), 65_537)?, 3);
+    Ok(())
 }

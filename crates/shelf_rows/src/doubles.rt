@@ -59,7 +59,7 @@ impl<'a> Read for Source<'a> {
     }
 }
 
-/// Takes its bytes in pieces; fails once it has so many, and where it is flushed if it is to.
+/// Takes its bytes in pieces, and counts them; fails once it has so many bytes, and where it is flushed if it is to.
 #[derive(Drop)]
 pub struct Sink {
     pub taken: Vec<u8>,
@@ -67,6 +67,7 @@ pub struct Sink {
     pub room: usize,
     pub interrupts: bool,
     pub flushes: bool,
+    pub writes: u64,
 }
 
 impl Sink {
@@ -77,6 +78,7 @@ impl Sink {
             room,
             interrupts: true,
             flushes: true,
+            writes: 0,
         }
     }
 }
@@ -93,6 +95,7 @@ impl Write for Sink {
         }
         self.taken.extend_from_slice(&buf[..n])?;
         self.room -= n;
+        self.writes = self.writes.saturating_add(1);
         self.interrupts = true;
         Ok(n)
     }

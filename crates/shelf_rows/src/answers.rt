@@ -1,6 +1,6 @@
 //! Answers to streams, from readers and to writers that cut them and fail.
 use crate::doubles::{Sink, Source, shelves};
-use crate::stream::{ANSWER_ENDS, ANSWERS, BAD_REQUEST, ENDS, STREAM};
+use crate::stream::{ANSWER_ENDS, ANSWERS, BAD_REQUEST, ENDS, STREAM, TOOLCHAIN};
 use engine::{Io, answer_all, answer_one};
 use std::alloc::{AllocError, Global};
 use std::io::ErrorKind;
@@ -63,6 +63,14 @@ fn answers_one_and_reads_no_more(rt: HostRuntime) {
     assert!(rt; status == Ok(Some(201)));
     assert!(rt; writer.taken.as_slice() == &ANSWERS[..ANSWER_ENDS[0]]);
     assert!(rt; reader.rest == &STREAM[ENDS[0]..]);
+}
+
+#[test]
+fn publishes_a_module_with_a_toolchain(rt: HostRuntime) {
+    let mut writer = Sink::new(rt.alloc(), usize::MAX);
+    let result = serve(rt.alloc(), &mut Source::new(TOOLCHAIN, 4096), &mut writer);
+    assert!(rt; result == Ok(()));
+    assert!(rt; writer.taken.as_slice() == &ANSWERS[..ANSWER_ENDS[0]]);
 }
 
 /// How many bytes are written for so many bytes of the stream, where they are followed by nothing.

@@ -17,5 +17,9 @@ HTTP/1.1 404 Not Found\r\nContent-Type: text/plain; charset=utf-8\r\nContent-Len
 
 pub const ANSWER_ENDS: [usize; 4] = [114, 236, 324, 440];
 
+/// A publish whose go.mod has a toolchain.
+pub const TOOLCHAIN: &[u8] =
+    b"PUT /k/alphakey00000001/example.com/lib/@v/v1.0.0 HTTP/1.1\r\nMod-Length: 42\r\nContent-Length: 42\r\n\r\nmodule example.com/lib\ntoolchain go1.21.0\n";
+
 pub const BAD_REQUEST: &[u8] =
     b"HTTP/1.1 400 Bad Request\r\nContent-Type: text/plain; charset=utf-8\r\nContent-Length: 12\r\nConnection: close\r\n\r\nbad request\n";

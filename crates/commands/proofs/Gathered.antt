@@ -32,7 +32,7 @@ module _ {X T : Type 0} (f : World → X → List T) (before : List T) (goal : W
         record {
           holds = ap (λ l. l ++ flat_map (f w) rest) told.answer ∙ append_assoc items (f w x) (flat_map (f w) rest) ∙ was.holds;
           stays = told.stays;
-          left = λ before. told.left (was.left before);
+          left = λ before. told.left w w (was.left before);
         };
   }
 

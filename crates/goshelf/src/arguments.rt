@@ -2,6 +2,7 @@
 use clap::builder::ValueParser;
 use clap::{Arg, ArgAction, ArgMatches, Command};
 use commands::publish::{Files, Words};
+use commands::report::Named;
 use commands::work::Work;
 use std::alloc::{AllocError, Global};
 use tasks::Task;
@@ -48,7 +49,7 @@ enum Needed {
 }
 
 /// The commands, in the order of the help.
-static COMMANDS: [CommandRow; 7] = [
+static COMMANDS: [CommandRow; 9] = [
     CommandRow {
         name: "init",
         about: "Makes a store with the shelf common alone, in a file that has no bytes",
@@ -73,6 +74,16 @@ static COMMANDS: [CommandRow; 7] = [
         name: "publish",
         about: "Publishes a version of a module from files, and prints the outcome",
         options: &PUBLISH,
+    },
+    CommandRow {
+        name: "inventory",
+        about: "Prints each version that the shelf of a key sees, as CSV",
+        options: &INVENTORY,
+    },
+    CommandRow {
+        name: "requires",
+        about: "Prints what the go.mod of a version requires, a line for each path and version",
+        options: &REQUIRES,
     },
     CommandRow {
         name: "answer",
@@ -175,6 +186,38 @@ const PUBLISH: [OptionRow; 7] = [
         value: Value::Text("T"),
         needed: Needed::Never,
         help: "The time of the version, as 2024-01-31T23:59:59Z",
+    },
+];
+
+const INVENTORY: [OptionRow; 2] = [
+    DB,
+    OptionRow {
+        name: "key",
+        value: Value::Text("K"),
+        needed: Needed::Always,
+        help: "A key of the shelf",
+    },
+];
+
+const REQUIRES: [OptionRow; 4] = [
+    DB,
+    OptionRow {
+        name: "key",
+        value: Value::Text("K"),
+        needed: Needed::Always,
+        help: "A key of a shelf that sees the version",
+    },
+    OptionRow {
+        name: "module",
+        value: Value::Text("P"),
+        needed: Needed::Always,
+        help: "The module path, as its go.mod names it",
+    },
+    OptionRow {
+        name: "version",
+        value: Value::Text("V"),
+        needed: Needed::Always,
+        help: "The version, as v1.0.0",
     },
 ];
 
@@ -321,6 +364,12 @@ fn work_of<'a>(name: &str, matches: &ArgMatches<'a>) -> Option<Work<'a>> {
             key: text(matches, "key"),
         }),
         "publish" => Some(publish_of(matches)),
+        "inventory" => Some(Work::Inventory {
+            key: text(matches, "key"),
+        }),
+        "requires" => Some(Work::Requires {
+            version: named(matches),
+        }),
         "serve" => Some(Work::Serve {
             port: matches.get_one("port").unwrap_or(0),
             connections: matches.get_one("connections").unwrap_or(u32::MAX),
@@ -342,6 +391,15 @@ fn publish_of<'a>(matches: &ArgMatches<'a>) -> Work<'a> {
         zip: text(matches, "zip"),
     };
     Work::Publish { words, files }
+}
+
+/// The version that the words name.
+fn named<'a>(matches: &ArgMatches<'a>) -> Named<'a> {
+    Named {
+        key: text(matches, "key"),
+        path: text(matches, "module"),
+        version: text(matches, "version"),
+    }
 }
 
 /// The value of an option that has to be given.

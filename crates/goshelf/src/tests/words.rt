@@ -41,6 +41,8 @@ init
 team-add --db none.db
 key-add --db none.db --shelf alpha
 publish --db none.db
+inventory --db none.db
+requires --db none.db --key alphakey00000001 --module example.com/lib
 answer
 answer --mem --team alpha
 answer --team alpha --key alphakey00000001
@@ -64,6 +66,8 @@ team-add | --db --team
 key-add | --db --shelf --key --read-only
 key-revoke | --db --key
 publish | --db --key --module --version --mod --zip --time
+inventory | --db --key
+requires | --db --key --module --version
 answer | --db --mem --team --key
 serve | --db --port --connections
 ";

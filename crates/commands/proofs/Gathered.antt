@@ -9,7 +9,7 @@ use Rattle.commands.specs.Reading.{Adds}
 pub record KeepsAt (old new : Shown) (w : World) (so : Type 0) : Type 0 where
   pub holds : so
   pub stays : new.stands w
-  pub left : old.leaves w w → new.leaves w w
+  pub left : (x y : World) → old.leaves x y → new.leaves x y
 
 -- so it is in each world that the store stood for
 pub record Keeps (old new : Shown) (so : World → Type 0) : Type 0 where
@@ -32,7 +32,7 @@ module _ {X T : Type 0} (f : World → X → List T) (before : List T) (goal : W
         record {
           holds = ap (λ l. l ++ flat_map (f w) rest) told.answer ∙ append_assoc items (f w x) (flat_map (f w) rest) ∙ was.holds;
           stays = told.stays;
-          left = λ before. told.left w w (was.left before);
+          left = λ x y before. told.left x y (was.left x y before);
         };
   }
 

@@ -10,12 +10,12 @@ use modpath::ModulePath;
 use modver::{TimeText, Version};
 use shelf::versions::{named, ordered};
 use std::alloc::{AllocError, Global};
+use text::Text;
 use world::bytes::Bytes;
 use world::entry::Seen;
 use world::forms::path_of;
 use world::registry::StoreFault;
 use world::shelves::Shelves;
-use world::text::Text;
 
 /// A version that a shelf sees, with the shelf that it stands on.
 #[derive(Drop)]

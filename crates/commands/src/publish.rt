@@ -16,13 +16,13 @@ use shelf::step::step;
 use std::alloc::{AllocError, Global};
 use std::io::Write;
 use std::rt::HostRuntime;
+use text::Text;
 use wire::fixed_line;
 use wire::reply::Fixed;
 use world::entry::{MAX_GOMOD, MAX_ZIP};
 use world::forms::{path_of, version_of};
 use world::registry::StoreFault;
 use world::shelves::Shelves;
-use world::text::Text;
 
 /// What a publish says of its version, as it stands on the command line.
 #[derive(Clone, Copy, Drop)]

@@ -8,7 +8,6 @@ use shelf::ask::{Ask, Body, GivenTime, Publish, Query};
 use std::alloc::{AllocError, Global};
 use wire::{Memory, Message, Query as Wanted, Target, length_value, target};
 use world::bytes::Bytes;
-use world::text::Text;
 
 /// What a message asks of the machine.
 #[derive(Drop)]
@@ -55,14 +54,14 @@ fn ask_at(message: Message, target: Target) -> Result<Ask, AllocError>
     match target {
         Target::Unreadable => Ok(Ask::Unreadable),
         Target::Get { key, query } => Ok(Ask::Get {
-            key: Text::new(key.into_string()),
+            key,
             query: query_of(query),
         }),
         Target::Put { key, path, version } => {
             let time = given_time(&message.version_times);
             let body = body_of(message)?;
             Ok(Ask::Put {
-                key: Text::new(key.into_string()),
+                key,
                 publish: Publish {
                     path,
                     version,

@@ -4,7 +4,8 @@ use modpath::ModulePath;
 use modver::Version;
 use std::alloc::Global;
 use std::test::Fail;
-use wire::{Memory, Query, Target, Text, target};
+use text::Text;
+use wire::{Memory, Query, Target, target};
 
 /// What is asked of a path, or of a version of it, as a text.
 fn of_path(alloc: Global, word: &str, key: &Text, path: &ModulePath) -> Result<String, Memory> {

@@ -5,9 +5,9 @@ ghost use Rattle.shelf.specs.Machine.{offered, entry_time};
 
 use modpath::ModulePath;
 use modver::{Class, TimeText, Version, class};
+use text::Text;
 use world::bytes::Bytes;
 use world::entry::{EntryRef, Right};
-use world::text::Text;
 
 /// What a GET asks for. (Go Modules Reference, "GOPROXY protocol".)
 #[derive(Drop)]

@@ -9,9 +9,9 @@ use std::alloc::{AllocError, Global};
 use std::process::Abort;
 use std::str::from_utf8;
 use std::test::Fail;
+use text::Text;
 use world::bytes::Bytes;
 use world::entry::Right;
-use world::text::Text;
 
 /// Runs, with `====` between them: events and their answers. What stands before `----` is run first, and then the rest on the
 /// shelves that it left. What is asked is asked of `v1.0.0`; `;` stands for a newline.

@@ -18,10 +18,10 @@ ghost use Rattle.store.specs.Added.{HasAdded};
 use crate::shelves::{find_row, has_shelf};
 use modver::{TimeText, read_time};
 use sqlite::{Alter, Connection, Error, ErrorCode, Row, Transaction, params};
+use text::Text;
 use world::bytes::Bytes;
 use world::entry::{Entry, EntryRef, Heading, Seen};
 use world::names::COMMON;
-use world::text::Text;
 
 /// What the row of a version shows, with its number.
 #[derive(Drop)]

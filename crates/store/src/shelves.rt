@@ -20,9 +20,9 @@ ghost use Rattle.store.specs.Views.{with_key_added, with_team_added};
 
 use sqlite::types::ValueRef;
 use sqlite::{Alter, Connection, Error, Row, params};
+use text::Text;
 use world::entry::{Holder, Right};
 use world::registry::Registered;
-use world::text::Text;
 
 fn may_publish(right: Right) -> bool
     ensures { result ≡ may_publish right }

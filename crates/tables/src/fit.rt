@@ -21,10 +21,10 @@ use modver::{TimeText, read_time};
 use sqlite::types::ValueRef;
 use sqlite::{Alter, Connection, Error, ErrorCode, Row};
 use std::alloc::Global;
+use text::Text;
 use world::entry::{EntryRef, MAX_VERSIONS, Place};
 use world::entry_test::may_stand;
 use world::names::{COMMON, is_key, is_team_name};
-use world::text::Text;
 
 /// The text of a column, if it is one.
 fn text_at(row: &Row, at: usize) -> Result<Option<&str>, Error>

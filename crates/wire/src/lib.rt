@@ -40,7 +40,6 @@ pub mod reply;
 pub mod request;
 mod routes;
 pub mod targets;
-pub mod text;
 
 pub use framer::{Bad, Framer, Next};
 pub use info::info_body;
@@ -50,4 +49,3 @@ pub use put::{fixed, fixed_line, put_head, reply_head};
 pub use reply::{Fixed, Kind, StatusCode};
 pub use request::{Query, Target};
 pub use targets::target;
-pub use text::Text;

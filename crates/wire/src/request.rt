@@ -1,7 +1,7 @@
 //! What a request asks for.
-use crate::text::Text;
 use modpath::ModulePath;
 use modver::Version;
+use text::Text;
 
 /// What a GET asks for.
 #[derive(Drop)]

@@ -9,8 +9,8 @@ use crate::places::{Place, read_place};
 use crate::queries::{decoded, read_query};
 use crate::request::Target;
 use crate::routes::{Area, Routed, route_of};
-use crate::text::Text;
 use std::alloc::Global;
+use text::Text;
 
 /// What a request with this method and this target asks for; both are compared as they stand. The target need not be
 /// UTF-8: one that is not, or decodes to bytes that are not, is unreadable. `Memory` where there is no room for the parts

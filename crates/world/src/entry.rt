@@ -3,10 +3,10 @@ ghost use Rattle.std.specs.Prelude.{◌≡◌, IfOk};
 ghost use Rattle.world.specs.World.{place, heading_of};
 
 use crate::bytes::Bytes;
-use crate::text::Text;
 use modver::TimeText;
 use std::alloc::{AllocError, Global};
 use std::marker::Model;
+use text::Text;
 
 /// The most bytes of a go.mod.
 pub const MAX_GOMOD: usize = 1_048_576;

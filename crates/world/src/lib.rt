@@ -17,7 +17,7 @@
 //! publish and for a store that takes over tables, and [`laws`] says that they are exact. [`entry`] has what stands
 //! on a shelf and what a key holds, [`names`] the rules of team names and keys, [`forms`] the path and the version
 //! that a text is, [`reading`] what a go.mod says, and [`registry`] what a command of the registry comes to and why
-//! a store fails; contracts see the types of [`bytes`], [`text`] and [`text_set`] as lists and sets.
+//! a store fails; contracts see the types of [`bytes`] and [`text_set`] as lists and sets.
 #![tactic(auto)]
 
 pub mod bytes;
@@ -31,5 +31,4 @@ pub mod names;
 pub mod reading;
 pub mod registry;
 pub mod shelves;
-pub mod text;
 pub mod text_set;

@@ -10,12 +10,12 @@ use crate::maps::text_map::TextMap;
 use crate::names::{COMMON, is_key, is_team_name};
 use crate::registry::{Registered, StoreFault};
 use crate::shelves::Shelves;
-use crate::text::Text;
 use crate::text_set::TextSet;
 use modpath::ModulePath;
 use modver::Version;
 use std::alloc::{AllocError, Global};
 use std::marker::Model;
+use text::Text;
 
 /// Shelves in ordered maps, which contracts see as their world.
 #[derive(Drop)]

@@ -8,8 +8,8 @@ use Rattle.semver.specs.Parse.{Parts, version_parts}
 use Rattle.semver.specs.declared.error.Error.{Error}
 use Rattle.modver.specs.Parts.{is_marked, version_of_parts}
 use Rattle.modver.specs.Reading.{IsCanonical, IsFault, IsSemVer, is_mark, reading, reading_of_bytes, reading_of_parts, value_of, version_of}
-use Rattle.modver.specs.ReadingLaws.{EachTextHasOneReading, IsVersionIsExact, TextIsOneToOne, VersionOfIsExact}
-use Rattle.modver.specs.SemanticVersion.{IsVersion, SemanticVersion, incompatible, is_build_identifier, is_version, mark_of, version_text}
+use Rattle.modver.specs.ReadingLaws.{EachTextHasOneReading, HasTextIsExact, TextIsOneToOne, VersionOfIsExact}
+use Rattle.modver.specs.SemanticVersion.{IsVersion, SemanticVersion, incompatible, is_build_identifier, has_text, mark_of, version_text}
 use Rattle.modver.specs.declared.version.VersionFault.{VersionFault}
 use Rattle.modver.specs.declared.version.VersionFault.TheVariants as fault
 use Rattle.modver.proofs.SemVerText.{IsSemVer-of, no_front, no_mark, parts_from, pre_release-of, refused, version_parts-of, version_text-of}
@@ -187,9 +187,9 @@ version-of text v = (λ e. canonical-of text v (value-some (reading text) v e), 
 
 -- ---- the test of a version
 
-pub is-version : IsVersionIsExact
-unfolding is_version
-is-version v = (
+pub has-text : HasTextIsExact
+unfolding has_text
+has-text v = (
   λ h.
       let a = and-both _ _ h in
       let b = and-both _ _ a.0 in

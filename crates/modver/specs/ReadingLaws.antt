@@ -1,7 +1,7 @@
 -- What holds of texts and their versions, over the definitions alone.
 use Rattle.std.specs.Prelude.{ℕ, ◌≡◌, ◌↔◌, ◌⊎◌, true, List, Some}
 use Rattle.modver.specs.Reading.{IsCanonical, IsFault, version_of}
-use Rattle.modver.specs.SemanticVersion.{IsVersion, SemanticVersion, is_version, version_text}
+use Rattle.modver.specs.SemanticVersion.{IsVersion, SemanticVersion, has_text, version_text}
 use Rattle.modver.specs.declared.version.VersionFault.{VersionFault}
 
 -- a version has one text, and a text at most one version
@@ -13,8 +13,8 @@ abbrev pub VersionOfIsExact : Type 0
 VersionOfIsExact = (text : List ℕ) (v : SemanticVersion) → (version_of text ≡ Some v) ↔ IsCanonical text v
 
 -- the test of a version passes exactly those that have a canonical text
-abbrev pub IsVersionIsExact : Type 0
-IsVersionIsExact = (v : SemanticVersion) → (is_version v ≡ true) ↔ IsCanonical (version_text v) v
+abbrev pub HasTextIsExact : Type 0
+HasTextIsExact = (v : SemanticVersion) → (has_text v ≡ true) ↔ IsCanonical (version_text v) v
 
 -- a text is one thing: the canonical text of one version, or faulty in one way
 pub record HasOneReading (text : List ℕ) : Type 0 where

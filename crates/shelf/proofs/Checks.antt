@@ -7,8 +7,8 @@ use Rattle.std.specs.FinMap as map
 use Rattle.std.specs.FinSet as set
 use Rattle.std.proofs.lemmas.Bool.{true≢false, and_parts, or_parts, not-false, leb-false}
 use Rattle.modpath.specs.Path.{is_path}
-use Rattle.modver.specs.SemanticVersion.{is_version, version_text}
-use Rattle.modver.proofs.Readings.{is-version}
+use Rattle.modver.specs.SemanticVersion.{has_text, version_text}
+use Rattle.modver.proofs.Readings.{has-text}
 use Rattle.modver.specs.Class.{class_of}
 use Rattle.modver.specs.declared.version.Class.{Class}
 use Rattle.world.specs.declared.entry.Entry.{Entry}
@@ -118,7 +118,7 @@ files_told p right reading is = is.own.1.1.1.0
 -- the entry that they make may stand
 entry_form : (s : List ℕ) (p : Publish) (right : Option Right) (b : Body) → p.body ≡ Some b → Passing p right (gomod_of p) → IsEntry (place_of s p) (entry_of p b)
 entry_form s p right b body is =
-    let forms = and_parts (is_path p.path) (is_version p.version) (not-false (is_readable p) is.own.0) in
+    let forms = and_parts (is_path p.path) (has_text p.version) (not-false (is_readable p) is.own.0) in
     let files = is.own.1.1.1.1 in
     let c : Class = class_of p.version in
     let small : is_too_large (Some (entry_of p b)) ≡ false = ap (λ o. is_too_large (option_map (entry_of p) o)) (sym body) ∙ files.0 in
@@ -127,7 +127,7 @@ entry_form s p right b body is =
     let gomod : Passed (gomod_checks p (Some (reading_of b.gomod))) = subst (λ o. Passed (gomod_checks p o)) read is.gomod in
     record {
       path = path_form p.path forms.0;
-      version = (p.version, (is-version p.version).0 forms.1);
+      version = (p.version, (has-text p.version).0 forms.1);
       fits = not-false (fits (suffix_of p.path) p.version) files.1.0;
       gomod = sizes.0;
       zip = sizes.1;

@@ -37,7 +37,7 @@ use Rattle.world.specs.declared.entry_test.Misfit.TheVariants as misfit
 use Rattle.world.specs.declared.reading.Reading.{Reading}
 pub use Rattle.world.specs.EntryTest.{first_failing}
 use Rattle.world.specs.EntryTest.{is_small, is_time_of, has_fault, fault_line, names_other, has_more}
-use Rattle.world.specs.Forms.{is_path, is_version, is_time, fits, suffix_of}
+use Rattle.world.specs.Forms.{is_path, has_text, is_time, fits, suffix_of}
 use Rattle.world.specs.GoMods.{reading_of, module_told}
 use Rattle.world.specs.Lines.{in_order}
 use Rattle.world.specs.Registry.{team_added, key_added, key_revoked, after_team_add, after_key_add, after_key_revoke}
@@ -49,7 +49,7 @@ use Rattle.world.specs.World.{World, version_limit, place, view, heading, count,
 
 -- whether the path and the version are well formed
 abbrev pub is_readable : Publish → Bool
-is_readable p = is_path p.path && is_version p.version
+is_readable p = is_path p.path && has_text p.version
 
 abbrev pub may_publish : Option Right → Bool
 may_publish None = false

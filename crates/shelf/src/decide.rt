@@ -101,7 +101,7 @@ fn is_bad_time(given: GivenTime) -> bool
 }
 
 /// The types of the path and of the version hold only well formed ones.
-#[tactic(auto, unfolding(modver::specs::SemanticVersion::is_version))]
+#[tactic(auto, unfolding(modver::specs::SemanticVersion::has_text))]
 fn well_formed(publish: &Publish)
     ensures { spec.is_readable publish.now ≡ true }
 {

@@ -2,7 +2,7 @@
 use Rattle.std.specs.Prelude.{ℕ, List, if◌then◌else◌, Option, Some, None}
 use Rattle.modver.specs.Reading.{IsCanonical}
 use Rattle.modver.specs.SemanticVersion.{SemanticVersion}
-unfoldable pub use Rattle.modver.specs.SemanticVersion.{is_version}
+unfoldable pub use Rattle.modver.specs.SemanticVersion.{has_text}
 pub use Rattle.modver.specs.Fits.{fits}
 pub use Rattle.modver.specs.Time.{is_time}
 pub use Rattle.modpath.specs.Path.{IsPath, is_path, suffix_of}

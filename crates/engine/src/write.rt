@@ -34,7 +34,7 @@ fn write_some<W: Write>(writer: &mut W, bytes: &[u8]) -> Result<usize, Io>
 }
 
 /// Writes all the bytes. An `Err` has written a beginning of them, and not all.
-pub(crate) fn write_bytes<W: Write>(writer: &mut W, bytes: &[u8]) -> Result<(), Io>
+pub fn write_bytes<W: Write>(writer: &mut W, bytes: &[u8]) -> Result<(), Io>
     ensures { Writes (W.contents writer.old) (W.contents writer.new) bytes.now result }
 {
     let mut rest = bytes;
@@ -45,8 +45,8 @@ pub(crate) fn write_bytes<W: Write>(writer: &mut W, bytes: &[u8]) -> Result<(), 
     Ok(())
 }
 
-/// Writes one text after another.
-fn write_both<W: Write>(writer: &mut W, first: &[u8], second: &[u8]) -> Result<(), Io>
+/// Writes one text after another. An `Err` has written a beginning of both, and not all.
+pub fn write_both<W: Write>(writer: &mut W, first: &[u8], second: &[u8]) -> Result<(), Io>
     ensures { Writes (W.contents writer.old) (W.contents writer.new) (first.now ++ second.now) result }
 {
     write_bytes(writer, first)?;

@@ -1,2 +1,5 @@
 mod Gathered
+mod ImportLists
+mod Imports
 mod Openings
+mod Written

@@ -20,6 +20,7 @@ word refusal.Memory = codes "memory"
 word refusal.BadSchema = codes "bad-schema"
 word refusal.NotEmpty = codes "not-empty"
 word refusal.NotFound = codes "not-found"
+word refusal.BadRow = codes "bad-row"
 word refusal.Io = codes "io"
 
 -- how a command of the registry ends

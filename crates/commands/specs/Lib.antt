@@ -1,5 +1,10 @@
 pub mod Ending
 pub mod Exit
+pub mod Import
+pub mod ImportFile
+pub mod ImportFiles
+pub mod ImportLine
+pub mod ImportList
 pub mod Inventory
 pub mod Lines
 pub mod Opening
@@ -8,4 +13,5 @@ pub mod Reading
 pub mod Report
 pub mod Requirements
 pub mod Serve
+pub mod Sources
 pub mod Work

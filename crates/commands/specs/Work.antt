@@ -6,6 +6,7 @@ use Rattle.world.specs.World.{World}
 use Rattle.world.specs.declared.entry.Right.TheVariants.{Publishes, Reads}
 use Rattle.world.specs.declared.registry.Registered.{Registered}
 use Rattle.commands.specs.Ending.{Registers}
+use Rattle.commands.specs.ImportFile.{ImportsFile}
 use Rattle.commands.specs.Opening.{AnswersAll}
 use Rattle.commands.specs.Publish.{asked_by, PublishesFiles}
 use Rattle.commands.specs.Report.{PrintsInventory, PrintsRequirements}
@@ -52,8 +53,8 @@ module _ {S : Type 0} (shown : S → Shown) (failures : S → ℕ) (old new : Mo
     pub told : result ≡ acceptance ended
     pub unread : new.unread ≡ old.unread
 
-  -- What is done by the kind of work: nothing, one command of the registry, one publish, an inventory or the requirements of a
-  -- version are printed, all requests of the input are answered, or one request on each of some connections is.
+  -- What is done by the kind of work: nothing, one command of the registry, one publish, those of a list, an inventory or the
+  -- requirements of a version are printed, all requests of the input are answered, or one request on each of some connections is.
   abbrev pub Works : Result Bool Refusal → Work → Type 0
   Works result work.Open = (new ≡ old) × (result ≡ Ok true)
   Works result (work.TeamAdd team) =
@@ -65,6 +66,8 @@ module _ {S : Type 0} (shown : S → Shown) (failures : S → ℕ) (old new : Mo
       RegistersAlone (λ w. key_revoked w key.now) (λ w. after_key_revoke w key.now (key_revoked w key.now)) result
   Works result (work.Publish words files) =
       PublishesFiles shown failures old.store new.store (asked_by words) old.written new.written result × (new.unread ≡ old.unread)
+  Works result (work.Import key list) =
+      ImportsFile shown failures old.store new.store key.now old.written new.written result × (new.unread ≡ old.unread)
   Works result (work.Inventory key) =
       PrintsInventory (shown old.store) (shown new.store) (failures old.store) (failures new.store) key.now old.written new.written result
       × (new.unread ≡ old.unread)

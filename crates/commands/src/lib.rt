@@ -15,6 +15,10 @@
 pub mod answer;
 pub mod exit;
 pub mod files;
+pub mod import;
+pub mod import_file;
+pub mod import_line;
+pub mod import_list;
 pub mod inventory;
 mod inventory_text;
 pub mod memory;
@@ -24,4 +28,5 @@ pub mod registry;
 pub mod report;
 pub mod requirements;
 pub mod serve;
+pub mod sources;
 pub mod work;

@@ -98,7 +98,7 @@ pub fn publish_files<S: Shelves, O: Write>(
 }
 
 /// Asks the machine to publish files.
-fn publish_by<S: Shelves>(
+pub(crate) fn publish_by<S: Shelves>(
     alloc: Global,
     shelves: &mut S,
     words: &Words,
@@ -146,7 +146,7 @@ fn given_time(text: Option<&str>) -> GivenTime
 }
 
 /// The fixed answer to a publish: 503 where the store met a fault.
-fn answer_of(told: Result<Reply, StoreFault>) -> Fixed
+pub(crate) fn answer_of(told: Result<Reply, StoreFault>) -> Fixed
     ensures { result ≡ spec.answer_of told }
 {
     match told {
@@ -167,7 +167,7 @@ fn tell<O: Write>(answer: Fixed, output: &mut O) -> Result<bool, Refusal>
 }
 
 /// Whether a status accepts a publish.
-fn is_accepted(status: u16) -> bool
+pub(crate) fn is_accepted(status: u16) -> bool
     ensures { result ≡ spec.accepts status }
 {
     status == 200 || status == 201

@@ -26,6 +26,8 @@ pub enum Refusal {
     NotEmpty,
     /// The shelf of the key sees no such version, or there is no such key.
     NotFound,
+    /// A list has another header, or a row that is no text or has not five fields.
+    BadRow,
     /// The input, the output or a file failed.
     Io,
 }
@@ -45,6 +47,7 @@ impl Refusal {
             Refusal::BadSchema => "bad-schema",
             Refusal::NotEmpty => "not-empty",
             Refusal::NotFound => "not-found",
+            Refusal::BadRow => "bad-row",
             Refusal::Io => "io",
         }
     }

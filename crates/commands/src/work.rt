@@ -3,6 +3,7 @@ ghost use Rattle.std.specs.Prelude.{◌≡◌};
 ghost use Rattle.commands.specs.Work as spec;
 
 use crate::answer::answer_from;
+use crate::import_file::import_file;
 use crate::publish::{Files, Words, publish};
 use crate::refusal::Refusal;
 use crate::registry::{add_key, add_team, revoke_key};
@@ -36,6 +37,11 @@ pub enum Work<'a> {
         words: Words<'a>,
         files: Files<'a>,
     },
+    /// `import`: publishes each row of a list in a file.
+    Import {
+        key: &'a str,
+        list: &'a str,
+    },
     /// `inventory`: prints what the shelf of a key sees.
     Inventory {
         key: &'a str,
@@ -53,7 +59,7 @@ pub enum Work<'a> {
     },
 }
 
-/// Does a work on a store, and tells whether it was accepted: only a publish may be told so and not be.
+/// Does a work on a store, and tells whether it was accepted: only a publish and an import may be told so and not be.
 pub fn work_on<S: Shelves, I: Read, O: Write>(
     rt: &HostRuntime,
     shelves: &mut S,
@@ -75,6 +81,7 @@ pub fn work_on<S: Shelves, I: Read, O: Write>(
         } => acceptance(add_key(shelves, shelf, key, *read_only)),
         Work::KeyRevoke { key } => acceptance(revoke_key(shelves, key)),
         Work::Publish { words, files } => publish(rt, shelves, words, files, output),
+        Work::Import { key, list } => import_file(rt, shelves, key, list, output),
         Work::Inventory { key } => print_inventory(rt.alloc(), shelves, key, output),
         Work::Requires { version } => print_requirements(rt.alloc(), shelves, version, output),
         Work::Answer => acceptance(answer_from(rt.alloc(), shelves, input, output)),

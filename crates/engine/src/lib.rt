@@ -50,7 +50,7 @@ pub mod laws;
 pub mod page;
 mod read;
 mod turn;
-mod write;
+pub mod write;
 
 pub use answer::{answer_all, answer_one};
 pub use fault::Io;

@@ -38,7 +38,7 @@ fn write_some<W: Write>(writer: &mut W, bytes: &[u8]) -> Result<usize, Io>
 }
 
 /// Writes all the bytes. An `Err` has written a beginning of them, and not all.
-pub(crate) fn write_bytes<W: Write>(writer: &mut W, bytes: &[u8]) -> Result<(), Io>
+pub fn write_bytes<W: Write>(writer: &mut W, bytes: &[u8]) -> Result<(), Io>
     ensures { Writes (W.contents writer.old) (W.contents writer.new) bytes.now result }
 {
     let mut rest = bytes;
@@ -47,6 +47,14 @@ pub(crate) fn write_bytes<W: Write>(writer: &mut W, bytes: &[u8]) -> Result<(), 
         rest = &rest[n..];
     }
     Ok(())
+}
+
+/// Writes one text after another. An `Err` has written a beginning of both, and not all.
+pub fn write_both<W: Write>(writer: &mut W, first: &[u8], second: &[u8]) -> Result<(), Io>
+    ensures { Writes (W.contents writer.old) (W.contents writer.new) (first.now ++ second.now) result }
+{
+    write_bytes(writer, first)?;
+    write_bytes(writer, second)
 }
 
 /// One text behind another. An `Err` tells that memory was refused.
@@ -60,7 +68,7 @@ fn joined(alloc: Global, first: &[u8], second: &[u8]) -> Result<Vec<u8>, AllocEr
 }
 
 /// Writes a head and then a body: a short body in one with its head, where there is memory to join them.
-fn write_both<W: Write>(alloc: Global, writer: &mut W, head: &[u8], body: &[u8]) -> Result<(), Io>
+fn write_joined<W: Write>(alloc: Global, writer: &mut W, head: &[u8], body: &[u8]) -> Result<(), Io>
     ensures { Writes (W.contents writer.old) (W.contents writer.new) (head.now ++ body.now) result }
 {
     if body.len() <= JOINED_LIMIT {
@@ -68,8 +76,7 @@ fn write_both<W: Write>(alloc: Global, writer: &mut W, head: &[u8], body: &[u8])
             return write_bytes(writer, &text);
         }
     }
-    write_bytes(writer, head)?;
-    write_bytes(writer, body)
+    write_both(writer, head, body)
 }
 
 /// Writes a fixed reply, with no memory, and answers its status.
@@ -95,7 +102,7 @@ fn write_body<W: Write>(
 {
     let mut buf = [0; 160];
     let len = put_head(kind, body.len(), &mut buf);
-    write_both(alloc, writer, &buf[..len], body)?;
+    write_joined(alloc, writer, &buf[..len], body)?;
     Ok(StatusCode::OK)
 }
 

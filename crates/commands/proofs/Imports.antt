@@ -1,0 +1,218 @@
+-- An import row by row.
+use Rattle.std.proofs.Common.{◌≡◌, ◌+◌, ◌⊎◌, ℕ, List, [], ◌∷◌, ◌++◌, ◌&&◌, Bool, true, false, Option, Some, None, Ok, Err, Result, length, refl, sym, ap, subst, ◌∙◌, inl, inr, arith, append_assoc}
+use Rattle.std.proofs.lemmas.List.{append-nil, map-append}
+use Rattle.std.proofs.KnownBytes.{Appends-trans}
+use Rattle.std.specs.Io.KnownBytes.{Appends}
+use Rattle.std.specs.List.{list_all}
+use Rattle.engine.specs.declared.fault.Io.{Io}
+use Rattle.engine.specs.declared.fault.Io.TheVariants as io
+use Rattle.shelf.proofs.Runs.{run_more, run_end, idle_parts, grown_more, grown_before}
+use Rattle.shelf.specs.Machine.{ask_reply, after_ask, world_after, MetDevice, Run}
+use Rattle.shelf.specs.Runs.{Runs}
+use Rattle.shelf.specs.declared.ask.Ask.{Ask}
+use Rattle.shelf.specs.declared.ask.Body.{Body}
+use Rattle.shelf.specs.declared.ask.Event.{Event}
+use Rattle.shelf.specs.declared.reply.Answer.{Answer}
+use Rattle.shelf.specs.declared.reply.Answer.TheVariants.{Replied, Failed}
+use Rattle.shelf.specs.declared.reply.Reply.{Reply}
+use Rattle.wire.specs.declared.reply.Fixed.{Fixed}
+use Rattle.world.specs.Store.{Shown, Does, HasCause}
+use Rattle.world.specs.declared.registry.StoreFault.{StoreFault}
+use Rattle.commands.specs.Import as spec
+use Rattle.commands.specs.Import.{Turn, GoesThrough, Publishes, DoesRow, Imports, Answers}
+use Rattle.commands.specs.ImportFiles.{IsBodyOf}
+use Rattle.commands.specs.ImportLine.{IsFront, PrintsFront}
+use Rattle.commands.specs.ImportList.{Line, fields_of_line, header}
+use Rattle.commands.specs.Publish.{answer_of}
+use Rattle.commands.specs.declared.import.Closing.{Closing}
+use Rattle.commands.specs.declared.import.Ending.{Ending}
+use Rattle.commands.specs.declared.import_line.Outcome.TheVariants as outcome
+
+-- ---- lists of turns
+
+pub events_more : (turns : List Turn) (t : Turn) → spec.events (turns ++ t ∷ []) ≡ spec.events turns ++ spec.events (t ∷ [])
+events_more [] t = refl
+events_more (u ∷ turns) t = ap (λ es. spec.events_of u.done ++ es) (events_more turns t) ∙ sym (append_assoc (spec.events_of u.done) (spec.events turns) (spec.events (t ∷ [])))
+
+pub answers_more : (turns : List Turn) (t : Turn) → spec.answers (turns ++ t ∷ []) ≡ spec.answers turns ++ spec.answers (t ∷ [])
+answers_more [] t = refl
+answers_more (u ∷ turns) t =
+    ap (λ es. spec.answers_of u.done ++ es) (answers_more turns t) ∙ sym (append_assoc (spec.answers_of u.done) (spec.answers turns) (spec.answers (t ∷ [])))
+
+met_either : (first last : List Answer) → MetDevice (first ++ last) → MetDevice first ⊎ MetDevice last
+met_either [] last met = inr met
+met_either (a ∷ first) last (inl here) = inl (inl here)
+met_either (a ∷ first) last (inr later) = elim (met_either first last later) [ inl x ↦ inl (inr x) | inr x ↦ inr x ]
+
+-- two runs, one after the other
+runs_joined : (a b c : Shown) (es fs : List Event) (xs ys : List Answer) → Runs a b es xs → Runs b c fs ys → Runs a c (es ++ fs) (xs ++ ys)
+runs_joined a b c es fs xs ys so last = record {
+  honest = λ h. so.honest (last.honest h);
+  at = λ h w stands.
+      let first = so.at (last.honest h) w stands in
+      let then = last.at h (world_after w es xs) first.ends in
+      let mid = world_after w es xs in
+      let end = world_after mid fs ys in
+      let run = run_more w mid end es fs xs ys first.run then.run in
+      let same = run_end w end (es ++ fs) (xs ++ ys) run in
+      record {
+        run = subst (λ x. Run w (es ++ fs) (xs ++ ys) x) same run;
+        ends = subst (λ x. c.stands x) same then.ends;
+        left = λ idle was.
+            let parts = idle_parts w mid es fs xs ys first.run idle in
+            subst (λ x. c.leaves x x) same (then.left parts.1 (first.left parts.0 was));
+      };
+}
+
+-- ---- one row
+
+module _ (old new : Shown) (before now : ℕ) (ask : Ask) where
+  -- an ask that the machine answered, or that met a fault, is a run of one event
+  pub published : (told : Result Reply StoreFault) (answer : Fixed)
+      → Does old new told (λ w. ask_reply w ask) (λ w. after_ask w ask) → HasCause before now told → answer ≡ answer_of told
+      → Publishes old new before now ask answer
+  published (Ok reply) answer does cause is = record {
+    told = Replied reply;
+    runs = record {
+      honest = does.honest;
+      at = λ h w stands.
+          let d = does.at h w stands tt in
+          record { run = (d.answer, refl); ends = d.ok; left = λ idle was. d.kept was };
+    };
+    is = is;
+    no_fewer = cause.no_fewer;
+    device = λ met. elim met [ inl e ↦ absurd (cc e) | inr never ↦ absurd never ];
+  }
+  published (Err fault) answer does cause is = record {
+    told = Failed fault;
+    runs = record {
+      honest = does.honest;
+      at = λ h w stands.
+          let d = does.at h w stands tt in
+          record { run = refl; ends = d.err; left = λ idle was. subst (λ x. new.leaves w x) idle.0 (d.left was) };
+    };
+    is = is;
+    no_fewer = cause.no_fewer;
+    device = λ met. elim met [ inl e ↦ cause.device (cc e) | inr never ↦ absurd never ];
+  }
+
+module _ (told : List ℕ → Option (Option (List ℕ))) (key : List ℕ) where
+  -- a row whose files were had is a publish of them
+  pub row_published : (old new : Shown) (before now : ℕ) (l : Line) (body : Body) (answer : Fixed) → IsBodyOf told l (Ok body)
+      → Publishes old new before now (spec.ask_of key l body) answer → DoesRow old new before now told key l (outcome.Answered answer)
+  row_published old new before now l body answer had is = record {
+    done = Answers (spec.ask_of key l body) is.told;
+    through = record { done = ((body, had, refl), tt); runs = is.runs; no_fewer = is.no_fewer; device = is.device };
+    is = ap outcome.Answered is.is;
+  }
+
+  -- nothing is done
+  pub nothing_done : (old : Shown) (before : ℕ) → GoesThrough old old before before told key []
+  nothing_done old before = record {
+    done = tt;
+    runs = record { honest = λ h. h; at = λ h w stands. record { run = refl; ends = stands; left = λ idle was. was } };
+    no_fewer = omega arith;
+    device = λ never. absurd never;
+  }
+
+  -- ---- one row more
+
+  done_more : (turns : List Turn) (t : Turn) → spec.AreDone told key turns → spec.IsDone told key t.line t.done → spec.AreDone told key (turns ++ t ∷ [])
+  done_more [] t done last = (last, tt)
+  done_more (u ∷ turns) t done last = (done.0, done_more turns t done.1 last)
+
+  -- the rows that were done, and one more
+  pub through_more : (a b c : Shown) (n0 n1 n2 : ℕ) (turns : List Turn) (t : Turn) → GoesThrough a b n0 n1 told key turns
+      → GoesThrough b c n1 n2 told key (t ∷ []) → GoesThrough a c n0 n2 told key (turns ++ t ∷ [])
+  through_more a b c n0 n1 n2 turns t far next = record {
+    done = done_more turns t far.done next.done.0;
+    runs = subst (λ es. Runs a c es (spec.answers (turns ++ t ∷ []))) (sym (events_more turns t))
+        (subst (λ told. Runs a c (spec.events turns ++ spec.events (t ∷ [])) told) (sym (answers_more turns t))
+        (runs_joined a b c (spec.events turns) (spec.events (t ∷ [])) (spec.answers turns) (spec.answers (t ∷ [])) far.runs next.runs));
+    no_fewer = omega (arith, far.no_fewer, next.no_fewer);
+    device = λ met.
+        elim (met_either (spec.answers turns) (spec.answers (t ∷ [])) (subst MetDevice (answers_more turns t) met)) [
+          | inl x ↦ grown_more n0 n1 n2 (far.device x) next.no_fewer
+          | inr x ↦ grown_before n0 n1 n2 far.no_fewer (next.device x)
+        ];
+  }
+
+  -- the rows that were done, and then nothing
+  pub through_idle : (a b c : Shown) (n0 n1 n2 : ℕ) (turns : List Turn) → GoesThrough a b n0 n1 told key turns
+      → GoesThrough b c n1 n2 told key [] → GoesThrough a c n0 n2 told key turns
+  through_idle a b c n0 n1 n2 turns far idle = record {
+    done = far.done;
+    runs = subst (λ es. Runs a c es (spec.answers turns)) (append-nil (spec.events turns))
+        (subst (λ xs. Runs a c (spec.events turns ++ []) xs) (append-nil (spec.answers turns))
+        (runs_joined a b c (spec.events turns) [] (spec.answers turns) [] far.runs idle.runs));
+    no_fewer = omega (arith, far.no_fewer, idle.no_fewer);
+    device = λ met. grown_more n0 n1 n2 (far.device met) idle.no_fewer;
+  }
+
+  -- ---- how an import ends
+
+  module _ (old new : Shown) (before now : ℕ) (list w0 w1 w2 : Option (List ℕ)) (turns : List Turn) where
+    -- no further row is done
+    pub closed : (n : ℕ) (why : Closing) (accepted : Bool) (result : Result Ending Io) → GoesThrough old new before now told key turns
+        → spec.IsOver list turns n why → accepted ≡ list_all spec.is_accepted turns → Appends w0 w1 (spec.lines_from 1 turns)
+        → spec.Closes n why accepted w1 w2 result → Imports old new before now told key list w0 w2 result
+    closed n why accepted (Ok e) far over all printed closes = record {
+      turns = turns;
+      through = far;
+      ends = (n, why, over, closes.0 ∙ ap (λ b. spec.ending_of b why) all, Appends-trans w0 w1 w2 _ _ printed closes.1);
+    }
+    closed n why accepted (Err e) far over all printed closes = record {
+      turns = turns;
+      through = far;
+      ends = (closes.0, inr (n, why, closes.1.0, over, closes.1.1, Appends-trans w0 w1 w2 _ _ printed closes.1.2));
+    }
+
+    -- the line of a row broke off
+    pub broken_off : (mid : Shown) (between n : ℕ) (t : Turn) (e : Io) → GoesThrough old mid before between told key turns
+        → GoesThrough mid new between now told key (t ∷ []) → Appends w0 w1 (spec.lines_from 1 turns) → n ≡ length turns + 1 → e ≡ io.Write
+        → PrintsFront w1 w2 (spec.line_of n t) → Imports old new before now told key list w0 w2 (Err e)
+    broken_off mid between n t e far next printed count is front = record {
+      turns = turns ++ t ∷ [];
+      through = through_more old mid new before between now turns t far next;
+      ends = (is, inl (turns, t, front.0, refl, subst (λ k. IsFront front.0 (spec.line_of k t)) count front.1, Appends-trans w0 w1 w2 _ _ printed front.2));
+    }
+
+-- ---- the rows so far
+
+pub appends_none : (w : Option (List ℕ)) → Appends w w []
+appends_none None = tt
+appends_none (Some xs) = sym (append-nil xs)
+
+-- the rows, and one more
+pub rows_more : (turns : List Turn) (t : Turn) → spec.rows_of turns ++ fields_of_line t.line ∷ [] ≡ spec.rows_of (turns ++ t ∷ [])
+rows_more turns t = ap (λ l. header ∷ l) (sym (map-append (λ (u : Turn). fields_of_line u.line) turns (t ∷ [])))
+
+lines_after : (n : ℕ) (turns : List Turn) (t : Turn) → spec.lines_from n (turns ++ t ∷ []) ≡ spec.lines_from n turns ++ spec.line_of (n + length turns) t
+lines_after n [] t = append-nil (spec.line_of n t) ∙ ap (λ k. spec.line_of k t) (omega arith)
+lines_after n (u ∷ turns) t =
+    let same : n + 1 + length turns ≡ n + length (u ∷ turns) = omega arith in
+    ap (λ l. spec.line_of n u ++ l) (lines_after (n + 1) turns t)
+    ∙ sym (append_assoc (spec.line_of n u) (spec.lines_from (n + 1) turns) (spec.line_of (n + 1 + length turns) t))
+    ∙ ap (λ k. (spec.line_of n u ++ spec.lines_from (n + 1) turns) ++ spec.line_of k t) same
+
+-- the lines, and one more
+pub lines_more : (a b c : Option (List ℕ)) (n : ℕ) (turns : List Turn) (t : Turn) → n ≡ length turns + 1 → Appends a b (spec.lines_from 1 turns)
+    → Appends b c (spec.line_of n t) → Appends a c (spec.lines_from 1 (turns ++ t ∷ []))
+lines_more a b c n turns t count printed more =
+    let same : n ≡ 1 + length turns = omega (arith, count) in
+    subst (λ l. Appends a c l) (sym (lines_after 1 turns t))
+    (Appends-trans a b c _ _ printed (subst (λ k. Appends b c (spec.line_of k t)) same more))
+
+and_true : (b : Bool) → b && true ≡ b
+and_true true = refl
+and_true false = refl
+
+and_assoc : (a b c : Bool) → a && (b && c) ≡ (a && b) && c
+and_assoc true b c = refl
+and_assoc false b c = refl
+
+-- whether all are accepted, with one more
+pub all_more : (turns : List Turn) (t : Turn) → list_all spec.is_accepted (turns ++ t ∷ []) ≡ list_all spec.is_accepted turns && spec.is_accepted t
+all_more [] t = and_true (spec.is_accepted t)
+all_more (u ∷ turns) t =
+    ap (λ b. spec.is_accepted u && b) (all_more turns t) ∙ and_assoc (spec.is_accepted u) (list_all spec.is_accepted turns) (spec.is_accepted t)

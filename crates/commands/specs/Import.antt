@@ -1,0 +1,244 @@
+-- What an import does: a run of publishes over the rows of a list.
+use Rattle.std.specs.Prelude.{ℕ, ◌≡◌, ◌≢◌, ◌≤◌, ◌+◌, ◌⊎◌, List, [], ◌∷◌, ◌++◌, codes, length, map, Bool, if◌then◌else◌, Option, Some, None, Result, Ok, Err, MatchResult}
+use Rattle.std.specs.List.{list_all}
+use Rattle.std.specs.Io.KnownBytes.{Appends}
+use Rattle.csv.specs.declared.reader.Reader.{Reader}
+use Rattle.engine.specs.declared.fault.Io.{Io}
+use Rattle.engine.specs.declared.fault.Io.TheVariants as io
+use Rattle.shelf.specs.Machine.{MetDevice}
+use Rattle.shelf.specs.Runs.{Runs}
+use Rattle.shelf.specs.declared.ask.Ask.{Ask}
+use Rattle.shelf.specs.declared.ask.Body.{Body}
+use Rattle.shelf.specs.declared.ask.Event.{Event}
+use Rattle.shelf.specs.declared.ask.Event.TheVariants.{Asked}
+use Rattle.shelf.specs.declared.reply.Answer.{Answer}
+use Rattle.shelf.specs.declared.reply.Answer.TheVariants.{Replied, Failed}
+use Rattle.wire.specs.declared.reply.Fixed.{Fixed}
+use Rattle.wire.specs.declared.reply.Fixed.TheVariants.{Unavailable}
+use Rattle.world.specs.Store.{Shown, GrewOrFull}
+use Rattle.commands.specs.ImportFiles.{IsBodyOf}
+use Rattle.commands.specs.ImportLine.{IsFront, PrintsFront, accepts_outcome, numbered, outcome_text}
+use Rattle.commands.specs.ImportList.{HasRead, IsNoText, IsNone, Line, Meets, fields_of_line, header}
+use Rattle.commands.specs.Publish.{answer_of, asked}
+use Rattle.commands.specs.declared.import.Closing.{Closing}
+use Rattle.commands.specs.declared.import.Closing.TheVariants as closing
+use Rattle.commands.specs.declared.import.Ending.{Ending}
+use Rattle.commands.specs.declared.import.Ending.TheVariants as ending
+use Rattle.commands.specs.declared.import.Step.{Step}
+use Rattle.commands.specs.declared.import.Step.TheVariants as step
+use Rattle.commands.specs.declared.import_line.Outcome.{Outcome}
+use Rattle.commands.specs.declared.import_line.Outcome.TheVariants as outcome
+use Rattle.commands.specs.declared.sources.SourceFault.TheVariants as source
+
+-- ---- what is done with a row
+
+-- an empty time is none
+abbrev pub time_of : List ℕ → Option (List ℕ)
+time_of [] = None
+time_of (c ∷ cs) = Some (c ∷ cs)
+
+-- what a row asks of the machine, with these files
+abbrev pub ask_of : List ℕ → Line → Body → Ask
+ask_of key l body = asked key l.path l.version (time_of l.time) body
+
+-- it was asked of the machine, and answered; a file has no bytes; or there was no memory to have the files
+pub data Done : Type 0 where
+  Answers : Ask → Answer → Done
+  HasNoFile : Done
+  Unfetched : Done
+
+-- a row that was done
+pub record Turn : Type 0 where
+  pub line : Line
+  pub done : Done
+
+-- the publish that was asked, and its answer
+abbrev pub events_of : Done → List Event
+events_of (Answers ask answer) = Asked ask ∷ []
+events_of HasNoFile = []
+events_of Unfetched = []
+
+abbrev pub answers_of : Done → List Answer
+answers_of (Answers ask answer) = answer ∷ []
+answers_of HasNoFile = []
+answers_of Unfetched = []
+
+abbrev pub events : List Turn → List Event
+events [] = []
+events (t ∷ ts) = events_of t.done ++ events ts
+
+abbrev pub answers : List Turn → List Answer
+answers [] = []
+answers (t ∷ ts) = answers_of t.done ++ answers ts
+
+-- the fixed answer to a publish; 503 where the store met a fault
+abbrev pub fixed_answer : Answer → Fixed
+fixed_answer (Replied reply) = answer_of (Ok reply)
+fixed_answer (Failed fault) = answer_of (Err fault)
+
+abbrev pub outcome_of : Done → Outcome
+outcome_of (Answers ask answer) = outcome.Answered (fixed_answer answer)
+outcome_of HasNoFile = outcome.NoFile
+outcome_of Unfetched = outcome.Answered Unavailable
+
+module _ (told : List ℕ → Option (Option (List ℕ))) (key : List ℕ) where
+  -- the row was done by what is told of its files
+  abbrev pub IsDone : Line → Done → Type 0
+  IsDone l (Answers ask answer) = (body : Body) × IsBodyOf told l (Ok body) × (ask ≡ ask_of key l body)
+  IsDone l HasNoFile = IsBodyOf told l (Err source.NoFile)
+  IsDone l Unfetched = Unit {0}
+
+  abbrev pub AreDone : List Turn → Type 0
+  AreDone [] = Unit {0}
+  AreDone (t ∷ ts) = IsDone t.line t.done × AreDone ts
+
+-- ---- what is printed
+
+abbrev pub line_of : ℕ → Turn → List ℕ
+line_of n t = numbered n (outcome_text (outcome_of t.done))
+
+-- a line for each row, with its number
+abbrev pub lines_from : ℕ → List Turn → List ℕ
+lines_from n [] = []
+lines_from n (t ∷ ts) = line_of n t ++ lines_from (n + 1) ts
+
+abbrev pub is_accepted : Turn → Bool
+is_accepted t = accepts_outcome (outcome_of t.done)
+
+-- the line that ends an import, if one does
+abbrev pub closing_line : ℕ → Closing → List ℕ
+closing_line n closing.End = []
+closing_line n closing.BadRow = numbered n (codes "bad row")
+closing_line n closing.Unread = numbered n (outcome_text (outcome.Answered Unavailable))
+
+-- how an import ends, by whether all rows were accepted
+abbrev pub ending_of : Bool → Closing → Ending
+ending_of accepted closing.End = if accepted then ending.AllIn else ending.SomeOut
+ending_of accepted closing.BadRow = ending.BadRow
+ending_of accepted closing.Unread = ending.SomeOut
+
+-- ---- where the list ends
+
+-- the header and the rows that were done
+abbrev pub rows_of : List Turn → List (List (List ℕ))
+rows_of turns = header ∷ map (λ t. fields_of_line t.line) turns
+
+-- the list begins with these rows
+abbrev pub Begins : Option (List ℕ) → List (List (List ℕ)) → Type 0
+Begins list rows = Meets list rows (λ next. Unit {0})
+
+-- after these rows a record comes that is no text, or fields that are not five
+abbrev pub BadRowComes : Option (List ℕ) → List (List (List ℕ)) → Type 0
+BadRowComes list rows =
+    Meets list rows IsNoText ⊎ ((fields : List (List ℕ)) × (length fields ≢ 5) × Begins list (rows ++ fields ∷ []))
+
+-- the list has no record, one that is no text, or another header
+abbrev pub BadHeaderComes : Option (List ℕ) → Type 0
+BadHeaderComes list =
+    Meets list [] IsNone ⊎ Meets list [] IsNoText ⊎ ((fields : List (List ℕ)) × (fields ≢ header) × Begins list (fields ∷ []))
+
+-- why no row is done after these; nothing is known where the list can't be read on
+abbrev pub IsClosing : Option (List ℕ) → List (List (List ℕ)) → Closing → Type 0
+IsClosing list rows closing.End = Meets list rows IsNone
+IsClosing list rows closing.BadRow = BadRowComes list rows
+IsClosing list rows closing.Unread = Unit {0}
+
+-- why no row is done at all
+abbrev pub IsHeaderClosing : Option (List ℕ) → Closing → Type 0
+IsHeaderClosing list closing.End = ⊥
+IsHeaderClosing list closing.BadRow = BadHeaderComes list
+IsHeaderClosing list closing.Unread = Unit {0}
+
+-- after the rows that were done no further one is, and this is its number
+abbrev pub IsOver : Option (List ℕ) → List Turn → ℕ → Closing → Type 0
+IsOver list turns n why = ((n ≡ length turns + 1) × IsClosing list (rows_of turns) why) ⊎ ((n ≡ 0) × (turns ≡ []) × IsHeaderClosing list why)
+
+-- ---- the import
+
+-- the store went through the rows in a run of publishes
+pub record GoesThrough
+    (old new : Shown) (before now : ℕ) (told : List ℕ → Option (Option (List ℕ))) (key : List ℕ) (turns : List Turn) : Type 0 where
+  pub done : AreDone told key turns
+  pub runs : Runs old new (events turns) (answers turns)
+  -- a failed device is told only where one failed
+  pub no_fewer : before ≤ now
+  pub device : MetDevice (answers turns) → GrewOrFull before now
+
+-- The output broke off: in the line of the last row, or in the one that ends the import.
+abbrev pub BreaksOff : Option (List ℕ) → Option (List ℕ) → Option (List ℕ) → List Turn → Type 0
+BreaksOff list written written_new turns =
+    ((first : List Turn) × (last : Turn) × (front : List ℕ) × (turns ≡ first ++ last ∷ [])
+    × IsFront front (line_of (length first + 1) last) × Appends written written_new (lines_from 1 first ++ front))
+    ⊎ ((n : ℕ) × (why : Closing) × (front : List ℕ) × IsOver list turns n why
+    × IsFront front (closing_line n why) × Appends written written_new (lines_from 1 turns ++ front))
+
+-- each row has its line, and then comes the line that ends the import, if one does; or the output broke off
+abbrev pub Ends : Option (List ℕ) → Option (List ℕ) → Option (List ℕ) → List Turn → Result Ending Io → Type 0
+Ends list written written_new turns result =
+    MatchResult result
+    (λ e. (n : ℕ) × (why : Closing) × IsOver list turns n why × (e ≡ ending_of (list_all is_accepted turns) why)
+    × Appends written written_new (lines_from 1 turns ++ closing_line n why))
+    (λ e. (e ≡ io.Write) × BreaksOff list written written_new turns)
+
+-- The rows at the front of the list were published one after another, and so it ended.
+pub record Imports
+    (old new : Shown) (before now : ℕ) (told : List ℕ → Option (Option (List ℕ))) (key : List ℕ)
+    (list written written_new : Option (List ℕ)) (result : Result Ending Io) : Type 0 where
+  pub turns : List Turn
+  pub through : GoesThrough old new before now told key turns
+  pub ends : Ends list written written_new turns result
+
+-- ---- its parts
+
+-- an ask was answered as the machine does, or met a fault
+pub record Publishes (old new : Shown) (before now : ℕ) (ask : Ask) (answer : Fixed) : Type 0 where
+  pub told : Answer
+  pub runs : Runs old new (Asked ask ∷ []) (told ∷ [])
+  pub is : answer ≡ fixed_answer told
+  pub no_fewer : before ≤ now
+  pub device : MetDevice (told ∷ []) → GrewOrFull before now
+
+-- a row was done, with this outcome
+pub record DoesRow
+    (old new : Shown) (before now : ℕ) (told : List ℕ → Option (Option (List ℕ))) (key : List ℕ) (l : Line) (result : Outcome) : Type 0 where
+  pub done : Done
+  pub through : GoesThrough old new before now told key (record { line = l; done = done } ∷ [])
+  pub is : result ≡ outcome_of done
+
+-- a line ended the import, if one does, or the output broke off
+abbrev pub Closes : ℕ → Closing → Bool → Option (List ℕ) → Option (List ℕ) → Result Ending Io → Type 0
+Closes n why accepted written written_new result =
+    MatchResult result
+    (λ e. (e ≡ ending_of accepted why) × Appends written written_new (closing_line n why))
+    (λ e. (e ≡ io.Write) × PrintsFront written written_new (closing_line n why))
+
+module _ {R : Type 0} (remaining : R → Option (List ℕ)) where
+  -- the header was read, or there is none
+  abbrev pub HeaderRead : Option (List ℕ) → Reader R → Option Closing → Type 0
+  HeaderRead list reader None = HasRead remaining list (header ∷ []) reader
+  HeaderRead list reader (Some why) = IsHeaderClosing list why
+
+  -- fields were read after these rows, or there are none
+  abbrev pub FieldsRead : Option (List ℕ) → List (List (List ℕ)) → Reader R → List (List ℕ) → Option Closing → Type 0
+  FieldsRead list rows reader fields None = HasRead remaining list (rows ++ fields ∷ []) reader
+  FieldsRead list rows reader fields (Some why) = IsClosing list rows why
+
+  module _ (old new : Shown) (before now : ℕ) (told : List ℕ → Option (Option (List ℕ))) (key : List ℕ) (list : Option (List ℕ))
+      (rows : List (List (List ℕ))) (reader : Reader R) (n : ℕ) (written written_new : Option (List ℕ)) where
+    -- a row was done after these rows
+    pub record TakesTurn (t : Turn) : Type 0 where
+      pub through : GoesThrough old new before now told key (t ∷ [])
+      pub read : HasRead remaining list (rows ++ fields_of_line t.line ∷ []) reader
+
+    -- no row was done
+    pub record IsIdle (why : Closing) : Type 0 where
+      pub through : GoesThrough old new before now told key []
+      pub closing : IsClosing list rows why
+      pub output : written_new ≡ written
+
+    -- the next row was done and its line printed, or no row is done; or the output broke off in its line
+    abbrev pub StepIs : Result Step Io → Type 0
+    StepIs (Ok (step.Row accepted)) =
+        (t : Turn) × TakesTurn t × (accepted ≡ is_accepted t) × Appends written written_new (line_of n t)
+    StepIs (Ok (step.Over why)) = IsIdle why
+    StepIs (Err e) = (t : Turn) × TakesTurn t × (e ≡ io.Write) × PrintsFront written written_new (line_of n t)

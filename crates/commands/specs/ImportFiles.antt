@@ -1,0 +1,29 @@
+-- The files of a row.
+use Rattle.std.specs.Prelude.{ℕ, List, ◌≡◌, ◌⊎◌, true, ◌&&◌, is_some, Option, Result, Ok, Err}
+use Rattle.modver.specs.Reading.{version_of}
+use Rattle.shelf.specs.declared.ask.Body.{Body}
+use Rattle.world.specs.Forms.{path_of}
+use Rattle.world.specs.World.{gomod_limit, zip_limit}
+use Rattle.commands.specs.ImportList.{Line}
+use Rattle.commands.specs.Sources.{IsTold}
+use Rattle.commands.specs.declared.sources.SourceFault.{SourceFault}
+use Rattle.commands.specs.declared.sources.SourceFault.TheVariants.{NoFile, Memory}
+
+-- the path and the version of a row read
+abbrev pub IsReadable : Line → Type 0
+IsReadable l = is_some (path_of l.path) && is_some (version_of l.version) ≡ true
+
+module _ (told : List ℕ → Option (Option (List ℕ))) (l : Line) where
+  -- what may be had of the two names
+  abbrev pub GoModIs : Result (List ℕ) SourceFault → Type 0
+  GoModIs had = IsTold gomod_limit (told l.gomod) had
+
+  abbrev pub ZipIs : Result (List ℕ) SourceFault → Type 0
+  ZipIs had = IsTold zip_limit (told l.zip) had
+
+  -- What may be had as the files of a row, by what is told of their names. Where the path or the version does not read, they are
+  -- not looked at.
+  abbrev pub IsBodyOf : Result Body SourceFault → Type 0
+  IsBodyOf (Ok body) = IsReadable l → GoModIs (Ok body.gomod) × ZipIs (Ok body.zip)
+  IsBodyOf (Err NoFile) = IsReadable l × (GoModIs (Err NoFile) ⊎ ZipIs (Err NoFile))
+  IsBodyOf (Err Memory) = Unit {0}

@@ -1,0 +1,42 @@
+//! `import` of a list in a file.
+ghost use Rattle.std.specs.Prelude.{◌≡◌};
+ghost use Rattle.commands.specs.ImportFile as spec;
+
+use crate::import::{Ending, import};
+use crate::refusal::Refusal;
+use crate::sources::SystemFiles;
+use engine::Io;
+use std::fs::File;
+use std::io::Write;
+use std::rt::HostRuntime;
+use world::shelves::Shelves;
+
+/// Publishes each row of the list in a file, with the files of the system, and tells whether all were accepted. `BadRow` after a
+/// bad row, `Io` where the list can't be opened, and then nothing is done, or where a line could not be printed.
+pub fn import_file<S: Shelves, O: Write>(
+    rt: &HostRuntime,
+    shelves: &mut S,
+    key: &str,
+    list: &str,
+    output: &mut O,
+) -> Result<bool, Refusal>
+    ensures { spec.ImportsFile S.shown S.failure_count shelves.old shelves.new key.now (O.contents output.old) (O.contents output.new) result }
+{
+    let Ok(list) = File::open(rt, list) else {
+        return Err(Refusal::Io);
+    };
+    let files = SystemFiles { rt };
+    told(import(rt.alloc(), shelves, key, list, &files, output))
+}
+
+/// What is told of an import.
+fn told(ended: Result<Ending, Io>) -> Result<bool, Refusal>
+    ensures { result ≡ spec.told ended }
+{
+    match ended {
+        Ok(Ending::AllIn) => Ok(true),
+        Ok(Ending::SomeOut) => Ok(false),
+        Ok(Ending::BadRow) => Err(Refusal::BadRow),
+        Err(_) => Err(Refusal::Io),
+    }
+}

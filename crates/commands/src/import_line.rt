@@ -1,0 +1,77 @@
+//! The lines that an import prints.
+ghost use Rattle.std.specs.Prelude.{◌≡◌, codes};
+ghost use Rattle.engine.specs.Written.{Writes};
+ghost use Rattle.commands.specs.ImportLine as spec;
+
+use crate::publish::is_accepted;
+use engine::Io;
+use engine::write::write_both;
+use itoa::Buffer;
+use std::io::Write;
+use wire::fixed_line;
+use wire::reply::Fixed;
+
+/// What became of a row.
+#[derive(Clone, Copy, Drop)]
+pub enum Outcome {
+    /// A file has no bytes that can be had, and nothing was stored.
+    NoFile,
+    /// The answer to its publish.
+    Answered(Fixed),
+}
+
+impl Outcome {
+    /// Whether it is an answer that accepts: 200 or 201.
+    pub fn accepts(self) -> bool
+        ensures { result ≡ spec.accepts_outcome self }
+    {
+        match self {
+            Outcome::NoFile => false,
+            Outcome::Answered(answer) => is_accepted(answer.status().as_u16()),
+        }
+    }
+}
+
+/// Prints what became of a row: its number, a space and the answer, or `no file`.
+pub fn print_outcome<O: Write>(number: u64, outcome: Outcome, output: &mut O) -> Result<(), Io>
+    ensures { spec.Prints (O.contents output.old) (O.contents output.new) (spec.numbered number (spec.outcome_text outcome)) result }
+{
+    match outcome {
+        Outcome::NoFile => print_numbered(number, b"no file", output),
+        Outcome::Answered(answer) => {
+            let mut text = [0; 40];
+            let len = fixed_line(answer, &mut text);
+            print_numbered(number, &text[..len], output)
+        }
+    }
+}
+
+/// Prints that a row is bad.
+pub fn print_bad_row<O: Write>(number: u64, output: &mut O) -> Result<(), Io>
+    ensures { spec.Prints (O.contents output.old) (O.contents output.new) (spec.numbered number (codes "bad row")) result }
+{
+    print_numbered(number, b"bad row", output)
+}
+
+/// Prints a line: a number, a space and a text. Where that fails, a beginning of it was printed.
+fn print_numbered<O: Write>(number: u64, text: &[u8], output: &mut O) -> Result<(), Io>
+    ensures { spec.Prints (O.contents output.old) (O.contents output.new) (spec.numbered number text.now) result }
+{
+    match write_numbered(number, text, output) {
+        Ok(()) => {}
+        Err(fault) => return Err(fault),
+    }
+    match output.flush() {
+        Ok(()) => Ok(()),
+        Err(_) => Err(Io::Write),
+    }
+}
+
+/// Writes a line: a number, a space and a text.
+fn write_numbered<O: Write>(number: u64, text: &[u8], output: &mut O) -> Result<(), Io>
+    ensures { Writes (O.contents output.old) (O.contents output.new) (spec.numbered number text.now) result }
+{
+    let mut digits = Buffer::new();
+    write_both(output, digits.format(number).as_bytes(), b" ")?;
+    write_both(output, text, b"\n")
+}

@@ -1,0 +1,114 @@
+//! The list of an import, read row by row. (RFC 4180.)
+ghost use Rattle.std.specs.Prelude.{◌≡◌, ◌↔◌, ◌<◌, length, IsTrue, [], List, ℕ, Option, Some};
+ghost use Rattle.csv.specs.Records.{fields_of, field_at};
+ghost use Rattle.commands.specs.ImportList as spec;
+
+use csv::{ErrorKind, Reader, ReaderBuilder, StringRecord};
+use std::alloc::Global;
+use std::io::Read;
+
+/// What comes next in a list.
+#[derive(Clone, Copy, Debug, Drop, PartialEq, Eq)]
+pub enum Next {
+    /// Fields of text.
+    Fields,
+    /// Nothing.
+    End,
+    /// Fields that are no text.
+    NoText,
+    /// The list can't be read on: the reader failed, or a growth was refused.
+    Unread,
+}
+
+/// A row of a list.
+#[derive(Clone, Copy, Drop)]
+pub struct Row<'a> {
+    pub path: &'a str,
+    pub version: &'a str,
+    /// Empty where no time is given.
+    pub time: &'a str,
+    /// The name of the file of the go.mod.
+    pub gomod: &'a str,
+    /// The name of the file of the zip.
+    pub zip: &'a str,
+}
+
+/// A reader at the beginning of a list.
+pub fn open<R: Read>(alloc: Global, list: R) -> Reader<R>
+    ensures { spec.HasRead R.remaining (R.remaining list) [] result }
+{
+    ReaderBuilder::new()
+        .has_headers(false)
+        .flexible(true)
+        .from_reader(alloc, list)
+}
+
+/// Reads the next fields.
+pub fn read_next<R: Read>(reader: &mut Reader<R>, fields: &mut StringRecord) -> Next
+    ensures { (list : Option (List ℕ)) (rows : List (List (List ℕ))) → spec.HasRead R.remaining list rows reader.old
+        → spec.Comes R.remaining list rows reader.new (fields_of fields.new) result }
+{
+    match reader.read_record(fields) {
+        Ok(true) => Next::Fields,
+        Ok(false) => Next::End,
+        Err(error) => next_of(error.kind()),
+    }
+}
+
+/// What comes next where a read failed.
+fn next_of(kind: &ErrorKind) -> Next
+    ensures { result ≡ spec.next_of kind.now }
+{
+    match kind {
+        ErrorKind::Io(_) | ErrorKind::OutOfMemory => Next::Unread,
+        _ => Next::NoText,
+    }
+}
+
+/// The row that fields are, if there are five.
+pub fn row_of(fields: &StringRecord) -> Option<Row<'_>>
+    ensures { spec.IsRowOf (fields_of fields.now) result }
+{
+    if fields.len() != 5 {
+        return None;
+    }
+    Some(Row {
+        path: field(fields, 0),
+        version: field(fields, 1),
+        time: field(fields, 2),
+        gomod: field(fields, 3),
+        zip: field(fields, 4),
+    })
+}
+
+/// The field at a place.
+fn field(fields: &StringRecord, place: usize) -> &str
+    requires { place < length (fields_of fields.now) }
+    ensures { Some result.now ≡ field_at (fields_of fields.now) place }
+{
+    match fields.get(place) {
+        Some(field) => field,
+        None => unreachable!(),
+    }
+}
+
+/// Whether fields are the header of a list.
+pub fn is_header(fields: &StringRecord) -> bool
+    ensures { IsTrue result ↔ (fields_of fields.now ≡ spec.header) }
+{
+    match row_of(fields) {
+        Some(row) => names_fields(&row),
+        None => false,
+    }
+}
+
+/// Whether a row has the names of the fields.
+fn names_fields(row: &Row) -> bool
+    ensures { IsTrue result ↔ (spec.fields_of_row row.now ≡ spec.header) }
+{
+    row.path == "path"
+        && row.version == "version"
+        && row.time == "time"
+        && row.gomod == "mod"
+        && row.zip == "zip"
+}

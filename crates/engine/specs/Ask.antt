@@ -91,6 +91,8 @@ sum_at other = None
 abbrev pub sum_of : Request → Option (List ℕ × SemanticVersion)
 sum_of m = sum_at (target_in m)
 
+-- ---- the same, by what is asked of the machine
+
 -- whether a go.sum line is asked for
 abbrev pub is_sum : Wanted → Bool
 is_sum (wanted.GoSum path version) = true
@@ -108,6 +110,6 @@ abbrev pub gomod_asked : Ask → Option (List ℕ × SemanticVersion)
 gomod_asked (ask.Get key (query.GoMod path version)) = Some (path, version)
 gomod_asked other = None
 
--- the version whose go.sum line is told, by what is asked of the machine
+-- the version whose go.sum line is told
 abbrev pub sum_by : Asking → Option (List ℕ × SemanticVersion)
 sum_by asking = if asking.is_summed then gomod_asked asking.ask else None

@@ -1,4 +1,4 @@
-//! What the callers of a stream are told, in bytes.
+//! What the callers of a stream are told, in bytes; and how long a body may be.
 ghost use Rattle.std.specs.Prelude.{◌≡◌, ◌+◌};
 ghost use Rattle.wire.specs.Message.{body_limit};
 ghost use Rattle.world.specs.World.{gomod_limit, zip_limit};
@@ -6,11 +6,6 @@ ghost use Rattle.engine.specs.Calls.{CallsTellAlike, CallsTellAlikeAsFar};
 ghost use Rattle.engine.specs.Headline.{CallersAreToldAlike, BytesStayServed, LatestIsWritten};
 
 use world::shelves::Shelves;
-
-/// The body of a message has room for a go.mod and a zip of the most bytes each, and for no byte more.
-pub fn body_has_room_for_both_files()
-    ensures { body_limit ≡ gomod_limit + zip_limit }
-{}
 
 /// A caller is written what it would be written if no message with a key of another team had come: in two runs from one world, one
 /// with the others' messages and one without, the texts of the messages that are kept are the same, where none of them is the 503.
@@ -38,4 +33,9 @@ pub fn isolation_of_calls<S: Shelves, T: Shelves>()
         → CallsTellAlike (S.shown old) (S.shown new) (T.shown old_too) (T.shown new_too) }
     ensures as_far { (old new : S) (old_too new_too : T)
         → CallsTellAlikeAsFar (S.shown old) (S.shown new) (T.shown old_too) (T.shown new_too) }
+{}
+
+/// The body of a message has room for a go.mod and a zip of the most bytes each, and for no byte more.
+pub fn body_has_room_for_both_files()
+    ensures { body_limit ≡ gomod_limit + zip_limit }
 {}

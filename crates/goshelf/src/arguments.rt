@@ -49,7 +49,7 @@ enum Needed {
 }
 
 /// The commands, in the order of the help.
-static COMMANDS: [CommandRow; 9] = [
+static COMMANDS: [CommandRow; 10] = [
     CommandRow {
         name: "init",
         about: "Makes a store with the shelf common alone, in a file that has no bytes",
@@ -74,6 +74,11 @@ static COMMANDS: [CommandRow; 9] = [
         name: "publish",
         about: "Publishes a version of a module from files, and prints the outcome",
         options: &PUBLISH,
+    },
+    CommandRow {
+        name: "import",
+        about: "Publishes each row of a list, and prints the outcome of each",
+        options: &IMPORT,
     },
     CommandRow {
         name: "inventory",
@@ -186,6 +191,22 @@ const PUBLISH: [OptionRow; 7] = [
         value: Value::Text("T"),
         needed: Needed::Never,
         help: "The time of the version, as 2024-01-31T23:59:59Z",
+    },
+];
+
+const IMPORT: [OptionRow; 3] = [
+    DB,
+    OptionRow {
+        name: "key",
+        value: Value::Text("K"),
+        needed: Needed::Always,
+        help: "A key that may publish",
+    },
+    OptionRow {
+        name: "list",
+        value: Value::Text("CSV"),
+        needed: Needed::Always,
+        help: "The file of the list: CSV with the header path,version,time,mod,zip",
     },
 ];
 
@@ -364,6 +385,10 @@ fn work_of<'a>(name: &str, matches: &ArgMatches<'a>) -> Option<Work<'a>> {
             key: text(matches, "key"),
         }),
         "publish" => Some(publish_of(matches)),
+        "import" => Some(Work::Import {
+            key: text(matches, "key"),
+            list: text(matches, "list"),
+        }),
         "inventory" => Some(Work::Inventory {
             key: text(matches, "key"),
         }),

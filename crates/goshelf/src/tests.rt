@@ -1,5 +1,6 @@
 //! The worked rows: whole runs over the parts together, with their exact bytes.
 mod file_runs;
+mod imports;
 mod lists;
 mod rows;
 mod runs;

@@ -34,7 +34,7 @@ pub enum Task<'a> {
     OnStore { db: &'a str, work: Work<'a> },
 }
 
-/// Does a task, and tells whether it was accepted: only a publish may be told so and not be.
+/// Does a task, and tells whether it was accepted: only a publish and an import may be told so and not be.
 pub fn perform<I: Read, O: Write>(
     rt: &HostRuntime,
     task: &Task,

@@ -47,14 +47,14 @@ fn write_files(rt: &HostRuntime) -> Result<(), Fail> {
 }
 
 /// A text of a row with its lines.
-fn lines(rt: &HostRuntime, text: &str) -> Result<String, Fail> {
+pub fn lines(rt: &HostRuntime, text: &str) -> Result<String, Fail> {
     let mut lines = String::new(rt.alloc());
     push_lines(&mut lines, text, "\n")?;
     Ok(lines)
 }
 
 /// What a run is to say on standard error.
-fn said(rt: &HostRuntime, word: &str) -> Result<String, Fail> {
+pub fn said(rt: &HostRuntime, word: &str) -> Result<String, Fail> {
     if word.is_empty() {
         return Ok(String::new(rt.alloc()));
     }

@@ -41,6 +41,7 @@ init
 team-add --db none.db
 key-add --db none.db --shelf alpha
 publish --db none.db
+import --db none.db --key alphakey00000001
 inventory --db none.db
 requires --db none.db --key alphakey00000001 --module example.com/lib
 answer
@@ -66,6 +67,7 @@ team-add | --db --team
 key-add | --db --shelf --key --read-only
 key-revoke | --db --key
 publish | --db --key --module --version --mod --zip --time
+import | --db --key --list
 inventory | --db --key
 requires | --db --key --module --version
 answer | --db --mem --team --key

@@ -57,7 +57,8 @@ fn top_of_kept(versions: &[Version], retractions: Option<&GoMod>) -> Option<usiz
     highest
 }
 
-/// The place of the highest version up to this one, from the highest before it.
+/// The place of the highest version up to this one, from the highest before it. A version that isn't above that is not
+/// held against the retractions.
 fn better(
     versions: &[Version],
     retractions: Option<&GoMod>,
@@ -69,10 +70,10 @@ fn better(
         → IsBest versions.now (option_copied retractions.entry) (place + 1) result }
 {
     let version = &versions[place];
-    if !is_kept(retractions, version) {
+    if !is_higher(versions, version, highest) {
         return highest;
     }
-    if !is_higher(versions, version, highest) {
+    if !is_kept(retractions, version) {
         return highest;
     }
     Some(place)

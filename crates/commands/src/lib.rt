@@ -4,6 +4,7 @@
 //! |---|---|---|
 //! | `team-add`, `key-add`, `key-revoke` | one command of the registry, as the machine does it | [`registry`] |
 //! | `publish` | asks the machine to publish two files, and prints the line of its outcome | [`publish`] |
+//! | `import` | asks the machine to publish each row of a list, and prints a line for each | [`import`], [`import_file`] |
 //! | `inventory`, `requires` | prints what a shelf sees, and what a version requires | [`report`], [`inventory`], [`requirements`] |
 //! | `answer` | answers the requests of a reader from a store, or from shelves in memory that begin with one team and its key | [`answer`], [`memory`] |
 //! | `serve` | binds a port, prints it, and answers one request on each of some connections | [`serve`] |

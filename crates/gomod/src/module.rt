@@ -1,15 +1,15 @@
 //! What a go.mod file says.
 
 ghost use Rattle.std.specs.Prelude.{◌≡◌, ◌↔◌, IsTrue, IsUtf8, Err};
-ghost use Rattle.std.specs.List.{list_any};
 ghost use Rattle.gomod.specs.Keywords.{profile_in_force};
 ghost use Rattle.gomod.specs.Reading.{Gives, first_unfit, fits_retraction, file_says, text_says, reading};
-ghost use Rattle.gomod.specs.Module.{IsRetracted, is_retracted, covers, interval_of};
+ghost use Rattle.gomod.specs.Module.{IsRetracted, is_retracted};
 ghost use Rattle.gomod.specs.State.{state_of};
 
-use super::entries::{Requirement, Retraction, is_below};
+use super::entries::{Requirement, Retraction};
 use super::fault::GoModFault;
 use super::reader::{Reader, read_line};
+use super::stretches::Stretches;
 use modlex::cut_line;
 use modpath::ModulePath;
 use modver::{Version, fits};
@@ -22,16 +22,23 @@ pub struct GoMod {
     path: ModulePath,
     required: Vec<Requirement>,
     retractions: Vec<Retraction>,
+    /// The same versions as those of the retractions.
+    stretches: Stretches,
     bare: bool,
 }
 
 impl Model for GoMod {
-    ghost use Rattle.std.specs.Prelude.{map};
-    ghost use Rattle.gomod.specs.Module.{GoModule, interval_of};
+    ghost use Rattle.std.specs.Prelude.{◌≡◌, map};
+    ghost use Rattle.std.specs.List.{list_any};
+    ghost use Rattle.gomod.specs.Module.{GoModule, covers, interval_of};
+    ghost use Rattle.gomod.specs.Paths.{Version};
 
     ghost Value = { GoModule };
 
     ghost view = { λ m. record { path = m.path; required = m.required.items; retractions = map interval_of m.retractions.items; bare = m.bare } };
+
+    ghost invariant = { λ m. (v : Version)
+        → list_any (covers v) m.stretches ≡ list_any (covers v) (map interval_of m.retractions.items) };
 }
 
 impl GoMod {
@@ -66,7 +73,7 @@ impl GoMod {
         ensures value { result ≡ is_retracted self.now version.now }
         ensures retracted { IsTrue result ↔ IsRetracted self.now version.now }
     {
-        some_covers(&self.retractions, version)
+        self.stretches.has(version)
     }
 
     /// Whether the module directive is the only directive.
@@ -78,25 +85,12 @@ impl GoMod {
 }
 
 impl Retraction {
-    fn covers(&self, version: &Version) -> bool
-        ensures { result ≡ covers version.now (interval_of self.now) }
-    {
-        !is_below(version, &self.low) && !is_below(&self.high, version)
-    }
-
     #[tactic(auto, unfolding(crate::specs::Paths::fits_path))]
     fn fits(&self, path: &ModulePath) -> bool
         ensures { result ≡ fits_retraction path.now self.now }
     {
         fits(path, &self.low) && fits(path, &self.high)
     }
-}
-
-/// Whether some retraction has the version.
-fn some_covers(retractions: &[Retraction], version: &Version) -> bool
-    ensures { result ≡ list_any (λ r. covers version.now (interval_of r)) retractions.now }
-{
-    retractions.iter().any(|r| r.covers(version))
 }
 
 /// The line of the first retraction that doesn't fit the path.
@@ -113,7 +107,7 @@ fn first_unfit(path: &ModulePath, retractions: &[Retraction]) -> Option<usize>
 
 /// What all lines say, of which the last has a number.
 #[tactic(auto, unfolding(crate::specs::Reading::file_says))]
-fn finish(reader: Reader, last: usize) -> Result<GoMod, GoModFault>
+fn finish(alloc: Global, reader: Reader, last: usize) -> Result<GoMod, GoModFault>
     ensures { Gives (λ m. m) result (file_says last (state_of reader)) }
 {
     let Reader {
@@ -133,10 +127,12 @@ fn finish(reader: Reader, last: usize) -> Result<GoMod, GoModFault>
     if let Some(line) = first_unfit(&path, retractions.as_slice()) {
         return Err(GoModFault::Version(line));
     }
+    let stretches = Stretches::of(alloc, &retractions)?;
     Ok(GoMod {
         path,
         required,
         retractions,
+        stretches,
         bare,
     })
 }
@@ -153,5 +149,5 @@ fn read_text(alloc: Global, text: &str) -> Result<GoMod, GoModFault>
         rest = behind;
     }
     read_line(&mut reader, alloc, line, rest)?;
-    finish(reader, line)
+    finish(alloc, reader, line)
 }

@@ -1,15 +1,13 @@
 use Rattle.std.proofs.Common.{◌≡◌, ap, sym, ◌∙◌}
-use Rattle.std.specs.List.{list_any}
-use Rattle.gomod.specs.Module.{interval_of, covers, is_retracted}
-use Rattle.gomod.proofs.Retractions.{list_any-map, is_retracted-decides}
+use Rattle.gomod.specs.Module.{is_retracted}
+use Rattle.gomod.proofs.Retractions.{is_retracted-decides}
 use Rattle.gomod.proofs.module.GoMod.retracts.Goals as goal
-use Rattle.gomod.proofs.module.GoMod.retracts.Goals.{After-some_covers}
+use Rattle.gomod.proofs.module.GoMod.retracts.Goals.{After-has}
 
-value : (c : After-some_covers) → c.some_covers.result ≡ is_retracted c.args.self.now c.args.version.now
+value : (c : After-has) → c.has.result ≡ is_retracted c.args.self.now c.args.version.now
 value c =
-    c.some_covers.ensures
-    ∙ ap (list_any (λ r. covers c.args.version.now (interval_of r))) c.deref.ensures.value
-    ∙ sym (list_any-map (covers c.args.version.now) interval_of c.self.inside.retractions.items)
+    c.has.ensures
+    ∙ c.self.invariant c.args.version.now
     ∙ ap (λ m. is_retracted m c.args.version.now) c.self.view_is
 
 pub returns-clause-value : goal.returns-clause-value

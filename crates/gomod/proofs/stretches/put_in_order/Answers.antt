@@ -1,0 +1,6 @@
+use Rattle.std.proofs.Common.{rules}
+use Rattle.gomod.proofs.SpanLists.{rise-from_sort}
+use Rattle.gomod.proofs.stretches.put_in_order.Goals as goal
+
+pub returns-clause-rise : goal.returns-clause-rise
+returns-clause-rise c = rise-from_sort _ c.in_ok-sort_by.ensures.sorted (λ a r q k. search rules)

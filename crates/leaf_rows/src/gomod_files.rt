@@ -12,6 +12,24 @@ example.com/a||v1.0.5 v1.1.0-rc.1 v1.1.0|v1.0.5-rc.1 v1.1.1
 module example.com/a
 retract [v1.0.5, v1.1.0]
 ====
+example.com/stretches||v1.1.0 v1.1.5 v1.2.1 v1.3.0 v1.4.0 v1.5.5 v1.6.5 v1.7.0 v1.7.5 v1.8.0-rc.1 v1.8.0-rc.2 v1.8.0 v1.8.1-alpha v1.8.1-beta.2 v1.9.0|v1.0.9 v1.1.0-rc.1 v1.3.1-0 v1.3.1 v1.4.0-rc.1 v1.7.6-rc.1 v1.7.6 v1.8.0-beta v1.8.1-0 v1.8.1-beta.3 v1.8.1 v1.9.0-rc.1 v1.9.1
+module example.com/stretches
+
+retract (
+\tv1.9.0
+\t[v1.4.0, v1.6.0] // overlaps the next
+\t[v1.5.0, v1.7.0]
+\t[v1.1.0, v1.3.0]
+\t[v1.1.5, v1.2.0] // within the one above
+\t[v1.7.0, v1.7.5] // begins where another ends
+\t[v1.1.0, v1.3.0] // once more
+\tv1.9.0
+\t[v1.1.0, v1.1.0]
+)
+
+retract [v1.8.1-alpha, v1.8.1-beta.2]
+retract [v1.8.0-rc.1, v1.8.0]
+====
 github.com/davecgh/go-spew|||
 module github.com/davecgh/go-spew
 ====
@@ -280,5 +298,27 @@ fn files_require_and_retract(rt: HostRuntime) -> Result<(), Fail> {
             "{said}"
         );
     }
+    Ok(())
+}
+
+/// A go.mod that retracts the first patches of each minor version, the last version first.
+fn with_retractions(alloc: Global, minors: u32) -> Result<String, AllocError> {
+    let mut text = String::from_str(alloc, "module example.com/many\nretract (\n")?;
+    for minor in (0..minors).rev() {
+        let line = format!(in alloc; "[v1.{minor}.0, v1.{minor}.5]\n")?;
+        text.push_str(line.as_str())?;
+    }
+    text.push_str(")\n")?;
+    Ok(text)
+}
+
+#[test]
+fn each_of_many_intervals_retracts(rt: HostRuntime) -> Result<(), Fail> {
+    let text = with_retractions(rt.alloc(), 300)?;
+    let module = GoMod::read(rt.alloc(), text.as_bytes())?;
+    let within = "v1.0.0 v1.0.5 v1.7.3 v1.149.0 v1.150.5 v1.298.0 v1.299.1-rc.1 v1.299.5";
+    let outside = "v1.0.0-rc.1 v1.0.6 v1.7.6 v1.8.0-rc.1 v1.149.6 v1.298.7 v1.299.6 v1.300.0";
+    assert!(rt; retracts(rt.alloc(), &module, within, true)?, "{within}");
+    assert!(rt; retracts(rt.alloc(), &module, outside, false)?, "{outside}");
     Ok(())
 }

@@ -19,6 +19,9 @@ const LATEST: &str = "\
 v1.0.0 v1.1.0|module example.com/ra;retract [v1.0.5, v1.1.0];|0
 v1.1.0 v1.2.0-rc.1|module example.com/rb;|0
 v1.0.0|module example.com/rd;retract v1.0.0;|-
+v1.0.0 v1.2.0 v1.1.0 v1.3.0|module example.com/re;retract [v1.2.0, v1.3.0];retract v1.1.0;|0
+v1.2.0 v1.0.0 v1.1.0|module example.com/rf;retract v1.2.0;|2
+v1.0.0 v1.0.1 v1.1.0-rc.1|module example.com/rg;retract v1.0.1;retract [v0.9.0, v1.0.0];|2
 |module example.com/a;|-
 ";
 

@@ -101,6 +101,12 @@ class Server:
         reply = conn.getresponse()
         return reply.status, reply.read()
 
+    def sum_line(self, key, path, version):
+        """What is answered for the go.sum line of a version's go.mod."""
+        conn = http.client.HTTPConnection("127.0.0.1", self.port, timeout=30)
+        conn.request("GET", f"/k/{key}/-/gosum/{escaped(path)}/@v/{escaped(version)}")
+        return conn.getresponse().read().decode()
+
     def stop(self):
         self.child.terminate()
         self.child.wait()
@@ -223,6 +229,10 @@ def builds(client):
     path, version, gomod, zipped = ON_COMMON[1]
     mod_sum, zip_sum = sums(gomod, zipped)
     check("go.sum", f"{path} {version} {zip_sum}" in lines and f"{path} {version}/go.mod {mod_sum}" in lines, lines)
+    for line in (line for line in lines if "/go.mod h1:" in line):
+        path, version = line.removesuffix(line[line.index("/go.mod h1:") :]).split(" ")
+        told = client.server.sum_line(client.key, path, version)
+        check(f"the go.sum line of {path} {version} is the go command's", told == line + "\n", told)
 
 
 def is_not_found(client, query):

@@ -103,7 +103,7 @@ turned : {A : Type 0} (b : Bool) (x : A) (e : GoModFault) → success (cond b (E
 turned true x e = refl
 turned false x e = refl
 
-interval_any : (line : ℕ) (o p : Option Version) → success {A = Retraction} (version_found line o >>= (λ low. version_found line p >>= (λ high. cond (is_below high low) (Err (faults.Interval line)) (Ok (record { line = line; low = low; high = high }))))) ≡ cond (is_some o) (cond (is_some p) (cond (not_above o p) (Ok tt) (Err (faults.Interval line))) (Err (faults.Version line))) (Err (faults.Version line))
+interval_any : (line : ℕ) (o p : Option Version) → success {A = Retraction} (version_found line o >>= (λ low. version_found line p >>= (λ high. cond (is_below high low) (Err (faults.Interval line)) (Ok (record { line = line; versions = record { low = low; high = high } }))))) ≡ cond (is_some o) (cond (is_some p) (cond (not_above o p) (Ok tt) (Err (faults.Interval line))) (Err (faults.Version line))) (Err (faults.Version line))
 interval_any line None p = refl
 interval_any line (Some x) None = refl
 interval_any line (Some x) (Some y) = turned (is_below y x) _ _

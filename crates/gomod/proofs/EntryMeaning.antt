@@ -8,8 +8,7 @@ use Rattle.gomod.specs.declared.entries.Retraction.{Retraction}
 use Rattle.gomod.specs.Paths.{Version, is_path, is_loose_path, version_of, fits_path, is_below}
 use Rattle.modlex.specs.Symbols.{Symbol, is_word}
 use Rattle.modlex.specs.Words.{value_of}
-use Rattle.gomod.specs.Module.{interval_of}
-use Rattle.gomod.specs.Reading.{Parts, nothing, ◌>>=◌, version_found, path_word, version_word, fitting_word, pair, module_entry, go_entry, word_entry, pair_entry, replace_entry, interval, retract_entry, are_interval_kinds, entry}
+use Rattle.gomod.specs.Reading.{interval_of, Parts, nothing, ◌>>=◌, version_found, path_word, version_word, fitting_word, pair, module_entry, go_entry, word_entry, pair_entry, replace_entry, interval, retract_entry, are_interval_kinds, entry}
 use Rattle.gomod.specs.Entries.{IsModuleEntry, IsPair, IsSpan}
 use Rattle.gomod.specs.Grammar.{Row, row, Item, item, entries_under}
 use Rattle.gomod.specs.Reads.{Pointwise}
@@ -69,13 +68,13 @@ pair_entry_means line _ r h = cc
 interval_means : (line : ℕ) (l v c w r : Symbol) (i : Retraction) → interval line v w ≡ Ok i → IsPlaced (row line (l ∷ v ∷ c ∷ w ∷ r ∷ [])) i
 unfolding interval
 interval_means line l v c w r i h =
-    let a = bound (version_word line v) (λ low. version_word line w >>= (λ high. cond (is_below high low) (Err (faults.Interval line)) (Ok (record { line = line; low = low; high = high })))) i h in
-    let b = bound (version_word line w) (λ high. cond (is_below high a.0) (Err (faults.Interval line)) (Ok (record { line = line; low = a.0; high = high }))) i a.2 in
+    let a = bound (version_word line v) (λ low. version_word line w >>= (λ high. cond (is_below high low) (Err (faults.Interval line)) (Ok (record { line = line; versions = record { low = low; high = high } })))) i h in
+    let b = bound (version_word line w) (λ high. cond (is_below high a.0) (Err (faults.Interval line)) (Ok (record { line = line; versions = record { low = a.0; high = high } }))) i a.2 in
     ⊎_elim
     (λ x. (let e = x.1 in cc))
     (λ x.
     let same = ok_same _ _ x.1 in
-    (ap (λ q. q.line) (sym same), inr (l, v, c, w, r, refl, found_is line _ a.0 a.1 ∙ ap (λ q. Some q.low) same, found_is line _ b.0 b.1 ∙ ap (λ q. Some q.high) same)))
+    (ap (λ q. q.line) (sym same), inr (l, v, c, w, r, refl, found_is line _ a.0 a.1 ∙ ap (λ q. Some q.versions.low) same, found_is line _ b.0 b.1 ∙ ap (λ q. Some q.versions.high) same)))
     (chosen (is_below b.0 a.0) _ _ _ b.2)
 
 retract_means : (line : ℕ) (ts : List Symbol) (i : Retraction) → retract_entry line ts ≡ Ok i → IsPlaced (row line ts) i
@@ -83,10 +82,10 @@ unfolding retract_entry
 retract_means line (v ∷ []) i h =
     ⊎_elim
     (λ x.
-    let b = bound (version_word line v) (λ version. Ok (record { line = line; low = version; high = version })) i x.1 in
+    let b = bound (version_word line v) (λ version. Ok (record { line = line; versions = record { low = version; high = version } })) i x.1 in
     let same = ok_same _ _ b.2 in
     let found = found_is line _ b.0 b.1 in
-    (ap (λ q. q.line) (sym same), inl (v, refl, found ∙ ap (λ q. Some q.low) same, found ∙ ap (λ q. Some q.high) same)))
+    (ap (λ q. q.line) (sym same), inl (v, refl, found ∙ ap (λ q. Some q.versions.low) same, found ∙ ap (λ q. Some q.versions.high) same)))
     (λ x. (let e = x.1 in cc))
     (chosen (is_word v) _ _ _ h)
 retract_means line (l ∷ v ∷ c ∷ w ∷ r ∷ []) i h =

@@ -15,13 +15,13 @@ use Rattle.modlex.specs.Lines.{lines}
 use Rattle.modlex.specs.Symbols.{Symbol}
 use Rattle.gomod.specs.Keywords.{Keywords, is_module}
 use Rattle.modlex.specs.Words.{value_of}
-use Rattle.gomod.specs.Module.{GoModule, Interval, interval_of}
+use Rattle.gomod.specs.Module.{GoModule, Interval}
 use Rattle.gomod.specs.Entries.{IsModuleEntry, IsPair, IsSpan, IsVersionOf}
 use Rattle.gomod.specs.Grammar.{Row, Directive, OpenBlock, Item, items_of, keyword_of, keywords_in, items, is_keyword, entries_under, AreWritten}
 use Rattle.gomod.specs.Reads.{Pointwise, FitsPath, Reads, rows_of_tokens}
 use Rattle.gomod.specs.Faults.{HasFirstFault, IsFirstUnfit, IsLastFault, Faulty}
 use Rattle.gomod.specs.FileLaws.{ReadsOrIsFaulty}
-use Rattle.gomod.specs.Reading.{Context, Parts, nothing, at_start, ◌⊕◌, ◌>>=◌, bytes_say, lines_say, fits_retraction, first_unfit, fitting_module, module_of, file_says, text_says, reading}
+use Rattle.gomod.specs.Reading.{interval_of, Context, Parts, nothing, at_start, ◌⊕◌, ◌>>=◌, bytes_say, lines_say, fits_retraction, first_unfit, fitting_module, module_of, file_says, text_says, reading}
 use Rattle.modlex.proofs.TokenSound.{chosen}
 use Rattle.gomod.proofs.Steps.{bound, fails, ok_same, err_same, ok_err, ok_or_err}
 use Rattle.gomod.proofs.Contexts.{context_at, stands, module_same, written-alone}
@@ -113,13 +113,13 @@ fits_all : (path : List ℕ) (rs : List Retraction) → first_unfit path rs ≡ 
 fits_all path [] h = tt
 fits_all path (r ∷ rs) h =
     ⊎_elim
-    (λ x. (and_parts (fits_path path r.low) (fits_path path r.high) x.0, fits_all path rs x.1))
+    (λ x. (and_parts (fits_path path r.versions.low) (fits_path path r.versions.high) x.0, fits_all path rs x.1))
     (λ x. (let bad = x.1 in cc))
     (chosen (fits_retraction path r) _ _ _ h)
 
 all_fit : (path : List ℕ) (rs : List Retraction) → AllByRecursion (FitsPath path) (map interval_of rs) → first_unfit path rs ≡ None
 all_fit path [] h = refl
-all_fit path (r ∷ rs) h = let here = and_from (fits_path path r.low) (fits_path path r.high) h.0.0 h.0.1 in rw here (all_fit path rs h.1)
+all_fit path (r ∷ rs) h = let here = and_from (fits_path path r.versions.low) (fits_path path r.versions.high) h.0.0 h.0.1 in rw here (all_fit path rs h.1)
 
 unfit_behind : (path : List ℕ) (e : Row) (i : Interval) (es : List Row) (line : ℕ) → IsSpan e.symbols i → FitsPath path i → IsFirstUnfit path es line → IsFirstUnfit path (e ∷ es) line
 unfit_behind path e i es line span fits u = record {
@@ -140,7 +140,7 @@ unfit_from path [] (r ∷ rs) line h k = absurd h
 unfit_from path (e ∷ es) [] line h k = absurd h
 unfit_from path (e ∷ es) (r ∷ rs) line h k =
     ⊎_elim
-    (λ x. unfit_behind path e (interval_of r) es line h.0.1 (and_parts (fits_path path r.low) (fits_path path r.high) x.0) (unfit_from path es rs line h.1 x.1))
+    (λ x. unfit_behind path e (interval_of r) es line h.0.1 (and_parts (fits_path path r.versions.low) (fits_path path r.versions.high) x.0) (unfit_from path es rs line h.1 x.1))
     (λ x. record {
       before = [];
       unfit = e;
@@ -149,7 +149,7 @@ unfit_from path (e ∷ es) (r ∷ rs) line h k =
       fitting = tt;
       span = interval_of r;
       is = h.0.1;
-      misfit = λ fits. both_ways (fits_retraction path r) x.0 (and_from (fits_path path r.low) (fits_path path r.high) fits.0 fits.1);
+      misfit = λ fits. both_ways (fits_retraction path r) x.0 (and_from (fits_path path r.versions.low) (fits_path path r.versions.high) fits.0 fits.1);
       place = (let same : r.line ≡ line = (let e = x.1 in cc) in sym same ∙ h.0.0);
     })
     (chosen (fits_retraction path r) _ _ _ k)
@@ -158,13 +158,13 @@ unfit_at : (path : List ℕ) (before : List Row) (u : Row) (others : List Row) (
 unfit_at path [] u others [] span h fit is misfit = absurd h
 unfit_at path [] u others (r ∷ rs) span h fit is misfit =
     let same = span_same u.symbols (interval_of r) span h.0.1 is in
-    let unfit : fits_retraction path r ≡ false = false_from_ne_true (fits_retraction path r) (λ e. misfit (subst (FitsPath path) same (and_parts (fits_path path r.low) (fits_path path r.high) e))) in
+    let unfit : fits_retraction path r ≡ false = false_from_ne_true (fits_retraction path r) (λ e. misfit (subst (FitsPath path) same (and_parts (fits_path path r.versions.low) (fits_path path r.versions.high) e))) in
     rw unfit (ap (λ n. Some n) h.0.0)
 unfit_at path (b ∷ before) u others [] span h fit is misfit = absurd h
 unfit_at path (b ∷ before) u others (r ∷ rs) span h fit is misfit =
     let same = span_same b.symbols fit.0.0 (interval_of r) fit.0.1 h.0.1 in
     let fits = subst (FitsPath path) same fit.0.2 in
-    let here : fits_retraction path r ≡ true = and_from (fits_path path r.low) (fits_path path r.high) fits.0 fits.1 in
+    let here : fits_retraction path r ≡ true = and_from (fits_path path r.versions.low) (fits_path path r.versions.high) fits.0 fits.1 in
     rw here (unfit_at path before u others rs span h.1 fit.1 is misfit)
 
 unfit_is : (path : List ℕ) (es : List Row) (rs : List Retraction) (line : ℕ) → Pointwise IsPlaced es rs → IsFirstUnfit path es line → first_unfit path rs ≡ Some line

@@ -1,15 +1,10 @@
 -- The test whether a version is retracted decides it.
-use Rattle.std.proofs.Common.{◌≡◌, Bool, true, List, [], ◌∷◌, map, refl, ap, ◌||◌, ◌↔◌}
-use Rattle.std.specs.List.{list_any}
+use Rattle.std.proofs.Common.{◌≡◌, true, ◌↔◌}
 use Rattle.std.proofs.lemmas.Bool.{and_parts, and_from, not-true, not_from_false, false_from_ne_true, both_ways}
 use Rattle.std.proofs.lemmas.List.Folds.{Any-from_list_any, list_any-from_Any}
 use Rattle.gomod.specs.Paths.{Version}
 use Rattle.gomod.specs.Module.{Interval, GoModule, covers, Covers, is_retracted, IsRetracted}
 use Rattle.gomod.proofs.Orders.{is_below-true, is_below-from}
-
-pub list_any-map : {X Y : Type 0} (p : Y → Bool) (f : X → Y) (xs : List X) → list_any p (map f xs) ≡ list_any (λ x. p (f x)) xs
-list_any-map p f [] = refl
-list_any-map p f (x ∷ xs) = ap (λ b. p (f x) || b) (list_any-map p f xs)
 
 covers-from : (v : Version) (i : Interval) → Covers v i → covers v i ≡ true
 covers-from v i h =

@@ -7,6 +7,7 @@ ghost use Rattle.gomod.specs.Reading.{Gives, path_word, version_fault, version_w
 
 use super::fault::GoModFault;
 use super::go_version::{is_file_path, is_go_version};
+use super::stretch::Stretch;
 use modlex::{Kind, Token};
 use modpath::{LoosePath, ModulePath, PathError};
 use modver::{Version, VersionFault, compare, fits, fits_loose};
@@ -19,13 +20,11 @@ pub struct Requirement {
     pub version: Version,
 }
 
-/// Versions that a module takes back, on a line: all from the low one to the high one.
-/// (Go Modules Reference, "retract directive".)
+/// Versions that a module takes back, on a line. (Go Modules Reference, "retract directive".)
 #[derive(Drop)]
 pub(crate) struct Retraction {
     pub(crate) line: usize,
-    pub(crate) low: Version,
-    pub(crate) high: Version,
+    pub(crate) versions: Stretch,
 }
 
 #[tactic(auto, unfolding(crate::specs::Paths::is_path))]
@@ -337,7 +336,8 @@ fn interval(
     if is_below(&high, &low) {
         Err(GoModFault::Interval(line))
     } else {
-        Ok(Retraction { line, low, high })
+        let versions = Stretch::between(low, high);
+        Ok(Retraction { line, versions })
     }
 }
 
@@ -352,9 +352,8 @@ pub(crate) fn retract_entry(
 {
     match tokens {
         [only] if only.is_word() => {
-            let low = version(alloc, line, only)?;
-            let high = version(alloc, line, only)?;
-            Ok(Retraction { line, low, high })
+            let versions = Stretch::one(version(alloc, line, only)?);
+            Ok(Retraction { line, versions })
         }
         [left, first, comma, second, right] if is_interval(left, first, comma, second, right) => {
             interval(alloc, line, first, second)

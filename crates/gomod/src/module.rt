@@ -30,7 +30,8 @@ pub struct GoMod {
 impl Model for GoMod {
     ghost use Rattle.std.specs.Prelude.{◌≡◌, map};
     ghost use Rattle.std.specs.List.{list_any};
-    ghost use Rattle.gomod.specs.Module.{GoModule, covers, interval_of};
+    ghost use Rattle.gomod.specs.Module.{GoModule, covers};
+    ghost use Rattle.gomod.specs.Reading.{interval_of};
     ghost use Rattle.gomod.specs.Paths.{Version};
 
     ghost Value = { GoModule };
@@ -89,7 +90,7 @@ impl Retraction {
     fn fits(&self, path: &ModulePath) -> bool
         ensures { result ≡ fits_retraction path.now self.now }
     {
-        fits(path, &self.low) && fits(path, &self.high)
+        fits(path, &self.versions.low) && fits(path, self.versions.high())
     }
 }
 
@@ -141,13 +142,14 @@ fn read_text(alloc: Global, text: &str) -> Result<GoMod, GoModFault>
     ensures { Gives (λ m. m) result (text_says profile_in_force text.now) }
 {
     let mut reader = Reader::new(alloc);
+    let mut tokens = Vec::new(alloc);
     let mut line = 1;
     let mut rest = text;
     'lines: while let Some((first, behind)) = cut_line(rest) {
-        read_line(&mut reader, alloc, line, first)?;
+        read_line(&mut reader, &mut tokens, alloc, line, first)?;
         line += 1;
         rest = behind;
     }
-    read_line(&mut reader, alloc, line, rest)?;
+    read_line(&mut reader, &mut tokens, alloc, line, rest)?;
     finish(alloc, reader, line)
 }

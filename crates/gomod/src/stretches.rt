@@ -3,48 +3,16 @@
 ghost use Rattle.std.specs.Prelude.{◌≡◌, ◌++◌, List, [], ◌∷◌, IfOk, map};
 ghost use Rattle.std.specs.List.{list_any};
 ghost use Rattle.std.specs.List.Sorted.{IsPermutation};
-ghost use Rattle.gomod.specs.Module.{Interval, covers, interval_of};
+ghost use Rattle.gomod.specs.Module.{Interval, covers};
 ghost use Rattle.gomod.specs.Paths.{Version};
-ghost use Rattle.gomod.specs.Spans.{AreApart, LowsRise, joined, merged, merged_after, merged_all};
+ghost use Rattle.gomod.specs.Reading.{interval_of};
+ghost use Rattle.gomod.specs.Spans.{AreApart, LowsRise, merged, merged_after, merged_all};
 
 use super::entries::{Retraction, is_below};
+use super::stretch::Stretch;
 use modver::{Version, compare};
 use std::alloc::{AllocError, Global};
 use std::marker::Model;
-
-/// All versions from the low one to the high one.
-#[derive(Drop)]
-struct Stretch {
-    low: Version,
-    high: Version,
-}
-
-impl Model for Stretch {
-    ghost use Rattle.gomod.specs.Module.{Interval};
-
-    ghost Value = { Interval };
-
-    ghost view = { λ s. record { low = s.low; high = s.high } };
-}
-
-impl Stretch {
-    fn of(alloc: Global, retraction: &Retraction) -> Result<Stretch, AllocError>
-        ensures { IfOk result (λ s. s ≡ interval_of retraction.now) }
-    {
-        let low = retraction.low.copy(alloc)?;
-        let high = retraction.high.copy(alloc)?;
-        Ok(Stretch { low, high })
-    }
-
-    /// Makes it one with another that it meets, and that begins no lower.
-    fn join(&mut self, other: Stretch)
-        ensures { self.new ≡ joined self.old other }
-    {
-        if is_below(&self.high, &other.high) {
-            self.high = other.high;
-        }
-    }
-}
 
 /// Stretches that are in order and apart.
 #[derive(Drop)]
@@ -90,7 +58,7 @@ fn copies(alloc: Global, retractions: &[Retraction]) -> Result<Vec<Stretch>, All
 {
     let mut copies = Vec::new(alloc);
     for retraction in retractions {
-        copies.push(Stretch::of(alloc, retraction)?)?;
+        copies.push(retraction.versions.copy(alloc)?)?;
     }
     Ok(copies)
 }
@@ -116,7 +84,7 @@ fn step(
     let Some(mut last) = current else {
         return Ok(next);
     };
-    if is_below(&last.high, &next.low) {
+    if is_below(last.high(), &next.low) {
         done.push(last)?;
         return Ok(next);
     }
@@ -156,5 +124,5 @@ fn some_has(stretches: &[Stretch], version: &Version) -> bool
         return false;
     }
     let last = &stretches[begun - 1];
-    !is_below(&last.high, version)
+    !is_below(last.high(), version)
 }

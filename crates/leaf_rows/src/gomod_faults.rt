@@ -113,6 +113,21 @@ module example.com/a;tools (;x;);|Unknown(2)
 module example.com/a;godebug=1;|Unknown(2)
 ";
 
+/// The same of lines with as many tokens as a line may have, and one more.
+const LONG_LINES: &str = "\
+module example.com/a;retract [v1.0.0, v1.1.0];|-
+module example.com/a;retract [v1.0.0, v1.1.0] x;|Grammar(2)
+module example.com/a;retract [v1.0.0, v1.1.0] x y z {;|Lex(2)
+module example.com/a;replace a v1.0.0 => b.c v1.0.0;|-
+module example.com/a;replace a v1.0.0 => b.c v1.0.0 x;|Grammar(2)
+module example.com/a;replace (;a v1.0.0 => b.c v1.0.0 x y;);|Grammar(3)
+module example.com/a;bogus 1 2 3 4 5 6 7;|Unknown(2)
+go 1.21;go 1 2 3 4 5 6 7;|Twice(2)
+";
+
+/// How many parentheses the longest lines have.
+const MANY: usize = 100_000;
+
 /// Files, and whether the module directive stands alone in each.
 const BARE: &str = "\
 module example.com/a|true
@@ -128,7 +143,12 @@ module example.com/a;ignore (;);|false
 
 #[test]
 fn texts_read_or_have_a_fault(rt: HostRuntime) -> Result<(), Fail> {
-    for row in WORKED.lines().chain(ORDER.lines()).chain(ANY_WORDS.lines()) {
+    let rows = WORKED
+        .lines()
+        .chain(ORDER.lines())
+        .chain(ANY_WORDS.lines())
+        .chain(LONG_LINES.lines());
+    for row in rows {
         let text = with_lines(rt.alloc(), column(row, 0))?;
         let fault = GoMod::read(rt.alloc(), text.as_bytes()).err();
         assert!(rt;
@@ -136,6 +156,18 @@ fn texts_read_or_have_a_fault(rt: HostRuntime) -> Result<(), Fail> {
             "{row}"
         );
     }
+    Ok(())
+}
+
+/// A line of many tokens is read to its end.
+#[test]
+fn lines_of_many_tokens(rt: HostRuntime) -> Result<(), Fail> {
+    let mut text = "(".repeat(rt.alloc(), MANY)?;
+    let fault = GoMod::read(rt.alloc(), text.as_bytes()).err();
+    assert!(rt; fault == Some(GoModFault::Grammar(1)));
+    text.push_str("{")?;
+    let fault = GoMod::read(rt.alloc(), text.as_bytes()).err();
+    assert!(rt; fault == Some(GoModFault::Lex(1)));
     Ok(())
 }
 

@@ -250,20 +250,19 @@ go 1.9.2\r
 require (\r
 )";
 
-/// A requirement as words.
-fn words_of(alloc: Global, requirement: &Requirement) -> Result<String, AllocError> {
-    format!(in alloc;
-        "{} {} ",
-        requirement.path.as_str(),
-        requirement.version.as_str()
-    )
+/// Puts a requirement behind the others, as words.
+fn push_words(words: &mut String, requirement: &Requirement) -> Result<(), AllocError> {
+    words.push_str(requirement.path.as_str())?;
+    words.push_str(" ")?;
+    words.push_str(requirement.version.as_str())?;
+    words.push_str(" ")
 }
 
 /// What a file requires, as words.
 fn required(alloc: Global, module: &GoMod) -> Result<String, AllocError> {
     let mut words = String::new(alloc);
     for requirement in module.required() {
-        words.push_str(words_of(alloc, requirement)?.as_str())?;
+        push_words(&mut words, requirement)?;
     }
     Ok(words)
 }
@@ -305,8 +304,7 @@ fn files_require_and_retract(rt: HostRuntime) -> Result<(), Fail> {
 fn with_retractions(alloc: Global, minors: u32) -> Result<String, AllocError> {
     let mut text = String::from_str(alloc, "module example.com/many\nretract (\n")?;
     for minor in (0..minors).rev() {
-        let line = format!(in alloc; "[v1.{minor}.0, v1.{minor}.5]\n")?;
-        text.push_str(line.as_str())?;
+        writeln!(text, "[v1.{minor}.0, v1.{minor}.5]").map_err(|_| AllocError)?;
     }
     text.push_str(")\n")?;
     Ok(text)

@@ -1,13 +1,14 @@
 -- The tokens that are computed of a line, its fault, and the same tokens at another place.
-use Rattle.std.proofs.Common.{◌≡◌, ℕ, zero, suc, ◌+◌, ◌-◌, take, List, [], ◌∷◌, map, length, refl, ap, arith, Option, Some, None, Result, Ok, Err, ◌⊎◌, inl, inr, ⊎_elim}
+use Rattle.std.proofs.Common.{◌≡◌, ℕ, zero, suc, ◌+◌, ◌-◌, ◌≤◌, take, List, [], ◌∷◌, map, length, refl, ap, arith, Option, Some, None, Result, Ok, Err, ◌⊎◌, inl, inr, ⊎_elim}
 use Rattle.modlex.specs.declared.lexer.Kind.{Kind}
 use Rattle.modlex.specs.declared.lexer.TokenFault.{TokenFault}
 use Rattle.modlex.specs.declared.lexer.TokenFault.TheVariants as token_faults
 use Rattle.modlex.specs.Bytes.{is_blank, is_slash_and}
-use Rattle.modlex.specs.Lexer.{Lexeme, lexeme, lexeme_at, line_tokens, tokens_behind, tokens_then}
+use Rattle.modlex.specs.Lexer.{Lexeme, lexeme, lexeme_at, line_tokens, first_of, tokens_behind, tokens_then}
 use Rattle.modlex.specs.Tokens.{AreTokens}
 use Rattle.modlex.specs.Symbols.{symbol_of}
-use Rattle.modlex.proofs.TokenSound.{chosen, tokens_behind-sound}
+use Rattle.modlex.proofs.TokenSound.{chosen, after_one, tokens_behind-sound}
+use Rattle.std.proofs.lemmas.List.{take_all}
 
 -- the same tokens at another place
 pub record Moved (line at : ℕ) (bytes : List ℕ) (ts : List Lexeme) : Type 0 where
@@ -53,3 +54,35 @@ tokens_fault zero line at (b ∷ bs) e h =
 pub ok_or_fault : (r : Result (List Lexeme) TokenFault) → ((ts : List Lexeme) × (r ≡ Ok ts)) ⊎ ((e : TokenFault) × (r ≡ Err e))
 ok_or_fault (Ok ts) = inl (ts, refl)
 ok_or_fault (Err e) = inr (e, refl)
+
+-- a line has no more tokens than bytes
+none_few : (n : ℕ) (ts : List Lexeme) → ◌≡◌ {A = Result (List Lexeme) TokenFault} (Ok []) (Ok ts) → length ts ≤ n
+none_few n [] h = omega arith
+none_few n (t ∷ ts) h = cc
+
+found_few : (line at b : ℕ) (bs : List ℕ) (ts : List Lexeme) (o : Option (Kind × ℕ)) → ((k : ℕ) (us : List Lexeme) → tokens_behind k line (at + 1) bs ≡ Ok us → length us ≤ length bs) → ◌≡◌ {A = Result (List Lexeme) TokenFault} (elim o [ None ↦ Err (token_faults.Lex line) | Some x ↦ tokens_then (lexeme x.0 line at (take x.1 (b ∷ bs)) ∷ []) (tokens_behind (x.1 - 1) line (at + 1) bs) ]) (Ok ts) → length ts ≤ length (b ∷ bs)
+found_few line at b bs ts None below h = cc
+found_few line at b bs ts (Some x) below h =
+    let more = after_one (lexeme x.0 line at (take x.1 (b ∷ bs))) _ ts h in
+    omega (arith, below (x.1 - 1) more.0 more.1, ap length more.2)
+
+tokens_few : (skipped line at : ℕ) (bs : List ℕ) (ts : List Lexeme) → tokens_behind skipped line at bs ≡ Ok ts → length ts ≤ length bs
+tokens_few zero line at [] ts h = none_few 0 ts h
+tokens_few (suc skipped) line at [] ts h = none_few 0 ts h
+tokens_few (suc skipped) line at (b ∷ bs) ts h = omega (arith, tokens_few skipped line (at + 1) bs ts h)
+tokens_few zero line at (b ∷ bs) ts h =
+    ⊎_elim
+    (λ blank. omega (arith, tokens_few 0 line (at + 1) bs ts blank.1))
+    (λ solid. ⊎_elim
+    (λ comment. none_few (length (b ∷ bs)) ts comment.1)
+    (λ token. found_few line at b bs ts (lexeme_at (b ∷ bs)) (λ k us. tokens_few k line (at + 1) bs us) token.1)
+    (chosen (is_slash_and 47 b bs) _ _ _ solid.1))
+    (chosen (is_blank b) _ _ _ h)
+
+-- as many of the first as there are bytes are all
+all_of : (n : ℕ) (r : Result (List Lexeme) TokenFault) → ((ts : List Lexeme) → r ≡ Ok ts → length ts ≤ n) → first_of n r ≡ r
+all_of n (Ok ts) few = ap (λ l. Ok l) (take_all n ts (few ts refl))
+all_of n (Err e) few = refl
+
+pub first_of-all : (line at : ℕ) (bytes : List ℕ) → first_of (length bytes) (line_tokens line at bytes) ≡ line_tokens line at bytes
+first_of-all line at bytes = all_of (length bytes) (line_tokens line at bytes) (tokens_few 0 line at bytes)

@@ -6,7 +6,7 @@ use denote.Shadow.{shadow}
 use Rattle.modlex.specs.declared.lexer.TokenFault.TheVariants as faults
 use Rattle.modlex.specs.declared.lexer.Kind.{Kind}
 use Rattle.modlex.specs.declared.lexer.TokenFault.{TokenFault}
-use Rattle.modlex.specs.Lexer.{Lexeme, lexeme, lexeme_at, tokens_then, tokens_behind, lines_tokens, text_tokens}
+use Rattle.modlex.specs.Lexer.{Lexeme, lexeme, lexeme_at, tokens_then, tokens_behind, first_of, lines_tokens, text_tokens}
 use Rattle.modlex.specs.Lines.{lines}
 
 -- what has been read is stepped over
@@ -46,22 +46,35 @@ tokens_behind-blank line at b bs blank = simp blank
 pub tokens_behind-comment : (line at b : ℕ) (bs : List ℕ) → is_blank b ≡ false → is_slash_and 47 b bs ≡ true → tokens_behind 0 line at (b ∷ bs) ≡ Ok []
 tokens_behind-comment line at b bs no_blank comment = simp (no_blank, comment)
 
--- what the loop keeps: the tokens so far, and those of the rest, are those of the line
-pub record ReadsOn (line start : ℕ) (text : List ℕ) (out : List Lexeme) (at : ℕ) (rest : List ℕ) : Type 0 where
-  pub told : tokens_then out (tokens_behind 0 line at rest) ≡ tokens_behind 0 line start text
+-- of the first ones, no more than the first in front count
+take-take_append : (n : ℕ) (xs ys : List Lexeme) → take n (take n xs ++ ys) ≡ take n (xs ++ ys)
+take-take_append zero xs ys = refl
+take-take_append (suc n) [] ys = refl
+take-take_append (suc n) (x ∷ xs) ys = ap (λ l. x ∷ l) (take-take_append n xs ys)
+
+pub first_of-take : (n : ℕ) (xs : List Lexeme) (r : Result (List Lexeme) TokenFault) → first_of n (tokens_then (take n xs) r) ≡ first_of n (tokens_then xs r)
+first_of-take n xs (Ok ts) = ap (λ l. Ok l) (take-take_append n xs ts)
+first_of-take n xs (Err e) = refl
+
+-- what the loop keeps: the first of the tokens so far, and those of the rest, begin as those of the line
+pub record ReadsOn (line start : ℕ) (text : List ℕ) (most : ℕ) (out : List Lexeme) (at : ℕ) (rest : List ℕ) : Type 0 where
+  pub told : first_of most (tokens_then out (tokens_behind 0 line at rest)) ≡ first_of most (tokens_behind 0 line start text)
   pub room : at + length rest ≡ start + length text
   pub utf8 : shadow (Utf8 rest)
 
--- a token joins those so far
-pub ReadsOn-token : {line start at : ℕ} {text rest : List ℕ} {out : List Lexeme} (behind token : List ℕ) (kind : Kind) (n : ℕ) → ReadsOn line start text out at rest → (0 < n) × (n ≤ length rest) → is_blank (get_or rest 0 0) ≡ false → is_slash_and 47 (get_or rest 0 0) (drop 1 rest) ≡ false → lexeme_at rest ≡ Some (kind, n) → token ≡ take n rest → behind ≡ drop n rest → shadow (Utf8 behind) → (pushed : List Lexeme) → pushed ≡ out ++ record { kind = kind; line = line; span = record { start = at; end = at + n }; text = token } ∷ [] → ReadsOn line start text pushed (at + n) behind
-ReadsOn-token {line = line} {start = start} {at = at} {text = text} {rest = rest} {out = out} behind token kind n before within no_blank no_comment found token_is behind_is utf8 pushed pushed_is =
+-- a token joins those so far, if it is one of the first
+pub ReadsOn-token : {line start most at : ℕ} {text rest : List ℕ} {out : List Lexeme} (behind token : List ℕ) (kind : Kind) (n : ℕ) → ReadsOn line start text most out at rest → (0 < n) × (n ≤ length rest) → is_blank (get_or rest 0 0) ≡ false → is_slash_and 47 (get_or rest 0 0) (drop 1 rest) ≡ false → lexeme_at rest ≡ Some (kind, n) → token ≡ take n rest → behind ≡ drop n rest → shadow (Utf8 behind) → (kept : List Lexeme) → kept ≡ take most (out ++ record { kind = kind; line = line; span = record { start = at; end = at + n }; text = token } ∷ []) → ReadsOn line start text most kept (at + n) behind
+ReadsOn-token {line = line} {start = start} {most = most} {at = at} {text = text} {rest = rest} {out = out} behind token kind n before within no_blank no_comment found token_is behind_is utf8 kept kept_is =
     let len : length token ≡ n = ap length token_is ∙ length-take-le n rest within.1 in
     let step = tokens_behind-token_at line at rest kind n (omega (arith, within)) no_blank no_comment found within.0 in
     let this : List Lexeme = record { kind = kind; line = line; span = record { start = at; end = at + n }; text = token } ∷ [] in
     let same : lexeme kind line at (take n rest) ∷ [] ≡ this =
     ap (λ t. lexeme kind line at t ∷ []) (sym token_is) ∙ ap (λ m. record { kind = kind; line = line; span = record { start = at; end = at + m }; text = token } ∷ []) len in
+    let left = tokens_behind 0 line (at + n) behind in
+    let all : tokens_then (out ++ this) left ≡ tokens_then out (tokens_behind 0 line at rest) =
+    tokens_then-tokens_then out this left ∙ ap (tokens_then out) (ap (λ l. tokens_then this (tokens_behind 0 line (at + n) l)) behind_is ∙ ap (λ t. tokens_then t (tokens_behind 0 line (at + n) (drop n rest))) (sym same) ∙ sym step) in
     record {
-      told = ap (λ l. tokens_then l (tokens_behind 0 line (at + n) behind)) pushed_is ∙ tokens_then-tokens_then out this (tokens_behind 0 line (at + n) behind) ∙ ap (tokens_then out) (ap (λ l. tokens_then this (tokens_behind 0 line (at + n) l)) behind_is ∙ ap (λ t. tokens_then t (tokens_behind 0 line (at + n) (drop n rest))) (sym same) ∙ sym step) ∙ before.told;
+      told = ap (λ l. first_of most (tokens_then l left)) kept_is ∙ first_of-take most (out ++ this) left ∙ ap (first_of most) all ∙ before.told;
       room = omega (arith, ap length behind_is, length-drop n rest, before.room, within);
       utf8 = utf8;
     }

@@ -251,7 +251,7 @@ gap_more line at b bs (t ∷ ts) blank h =
     let there : at + 1 + length h.0 ≡ at + length (b ∷ h.0) = omega arith in
     (b ∷ h.0, h.1, (blank, h.2), h.3, ap (λ l. b ∷ l) h.4, h.5 ∙ ap (λ k. lexeme t.kind line k t.text) there, subst (λ k. AreTokens line (k + length t.text) h.1 ts) there h.6)
 
-after_one : (x : Lexeme) (r : Result (List Lexeme) TokenFault) (ts : List Lexeme) → tokens_then (x ∷ []) r ≡ Ok ts → (more : List Lexeme) × (r ≡ Ok more) × (x ∷ more ≡ ts)
+pub after_one : (x : Lexeme) (r : Result (List Lexeme) TokenFault) (ts : List Lexeme) → tokens_then (x ∷ []) r ≡ Ok ts → (more : List Lexeme) × (r ≡ Ok more) × (x ∷ more ≡ ts)
 after_one x (Ok more) ts h = (more, refl, cc)
 after_one x (Err e) ts h = cc
 

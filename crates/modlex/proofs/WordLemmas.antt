@@ -1,12 +1,12 @@
 -- What stands between two marks, and without its backslashes.
-use Rattle.std.proofs.Common.{◌≡◌, ◌≢◌, ℕ, suc, ◌+◌, ◌-◌, ◌<◌, true, false, ◌==◌, eq-eqb, List, [], ◌∷◌, ◌++◌, length, take, drop, get_or, arith, refl, ap, sym, ◌∙◌, rules, tests, Option, Some, None, MatchOption, lit<, append_assoc, append-nil}
+use Rattle.std.proofs.Common.{◌≡◌, ◌≢◌, ℕ, suc, ◌+◌, ◌-◌, ◌<◌, true, false, ◌==◌, eq-eqb, List, [], ◌∷◌, ◌++◌, length, take, drop, get_or, arith, refl, ap, sym, ◌∙◌, rules, tests, Option, Some, None, MatchOption, IfSome, lit<, append_assoc, append-nil}
 use denote.Ref.{Bor}
 use lib.Utf8.{encode}
 use Rattle.std.proofs.lemmas.Str.{inside_one, length-encode, len_utf8_bounds, len_utf8_ascii}
 use Rattle.std.specs.Option.{unwrap_or}
 use Rattle.std.specs.Str.Pattern.{FindsCharPrefix, FindsCharSuffix}
 use Rattle.std.proofs.lemmas.Str.Pattern.{strip_prefix_char, strip_suffix_char, IsSplitOnceResult, split_parts}
-use Rattle.modlex.specs.Words.{without_first, without_last, inside, plain_text}
+use Rattle.modlex.specs.Words.{without_first, without_last, inside, plain_text, HasBackslash}
 
 other_byte : (b c : ℕ) → (b ≡ c → ⊥) → (b == c) ≡ false
 other_byte b c h = search (rules, tests)
@@ -76,6 +76,10 @@ cut_escapes text None h =
 cut_escapes text (Some x) h =
     let parts = split_parts 92 text (Some x) h (lit< tt) in
     ap plain_text parts.0 ∙ plain_text-plain x.0.now (92 ∷ x.1.now) (record { none = parts.1 })
+
+pub cut_has_escape : (text : List ℕ) (r : Option (Bor (List ℕ) × Bor (List ℕ))) → IsSplitOnceResult 92 text r → IfSome r (λ _. HasBackslash text)
+cut_has_escape text None h = tt
+cut_has_escape text (Some x) h = (x.0.now, x.1.now, (split_parts 92 text (Some x) h (lit< tt)).0)
 
 -- one turn: what stands before a backslash, and the character after it
 pub escape_kept : (before behind others whole : List ℕ) (c : ℕ) (out next last rest : List ℕ) → out ++ plain_text rest ≡ whole → plain_text rest ≡ before ++ plain_text (92 ∷ behind) → behind ≡ encode c ++ others → next ≡ out ++ before → last ≡ next ++ encode c → last ++ plain_text others ≡ whole

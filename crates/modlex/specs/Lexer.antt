@@ -76,6 +76,11 @@ tokens_behind zero line at (b ∷ bs) =
 abbrev pub line_tokens : ℕ → ℕ → List ℕ → Result (List Lexeme) TokenFault
 line_tokens line at bytes = tokens_behind 0 line at bytes
 
+-- the first of them, as many as a number at most
+abbrev pub first_of : ℕ → Result (List Lexeme) TokenFault → Result (List Lexeme) TokenFault
+first_of most (Ok ts) = Ok (take most ts)
+first_of most (Err e) = Err e
+
 -- the tokens of the lines of a text from one with a number on, which begins at a place
 abbrev pub lines_tokens : ℕ → ℕ → List (List ℕ) → Result (List Lexeme) TokenFault
 lines_tokens line at [] = Ok []

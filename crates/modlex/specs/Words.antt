@@ -1,5 +1,5 @@
 -- What a word stands for.
-use Rattle.std.specs.Prelude.{ℕ, ◌==◌, List, [], ◌∷◌, if◌then◌else◌}
+use Rattle.std.specs.Prelude.{◌≡◌, ℕ, ◌==◌, List, [], ◌∷◌, ◌++◌, if◌then◌else◌}
 use Rattle.modlex.specs.declared.lexer.Kind.{Kind}
 use Rattle.modlex.specs.declared.lexer.Kind.TheVariants.{Quoted, Raw}
 use Rattle.modlex.specs.Symbols.{Symbol}
@@ -32,3 +32,10 @@ value_of_text _ text = text
 -- a name stands for itself, a string for its content
 unfoldable pub value_of : Symbol → List ℕ
 value_of t = value_of_text t.kind t.text
+
+-- a backslash stands in a text, and in a string between quotation marks
+abbrev pub HasBackslash : List ℕ → Type 0
+HasBackslash text = (before : List ℕ) × (behind : List ℕ) × (text ≡ before ++ 92 ∷ behind)
+
+abbrev pub HasEscape : Symbol → Type 0
+HasEscape t = (t.kind ≡ Quoted) × HasBackslash (inside 34 t.text)

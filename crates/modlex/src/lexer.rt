@@ -1,10 +1,10 @@
 //! The tokens of a go.mod file.
 
-ghost use Rattle.std.specs.Prelude.{◌≡◌, ◌+◌, ◌<◌, ◌≤◌, ◌^◌, ◌-◌, length, IsUtf8, MatchOption, IfSome, IfNone, IsTrue, Some, None, false, slice_index, drop, take, [], ◌∷◌};
+ghost use Rattle.std.specs.Prelude.{◌≡◌, ◌+◌, ◌<◌, ◌≤◌, ◌^◌, ◌-◌, length, IsUtf8, MatchOption, IfOk, IfSome, IfNone, IsTrue, Some, None, false, slice_index, drop, take, [], ◌∷◌, ◌++◌};
 ghost use Rattle.std.specs.Str.{IsCharBoundary};
 ghost use Rattle.modlex.specs.Bytes.{is_blank, is_string_byte, is_name_byte, is_slash_and, quoted_len, raw_len, name_len};
 ghost use Rattle.modlex.specs.Lines.{lines};
-ghost use Rattle.modlex.specs.Lexer.{punctuation_kind, name_kind, lexeme_at, view, views, line_tokens, text_tokens, Gives};
+ghost use Rattle.modlex.specs.Lexer.{punctuation_kind, name_kind, lexeme_at, view, views, line_tokens, first_of, text_tokens, Gives};
 
 use std::alloc::{AllocError, AllocFailed, Global};
 
@@ -204,18 +204,21 @@ fn lexeme_at(bytes: &[u8]) -> Option<(Kind, usize)>
     }
 }
 
-/// The tokens of a line, which has a number and begins at a place of the text; the fault of a line
-/// that has none bears its number.
-pub fn line_tokens<'a>(
-    alloc: Global,
+/// Puts the first tokens of a line in the place of what `out` held, `most` of them at most. The line has
+/// a number and begins at a place of the text. It is read to its end, and the fault of one that has no
+/// tokens bears its number.
+pub fn first_tokens<'a>(
+    out: &mut Vec<Token<'a>>,
+    most: usize,
     line: usize,
     start: usize,
     text: &'a str,
-) -> Result<Vec<Token<'a>>, TokenFault>
+) -> Result<(), TokenFault>
     requires { start + length text.now < 2 ^ 64 }
-    ensures { Gives (λ v. views v.items) result (line_tokens line start text.now) }
+    ensures value { Gives (λ _. views out.new.items) result (first_of most (line_tokens line start text.now)) }
+    ensures bound { length out.new.items ≤ most }
 {
-    let mut out = Vec::new(alloc);
+    out.clear();
     let mut at = start;
     let mut rest = text;
     'scan: while let Some(&first) = rest.as_bytes().first() {
@@ -236,15 +239,47 @@ pub fn line_tokens<'a>(
             start: at,
             end: at + len,
         };
-        out.push(Token {
-            kind,
-            line,
-            span,
-            text,
-        })?;
+        keep_token(
+            out,
+            most,
+            Token {
+                kind,
+                line,
+                span,
+                text,
+            },
+        )?;
         at += len;
         rest = behind;
     }
+    Ok(())
+}
+
+/// Puts a token behind those that are kept, where there is room for it.
+fn keep_token<'a>(out: &mut Vec<Token<'a>>, most: usize, token: Token<'a>) -> Result<(), AllocError>
+    requires { length out.old.items ≤ most }
+    ensures kept { IfOk result (λ _. views out.new.items ≡ take most (views out.old.items ++ view token.entry ∷ [])) }
+    ensures bound { length out.new.items ≤ most }
+{
+    if out.len() < most {
+        out.push(token)?;
+    }
+    Ok(())
+}
+
+/// The tokens of a line, which has a number and begins at a place of the text; the fault of a line
+/// that has none bears its number.
+pub fn line_tokens<'a>(
+    alloc: Global,
+    line: usize,
+    start: usize,
+    text: &'a str,
+) -> Result<Vec<Token<'a>>, TokenFault>
+    requires { start + length text.now < 2 ^ 64 }
+    ensures { Gives (λ v. views v.items) result (line_tokens line start text.now) }
+{
+    let mut out = Vec::new(alloc);
+    first_tokens(&mut out, text.len(), line, start, text)?;
     Ok(out)
 }
 

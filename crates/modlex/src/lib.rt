@@ -23,4 +23,6 @@ pub mod laws;
 mod lexer;
 mod words;
 
-pub use crate::lexer::{Kind, Span, Token, TokenFault, cut_line, line_tokens, tokens};
+pub use crate::lexer::{
+    Kind, Span, Token, TokenFault, cut_line, first_tokens, line_tokens, tokens,
+};

@@ -1,11 +1,13 @@
 //! What a token is, and what a word stands for.
 
-ghost use Rattle.std.specs.Prelude.{◌≡◌, ◌<◌, IfOk, string_bytes, MatchOption, encode_utf8, [], ◌∷◌, ◌++◌, IfSome, length};
+ghost use Rattle.std.specs.Prelude.{◌≡◌, ◌<◌, IfOk, IsOkAnd, string_bytes, MatchOption, encode_utf8, [], ◌∷◌, ◌++◌, IfSome, length};
+ghost use Rattle.std.specs.Cow.{cow_str_bytes, IsBorrowedStr};
 ghost use Rattle.modlex.specs.Symbols.{symbol, is_word, is_name_kind, is_arrow_kind};
-ghost use Rattle.modlex.specs.Words.{inside, plain_text, value_of};
+ghost use Rattle.modlex.specs.Words.{inside, plain_text, value_of, HasBackslash, HasEscape};
 
 use super::lexer::{Kind, Token};
 use std::alloc::{AllocError, Global};
+use std::borrow::CowStr;
 
 impl<'a> Token<'a> {
     /// Whether it is a name or a string.
@@ -30,15 +32,17 @@ impl<'a> Token<'a> {
     }
 
     /// What it stands for: a string for its content, without marks and backslashes, all else for its
-    /// text. The error is that the system is out of memory.
+    /// text. It is a part of the text, unless a backslash stands in a string between quotation marks. The
+    /// error is that the system is out of memory, for such a string alone.
     #[tactic(auto, unfolding(crate::specs::Words::value_of))]
-    pub fn value(&self, alloc: Global) -> Result<String, AllocError>
-        ensures { IfOk result (λ text. string_bytes text ≡ value_of (symbol self.now)) }
+    pub fn value(&self, alloc: Global) -> Result<CowStr<'a>, AllocError>
+        ensures value { IfOk result (λ text. cow_str_bytes text ≡ value_of (symbol self.now)) }
+        ensures borrowed { ¬ HasEscape (symbol self.now) → IsOkAnd result IsBorrowedStr }
     {
         match self.kind {
             Kind::Quoted => plain_text(alloc, inside(self.text, '"')),
-            Kind::Raw => String::from_str(alloc, inside(self.text, '`')),
-            _ => String::from_str(alloc, self.text),
+            Kind::Raw => Ok(CowStr::Borrowed(inside(self.text, '`'))),
+            _ => Ok(CowStr::Borrowed(self.text)),
         }
     }
 }
@@ -65,13 +69,25 @@ fn split_char(text: &str) -> Option<(char, &str)>
 fn cut_escape(text: &str) -> Option<(&str, &str)>
     ensures value { MatchOption result (plain_text text.now ≡ text.now)
         (λ x. plain_text text.now ≡ x.0.now ++ plain_text (92 ∷ x.1.now)) }
+    ensures escape { IfSome result (λ _. HasBackslash text.now) }
     ensures len { IfSome result (λ x. length x.1.now < length text.now) }
 {
     text.split_once('\\')
 }
 
-/// A text in which each backslash stands for the character after it.
-fn plain_text(alloc: Global, text: &str) -> Result<String, AllocError>
+/// A text in which each backslash stands for the character after it: the text as it stands where it has none.
+fn plain_text(alloc: Global, text: &str) -> Result<CowStr<'_>, AllocError>
+    ensures value { IfOk result (λ out. cow_str_bytes out ≡ plain_text text.now) }
+    ensures borrowed { ¬ HasBackslash text.now → IsOkAnd result IsBorrowedStr }
+{
+    match cut_escape(text) {
+        None => Ok(CowStr::Borrowed(text)),
+        Some(_) => Ok(CowStr::Owned(unescaped(alloc, text)?)),
+    }
+}
+
+/// The same, put together anew.
+fn unescaped(alloc: Global, text: &str) -> Result<String, AllocError>
     ensures { IfOk result (λ out. string_bytes out ≡ plain_text text.now) }
 {
     let mut out = String::new(alloc);

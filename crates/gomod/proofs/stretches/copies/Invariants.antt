@@ -1,5 +1,5 @@
 use Rattle.std.proofs.Common.{◌≡◌, ◌++◌, drop, map}
-use Rattle.gomod.specs.Module.{interval_of}
+use Rattle.gomod.specs.Reading.{interval_of}
 use Rattle.gomod.proofs.stretches.copies.Given as goal
 
 abbrev pub invariant-loop-retraction : goal.invariant-loop-retraction

@@ -1,6 +1,6 @@
 use Rattle.std.proofs.Common.{rules, string_bytes}
 use Rattle.modlex.proofs.WordLemmas.{escape_kept}
-use Rattle.modlex.proofs.words.plain_text.Goals as goal
+use Rattle.modlex.proofs.words.unescaped.Goals as goal
 
 pub escapes-preserved : goal.escapes-preserved
 escapes-preserved c = record {

@@ -2,7 +2,7 @@ use Rattle.std.proofs.Common.{◌≡◌, ◌++◌, length, string_bytes}
 use denote.Text.{Utf8}
 use denote.Shadow.{shadow}
 use Rattle.modlex.specs.Words.{plain_text}
-use Rattle.modlex.proofs.words.plain_text.Given as goal
+use Rattle.modlex.proofs.words.unescaped.Given as goal
 
 abbrev pub invariant-escapes : goal.invariant-escapes
 invariant-escapes l = record {

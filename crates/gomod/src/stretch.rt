@@ -1,0 +1,84 @@
+//! Versions from a low one to a high one.
+
+ghost use Rattle.std.specs.Prelude.{◌≡◌, IfOk};
+ghost use Rattle.gomod.specs.Spans.{joined};
+
+use super::entries::is_below;
+use modver::Version;
+use std::alloc::{AllocError, Global};
+use std::marker::Model;
+
+/// All versions from a low one to a high one, which may be one and the same.
+#[derive(Drop)]
+pub(crate) struct Stretch {
+    pub(crate) low: Version,
+    /// The high one, where it is not the low one.
+    above: Option<Version>,
+}
+
+impl Model for Stretch {
+    ghost use Rattle.std.specs.Option.{unwrap_or};
+    ghost use Rattle.gomod.specs.Module.{Interval};
+
+    ghost Value = { Interval };
+
+    ghost view = { λ s. record { low = s.low; high = unwrap_or s.above s.low } };
+}
+
+impl Stretch {
+    /// A version alone.
+    pub(crate) fn one(version: Version) -> Stretch
+        ensures { result ≡ record { low = version; high = version } }
+    {
+        Stretch {
+            low: version,
+            above: None,
+        }
+    }
+
+    pub(crate) fn between(low: Version, high: Version) -> Stretch
+        ensures { result ≡ record { low = low; high = high } }
+    {
+        Stretch {
+            low,
+            above: Some(high),
+        }
+    }
+
+    pub(crate) fn high(&self) -> &Version
+        ensures { result.now ≡ self.now.high }
+    {
+        match &self.above {
+            Some(high) => high,
+            None => &self.low,
+        }
+    }
+
+    fn into_high(self) -> Version
+        ensures { result ≡ self.high }
+    {
+        let Stretch { low, above } = self;
+        above.unwrap_or(low)
+    }
+
+    /// The same versions once more; an error where there is no memory for them.
+    pub(crate) fn copy(&self, alloc: Global) -> Result<Stretch, AllocError>
+        ensures { IfOk result (λ s. s ≡ self.now) }
+    {
+        let low = self.low.copy(alloc)?;
+        let above = match &self.above {
+            Some(high) => Some(high.copy(alloc)?),
+            None => None,
+        };
+        Ok(Stretch { low, above })
+    }
+
+    /// Makes it one with another that it meets, and that begins no lower.
+    pub(crate) fn join(&mut self, other: Stretch)
+        ensures { self.new ≡ joined self.old other }
+    {
+        if is_below(self.high(), other.high()) {
+            self.above = Some(other.into_high());
+        }
+    }
+}

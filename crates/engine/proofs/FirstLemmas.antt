@@ -1,5 +1,5 @@
 -- What the call for the first message says.
-use Rattle.std.proofs.Common.{◌≡◌, ℕ, List, ◌++◌, Option, Some, Result, Ok, Err, IfOk, sym, subst}
+use Rattle.std.proofs.Common.{◌≡◌, ℕ, List, ◌++◌, Option, Some, Result, Ok, Err, IfOk, sym, ap, ◌∙◌, subst, append_assoc}
 use Rattle.std.specs.Io.KnownBytes.{Consumes}
 use Rattle.std.proofs.KnownBytes.{Consumes-trans}
 use Rattle.wire.specs.Message.{ReadsMessage}
@@ -11,7 +11,7 @@ use Rattle.world.specs.Store.{Shown}
 use Rattle.engine.specs.First.{First, Answers, Closes, IsFirst, TakesFirst, ServesFirst, first_bytes, first_status, first_exchanges}
 use Rattle.engine.specs.Exchange.{Exchange}
 use Rattle.engine.specs.Store.{GoesThrough}
-use Rattle.engine.specs.Turn.{ReadsOn, Takes, Delivers}
+use Rattle.engine.specs.Turn.{StaysNear, ReadsOn, Takes, Delivers}
 use Rattle.engine.specs.declared.fault.Io.{Io}
 use Rattle.engine.specs.declared.fault.Io.TheVariants as io
 use Rattle.engine.specs.declared.turn.Taken.TheVariants as taken
@@ -29,17 +29,23 @@ first_served old new before now u u' w w' first (Err io.Write) takes through (_,
 module _
     (u₀ u₁ : Option (List ℕ)) (framing : Framing) (consumed : Consumes u₀ u₁ framing.held) (waits : IsUnfinished framing.held)
     (u₂ : Option (List ℕ)) (next : Framing) where
+  -- what was read, but for the last bytes of it
+  consumed_near : (bytes : List ℕ) (near : StaysNear framing.held bytes) → Consumes u₀ u₂ (framing.held ++ bytes)
+      → Consumes u₀ u₂ ((framing.held ++ near.early) ++ near.late)
+  consumed_near bytes near consumes =
+      subst (Consumes u₀ u₂) (ap (λ (came : List ℕ). framing.held ++ came) near.cut ∙ sym (append_assoc framing.held near.early near.late)) consumes
+
   -- the next read closes the stream
   pub closes_reading : (closing : Option Fixed) → ReadsOn framing next u₁ u₂ (Ok (turn.Close closing)) → TakesFirst u₀ u₂ (Closes closing)
-  closes_reading closing (bytes, consumes, few, (all, told, closes), some) = record {
+  closes_reading closing (bytes, consumes, near, (all, told, closes), some) = record {
     input = framing.held ++ all;
     told = Tells_after u₀ u₁ framing.held all consumed told;
     stands = closes;
-    early = framing.held;
-    last = bytes;
-    consumed = Consumes-trans u₀ u₁ u₂ framing.held bytes consumed consumes;
-    few = few;
-    unfinished = waits;
+    early = framing.held ++ near.early;
+    last = near.late;
+    consumed = consumed_near bytes near (Consumes-trans u₀ u₁ u₂ framing.held bytes consumed consumes);
+    few = near.few;
+    unfinished = near.unfinished;
   }
 
   module _ (reads : ReadsOn framing next u₁ u₂ (Ok turn.Go)) where
@@ -48,15 +54,15 @@ module _
         subst (λ (f : Framing). Consumes u₀ u₂ f.held) (sym reads.3) (Consumes-trans u₀ u₁ u₂ framing.held reads.0 consumed reads.1)
 
     takes : (first : First) → IsFirst first (next.held ++ left_of u₂) → TakesFirst u₀ u₂ first
-    takes first stands = record {
+    takes first stands = let near = reads.2 in record {
       input = next.held ++ left_of u₂;
       told = Tells_after u₀ u₂ next.held (left_of u₂) held_now (Tells_left u₂);
       stands = stands;
-      early = framing.held;
-      last = reads.0;
-      consumed = Consumes-trans u₀ u₁ u₂ framing.held reads.0 consumed reads.1;
-      few = reads.2;
-      unfinished = waits;
+      early = framing.held ++ near.early;
+      last = near.late;
+      consumed = consumed_near reads.0 near (Consumes-trans u₀ u₁ u₂ framing.held reads.0 consumed reads.1);
+      few = near.few;
+      unfinished = near.unfinished;
     }
 
     -- a message is whole after it

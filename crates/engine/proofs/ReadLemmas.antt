@@ -1,11 +1,12 @@
 -- What a read says of the bytes held and of those that follow.
-use Rattle.std.proofs.Common.{◌≢◌, ℕ, ◌<◌, ◌≤◌, List, [], ◌++◌, Option, Some, None, length, take, sym, ap, ◌∙◌, subst, arith, append-nil, length-append}
+use Rattle.std.proofs.Common.{◌≢◌, ℕ, ◌<◌, ◌≤◌, ◌-◌, List, [], ◌++◌, Option, Some, None, length, take, drop, refl, sym, ap, ◌∙◌, subst, arith, append-nil, length-append, length-drop, take-append-drop}
 use Rattle.std.proofs.lemmas.List.{length-take-le}
 use Rattle.std.specs.Io.KnownBytes.{Consumes, IsAtEnd}
 use Rattle.wire.specs.Message.{Ends, clean, bad}
 use Rattle.wire.specs.Framing.{HasMessage, IsUnfinished}
 use Rattle.wire.proofs.StreamLemmas.{ReadsMessage-append, no_message_at_end}
 use Rattle.engine.specs.Served.{read_limit, Tells}
+use Rattle.engine.specs.Turn.{StaysNear}
 
 -- a reader at its end told nothing more
 pub Tells_end : (old new : Option (List ℕ)) → Consumes old new [] → IsAtEnd new → Tells old []
@@ -27,8 +28,32 @@ pub are_some : (bytes : List ℕ) (n : ℕ) → 0 < n → n ≤ length bytes →
 are_some bytes n some within e = absurd (omega (arith, ap length e, length-take-le n bytes within))
 
 -- they are no more than the buffer holds
-pub are_few : (bytes : List ℕ) (n : ℕ) → n ≤ length bytes → length bytes ≤ read_limit → length (take n bytes) ≤ read_limit
-are_few bytes n within room = omega (arith, length-take-le n bytes within)
+pub are_few : (bytes : List ℕ) (n most : ℕ) → n ≤ length bytes → length bytes ≤ most → length (take n bytes) ≤ most
+are_few bytes n most within room = omega (arith, length-take-le n bytes within)
+
+-- few bytes came
+pub near_few : (held bytes : List ℕ) → IsUnfinished held → length bytes ≤ read_limit → StaysNear held bytes
+near_few held bytes waits few = record {
+  early = [];
+  late = bytes;
+  cut = refl;
+  unfinished = subst IsUnfinished (sym (append-nil held)) waits;
+  few = few;
+}
+
+-- no more came than are missing of a message
+pub near_missing : (held bytes : List ℕ) (missing : ℕ) → ((more : List ℕ) → length more < missing → IsUnfinished (held ++ more))
+    → read_limit < missing → length bytes ≤ missing → StaysNear held bytes
+near_missing held bytes missing waits long few =
+    let n : ℕ = length bytes - read_limit in
+    let within : n ≤ length bytes = omega arith in
+    record {
+      early = take n bytes;
+      late = drop n bytes;
+      cut = sym (take-append-drop n bytes);
+      unfinished = waits (take n bytes) (omega (arith, length-take-le n bytes within));
+      few = omega (arith, length-drop n bytes);
+    }
 
 -- bytes that begin with a message are some
 pub message_some : (bytes : List ℕ) → HasMessage bytes → (more : List ℕ) → bytes ++ more ≢ []

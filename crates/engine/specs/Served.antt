@@ -15,7 +15,7 @@ use Rattle.engine.specs.Written.{IsBeginning}
 use Rattle.engine.specs.declared.fault.Io.{Io}
 use Rattle.engine.specs.declared.fault.Io.TheVariants as io
 
--- the most bytes of a read
+-- the most bytes that are read behind a message
 abbrev pub read_limit : ℕ
 read_limit = 4096
 

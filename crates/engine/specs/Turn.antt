@@ -24,12 +24,20 @@ Takes old taken.More new = IsUnfinished old.held × (new ≡ old)
 Takes old (taken.Close closing) new =
     ((more : List ℕ) → IsClosing (old.held ++ more) (Some closing)) × (closing ≡ fixed.Unavailable → HasMessage old.held)
 
+-- no more than the limit came behind what left the stream unfinished
+pub record StaysNear (held bytes : List ℕ) : Type 0 where
+  pub early : List ℕ
+  pub late : List ℕ
+  pub cut : bytes ≡ early ++ late
+  pub unfinished : IsUnfinished (held ++ early)
+  pub few : length late ≤ read_limit
+
 -- what a read gave the framer, or why it closes the stream; memory is wanted only for bytes that came
 abbrev pub ReadsOn : Framing → Framing → Option (List ℕ) → Option (List ℕ) → Result Turn Io → Type 0
 ReadsOn old new unread unread_new (Ok turn.Go) =
-    (bytes : List ℕ) × Consumes unread unread_new bytes × (length bytes ≤ read_limit) × (new ≡ record old { held = old.held ++ bytes })
+    (bytes : List ℕ) × Consumes unread unread_new bytes × StaysNear old.held bytes × (new ≡ record old { held = old.held ++ bytes })
 ReadsOn old new unread unread_new (Ok (turn.Close closing)) =
-    (bytes : List ℕ) × Consumes unread unread_new bytes × (length bytes ≤ read_limit)
+    (bytes : List ℕ) × Consumes unread unread_new bytes × StaysNear old.held bytes
     × ((all : List ℕ) × Tells unread all × IsClosing (old.held ++ all) closing)
     × (closing ≡ Some fixed.Unavailable → bytes ≢ [])
 ReadsOn old new unread unread_new (Err e) = (e ≡ io.Read) × Keeps unread unread_new

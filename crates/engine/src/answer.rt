@@ -8,19 +8,20 @@ ghost use Rattle.engine.specs.Served.{Serves};
 ghost use Rattle.engine.specs.Store.{GoesThrough};
 ghost use Rattle.engine.specs.Turn.{AnswersHeld, Delivers};
 
-use crate::exchange::answer_message;
+use crate::exchange::{answer_alone, answer_message};
 use crate::fault::Io;
 use crate::read::read_more;
 use crate::turn::{Taken, Turn, take};
 use crate::write::{close, close_first, flush};
 use std::alloc::Global;
 use std::io::{Read, Write};
-use wire::{Framer, Message};
+use wire::{Framer, Message, RouteTable};
 use world::shelves::Shelves;
 
 /// Answers all whole messages that the framer holds.
 fn answer_held<W: Write, S: Shelves>(
     alloc: Global,
+    routes: &mut RouteTable,
     writer: &mut W,
     shelves: &mut S,
     framer: &mut Framer,
@@ -32,7 +33,7 @@ fn answer_held<W: Write, S: Shelves>(
     loop {
         match take(framer) {
             Taken::Message(message) => {
-                answer_message(alloc, writer, shelves, message)?;
+                answer_message(alloc, routes, writer, shelves, message)?;
             }
             Taken::More => return Ok(Turn::Go),
             Taken::Close(closing) => return Ok(Turn::Close(Some(closing))),
@@ -55,11 +56,18 @@ pub fn answer_all<R: Read, W: Write, S: Shelves>(
         (R.remaining reader.old) (R.remaining reader.new) (W.contents writer.old) (W.contents writer.new) result }
 {
     let mut framer = Framer::new(alloc);
+    let mut routes = RouteTable::new(alloc);
     for _ in 0..u64::MAX {
         if let Turn::Close(closing) = read_more(reader, &mut framer)? {
             return close(writer, closing);
         }
-        if let Turn::Close(closing) = answer_held(alloc, writer, shelves, &mut framer)? {
+        if let Turn::Close(closing) = answer_held(
+            alloc,
+            &mut routes,
+            writer,
+            shelves,
+            &mut framer,
+        )? {
             return close(writer, closing);
         }
     }
@@ -79,7 +87,7 @@ fn answer_first<W: Write, S: Shelves>(
         × Delivers (W.contents writer.old) (W.contents writer.new) (first_bytes (Answers x)) result
         × IfOk result (λ status. status ≡ first_status (Answers x))) }
 {
-    let status = answer_message(alloc, writer, shelves, message)?;
+    let status = answer_alone(alloc, writer, shelves, message)?;
     flush(writer)?;
     Ok(Some(status.as_u16()))
 }

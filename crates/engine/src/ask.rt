@@ -1,12 +1,12 @@
 //! What a message asks of the machine.
-ghost use Rattle.std.specs.Prelude.{◌≡◌, IfOk};
+ghost use Rattle.std.specs.Prelude.{◌≡◌, ◌≤◌, take, drop, vec_len, IfOk};
 ghost use Rattle.wire.specs.Framing.{view, texts};
 ghost use Rattle.engine.specs.Ask as spec;
 
 use modver::read_time;
 use shelf::ask::{Ask, Body, GivenTime, Publish, Query};
-use std::alloc::{AllocError, Global};
-use wire::{Memory, Message, Query as Wanted, Target, length_value, target};
+use std::alloc::AllocError;
+use wire::{Memory, Message, Query as Wanted, RouteTable, Target, length_value, target};
 use world::bytes::Bytes;
 
 /// What a message asks of the machine.
@@ -19,10 +19,10 @@ pub(crate) struct Asking {
 
 /// What the message asks. The go.mod of a publish is the first bytes of its body, as many as `Mod-Length` says, and its time
 /// is that of its `Version-Time`.
-pub(crate) fn asking_of(alloc: Global, message: Message) -> Result<Asking, Memory>
+pub(crate) fn asking_of(routes: &mut RouteTable, message: Message) -> Result<Asking, Memory>
     ensures { IfOk result (λ asking. asking ≡ spec.asking_of (view message)) }
 {
-    let target = target(alloc, &message.method, &message.target)?;
+    let target = target(routes, &message.method, &message.target)?;
     let is_summed = is_summed(&target);
     let ask = ask_at(message, target)?;
     Ok(Asking { ask, is_summed })
@@ -115,19 +115,34 @@ fn time_in(text: &[u8]) -> GivenTime
     }
 }
 
-/// The files of a publish. The body itself becomes the go.mod, so that the zip alone is copied.
+/// The files of a publish.
 fn body_of(message: Message) -> Result<Option<Body>, AllocError>
     ensures { IfOk result (λ body. body ≡ spec.body_of (view message)) }
 {
     let Some(len) = gomod_len(&message.mod_lengths, message.body.len()) else {
         return Ok(None);
     };
-    let mut gomod = message.body;
-    let zip = gomod.split_off(len)?;
+    let (gomod, zip) = cut_in_two(message.body, len)?;
     Ok(Some(Body {
         gomod: Bytes::new(gomod),
         zip: Bytes::new(zip),
     }))
+}
+
+/// The first so many bytes of a text, and the others: the shorter of both are copied, and the text itself becomes the longer.
+fn cut_in_two(mut text: Vec<u8>, len: usize) -> Result<(Vec<u8>, Vec<u8>), AllocError>
+    requires { len ≤ vec_len text }
+    ensures front { IfOk result (λ parts. parts.0.items ≡ take len text.items) }
+    ensures back { IfOk result (λ parts. parts.1.items ≡ drop len text.items) }
+{
+    if len > text.len() - len {
+        let back = text.split_off(len)?;
+        return Ok((text, back));
+    }
+    let front = Vec::from_slice(*text.allocator(), &text[..len])?;
+    text.rotate_left(len);
+    text.truncate(text.len() - len);
+    Ok((front, text))
 }
 
 /// The length of the go.mod, where the values of `Mod-Length` say one that is not above the body.

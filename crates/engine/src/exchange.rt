@@ -15,8 +15,8 @@ use shelf::reply::Reply;
 use shelf::step::step;
 use std::alloc::Global;
 use std::io::Write;
-use wire::Message;
 use wire::reply::{Fixed, StatusCode};
+use wire::{Message, RouteTable};
 use world::registry::StoreFault;
 use world::shelves::Shelves;
 
@@ -36,13 +36,18 @@ fn page_told(alloc: Global, asking: &Asking, told: Result<Reply, StoreFault>) ->
 }
 
 /// What is written for a message: what the machine answered to what it asks, or 503 where there is no memory to read that.
-fn page_for<S: Shelves>(alloc: Global, shelves: &mut S, message: Message) -> Page
+fn page_for<S: Shelves>(
+    alloc: Global,
+    routes: &mut RouteTable,
+    shelves: &mut S,
+    message: Message,
+) -> Page
     ensures { (outcome : Outcome)
         × (let x : Exchange = record { message = view message; outcome = outcome } in
         GoesThrough (S.shown shelves.old) (S.shown shelves.new) (S.failure_count shelves.old) (S.failure_count shelves.new) (x ∷ [])
         × (result ≡ page_to x)) }
 {
-    let Ok(asking) = asking_of(alloc, message) else {
+    let Ok(asking) = asking_of(routes, message) else {
         return Page::Fixed(Fixed::Unavailable);
     };
     let told = step(alloc, shelves, &asking.ask);
@@ -51,6 +56,24 @@ fn page_for<S: Shelves>(alloc: Global, shelves: &mut S, message: Message) -> Pag
 
 /// Answers one message, and tells the status that was written.
 pub(crate) fn answer_message<W: Write, S: Shelves>(
+    alloc: Global,
+    routes: &mut RouteTable,
+    writer: &mut W,
+    shelves: &mut S,
+    message: Message,
+) -> Result<StatusCode, Io>
+    ensures { (outcome : Outcome)
+        × (let x : Exchange = record { message = view message; outcome = outcome } in
+        GoesThrough (S.shown shelves.old) (S.shown shelves.new) (S.failure_count shelves.old) (S.failure_count shelves.new) (x ∷ [])
+        × Writes (W.contents writer.old) (W.contents writer.new) (text_of x) result
+        × IfOk result (λ status. status ≡ status_of x)) }
+{
+    let page = page_for(alloc, routes, shelves, message);
+    write_page(alloc, writer, &page)
+}
+
+/// The same of a message that stands alone, for which the routes are made anew.
+pub(crate) fn answer_alone<W: Write, S: Shelves>(
     alloc: Global,
     writer: &mut W,
     shelves: &mut S,
@@ -62,6 +85,6 @@ pub(crate) fn answer_message<W: Write, S: Shelves>(
         × Writes (W.contents writer.old) (W.contents writer.new) (text_of x) result
         × IfOk result (λ status. status ≡ status_of x)) }
 {
-    let page = page_for(alloc, shelves, message);
-    write_page(alloc, writer, &page)
+    let mut routes = RouteTable::new(alloc);
+    answer_message(alloc, &mut routes, writer, shelves, message)
 }

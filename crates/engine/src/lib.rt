@@ -32,8 +32,9 @@
 //! | not found, or the outcome of a publish | a fixed text |
 //!
 //! A message is answered 503 where there is no memory to read what it asks or to compose the body of its reply, or where the
-//! store met a fault; then it changed nothing. Files and fixed texts are written with no more memory, so nothing but the writer
-//! can fail once the machine has decided on a publish: one that the store accepted is never answered 503.
+//! store met a fault; then the open store stands for the world that it stood for, and after a later crash a publish that met a
+//! fault may be there, whole. Files and fixed texts are written with no more memory, so nothing but the writer can fail once the
+//! machine has decided on a publish: one that the store accepted is never answered 503.
 //!
 //! A fixed text is one write, and so is a head with a body of at most 65,536 bytes, where there is memory to put them behind one another;
 //! else the head is written and then the body. The bytes are the same.

@@ -1,8 +1,9 @@
 //! Reading into the framer.
-ghost use Rattle.std.specs.Prelude.{◌≡◌, ◌<◌, ◌≤◌, None, length, take, IfOk, IfErr, OnErr};
+ghost use Rattle.std.specs.Prelude.{◌≡◌, ℕ, ◌<◌, ◌≤◌, List, ◌++◌, None, length, take, IfOk, IfErr, OnErr};
 ghost use Rattle.std.specs.Io.KnownBytes.{Consumes, IsAtEnd, Keeps};
 ghost use Rattle.wire.specs.Framing.{IsUnfinished};
-ghost use Rattle.engine.specs.Turn.{ReadsOn};
+ghost use Rattle.engine.specs.Served.{read_limit};
+ghost use Rattle.engine.specs.Turn.{ReadsOn, StaysNear};
 
 use crate::fault::Io;
 use crate::turn::Turn;
@@ -13,8 +14,11 @@ use wire::reply::Fixed;
 /// How often a call that was interrupted is made anew.
 pub(crate) const TRIES: u32 = 1_000;
 
-/// The most bytes of a read.
+/// The most bytes that are read behind a message, and of a read where little or nothing is known to be missing.
 const READ_LIMIT: usize = 4_096;
+
+/// The most bytes of a read where more than that is missing of a message.
+const BODY_READ_LIMIT: usize = 65_536;
 
 /// Reads once; a call that is interrupted is made anew.
 fn read_some<R: Read>(reader: &mut R, chunk: &mut [u8]) -> Result<usize, Io>
@@ -37,12 +41,13 @@ fn read_some<R: Read>(reader: &mut R, chunk: &mut [u8]) -> Result<usize, Io>
 }
 
 /// Reads once, and feeds the framer what came. An end, and want of memory, close the stream.
-pub(crate) fn read_more<R: Read>(reader: &mut R, framer: &mut Framer) -> Result<Turn, Io>
-    requires { IsUnfinished framer.old.held }
+fn feed_some<R: Read>(reader: &mut R, framer: &mut Framer, chunk: &mut [u8]) -> Result<Turn, Io>
+    requires waits { IsUnfinished framer.old.held }
+    requires room { 0 < length chunk.old }
+    requires near { (bytes : List ℕ) → length bytes ≤ length chunk.old → StaysNear framer.old.held bytes }
     ensures { ReadsOn framer.old framer.new (R.remaining reader.old) (R.remaining reader.new) result }
 {
-    let mut chunk = [0; READ_LIMIT];
-    match read_some(reader, &mut chunk)? {
+    match read_some(reader, chunk)? {
         0 if framer.is_empty() => Ok(Turn::Close(None)),
         0 => Ok(Turn::Close(Some(Fixed::BadRequest))),
         n => match framer.feed(&chunk[..n]) {
@@ -50,4 +55,30 @@ pub(crate) fn read_more<R: Read>(reader: &mut R, framer: &mut Framer) -> Result<
             Err(_) => Ok(Turn::Close(Some(Fixed::Unavailable))),
         },
     }
+}
+
+/// The same of a message of which more is missing than one read takes: of what follows it no byte is read.
+#[inline(never)]
+fn read_body<R: Read>(reader: &mut R, framer: &mut Framer, missing: usize) -> Result<Turn, Io>
+    requires waits { IsUnfinished framer.old.held }
+    requires long { read_limit < missing }
+    requires missing { (bytes : List ℕ) → length bytes < missing → IsUnfinished (framer.old.held ++ bytes) }
+    ensures { ReadsOn framer.old framer.new (R.remaining reader.old) (R.remaining reader.new) result }
+{
+    let mut chunk = [0; BODY_READ_LIMIT];
+    let most = missing.min(BODY_READ_LIMIT);
+    feed_some(reader, framer, &mut chunk[..most])
+}
+
+/// Reads once, and feeds the framer what came; while much of a message is missing, as much of it as comes.
+pub(crate) fn read_more<R: Read>(reader: &mut R, framer: &mut Framer) -> Result<Turn, Io>
+    requires { IsUnfinished framer.old.held }
+    ensures { ReadsOn framer.old framer.new (R.remaining reader.old) (R.remaining reader.new) result }
+{
+    let missing = framer.missing();
+    if missing > READ_LIMIT {
+        return read_body(reader, framer, missing);
+    }
+    let mut chunk = [0; READ_LIMIT];
+    feed_some(reader, framer, &mut chunk)
 }

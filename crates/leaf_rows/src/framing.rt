@@ -2,7 +2,7 @@
 use crate::rows::{column, with_lines};
 use std::alloc::Global;
 use std::test::Fail;
-use wire::{Bad, Framer, Memory, Next};
+use wire::{Bad, Framer, Memory, Message, Next};
 
 const PUT: &[u8] =
     b"PUT /k/alphakey00000001/example.com/lib/@v/v1.0.0 HTTP/1.1\r\nMod-Length: 23\r\nContent-Length: 23\r\n\r\nmodule example.com/lib\n";
@@ -83,6 +83,37 @@ fn messages_do_not_hang_on_the_cut(rt: HostRuntime) {
             _ => assert!(rt; false, "cut at {cut}"),
         }
     }
+}
+
+/// The next message, where one is whole.
+fn next_message(framer: &mut Framer) -> Option<Message> {
+    match framer.next() {
+        Ok(Next::Message(message)) => Some(message),
+        _ => None,
+    }
+}
+
+/// A large body is handed out in the buffer that it was gathered in.
+#[test]
+fn what_follows_a_large_body_stays(rt: HostRuntime) -> Result<(), Fail> {
+    let mut framer = Framer::new(rt.alloc());
+    let body = vec![in rt.alloc(); b'x'; 5_000]?;
+    assert!(rt;
+        framer
+            .feed(b"PUT /a HTTP/1.1\r\nContent-Length: 5000\r\n\r\n")
+            .is_ok()
+    );
+    assert!(rt; next_message(&mut framer).is_none());
+    assert_eq!(rt; framer.missing(), 5_000);
+    assert!(rt; framer.feed(body.as_slice()).is_ok());
+    assert!(rt; framer.feed(b"GET /b HTTP/1.1\r\n\r\n").is_ok());
+    assert_eq!(rt; framer.missing(), 0);
+    let large = next_message(&mut framer).ok_or("no message")?;
+    assert!(rt; large.body.as_slice() == body.as_slice());
+    let small = next_message(&mut framer).ok_or("no message")?;
+    assert!(rt; small.target.as_slice() == b"/b".as_slice());
+    assert!(rt; framer.is_empty());
+    Ok(())
 }
 
 /// The values in their order, without the spaces and tabs around them; a name's case does not count.

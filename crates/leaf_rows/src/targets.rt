@@ -5,7 +5,7 @@ use modver::Version;
 use std::alloc::Global;
 use std::test::Fail;
 use text::Text;
-use wire::{Memory, Query, Target, target};
+use wire::{Memory, Query, RouteTable, Target, target};
 
 /// What is asked of a path, or of a version of it, as a text.
 fn of_path(alloc: Global, word: &str, key: &Text, path: &ModulePath) -> Result<String, Memory> {
@@ -26,8 +26,13 @@ fn of_version(
 }
 
 /// What a request asks for, as a text; `-` where it can't be read.
-fn shown(alloc: Global, method: &[u8], text: &[u8]) -> Result<String, Memory> {
-    match target(alloc, method, text)? {
+fn shown(
+    alloc: Global,
+    routes: &mut RouteTable,
+    method: &[u8],
+    text: &[u8],
+) -> Result<String, Memory> {
+    match target(routes, method, text)? {
         Target::Unreadable => Ok(String::from_str(alloc, "-")?),
         Target::Get { key, query } => match query {
             Query::Info { path, version } => of_version(alloc, "info", &key, &path, &version),
@@ -130,12 +135,13 @@ HEAD /k/key/example.com/lib/@v/v1.0.0.mod|-
 
 #[test]
 fn targets_are_read(rt: HostRuntime) -> Result<(), Fail> {
+    let mut routes = RouteTable::new(rt.alloc());
     for row in TARGETS.lines() {
         let (method, text) = column(row, 0).split_once(' ').ok_or("no target")?;
-        let asked = shown(rt.alloc(), method.as_bytes(), text.as_bytes())?;
+        let asked = shown(rt.alloc(), &mut routes, method.as_bytes(), text.as_bytes())?;
         assert!(rt; asked.as_str() == column(row, 1), "{row}");
     }
     let text = b"/k/k\xff/example.com/lib/@v/v1.0.0.mod";
-    assert!(rt; shown(rt.alloc(), b"GET", text)?.as_str() == "-");
+    assert!(rt; shown(rt.alloc(), &mut routes, b"GET", text)?.as_str() == "-");
     Ok(())
 }

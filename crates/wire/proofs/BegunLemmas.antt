@@ -1,8 +1,10 @@
 -- A message that has begun.
-use Rattle.std.proofs.Common.{◌≡◌, ℕ, ◌+◌, ◌≤◌, ◌<◌, inr, List, ◌++◌, length, take, drop, ◌-◌, sym, ap, ◌∙◌, arith, length-append, length-drop}
-use Rattle.std.proofs.lemmas.List.{drop-append-le, take_all}
+use Rattle.std.proofs.Common.{◌≡◌, ℕ, ◌+◌, ◌≤◌, ◌<◌, inr, Option, subst, List, ◌++◌, length, take, drop, ◌-◌, sym, ap, ◌∙◌, arith, length-append, length-drop}
+use Rattle.std.proofs.lemmas.List.{drop-append-le, drop-drop, drop-take, take_all}
+use Rattle.std.specs.List.{slice_range}
 use Rattle.httparse.specs.declared.spans.HeaderSpan.{HeaderSpan}
-use Rattle.wire.specs.Framing.{IsUnfinished, HasBegun, Awaits}
+use Rattle.wire.specs.Framing.{Framing, IsUnfinished, HasBegun, Awaits}
+use Rattle.wire.specs.declared.framer.Bad.{Bad}
 use Rattle.wire.specs.Values.{IsHeadAt}
 use Rattle.wire.specs.declared.head.Head.{Head}
 use Rattle.wire.proofs.HeadLemmas.{BeginsWith-append}
@@ -49,3 +51,29 @@ held_more start old new more fits is = ap (drop start) is ∙ drop-append-le sta
 -- the slice from start to the end
 pub slice_to_end : (start : ℕ) (xs : List ℕ) → take (length xs - start) (drop start xs) ≡ drop start xs
 slice_to_end start xs = ap (λ n. take n (drop start xs)) (sym (length-drop start xs)) ∙ take_all _ (drop start xs) (omega arith)
+
+-- fewer bytes than are missing of a message that has begun leave it unfinished
+pub unfinished_more : (start wanted : ℕ) (items held more : List ℕ) → drop start items ≡ held → Awaits (drop start items) wanted
+    → length more < wanted - (length items - start) → IsUnfinished (held ++ more)
+unfinished_more start wanted items held more is awaits few =
+    let some : 0 < wanted = omega arith in
+    subst (λ (bytes : List ℕ). IsUnfinished (bytes ++ more)) is
+    (unfinished_begun (drop start items ++ more) wanted (λ _. HasBegun-append (drop start items) more wanted (awaits some))
+    (omega (arith, length-append (drop start items) more, length-drop start items)))
+
+-- two framings of the same bytes that failed alike are the same
+pub same_framing : (held others : List ℕ) (f g : Option Bad) → held ≡ others → f ≡ g
+    → let one : Framing = record { held = held; failure = f } in let two : Framing = record { held = others; failure = g } in one ≡ two
+same_framing held others f g p q = λ i. record { held = p i; failure = q i }
+
+-- what is left behind the first so many of the bytes held
+pub left_behind : (start n at : ℕ) (items held : List ℕ) → drop start items ≡ held → at ≡ start + n → drop at items ≡ drop n held
+left_behind start n at items held is here =
+    ap (λ (k : ℕ). drop k items) here ∙ sym (drop-drop n start items) ∙ ap (drop n) is
+
+-- the body behind a head of the bytes held
+pub body_behind : (start head body at : ℕ) (items held : List ℕ) → drop start items ≡ held → at ≡ start + head
+    → drop at (take (at + body) items) ≡ slice_range held head (head + body)
+body_behind start head body at items held is here =
+    let count : body ≡ (head + body) - head = omega arith in
+    drop-take at body items ∙ ap (take body) (left_behind start head at items held is here) ∙ ap (λ (n : ℕ). take n (drop head held)) count

@@ -1,13 +1,14 @@
 //! The framer: messages out of bytes that come in any pieces.
-ghost use Rattle.std.specs.Prelude.{◌≡◌, ◌≤◌, [], ◌++◌, drop, vec_len, IfOk, OnOk, OnErr, IfSome, IsTrue, ◌↔◌};
-ghost use Rattle.wire.specs.Framing.{Answers, IsBad, HasMessage};
+ghost use Rattle.std.specs.Prelude.{◌≡◌, ℕ, ◌+◌, ◌≤◌, ◌<◌, List, [], ◌++◌, length, drop, vec_len, None, IfOk, OnOk, OnErr, IfSome, IsTrue, ◌↔◌};
+ghost use Rattle.wire.specs.Framing.{Answers, IsBad, IsUnfinished, HasMessage, GivesBody, TakesOff};
 
-use crate::cut::message_of;
+use crate::cut::bodiless_of;
 use crate::head::{Front, HEADER_LIMIT, front_of};
 use crate::message::{Memory, Message};
 use httparse::spans::EMPTY_HEADER_SPAN;
 use std::alloc::Global;
 use std::marker::Model;
+use std::mem;
 
 /// Why a stream can't go on: the reply that ends it.
 #[derive(Clone, Copy, Debug, Drop, PartialEq, Eq)]
@@ -29,8 +30,13 @@ pub enum Next {
     Bad(Bad),
 }
 
+/// A body of fewer bytes is copied when it is handed out.
+const LARGE: usize = 4_096;
+
 /// Takes the bytes of a stream in any pieces, and hands out its messages. How the bytes are cut does not matter, and the
-/// work is linear in them: each byte of a body is moved at most twice, and a head is read again only until it is whole.
+/// work is linear in them: each byte of a body is moved a bounded number of times, and a head is read again only until it is
+/// whole. Room for all of a message is made once its head is whole, and a large body is handed out in the buffer that it was
+/// gathered in.
 #[derive(Drop)]
 pub struct Framer {
     /// What was fed, but for a front that was dropped.
@@ -83,8 +89,26 @@ impl Framer {
         ensures err { OnErr result (self.new ≡ self.old) }
     {
         self.drop_used();
+        self.make_room()?;
         self.bytes.extend_from_slice(bytes)?;
         Ok(())
+    }
+
+    /// Makes room for all that is missing of the message that has begun.
+    fn make_room(&mut self) -> Result<(), Memory>
+        ensures { self.new ≡ self.old }
+    {
+        let missing = self.missing();
+        self.bytes.reserve_exact(missing)?;
+        Ok(())
+    }
+
+    /// How many bytes are still to come of the message that has begun, or 0 where none has a whole head: as long as fewer
+    /// come, it is not whole.
+    pub fn missing(&self) -> usize
+        ensures { (bytes : List ℕ) → length bytes < result → IsUnfinished (self.now.held ++ bytes) }
+    {
+        self.wanted.saturating_sub(self.bytes.len() - self.start)
     }
 
     /// Drops the bytes that were handed out, once they are no fewer than the rest: so each byte is moved at most twice.
@@ -122,12 +146,56 @@ impl Framer {
                     self.wanted = len;
                     return Ok(Next::NeedMore);
                 }
-                let message = message_of(*self.bytes.allocator(), held, &headers, head)?;
-                self.start += len;
-                self.wanted = 0;
-                Ok(Next::Message(message))
+                let message = bodiless_of(*self.bytes.allocator(), held, &headers, head)?;
+                let body = self.take_body(head.spans.len, head.body)?;
+                Ok(Next::Message(Message { body, ..message }))
             }
         }
+    }
+
+    /// Takes a head and a body off, and gives the body: in a copy, or in the buffer itself where the body is large and no less than
+    /// half of what it holds. `Memory` where there is no room for the copy, or for what follows the body; an `Err` changes nothing.
+    fn take_body(&mut self, head: usize, body: usize) -> Result<Vec<u8>, Memory>
+        requires whole { head + body ≤ length self.old.held }
+        requires sound { self.old.failure ≡ None }
+        ensures body { GivesBody self.old head body result }
+        ensures rest { TakesOff self.old (head + body) result self.new }
+    {
+        if body < LARGE || body < self.bytes.len() - body {
+            return self.copy_body(head, body);
+        }
+        self.give_body(head, body)
+    }
+
+    /// The same in a copy.
+    fn copy_body(&mut self, head: usize, body: usize) -> Result<Vec<u8>, Memory>
+        requires whole { head + body ≤ length self.old.held }
+        requires sound { self.old.failure ≡ None }
+        ensures body { GivesBody self.old head body result }
+        ensures rest { TakesOff self.old (head + body) result self.new }
+    {
+        let from = self.start + head;
+        let copy = Vec::from_slice(*self.bytes.allocator(), &self.bytes[from..from + body])?;
+        self.start += head + body;
+        self.wanted = 0;
+        Ok(copy)
+    }
+
+    /// The same in the buffer; what follows the body is copied.
+    fn give_body(&mut self, head: usize, body: usize) -> Result<Vec<u8>, Memory>
+        requires whole { head + body ≤ length self.old.held }
+        requires sound { self.old.failure ≡ None }
+        ensures body { GivesBody self.old head body result }
+        ensures rest { TakesOff self.old (head + body) result self.new }
+    {
+        let from = self.start + head;
+        let rest = Vec::from_slice(*self.bytes.allocator(), &self.bytes[from + body..])?;
+        let mut taken = mem::replace(&mut self.bytes, rest);
+        taken.truncate(from + body);
+        remove_front(&mut taken, from);
+        self.start = 0;
+        self.wanted = 0;
+        Ok(taken)
     }
 
     /// The stream can't go on.

@@ -48,4 +48,5 @@ pub use message::{Memory, Message};
 pub use put::{fixed, fixed_line, put_head, reply_head};
 pub use reply::{Fixed, Kind, StatusCode};
 pub use request::{Query, Target};
+pub use routes::RouteTable;
 pub use targets::target;

@@ -1,5 +1,6 @@
 //! What a GET asks for, by the rest of its target.
 ghost use Rattle.std.specs.Prelude.{◌≡◌, None, Some, IfOk, MatchOption};
+ghost use Rattle.std.specs.Cow.{cow_slice_items};
 ghost use Rattle.percent_encoding.specs.Percent.{percent_decode as percent_decoded};
 ghost use Rattle.wire.specs.Query as spec;
 
@@ -11,6 +12,7 @@ use modpath::ModulePath;
 use modver::Version;
 use percent_encoding::percent_decode;
 use std::alloc::Global;
+use std::borrow::CowSlice;
 
 /// A part of a version, which the ending of a name asks for.
 #[derive(Clone, Copy, Drop)]
@@ -20,13 +22,11 @@ pub(crate) enum Part {
     Zip,
 }
 
-/// A rest, percent-decoded once.
-pub(crate) fn decoded(alloc: Global, rest: &str) -> Result<Vec<u8>, Memory>
-    ensures { IfOk result (λ text. text.items ≡ percent_decoded rest.now) }
+/// A rest, percent-decoded once; one without an escape is not copied.
+pub(crate) fn decoded(alloc: Global, rest: &str) -> Result<CowSlice<'_, u8, Global>, Memory>
+    ensures { IfOk result (λ text. cow_slice_items text ≡ percent_decoded rest.now) }
 {
-    let mut text = Vec::new(alloc);
-    percent_decode(rest.as_bytes()).append_to(&mut text)?;
-    Ok(text)
+    Ok(percent_decode(rest.as_bytes()).into_cow(alloc)?)
 }
 
 /// What a GET asks for in an area.
@@ -35,8 +35,8 @@ pub(crate) fn read_query(alloc: Global, area: Area, rest: &str) -> Result<Option
 {
     let text = decoded(alloc, rest)?;
     match area {
-        Area::Shelf => read_own(alloc, &text),
-        Area::Path => read_asked(alloc, &text),
+        Area::Shelf => read_own(alloc, text.as_slice()),
+        Area::Path => read_asked(alloc, text.as_slice()),
     }
 }
 

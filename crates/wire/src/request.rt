@@ -3,7 +3,8 @@ use modpath::ModulePath;
 use modver::Version;
 use text::Text;
 
-/// What a GET asks for.
+/// What the target of a GET names. It is not `Query` of the crate `shelf`, which is what the machine is asked: a go.sum line is a case
+/// of this one alone, since the machine is asked for the go.mod, and `wire` knows of no machine. `engine` makes that one of this.
 #[derive(Drop)]
 pub enum Query {
     /// A version with its time.

@@ -1,5 +1,6 @@
 //! The routes of targets.
 ghost use Rattle.std.specs.Prelude.{◌≡◌, None, Some, IfOk, IfErr, MatchOption};
+ghost use Rattle.std.specs.Option.{ForSome};
 ghost use Rattle.wire.specs.Route as spec;
 
 use crate::message::Memory;
@@ -23,8 +24,17 @@ pub(crate) struct Routed<'t> {
     pub(crate) rest: &'t str,
 }
 
+/// The router of targets, which is made at the first of them and kept for those that follow; where there was no memory for it,
+/// the next target makes it anew.
+#[derive(Drop)]
+pub struct RouteTable {
+    alloc: Global,
+    router: Option<Router<Area>>,
+    ghost both: { ForSome router (λ router. router ≡ spec.routes) },
+}
+
 /// The router of both routes. They do not conflict, so only memory can be refused.
-fn routes(alloc: Global) -> Result<Router<Area>, InsertError>
+fn both_routes(alloc: Global) -> Result<Router<Area>, InsertError>
     ensures ok { IfOk result (λ routes. routes ≡ spec.routes) }
     ensures memory { IfErr result (λ e. e ≡ InsertError.OutOfMemory) }
 {
@@ -34,15 +44,43 @@ fn routes(alloc: Global) -> Result<Router<Area>, InsertError>
     Ok(routes)
 }
 
-/// A target by its route, if it has one.
-pub(crate) fn route_of<'t>(alloc: Global, target: &'t str) -> Result<Option<Routed<'t>>, Memory>
-    ensures { IfOk result (λ found. MatchOption found (spec.routed_of target.now ≡ None)
-        (λ r. spec.routed_of target.now ≡ Some (r.area, r.key.now, r.rest.now))) }
+impl RouteTable {
+    /// RouteTable that are still to be made. They take no memory yet.
+    pub fn new(alloc: Global) -> RouteTable {
+        RouteTable {
+            alloc,
+            router: None,
+        }
+    }
+
+    /// The allocator of the router.
+    pub(crate) fn allocator(&self) -> Global {
+        self.alloc
+    }
+
+    /// A target by its route, if it has one.
+    pub(crate) fn route_of<'t>(&mut self, target: &'t str) -> Result<Option<Routed<'t>>, Memory>
+        ensures { IfOk result (λ found. MatchOption found (spec.routed_of target.now ≡ None)
+            (λ r. spec.routed_of target.now ≡ Some (r.area, r.key.now, r.rest.now))) }
+    {
+        let router = match self.router.take() {
+            Some(router) => router,
+            None => made_router(self.alloc)?,
+        };
+        let found = split(&router, target);
+        self.router = Some(router);
+        Ok(found)
+    }
+}
+
+/// The router, or the one reason why there is none.
+fn made_router(alloc: Global) -> Result<Router<Area>, Memory>
+    ensures { IfOk result (λ routes. routes ≡ spec.routes) }
 {
-    let Ok(routes) = routes(alloc) else {
-        return Err(Memory);
-    };
-    Ok(split(&routes, target))
+    match both_routes(alloc) {
+        Ok(routes) => Ok(routes),
+        Err(_) => Err(Memory),
+    }
 }
 
 /// The same by the router.

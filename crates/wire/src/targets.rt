@@ -8,37 +8,38 @@ use crate::message::Memory;
 use crate::places::{Place, read_place};
 use crate::queries::{decoded, read_query};
 use crate::request::Target;
-use crate::routes::{Area, Routed, route_of};
+use crate::routes::{Area, RouteTable, Routed};
 use std::alloc::Global;
 use text::Text;
 
 /// What a request with this method and this target asks for; both are compared as they stand. The target need not be
 /// UTF-8: one that is not, or decodes to bytes that are not, is unreadable. `Memory` where there is no room for the parts
-/// of a target, and then nothing is said of it.
-pub fn target(alloc: Global, method: &[u8], target: &[u8]) -> Result<Target, Memory>
+/// of a target or for the routes, and then nothing is said of it.
+pub fn target(table: &mut RouteTable, method: &[u8], target: &[u8]) -> Result<Target, Memory>
     ensures value { IfOk result (λ asked. asked ≡ target_of method.now target.now) }
     ensures reads { IfOk result (ReadsTarget method.now target.now) }
 {
-    read_target(alloc, method, target)
+    read_target(table, method, target)
 }
 
 /// The same, as it is computed.
-fn read_target(alloc: Global, method: &[u8], target: &[u8]) -> Result<Target, Memory>
+fn read_target(table: &mut RouteTable, method: &[u8], target: &[u8]) -> Result<Target, Memory>
     ensures { IfOk result (λ asked. asked ≡ target_of method.now target.now) }
 {
     match str::from_utf8(target) {
-        Ok(text) => read_text(alloc, method, text),
+        Ok(text) => read_text(table, method, text),
         Err(_) => Ok(Target::Unreadable),
     }
 }
 
 /// What a request with this method asks for by a target that is text.
-fn read_text(alloc: Global, method: &[u8], text: &str) -> Result<Target, Memory>
+fn read_text(table: &mut RouteTable, method: &[u8], text: &str) -> Result<Target, Memory>
     ensures { IfOk result (λ asked. asked ≡ asked_or method.now (routed_of text.now)) }
 {
-    let Some(route) = route_of(alloc, text)? else {
+    let Some(route) = table.route_of(text)? else {
         return Ok(Target::Unreadable);
     };
+    let alloc = table.allocator();
     match method {
         b"GET" => get(alloc, route),
         b"PUT" => put(alloc, route),
@@ -66,7 +67,7 @@ fn put(alloc: Global, route: Routed<'_>) -> Result<Target, Memory>
     let Area::Path = route.area else {
         return Ok(Target::Unreadable);
     };
-    match read_place(alloc, &decoded(alloc, route.rest)?)? {
+    match read_place(alloc, decoded(alloc, route.rest)?.as_slice())? {
         Some(Place { path, version }) => Ok(Target::Put {
             key: Text::new(String::from_str(alloc, route.key)?),
             path,

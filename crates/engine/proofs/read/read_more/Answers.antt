@@ -1,40 +1,6 @@
-use Rattle.std.proofs.Common.{◌≢◌, ℕ, ◌<◌, ◌≤◌, [], ◌++◌, length, take, sym, arith, ◌∙◌, append-nil}
-use Rattle.std.proofs.lemmas.Bool.{false≢true}
-use Rattle.std.specs.Io.KnownBytes.{Consumes}
-use Rattle.engine.proofs.ReadLemmas.{Tells_end, ends_badly, some_came, are_some, are_few}
-use Rattle.engine.proofs.ServedLemmas.{left_of, Tells_left, Tells_after}
-use Rattle.engine.specs.Served.{read_limit}
+use Rattle.std.proofs.Common.{arith}
+use Rattle.engine.proofs.ReadLemmas.{near_few}
 use Rattle.engine.proofs.read.read_more.Goals as goal
 
-pub returns-in-0-2 : goal.returns-in-0-2
-returns-in-0-2 g c =
-    let ok : Consumes _ _ [] = rw c.in-0.is at c.in_ok-n.ensures.ok in
-    let some : c.args.framer.now.held ≢ [] = λ e. false≢true (sym c.if-is_empty.false ∙ c.is_empty.ensures.1 e) in
-    let few : length {A = ℕ} [] ≤ read_limit = omega arith in
-    ([], ok, few, ([], Tells_end _ _ ok (c.in_ok-n.ensures.end c.in-0.is), ends_badly _ c.requires some), λ same. cc)
-
-pub returns-in-Err : goal.returns-in-Err
-returns-in-Err g c =
-    let n = c.in_ok-n.n in
-    let left = left_of (g.R.Read.remaining c.read_some.new.reader) in
-    let came = take n c.read_some.new.chunk in
-    let some : 0 < n = omega (arith, c.in_default) in
-    let within = c.in_ok-n.ensures.within in (
-      came,
-      c.in_ok-n.ensures.ok,
-      are_few _ n within (omega (arith, c.in_ok-n.ensures.room)),
-      (came ++ left, Tells_after _ _ came left c.in_ok-n.ensures.ok (Tells_left _), some_came _ _ left n some within),
-      λ same. are_some _ n some within,
-    )
-
-pub returns-in-Ok : goal.returns-in-Ok
-returns-in-Ok g c =
-    let n = c.in_ok-n.n in
-    (take n c.read_some.new.chunk, c.in_ok-n.ensures.ok, are_few _ n c.in_ok-n.ensures.within (omega (arith, c.in_ok-n.ensures.room)), c.in-Ok.ensures.ok)
-
-pub returns-in-0 : goal.returns-in-0
-returns-in-0 g c =
-    let ok : Consumes _ _ [] = rw c.in-0.is at c.in_ok-n.ensures.ok in
-    let held = append-nil c.args.framer.now.held ∙ c.is_empty.ensures.0 c.if-is_empty.true in
-    let few : length {A = ℕ} [] ≤ read_limit = omega arith in
-    ([], ok, few, ([], Tells_end _ _ ok (c.in_ok-n.ensures.end c.in-0.is), held), λ same. cc)
+pub feed_some-requires-clause-near : goal.feed_some-requires-clause-near
+feed_some-requires-clause-near g c bytes few = near_few _ bytes c.requires (omega (arith, few))

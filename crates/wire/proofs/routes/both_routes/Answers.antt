@@ -3,7 +3,7 @@ use Rattle.matchit.proofs.OnLiterals.{matchit_on_literals}
 use Rattle.matchit.specs.declared.error.InsertError.TheVariants.{OutOfMemory}
 use Rattle.wire.proofs.InsertLemmas.{gives_memory, only_memory}
 use Rattle.wire.specs.Route.{path_route, shelf_route}
-use Rattle.wire.proofs.routes.routes.Goals as goal
+use Rattle.wire.proofs.routes.both_routes.Goals as goal
 
 pub returns-clause-ok : goal.returns-clause-ok
 unfolding matchit_on_literals

@@ -14,3 +14,4 @@ pub mod EntryTests
 pub mod Retained
 pub mod Seen
 pub mod Sound
+pub mod Counted

@@ -11,3 +11,4 @@ pub mod Code
 pub mod Visible
 pub mod Store
 pub mod Kept
+pub mod Counts

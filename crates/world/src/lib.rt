@@ -21,6 +21,7 @@
 #![tactic(auto)]
 
 pub mod bytes;
+pub mod counts;
 pub mod entry;
 pub mod entry_test;
 pub mod forms;

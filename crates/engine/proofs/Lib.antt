@@ -6,6 +6,7 @@ pub mod FrontLemmas
 pub mod HeadlineLemmas
 pub mod IsolationLemmas
 pub mod MessageLemmas
+pub mod PartLemmas
 pub mod ReadLemmas
 pub mod RunLemmas
 pub mod ServedLemmas

@@ -4,6 +4,7 @@ pub mod Exchange
 pub mod First
 pub mod Headline
 pub mod Isolated
+pub mod Parts
 pub mod Reply
 pub mod Served
 pub mod Store

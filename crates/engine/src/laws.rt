@@ -4,6 +4,7 @@ ghost use Rattle.wire.specs.Message.{body_limit};
 ghost use Rattle.world.specs.World.{gomod_limit, zip_limit};
 ghost use Rattle.engine.specs.Calls.{CallsTellAlike, CallsTellAlikeAsFar};
 ghost use Rattle.engine.specs.Headline.{CallersAreToldAlike, BytesStayServed, LatestIsWritten};
+ghost use Rattle.engine.specs.Parts.{PartWritesTheSame, OthersAreWrittenNotFound};
 
 use world::shelves::Shelves;
 
@@ -33,6 +34,13 @@ pub fn isolation_of_calls<S: Shelves, T: Shelves>()
         → CallsTellAlike (S.shown old) (S.shown new) (T.shown old_too) (T.shown new_too) }
     ensures as_far { (old new : S) (old_too new_too : T)
         → CallsTellAlikeAsFar (S.shown old) (S.shown new) (T.shown old_too) (T.shown new_too) }
+{}
+
+/// A store and one that stands for a team's part of its world write the same text for each message with a key of the team or of `common` that
+/// both answered. For a key of another team the second writes the 404, or the 503.
+pub fn parts()
+    ensures own { PartWritesTheSame }
+    ensures others { OthersAreWrittenNotFound }
 {}
 
 /// The body of a message has room for a go.mod and a zip of the most bytes each, and for no byte more.

@@ -20,3 +20,4 @@ pub mod Tops
 pub mod Told
 pub mod Newest
 pub mod Latest
+pub mod Parts

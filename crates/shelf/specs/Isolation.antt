@@ -1,6 +1,5 @@
 -- What a shelf can tell of the requests of others: nothing.
-use Rattle.std.specs.Prelude.{ℕ, ◌≡◌, List, [], ◌∷◌, ◌++◌, length, Bool, true, false, Option, Some, None, bytes_eq, ◌↔◌}
-use Rattle.std.specs.List.{list_any}
+use Rattle.std.specs.Prelude.{ℕ, ◌≡◌, List, [], ◌∷◌, ◌++◌, length, Bool, true, false, Option, Some, None, ◌↔◌}
 use Rattle.std.specs.FinMap as map
 use Rattle.world.specs.declared.entry.Holder.{Holder}
 use Rattle.shelf.specs.declared.ask.Ask.{Ask}
@@ -10,17 +9,10 @@ use Rattle.shelf.specs.declared.ask.Event.TheVariants.{Asked}
 use Rattle.shelf.specs.declared.reply.Answer.{Answer}
 use Rattle.shelf.specs.declared.reply.Answer.TheVariants.{Replied, Failed}
 use Rattle.world.specs.World.{World, IsWorld, chain, on_shelf}
+pub use Rattle.world.specs.World.{is_among, sees}
 use Rattle.shelf.specs.Machine.{after, after_all, ask_reply, after_ask, replies, Run, answered, replies_of}
 
 -- ---- whose a request is
-
--- whether a shelf is among these
-abbrev pub is_among : List (List ℕ) → List ℕ → Bool
-is_among ss t = list_any (bytes_eq t) ss
-
--- whether a shelf sees another
-abbrev pub sees : World → List ℕ → List ℕ → Bool
-sees w s t = is_among (chain w s) t
 
 -- the key belongs to the shelf
 abbrev pub belongs : World → List ℕ → List ℕ → Type 0

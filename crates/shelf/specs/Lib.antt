@@ -6,3 +6,4 @@ pub mod Laws
 pub mod PathLaws
 pub mod Isolation
 pub mod Immutability
+pub mod Parts

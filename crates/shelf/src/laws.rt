@@ -3,6 +3,7 @@ ghost use Rattle.shelf.specs.Laws.{WorldStays, RunsKeepWorlds, OnlyChangesChange
 ghost use Rattle.shelf.specs.Immutability.{StaysServed, AcceptedIsServed, RepeatedListChangesNothing};
 ghost use Rattle.shelf.specs.PathLaws.{VersionsAreSeen, PathsAreSeen, PathsAreTold, ListIsTold, ListIsNotFound, LatestIsTheTop, NoneIsLatest, LatestIsTold, LatestIsNotFound};
 ghost use Rattle.shelf.specs.Isolation.{IsIsolated, PurgedRunsAgree, FaultyRunsAgree, MarksAreAsLong, MarksAreAtTheirMoment, OnlyOthersGo, PurgeIsTheSame, IsBlind};
+ghost use Rattle.shelf.specs.Parts.{PartIsLow, IsBlindThroughout, PartTellsTheSame, OthersAreNotFound};
 
 /// Each event leads from a world to a world.
 pub fn soundness()
@@ -32,6 +33,14 @@ pub fn purge()
 /// A key is answered alike in all worlds that its shelf cannot tell apart.
 pub fn blindness()
     ensures { IsBlind }
+{}
+
+/// A key is answered alike by the whole of a world and by what its shelf sees of it, and each other key is not found there.
+pub fn parts()
+    ensures low { PartIsLow }
+    ensures throughout { IsBlindThroughout }
+    ensures told { PartTellsTheSame }
+    ensures others { OthersAreNotFound }
 {}
 
 /// What was once served is served for good.

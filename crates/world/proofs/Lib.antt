@@ -15,3 +15,5 @@ pub mod Retained
 pub mod Seen
 pub mod Sound
 pub mod Counted
+pub mod Sees
+pub mod Parts

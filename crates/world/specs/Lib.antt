@@ -12,3 +12,4 @@ pub mod Visible
 pub mod Store
 pub mod Kept
 pub mod Counts
+pub mod Part

@@ -1,5 +1,6 @@
 -- What stands on the shelves, and what each shelf sees of it.
-use Rattle.std.specs.Prelude.{ℕ, List, [], ◌∷◌, true, ◌&&◌, Option, Some, None, bytes_eq, ◌≡◌, ◌≤◌, ◌⊎◌, length, option_map}
+use Rattle.std.specs.Prelude.{ℕ, List, [], ◌∷◌, Bool, true, ◌&&◌, Option, Some, None, bytes_eq, ◌≡◌, ◌≤◌, ◌⊎◌, length, option_map}
+use Rattle.std.specs.List.{list_any}
 use Rattle.std.specs.Option.{option_or}
 use Rattle.std.specs.Ordering.{nat_cmp, ordering_then}
 use Rattle.std.specs.Cmp.Lexicographic.{slice_cmp}
@@ -41,6 +42,14 @@ pub record World : Type 0 where
 -- the shelves that a shelf sees, the nearest first: its own, and common
 abbrev pub chain : World → List ℕ → List (List ℕ)
 chain w s = s ∷ common ∷ []
+
+-- whether a shelf is among these
+abbrev pub is_among : List (List ℕ) → List ℕ → Bool
+is_among ss t = list_any (bytes_eq t) ss
+
+-- whether a shelf sees another
+abbrev pub sees : World → List ℕ → List ℕ → Bool
+sees w s t = is_among (chain w s) t
 
 -- an entry, with the shelf that it stands on
 abbrev pub seen_at : Option Entry → List ℕ → Option Seen

@@ -1,7 +1,14 @@
 //! What holds of worlds by their definitions alone.
 ghost use Rattle.world.specs.EntryTest.{EntryTestIsExact};
+ghost use Rattle.world.specs.Part.{PartIsWorld, PartHasTheChain};
 
 /// The test of an entry passes exactly those that may stand at their place.
 pub fn entry_tests()
     ensures { EntryTestIsExact }
+{}
+
+/// What a shelf sees of a world is a world, with the shelves that it sees, each of them.
+pub fn parts()
+    ensures world { PartIsWorld }
+    ensures chain { PartHasTheChain }
 {}

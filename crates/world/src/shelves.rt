@@ -6,7 +6,7 @@ use modpath::ModulePath;
 use modver::Version;
 
 /// A store. What a call does is said in each world that the store stands for before it, as far as
-/// no answer of a disk was wrong. A call that fails leaves the world as it was.
+/// no answer of a disk was wrong. After a call that fails the store stands for the same world; a crash may leave the change, whole.
 pub trait Shelves {
     ghost use Rattle.std.specs.Prelude.{ℕ, ◌≡◌};
     ghost use Rattle.std.specs.FinMap as map;

@@ -1,0 +1,148 @@
+-- What a shelf is told of what it sees, as a world of its own.
+use Rattle.std.proofs.Common.{◌≡◌, ℕ, List, [], ◌∷◌, Bool, true, false, cond, refl, ◌∙◌, sym, ap, subst, Option, Some, None}
+use Rattle.std.specs.Prelude.{is_some}
+use Rattle.std.specs.FinMap as map
+use Rattle.std.proofs.lemmas.Bool.{true≢false}
+use Rattle.world.specs.declared.entry.Entry.{Entry}
+use Rattle.world.specs.declared.entry.Holder.{Holder}
+use Rattle.shelf.specs.declared.ask.Publish.{Publish}
+use Rattle.shelf.specs.declared.ask.Ask.{Ask}
+use Rattle.shelf.specs.declared.ask.Ask.TheVariants.{Unreadable, Get, Put}
+use Rattle.shelf.specs.declared.ask.Event.{Event}
+use Rattle.shelf.specs.declared.ask.Event.TheVariants.{Asked, TeamAdd, KeyAdd, KeyRevoke}
+use Rattle.shelf.specs.declared.reply.Decision.{Decision}
+use Rattle.shelf.specs.declared.reply.Decision.TheVariants.{Published}
+use Rattle.shelf.specs.declared.reply.Reply.TheVariants as reply
+use Rattle.shelf.specs.declared.reply.Answer.{Answer}
+use Rattle.shelf.specs.declared.reply.Answer.TheVariants.{Replied, Failed}
+use Rattle.world.specs.World.{World, IsWorld, chain, sees, place}
+use Rattle.world.specs.Part.{part, is_held}
+use Rattle.world.proofs.Parts.{part_is_world, key_at, entry_at, held_key}
+use Rattle.shelf.specs.Machine.{decision, after_decision, stored, offered, place_of, ask_reply, after_ask, reply_to, after, after_all, replies, Run, answered, replies_of, is_readable}
+use Rattle.shelf.specs.Isolation.{key_of, Low}
+use Rattle.shelf.specs.Parts.{PartIsLow, IsOwn, AllOwn, IsBlindThroughout, PartTellsTheSame, IsNotFound, AllAsked, OthersAreNotFound}
+use Rattle.shelf.proofs.Blind.{blind, same_whole}
+use Rattle.shelf.proofs.Sound.{sound}
+
+-- ---- it is the same to the shelf
+
+left : {X : Type 0} (b : Bool) (o : Option X) → b ≡ true → cond b o None ≡ o
+left true o e = refl
+left false o e = absurd (true≢false (sym e))
+
+left_out : {X : Type 0} (b : Bool) (o : Option X) → b ≡ false → cond b o None ≡ None
+left_out true o e = absurd (true≢false e)
+left_out false o e = refl
+
+pub part_is_low : PartIsLow
+part_is_low w s is = record {
+  chains = refl;
+  entries = λ t seen. same_whole w (part w s) t (λ p v. sym (entry_at w s (place t p v) ∙ left (sees w s t) (map.get w.entries (place t p v)) seen));
+  keys = λ k h seen. (
+    (λ at. key_at w s k ∙ left (is_held (chain w s) (map.get w.keys k)) (map.get w.keys k) (ap (is_held (chain w s)) at ∙ seen) ∙ at),
+    (λ at. (held_key w s k h at).0),
+  );
+}
+
+-- ---- requests leave the registry
+
+-- the keys and the shelves are those that were
+record SameRegistry (w x : World) : Type 0 where
+  keys : x.keys ≡ w.keys
+  shelves : x.shelves ≡ w.shelves
+
+kept_stored : (w : World) (h : Holder) (p : Publish) (o : Option Entry) → SameRegistry w (stored w (place_of h.shelf p) o)
+kept_stored w h p None = record { keys = refl; shelves = refl }
+kept_stored w h p (Some e) = record { keys = refl; shelves = refl }
+
+kept_decided : (w : World) (h : Option Holder) (p : Publish) (d : Decision) → SameRegistry w (after_decision w h p d)
+kept_decided w (Some h) p Published = kept_stored w h p (offered p)
+kept_decided w h p d = record { keys = refl; shelves = refl }
+
+kept_asked : (w : World) (a : Ask) → SameRegistry w (after_ask w a)
+kept_asked w Unreadable = record { keys = refl; shelves = refl }
+kept_asked w (Get k q) = record { keys = refl; shelves = refl }
+kept_asked w (Put k p) = kept_decided w (map.get w.keys k) p (decision w (map.get w.keys k) p)
+
+-- a world of the same shelves sees the same
+same_sight : (w x : World) (s t : List ℕ) → x.shelves ≡ w.shelves → sees x s t ≡ sees w s t
+same_sight w x s t e = refl
+
+still_own : (w x : World) (s : List ℕ) (es : List Event) → SameRegistry w x → AllOwn w s es → AllOwn x s es
+still_own w x s [] same own = tt
+still_own w x s (e ∷ es) same own =
+    let it = own.0 in
+    ((it.0, it.1, it.2, ap (λ m. map.get m it.0) same.keys ∙ it.3, same_sight w x s it.1.shelf same.shelves ∙ it.4), still_own w x s es same own.1)
+
+-- ---- one request, and a list
+
+no_key : (k : List ℕ) → None ≡ Some k → ⊥
+no_key k e = true≢false (sym (ap is_some e))
+
+own_blind : (w x : World) (s : List ℕ) (e : Event) → IsWorld w → IsWorld x → Low w x s → IsOwn w s e
+    → (a : Ask) × (e ≡ Asked a) × (ask_reply w a ≡ ask_reply x a) × Low (after_ask w a) (after_ask x a) s
+own_blind w x s (Asked a) is_w is_x low own = let it = blind w x s own.1.shelf own.0 a is_w is_x low own.4 (own.1, own.3, refl) own.2 in (a, refl, it.0, it.1)
+own_blind w x s (TeamAdd t) is_w is_x low own = absurd (no_key own.0 own.2)
+own_blind w x s (KeyAdd t k right) is_w is_x low own = absurd (no_key own.0 own.2)
+own_blind w x s (KeyRevoke k) is_w is_x low own = absurd (no_key own.0 own.2)
+
+pub blind_throughout : IsBlindThroughout
+blind_throughout w x s [] is_w is_x low own = (refl, low)
+blind_throughout w x s (e ∷ es) is_w is_x low own =
+    let one = own_blind w x s e is_w is_x low own.0 in
+    let kept : SameRegistry w (after w e) = subst (λ f. SameRegistry w (after w f)) (sym one.1) (kept_asked w one.0) in
+    let reply : reply_to w e ≡ reply_to x e = ap (reply_to w) one.1 ∙ one.2 ∙ ap (reply_to x) (sym one.1) in
+    let after_low : Low (after w e) (after x e) s = subst (λ f. Low (after w f) (after x f) s) (sym one.1) one.3 in
+    let rest = blind_throughout (after w e) (after x e) s es (sound w e is_w) (sound x e is_x) after_low (still_own w (after w e) s es kept own.1) in
+    (ap (λ r. r ∷ replies (after w e) es) reply ∙ ap (λ rs. reply_to x e ∷ rs) rest.0, rest.1)
+
+-- ---- runs
+
+-- what a run tells are the machine's replies to what it answered
+pub told_by_machine : (w new : World) (es : List Event) (answers : List Answer) → Run w es answers new → replies_of answers ≡ replies w (answered es answers)
+told_by_machine w new [] [] run = refl
+told_by_machine w new [] (a ∷ answers) run = absurd run
+told_by_machine w new (e ∷ es) [] run = absurd run
+told_by_machine w new (e ∷ es) (Replied r ∷ answers) run = ap (λ q. q ∷ replies_of answers) run.0 ∙ ap (λ rs. reply_to w e ∷ rs) (told_by_machine (after w e) new es answers run.1)
+told_by_machine w new (e ∷ es) (Failed fault ∷ answers) run = told_by_machine w new es answers run
+
+-- and it leads where the machine leads
+pub run_leads : (w new : World) (es : List Event) (answers : List Answer) → Run w es answers new → new ≡ after_all w (answered es answers)
+run_leads w new [] [] run = run
+run_leads w new [] (a ∷ answers) run = absurd run
+run_leads w new (e ∷ es) [] run = absurd run
+run_leads w new (e ∷ es) (Replied r ∷ answers) run = run_leads (after w e) new es answers run.1
+run_leads w new (e ∷ es) (Failed fault ∷ answers) run = run_leads w new es answers run
+
+pub part_tells_the_same : PartTellsTheSame
+part_tells_the_same w new other s first second told heard is run again same own =
+    told_by_machine w new first told run
+    ∙ (blind_throughout w (part w s) s (answered first told) is (part_is_world w s is) (part_is_low w s is) own).0
+    ∙ ap (replies (part w s)) same ∙ sym (told_by_machine (part w s) other second heard again)
+
+-- ---- requests of others
+
+unknown_put : (w : World) (p : Publish) → IsNotFound (reply.Decided (decision w None p))
+unknown_put w p = go (is_readable p) refl
+  where
+    go : (b : Bool) → is_readable p ≡ b → IsNotFound (reply.Decided (decision w None p))
+    go true e = rw e tt
+    go false e = rw e tt
+
+unknown_asked : (x : World) (k : List ℕ) (a : Ask) → map.get x.keys k ≡ None → key_of a ≡ Some k → IsNotFound (ask_reply x a)
+unknown_asked x k Unreadable none by = tt
+unknown_asked x k (Get j q) none by = let same : j ≡ k = cc in rw (same, none) tt
+unknown_asked x k (Put j p) none by =
+    let same : j ≡ k = cc in subst (λ o. IsNotFound (reply.Decided (decision x o p))) (sym (ap (map.get x.keys) same ∙ none)) (unknown_put x p)
+
+kept_through : (x : World) (es : List Event) → AllAsked es → (after_all x es).keys ≡ x.keys
+kept_through x [] asked = refl
+kept_through x (Asked a ∷ es) asked = kept_through (after_ask x a) es asked ∙ (kept_asked x a).keys
+kept_through x (TeamAdd t ∷ es) asked = absurd asked
+kept_through x (KeyAdd t k right ∷ es) asked = absurd asked
+kept_through x (KeyRevoke k ∷ es) asked = absurd asked
+
+pub others_are_not_found : OthersAreNotFound
+others_are_not_found w s k before a far by asked =
+    unknown_asked (after_all (part w s) before) k a
+    (ap (λ m. map.get m k) (kept_through (part w s) before asked) ∙ key_at w s k ∙ left_out (is_held (chain w s) (map.get w.keys k)) (map.get w.keys k) far) by

@@ -31,7 +31,7 @@ get_own w t p v = get_on w t (place t p v) ∙ ap (λ b. cond b (map.get w.entri
 same_places : (w x : World) (t : List ℕ) → on_shelf w t ≡ on_shelf x t → SameOn w x t
 same_places w x t same p v = sym (get_own w t p v) ∙ ap (λ m. map.get m (place t p v)) same ∙ get_own x t p v
 
-same_whole : (w x : World) (t : List ℕ) → SameOn w x t → on_shelf w t ≡ on_shelf x t
+pub same_whole : (w x : World) (t : List ℕ) → SameOn w x t → on_shelf w t ≡ on_shelf x t
 same_whole w x t same = map.same_map places_total places_exact _ _ (λ q.
     get_on w t q
     ∙ guarded (bytes_eq q.shelf t) (map.get w.entries q) (map.get x.entries q) (λ e.

@@ -24,7 +24,7 @@ use Rattle.shelf.specs.declared.reply.Decision.TheVariants.{Published, Same, Con
 use Rattle.world.specs.Forms.{fits, suffix_of}
 use Rattle.world.specs.GoMods.{reading_of}
 use Rattle.world.specs.World.{World, IsEntry, common, seen_at, first_on, view, count, version_limit}
-use Rattle.shelf.specs.Machine.{first_failing, is_readable, may_publish, is_too_large, entry_time, entry_of, gomod_of, is_same, offered, request_checks, gomod_checks, shelf_checks, decided, entry_seen, decision, place_of}
+use Rattle.shelf.specs.Machine.{first_failing, is_readable, may_publish, is_too_large, entry_time, entry_of, gomod_of, is_same, offered, request_checks, gomod_checks, shelf_checks, decided, own_refusal, entry_seen, shelf_decision, decision, place_of}
 use Rattle.world.specs.Store.{IsRoomFor}
 use Rattle.world.specs.EntryTest.{is_small, is_time_of}
 use Rattle.world.proofs.EntryTests.{gomod_so, small_so, time_so}
@@ -66,6 +66,27 @@ pub compared : (p : Publish) (right : Option Right) (reading : Option Reading) (
     → decided p right reading seen n ≡ unwrap_or (first_failing (shelf_checks p seen n)) Published
 compared p right reading seen n e f =
     ap (λ o. unwrap_or o Published) (judged p right reading seen n e ∙ ap (λ o. option_or o (first_failing (shelf_checks p seen n))) f)
+
+-- ---- what a publish is refused for by itself
+
+-- a check of the publish comes before those of its go.mod
+pub refused_first : (p : Publish) (right : Right) (d : Decision) → first_failing (request_checks p (Some right)) ≡ Some d → own_refusal p right ≡ Some d
+refused_first p right d e = failing_after (request_checks p (Some right)) (gomod_checks p (gomod_of p)) ∙ ap (λ o. option_or o (first_failing (gomod_checks p (gomod_of p)))) e
+
+pub then_by_gomod : (p : Publish) (right : Right) → first_failing (request_checks p (Some right)) ≡ None → own_refusal p right ≡ first_failing (gomod_checks p (gomod_of p))
+then_by_gomod p right e = failing_after (request_checks p (Some right)) (gomod_checks p (gomod_of p)) ∙ ap (λ o. option_or o (first_failing (gomod_checks p (gomod_of p)))) e
+
+-- what is refused so is refused whatever stands
+pub refused_alone : (w : World) (h : Holder) (p : Publish) (d : Decision) → own_refusal p h.right ≡ Some d → decision w (Some h) p ≡ d
+refused_alone w h p d e =
+    let checks = shelf_checks p (entry_seen w h.shelf p) (count w h.shelf p.path) in
+    ap (λ o. unwrap_or o Published) (failing_after (request_checks p (Some h.right) ++ gomod_checks p (gomod_of p)) checks ∙ ap (λ o. option_or o (first_failing checks)) e)
+
+-- and what is not is judged by what stands
+pub judged_by_shelf : (w : World) (h : Holder) (p : Publish) → own_refusal p h.right ≡ None → decision w (Some h) p ≡ shelf_decision w h.shelf p
+judged_by_shelf w h p e =
+    let checks = shelf_checks p (entry_seen w h.shelf p) (count w h.shelf p.path) in
+    ap (λ o. unwrap_or o Published) (failing_after (request_checks p (Some h.right) ++ gomod_checks p (gomod_of p)) checks ∙ ap (λ o. option_or o (first_failing checks)) e)
 
 -- ---- checks that were passed
 

@@ -3,7 +3,6 @@ use Rattle.std.proofs.Common.{◌≡◌, ℕ, List, sym, ap, subst, ◌∙◌, O
 use Rattle.std.specs.FinSet as set
 use Rattle.gomod.specs.Module.{GoModule}
 use Rattle.modver.specs.SemanticVersion.{SemanticVersion, version_text}
-use Rattle.world.specs.declared.entry.Heading.{Heading}
 use Rattle.world.specs.Lines.{in_order}
 use Rattle.shelf.specs.Machine.{versions_of, module_of, highest_left, latest_by, latest_of}
 use Rattle.shelf.specs.Versions.{AllOf, named, highest}
@@ -23,8 +22,7 @@ module _ (w : World) (s p : List ℕ) (texts : set.FinSet text_cmp) (vs : List S
   pub no_latest : None ≡ highest vs → None ≡ latest_of w s p
   no_latest none = ap (latest_by w s p) (none ∙ ap highest are_versions)
 
-  pub the_latest : (top : SemanticVersion) (shown : Option Heading) (m : Option GoModule) (v : Option SemanticVersion) → Some top ≡ highest vs
-      → shown ≡ heading w s p (version_text top) → m ≡ module_of shown → v ≡ highest_left m vs → v ≡ latest_of w s p
-  the_latest top shown m v is_top is_shown is_read is_latest =
-      is_latest ∙ ap (highest_left m) are_versions ∙ ap (λ o. highest_left o (versions_of w s p)) (is_read ∙ ap module_of is_shown)
-      ∙ ap (latest_by w s p) (is_top ∙ ap highest are_versions)
+  pub the_latest : (top : SemanticVersion) (m : Option GoModule) (v : Option SemanticVersion) → Some top ≡ highest vs
+      → m ≡ module_of (heading w s p (version_text top)) → v ≡ highest_left m vs → v ≡ latest_of w s p
+  the_latest top m v is_top is_read is_latest =
+      is_latest ∙ ap (highest_left m) are_versions ∙ ap (λ o. highest_left o (versions_of w s p)) is_read ∙ ap (latest_by w s p) (is_top ∙ ap highest are_versions)

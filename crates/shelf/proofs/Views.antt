@@ -1,36 +1,14 @@
--- Which shelves a shelf sees, and what two worlds that agree on these show to it.
-use Rattle.std.proofs.Common.{◌≡◌, ℕ, List, [], ◌∷◌, Bool, true, false, cond, refl, ◌∙◌, sym, ap, subst, Option, None, inl, inr, ◌⊎◌}
+-- What two worlds that agree on the shelves that a shelf sees show to it.
+use Rattle.std.proofs.Common.{◌≡◌, ℕ, List, [], ◌∷◌, Bool, true, false, cond, refl, ◌∙◌, sym, ap, subst, Option, None}
 use Rattle.std.specs.Prelude.{bytes_eq, ◌&&◌, ◌||◌}
 use Rattle.std.specs.Option.{option_or}
 use Rattle.std.specs.FinMap as map
-use Rattle.std.proofs.lemmas.Bool.{true≢false, and_parts, or_cases, or_right}
+use Rattle.std.proofs.lemmas.Bool.{and_parts, or_right}
 use Rattle.world.specs.declared.entry.Place.{Place}
-use Rattle.world.specs.World.{World, IsWorld, common, chain, place, seen_at, first_on, view, without_zip, heading, count}
+use Rattle.world.specs.World.{World, chain, place, seen_at, first_on, view, without_zip, heading, count}
 use Rattle.shelf.specs.Isolation.{is_among, sees}
 use Rattle.world.proofs.Orders.{places_total, places_exact, test_alike, text_self, text_same}
-
--- ---- which shelves a shelf sees
-
-pub sees_itself : (w : World) (s : List ℕ) → sees w s s ≡ true
-sees_itself w s = ap (λ b. b || is_among (common ∷ []) s) (text_self s)
-
-pub sees_common : (w : World) (s : List ℕ) → sees w s common ≡ true
-sees_common w s = or_right (bytes_eq common s) _ (ap (λ b. b || false) (text_self common))
-
-pub only_common : (u : List ℕ) → is_among (common ∷ []) u ≡ true → u ≡ common
-only_common u e = elim (or_cases (bytes_eq u common) false e) [ inl c ↦ text_same u common c | inr never ↦ absurd (true≢false (sym never)) ]
-
--- a shelf sees itself and common
-itself_or_common : (w : World) (t u : List ℕ) → sees w t u ≡ true → (u ≡ t) ⊎ (u ≡ common)
-itself_or_common w t u seen = elim (or_cases (bytes_eq u t) _ seen) [ inl here ↦ inl (text_same u t here) | inr rest ↦ inr (only_common u rest) ]
-
--- a shelf that is seen sees nothing else
-pub sees_through : (w : World) → IsWorld w → (s t u : List ℕ) → sees w s t ≡ true → sees w t u ≡ true → sees w s u ≡ true
-sees_through w is s t u st tu =
-    elim (itself_or_common w t u tu) [
-      | inl ut ↦ subst (λ x. sees w s x ≡ true) (sym ut) st
-      | inr uc ↦ subst (λ x. sees w s x ≡ true) (sym uc) (sees_common w s)
-    ]
+pub use Rattle.world.proofs.Sees.{sees_itself, sees_common, only_common, sees_through}
 
 -- ---- what worlds that agree show
 

@@ -1,6 +1,7 @@
 pub mod Code
 pub mod Versions
 pub mod Machine
+pub mod Publishing
 pub mod Runs
 pub mod Laws
 pub mod PathLaws

@@ -164,6 +164,10 @@ shelf_checks p seen n =
     ∷ (nat_le version_limit n, Full)
     ∷ []
 
+-- their outcome
+abbrev pub decided_by_shelf : Publish → Option Entry → ℕ → Decision
+decided_by_shelf p seen n = unwrap_or (first_failing (shelf_checks p seen n)) Published
+
 -- the outcome of the checks in their order
 abbrev pub decided : Publish → Option Right → Option Reading → Option Entry → ℕ → Decision
 decided p right reading seen n = unwrap_or (first_failing (request_checks p right ++ gomod_checks p reading ++ shelf_checks p seen n)) Published
@@ -173,6 +177,14 @@ decided p right reading seen n = unwrap_or (first_failing (request_checks p righ
 -- the entry that a shelf sees at the path and the version of a publish
 abbrev pub entry_seen : World → List ℕ → Publish → Option Entry
 entry_seen w s p = option_map (λ seen. seen.entry) (view w s p.path (version_text p.version))
+
+-- the answer of the first check of a publish by a key with this right, or of its go.mod, that fails
+abbrev pub own_refusal : Publish → Right → Option Decision
+own_refusal p right = first_failing (request_checks p (Some right) ++ gomod_checks p (gomod_of p))
+
+-- the outcome of the checks of a publish against what stands on a shelf
+abbrev pub shelf_decision : World → List ℕ → Publish → Decision
+shelf_decision w s p = decided_by_shelf p (entry_seen w s p) (count w s p.path)
 
 -- the decision on a publish in a world, by what its key holds
 abbrev pub decision : World → Option Holder → Publish → Decision
@@ -191,6 +203,17 @@ stored w q (Some e) = with_entry w q e
 abbrev pub after_decision : World → Option Holder → Publish → Decision → World
 after_decision w (Some h) p Published = stored w (place_of h.shelf p) (offered p)
 after_decision w h p d = w
+
+-- the world after a publish
+abbrev pub after_publish : World → Option Holder → Publish → World
+after_publish w h p = after_decision w h p (decision w h p)
+
+-- the decision on a PUT with a key, and the world after it
+abbrev pub put_decision : World → List ℕ → Publish → Decision
+put_decision w k p = decision w (map.get w.keys k) p
+
+abbrev pub after_put : World → List ℕ → Publish → World
+after_put w k p = after_publish w (map.get w.keys k) p
 
 -- ---- a query
 
@@ -259,12 +282,12 @@ keyed_reply w (Some h) q = query_reply w h.shelf q
 abbrev pub ask_reply : World → Ask → Reply
 ask_reply w Unreadable = reply.NotFound
 ask_reply w (Get k q) = keyed_reply w (map.get w.keys k) q
-ask_reply w (Put k p) = reply.Decided (decision w (map.get w.keys k) p)
+ask_reply w (Put k p) = reply.Decided (put_decision w k p)
 
 abbrev pub after_ask : World → Ask → World
 after_ask w Unreadable = w
 after_ask w (Get k q) = w
-after_ask w (Put k p) = after_decision w (map.get w.keys k) p (decision w (map.get w.keys k) p)
+after_ask w (Put k p) = after_put w k p
 
 -- ---- an event
 

@@ -9,7 +9,8 @@ use text::Text;
 use world::bytes::Bytes;
 use world::entry::{EntryRef, Right};
 
-/// What a GET asks for. (Go Modules Reference, "GOPROXY protocol".)
+/// What the machine is asked for by a GET (Go Modules Reference, "GOPROXY protocol"). It is not `Query` of the crate `wire`, which is
+/// what a target names: that has the go.sum line too, which `engine` makes of the go.mod.
 #[derive(Drop)]
 pub enum Query {
     /// The go.mod of a version.

@@ -1,7 +1,6 @@
 //! The checks of a publish.
-ghost use Rattle.std.specs.Prelude.{◌≡◌, option_copied, unwrap_or, Some, true};
+ghost use Rattle.std.specs.Prelude.{◌≡◌, option_copied, Some, true};
 ghost use Rattle.shelf.specs.Machine as spec;
-ghost use Rattle.shelf.specs.declared.reply.Decision.TheVariants.{Published};
 
 use crate::ask::{GivenTime, Publish};
 use crate::reply::{Decision, Refusal};
@@ -109,9 +108,10 @@ fn well_formed(publish: &Publish)
     let _version = publish.version.as_str();
 }
 
-/// The outcome of the checks against what stands.
-fn decide_by_shelf(publish: &Publish, seen: Option<&Entry>, count: u64) -> Decision
-    ensures { result ≡ unwrap_or (spec.first_failing (spec.shelf_checks publish.now (option_copied seen.entry) count)) Published }
+/// The outcome of the checks against what stands: this entry is visible, and so many versions of the
+/// path stand on the shelf. It takes no memory.
+pub(crate) fn decide_by_shelf(publish: &Publish, seen: Option<&Entry>, count: u64) -> Decision
+    ensures { result ≡ spec.decided_by_shelf publish.now (option_copied seen.entry) count }
 {
     if let Some(entry) = seen {
         return if is_same(entry, publish) {

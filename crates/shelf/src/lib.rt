@@ -44,6 +44,7 @@
 
 pub mod ask;
 pub mod decide;
+mod judge;
 pub mod laws;
 mod queries;
 pub mod reply;

@@ -2,7 +2,9 @@
 ghost use Rattle.std.specs.Prelude.{◌≡◌, ℕ, List, IfOk};
 ghost use Rattle.std.specs.FinMap as map;
 ghost use Rattle.shelf.specs.Machine as spec;
-ghost use Rattle.shelf.specs.Machine.{keyed_reply, latest_of, latest_reply};
+ghost use Rattle.modver.specs.SemanticVersion.{version_text};
+ghost use Rattle.shelf.specs.Machine.{keyed_reply, query_reply, latest_of};
+ghost use Rattle.world.specs.World.{heading};
 ghost use Rattle.world.specs.Store.{Reads, HasCause};
 ghost use Rattle.shelf.specs.Versions.{AllOf};
 
@@ -25,34 +27,95 @@ pub fn answer_query<S: Shelves>(
     key: &str,
     query: &Query,
 ) -> Result<Reply, StoreFault>
-    ensures reads { Reads (S.shown shelves.old) (S.shown shelves.new) result (λ w. keyed_reply w (map.get w.keys key.now) query.now) }
+    ensures reads { Reads (S.shown shelves.old) (S.shown shelves.new) result
+        (λ w. keyed_reply w (map.get w.keys key.now) query.now) }
     ensures cause { HasCause (S.failure_count shelves.old) (S.failure_count shelves.new) result }
 {
     let Some(holder) = shelves.key(key)? else {
         return Ok(Reply::NotFound);
     };
-    let shelf = holder.shelf.as_str();
+    answer_from(alloc, shelves, holder.shelf.as_str(), query)
+}
+
+/// Answers a GET by a key of a shelf.
+fn answer_from<S: Shelves>(
+    alloc: Global,
+    shelves: &mut S,
+    shelf: &str,
+    query: &Query,
+) -> Result<Reply, StoreFault>
+    ensures reads { Reads (S.shown shelves.old) (S.shown shelves.new) result (λ w. query_reply w shelf.now query.now) }
+    ensures cause { HasCause (S.failure_count shelves.old) (S.failure_count shelves.new) result }
+{
     match query {
-        Query::GoMod { path, version } => {
-            let heading = shelves.heading(shelf, path, version)?;
-            Ok(gomod_reply(heading))
-        }
-        Query::Zip { path, version } => {
-            let seen = shelves.entry(shelf, path, version)?;
-            Ok(zip_reply(seen))
-        }
-        Query::Info { path, version } => {
-            let heading = shelves.heading(shelf, path, version)?;
-            Ok(info_reply(version.copy(alloc)?, heading))
-        }
-        Query::List { path } => {
-            let texts = shelves.versions(shelf, path)?;
-            let versions = named(alloc, &texts)?;
-            Ok(list_reply(alloc, versions)?)
-        }
+        Query::GoMod { path, version } => answer_gomod(shelves, shelf, path, version),
+        Query::Zip { path, version } => answer_zip(shelves, shelf, path, version),
+        Query::Info { path, version } => answer_info(shelves, shelf, path, version.copy(alloc)?),
+        Query::List { path } => answer_list(alloc, shelves, shelf, path),
         Query::Latest { path } => answer_latest(alloc, shelves, shelf, path),
         Query::Modules => Ok(Reply::Paths(shelves.paths(shelf)?)),
     }
+}
+
+/// Answers a GET of a go.mod.
+fn answer_gomod<S: Shelves>(
+    shelves: &mut S,
+    shelf: &str,
+    path: &ModulePath,
+    version: &Version,
+) -> Result<Reply, StoreFault>
+    ensures reads { Reads (S.shown shelves.old) (S.shown shelves.new) result
+        (λ w. query_reply w shelf.now (Query.GoMod path.now version.now)) }
+    ensures cause { HasCause (S.failure_count shelves.old) (S.failure_count shelves.new) result }
+{
+    let heading = shelves.heading(shelf, path, version)?;
+    Ok(gomod_reply(heading))
+}
+
+/// Answers a GET of a zip.
+fn answer_zip<S: Shelves>(
+    shelves: &mut S,
+    shelf: &str,
+    path: &ModulePath,
+    version: &Version,
+) -> Result<Reply, StoreFault>
+    ensures reads { Reads (S.shown shelves.old) (S.shown shelves.new) result
+        (λ w. query_reply w shelf.now (Query.Zip path.now version.now)) }
+    ensures cause { HasCause (S.failure_count shelves.old) (S.failure_count shelves.new) result }
+{
+    let seen = shelves.entry(shelf, path, version)?;
+    Ok(zip_reply(seen))
+}
+
+/// Answers a GET of the name and the time of a version.
+fn answer_info<S: Shelves>(
+    shelves: &mut S,
+    shelf: &str,
+    path: &ModulePath,
+    version: Version,
+) -> Result<Reply, StoreFault>
+    ensures reads { Reads (S.shown shelves.old) (S.shown shelves.new) result
+        (λ w. query_reply w shelf.now (Query.Info path.now version)) }
+    ensures cause { HasCause (S.failure_count shelves.old) (S.failure_count shelves.new) result }
+{
+    let heading = shelves.heading(shelf, path, &version)?;
+    Ok(info_reply(version, heading))
+}
+
+/// Answers a GET of the list of a path.
+fn answer_list<S: Shelves>(
+    alloc: Global,
+    shelves: &mut S,
+    shelf: &str,
+    path: &ModulePath,
+) -> Result<Reply, StoreFault>
+    ensures reads { Reads (S.shown shelves.old) (S.shown shelves.new) result
+        (λ w. query_reply w shelf.now (Query.List path.now)) }
+    ensures cause { HasCause (S.failure_count shelves.old) (S.failure_count shelves.new) result }
+{
+    let texts = shelves.versions(shelf, path)?;
+    let versions = named(alloc, &texts)?;
+    Ok(list_reply(alloc, versions)?)
 }
 
 fn info_reply(version: Version, heading: Option<Heading>) -> Reply
@@ -105,14 +168,14 @@ fn answer_latest<S: Shelves>(
     shelf: &str,
     path: &ModulePath,
 ) -> Result<Reply, StoreFault>
-    ensures reads { Reads (S.shown shelves.old) (S.shown shelves.new) result (λ w. latest_reply w shelf.now path.now (latest_of w shelf.now path.now)) }
+    ensures reads { Reads (S.shown shelves.old) (S.shown shelves.new) result
+        (λ w. query_reply w shelf.now (Query.Latest path.now)) }
     ensures cause { HasCause (S.failure_count shelves.old) (S.failure_count shelves.new) result }
 {
     let Some(version) = latest_version(alloc, shelves, shelf, path)? else {
         return Ok(Reply::NotFound);
     };
-    let heading = shelves.heading(shelf, path, &version)?;
-    Ok(info_reply(version, heading))
+    answer_info(shelves, shelf, path, version)
 }
 
 /// The highest version of a path that the go.mod of the highest does not retract.
@@ -130,8 +193,7 @@ fn latest_version<S: Shelves>(
     let Some(newest) = highest(versions.as_slice()) else {
         return Ok(None);
     };
-    let heading = shelves.heading(shelf, path, newest)?;
-    let gomod = gomod_in(alloc, heading)?;
+    let gomod = gomod_at(alloc, shelves, shelf, path, newest)?;
     Ok(latest_left(alloc, versions.as_slice(), gomod)?)
 }
 
@@ -150,6 +212,21 @@ fn latest_left(
         None => Ok(None),
         Some(version) => Ok(Some(version.copy(alloc)?)),
     }
+}
+
+/// What the go.mod of a version says that the shelf sees.
+fn gomod_at<S: Shelves>(
+    alloc: Global,
+    shelves: &mut S,
+    shelf: &str,
+    path: &ModulePath,
+    version: &Version,
+) -> Result<Option<GoMod>, StoreFault>
+    ensures reads { Reads (S.shown shelves.old) (S.shown shelves.new) result
+        (λ w. spec.module_of (heading w shelf.now path.now (version_text version.now))) }
+    ensures cause { HasCause (S.failure_count shelves.old) (S.failure_count shelves.new) result }
+{
+    Ok(gomod_in(alloc, shelves.heading(shelf, path, version)?)?)
 }
 
 /// What the go.mod of a version says.

@@ -26,7 +26,7 @@ returns-clause-reads g c =
     let texts = c.in_ok-texts.texts in
     let vs = c.in_ok-versions.versions.items in
     let read = c.in_ok-texts.ensures.reads in
-    let then = c.in_ok-heading.ensures.reads in
+    let then = c.in_ok-gomod.ensures.reads in
     let top : (path : List ℕ) → AllOf path vs → Some c.in-Some.newest.now ≡ highest vs = rw c.as_slice.ensures.value at c.in-Some.ensures in
     let left = rw c.as_slice-2.ensures.value at c.in_ok-latest_left.ensures in
     record {
@@ -36,7 +36,7 @@ returns-clause-reads g c =
           let shown = then.at h w told.stays in
           let all = all_fit w s p texts vs told.answer c.in_ok-versions.ensures (g.met.S.Shelves.sound _ w stands) in
           record {
-            answer = the_latest w s p texts vs told.answer c.in_ok-versions.ensures c.in-Some.newest.now _ _ _ (top p all) shown.answer c.in_ok-gomod.ensures (left p all);
+            answer = the_latest w s p texts vs told.answer c.in_ok-versions.ensures c.in-Some.newest.now _ _ (top p all) shown.answer (left p all);
             stays = shown.stays;
             left = λ x y was. shown.left x y (told.left x y was);
           };

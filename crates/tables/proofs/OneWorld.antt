@@ -25,7 +25,7 @@ carried IsRow rows P Q one p q x holds =
     let to = q.each from.0 from.1 in
     subst Q (one from.0 x to.0 from.2 to.1) to.2
 
-same_got : {K X : Type 0} {R : K → K → Ordering} (m n : map.FinMap R X) (k : K) → ((x : X) → map.get m k ≡ Some x → map.get n k ≡ Some x) → ((x : X) → map.get n k ≡ Some x → map.get m k ≡ Some x) → map.get m k ≡ map.get n k
+pub same_got : {K X : Type 0} {R : K → K → Ordering} (m n : map.FinMap R X) (k : K) → ((x : X) → map.get m k ≡ Some x → map.get n k ≡ Some x) → ((x : X) → map.get n k ≡ Some x → map.get m k ≡ Some x) → map.get m k ≡ map.get n k
 same_got {K} {X} {R} m n k there back = go (map.get m k) (map.get n k) refl refl
   where
     go : (a b : Option X) → map.get m k ≡ a → map.get n k ≡ b → map.get m k ≡ map.get n k
@@ -33,18 +33,18 @@ same_got {K} {X} {R} m n k there back = go (map.get m k) (map.get n k) refl refl
     go None (Some x) one two = back x two ∙ sym two
     go None None one two = one ∙ sym two
 
-same_test : (a b : Bool) → (a ≡ true → b ≡ true) → (b ≡ true → a ≡ true) → a ≡ b
+pub same_test : (a b : Bool) → (a ≡ true → b ≡ true) → (b ≡ true → a ≡ true) → a ≡ b
 same_test true b there back = sym (there refl)
 same_test false true there back = back refl
 same_test false false there back = refl
 
-texts_same : (v : Value) (s t : List ℕ) → v ≡ Text s → v ≡ Text t → t ≡ s
+pub texts_same : (v : Value) (s t : List ℕ) → v ≡ Text s → v ≡ Text t → t ≡ s
 texts_same v s t one two = let e = sym two ∙ one in cc
 
-blobs_same : (v : Value) (s t : List ℕ) → v ≡ Blob s → v ≡ Blob t → t ≡ s
+pub blobs_same : (v : Value) (s t : List ℕ) → v ≡ Blob s → v ≡ Blob t → t ≡ s
 blobs_same v s t one two = let e = sym two ∙ one in cc
 
-rights_same : (v : Value) (r s : Right) → v ≡ Int (cond (may_publish r) (pos 1) (pos 0)) → v ≡ Int (cond (may_publish s) (pos 1) (pos 0)) → s ≡ r
+pub rights_same : (v : Value) (r s : Right) → v ≡ Int (cond (may_publish r) (pos 1) (pos 0)) → v ≡ Int (cond (may_publish s) (pos 1) (pos 0)) → s ≡ r
 rights_same v Reads Reads one two = refl
 rights_same v Publishes Publishes one two = refl
 rights_same v Reads Publishes one two = let e = sym two ∙ one in absurd (cc)

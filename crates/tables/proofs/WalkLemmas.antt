@@ -16,7 +16,7 @@ use Rattle.tables.proofs.FailureLemmas.{was_clean}
 pub unchanged_schema : (a b : State) → IsUnchanged a b → a.now.schema ≡ store_schema → b.now.schema ≡ store_schema
 unchanged_schema a b same has = ap (λ (d : Database). d.schema) same.0.now_is ∙ has
 
-kept_then : (a b c : State) → IsUnchanged a b → IsUnchanged b c ⊎ IsRolledBack b c → IsUnchanged a c ⊎ IsRolledBack a c
+pub kept_then : (a b c : State) → IsUnchanged a b → IsUnchanged b c ⊎ IsRolledBack b c → IsUnchanged a c ⊎ IsRolledBack a c
 kept_then a b c p (inl q) = inl (unchanged_then a b c p q)
 kept_then a b c p (inr q) = inr (record {
   was_open = λ shown. p.0.was_open;

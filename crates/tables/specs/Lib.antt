@@ -4,5 +4,6 @@ pub mod Inserted
 pub mod Made
 pub mod Causes
 pub mod Fit
+pub mod Calls
 pub mod Walks
 pub mod Laws

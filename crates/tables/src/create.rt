@@ -2,11 +2,12 @@
 
 ghost use Rattle.std.specs.Prelude.{◌≡◌, ◌≤◌, true, false, ◌⊎◌, OnOk, OnErr, IfErr, IsTrue};
 ghost use Rattle.sqlite.specs.Held.{state};
-ghost use Rattle.sqlite.specs.State.{HasCleanDisk, KeepsCommit, Survives};
+ghost use Rattle.sqlite.specs.State.{KeepsCommit, Survives};
 ghost use Rattle.sqlite_trees.specs.View.{doubt};
 ghost use Rattle.tables.specs.Means.{Holds, StandFor};
 ghost use Rattle.tables.specs.Made.{IsMade};
 ghost use Rattle.tables.specs.Schema.{no_schema};
+ghost use Rattle.tables.specs.Calls.{Honestly, HonestlyOver};
 ghost use Rattle.tables.specs.Causes.{IsExcused};
 ghost use Rattle.world.specs.World.{only_common};
 
@@ -16,12 +17,13 @@ use sqlite::{Alter, Connection, Error, ErrorCode, Transaction};
 fn create_tables<S: Alter>(tx: &mut Transaction<'_, S>) -> Result<(), Error>
     ensures same_reference { tx.new.conn.ghost_name ≡ tx.old.conn.ghost_name }
     ensures survives { Survives (state S.Store tx.old.conn.now) (state S.Store tx.new.conn.now) (λ _. ⊥) }
-    ensures kept { HasCleanDisk (state S.Store tx.new.conn.now) → KeepsCommit (state S.Store tx.old.conn.now) (state S.Store tx.new.conn.now) }
-    ensures inside { HasCleanDisk (state S.Store tx.new.conn.now) → OnOk result ((state S.Store tx.new.conn.now).in_transaction ≡ (state S.Store tx.old.conn.now).in_transaction) }
-    ensures made { HasCleanDisk (state S.Store tx.new.conn.now) → IsTrue (state S.Store tx.old.conn.now).in_transaction → (state S.Store tx.old.conn.now).now.schema ≡ no_schema
-        → OnOk result (IsMade (state S.Store tx.old.conn.now) (state S.Store tx.new.conn.now)) }
-    ensures cause { HasCleanDisk (state S.Store tx.new.conn.now) → IsTrue (state S.Store tx.old.conn.now).in_transaction → (state S.Store tx.old.conn.now).now.schema ≡ no_schema
-        → IfErr result (IsExcused (state S.Store tx.old.conn.now) (state S.Store tx.new.conn.now)) }
+    ensures kept { Honestly (state S.Store tx.old.conn.now) (state S.Store tx.new.conn.now) KeepsCommit }
+    ensures inside { Honestly (state S.Store tx.old.conn.now) (state S.Store tx.new.conn.now) (λ old new.
+        OnOk result (new.in_transaction ≡ old.in_transaction)) }
+    ensures made { Honestly (state S.Store tx.old.conn.now) (state S.Store tx.new.conn.now) (λ old new.
+        IsTrue old.in_transaction → old.now.schema ≡ no_schema → OnOk result (IsMade old new)) }
+    ensures cause { Honestly (state S.Store tx.old.conn.now) (state S.Store tx.new.conn.now) (λ old new.
+        IsTrue old.in_transaction → old.now.schema ≡ no_schema → IfErr result (IsExcused old new)) }
 {
     tx.execute_batch(
         "CREATE TABLE meta (name TEXT PRIMARY KEY, value INTEGER NOT NULL) STRICT;CREATE TABLE shelf (name TEXT PRIMARY KEY) STRICT;CREATE TABLE access (token TEXT PRIMARY KEY, shelf TEXT NOT NULL REFERENCES shelf (name), publish INTEGER NOT NULL CHECK (publish IN (0, 1))) STRICT;CREATE TABLE version (id INTEGER PRIMARY KEY, shelf TEXT NOT NULL REFERENCES shelf (name), path TEXT NOT NULL, version TEXT NOT NULL, time TEXT, mod BLOB NOT NULL, UNIQUE (shelf, path, version)) STRICT;CREATE TABLE body (id INTEGER PRIMARY KEY REFERENCES version (id), zip BLOB NOT NULL) STRICT;INSERT INTO meta (name, value) VALUES ('schema', 1);INSERT INTO shelf (name) VALUES ('common')",
@@ -35,10 +37,14 @@ fn create_tables<S: Alter>(tx: &mut Transaction<'_, S>) -> Result<(), Error>
 /// memory was wanted, that the connection is shut or limited in its steps, or that the disk failed.
 pub fn create<S: Alter>(conn: &mut Connection<S>) -> Result<(), Error>
     ensures clean { doubt (state S.Store conn.old).is_clean ≤ doubt (state S.Store conn.new).is_clean }
-    ensures made { HasCleanDisk (state S.Store conn.new) → (state S.Store conn.old).now.schema ≡ no_schema → OnOk result (IsTrue (state S.Store conn.new).is_open × Holds (state S.Store conn.new) only_common) }
-    ensures unmade { HasCleanDisk (state S.Store conn.new) → IsTrue (state S.Store conn.new).is_open → OnErr result ((state S.Store conn.new).now ≡ (state S.Store conn.old).now) }
-    ensures left { HasCleanDisk (state S.Store conn.new) → (state S.Store conn.old).now.schema ≡ no_schema → (db : _) → (state S.Store conn.new).may_leave db → (state S.Store conn.old).may_leave db ⊎ StandFor db only_common }
-    ensures cause { HasCleanDisk (state S.Store conn.new) → (state S.Store conn.old).now.schema ≡ no_schema → (state S.Store conn.old).in_transaction ≡ false → IfErr result (IsExcused (state S.Store conn.old) (state S.Store conn.new)) }
+    ensures made { HonestlyOver no_schema (state S.Store conn.old) (state S.Store conn.new) (λ _ new.
+        OnOk result (IsTrue new.is_open × Holds new only_common)) }
+    ensures unmade { Honestly (state S.Store conn.old) (state S.Store conn.new) (λ old new.
+        IsTrue new.is_open → OnErr result (new.now ≡ old.now)) }
+    ensures left { HonestlyOver no_schema (state S.Store conn.old) (state S.Store conn.new) (λ old new.
+        (db : _) → new.may_leave db → old.may_leave db ⊎ StandFor db only_common) }
+    ensures cause { HonestlyOver no_schema (state S.Store conn.old) (state S.Store conn.new) (λ old new.
+        old.in_transaction ≡ false → IfErr result (IsExcused old new)) }
 {
     if !conn.is_autocommit() {
         return Err(Error::SqliteFailure(ErrorCode::TransactionState));

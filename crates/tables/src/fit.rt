@@ -6,10 +6,10 @@ ghost use Rattle.sqlite.specs.declared.types.Value.TheVariants.{Int, Text as Sto
 ghost use Rattle.sqlite.specs.Order.{Row as Shown, column};
 ghost use Rattle.sqlite.specs.Values.{or_null};
 ghost use Rattle.sqlite.specs.Held.{state};
-ghost use Rattle.sqlite.specs.State.{HasCleanDisk, IsUnchanged};
+ghost use Rattle.sqlite.specs.State.{IsUnchanged};
 ghost use Rattle.sqlite_trees.specs.View.{doubt};
-ghost use Rattle.tables.specs.Schema.{store_schema};
 ghost use Rattle.tables.specs.Means.{IsSettled, StandsForSome, StandsForNone};
+ghost use Rattle.tables.specs.Calls.{Honestly, FailsWithReason};
 ghost use Rattle.tables.specs.Causes.{HasReason};
 ghost use Rattle.tables.specs.Walks.{Tests, MayFollow, run_with};
 ghost use Rattle.world.specs.World.{place, IsEntry};
@@ -28,7 +28,9 @@ use world::names::{COMMON, is_key, is_team_name};
 
 /// The text of a column, if it is one.
 fn text_at(row: &Row, at: usize) -> Result<Option<&str>, Error>
-    ensures found { IfOk result (λ found. MatchOption found ((t : _) → column row.now at ≡ StoredText t → IsUtf8 t → ⊥) (λ t. (column row.now at ≡ StoredText t.now) × IsUtf8 t.now)) }
+    ensures found { IfOk result (λ found. MatchOption found
+        ((t : _) → column row.now at ≡ StoredText t → IsUtf8 t → ⊥)
+        (λ t. (column row.now at ≡ StoredText t.now) × IsUtf8 t.now)) }
     ensures past { IfErr result (λ _. length row.now ≤ at) }
 {
     match row.get_ref(at)? {
@@ -42,7 +44,9 @@ fn text_at(row: &Row, at: usize) -> Result<Option<&str>, Error>
 
 /// The bytes of a column, if it has any.
 fn blob_at(row: &Row, at: usize) -> Result<Option<&[u8]>, Error>
-    ensures found { IfOk result (λ found. MatchOption found ((b : _) → column row.now at ≡ Blob b → ⊥) (λ b. column row.now at ≡ Blob b.now)) }
+    ensures found { IfOk result (λ found. MatchOption found
+        ((b : _) → column row.now at ≡ Blob b → ⊥)
+        (λ b. column row.now at ≡ Blob b.now)) }
     ensures past { IfErr result (λ _. length row.now ≤ at) }
 {
     match row.get_ref(at)? {
@@ -63,7 +67,9 @@ fn time_of(bytes: &[u8]) -> Option<TimeText>
 
 /// The time of a column, or none where it is NULL, if it is one of the two.
 fn time_at(row: &Row, at: usize) -> Result<Option<Option<TimeText>>, Error>
-    ensures found { IfOk result (λ found. MatchOption found ((t : _) → column row.now at ≡ or_null StoredText t → IfSome t IsTime → ⊥) (λ t. column row.now at ≡ or_null StoredText t)) }
+    ensures found { IfOk result (λ found. MatchOption found
+        ((t : _) → column row.now at ≡ or_null StoredText t → IfSome t IsTime → ⊥)
+        (λ t. column row.now at ≡ or_null StoredText t)) }
     ensures past { IfErr result (λ _. length row.now ≤ at) }
 {
     match row.get_ref(at)? {
@@ -78,7 +84,9 @@ fn time_at(row: &Row, at: usize) -> Result<Option<Option<TimeText>>, Error>
 
 /// The number of a column, if it is one.
 fn int_at(row: &Row, at: usize) -> Result<Option<i64>, Error>
-    ensures found { IfOk result (λ found. MatchOption found ((n : _) → column row.now at ≡ Int n → ⊥) (λ n. column row.now at ≡ Int n)) }
+    ensures found { IfOk result (λ found. MatchOption found
+        ((n : _) → column row.now at ≡ Int n → ⊥)
+        (λ n. column row.now at ≡ Int n)) }
     ensures past { IfErr result (λ _. length row.now ≤ at) }
 {
     match row.get_ref(at)? {
@@ -233,7 +241,9 @@ impl RowTest for EntryRows {
 
 /// The place of an entry that a row shows, if the entry may stand there.
 fn entry_place(alloc: Global, row: &Row) -> Result<Option<Place>, Error>
-    ensures found { IfOk result (λ found. MatchOption found (IsEntryRow row.now → ⊥) (λ q. (q ≡ place_in row.now) × IsEntryRow row.now)) }
+    ensures found { IfOk result (λ found. MatchOption found
+        (IsEntryRow row.now → ⊥)
+        (λ q. (q ≡ place_in row.now) × IsEntryRow row.now)) }
     ensures memory { 6 ≤ length row.now → IfErr result (λ e. e ≡ Error.SqliteFailure ErrorCode.OutOfMemory) }
 {
     let Some(shelf) = text_at(row, 0)? else {
@@ -253,7 +263,8 @@ fn entry_place(alloc: Global, row: &Row) -> Result<Option<Place>, Error>
 
 /// Whether the other columns of a row show an entry that may stand at a path and a version.
 fn shows_entry(alloc: Global, row: &Row, path: &str, version: &str) -> Result<bool, Error>
-    ensures verdict { IfOk result (λ may. Decides may ((e : _) × ShowsFiles row.now e × ((s : _) → IsEntry (place s path.now version.now) e))) }
+    ensures verdict { IfOk result (λ may. Decides may
+        ((e : _) × ShowsFiles row.now e × ((s : _) → IsEntry (place s path.now version.now) e))) }
     ensures memory { 6 ≤ length row.now → IfErr result (λ e. e ≡ Error.SqliteFailure ErrorCode.OutOfMemory) }
 {
     let Some(gomod) = blob_at(row, 4)? else {
@@ -270,7 +281,9 @@ fn shows_entry(alloc: Global, row: &Row, path: &str, version: &str) -> Result<bo
 
 /// How many of a path on its shelf have come with this place, if it may follow the last one.
 fn run_up_to(last: &Option<Place>, many: u64, place: &Place) -> Option<u64>
-    ensures { MatchOption result (MayFollow last.now many place.now → ⊥) (λ n. MayFollow last.now many place.now × (n ≡ run_with last.now many place.now)) }
+    ensures { MatchOption result
+        (MayFollow last.now many place.now → ⊥)
+        (λ n. MayFollow last.now many place.now × (n ≡ run_with last.now many place.now)) }
 {
     let Some(last) = last else {
         return Some(1);
@@ -290,8 +303,9 @@ fn run_up_to(last: &Option<Place>, many: u64, place: &Place) -> Option<u64>
 
 /// Whether `meta` names schema 1 and nothing else.
 fn has_schema<S: Alter>(conn: &mut Connection<S>) -> Result<bool, Error>
-    ensures tests { Tests (state S.Store conn.old) (state S.Store conn.new) result (λ db. IsMetaFit (map meta_shown (db 0))) }
-    ensures cause { HasCleanDisk (state S.Store conn.new) → (state S.Store conn.old).now.schema ≡ store_schema → IfErr result (HasReason (state S.Store conn.old) (state S.Store conn.new)) }
+    ensures tests { Tests (state S.Store conn.old) (state S.Store conn.new) result
+        (λ db. IsMetaFit (map meta_shown (db 0))) }
+    ensures cause { FailsWithReason (state S.Store conn.old) (state S.Store conn.new) result }
 {
     let mut rows = MetaRows { has_row: false };
     if !rows_pass(conn, "SELECT name, value FROM meta", &mut rows)? {
@@ -302,8 +316,9 @@ fn has_schema<S: Alter>(conn: &mut Connection<S>) -> Result<bool, Error>
 
 /// Whether each shelf has a good name, and `common` is there.
 fn has_shelves<S: Alter>(conn: &mut Connection<S>) -> Result<bool, Error>
-    ensures tests { Tests (state S.Store conn.old) (state S.Store conn.new) result (λ db. AreShelvesFit (map name_shown (db 2))) }
-    ensures cause { HasCleanDisk (state S.Store conn.new) → (state S.Store conn.old).now.schema ≡ store_schema → IfErr result (HasReason (state S.Store conn.old) (state S.Store conn.new)) }
+    ensures tests { Tests (state S.Store conn.old) (state S.Store conn.new) result
+        (λ db. AreShelvesFit (map name_shown (db 2))) }
+    ensures cause { FailsWithReason (state S.Store conn.old) (state S.Store conn.new) result }
 {
     let mut rows = ShelfRows { has_common: false };
     if !rows_pass(conn, "SELECT name FROM shelf", &mut rows)? {
@@ -314,8 +329,9 @@ fn has_shelves<S: Alter>(conn: &mut Connection<S>) -> Result<bool, Error>
 
 /// Whether each key is well formed, and comes once.
 fn has_keys<S: Alter>(alloc: Global, conn: &mut Connection<S>) -> Result<bool, Error>
-    ensures tests { Tests (state S.Store conn.old) (state S.Store conn.new) result (λ db. AreKeysFit (map name_shown (db 4))) }
-    ensures cause { HasCleanDisk (state S.Store conn.new) → (state S.Store conn.old).now.schema ≡ store_schema → IfErr result (HasReason (state S.Store conn.old) (state S.Store conn.new)) }
+    ensures tests { Tests (state S.Store conn.old) (state S.Store conn.new) result
+        (λ db. AreKeysFit (map name_shown (db 4))) }
+    ensures cause { FailsWithReason (state S.Store conn.old) (state S.Store conn.new) result }
 {
     let mut rows = KeyRows { alloc, last: None };
     rows_pass(conn, "SELECT token FROM access ORDER BY token", &mut rows)
@@ -323,8 +339,9 @@ fn has_keys<S: Alter>(alloc: Global, conn: &mut Connection<S>) -> Result<bool, E
 
 /// Whether each key has a number of its own.
 fn has_numbers<S: Alter>(conn: &mut Connection<S>) -> Result<bool, Error>
-    ensures tests { Tests (state S.Store conn.old) (state S.Store conn.new) result (λ db. AreNumbersFit (map number_shown (db 4))) }
-    ensures cause { HasCleanDisk (state S.Store conn.new) → (state S.Store conn.old).now.schema ≡ store_schema → IfErr result (HasReason (state S.Store conn.old) (state S.Store conn.new)) }
+    ensures tests { Tests (state S.Store conn.old) (state S.Store conn.new) result
+        (λ db. AreNumbersFit (map number_shown (db 4))) }
+    ensures cause { FailsWithReason (state S.Store conn.old) (state S.Store conn.new) result }
 {
     let mut rows = NumberRows { last: None };
     rows_pass(conn, "SELECT rowid FROM access ORDER BY rowid", &mut rows)
@@ -333,8 +350,9 @@ fn has_numbers<S: Alter>(conn: &mut Connection<S>) -> Result<bool, Error>
 /// Whether each version with its body is an entry that may stand at its place, each place comes once,
 /// and no path too often on a shelf.
 fn has_entries<S: Alter>(alloc: Global, conn: &mut Connection<S>) -> Result<bool, Error>
-    ensures tests { Tests (state S.Store conn.old) (state S.Store conn.new) result (λ db. AreEntriesFit (joined (db 6) (db 8))) }
-    ensures cause { HasCleanDisk (state S.Store conn.new) → (state S.Store conn.old).now.schema ≡ store_schema → IfErr result (HasReason (state S.Store conn.old) (state S.Store conn.new)) }
+    ensures tests { Tests (state S.Store conn.old) (state S.Store conn.new) result
+        (λ db. AreEntriesFit (joined (db 6) (db 8))) }
+    ensures cause { FailsWithReason (state S.Store conn.old) (state S.Store conn.new) result }
 {
     let mut rows = EntryRows {
         alloc,
@@ -351,7 +369,7 @@ fn has_entries<S: Alter>(alloc: Global, conn: &mut Connection<S>) -> Result<bool
 /// Whether the rows of all tables are such as stand for a world.
 fn is_fit<S: Alter>(alloc: Global, conn: &mut Connection<S>) -> Result<bool, Error>
     ensures tests { Tests (state S.Store conn.old) (state S.Store conn.new) result AreFit }
-    ensures cause { HasCleanDisk (state S.Store conn.new) → (state S.Store conn.old).now.schema ≡ store_schema → IfErr result (HasReason (state S.Store conn.old) (state S.Store conn.new)) }
+    ensures cause { FailsWithReason (state S.Store conn.old) (state S.Store conn.new) result }
 {
     if !has_schema(conn)? {
         return Ok(false);
@@ -374,11 +392,16 @@ fn is_fit<S: Alter>(alloc: Global, conn: &mut Connection<S>) -> Result<bool, Err
 /// the disk failed, or that a table has 2^64 rows, one for each rowid.
 pub fn stand_for_world<S: Alter>(alloc: Global, conn: &mut Connection<S>) -> Result<bool, Error>
     ensures clean { doubt (state S.Store conn.old).is_clean ≤ doubt (state S.Store conn.new).is_clean }
-    ensures found { HasCleanDisk (state S.Store conn.new) → IfOk result (λ b. IsTrue b → IsUnchanged (state S.Store conn.old) (state S.Store conn.new) × StandsForSome (state S.Store conn.old).now) }
-    ensures none { HasCleanDisk (state S.Store conn.new) → IfOk result (λ b. b ≡ false → StandsForNone (state S.Store conn.old).now) }
-    ensures kept { HasCleanDisk (state S.Store conn.new) → IsSettled (state S.Store conn.old) → IsTrue (state S.Store conn.new).is_open → (state S.Store conn.new).now ≡ (state S.Store conn.old).now }
-    ensures left { HasCleanDisk (state S.Store conn.new) → (db : _) → (state S.Store conn.new).may_leave db → (state S.Store conn.old).may_leave db }
-    ensures cause { HasCleanDisk (state S.Store conn.new) → IfErr result (HasReason (state S.Store conn.old) (state S.Store conn.new)) }
+    ensures found { Honestly (state S.Store conn.old) (state S.Store conn.new) (λ old new.
+        IfOk result (λ b. IsTrue b → IsUnchanged old new × StandsForSome old.now)) }
+    ensures none { Honestly (state S.Store conn.old) (state S.Store conn.new) (λ old _.
+        IfOk result (λ b. b ≡ false → StandsForNone old.now)) }
+    ensures kept { Honestly (state S.Store conn.old) (state S.Store conn.new) (λ old new.
+        IsSettled old → IsTrue new.is_open → new.now ≡ old.now) }
+    ensures left { Honestly (state S.Store conn.old) (state S.Store conn.new) (λ old new.
+        (db : _) → new.may_leave db → old.may_leave db) }
+    ensures cause { Honestly (state S.Store conn.old) (state S.Store conn.new) (λ old new.
+        IfErr result (HasReason old new)) }
 {
     if !is_store_schema(conn.schema()) {
         return Ok(false);

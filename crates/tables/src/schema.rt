@@ -1,6 +1,6 @@
 //! Whether the tables are those of the schema.
 
-ghost use Rattle.std.specs.Prelude.{◌≡◌, ℕ, suc, false, Some, Decides, ◌∷◌, [], codes, bytes_eq};
+ghost use Rattle.std.specs.Prelude.{◌≡◌, ℕ, suc, Some, Decides, ◌∷◌, [], bytes_eq};
 ghost use Rattle.sqlite_value.specs.Keys.{plain};
 ghost use Rattle.sqlite_schema.specs.Code.{term_to, terms_in};
 ghost use Rattle.sqlite_sql.specs.Term.{op2, lit, col};
@@ -8,7 +8,7 @@ ghost use Rattle.sqlite_sql.specs.declared.ops.BinaryOp.TheVariants.{Compare};
 ghost use Rattle.sqlite_sql.specs.declared.ops.CompareOp.TheVariants.{Eq};
 ghost use Rattle.sqlite_value.specs.declared.keys.Collation.TheVariants.{Binary};
 ghost use Rattle.sqlite_value.specs.declared.value.Value.TheVariants.{Int};
-ghost use Rattle.tables.specs.Schema.{store_schema, no_schema, is_flag, meta_table, shelf_table, access_table, version_table, body_table, column_of, refers, unique_index};
+ghost use Rattle.tables.specs.Schema.{store_schema, no_schema, is_flag, meta_table, shelf_table, access_table, version_table, body_table, no_stamps, IsBare, column_of, refers, unique_index, meta_index, shelf_index, access_index};
 
 use sqlite_items::Items;
 use sqlite_schema::code::{Op, Terms};
@@ -51,7 +51,7 @@ fn has_no_terms(terms: &Terms) -> bool
 
 /// No default reads the time.
 fn has_no_stamps(stamps: &Stamps) -> bool
-    ensures { Decides result (stamps.now ≡ record { places = []; terms = []; formats = [] }) }
+    ensures { Decides result (stamps.now ≡ no_stamps) }
 {
     stamps.places.is_empty() && has_no_terms(&stamps.terms) && stamps.formats.is_empty()
 }
@@ -88,7 +88,7 @@ fn is_shelf_table(table: &Table) -> bool
 
 /// The same parts of each table: it is no table that counts, computes or stamps.
 fn is_bare(table: &Table, name: &str, tree: u32) -> bool
-    ensures { Decides result ((table.now.name ≡ name.now) × (table.now.tree ≡ tree) × (table.now.computed ≡ []) × (table.now.stamps ≡ record { places = []; terms = []; formats = [] }) × (table.now.is_counted ≡ false)) }
+    ensures { Decides result (IsBare table.now name.now tree) }
 {
     is_named(&table.name, name)
         && table.tree == tree
@@ -256,7 +256,7 @@ fn is_access_table(table: &Table) -> bool
 }
 
 fn are_name_indexes(meta: &Index, shelf: &Index, access: &Index) -> bool
-    ensures { Decides result ((meta.now ≡ unique_index (codes "sqlite_autoindex_meta_1") 1 0 (1 ∷ [])) × (shelf.now ≡ unique_index (codes "sqlite_autoindex_shelf_1") 3 2 (1 ∷ [])) × (access.now ≡ unique_index (codes "sqlite_autoindex_access_1") 5 4 (1 ∷ []))) }
+    ensures { Decides result ((meta.now ≡ meta_index) × (shelf.now ≡ shelf_index) × (access.now ≡ access_index)) }
 {
     is_index(meta, "sqlite_autoindex_meta_1", 1, 0, &[1])
         && is_index(shelf, "sqlite_autoindex_shelf_1", 3, 2, &[1])

@@ -3,10 +3,11 @@
 ghost use Rattle.std.specs.Prelude.{◌≡◌, ◌⊎◌, length, false, ℕ, IfOk, IfErr, OnOk, MatchBool};
 ghost use Rattle.sqlite.specs.Held.{state};
 ghost use Rattle.sqlite.specs.Order.{Row as Shown};
-ghost use Rattle.sqlite.specs.State.{HasCleanDisk, IsUnchanged};
+ghost use Rattle.sqlite.specs.State.{IsUnchanged};
 ghost use Rattle.sqlite.specs.Given.{IsPlain};
 ghost use Rattle.sqlite.specs.Listing.{understood, reads_listing};
 ghost use Rattle.tables.specs.Schema.{store_schema};
+ghost use Rattle.tables.specs.Calls.{HonestlyOver};
 ghost use Rattle.tables.specs.Causes.{IsExcused};
 ghost use Rattle.tables.specs.Walks.{Looks, Walks, IsWalkable, ShowsTooMany};
 
@@ -24,7 +25,9 @@ pub(crate) trait RowTest {
     ghost Keeps: { Self → Shown → Self → Type 0 };
 
     fn passes(&mut self, row: &Row) -> Result<bool, Error>
-        ensures verdict { IfOk result (λ passes. MatchBool passes (Fits self.old row.now × Keeps self.old row.now self.new) (Fits self.old row.now → ⊥)) }
+        ensures verdict { IfOk result (λ passes. MatchBool passes
+            (Fits self.old row.now × Keeps self.old row.now self.new)
+            (Fits self.old row.now → ⊥)) }
         ensures memory { length row.now ≡ width → IfErr result (λ e. e ≡ Error.SqliteFailure ErrorCode.OutOfMemory) };
 }
 
@@ -38,9 +41,12 @@ pub(crate) fn rows_pass<S: Alter, T: RowTest>(
     requires tables { reads_listing store_schema sql.now ≡ false }
     requires walkable { IsWalkable sql.now T.width }
     ensures looks { Looks (state S.Store conn.old) (state S.Store conn.new) }
-    ensures same { HasCleanDisk (state S.Store conn.new) → (state S.Store conn.old).now.schema ≡ store_schema → OnOk result (IsUnchanged (state S.Store conn.old) (state S.Store conn.new)) }
-    ensures answer { HasCleanDisk (state S.Store conn.new) → (state S.Store conn.old).now.schema ≡ store_schema → IfOk result (Walks T.Fits T.Keeps sql.now (state S.Store conn.old).now test.old test.new) }
-    ensures cause { HasCleanDisk (state S.Store conn.new) → (state S.Store conn.old).now.schema ≡ store_schema → IfErr result (λ e. IsExcused (state S.Store conn.old) (state S.Store conn.new) e ⊎ ShowsTooMany sql.now (state S.Store conn.old).now) }
+    ensures same { HonestlyOver store_schema (state S.Store conn.old) (state S.Store conn.new) (λ old new.
+        OnOk result (IsUnchanged old new)) }
+    ensures answer { HonestlyOver store_schema (state S.Store conn.old) (state S.Store conn.new) (λ old _.
+        IfOk result (Walks T.Fits T.Keeps sql.now old.now test.old test.new)) }
+    ensures cause { HonestlyOver store_schema (state S.Store conn.old) (state S.Store conn.new) (λ old new.
+        IfErr result (λ e. IsExcused old new e ⊎ ShowsTooMany sql.now old.now)) }
 {
     let mut rows = conn.query(sql, &[])?;
     'rows: for _turn in 0..u128::MAX {

@@ -6,6 +6,7 @@ use Rattle.sqlite.specs.Order.{Row, column}
 use Rattle.sqlite.specs.Term.{Term, lit, col}
 use Rattle.sqlite.specs.Effect.{Database}
 use Rattle.sqlite.specs.Edit.{next_rowid}
+use Rattle.sqlite.specs.Tree.{Trees}
 use Rattle.sqlite.specs.Listing.{understood}
 use Rattle.sqlite.specs.Command.TheVariants.{Insert}
 use Rattle.sqlite.specs.Source.TheVariants.{Values}
@@ -23,7 +24,7 @@ use Rattle.world.specs.declared.registry.Registered.TheVariants.{Done, Name, Tak
 use Rattle.world.specs.World.{World, with_key, is_key}
 use Rattle.world.specs.Registry.{key_added, after_key_add}
 use Rattle.world.proofs.Orders.{texts_total, texts_exact, get_put}
-use Rattle.tables.specs.Means.{may_publish, Holds, IsAccess, Tabulates}
+use Rattle.tables.specs.Means.{may_publish, Holds, Means, IsAccess, Tabulates}
 use Rattle.store.proofs.Texts.{add_key_text}
 use Rattle.store.specs.Views.{with_key_added}
 use Rattle.tables.proofs.InsertLemmas.{Inserted, inserted, cast_null, cast_int}
@@ -51,7 +52,7 @@ module _ (limit : Option ℕ) (token : List ℕ) (g : Holder) where
   source : Row
   source = Null ∷ key_params token g
 
-  added : (db : Database) (text : List ℕ) (tally : Tally) (after : Database) → db.schema ≡ store_schema → Does limit Rattle.tables.proofs.InsertLemmas.enforced (key_params token g) db text None (Insert 2 (Values terms 4)) (Ok (tally, after))
+  pub added : (db : Database) (text : List ℕ) (tally : Tally) (after : Database) → db.schema ≡ store_schema → Does limit Rattle.tables.proofs.InsertLemmas.enforced (key_params token g) db text None (Insert 2 (Values terms 4)) (Ok (tally, after))
       → (after.schema ≡ store_schema) × Inserted db.trees after.trees access_table (Int (next_rowid (db.trees 4)) ∷ key_params token g)
   added db text tally after has h =
       let it = inserted limit access_table refl (key_params token g) terms 4 (Null ∷ key_params token g) refl (λ _. refl) 2 refl db text tally after has h in
@@ -65,22 +66,21 @@ module _ (w : World) (token : List ℕ) (g : Holder) (unused : map.get w.keys to
       let same : it.0.0 ≡ token = let e = sym it.1.0 ∙ (also ∙ sym is) in cc in
       let none : ◌≡◌ {A = Option Holder} (Some it.0.1) None = sym it.2 ∙ (ap (map.get w.keys) same ∙ unused) in absurd (cc)
 
+  -- with one more row, of a key that was not there
+  pub key_means : (db after : Trees) → Inserted db after access_table (Int (next_rowid (db 4)) ∷ key_params token g) → Means db w → Means after (with_key w token g)
+  key_means db after it means = record {
+    named = rw (it.tables.0 (λ e. omega (arith, e))) means.named;
+    shelves = rw (it.tables.1.0 (λ e. omega (arith, e))) means.shelves;
+    access = rw it.rows (tabulates_put IsAccess (db 4) _ (token, g) _ _ it.fresh (refl, refl, refl) (λ y. put_keeps texts_total texts_exact w.keys token g unused y.0 y.1) (get_put texts_total w.keys token g) (put_splits texts_total texts_exact w.keys token g) means.access);
+    numbered = rw it.rows (numbered_put (db 4) (next_rowid (db 4)) _ refl it.fresh means.numbered);
+    entries = rw (it.tables.1.1.1.0 (λ e. omega (arith, e)), it.tables.1.1.1.1.0 (λ e. omega (arith, e))) means.entries;
+    tokens = rw it.rows (put_apart (λ a b. (t : List ℕ) → column a 1 ≡ Text t → column b 1 ≡ Text t → ⊥) (λ a b apart t also is. apart t is also) _ (db 4) (all_from _ (db 4) (token_free (db 4) means.access (Int (next_rowid (db 4))))) means.tokens);
+    bodies = rw (it.tables.1.1.1.1.0 (λ e. omega (arith, e))) means.bodies;
+    places = rw (it.tables.1.1.1.0 (λ e. omega (arith, e))) means.places;
+  }
+
   pub add_key_turns : (old : State) → Holds old w → Rewrites add_key_text (key_params token g) (Insert 2 (Values terms 4)) add_key_is add_key_plain (inserting 2 (Values terms 4)) old old w (with_key w token g)
-  add_key_turns old h tally after does =
-      let it = added old.step_limit token g old.now [] tally after h.schema does in
-      let means = h.trees.means in (
-        it.0,
-        record {
-          named = rw (it.1.tables.0 (λ e. omega (arith, e))) means.named;
-          shelves = rw (it.1.tables.1.0 (λ e. omega (arith, e))) means.shelves;
-          access = rw it.1.rows (tabulates_put IsAccess (old.now.trees 4) _ (token, g) _ _ it.1.fresh (refl, refl, refl) (λ y. put_keeps texts_total texts_exact w.keys token g unused y.0 y.1) (get_put texts_total w.keys token g) (put_splits texts_total texts_exact w.keys token g) means.access);
-          numbered = rw it.1.rows (numbered_put (old.now.trees 4) (next_rowid (old.now.trees 4)) _ refl it.1.fresh means.numbered);
-          entries = rw (it.1.tables.1.1.1.0 (λ e. omega (arith, e)), it.1.tables.1.1.1.1.0 (λ e. omega (arith, e))) means.entries;
-          tokens = rw it.1.rows (put_apart (λ a b. (t : List ℕ) → column a 1 ≡ Text t → column b 1 ≡ Text t → ⊥) (λ a b apart t also is. apart t is also) _ (old.now.trees 4) (all_from _ (old.now.trees 4) (token_free (old.now.trees 4) means.access (Int (next_rowid (old.now.trees 4))))) means.tokens);
-          bodies = rw (it.1.tables.1.1.1.1.0 (λ e. omega (arith, e))) means.bodies;
-          places = rw (it.1.tables.1.1.1.0 (λ e. omega (arith, e))) means.places;
-        },
-      )
+  add_key_turns old h tally after does = let it = added old.step_limit token g old.now [] tally after h.schema does in (it.0, key_means old.now.trees after.trees it.1 h.trees.means)
 
 is_done : Registered → Bool
 is_done Done = true

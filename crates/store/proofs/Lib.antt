@@ -16,3 +16,12 @@ pub mod VisibleLemmas
 pub mod RevokeLemmas
 pub mod StoreLemmas
 pub mod OpenLemmas
+pub mod DifferLemmas
+pub mod PairLemmas
+pub mod ExtractLemmas
+pub mod CopyKeyLemmas
+pub mod CopyEntryLemmas
+pub mod TransactionEnds
+pub mod FilledLemmas
+pub mod BlankLemmas
+pub mod ExtractedLemmas

@@ -1,7 +1,8 @@
 -- Tables that are opened.
-use Rattle.std.proofs.Common.{◌≡◌, ◌⊎◌, true, false, refl, sym, ap, subst, ◌∙◌, inl, inr, IsTrue, true≢false, arith}
+use Rattle.std.proofs.Common.{◌≡◌, ◌⊎◌, refl, sym, ap, subst, ◌∙◌, inl, inr, IsTrue, true≢false, arith}
 use Rattle.std.specs.Prelude.{IsSome, List, [], ◌∷◌}
 use Rattle.std.specs.List.{AllZip}
+use Rattle.std.specs.FinMap as map
 use Rattle.sqlite.specs.Order.{Row}
 use Rattle.sqlite_wal.specs.Recovery.{Image}
 use Rattle.sqlite.specs.Start.{FindsIn}
@@ -13,9 +14,11 @@ use Rattle.sqlite.specs.Schema.{Schema}
 use Rattle.world.specs.World.{World, IsWorld, only_common}
 use Rattle.tables.specs.Schema.{store_schema, no_schema}
 use Rattle.tables.specs.Means.{StandFor, Holds, IsSettled, StandsForSome}
-use Rattle.store.specs.Calls.{shown_of, BeginsAt}
+use Rattle.store.specs.Calls.{shown_of, shown_with, BeginsAt}
+use Rattle.world.specs.Counts.{Tally}
+use Rattle.world.proofs.Counted.{empty_counts}
 use Rattle.tables.specs.Causes.{IsHindered, IsExcused, IsVast, HasReason}
-use Rattle.store.specs.Opened.{Opens}
+use Rattle.store.specs.Opened.{Opens, IsOfOpening}
 use Rattle.store.specs.Restart.{HoldsWorld}
 use Rattle.tables.proofs.OneWorld.{stand_for_one}
 use Rattle.store.specs.declared.refusal.Refusal.{Refusal}
@@ -78,6 +81,10 @@ begins_found old new image live opened settled finds it w held =
       | inr found ↦ subst (BeginsAt (shown_of new)) (stand_for_one old.now.trees it.world w found.means stand.means) it.begins
     ]
 
+-- no count is kept where it begins
+pub begins_counted : (s : State) (counts : Tally) (w : World) → counts ≡ map.empty → BeginsAt (shown_of s) w → BeginsAt (shown_with s counts) w
+begins_counted s counts w none it = record { honest = it.honest; stands = (it.stands, empty_counts w counts none); left = it.left }
+
 -- ---- why one is refused
 
 -- what is told as a failed device is no want of memory
@@ -89,10 +96,12 @@ pub told_reason : (old new : State) (e : Error) (r : Refusal) → (e ≡ SqliteF
 told_reason old new e r memory (inl excused) device = inl (told_device old new e r memory excused device)
 told_reason old new e r memory (inr vast) device = inr vast
 
-pub only_memory : (r : Refusal) → (r ≡ refusal.BadSchema → ⊥) → (r ≡ refusal.Device → ⊥) → r ≡ refusal.Memory
-only_memory refusal.Device bad device = absurd (device refl)
-only_memory refusal.Memory bad device = refl
-only_memory refusal.BadSchema bad device = absurd (bad refl)
+pub only_memory : (r : Refusal) → IsOfOpening r → (r ≡ refusal.BadSchema → ⊥) → (r ≡ refusal.Device → ⊥) → r ≡ refusal.Memory
+only_memory refusal.Device opening bad device = absurd (device refl)
+only_memory refusal.Memory opening bad device = refl
+only_memory refusal.BadSchema opening bad device = absurd (bad refl)
+only_memory refusal.NotEmpty opening bad device = absurd opening
+only_memory refusal.NoTeam opening bad device = absurd opening
 
 -- nothing hinders a call on a new connection in memory, and no table of it is vast
 pub memory_unhindered : (old new : Held MemStore) → IsEmpty (state over_memory old) → IsNew old → IsTrue old.in_transaction ⊎ (IsHindered (state over_memory old) (state over_memory new) ⊎ IsVast (state over_memory old).now) → ⊥

@@ -36,3 +36,18 @@ paths_text = codes "SELECT path FROM version WHERE shelf = ?1"
 
 abbrev pub revoke_key_text : List ℕ
 revoke_key_text = codes "DELETE FROM access WHERE token = ?1"
+
+abbrev pub keys_on_text : List ℕ
+keys_on_text = codes "SELECT token, shelf, publish FROM access WHERE shelf = ?1"
+
+abbrev pub entries_on_text : List ℕ
+entries_on_text = codes "SELECT v.shelf, v.path, v.version, v.time, v.mod, b.zip FROM version AS v JOIN body AS b ON b.id = v.id WHERE v.shelf = ?1"
+
+abbrev pub other_shelf_text : List ℕ
+other_shelf_text = codes "SELECT name FROM shelf WHERE name <> ?1"
+
+abbrev pub tokens_text : List ℕ
+tokens_text = codes "SELECT token FROM access"
+
+abbrev pub all_paths_text : List ℕ
+all_paths_text = codes "SELECT path FROM version"

@@ -9,14 +9,12 @@ use Rattle.sqlite.specs.State.{State, HasCleanDisk}
 use Rattle.sqlite.proofs.Callers.{command_of}
 use Rattle.world.specs.World.{World}
 use Rattle.tables.specs.Schema.{store_schema}
+use Rattle.tables.specs.Calls.{Honestly}
 use Rattle.world.specs.Store.{Shown}
+use Rattle.world.specs.Counts.{Tally, AreCounts}
 use Rattle.tables.specs.Means.{Stands, StandsFor, StandFor}
 
--- so it is of a connection before and after, as far as no answer of the disk was wrong
-abbrev pub Honestly : State → State → (State → State → Type 0) → Type 0
-Honestly old new P = HasCleanDisk new → P old new
-
--- so it is, besides, in each world that its tables stood for
+-- so it is in each world that its tables stood for, as far as no answer of the disk was wrong
 abbrev pub InEachWorld : State → State → (State → State → World → Type 0) → Type 0
 InEachWorld old new P = Honestly old new (λ old new. (w : World) → Stands old w → P old new w)
 
@@ -56,6 +54,10 @@ LeavesEither s w x = LeavesOnly s (λ y. (y ≡ w) ⊎ (y ≡ x))
 -- what is known of a store from what its connection shows
 abbrev pub shown_of : State → Shown
 shown_of s = record { stands = StandsFor s; is_honest = HasCleanDisk s; leaves = LeavesEither s }
+
+-- The same, and the counts that it keeps are those of each world that it stands for.
+abbrev pub shown_with : State → Tally → Shown
+shown_with s counts = record { stands = λ w. StandsFor s w × AreCounts w counts; is_honest = HasCleanDisk s; leaves = LeavesEither s }
 
 -- each disk below was as told so far, the store stands for the world, and a crash leaves that world alone
 pub record BeginsAt (s : Shown) (w : World) : Type 0 where

@@ -6,3 +6,6 @@ pub mod Added
 pub mod Lists
 pub mod Opened
 pub mod Restart
+pub mod Pairs
+pub mod Extract
+pub mod Extracted

@@ -7,6 +7,8 @@ use Rattle.world.specs.World.{World, only_common}
 use Rattle.tables.specs.Schema.{store_schema, no_schema}
 use Rattle.tables.specs.Means.{Means, StandFor, StandsForNone}
 use Rattle.store.specs.Calls.{shown_of, BeginsAt}
+use Rattle.store.specs.declared.refusal.Refusal.{Refusal}
+use Rattle.store.specs.declared.refusal.Refusal.TheVariants as refusal
 
 -- the tables are those of the schema, they stay as they are, and stand for the world
 pub record IsFound (old new : State) (w : World) : Type 0 where
@@ -29,3 +31,10 @@ pub record IsBad (db : Database) : Type 0 where
 -- what a crash leaves is left as before, or it is the first tables where there were none
 abbrev pub LeavesFirst : State → State → Type 0
 LeavesFirst old new = (db : Trees) → new.may_leave db → old.may_leave db ⊎ ((old.now.schema ≡ no_schema) × StandFor db only_common)
+
+-- why a store is not opened
+abbrev pub IsOfOpening : Refusal → Type 0
+IsOfOpening refusal.Device = Unit {0}
+IsOfOpening refusal.Memory = Unit {0}
+IsOfOpening refusal.BadSchema = Unit {0}
+IsOfOpening other = ⊥

@@ -6,8 +6,8 @@ ghost use Rattle.sqlite_trees.specs.View.{doubt};
 ghost use Rattle.tables.specs.Schema.{no_schema};
 ghost use Rattle.tables.specs.Means.{IsSettled};
 ghost use Rattle.tables.specs.Causes.{IsHindered, IsVast};
-ghost use Rattle.store.specs.Calls.{Honestly};
-ghost use Rattle.store.specs.Opened.{Opens, IsBad, LeavesFirst};
+ghost use Rattle.tables.specs.Calls.{Honestly};
+ghost use Rattle.store.specs.Opened.{Opens, IsBad, LeavesFirst, IsOfOpening};
 
 use crate::refusal::{Refusal, open_refusal};
 use sqlite::{Alter, Connection};
@@ -19,6 +19,7 @@ use tables::schema::is_no_schema;
 /// Tests the tables that are there.
 fn find_tables<S: Alter>(alloc: Global, conn: &mut Connection<S>) -> Result<(), Refusal>
     ensures clean { doubt (state S.Store conn.old).is_clean ≤ doubt (state S.Store conn.new).is_clean }
+    ensures refused { IfErr result IsOfOpening }
     ensures opens { Honestly (state S.Store conn.old) (state S.Store conn.new) (λ old new.
         IsSettled old → OnOk result (Opens old new)) }
     ensures kept { Honestly (state S.Store conn.old) (state S.Store conn.new) (λ old new.
@@ -40,6 +41,7 @@ fn find_tables<S: Alter>(alloc: Global, conn: &mut Connection<S>) -> Result<(), 
 /// Makes the tables where there are none.
 fn make_tables<S: Alter>(conn: &mut Connection<S>) -> Result<(), Refusal>
     ensures clean { doubt (state S.Store conn.old).is_clean ≤ doubt (state S.Store conn.new).is_clean }
+    ensures refused { IfErr result IsOfOpening }
     ensures opens { Honestly (state S.Store conn.old) (state S.Store conn.new) (λ old new.
         old.now.schema ≡ no_schema → OnOk result (Opens old new)) }
     ensures kept { Honestly (state S.Store conn.old) (state S.Store conn.new) (λ old new.
@@ -61,6 +63,7 @@ fn make_tables<S: Alter>(conn: &mut Connection<S>) -> Result<(), Refusal>
 /// `Device`.
 pub(crate) fn open_tables<S: Alter>(alloc: Global, conn: &mut Connection<S>) -> Result<(), Refusal>
     ensures clean { doubt (state S.Store conn.old).is_clean ≤ doubt (state S.Store conn.new).is_clean }
+    ensures refused { IfErr result IsOfOpening }
     ensures opens { Honestly (state S.Store conn.old) (state S.Store conn.new) (λ old new.
         OnOk result (Opens old new)) }
     ensures kept { Honestly (state S.Store conn.old) (state S.Store conn.new) (λ old new.

@@ -11,7 +11,8 @@ ghost use Rattle.sqlite_trees.specs.View.{doubt};
 ghost use Rattle.world.specs.World.{place, seen_at, view, heading_of, heading, count, with_entry};
 ghost use Rattle.tables.specs.Schema.{store_schema};
 ghost use Rattle.tables.specs.Means.{StandsFor};
-ghost use Rattle.store.specs.Calls.{Honestly, InEachWorld, IsOpenIfHonest, Spares, ChangesAt};
+ghost use Rattle.store.specs.Calls.{InEachWorld, IsOpenIfHonest, Spares, ChangesAt};
+ghost use Rattle.tables.specs.Calls.{Honestly};
 ghost use Rattle.store.specs.Reading.{HasRow, HasZip};
 ghost use Rattle.store.specs.Added.{HasAdded};
 

@@ -2,7 +2,7 @@
 //!
 //! Which tables these are, and which world they stand for, is told in the crate `tables`. A store is
 //! opened over tables that are these and stand for a world, or over none at all; everything else is
-//! refused and stays as it was.
+//! refused, and a connection that then stays open shows what it showed.
 //!
 //! A change is one transaction. So a crash leaves the world before it or the world after it, and
 //! once the change has answered Ok, the world after it alone.
@@ -14,10 +14,11 @@
 //! | `entry` | the row of `version` on the own shelf, or else on `common`, then its row of `body` |
 //! | `heading` | the row of `version` on the own shelf, or else on `common`, and no row of `body` |
 //! | `versions`, `paths` | the rows of `version` on the own shelf, then those on `common` |
-//! | `count` | how many rows of `version` the path has on the shelf |
+//! | `count` | how many rows of `version` the path has on the shelf; asked once, and then kept |
 //! | `insert` | in one transaction a row of `version` and a row of `body` |
 //! | `team_add`, `key_add` | a row of `shelf`; a row of `access` |
 //! | `key_revoke` | the row of `access` is taken away |
+//! | `extract` | of the team and of `common` the rows of `access`, and those of `version` with `body`, one at a time, into a fresh store in one transaction |
 //!
 //! What is said of values holds where each answer of the disk was what had been written. A fault is
 //! `Memory` where memory was wanted, and otherwise `Device`, which is counted.
@@ -25,6 +26,10 @@
 
 mod adopt;
 mod entries;
+mod extract;
+mod extract_judge;
+mod extract_part;
+mod extract_rows;
 pub mod laws;
 pub mod open;
 pub mod refusal;

@@ -7,7 +7,8 @@ ghost use Rattle.sqlite.specs.State.{HasCleanDisk};
 ghost use Rattle.sqlite.specs.Steps.{over_memory};
 ghost use Rattle.sqlite_wal.specs.Files.{image_at};
 ghost use Rattle.world.specs.World.{only_common};
-ghost use Rattle.store.specs.Calls.{shown_of, BeginsAt};
+ghost use Rattle.store.specs.Calls.{shown_with, BeginsAt};
+ghost use Rattle.store.specs.Opened.{IsOfOpening};
 ghost use Rattle.store.specs.Restart.{HoldsWorld};
 
 use crate::refusal::Refusal;
@@ -23,7 +24,7 @@ impl SqlShelves<MemStore> {
     /// A store in memory, with the shelf `common` alone. It is refused only as `Memory`, where memory
     /// was wanted.
     pub fn open_memory(alloc: Global) -> Result<SqlShelves<MemStore>, Refusal>
-        ensures begins { IfOk result (λ s. BeginsAt (shown_of (state over_memory s.conn)) only_common) }
+        ensures begins { IfOk result (λ s. BeginsAt (shown_with (state over_memory s.conn) s.counts) only_common) }
         ensures none_failed { IfOk result (λ s. s.failures ≡ 0) }
         ensures refused { IfErr result (λ refusal. refusal ≡ Refusal.Memory) }
     {
@@ -44,7 +45,8 @@ impl<T: Start> SqlShelves<FileStore<FileFrom<T>>> {
     ///
     /// It is refused as `BadSchema` where the files hold no database, other tables, or tables that
     /// stand for no world; as `Memory` where memory was wanted; and as `Device` where the disk failed,
-    /// or the system or the name does not let the files be opened. They then stay as they were.
+    /// or the system or the name does not let the files be opened. Files that are no store stay as they are (tested); where the disk
+    /// failed or memory was wanted, those that were empty may hold the made tables, and a log may be left beside them.
     pub fn open_from(
         rt: &HostRuntime,
         path: &str,
@@ -52,9 +54,10 @@ impl<T: Start> SqlShelves<FileStore<FileFrom<T>>> {
     ) -> Result<SqlShelves<FileStore<FileFrom<T>>>, Refusal>
         ensures memory { path.now ≡ codes ":memory:" → result ≡ Err Refusal.Device }
         ensures begins { IfOk result (λ s. HasCleanDisk (file_state s.conn)
-            → (w : _) × BeginsAt (shown_of (file_state s.conn)) w) }
+            → (w : _) × BeginsAt (shown_with (file_state s.conn) s.counts) w) }
         ensures found { IfOk result (λ s. HasCleanDisk (file_state s.conn) → (w : _)
-            → HoldsWorld (image_at T.Start) w → BeginsAt (shown_of (file_state s.conn)) w) }
+            → HoldsWorld (image_at T.Start) w → BeginsAt (shown_with (file_state s.conn) s.counts) w) }
+        ensures refused { IfErr result IsOfOpening }
         ensures none_failed { IfOk result (λ s. s.failures ≡ 0) }
     {
         let conn = match Connection::open_from(rt, path, false, start) {
@@ -74,7 +77,8 @@ impl SqlShelves<FileStore<File>> {
     pub fn open_file(rt: &HostRuntime, path: &str) -> Result<FileShelves, Refusal>
         ensures memory { path.now ≡ codes ":memory:" → result ≡ Err Refusal.Device }
         ensures begins { IfOk result (λ s. HasCleanDisk (file_state s.conn)
-            → (w : _) × BeginsAt (shown_of (file_state s.conn)) w) }
+            → (w : _) × BeginsAt (shown_with (file_state s.conn) s.counts) w) }
+        ensures refused { IfErr result IsOfOpening }
         ensures none_failed { IfOk result (λ s. s.failures ≡ 0) }
     {
         SqlShelves::open_from(rt, path, Unknown)
@@ -86,7 +90,8 @@ impl SqlShelves<FileStore<File>> {
 
 /// What a failure to open a file is told as.
 fn file_refusal(error: Error) -> Refusal
-    ensures { error ≡ Error.SqliteFailure ErrorCode.CannotOpen → result ≡ Refusal.Device }
+    ensures cannot_open { error ≡ Error.SqliteFailure ErrorCode.CannotOpen → result ≡ Refusal.Device }
+    ensures opening { IsOfOpening result }
 {
     match error {
         Error::SqliteFailure(ErrorCode::NotADatabase | ErrorCode::DatabaseCorrupt) => {

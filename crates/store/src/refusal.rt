@@ -1,10 +1,11 @@
-//! Why a store is not opened.
+//! Why a store is not opened, or not made of another.
 
 ghost use Rattle.std.specs.Prelude.{◌≡◌, ◌≢◌};
+ghost use Rattle.store.specs.Opened.{IsOfOpening};
 
 use sqlite::{Error, ErrorCode};
 
-/// Why a store is not opened.
+/// Why a store is not opened, or not made of a team's part of another.
 #[derive(Clone, Copy, Debug, PartialEq, Eq)]
 pub enum Refusal {
     /// A disk failed, the system or the name does not let a file be opened, the connection is shut, in a
@@ -14,11 +15,16 @@ pub enum Refusal {
     Memory,
     /// The tables are not those of the schema, or stand for no world.
     BadSchema,
+    /// The fresh store has more than `common`: another shelf, a key or an entry.
+    NotEmpty,
+    /// There is no such team. `common` is none.
+    NoTeam,
 }
 
 /// What a failure to read or to make the tables is told as.
 pub(crate) fn open_refusal(error: Error) -> Refusal
     ensures named { result ≢ Refusal.BadSchema }
+    ensures opening { IsOfOpening result }
     ensures memory { error ≡ Error.SqliteFailure ErrorCode.OutOfMemory → result ≡ Refusal.Memory }
 {
     match error {

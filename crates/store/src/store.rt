@@ -1,12 +1,14 @@
 //! The store that the machine runs over.
 
 ghost use Rattle.std.specs.Prelude.{◌≡◌, ◌≤◌, ◌⊎◌, IfOk, IfErr, IsTrue};
+ghost use Rattle.std.specs.FinMap as map;
 ghost use Rattle.sqlite.specs.Held.{state};
 ghost use Rattle.sqlite_trees.specs.View.{doubt};
 ghost use Rattle.world.specs.Store.{GrewOrFull};
-ghost use Rattle.store.specs.Calls.{Honestly, shown_of};
+ghost use Rattle.store.specs.Calls.{shown_with};
+ghost use Rattle.tables.specs.Calls.{Honestly};
 ghost use Rattle.tables.specs.Causes.{IsHindered, IsVast};
-ghost use Rattle.store.specs.Opened.{Opens, IsBad, LeavesFirst};
+ghost use Rattle.store.specs.Opened.{Opens, IsBad, LeavesFirst, IsOfOpening};
 
 use crate::adopt::open_tables;
 use crate::entries::{add_entry, count_entries, find_entry, find_heading};
@@ -18,6 +20,7 @@ use modpath::ModulePath;
 use modver::Version;
 use sqlite::{Alter, Connection, Error, ErrorCode};
 use std::alloc::Global;
+use world::counts::Counts;
 use world::entry::{EntryRef, Heading, Holder, Right, Seen};
 use world::names::{is_key, is_team_name};
 use world::registry::{Registered, StoreFault};
@@ -27,13 +30,15 @@ use world::text_set::TextSet;
 /// Shelves whose entries and keys are rows of SQL tables.
 #[derive(Drop)]
 pub struct SqlShelves<S: Alter> {
-    conn: Connection<S>,
-    failures: u64,
-    alloc: Global,
+    pub(crate) conn: Connection<S>,
+    /// Of the paths that were counted since the store was opened. Nobody else writes, so they stay right.
+    pub(crate) counts: Counts,
+    pub(crate) failures: u64,
+    pub(crate) alloc: Global,
 }
 
 /// Counts a failure that is no want of memory.
-fn fault(failures: &mut u64, error: Error) -> StoreFault
+pub(crate) fn fault(failures: &mut u64, error: Error) -> StoreFault
     ensures no_fewer { failures.old ≤ failures.new }
     ensures device { result ≡ StoreFault.Device → GrewOrFull failures.old failures.new }
 {
@@ -49,11 +54,11 @@ fn fault(failures: &mut u64, error: Error) -> StoreFault
 impl<S: Alter> Shelves for SqlShelves<S> {
     ghost use Rattle.std.proofs.Common.{inl, inr};
 
-    ghost shown = { λ s. shown_of (state S.Store s.conn) };
+    ghost shown = { λ s. shown_with (state S.Store s.conn) s.counts };
 
     ghost failure_count = { λ s. s.failures };
 
-    ghost sound = { λ s w stands. stands.1 };
+    ghost sound = { λ s w stands. stands.0.1 };
 
     ghost wider = { λ s w x only db may. let it = only db may in (it.0, it.1, inl (elim it.2 [ inl e ↦ e | inr e ↦ e ])) };
 
@@ -107,8 +112,14 @@ impl<S: Alter> Shelves for SqlShelves<S> {
     }
 
     fn count(&mut self, shelf: &str, path: &ModulePath) -> Result<u64, StoreFault> {
+        if let Some(count) = self.counts.get(shelf, path.as_str()) {
+            return Ok(count);
+        }
         match count_entries(&mut self.conn, shelf, path.as_str()) {
-            Ok(count) => Ok(count),
+            Ok(count) => {
+                self.counts.keep(self.alloc, shelf, path.as_str(), count);
+                Ok(count)
+            }
             Err(error) => Err(fault(&mut self.failures, error)),
         }
     }
@@ -127,7 +138,10 @@ impl<S: Alter> Shelves for SqlShelves<S> {
             version.as_str(),
             entry,
         ) {
-            Ok(()) => Ok(()),
+            Ok(()) => {
+                self.counts.raise(self.alloc, shelf, path.as_str());
+                Ok(())
+            }
             Err(error) => Err(fault(&mut self.failures, error)),
         }
     }
@@ -167,13 +181,16 @@ impl<S: Alter> SqlShelves<S> {
     /// It is refused as `BadSchema` where the tables are not those of the schema or stand for no world,
     /// as `Memory` where memory was wanted, and as `Device` where the disk failed, the connection is
     /// shut, in a transaction or limited in its steps, or a table has 2^64 rows, one for each rowid.
-    /// The connection then comes back with its tables as they were.
+    /// The connection then comes back, and where it is open it shows the tables that it showed. A crash leaves what it left before,
+    /// or of no tables the made ones.
     pub fn adopt(
         alloc: Global,
         mut conn: Connection<S>,
     ) -> Result<SqlShelves<S>, (Refusal, Connection<S>)>
         ensures clean { IfOk result (λ s. doubt (state S.Store conn).is_clean ≤ doubt (state S.Store s.conn).is_clean) }
         ensures opens { IfOk result (λ s. Honestly (state S.Store conn) (state S.Store s.conn) Opens) }
+        ensures none_counted { IfOk result (λ s. s.counts ≡ map.empty) }
+        ensures refused { IfErr result (λ e. IsOfOpening e.0) }
         ensures none_failed { IfOk result (λ s. s.failures ≡ 0) }
         // Where this is refused, the connection shows what it showed, and a crash leaves what it left before or the made tables.
         ensures kept { IfErr result (λ e. Honestly (state S.Store conn) (state S.Store e.1) (λ old new.
@@ -188,6 +205,7 @@ impl<S: Alter> SqlShelves<S> {
         match open_tables(alloc, &mut conn) {
             Ok(()) => Ok(SqlShelves {
                 conn,
+                counts: Counts::new(alloc),
                 failures: 0,
                 alloc,
             }),

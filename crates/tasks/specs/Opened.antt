@@ -4,11 +4,13 @@ use Rattle.store.specs.declared.refusal.Refusal.TheVariants as store
 use Rattle.commands.specs.declared.refusal.Refusal.{Refusal}
 use Rattle.commands.specs.declared.refusal.Refusal.TheVariants as refusal
 
--- by what opening told
+-- by what opening or an extract told
 abbrev pub unopened : Unopened → Refusal
 unopened store.Device = refusal.Device
 unopened store.Memory = refusal.Memory
 unopened store.BadSchema = refusal.BadSchema
+unopened store.NotEmpty = refusal.NotEmpty
+unopened store.NoTeam = refusal.NoTeam
 
 -- the same of `init`, which does not judge tables: a file that has any has bytes
 abbrev pub unmade : Refusal → Refusal

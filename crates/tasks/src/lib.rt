@@ -83,7 +83,7 @@ fn init_refusal(refusal: Refusal) -> Refusal
     }
 }
 
-/// Why a store is not opened.
+/// Why a store is not opened, or not made of another.
 fn open_refusal(unopened: Unopened) -> Refusal
     ensures { result ≡ spec.unopened unopened }
 {
@@ -91,6 +91,8 @@ fn open_refusal(unopened: Unopened) -> Refusal
         Unopened::Device => Refusal::Device,
         Unopened::Memory => Refusal::Memory,
         Unopened::BadSchema => Refusal::BadSchema,
+        Unopened::NotEmpty => Refusal::NotEmpty,
+        Unopened::NoTeam => Refusal::NoTeam,
     }
 }
 

@@ -6,8 +6,8 @@ use Rattle.store.proofs.store.SqlShelvesShelves.versions.Goals as goal
 pub returns-in-Ok-clause-reads : goal.returns-in-Ok-clause-reads
 returns-in-Ok-clause-reads g c =
     let answer = rw c.as_str.ensures.value at c.in-Ok.ensures.answer in
-    reads (state g.S.Store c.args.self.now.conn) (state g.S.Store c.find_versions.new.conn) (Ok c.in-Ok.versions) _ c.find_versions.ensures.spares (λ clean w stands. answer clean w stands.0)
+    reads (state g.S.Store c.args.self.now.conn) (state g.S.Store c.find_versions.new.conn) c.args.self.now.counts (Ok c.in-Ok.versions) _ c.find_versions.ensures.spares (λ clean w stands. answer clean w stands.0)
 
 pub returns-in-Err-clause-reads : goal.returns-in-Err-clause-reads
 returns-in-Err-clause-reads g c =
-    reads (state g.S.Store c.args.self.now.conn) (state g.S.Store c.find_versions.new.conn) (Err c.fault.result) _ c.find_versions.ensures.spares (λ _ _ _. tt)
+    reads (state g.S.Store c.args.self.now.conn) (state g.S.Store c.find_versions.new.conn) c.args.self.now.counts (Err c.fault.result) _ c.find_versions.ensures.spares (λ _ _ _. tt)

@@ -1,0 +1,132 @@
+-- The part of a team, written whole or not at all, as a call of a store.
+use Rattle.std.proofs.Common.{◌≡◌, ◌≢◌, ◌≤◌, ℕ, List, true, false, Result, Ok, Err, IsErr, is_ok, inl, refl, sym, subst, arith, true≢false}
+use Rattle.sqlite_trees.specs.View.{doubt}
+use Rattle.sqlite.specs.State.{State, HasCleanDisk}
+use Rattle.world.specs.Part.{part, IsTeam}
+use Rattle.std.specs.FinSet as set
+use Rattle.world.specs.World.{World, IsWorld, common, only_common}
+use Rattle.world.proofs.Parts.{part_is_world}
+use Rattle.tables.specs.Means.{Stands, StandsFor}
+use Rattle.tables.proofs.FailureLemmas.{was_clean}
+use Rattle.std.specs.Prelude.{OnOk, OnErr}
+use Rattle.std.specs.FinMap as map
+use Rattle.world.specs.Counts.{Tally, AreCounts}
+use Rattle.world.proofs.Counted.{empty_counts}
+use Rattle.store.specs.Calls.{Spares, ChangesAt, shown_of, shown_with}
+use Rattle.store.specs.Extract.{Writing, IsReady, Copies}
+use Rattle.store.specs.Extracted.{MakesPart, is_written, IsRead, Tells, ExtractsAt, Extracts}
+use Rattle.store.specs.declared.extract_judge.Judged.{Judged}
+use Rattle.store.specs.declared.extract_judge.Judged.TheVariants as judged
+use Rattle.store.specs.declared.extract_rows.CopyError.{CopyError}
+use Rattle.store.specs.declared.refusal.Refusal.{Refusal}
+use Rattle.store.specs.declared.refusal.Refusal.TheVariants as refusal
+use Rattle.store.proofs.StoreLemmas.{narrow}
+
+pub common_is_none : (w : World) (team : List ℕ) → team ≡ common → ¬ IsTeam w team
+common_is_none w team same is = is.1 same
+
+pub no_team_is_not_fit : judged.NoTeam ≡ judged.Fit → ⊥
+no_team_is_not_fit e = cc
+
+pub not_empty_is_not_fit : judged.NotEmpty ≡ judged.Fit → ⊥
+not_empty_is_not_fit e = cc
+
+pub err_is_not_ok : {A E : Type 0} (r : Result A E) (x : A) → IsErr r → r ≡ Ok x → ⊥
+err_is_not_ok (Ok y) x h e = true≢false (sym h)
+err_is_not_ok (Err f) x h e = cc
+
+-- what was only read where the tables stood for a world
+pub spares_when : (a b c : State) → Spares a b → doubt b.is_clean ≤ doubt c.is_clean → ((w : World) → Stands a w → Spares b c) → Spares a c
+spares_when a b c p up then = record {
+  clean = let one = p.clean in omega (arith, one, up);
+  stays = λ w stands. (then w stands).stays w (p.stays w stands);
+  left = λ clean w stands db may. p.left (was_clean b c up clean) w stands db ((then w stands).left clean w (p.stays w stands) db may);
+}
+
+pub not_written : (r : Result Judged CopyError) → IsErr r → is_written r ≡ false
+not_written (Ok x) h = absurd (true≢false (sym h))
+not_written (Err e) h = refl
+
+pub else_written : (j : Judged) → (j ≡ judged.Fit → ⊥) → is_written (Ok j) ≡ false
+else_written judged.Fit other = absurd (other refl)
+else_written judged.NoTeam other = refl
+else_written judged.NotEmpty other = refl
+
+-- nothing was written
+pub spared_at : (a b : State) (x next : World) → Spares a b → ChangesAt a b false x next
+spared_at a b x next spares = record {
+  world = spares.stays x;
+  left = λ clean stands only db may. let it = only db (spares.left clean x stands db may) in (it.0, it.1, inl it.2);
+  kept = λ done. absurd (true≢false (sym done));
+}
+
+pub is_read : (a b : State) → Spares a b → IsRead (shown_of a) (shown_of b)
+is_read a b spares = record {
+  honest = was_clean a b spares.clean;
+  stays = λ clean w stands. (spares.stays w stands.0, stands.1);
+  left = λ clean w x y stands only db may. only db (spares.left clean w stands.0 db may);
+}
+
+pub fault_tells : (w x : World) (team : List ℕ) (r : Refusal) → r ≢ refusal.BadSchema → r ≢ refusal.NotEmpty → r ≢ refusal.NoTeam → Tells w x team (Err r)
+fault_tells w x team refusal.Device a b c = tt
+fault_tells w x team refusal.Memory a b c = tt
+fault_tells w x team refusal.BadSchema a b c = absurd (a refl)
+fault_tells w x team refusal.NotEmpty a b c = absurd (b refl)
+fault_tells w x team refusal.NoTeam a b c = absurd (c refl)
+
+pub extracts_at : (old new : State) (w x : World) (team : List ℕ) (result : Result (Unit {0}) Refusal) → HasCleanDisk new → StandsFor old x → IsWorld w
+    → ChangesAt old new (is_ok result) x (part w team) → Tells w x team result → ExtractsAt (shown_of old) (shown_of new) w x team result
+extracts_at old new w x team (Ok u) clean stands is change tells = record {
+  tells = tells;
+  ok = (change.world stands.0, part_is_world w team is);
+  err = tt;
+  left = λ only. change.left clean stands.0 (narrow old x only);
+  kept = λ only db may. let it = change.kept refl clean stands.0 db may in (it.0, it.1, inl it.2);
+}
+extracts_at old new w x team (Err e) clean stands is change tells = record {
+  tells = tells;
+  ok = tt;
+  err = (change.world stands.0, stands.1);
+  left = λ only. change.left clean stands.0 (narrow old x only);
+  kept = λ _. tt;
+}
+
+-- within the transaction the part is written
+pub part_written : (s t a b : State) (w : World) (team : List ℕ) → Copies (MakesPart team) s t a b true → IsReady s → HasCleanDisk t → HasCleanDisk b → Stands s w → IsWorld w → set.contains w.shelves team ≡ true
+    → Writing a only_common → Writing b (part w team)
+part_written s t a b w team fills ready clean good stands is has writing =
+    let was = was_clean s t fills.clean clean in
+    let it = fills.makes clean good ready w only_common (stands was (ready was).0).trees.means writing refl in
+    subst (Writing b) (it.1 is has refl) it.2
+
+-- ---- with the counts that the stores keep
+
+on_ok_both : (A : Type 0) {B : Type 0} (r : Result (Unit {0}) Refusal) → B → OnOk r A → OnOk r (A × B)
+on_ok_both A (Ok u) b a = (a, b)
+on_ok_both A (Err e) b a = tt
+
+on_err_both : (A : Type 0) {B : Type 0} (r : Result (Unit {0}) Refusal) → B → OnErr r A → OnErr r (A × B)
+on_err_both A (Ok u) b a = tt
+on_err_both A (Err e) b a = (a, b)
+
+-- the source keeps its counts, and the fresh store none
+pub extracts_counted : (a a_new b b_new : State) (kept kept_new old new : Tally) (team : List ℕ) (r : Result (Unit {0}) Refusal) → kept_new ≡ kept
+    → new ≡ map.empty → Extracts (shown_of a) (shown_of a_new) (shown_of b) (shown_of b_new) team r
+    → Extracts (shown_with a kept) (shown_with a_new kept_new) (shown_with b old) (shown_with b_new new) team r
+extracts_counted a a_new b b_new kept kept_new old new team r same none does = record {
+  reads = record {
+    honest = does.reads.honest;
+    stays = λ h w so. (does.reads.stays h w so.0, subst (AreCounts w) (sym same) so.1);
+    left = λ h w x y so. does.reads.left h w x y so.0;
+  };
+  honest = does.honest;
+  at = λ h good w x sw sx.
+      let it = does.at h good w x sw.0 sx.0 in
+      record {
+        tells = it.tells;
+        ok = on_ok_both (StandsFor b_new (part w team)) r (empty_counts (part w team) new none) it.ok;
+        err = on_err_both (StandsFor b_new x) r (empty_counts x new none) it.err;
+        left = it.left;
+        kept = it.kept;
+      };
+}

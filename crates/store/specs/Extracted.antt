@@ -1,0 +1,91 @@
+-- What a store does that is made of one team's part of another.
+use Rattle.std.specs.Prelude.{ℕ, ◌≡◌, ◌≢◌, ◌≤◌, ◌⊎◌, List, Bool, true, false, Some, Result, Ok, Err, OnOk, OnErr}
+use Rattle.std.specs.FinMap as map
+use Rattle.std.specs.FinSet as set
+use Rattle.sqlite.specs.State.{State, HasCleanDisk}
+use Rattle.tables.specs.Means.{StandsFor}
+use Rattle.world.specs.declared.entry.Entry.{Entry}
+use Rattle.world.specs.declared.entry.Holder.{Holder}
+use Rattle.world.specs.declared.entry.Place.{Place}
+use Rattle.world.specs.Part.{part, IsTeam}
+use Rattle.world.specs.Store.{Shown, GrewOrFull}
+use Rattle.world.specs.World.{World, IsWorld, common, only_common}
+use Rattle.store.specs.declared.extract_judge.Judged.{Judged}
+use Rattle.store.specs.declared.extract_judge.Judged.TheVariants as judged
+use Rattle.store.specs.declared.extract_rows.CopyError.{CopyError}
+use Rattle.store.specs.declared.refusal.Refusal.{Refusal}
+use Rattle.store.specs.declared.refusal.Refusal.TheVariants as refusal
+
+-- ---- a store that has more than `common`
+
+abbrev pub HasOtherShelf : World → Type 0
+HasOtherShelf x = (s : List ℕ) × (set.contains x.shelves s ≡ true) × (s ≢ common)
+
+abbrev pub HasKey : World → Type 0
+HasKey x = (k : List ℕ) × (h : Holder) × (map.get x.keys k ≡ Some h)
+
+abbrev pub HasEntry : World → Type 0
+HasEntry x = (q : Place) × (e : Entry) × (map.get x.entries q ≡ Some e)
+
+-- what is to become of an extract of a team of w into a store of x
+abbrev pub IsJudged : World → World → List ℕ → Judged → Type 0
+IsJudged w x team judged.Fit = IsTeam w team × (x ≡ only_common)
+IsJudged w x team judged.NoTeam = ¬ IsTeam w team
+IsJudged w x team judged.NotEmpty = IsTeam w team × (x ≢ only_common)
+
+-- ---- the part of a team
+
+-- of a world that has `common` alone it is made
+abbrev pub MakesPart : List ℕ → World → World → World → Type 0
+MakesPart team w x y = IsWorld w → set.contains w.shelves team ≡ true → x ≡ only_common → y ≡ part w team
+
+-- whether the part was written
+abbrev pub is_written : Result Judged CopyError → Bool
+is_written (Ok judged.Fit) = true
+is_written result = false
+
+-- so it is in each two worlds that the source and the fresh store stood for, as far as no answer of a disk was wrong
+abbrev pub InEachTwo : State → State → State → State → (World → World → Type 0) → Type 0
+InEachTwo source source_new fresh fresh_new P =
+    HasCleanDisk source_new → HasCleanDisk fresh_new → (w x : World) → StandsFor source w → StandsFor fresh x → P w x
+
+-- ---- a call
+
+-- it shows the same world, and a crash leaves nothing that it did not leave before
+pub record IsRead (old new : Shown) : Type 0 where
+  pub honest : new.is_honest → old.is_honest
+  pub stays : new.is_honest → (w : World) → old.stands w → new.stands w
+  pub left : new.is_honest → (w x y : World) → old.stands w → old.leaves x y → new.leaves x y
+
+-- What an extract of a team of w into a store of x tells: that it is done or which of the two stood against it, or that memory was
+-- wanted or a device failed. That there is no such team comes first.
+abbrev pub Tells : World → World → List ℕ → Result (Unit {0}) Refusal → Type 0
+Tells w x team (Ok u) = IsTeam w team × (x ≡ only_common)
+Tells w x team (Err refusal.NoTeam) = ¬ IsTeam w team
+Tells w x team (Err refusal.NotEmpty) = IsTeam w team × (x ≢ only_common)
+Tells w x team (Err refusal.BadSchema) = ⊥
+Tells w x team (Err refusal.Device) = Unit {0}
+Tells w x team (Err refusal.Memory) = Unit {0}
+
+-- The fresh store stands for the part of the team once it is done, and else for what it stood for. If a crash left that alone before, it leaves the
+-- two from then on, and once it is done the part alone.
+pub record ExtractsAt (old new : Shown) (w x : World) (team : List ℕ) (result : Result (Unit {0}) Refusal) : Type 0 where
+  pub tells : Tells w x team result
+  pub ok : OnOk result (new.stands (part w team))
+  pub err : OnErr result (new.stands x)
+  pub left : old.leaves x x → new.leaves x (part w team)
+  pub kept : old.leaves x x → OnOk result (new.leaves (part w team) (part w team))
+
+-- So it is in each two worlds that the source and the fresh store stood for, as far as no answer of a disk was wrong. The source is only read.
+pub record Extracts (source source_new fresh fresh_new : Shown) (team : List ℕ) (result : Result (Unit {0}) Refusal) : Type 0 where
+  pub reads : IsRead source source_new
+  pub honest : fresh_new.is_honest → fresh.is_honest
+  pub at :
+      source_new.is_honest → fresh_new.is_honest → (w x : World) → source.stands w → fresh.stands x
+      → ExtractsAt fresh fresh_new w x team result
+
+-- `Device` is told only where a device of one of the two stores failed in the call, or its count of failures cannot grow
+pub record HasCauseInEither (before now before_too now_too : ℕ) (result : Result (Unit {0}) Refusal) : Type 0 where
+  pub no_fewer : before ≤ now
+  pub no_fewer_too : before_too ≤ now_too
+  pub device : result ≡ Err refusal.Device → GrewOrFull before now ⊎ GrewOrFull before_too now_too

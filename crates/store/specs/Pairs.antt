@@ -1,0 +1,29 @@
+-- A query over two tables, by terms that each pair of rows is tested against.
+use Rattle.std.specs.Prelude.{ℕ, pos, negsuc, Bool, true, false, List, [], ◌∷◌, None, ◌≡◌}
+use Rattle.std.specs.List.{list_all}
+use Rattle.sqlite.specs.declared.types.Value.TheVariants.{Int}
+use Rattle.sqlite.specs.Order.{Row}
+use Rattle.sqlite.specs.Term.{Term, lit, holds, eval_all}
+use Rattle.sqlite.specs.Query.{Query, inner, end}
+use Rattle.sqlite_rules.specs.Lists.{Has}
+
+abbrev pub pairs : ℕ → ℕ → List Term → List Term → Query
+pairs t u filter project = record {
+  from = inner t (inner u end);
+  filter = filter;
+  group = None;
+  project = project;
+  distinct = false;
+  collations = [];
+  order = [];
+  limit = lit (Int (negsuc 0));
+  offset = lit (Int (pos 0));
+}
+
+abbrev pub passes_both : List Term → Row → Row → Row → Bool
+passes_both filter params row body = list_all (holds (params ∷ row ∷ body ∷ [])) filter
+
+-- the pairs that pass, as they are shown
+pub record ArePaired (rows bodies : List Row) (filter project : List Term) (params : Row) (out : List Row) : Type 0 where
+  pub sound : (x : Row) → Has out x → (row : Row) × (body : Row) × Has rows row × Has bodies body × (passes_both filter params row body ≡ true) × (x ≡ eval_all project (params ∷ row ∷ body ∷ []))
+  pub complete : (row body : Row) → Has rows row → Has bodies body → passes_both filter params row body ≡ true → Has out (eval_all project (params ∷ row ∷ body ∷ []))

@@ -1,0 +1,93 @@
+//! One team's part as a store of its own.
+
+ghost use Rattle.std.specs.Prelude.{◌≡◌, ◌≢◌, ◌≤◌, IfOk};
+ghost use Rattle.sqlite.specs.Held.{state};
+ghost use Rattle.sqlite_trees.specs.View.{doubt};
+ghost use Rattle.world.specs.Part.{part};
+ghost use Rattle.store.specs.Calls.{Spares, ChangesAt, shown_of, shown_with};
+ghost use Rattle.store.specs.Extracted.{IsJudged, is_written, InEachTwo, Extracts, HasCauseInEither};
+
+use crate::extract_judge::{Judged, judge};
+use crate::extract_part::write_part;
+use crate::extract_rows::CopyError;
+use crate::refusal::Refusal;
+use crate::store::{SqlShelves, fault};
+use sqlite::{Alter, Connection};
+use world::counts::Counts;
+use world::registry::StoreFault;
+
+/// Writes the part of a team into a fresh store, where there is such a team and the store has `common` alone.
+fn extract_part<S: Alter, F: Alter>(
+    source: &mut Connection<S>,
+    team: &str,
+    fresh: &mut Connection<F>,
+) -> Result<Judged, CopyError>
+    ensures reads { Spares (state S.Store source.old) (state S.Store source.new) }
+    ensures clean { doubt (state F.Store fresh.old).is_clean ≤ doubt (state F.Store fresh.new).is_clean }
+    ensures verdict { InEachTwo (state S.Store source.old) (state S.Store source.new) (state F.Store fresh.old) (state F.Store fresh.new)
+        (λ w x. IfOk result (IsJudged w x team.now)) }
+    ensures changes { InEachTwo (state S.Store source.old) (state S.Store source.new) (state F.Store fresh.old) (state F.Store fresh.new)
+        (λ w x. ChangesAt (state F.Store fresh.old) (state F.Store fresh.new) (is_written result) x (part w team.now)) }
+{
+    let judged = judge(source, team, fresh)?;
+    if judged == Judged::Fit {
+        write_part(source, team, fresh)?;
+    }
+    Ok(judged)
+}
+
+/// What a fault of a store is told as.
+fn told_as(fault: StoreFault) -> Refusal
+    ensures device { result ≡ Refusal.Device → fault ≡ StoreFault.Device }
+    ensures named { (result ≢ Refusal.BadSchema) × (result ≢ Refusal.NotEmpty) × (result ≢ Refusal.NoTeam) }
+{
+    match fault {
+        StoreFault::Device => Refusal::Device,
+        StoreFault::Memory => Refusal::Memory,
+    }
+}
+
+impl<S: Alter> SqlShelves<S> {
+    /// Makes the fresh store one of a team's part: the shelves `common` and the team's, all their
+    /// entries, and the keys of both with their rights. The rows are read one at a time, and all are
+    /// written in one transaction.
+    ///
+    /// It is refused as `NoTeam` where the name is none of a team, as `common` is none, else as
+    /// `NotEmpty` where the fresh store has more than `common`: another shelf, a key or an entry; as
+    /// `Device` where a disk failed, and as `Memory` where memory was wanted. Both stores then are as
+    /// they were; the source is in any case.
+    pub fn extract<F: Alter>(
+        &mut self,
+        team: &str,
+        fresh: &mut SqlShelves<F>,
+    ) -> Result<(), Refusal>
+        ensures extracts { Extracts (shown_with (state S.Store self.old.conn) self.old.counts)
+            (shown_with (state S.Store self.new.conn) self.new.counts)
+            (shown_with (state F.Store fresh.old.conn) fresh.old.counts)
+            (shown_with (state F.Store fresh.new.conn) fresh.new.counts) team.now result }
+        ensures cause { HasCauseInEither self.old.failures self.new.failures fresh.old.failures fresh.new.failures result }
+    {
+        fresh.counts = Counts::new(fresh.alloc);
+        self.extract_rows(team, fresh)
+    }
+
+    /// Makes the tables of the fresh store those of the part, and leaves the counts that are kept as they are.
+    fn extract_rows<F: Alter>(
+        &mut self,
+        team: &str,
+        fresh: &mut SqlShelves<F>,
+    ) -> Result<(), Refusal>
+        ensures extracts { Extracts (shown_of (state S.Store self.old.conn)) (shown_of (state S.Store self.new.conn))
+            (shown_of (state F.Store fresh.old.conn)) (shown_of (state F.Store fresh.new.conn)) team.now result }
+        ensures counts { (self.new.counts ≡ self.old.counts) × (fresh.new.counts ≡ fresh.old.counts) }
+        ensures cause { HasCauseInEither self.old.failures self.new.failures fresh.old.failures fresh.new.failures result }
+    {
+        match extract_part(&mut self.conn, team, &mut fresh.conn) {
+            Ok(Judged::Fit) => Ok(()),
+            Ok(Judged::NoTeam) => Err(Refusal::NoTeam),
+            Ok(Judged::NotEmpty) => Err(Refusal::NotEmpty),
+            Err(CopyError::Source(error)) => Err(told_as(fault(&mut self.failures, error))),
+            Err(CopyError::Fresh(error)) => Err(told_as(fault(&mut fresh.failures, error))),
+        }
+    }
+}

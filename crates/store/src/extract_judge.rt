@@ -1,0 +1,102 @@
+//! Whether a team's part may be made a store of its own: there is such a team, and the fresh store has `common` alone.
+
+ghost use Rattle.std.specs.Prelude.{◌≡◌, Decides, IfOk, IsTrue, Ok};
+ghost use Rattle.sqlite.specs.Held.{state};
+ghost use Rattle.sqlite.specs.State.{HasCleanDisk};
+ghost use Rattle.world.specs.World.{IsWorld, only_common};
+ghost use Rattle.tables.specs.Means.{Stands, StandsFor};
+ghost use Rattle.store.specs.Calls.{InEachWorld, Spares};
+ghost use Rattle.store.specs.Extracted.{HasOtherShelf, HasKey, HasEntry, IsJudged};
+
+use crate::extract_rows::CopyError;
+use crate::shelves::{find_row, has_shelf};
+use sqlite::{Alter, Connection, Error, params};
+use world::names::COMMON;
+
+/// What is to become of an extract.
+#[derive(Clone, Copy, Debug, Drop, PartialEq, Eq)]
+pub(crate) enum Judged {
+    /// The part is to be written.
+    Fit,
+    /// There is no such team.
+    NoTeam,
+    /// The fresh store has more than `common`.
+    NotEmpty,
+}
+
+/// Whether a shelf beside `common` is there.
+fn has_other_shelf<F: Alter>(conn: &mut Connection<F>) -> Result<bool, Error>
+    ensures spares { Spares (state F.Store conn.old) (state F.Store conn.new) }
+    ensures answer { InEachWorld (state F.Store conn.old) (state F.Store conn.new) (λ _ new x.
+        IfOk result (λ found. IsTrue new.is_open × Decides found (HasOtherShelf x))) }
+{
+    let found = find_row(
+        conn,
+        "SELECT name FROM shelf WHERE name <> ?1",
+        params![COMMON],
+    )?;
+    Ok(found.is_some())
+}
+
+/// Whether a key is there.
+fn has_key<F: Alter>(conn: &mut Connection<F>) -> Result<bool, Error>
+    ensures spares { Spares (state F.Store conn.old) (state F.Store conn.new) }
+    ensures answer { InEachWorld (state F.Store conn.old) (state F.Store conn.new) (λ _ new x.
+        IfOk result (λ found. IsTrue new.is_open × Decides found (HasKey x))) }
+{
+    let found = find_row(conn, "SELECT token FROM access", &[])?;
+    Ok(found.is_some())
+}
+
+/// Whether an entry is there.
+fn has_entry<F: Alter>(conn: &mut Connection<F>) -> Result<bool, Error>
+    ensures spares { Spares (state F.Store conn.old) (state F.Store conn.new) }
+    ensures answer { InEachWorld (state F.Store conn.old) (state F.Store conn.new) (λ _ new x.
+        IfOk result (λ found. IsTrue new.is_open × Decides found (HasEntry x))) }
+{
+    let found = find_row(conn, "SELECT path FROM version", &[])?;
+    Ok(found.is_some())
+}
+
+/// Whether a store has `common` alone.
+fn is_blank<F: Alter>(conn: &mut Connection<F>) -> Result<bool, Error>
+    ensures spares { Spares (state F.Store conn.old) (state F.Store conn.new) }
+    ensures answer { InEachWorld (state F.Store conn.old) (state F.Store conn.new) (λ _ new x.
+        IsWorld x → IfOk result (λ blank. IsTrue new.is_open × Decides blank (x ≡ only_common))) }
+{
+    if has_other_shelf(conn)? {
+        return Ok(false);
+    }
+    if has_key(conn)? {
+        return Ok(false);
+    }
+    let found = has_entry(conn)?;
+    Ok(!found)
+}
+
+/// What is to become of an extract. That there is no such team comes first.
+pub(crate) fn judge<S: Alter, F: Alter>(
+    source: &mut Connection<S>,
+    team: &str,
+    fresh: &mut Connection<F>,
+) -> Result<Judged, CopyError>
+    ensures spares { Spares (state S.Store source.old) (state S.Store source.new) }
+    ensures spares_too { Spares (state F.Store fresh.old) (state F.Store fresh.new) }
+    ensures ready { InEachWorld (state S.Store source.old) (state S.Store source.new) (λ _ new _.
+        result ≡ Ok Judged.Fit → IsTrue new.is_open) }
+    ensures verdict { HasCleanDisk (state S.Store source.new) → HasCleanDisk (state F.Store fresh.new)
+        → (w x : _) → Stands (state S.Store source.old) w → StandsFor (state F.Store fresh.old) x
+        → IfOk result (λ judged. IsJudged w x team.now judged × (judged ≡ Judged.Fit → IsTrue (state F.Store fresh.new).is_open)) }
+{
+    if team == COMMON {
+        return Ok(Judged::NoTeam);
+    }
+    if !has_shelf(source, team)? {
+        return Ok(Judged::NoTeam);
+    }
+    match is_blank(fresh) {
+        Ok(true) => Ok(Judged::Fit),
+        Ok(false) => Ok(Judged::NotEmpty),
+        Err(error) => Err(CopyError::Fresh(error)),
+    }
+}

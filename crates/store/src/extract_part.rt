@@ -1,0 +1,77 @@
+//! One team's part of a store, put into a fresh one in one transaction.
+
+ghost use Rattle.std.specs.Prelude.{◌≡◌, ◌≤◌, true, OnOk, is_ok, IsTrue};
+ghost use Rattle.std.specs.FinSet as set;
+ghost use Rattle.sqlite.specs.Held.{state};
+ghost use Rattle.sqlite.specs.State.{HasCleanDisk, KeepsCommit, Survives};
+ghost use Rattle.sqlite_trees.specs.View.{doubt};
+ghost use Rattle.world.specs.Part.{part};
+ghost use Rattle.world.specs.World.{IsWorld, only_common, with_team};
+ghost use Rattle.tables.specs.Means.{Stands};
+ghost use Rattle.store.specs.Calls.{IsOpenIfHonest, Spares, ChangesAt};
+ghost use Rattle.tables.specs.Calls.{Honestly};
+ghost use Rattle.store.specs.Extract.{Writing, IsReady, Copies};
+ghost use Rattle.store.specs.Extracted.{MakesPart};
+
+use crate::extract_rows::{CopyError, copy_entries, copy_keys};
+use sqlite::{Alter, Connection, Error, ErrorCode, Transaction, params};
+use world::names::COMMON;
+
+/// Writes the row of a shelf.
+fn put_shelf<F: Alter>(tx: &mut Transaction<'_, F>, name: &str) -> Result<(), Error>
+    ensures same_reference { tx.new.conn.ghost_name ≡ tx.old.conn.ghost_name }
+    ensures survives { Survives (state F.Store tx.old.conn.now) (state F.Store tx.new.conn.now) (λ _. ⊥) }
+    ensures kept { Honestly (state F.Store tx.old.conn.now) (state F.Store tx.new.conn.now) (λ old new.
+        IsTrue old.in_transaction → KeepsCommit old new) }
+    ensures inside { Honestly (state F.Store tx.old.conn.now) (state F.Store tx.new.conn.now) (λ old new.
+        IsTrue old.in_transaction → OnOk result (IsTrue new.in_transaction)) }
+    ensures puts { Honestly (state F.Store tx.old.conn.now) (state F.Store tx.new.conn.now) (λ old new.
+        (x : _) → Writing old x → OnOk result (Writing new (with_team x name.now))) }
+{
+    tx.execute("INSERT INTO shelf (name) VALUES (?1)", params![name])?;
+    Ok(())
+}
+
+/// Fills a store that has `common` alone with the part of a team: its shelf, then the keys and the entries of both.
+fn fill<S: Alter, F: Alter>(
+    source: &mut Connection<S>,
+    team: &str,
+    tx: &mut Transaction<'_, F>,
+) -> Result<(), CopyError>
+    ensures same_reference { tx.new.conn.ghost_name ≡ tx.old.conn.ghost_name }
+    ensures fills { Copies (MakesPart team.now) (state S.Store source.old) (state S.Store source.new)
+        (state F.Store tx.old.conn.now) (state F.Store tx.new.conn.now) (is_ok result) }
+{
+    match put_shelf(tx, team) {
+        Ok(()) => {}
+        Err(error) => return Err(CopyError::Fresh(error)),
+    }
+    copy_keys(source, tx, team)?;
+    copy_keys(source, tx, COMMON)?;
+    copy_entries(source, tx, team)?;
+    copy_entries(source, tx, COMMON)
+}
+
+/// Writes the part of a team into a store that has `common` alone, whole or not at all.
+pub(crate) fn write_part<S: Alter, F: Alter>(
+    source: &mut Connection<S>,
+    team: &str,
+    fresh: &mut Connection<F>,
+) -> Result<(), CopyError>
+    ensures clean { doubt (state S.Store source.old).is_clean ≤ doubt (state S.Store source.new).is_clean }
+    ensures clean_too { doubt (state F.Store fresh.old).is_clean ≤ doubt (state F.Store fresh.new).is_clean }
+    ensures reads { IsReady (state S.Store source.old) → Spares (state S.Store source.old) (state S.Store source.new) }
+    ensures changes { IsReady (state S.Store source.old) → IsOpenIfHonest (state F.Store fresh.old) → HasCleanDisk (state S.Store source.new)
+        → (w : _) → Stands (state S.Store source.old) w → IsWorld w → set.contains w.shelves team.now ≡ true
+        → ChangesAt (state F.Store fresh.old) (state F.Store fresh.new) (is_ok result) only_common (part w team.now) }
+{
+    if !fresh.is_autocommit() {
+        return Err(CopyError::Fresh(Error::SqliteFailure(ErrorCode::TransactionState)));
+    }
+    let mut tx = fresh.transaction();
+    fill(source, team, &mut tx)?;
+    match tx.commit() {
+        Ok(()) => Ok(()),
+        Err(error) => Err(CopyError::Fresh(error)),
+    }
+}

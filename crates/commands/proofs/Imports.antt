@@ -4,6 +4,8 @@ use Rattle.std.proofs.lemmas.List.{append-nil, map-append}
 use Rattle.std.proofs.KnownBytes.{Appends-trans}
 use Rattle.std.specs.Io.KnownBytes.{Appends}
 use Rattle.std.specs.List.{list_all}
+use Rattle.csv.specs.declared.parser.State.{State}
+use Rattle.csv.specs.declared.reader.Reader.{Reader}
 use Rattle.engine.specs.declared.fault.Io.{Io}
 use Rattle.engine.specs.declared.fault.Io.TheVariants as io
 use Rattle.shelf.proofs.Runs.{run_more, run_end, idle_parts, grown_more, grown_before}
@@ -22,7 +24,7 @@ use Rattle.commands.specs.Import as spec
 use Rattle.commands.specs.Import.{Turn, GoesThrough, Publishes, DoesRow, Imports, Answers}
 use Rattle.commands.specs.ImportFiles.{IsBodyOf}
 use Rattle.commands.specs.ImportLine.{IsFront, PrintsFront}
-use Rattle.commands.specs.ImportList.{Line, fields_of_line, header}
+use Rattle.commands.specs.ImportList.{HasRead, IsAt, Line, fields_of_line, header}
 use Rattle.commands.specs.Publish.{answer_of}
 use Rattle.commands.specs.declared.import.Closing.{Closing}
 use Rattle.commands.specs.declared.import.Ending.{Ending}
@@ -153,26 +155,30 @@ module _ (told : List ℕ → Option (Option (List ℕ))) (key : List ℕ) where
 
   module _ (old new : Shown) (before now : ℕ) (list w0 w1 w2 : Option (List ℕ)) (turns : List Turn) where
     -- no further row is done
-    pub closed : (n : ℕ) (why : Closing) (accepted : Bool) (result : Result Ending Io) → GoesThrough old new before now told key turns
-        → spec.IsOver list turns n why → accepted ≡ list_all spec.is_accepted turns → Appends w0 w1 (spec.lines_from 1 turns)
+    pub closed : (n : ℕ) (why : Closing) (accepted : Bool) (result : Result Ending Io) → spec.AreFirst list turns
+        → GoesThrough old new before now told key turns → spec.IsOver list turns n why → accepted ≡ list_all spec.is_accepted turns → Appends w0 w1 (spec.lines_from 1 turns)
         → spec.Closes n why accepted w1 w2 result → Imports old new before now told key list w0 w2 result
-    closed n why accepted (Ok e) far over all printed closes = record {
+    closed n why accepted (Ok e) front far over all printed closes = record {
       turns = turns;
+      first = front;
       through = far;
       ends = (n, why, over, closes.0 ∙ ap (λ b. spec.ending_of b why) all, Appends-trans w0 w1 w2 _ _ printed closes.1);
     }
-    closed n why accepted (Err e) far over all printed closes = record {
+    closed n why accepted (Err e) front far over all printed closes = record {
       turns = turns;
+      first = front;
       through = far;
       ends = (closes.0, inr (n, why, closes.1.0, over, closes.1.1, Appends-trans w0 w1 w2 _ _ printed closes.1.2));
     }
 
     -- the line of a row broke off
-    pub broken_off : (mid : Shown) (between n : ℕ) (t : Turn) (e : Io) → GoesThrough old mid before between told key turns
+    pub broken_off : (mid : Shown) (between n : ℕ) (t : Turn) (e : Io) → spec.AreFirst list (turns ++ t ∷ [])
+        → GoesThrough old mid before between told key turns
         → GoesThrough mid new between now told key (t ∷ []) → Appends w0 w1 (spec.lines_from 1 turns) → n ≡ length turns + 1 → e ≡ io.Write
         → PrintsFront w1 w2 (spec.line_of n t) → Imports old new before now told key list w0 w2 (Err e)
-    broken_off mid between n t e far next printed count is front = record {
+    broken_off mid between n t e first far next printed count is front = record {
       turns = turns ++ t ∷ [];
+      first = first;
       through = through_more old mid new before between now turns t far next;
       ends = (is, inl (turns, t, front.0, refl, subst (λ k. IsFront front.0 (spec.line_of k t)) count front.1, Appends-trans w0 w1 w2 _ _ printed front.2));
     }
@@ -182,6 +188,17 @@ module _ (told : List ℕ → Option (Option (List ℕ))) (key : List ℕ) where
 pub appends_none : (w : Option (List ℕ)) → Appends w w []
 appends_none None = tt
 appends_none (Some xs) = sym (append-nil xs)
+
+-- the rows that a reader has read are the first of its list
+begun : (list : Option (List ℕ)) (rows : List (List (List ℕ))) (state : State) (source : Option (List ℕ)) → IsAt list rows state source
+    → spec.Begins list rows
+begun None rows state source at = tt
+begun (Some text) rows state source (rest, is, reached) = (state, rest, reached, tt)
+
+module _ {R : Type 0} (remaining : R → Option (List ℕ)) (list : Option (List ℕ)) where
+  pub are_first : (turns : List Turn) (reader : Reader R) → HasRead remaining list (spec.rows_of turns) reader → spec.AreFirst list turns
+  are_first [] reader read = tt
+  are_first (t ∷ ts) reader read = begun list _ _ _ read.at
 
 -- the rows, and one more
 pub rows_more : (turns : List Turn) (t : Turn) → spec.rows_of turns ++ fields_of_line t.line ∷ [] ≡ spec.rows_of (turns ++ t ∷ [])

@@ -2,4 +2,5 @@ mod Gathered
 mod ImportLists
 mod Imports
 mod Openings
+mod Repeated
 mod Written

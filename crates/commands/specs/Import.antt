@@ -127,6 +127,11 @@ rows_of turns = header ∷ map (λ t. fields_of_line t.line) turns
 abbrev pub Begins : Option (List ℕ) → List (List (List ℕ)) → Type 0
 Begins list rows = Meets list rows (λ next. Unit {0})
 
+-- the rows that were done are the first of the list
+abbrev pub AreFirst : Option (List ℕ) → List Turn → Type 0
+AreFirst list [] = Unit {0}
+AreFirst list (t ∷ ts) = Begins list (rows_of (t ∷ ts))
+
 -- after these rows a record comes that is no text, or fields that are not five
 abbrev pub BadRowComes : Option (List ℕ) → List (List (List ℕ)) → Type 0
 BadRowComes list rows =
@@ -185,6 +190,7 @@ pub record Imports
     (old new : Shown) (before now : ℕ) (told : List ℕ → Option (Option (List ℕ))) (key : List ℕ)
     (list written written_new : Option (List ℕ)) (result : Result Ending Io) : Type 0 where
   pub turns : List Turn
+  pub first : AreFirst list turns
   pub through : GoesThrough old new before now told key turns
   pub ends : Ends list written written_new turns result
 

@@ -10,6 +10,7 @@ pub mod Lines
 pub mod Opening
 pub mod Publish
 pub mod Reading
+pub mod Repetition
 pub mod Report
 pub mod Requirements
 pub mod Serve

@@ -2,8 +2,9 @@
 ghost use Rattle.std.specs.Prelude.{◌≡◌, ◌↔◌, ◌≢◌, ◌+◌, ◌^◌, ◌<◌, [], take, IsTrue, IfOk, IfSome};
 
 use std::alloc::Global;
-use std::fs::File;
+use std::fs::{self, File};
 use std::io::{self, ErrorKind, Read};
+use std::os::unix::fs::MetadataExt;
 use std::rt::HostRuntime;
 use world::bytes::Bytes;
 
@@ -31,6 +32,14 @@ pub fn holds_bytes(rt: &HostRuntime, path: &str) -> bool {
         Ok(mut file) => has_bytes(&mut file).unwrap_or(false),
         Err(_) => false,
     }
+}
+
+/// Whether both paths lead to one file.
+pub fn is_same_file(rt: &HostRuntime, path: &str, other: &str) -> bool {
+    let (Ok(one), Ok(two)) = (fs::metadata(rt, path), fs::metadata(rt, other)) else {
+        return false;
+    };
+    one.dev() == two.dev() && one.ino() == two.ino()
 }
 
 /// Whether a reader has bytes left.

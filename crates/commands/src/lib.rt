@@ -9,7 +9,7 @@
 //! | `answer` | answers the requests of a reader from a store, or from shelves in memory that begin with one team and its key | [`answer`], [`memory`] |
 //! | `serve` | binds a port, prints it, and answers one request on each of some connections | [`serve`] |
 //!
-//! [`work`] does what is asked of a store; [`refusal`] has the words that tell why a command was refused, and [`exit`] how a run
+//! [`laws`] has what holds of every import. [`work`] does what is asked of a store; [`refusal`] has the words that tell why a command was refused, and [`exit`] how a run
 //! ends: its exit status, and the line of that word. Nothing here opens a store or reads the words of a command line.
 #![tactic(auto)]
 
@@ -22,6 +22,7 @@ pub mod import_line;
 pub mod import_list;
 pub mod inventory;
 mod inventory_text;
+pub mod laws;
 pub mod memory;
 pub mod publish;
 pub mod refusal;

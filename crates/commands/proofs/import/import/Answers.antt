@@ -4,7 +4,7 @@ use Rattle.std.specs.Io.KnownBytes.{Appends}
 use Rattle.commands.specs.Import as spec
 use Rattle.commands.specs.ImportList.{HasRead}
 use Rattle.commands.specs.declared.import.Closing.TheVariants.{Unread}
-use Rattle.commands.proofs.Imports.{all_more, appends_none, broken_off, closed, lines_more, nothing_done, rows_more, through_idle, through_more}
+use Rattle.commands.proofs.Imports.{all_more, appends_none, are_first, broken_off, closed, lines_more, nothing_done, rows_more, through_idle, through_more}
 use Rattle.commands.proofs.import.import.Goals as goal
 
 pub returns-in-Some : goal.returns-in-Some
@@ -15,7 +15,7 @@ returns-in-Some g c =
     let count = g.S.Shelves.failure_count c.args.shelves.now in
     let written = g.O.Write.contents c.args.output.now in
     let list = g.L.Read.remaining c.args.list in
-    closed told key here here count count list written written _ [] 0 c.in-Some.closing _ c.close.result (nothing_done told key here count)
+    closed told key here here count count list written written _ [] 0 c.in-Some.closing _ c.close.result tt (nothing_done told key here count)
     (inr (refl, refl, c.in-Some.ensures list c.open-reader.ensures)) refl (appends_none written) c.close.ensures
 
 pub loop-number-init : goal.loop-number-init
@@ -37,6 +37,8 @@ returns-in-Err g c =
     let (turns, so) = c.loop-number.invariant in
     let (t, takes, is, front) = c.in-Err.ensures (g.L.Read.remaining c.args.list) (spec.rows_of turns) so.read in
     broken_off (g.F.Sources.told c.args.sources.now) c.args.key.now _ _ _ _ (g.L.Read.remaining c.args.list) _ _ _ turns _ _ _ t _
+    (are_first g.L.Read.remaining (g.L.Read.remaining c.args.list) (turns ++ t ∷ []) c.import_next.new.reader
+    (subst (λ rows. HasRead g.L.Read.remaining (g.L.Read.remaining c.args.list) rows c.import_next.new.reader) (rows_more turns t) takes.read))
     so.through takes.through so.printed so.count is front
 
 pub returns-in-Ok-Over : goal.returns-in-Ok-Over
@@ -49,7 +51,7 @@ returns-in-Ok-Over g c =
     let idle = rw c.in-Ok-Over.field-0-is at (c.in-Ok-Over.ensures list (spec.rows_of turns) so.read) in
     let printed = subst (λ w. Appends first w (spec.lines_from 1 turns)) (sym idle.output) so.printed in
     closed told key _ _ _ _ list first _ _ turns c.loop-number.number c.in-Ok-Over.closing c.loop-number.accepted c.close-in-Ok-Over.result
-    (through_idle told key _ _ _ _ _ _ turns so.through idle.through) (inl (so.count, idle.closing)) so.accepted printed c.close-in-Ok-Over.ensures
+    (are_first g.L.Read.remaining list turns _ so.read) (through_idle told key _ _ _ _ _ _ turns so.through idle.through) (inl (so.count, idle.closing)) so.accepted printed c.close-in-Ok-Over.ensures
 
 pub loop-number-preserved : goal.loop-number-preserved
 loop-number-preserved g c =
@@ -73,4 +75,4 @@ returns g c =
     let (turns, so) = c.loop-number.invariant in
     let n : ℕ = 18446744073709551615 in
     closed (g.F.Sources.told c.args.sources.now) c.args.key.now _ _ _ _ (g.L.Read.remaining c.args.list) _ _ _ turns n Unread c.loop-number.accepted c.close-2.result
-    so.through (inl (omega (arith, so.count), tt)) so.accepted so.printed c.close-2.ensures
+    (are_first g.L.Read.remaining (g.L.Read.remaining c.args.list) turns _ so.read) so.through (inl (omega (arith, so.count), tt)) so.accepted so.printed c.close-2.ensures

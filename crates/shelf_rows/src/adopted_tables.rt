@@ -1,5 +1,5 @@
 //! Tables that a connection has before it is adopted.
-use crate::calls::wrong_row;
+use crate::calls::wrong_row_of;
 use sqlite::{Connection, Error, MemStore};
 use std::alloc::Global;
 use std::test::Fail;
@@ -93,30 +93,71 @@ entry|alpha|example.com/lib|v1.0.0 = common|module example.com/lib;|Z|
 failures = 0
 ";
 
-fn connection(alloc: Global, tables: &str, rows: &str) -> Result<Connection<MemStore>, Fail> {
-    let mut conn = Connection::open_in_memory(alloc)?;
+/// Makes tables and rows, and changes them by statements.
+fn prepare(
+    conn: &mut Connection<MemStore>,
+    tables: &str,
+    rows: &str,
+    sql: &str,
+) -> Result<(), Error> {
     conn.execute_batch(tables)?;
     conn.execute_batch(rows)?;
-    Ok(conn)
+    conn.execute_batch(sql)
 }
 
-fn refusal(alloc: Global, conn: Connection<MemStore>) -> Option<Refusal> {
+fn versions_in(conn: &mut Connection<MemStore>) -> Result<i64, Error> {
+    conn.query_row("SELECT count(*) FROM version", &[])?.get(0)
+}
+
+/// How many versions a connection that came back has, where it tells.
+fn versions_left(conn: Connection<MemStore>) -> Option<i64> {
+    let mut conn = conn;
+    versions_in(&mut conn).ok()
+}
+
+/// What adopting a connection told: the first row of a script that the store answers otherwise, or why it was refused, and how many
+/// versions the connection then has.
+type Told<'a> = Result<&'a str, (Refusal, Option<i64>)>;
+
+/// Adopts a connection, and has the store answer a script.
+fn told_of<'a>(
+    alloc: Global,
+    conn: Connection<MemStore>,
+    script: &'a str,
+) -> Result<Told<'a>, Fail> {
     match SqlShelves::adopt(alloc, conn) {
-        Ok(_) => None,
-        Err((refusal, _)) => Some(refusal),
+        Ok(shelves) => Ok(Ok(wrong_row_of(alloc, shelves, script)?)),
+        Err((refusal, conn)) => Ok(Err((refusal, versions_left(conn)))),
     }
 }
 
-/// Why the tables and rows are refused once a statement has changed them.
+/// Adopts a connection with such tables and rows, once statements have changed them, and at most so many steps a statement.
+fn adopted(
+    alloc: Global,
+    tables: &str,
+    rows: &str,
+    sql: &str,
+    steps: Option<u64>,
+) -> Result<Told<'static>, Fail> {
+    let mut conn = Connection::open_in_memory(alloc)?;
+    let prepared = prepare(&mut conn, tables, rows, sql);
+    conn.set_step_limit(steps);
+    let told = told_of(alloc, conn, KEPT)?;
+    prepared?;
+    Ok(told)
+}
+
+/// Why the tables and rows are refused once statements have changed them.
 fn refusal_after(
     alloc: Global,
     tables: &str,
     rows: &str,
     sql: &str,
 ) -> Result<Option<Refusal>, Fail> {
-    let mut conn = connection(alloc, tables, rows)?;
-    conn.execute_batch(sql)?;
-    Ok(refusal(alloc, conn))
+    match adopted(alloc, tables, rows, sql, None)? {
+        Ok(_) => Ok(None),
+        Err((refusal, _)) => Ok(Some(refusal)),
+    }
 }
 
 /// Whether tables are refused as bad after each of these statements.
@@ -142,37 +183,25 @@ fn bad_tables_are_refused(rt: HostRuntime) -> Result<(), Fail> {
 #[test]
 fn at_most_4096_versions_of_a_path_are_taken(rt: HostRuntime) -> Result<(), Fail> {
     let alloc = rt.alloc();
-    assert_eq!(rt; refusal_after(alloc, TABLES, ROWS, MOST)?, None);
-    let mut conn = connection(alloc, TABLES, ROWS)?;
-    conn.execute_batch(MOST)?;
-    conn.execute_batch(ONE_MORE)?;
-    assert_eq!(rt; refusal(alloc, conn), Some(Refusal::BadSchema));
+    let rows = format!(in alloc; "{ROWS}{MOST}")?;
+    assert_eq!(rt; refusal_after(alloc, TABLES, rows.as_str(), "")?, None);
+    assert_eq!(rt;
+        refusal_after(alloc, TABLES, rows.as_str(), ONE_MORE)?,
+        Some(Refusal::BadSchema)
+    );
     Ok(())
 }
 
 #[test]
 fn tables_that_are_there_are_kept(rt: HostRuntime) -> Result<(), Fail> {
-    let Ok(mut shelves) = SqlShelves::adopt(rt.alloc(), connection(rt.alloc(), TABLES, ROWS)?)
-    else {
-        panic!(rt; "the tables are those of the schema");
-    };
-    assert_eq!(rt; wrong_row(rt.alloc(), &mut shelves, KEPT)?, "");
+    assert!(rt; adopted(rt.alloc(), TABLES, ROWS, "", None)? == Ok(""));
     Ok(())
-}
-
-fn versions_in(conn: &mut Connection<MemStore>) -> Result<i64, Error> {
-    conn.query_row("SELECT count(*) FROM version", &[])?.get(0)
 }
 
 #[test]
 fn a_refused_connection_comes_back(rt: HostRuntime) -> Result<(), Fail> {
-    let mut conn = connection(rt.alloc(), TABLES, ROWS)?;
-    conn.execute_batch("DELETE FROM body")?;
-    let Err((refusal, mut conn)) = SqlShelves::adopt(rt.alloc(), conn) else {
-        panic!(rt; "a version has no body");
-    };
-    assert_eq!(rt; refusal, Refusal::BadSchema);
-    assert_eq!(rt; versions_in(&mut conn)?, 1);
+    let told = adopted(rt.alloc(), TABLES, ROWS, "DELETE FROM body", None)?;
+    assert!(rt; told == Err((Refusal::BadSchema, Some(1))));
     Ok(())
 }
 
@@ -187,8 +216,7 @@ fn a_connection_in_a_transaction_is_refused(rt: HostRuntime) -> Result<(), Fail>
 
 #[test]
 fn a_connection_limited_in_its_steps_is_refused(rt: HostRuntime) -> Result<(), Fail> {
-    let mut conn = connection(rt.alloc(), TABLES, ROWS)?;
-    conn.set_step_limit(Some(1));
-    assert_eq!(rt; refusal(rt.alloc(), conn), Some(Refusal::Device));
+    let told = adopted(rt.alloc(), TABLES, ROWS, "", Some(1))?;
+    assert!(rt; matches!(told, Err((Refusal::Device, _))));
     Ok(())
 }

@@ -1,4 +1,5 @@
 //! The calls of a store, whichever it is, and their answers as texts.
+use crate::requests::is_answered;
 use crate::rows::{answer_of, call_of, column, named, with_lines};
 use modpath::ModulePath;
 use modver::{TimeText, Version, read_time};
@@ -8,21 +9,42 @@ use std::test::Fail;
 use world::entry::{EntryRef, Right};
 use world::shelves::Shelves;
 
-/// Makes the calls of a script, one a line, and gives the first that has another answer; empty where each has its own. A call is its
-/// name and its arguments; `key-add` adds a key that publishes, `reader-add` one that reads. `;` stands for a newline in a go.mod.
+/// Whether a row has its answer; one without columns is a heading.
+fn holds<S: Shelves>(alloc: Global, shelves: &mut S, row: &str) -> Result<bool, Fail> {
+    if row.contains(" = ") {
+        let wanted = answer_of(alloc, row)?;
+        let answer = answered(alloc, shelves, call_of(row))?;
+        return Ok(answer.as_str() == wanted.as_str());
+    }
+    if row.contains('|') {
+        return is_answered(alloc, shelves, row);
+    }
+    Ok(true)
+}
+
+/// Has a store answer a script, one row a line, and gives the first that it answers otherwise; empty where each has its own. A row
+/// is a request of `requests`, or a call: its name and its arguments; `key-add` adds a key that publishes, `reader-add` one that
+/// reads. `;` stands for a newline in a go.mod.
 pub fn wrong_row<'a, S: Shelves>(
     alloc: Global,
     shelves: &mut S,
     script: &'a str,
 ) -> Result<&'a str, Fail> {
     for row in script.lines() {
-        let wanted = answer_of(alloc, row)?;
-        let answer = answered(alloc, shelves, call_of(row))?;
-        if answer.as_str() != wanted.as_str() {
+        if !holds(alloc, shelves, row)? {
             return Ok(row);
         }
     }
     Ok("")
+}
+
+/// The same of a store that is let go then.
+pub fn wrong_row_of<'a, S: Shelves + Drop>(
+    alloc: Global,
+    mut shelves: S,
+    script: &'a str,
+) -> Result<&'a str, Fail> {
+    wrong_row(alloc, &mut shelves, script)
 }
 
 /// The answer to a call.

@@ -1,9 +1,10 @@
 //! The checks of a publish, row by row.
-use crate::rows::{answer_of, call_of, column, with_lines};
+use crate::rows::{answer_of, call_of, column, named, with_lines};
 use modpath::ModulePath;
 use modver::{Version, read_time};
 use shelf::ask::{Body, GivenTime, Publish};
 use shelf::decide::decide;
+use shelf::reply::Decision;
 use std::alloc::{AllocError, Global};
 use std::test::Fail;
 use world::bytes::Bytes;
@@ -102,27 +103,32 @@ fn seen(alloc: Global, zip: &str, time: &str) -> Result<Option<Entry>, Fail> {
     Ok(Some(Entry::copy_of(alloc, &offered)?))
 }
 
-fn decided(alloc: Global, row: &str) -> Result<String, Fail> {
-    let publish = publish(alloc, row)?;
-    let reading = reading(alloc, column(row, 5))?;
-    let seen = seen(alloc, column(row, 6), column(row, 7))?;
+/// What is decided of a publish whose go.mod was read.
+fn decided_as_read(
+    alloc: Global,
+    row: &str,
+    publish: &Publish,
+    reading: Option<&Reading>,
+) -> Result<Decision, Fail> {
+    let right = right(column(row, 0));
     let count = column(row, 8).parse::<u64>()?;
-    let decision = decide(
-        &publish,
-        right(column(row, 0)),
-        reading.as_ref(),
-        seen.as_ref(),
-        count,
-    );
-    Ok(format!(in alloc; "{decision:?}")?)
+    let seen = seen(alloc, column(row, 6), column(row, 7))?;
+    Ok(decide(publish, right, reading, seen.as_ref(), count))
+}
+
+fn decided(alloc: Global, row: &str, publish: &Publish) -> Result<Decision, Fail> {
+    let reading = reading(alloc, column(row, 5))?;
+    decided_as_read(alloc, row, publish, reading.as_ref())
 }
 
 #[test]
 fn the_first_check_that_fails_decides(rt: HostRuntime) -> Result<(), Fail> {
     for row in DECISIONS.lines() {
         let wanted = answer_of(rt.alloc(), row)?;
-        let decision = decided(rt.alloc(), call_of(row))?;
-        assert!(rt; decision.as_str() == wanted.as_str(), "{row}");
+        let publish = publish(rt.alloc(), call_of(row))?;
+        let decision = decided(rt.alloc(), call_of(row), &publish)?;
+        let told = named(rt.alloc(), Ok(decision))?;
+        assert!(rt; told.as_str() == wanted.as_str(), "{row}");
     }
     Ok(())
 }

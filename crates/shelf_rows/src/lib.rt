@@ -12,13 +12,21 @@ mod answers;
 #[cfg(test)]
 mod calls;
 #[cfg(test)]
+mod connections;
+#[cfg(test)]
 mod decisions;
 #[cfg(test)]
 mod doubles;
 #[cfg(test)]
 mod entries;
 #[cfg(test)]
-mod memory_tables;
+mod extracts;
+#[cfg(test)]
+mod in_time;
+#[cfg(test)]
+mod kept_counts;
+#[cfg(test)]
+mod requests;
 #[cfg(test)]
 mod rows;
 #[cfg(test)]
@@ -29,7 +37,5 @@ mod store_files;
 mod stores;
 #[cfg(test)]
 mod stream;
-#[cfg(test)]
-mod sums;
 #[cfg(test)]
 mod version_sets;

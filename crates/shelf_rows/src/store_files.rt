@@ -1,6 +1,7 @@
 //! Stores in files. Each test has a folder of its own.
 use crate::calls::wrong_row;
-use sqlite::Connection;
+use crate::requests::REQUESTS;
+use sqlite::{Connection, Error};
 use std::fs;
 use std::test::Fail;
 use store::refusal::Refusal;
@@ -18,12 +19,23 @@ entry|alpha|example.com/lib|v1.0.0 = alpha|module example.com/lib;|Z|
 team-add|alpha = Taken
 ";
 
-/// The first row of a script that the store in a file answers otherwise.
-fn wrong_row_of_file<'a>(rt: &HostRuntime, file: &str, script: &'a str) -> Result<&'a str, Fail> {
-    let mut shelves = SqlShelves::open_file(rt, file)?;
+/// What opening the store in a file told: the first row of a script that it answers otherwise, or why it was refused.
+type Told<'a> = Result<&'a str, Refusal>;
+
+/// Opens the store in a file, has it answer a script, and closes it.
+fn told<'a>(rt: &HostRuntime, file: &str, script: &'a str) -> Result<Told<'a>, Fail> {
+    let mut shelves = match SqlShelves::open_file(rt, file) {
+        Ok(shelves) => shelves,
+        Err(refusal) => return Ok(Err(refusal)),
+    };
     let row = wrong_row(rt.alloc(), &mut shelves, script);
     shelves.close();
-    row
+    Ok(Ok(row?))
+}
+
+/// The first row of a script that the store in a file answers otherwise.
+fn wrong_row_of_file<'a>(rt: &HostRuntime, file: &str, script: &'a str) -> Result<&'a str, Fail> {
+    Ok(told(rt, file, script)??)
 }
 
 #[test]
@@ -36,35 +48,42 @@ fn a_file_keeps_its_shelves(rt: HostRuntime) -> Result<(), Fail> {
     Ok(())
 }
 
-fn refusal(rt: &HostRuntime, file: &str) -> Option<Refusal> {
-    match SqlShelves::open_file(rt, file) {
-        Ok(shelves) => {
-            shelves.close();
-            None
-        }
-        Err(refusal) => Some(refusal),
-    }
+#[test]
+fn a_file_answers_requests(rt: HostRuntime) -> Result<(), Fail> {
+    let _ = fs::remove_dir_all(&rt, "store_requests_test");
+    fs::create_dir(&rt, "store_requests_test")?;
+    let script = REQUESTS.split("====\n").next().unwrap_or("");
+    assert_eq!(rt;
+        wrong_row_of_file(&rt, "store_requests_test/a.db", script)?,
+        ""
+    );
+    fs::remove_dir_all(&rt, "store_requests_test")?;
+    Ok(())
 }
 
-/// A file with one table.
-fn make_foreign(rt: &HostRuntime, file: &str) -> Result<(), Fail> {
+fn refusal(rt: &HostRuntime, file: &str) -> Result<Option<Refusal>, Fail> {
+    Ok(told(rt, file, "")?.err())
+}
+
+/// Runs statements on a file without a store, and copies its log into it.
+fn execute(rt: &HostRuntime, file: &str, sql: &str) -> Result<(), Error> {
     let mut conn = Connection::open(rt, file)?;
-    let made = conn.execute_batch("CREATE TABLE x (a INTEGER) STRICT");
+    let executed = conn.execute_batch(sql);
     conn.close()?;
-    Ok(made?)
+    executed
 }
 
 /// Whether bytes that are no such store are refused as a file, and stay.
 fn stays(rt: &HostRuntime, file: &str, bytes: &[u8]) -> Result<bool, Fail> {
     fs::write(rt, file, bytes)?;
-    let told = refusal(rt, file);
+    let told = refusal(rt, file)?;
     let after = fs::read(rt, file)?;
     Ok(told == Some(Refusal::BadSchema) && after.as_slice() == bytes)
 }
 
-/// The bytes of a file, once its log is copied into it.
-fn bytes_of(rt: &HostRuntime, file: &str) -> Result<Vec<u8>, Fail> {
-    Connection::open(rt, file)?.close()?;
+/// The bytes of a file, once statements were run on it.
+fn bytes_after(rt: &HostRuntime, file: &str, sql: &str) -> Result<Vec<u8>, Fail> {
+    execute(rt, file, sql)?;
     Ok(fs::read(rt, file)?)
 }
 
@@ -92,7 +111,7 @@ fn a_damaged_file_is_refused(rt: HostRuntime) -> Result<(), Fail> {
         wrong_row_of_file(&rt, "store_damaged_test/a.db", FILL)?,
         ""
     );
-    let mut bytes = bytes_of(&rt, "store_damaged_test/a.db")?;
+    let mut bytes = bytes_after(&rt, "store_damaged_test/a.db", "")?;
     assert!(rt;
         stays(
             &rt,
@@ -116,8 +135,8 @@ fn a_damaged_file_is_refused(rt: HostRuntime) -> Result<(), Fail> {
 fn a_foreign_file_is_refused(rt: HostRuntime) -> Result<(), Fail> {
     let _ = fs::remove_dir_all(&rt, "store_foreign_test");
     fs::create_dir(&rt, "store_foreign_test")?;
-    make_foreign(&rt, "store_foreign_test/a.db")?;
-    let bytes = bytes_of(&rt, "store_foreign_test/a.db")?;
+    let table = "CREATE TABLE x (a INTEGER) STRICT";
+    let bytes = bytes_after(&rt, "store_foreign_test/a.db", table)?;
     assert!(rt; stays(&rt, "store_foreign_test/a.db", bytes.as_slice())?);
     assert!(rt;
         stays(
@@ -126,9 +145,9 @@ fn a_foreign_file_is_refused(rt: HostRuntime) -> Result<(), Fail> {
             b"This is a text and no database."
         )?
     );
-    assert_eq!(rt; refusal(&rt, "store_foreign_test"), Some(Refusal::Device));
-    assert_eq!(rt; refusal(&rt, ":memory:"), Some(Refusal::Device));
-    assert_eq!(rt; refusal(&rt, ""), Some(Refusal::Device));
+    assert_eq!(rt; refusal(&rt, "store_foreign_test")?, Some(Refusal::Device));
+    assert_eq!(rt; refusal(&rt, ":memory:")?, Some(Refusal::Device));
+    assert_eq!(rt; refusal(&rt, "")?, Some(Refusal::Device));
     fs::remove_dir_all(&rt, "store_foreign_test")?;
     Ok(())
 }

@@ -1,10 +1,15 @@
-//! Scripts of calls, each on a new store, and shelves in memory on them.
-use crate::calls::wrong_row;
+//! Scripts, each on a new store in memory: of maps and of tables.
+use crate::calls::wrong_row_of;
+use crate::doubles::shelves;
+use crate::requests::{REQUESTS, in_one_stream};
+use engine::answer_all;
+use std::alloc::Global;
 use std::test::Fail;
+use store::store::SqlShelves;
 use world::map_shelves::MapShelves;
 
-/// Scripts, with `====` between them.
-pub const SCRIPTS: &str = "\
+/// Scripts of calls, with `====` between them.
+const SCRIPTS: &str = "\
 team-add|alpha = Done
 team-add|alpha = Taken
 team-add|common = Name
@@ -45,6 +50,22 @@ count|alpha|example.com/x = 2
 paths|alpha = example.com/B;example.com/a/v2;example.com/x;example.com/y;
 ====
 team-add|alpha = Done
+count|alpha|example.com/x = 0
+insert|alpha|example.com/x|v1.0.0 = ()
+count|alpha|example.com/x = 1
+insert|common|example.com/x|v1.0.0 = ()
+insert|alpha|example.com/x|v1.1.0 = ()
+count|common|example.com/x = 1
+count|alpha|example.com/y = 0
+team-add|beta = Done
+key-add|alpha|alphakey00000001 = Done
+key-revoke|alphakey00000001 = Done
+insert|alpha|example.com/y|v1.0.0 = ()
+count|alpha|example.com/x = 2
+count|alpha|example.com/y = 1
+count|beta|example.com/x = 0
+====
+team-add|alpha = Done
 team-add|beta = Done
 insert|alpha|example.com/lib|v1.10.0|module example.com/lib; = ()
 insert|alpha|example.com/lib|v1.2.0|module example.com/lib; = ()
@@ -76,11 +97,53 @@ heading|alpha|example.com/lib|v1.0.0 = module \"example.com/lib\";|2024-02-29T12
 heading|common|example.com/lib|v1.0.0 = module example.com/lib;|
 ";
 
+/// The tables keep a second row of one version out, and that is a failure of the store.
+const SECOND_ROW: &str = "\
+insert|common|example.com/lib|v1.0.0|module example.com/lib; = ()
+count|common|example.com/lib = 1
+failures = 0
+insert|common|example.com/lib|v1.0.0|module example.com/lib; = Device
+failures = 1
+count|common|example.com/lib = 1
+";
+
+fn wrong_row_of_maps<'a>(alloc: Global, script: &'a str) -> Result<&'a str, Fail> {
+    wrong_row_of(alloc, MapShelves::new(alloc)?, script)
+}
+
 #[test]
 fn maps_answer(rt: HostRuntime) -> Result<(), Fail> {
-    for script in SCRIPTS.split("====\n") {
-        let mut shelves = MapShelves::new(rt.alloc())?;
-        assert_eq!(rt; wrong_row(rt.alloc(), &mut shelves, script)?, "");
+    for script in SCRIPTS.split("====\n").chain(REQUESTS.split("====\n")) {
+        assert_eq!(rt; wrong_row_of_maps(rt.alloc(), script)?, "");
     }
+    Ok(())
+}
+
+fn wrong_row_of_tables<'a>(alloc: Global, script: &'a str) -> Result<&'a str, Fail> {
+    wrong_row_of(alloc, SqlShelves::open_memory(alloc)?, script)
+}
+
+#[test]
+fn tables_in_memory_answer(rt: HostRuntime) -> Result<(), Fail> {
+    for script in SCRIPTS.split("====\n").chain(REQUESTS.split("====\n")) {
+        assert_eq!(rt; wrong_row_of_tables(rt.alloc(), script)?, "");
+    }
+    assert_eq!(rt; wrong_row_of_tables(rt.alloc(), SECOND_ROW)?, "");
+    Ok(())
+}
+
+#[test]
+fn requests_are_answered_in_one_stream(rt: HostRuntime) -> Result<(), Fail> {
+    let script = REQUESTS.split("====\n").next().unwrap_or("");
+    let (stream, wanted) = in_one_stream(rt.alloc(), script)?;
+    let mut reader = stream.as_bytes();
+    let mut output = Vec::new(rt.alloc());
+    answer_all(
+        rt.alloc(),
+        &mut reader,
+        &mut output,
+        &mut shelves(rt.alloc())?,
+    )?;
+    assert!(rt; output.as_slice() == wanted.as_bytes());
     Ok(())
 }

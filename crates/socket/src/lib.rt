@@ -24,8 +24,6 @@ mod connection;
 mod pace;
 mod rest;
 mod serve;
-#[cfg(test)]
-mod tests;
 
 pub use connection::{Answered, answer_in_time};
 pub use serve::serve_on;

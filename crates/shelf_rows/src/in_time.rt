@@ -1,7 +1,8 @@
 //! A peer's time, by a clock of the test's own.
-use crate::answer_in_time;
-use crate::tests::{PUBLISHED, PUT, shelves};
+use crate::connections::{PUBLISHED, PUT};
+use crate::doubles::shelves;
 use engine::Io;
+use socket::answer_in_time;
 use std::cell::Cell;
 use std::io::{self, Read};
 use std::rt::HostRuntime;
@@ -43,7 +44,7 @@ fn a_request_that_comes_in_time_is_answered(rt: HostRuntime) -> Result<(), Fail>
         &clock(10_000),
         first.chain(last),
         Vec::new(rt.alloc()),
-        &mut shelves(&rt)?,
+        &mut shelves(rt.alloc())?,
     );
     assert!(rt; answered.told == Ok(Some(201)));
     assert!(rt; answered.writer.as_slice() == PUBLISHED.as_bytes());
@@ -58,7 +59,7 @@ fn a_read_that_begins_too_late_fails(rt: HostRuntime) -> Result<(), Fail> {
         &clock(10_001),
         first.chain(last),
         Vec::new(rt.alloc()),
-        &mut shelves(&rt)?,
+        &mut shelves(rt.alloc())?,
     );
     assert!(rt; answered.told == Err(Io::Read));
     assert!(rt; answered.writer.is_empty());
@@ -69,7 +70,8 @@ fn a_read_that_begins_too_late_fails(rt: HostRuntime) -> Result<(), Fail> {
 const LARGE: &[u8] =
     b"PUT /k/alphakey00000001/example.com/lib/@v/v1.0.0 HTTP/1.1\r\nMod-Length: 23\r\nContent-Length: 524311\r\n\r\nmodule example.com/lib\n";
 
-/// What is told of a publish with a zip of 524,288 bytes, which takes 129 reads, by a clock with this step.
+/// What is told of a publish with a zip of 524,288 bytes by a clock with this step: a read for the head and the go.mod, and eight
+/// of 65,536 bytes.
 fn told_of_large(rt: &HostRuntime, step: u64) -> Result<Result<Option<u16>, Io>, Fail> {
     let zip = vec![in rt.alloc(); b'z'; 524_288]?;
     let answered = answer_in_time(
@@ -77,16 +79,15 @@ fn told_of_large(rt: &HostRuntime, step: u64) -> Result<Result<Option<u16>, Io>,
         &clock(step),
         LARGE.chain(zip.as_slice()),
         Vec::new(rt.alloc()),
-        &mut shelves(rt)?,
+        &mut shelves(rt.alloc())?,
     );
     Ok(answered.told)
 }
 
 #[test]
 fn bytes_that_are_moved_give_more_time(rt: HostRuntime) -> Result<(), Fail> {
-    // 128 steps take 10.88 s, which is less than 10 s and 1 for the first 262,144 bytes; or 11.52 s, with more than 11 s gone
-    // before the second 262,144 bytes have come.
-    assert!(rt; told_of_large(&rt, 85)? == Ok(Some(201)));
-    assert!(rt; told_of_large(&rt, 90)? == Err(Io::Read));
+    // The ninth read begins after eight steps, when 458,752 bytes have come: 10 s are allowed, and 1 for the first 262,144.
+    assert!(rt; told_of_large(&rt, 1_375)? == Ok(Some(201)));
+    assert!(rt; told_of_large(&rt, 1_376)? == Err(Io::Read));
     Ok(())
 }

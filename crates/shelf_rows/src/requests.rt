@@ -1,19 +1,21 @@
-//! The worked rows on one store, in a file, in tables in memory and in maps, and the whole reply to each.
-use crate::tests::runs::{column, new_folder, on_store};
+//! Requests and the bytes of their replies, as rows of scripts. (RFC 9112; Go Modules Reference, "GOPROXY protocol".)
+use crate::rows::{column, with_lines};
 use engine::answer_all;
 use std::alloc::{AllocError, Global};
-use std::fs;
-use std::rt::HostRuntime;
 use std::test::Fail;
-use store::store::SqlShelves;
-use world::entry::Right;
-use world::map_shelves::MapShelves;
-use world::registry::StoreFault;
 use world::shelves::Shelves;
 
-/// The worked rows, one a line: method, key and target of the request; status, kind and body of the reply; of a PUT also the
-/// go.mod, the zip and further lines of its head. `;` stands for the end of a line. A line without columns names those below it.
-const ROWS: &str = "\
+/// Scripts, with `====` between them, that begin with the teams and the keys. A request is a row: its method, key and target; status,
+/// kind and body of the reply; of a PUT also the go.mod, the zip and further lines of its head. A stream is a row too: its bytes;
+/// status, kind and body of each reply, of which `&` stands before the second. `;` stands for the end of a line. A line without
+/// columns names those below it. The hashes are those of Python's hashlib and base64.
+pub const REQUESTS: &str = "\
+team-add|alpha = Done
+team-add|beta = Done
+key-add|alpha|alphakey00000001 = Done
+reader-add|alpha|alphareader00001 = Done
+key-add|beta|betakey000000001 = Done
+key-add|common|commonkey0000001 = Done
 empty-modules
 GET B -/modules | 200 OK | plain |
 first-publish
@@ -108,7 +110,59 @@ PUT A example.com/t/@v/v0.0.0-20240101000000-aaaaaaaaaaaa | 422 Unprocessable En
 two times, and an empty one
 PUT A example.com/t/@v/v1.1.0 | 422 Unprocessable Entity | plain | bad-time; | module example.com/t; | | Version-Time: 2024-01-01T00:00:00Z;version-time: 2024-01-01T00:00:00Z;
 PUT A example.com/t/@v/v1.1.0 | 422 Unprocessable Entity | plain | bad-time; | module example.com/t; | | Version-Time:;
+a PUT whose body ends one byte early
+PUT /k/alphakey00000001/example.com/q/@v/v1.0.0 HTTP/1.1;Mod-Length: 21;Content-Length: 21;;module example.com/q | 400 Bad Request | plain | bad request;
+====
+team-add|alpha = Done
+team-add|beta = Done
+key-add|alpha|alphakey00000001 = Done
+reader-add|alpha|alphareader00001 = Done
+key-add|beta|betakey000000001 = Done
+key-add|common|commonkey0000001 = Done
+bad-fronts, each with a message behind it
+GET / HTTP/1.1;a:b;a:b;a:b;a:b;a:b;a:b;a:b;a:b;a:b;a:b;a:b;a:b;a:b;a:b;a:b;a:b;a:b;a:b;a:b;a:b;a:b;a:b;a:b;a:b;a:b;a:b;a:b;a:b;a:b;a:b;a:b;a:b;a:b;a:b;a:b;a:b;a:b;a:b;a:b;a:b;a:b;a:b;a:b;a:b;a:b;a:b;a:b;a:b;a:b;a:b;a:b;a:b;a:b;a:b;a:b;a:b;a:b;a:b;a:b;a:b;a:b;a:b;a:b;a:b;a:b;;GET / HTTP/1.1;; | 400 Bad Request | plain | bad request;
+GET / HTTP/1.1;Content-Length: 17825793;;GET / HTTP/1.1;; | 413 Payload Too Large | plain | too large;
+GET / HTTP/1.1;Content-Length: 1;Content-Length: 1;;GET / HTTP/1.1;; | 400 Bad Request | plain | bad request;
+refused-publishes: a body that ends one byte early
+PUT /k/alphakey00000001/example.com/q/@v/v1.0.0 HTTP/1.1;Mod-Length: 23;Content-Length: 23;;module example.com/q; | 400 Bad Request | plain | bad request;
+GET /k/alphakey00000001/example.com/q/@v/v1.0.0.mod HTTP/1.1;; | 404 Not Found | plain | not found;
+bad-mod-lengths: absent, doubled, with a leading zero, above the body; each with a message behind it
+PUT /k/alphakey00000001/example.com/q/@v/v1.0.0 HTTP/1.1;Content-Length: 22;;module example.com/q;GET / HTTP/1.1;; | 400 Bad Request | plain | bad mod-length; & | 404 Not Found | plain | not found;
+PUT /k/alphakey00000001/example.com/q/@v/v1.0.0 HTTP/1.1;Mod-Length: 22;Mod-Length: 22;Content-Length: 22;;module example.com/q;GET / HTTP/1.1;; | 400 Bad Request | plain | bad mod-length; & | 404 Not Found | plain | not found;
+PUT /k/alphakey00000001/example.com/q/@v/v1.0.0 HTTP/1.1;Mod-Length: 022;Content-Length: 22;;module example.com/q;GET / HTTP/1.1;; | 400 Bad Request | plain | bad mod-length; & | 404 Not Found | plain | not found;
+PUT /k/alphakey00000001/example.com/q/@v/v1.0.0 HTTP/1.1;Mod-Length: 23;Content-Length: 22;;module example.com/q;GET / HTTP/1.1;; | 400 Bad Request | plain | bad mod-length; & | 404 Not Found | plain | not found;
+an empty line behind a message
+GET / HTTP/1.1;;; | 404 Not Found | plain | not found; & | 400 Bad Request | plain | bad request;
+====
+team-add|alpha = Done
+team-add|beta = Done
+key-add|alpha|alphakey00000001 = Done
+reader-add|alpha|alphareader00001 = Done
+key-add|beta|betakey000000001 = Done
+key-add|common|commonkey0000001 = Done
+PUT A example.com/lib/@v/v1.0.0 | 201 Created | plain | published; | module example.com/lib; |
+GET A -/gosum/example.com/lib/@v/v1.0.0 | 200 OK | plain | example.com/lib v1.0.0/go.mod h1:4OAnUP7RpKJ0hg7ydNi+A/luktLxx7xSrw0c+FeAtlc=;
+GET R -/gosum/example.com/lib/@v/v1.0.0 | 200 OK | plain | example.com/lib v1.0.0/go.mod h1:4OAnUP7RpKJ0hg7ydNi+A/luktLxx7xSrw0c+FeAtlc=;
+GET A example.com/lib/@v/v1.0.0.mod | 200 OK | plain | module example.com/lib;
+GET A -/go%73um/example.com%2Flib/%40v/v1.0.0 | 200 OK | plain | example.com/lib v1.0.0/go.mod h1:4OAnUP7RpKJ0hg7ydNi+A/luktLxx7xSrw0c+FeAtlc=;
+GET B -/gosum/example.com/lib/@v/v1.0.0 | 404 Not Found | plain | not found;
+GET N -/gosum/example.com/lib/@v/v1.0.0 | 404 Not Found | plain | not found;
+GET A -/gosum/example.com/lib/@v/v9.0.0 | 404 Not Found | plain | not found;
+GET A -/gosum/example.com/lib/@v/v1.0.0.mod | 404 Not Found | plain | not found;
+GET A %2D/gosum/example.com/lib/@v/v1.0.0 | 404 Not Found | plain | not found;
+GET A -/gosum/example.com/lib/@latest | 404 Not Found | plain | not found;
+PUT A -/gosum/example.com/lib/@v/v1.0.0 | 404 Not Found | plain | not found; | module example.com/lib; |
+PUT C example.com/x/@v/v1.0.0 | 201 Created | plain | published; | module example.com/x; |
+GET B -/gosum/example.com/x/@v/v1.0.0 | 200 OK | plain | example.com/x v1.0.0/go.mod h1:cq1Wlc5Q/3TKMd9Nt+I/D/H5kAJrHbzSCzH20/f7O0w=;
+PUT A example.com/!lib/@v/v1.0.0-a.mod | 201 Created | plain | published; | module example.com/Lib; |
+GET A -/gosum/example.com/!lib/@v/v1.0.0-a.mod | 200 OK | plain | example.com/Lib v1.0.0-a.mod/go.mod h1:QCLwax7NYDdQrhhEO5lFRKWPJgpb1/PsD0HlPYhcfdU=;
+GET A -/gosum/example.com/Lib/@v/v1.0.0-a.mod | 404 Not Found | plain | not found;
 ";
+
+/// A column of a row.
+fn part(row: &str, place: usize) -> &str {
+    column(row, place).trim()
+}
 
 /// The key that a letter stands for.
 fn key_of(letter: &str) -> &'static str {
@@ -130,154 +184,84 @@ fn kind_of(word: &str) -> &'static str {
     }
 }
 
-/// Puts a text behind another, with this end for each of its lines.
-pub fn push_lines(to: &mut String, text: &str, end: &str) -> Result<(), AllocError> {
-    for c in text.chars() {
-        if c == ';' {
-            to.push_str(end)?;
-        } else {
-            to.push(c)?;
-        }
-    }
-    Ok(())
+/// The text of a column, whose lines end as those of a head do.
+fn head_lines(alloc: Global, column: &str) -> Result<String, AllocError> {
+    column.replace(alloc, ";", "\r\n")
 }
 
-/// Puts the rest of the head of a PUT, and its files.
-fn push_files(to: &mut String, alloc: Global, row: &str) -> Result<(), AllocError> {
-    let mut files = String::new(alloc);
-    push_lines(&mut files, column(row, 4), "\n")?;
-    let gomod = files.len();
-    files.push_str(column(row, 5))?;
-    push_lines(to, column(row, 6), "\r\n")?;
-    write!(
-        to,
-        "Mod-Length: {gomod}\r\nContent-Length: {}\r\n\r\n{files}",
-        files.len()
+/// What follows the first line of a PUT.
+fn put_rest(alloc: Global, row: &str) -> Result<String, AllocError> {
+    let lines = head_lines(alloc, part(row, 6))?;
+    let gomod = with_lines(alloc, part(row, 4))?;
+    let zip = part(row, 5);
+    format!(in alloc;
+        "{lines}Mod-Length: {}\r\nContent-Length: {}\r\n\r\n{gomod}{zip}",
+        gomod.len(),
+        gomod.len().saturating_add(zip.len()),
     )
-    .map_err(|_| AllocError)
 }
 
 /// The bytes of the request of a row.
 fn request(alloc: Global, row: &str) -> Result<String, AllocError> {
-    let mut words = column(row, 0).split(' ');
+    let mut words = part(row, 0).split(' ');
     let method = words.next().unwrap_or("");
     let key = key_of(words.next().unwrap_or(""));
     let target = words.next().unwrap_or("");
     let mut text = format!(in alloc; "{method} /k/{key}/{target} HTTP/1.1\r\n")?;
     if method == "PUT" {
-        push_files(&mut text, alloc, row)?;
+        text.push_str(put_rest(alloc, row)?.as_str())?;
     } else {
         text.push_str("\r\n")?;
     }
     Ok(text)
 }
 
-/// The bytes of the reply of a row.
-pub fn reply(alloc: Global, row: &str) -> Result<String, AllocError> {
-    let mut body = String::new(alloc);
-    push_lines(&mut body, column(row, 3), "\n")?;
+/// The bytes that a row asks with.
+fn asked(alloc: Global, row: &str) -> Result<String, AllocError> {
+    if part(row, 0).contains(" HTTP/1.1") {
+        head_lines(alloc, part(row, 0))
+    } else {
+        request(alloc, row)
+    }
+}
+
+/// The bytes of a reply.
+fn reply(alloc: Global, row: &str) -> Result<String, AllocError> {
+    let body = with_lines(alloc, part(row, 3))?;
     format!(in alloc;
         "HTTP/1.1 {}\r\nContent-Type: {}\r\nContent-Length: {}\r\nConnection: close\r\n\r\n{body}",
-        column(row, 1),
-        kind_of(column(row, 2)),
+        part(row, 1),
+        kind_of(part(row, 2)),
         body.len(),
     )
 }
 
-/// The commands that make the store that the rows begin on.
-const OPENING: [&str; 6] = [
-    "team-add --team alpha",
-    "team-add --team beta",
-    "key-add --shelf alpha --key alphakey00000001",
-    "key-add --shelf alpha --key alphareader00001 --read-only",
-    "key-add --shelf beta --key betakey000000001",
-    "key-add --shelf common --key commonkey0000001",
-];
-
-/// A PUT whose body ends one byte early.
-const CUT: &str =
-    "PUT /k/alphakey00000001/example.com/q/@v/v1.0.0 HTTP/1.1\r\nMod-Length: 21\r\nContent-Length: 21\r\n\r\nmodule example.com/q";
-
-const BAD_REQUEST: &str =
-    "HTTP/1.1 400 Bad Request\r\nContent-Type: text/plain; charset=utf-8\r\nContent-Length: 12\r\nConnection: close\r\n\r\nbad request\n";
-
-/// The requests of the rows and of the cut one, and the replies to them.
-fn streams(alloc: Global) -> Result<(String, String), AllocError> {
-    let mut input = String::new(alloc);
-    let mut expected = String::new(alloc);
-    for row in ROWS.lines().filter(|row| row.contains('|')) {
-        input.push_str(request(alloc, row)?.as_str())?;
-        expected.push_str(reply(alloc, row)?.as_str())?;
+/// The bytes of the replies of a row.
+fn replies(alloc: Global, row: &str) -> Result<String, AllocError> {
+    let mut text = String::new(alloc);
+    for part in row.split('&') {
+        text.push_str(reply(alloc, part)?.as_str())?;
     }
-    input.push_str(CUT)?;
-    expected.push_str(BAD_REQUEST)?;
-    Ok((input, expected))
+    Ok(text)
 }
 
-#[test]
-fn answers_the_rows_on_a_store_in_a_file(rt: HostRuntime) -> Result<(), Fail> {
-    new_folder(&rt, "rows")?;
-    for line in OPENING {
-        assert_eq!(rt;
-            on_store(&rt, "rows/store.db", line, b"")?.status,
-            0,
-            "{line}"
-        );
-    }
-    let empty = on_store(&rt, "rows/store.db", "answer", b"")?;
-    assert!(rt; empty.status == 0 && empty.output.is_empty());
-    let (input, expected) = streams(rt.alloc())?;
-    let ended = on_store(&rt, "rows/store.db", "answer", input.as_bytes())?;
-    assert_eq!(rt; ended.status, 0);
-    assert!(rt; ended.output.as_slice() == expected.as_bytes());
-    fs::remove_dir_all(&rt, "rows")?;
-    Ok(())
-}
-
-/// Adds the teams and the keys that the rows begin on.
-pub fn register<S: Shelves>(shelves: &mut S) -> Result<(), StoreFault> {
-    shelves.team_add("alpha")?;
-    shelves.team_add("beta")?;
-    shelves.key_add("alpha", "alphakey00000001", Right::Publishes)?;
-    shelves.key_add("alpha", "alphareader00001", Right::Reads)?;
-    shelves.key_add("beta", "betakey000000001", Right::Publishes)?;
-    shelves.key_add("common", "commonkey0000001", Right::Publishes)?;
-    Ok(())
-}
-
-/// What is written for a stream.
-pub fn answered<S: Shelves>(
-    alloc: Global,
-    shelves: &mut S,
-    stream: &[u8],
-) -> Result<Vec<u8>, Fail> {
-    let mut reader = stream;
+/// Whether a row is answered as it says.
+pub fn is_answered<S: Shelves>(alloc: Global, shelves: &mut S, row: &str) -> Result<bool, Fail> {
+    let asked = asked(alloc, row)?;
+    let replies = replies(alloc, row)?;
+    let mut reader = asked.as_bytes();
     let mut output = Vec::new(alloc);
     answer_all(alloc, &mut reader, &mut output, shelves)?;
-    Ok(output)
+    Ok(output.as_slice() == replies.as_bytes())
 }
 
-#[test]
-fn answers_the_rows_on_tables_in_memory(rt: HostRuntime) -> Result<(), Fail> {
-    let Ok(mut shelves) = SqlShelves::open_memory(rt.alloc()) else {
-        panic!(rt; "a store opens in memory");
-    };
-    register(&mut shelves)?;
-    let (input, expected) = streams(rt.alloc())?;
-    let output = answered(rt.alloc(), &mut shelves, input.as_bytes())?;
-    assert!(rt; output.as_slice() == expected.as_bytes());
-    Ok(())
-}
-
-#[test]
-fn answers_the_rows_on_maps(rt: HostRuntime) -> Result<(), Fail> {
-    let mut shelves = MapShelves::new(rt.alloc())?;
-    register(&mut shelves)?;
-    for row in ROWS.lines().filter(|row| row.contains('|')) {
-        let input = request(rt.alloc(), row)?;
-        let expected = reply(rt.alloc(), row)?;
-        let output = answered(rt.alloc(), &mut shelves, input.as_bytes())?;
-        assert!(rt; output.as_slice() == expected.as_bytes(), "{row}");
+/// The requests of a script in one stream, and the replies to them.
+pub fn in_one_stream(alloc: Global, script: &str) -> Result<(String, String), AllocError> {
+    let mut stream = String::new(alloc);
+    let mut wanted = String::new(alloc);
+    for row in script.lines().filter(|row| row.contains(" | ")) {
+        stream.push_str(asked(alloc, row)?.as_str())?;
+        wanted.push_str(replies(alloc, row)?.as_str())?;
     }
-    Ok(())
+    Ok((stream, wanted))
 }

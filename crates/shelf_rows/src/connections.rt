@@ -1,21 +1,17 @@
 //! Connections of this process to itself.
-mod in_time;
-
-use crate::serve_on;
+use crate::doubles::shelves;
+use socket::serve_on;
 use std::io::{Read, Write};
 use std::net::{Shutdown, TcpListener, TcpStream};
 use std::rt::HostRuntime;
 use std::test::Fail;
-use world::entry::Right;
-use world::map_shelves::MapShelves;
-use world::shelves::Shelves;
 
-const PUT: &[u8] =
+pub const PUT: &[u8] =
     b"PUT /k/alphakey00000001/example.com/lib/@v/v1.0.0 HTTP/1.1\r\nMod-Length: 23\r\nContent-Length: 23\r\n\r\nmodule example.com/lib\n";
 
 const GET: &[u8] = b"GET /k/alphakey00000001/example.com/lib/@v/v1.0.0.mod HTTP/1.1\r\n\r\n";
 
-const PUBLISHED: &str =
+pub const PUBLISHED: &str =
     "HTTP/1.1 201 Created\r\nContent-Type: text/plain; charset=utf-8\r\nContent-Length: 10\r\nConnection: close\r\n\r\npublished\n";
 
 const SERVED: &str =
@@ -35,21 +31,13 @@ fn reply(rt: &HostRuntime, mut stream: TcpStream) -> Result<String, Fail> {
     Ok(text)
 }
 
-/// Shelves with one team and its key.
-fn shelves(rt: &HostRuntime) -> Result<MapShelves, Fail> {
-    let mut shelves = MapShelves::new(rt.alloc())?;
-    let _ = shelves.team_add("alpha");
-    let _ = shelves.key_add("alpha", "alphakey00000001", Right::Publishes);
-    Ok(shelves)
-}
-
 #[test]
 fn answers_one_request_on_each_of_two_connections(rt: HostRuntime) -> Result<(), Fail> {
     let listener = TcpListener::bind(&rt, "127.0.0.1:0")?;
     let port = listener.local_addr()?.port();
     let first = client(&rt, port, PUT)?;
     let second = client(&rt, port, GET)?;
-    serve_on(rt.alloc(), &rt, &listener, &mut shelves(&rt)?, 2);
+    serve_on(rt.alloc(), &rt, &listener, &mut shelves(rt.alloc())?, 2);
     assert!(rt; reply(&rt, first)?.as_str() == PUBLISHED);
     assert!(rt; reply(&rt, second)?.as_str() == SERVED);
     Ok(())
@@ -63,7 +51,7 @@ fn a_connection_that_fails_counts(rt: HostRuntime) -> Result<(), Fail> {
     let half = client(&rt, port, b"GET / HT")?;
     half.shutdown(Shutdown::Write)?;
     let last = client(&rt, port, GET)?;
-    serve_on(rt.alloc(), &rt, &listener, &mut shelves(&rt)?, 2);
+    serve_on(rt.alloc(), &rt, &listener, &mut shelves(rt.alloc())?, 2);
     assert!(rt; reply(&rt, half)?.starts_with("HTTP/1.1 400 "));
     listener.set_nonblocking(true)?;
     assert!(rt; listener.accept().is_ok(), "the third was not taken");
@@ -75,7 +63,7 @@ fn a_connection_that_fails_counts(rt: HostRuntime) -> Result<(), Fail> {
 fn an_accept_that_fails_counts(rt: HostRuntime) -> Result<(), Fail> {
     let listener = TcpListener::bind(&rt, "127.0.0.1:0")?;
     listener.set_nonblocking(true)?;
-    serve_on(rt.alloc(), &rt, &listener, &mut shelves(&rt)?, 3);
+    serve_on(rt.alloc(), &rt, &listener, &mut shelves(rt.alloc())?, 3);
     Ok(())
 }
 
@@ -93,7 +81,7 @@ fn bytes_behind_the_message_do_not_lose_the_reply(rt: HostRuntime) -> Result<(),
     )?;
     (&large).write_all(more.as_slice())?;
     large.shutdown(Shutdown::Write)?;
-    serve_on(rt.alloc(), &rt, &listener, &mut shelves(&rt)?, 2);
+    serve_on(rt.alloc(), &rt, &listener, &mut shelves(rt.alloc())?, 2);
     assert!(rt; reply(&rt, stream)?.as_str() == PUBLISHED);
     assert!(rt; reply(&rt, large)?.starts_with("HTTP/1.1 413 "));
     Ok(())

@@ -13,6 +13,10 @@ struct CommandRow {
     name: &'static str,
     about: &'static str,
     options: &'static [OptionRow],
+    /// The forms that are allowed, where options stand in place of others; the parser makes the usage of every other command.
+    forms: Option<&'static str>,
+    /// What stands below the options: nothing, or an example.
+    example: &'static str,
 }
 
 /// An option of a command as help tells of it.
@@ -54,53 +58,100 @@ static COMMANDS: [CommandRow; 10] = [
         name: "init",
         about: "Makes a store with the shelf common alone, in a file that has no bytes",
         options: &INIT,
+        forms: None,
+        example: "",
     },
     CommandRow {
         name: "team-add",
         about: "Adds a team, with a shelf of its own",
         options: &TEAM_ADD,
+        forms: None,
+        example: "",
     },
     CommandRow {
         name: "key-add",
         about: "Adds a key to a shelf",
         options: &KEY_ADD,
+        forms: None,
+        example: "",
     },
     CommandRow {
         name: "key-revoke",
         about: "Takes a key away",
         options: &KEY_REVOKE,
+        forms: None,
+        example: "",
     },
     CommandRow {
         name: "publish",
         about: "Publishes a version of a module from files, and prints the outcome",
         options: &PUBLISH,
+        forms: None,
+        example: PUBLISH_EXAMPLE,
     },
     CommandRow {
         name: "import",
         about: "Publishes each row of a list, and prints the outcome of each",
         options: &IMPORT,
+        forms: None,
+        example: IMPORT_EXAMPLE,
     },
     CommandRow {
         name: "inventory",
         about: "Prints each version that the shelf of a key sees, as CSV",
         options: &INVENTORY,
+        forms: None,
+        example: "",
     },
     CommandRow {
         name: "requires",
         about: "Prints what the go.mod of a version requires, a line for each path and version",
         options: &REQUIRES,
+        forms: None,
+        example: "",
     },
     CommandRow {
         name: "answer",
         about: "Answers the HTTP requests on standard input, on standard output",
         options: &ANSWER,
+        forms: Some(ANSWER_FORMS),
+        example: "",
     },
     CommandRow {
         name: "serve",
         about: "Answers one HTTP request on each of some connections to 127.0.0.1",
         options: &SERVE,
+        forms: None,
+        example: SERVE_EXAMPLE,
     },
 ];
+
+/// The two forms of `answer`.
+const ANSWER_FORMS: &str =
+    "goshelf answer --db <F>\n       goshelf answer --mem --team <T> --key <K>";
+
+/// A publish.
+const PUBLISH_EXAMPLE: &str = "\
+Example:
+  goshelf publish --db shelves.db --key alphakey00000001 --module example.com/greet \\
+      --version v1.0.0 --mod go.mod --zip greet.zip --time 2024-01-31T12:00:00Z";
+
+/// A list, and its import.
+const IMPORT_EXAMPLE: &str = "\
+Example, with a list of two versions, of which the second has no time:
+  $ cat list.csv
+  path,version,time,mod,zip
+  example.com/greet,v1.0.0,2024-01-31T12:00:00Z,go.mod,greet.zip
+  example.com/greet,v1.0.1,,go.mod,greet.zip
+  $ goshelf import --db shelves.db --key alphakey00000001 --list list.csv
+  1 201 published
+  2 201 published";
+
+/// A server, and what the go command is told of it.
+const SERVE_EXAMPLE: &str = "\
+Example, and the go command that asks it with the key K:
+  goshelf serve --db shelves.db --port 8080
+  GOPROXY=http://127.0.0.1:8080/k/K GONOSUMDB=example.com go get example.com/greet@v1.0.0";
 
 /// The file of the store.
 const DB: OptionRow = OptionRow {
@@ -307,9 +358,20 @@ fn described<'a>(alloc: Global) -> Command<'a> {
         .version("0.1.0")
 }
 
+/// A command as help tells of it, without its options. Where forms are told, the command alone shows its help, as bad usage.
+fn told<'a>(alloc: Global, row: &CommandRow) -> Command<'a> {
+    let command = Command::new(alloc, row.name)
+        .about(row.about)
+        .after_help(row.example);
+    match row.forms {
+        Some(forms) => command.override_usage(forms).arg_required_else_help(true),
+        None => command,
+    }
+}
+
 /// A command with its options.
 fn command<'a>(alloc: Global, row: &CommandRow) -> Result<Command<'a>, AllocError> {
-    let mut command = Command::new(alloc, row.name).about(row.about);
+    let mut command = told(alloc, row);
     for option in row.options {
         command = command.arg(argument(alloc, option)?)?;
     }

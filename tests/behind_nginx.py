@@ -1,5 +1,6 @@
 #!/usr/bin/env python3
-"""nginx before `goshelf serve`, by the configuration of docs/OPERATING.md: TLS, what is cached and what is not, slow clients, keys.
+"""nginx before `goshelf serve`, by the configuration of docs/OPERATING.md: TLS, what is cached and what is not, clients that are slow with
+a head, with a body or with what they are sent, keys.
 
 Build the program first (`./goshelf --version`); nginx and openssl are on the path (Debian: nginx, openssl). The configuration and the
 command that takes a revoked key out of the cache are read from the page; only ports and places are put in.
@@ -21,6 +22,8 @@ PROGRAM = os.path.join(ROOT, "crates", "goshelf", "out", "goshelf")
 KEY, READER = "alphakey00000001", "alphareader00001"
 AT = "example.com/lib/@v"
 GOMOD, ZIP = b"module example.com/lib\n", os.urandom(3_000_000)
+# more than all buffers of sockets on the way hold
+LARGEST_ZIP = os.urandom(16_777_216)
 
 
 def free_port():
@@ -93,7 +96,7 @@ class Front:
         self.port, self.context = port, ssl.create_default_context(cafile=pem)
 
     def ask(self, method, target, body=None, headers=None):
-        conn = http.client.HTTPSConnection("localhost", self.port, timeout=20, context=self.context)
+        conn = http.client.HTTPSConnection("localhost", self.port, timeout=60, context=self.context)
         conn.request(method, target, body, headers or {})
         reply = conn.getresponse()
         told = reply.status, reply.read()
@@ -103,12 +106,83 @@ class Front:
     def get(self, rest, key=READER):
         return self.ask("GET", f"/k/{key}/{rest}")
 
-    def slow(self):
-        """A client that sends half of a head, and then nothing."""
-        raw = socket.create_connection(("localhost", self.port), timeout=20)
+    def begin(self, sent, room=None):
+        """A connection on which this is sent; with room for so many bytes of what is answered."""
+        raw = socket.socket()
+        raw.settimeout(60)
+        if room:
+            raw.setsockopt(socket.SOL_SOCKET, socket.SO_RCVBUF, room)
+        raw.connect(("127.0.0.1", self.port))
         held = self.context.wrap_socket(raw, server_hostname="localhost")
-        held.sendall(f"GET /k/{READER}/{AT}/list HTTP/1.1\r\nHo".encode())
+        held.sendall(sent)
         return held
+
+    def half_a_head(self):
+        """A client that sends half of a head, and then nothing."""
+        return self.begin(f"GET /k/{READER}/{AT}/list HTTP/1.1\r\nHo".encode())
+
+    def half_a_body(self):
+        """A client that sends half of a publish, and then nothing."""
+        head = f"PUT /k/{KEY}/{AT}/v9.0.0 HTTP/1.1\r\nHost: localhost\r\nMod-Length: {len(GOMOD)}\r\n"
+        return self.begin(f"{head}Content-Length: {len(GOMOD + ZIP)}\r\n\r\n".encode() + GOMOD + ZIP[: len(ZIP) // 2])
+
+    def reads_nothing(self, key):
+        """A client that asks for the largest zip and reads nothing of it."""
+        return self.begin(f"GET /k/{key}/{AT}/v1.2.0.zip HTTP/1.1\r\nHost: localhost\r\nConnection: close\r\n\r\n".encode(), 4096)
+
+
+def rest_of(held):
+    """What is read on a connection to its end."""
+    told = b""
+    while part := held.recv(1_048_576):
+        told += part
+    return told
+
+
+def hold(front, name, clients):
+    """While these clients stand still, another is answered at once."""
+    time.sleep(1)
+    begun = time.time()
+    assert front.get(f"{AT}/list")[0] == 200 and time.time() - begun < 5, (name, time.time() - begun)
+    print(f"{len(clients)} clients that {name} hold nobody")
+
+
+def slow_clients(front):
+    """Some that are slow with a head, with a body, and with what they are sent."""
+    told = front.ask("PUT", f"/k/{KEY}/{AT}/v1.2.0", GOMOD + LARGEST_ZIP, {"Mod-Length": str(len(GOMOD))})
+    assert told[0] == 201, told
+    heads = [front.half_a_head() for _ in range(4)]
+    hold(front, "send half of a head", heads)
+    bodies = [front.half_a_body() for _ in range(4)]
+    hold(front, "send half of a body", bodies)
+    readers = [front.reads_nothing(key) for key in (KEY, READER) for _ in range(2)]
+    hold(front, "read nothing of a zip", readers)
+    for it in readers:
+        assert rest_of(it).endswith(b"\r\n\r\n" + LARGEST_ZIP)
+    for it in (*heads, *bodies, *readers):
+        it.close()
+    assert front.get(f"{AT}/v9.0.0.mod")[0] == 404
+
+
+def keys_in(log):
+    """Whether a key stands in a log."""
+    with open(log, "rb") as file:
+        text = file.read()
+    return KEY.encode() in text or READER.encode() in text
+
+
+def unwritable_cache(front, folder):
+    """Where the cache can't be written nginx tells so by a line that has the key, whatever the format of the log is."""
+    os.chmod(f"{folder}/cache", 0o500)
+    try:
+        front.get(f"{AT}/v1.1.0.mod", KEY)
+        front.get(f"{AT}/v1.2.0.mod", KEY)
+    except http.client.HTTPException:
+        pass
+    finally:
+        os.chmod(f"{folder}/cache", 0o700)
+    assert keys_in(f"{folder}/goshelf-errors.log")
+    print("a line of crit holds a key")
 
 
 def main():
@@ -127,16 +201,11 @@ def main():
             assert front.get(f"{AT}/v1.0.0.zip") == (200, ZIP)
             assert front.get(f"{AT}/v1.0.0.mod") == (200, GOMOD)
             assert front.get(f"{AT}/list") == (200, b"v1.0.0\n")
-            assert front.get(f"{AT}/v1.1.0.mod")[0] == 404
+            assert front.get(f"{AT}/v1.1.0.mod")[0] == 404 and front.get(f"{AT}/v1.2.0.mod")[0] == 404
             print("TLS: a publish and its fetches")
-            held = [front.slow() for _ in range(4)]
-            begun = time.time()
-            assert front.get(f"{AT}/list")[0] == 200 and time.time() - begun < 2
-            for it in held:
-                it.close()
-            print("slow clients hold nobody")
+            slow_clients(front)
             told = front.ask("PUT", f"/k/{KEY}/{AT}/v1.1.0", GOMOD, {"Mod-Length": str(len(GOMOD))})
-            assert told[0] == 201 and front.get(f"{AT}/v1.1.0.mod") == (200, GOMOD) and front.get(f"{AT}/list") == (200, b"v1.0.0\nv1.1.0\n")
+            assert told[0] == 201 and front.get(f"{AT}/v1.1.0.mod") == (200, GOMOD) and front.get(f"{AT}/list") == (200, b"v1.0.0\nv1.1.0\nv1.2.0\n")
             print("a 404 and a list are not kept")
             stop(program)
             assert front.get(f"{AT}/v1.0.0.zip") == (200, ZIP) and front.get(f"{AT}/list")[0] == 502
@@ -148,15 +217,13 @@ def main():
             subprocess.run(["sh", "-c", purge], check=True, env={**os.environ, "KEY": READER})
             assert front.get(f"{AT}/v1.0.0.zip")[0] == 404 and front.get(f"{AT}/v1.0.0.zip", KEY) == (200, ZIP)
             print("a revoked key is answered what it has cached, and nothing once that is taken out")
+            assert not any(keys_in(f"{folder}/{name}") for name in ("goshelf.log", "goshelf-errors.log"))
+            print("no key is in a log")
+            unwritable_cache(front, folder)
         finally:
             stop(program)
             nginx.terminate()
             nginx.wait()
-        for name in ("goshelf.log", "goshelf-errors.log"):
-            with open(f"{folder}/{name}", "rb") as log:
-                text = log.read()
-            assert KEY.encode() not in text and READER.encode() not in text, name
-        print("no key is in a log")
 
 
 if __name__ == "__main__":

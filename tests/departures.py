@@ -90,7 +90,7 @@ def answer(program, row):
 def shown(row):
     """The input of a row, for the table."""
     text = " ".join(row[2:]) or "(nothing)"
-    text = text if len(text) <= 60 else text[:24] + ".." + text[-4:]
+    text = text if len(text) <= 80 else text[:24] + ".." + text[-4:]
     return "`" + text.replace("`", "'").replace("|", "\\|") + "`"
 
 

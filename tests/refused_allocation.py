@@ -1,13 +1,16 @@
 #!/usr/bin/env python3
 """One refused allocation gives at most one 503, and changes nothing but that one answer.
 
-Runs the built program (`./goshelf --version` builds it) on a stream of publishes and fetches, once for each N, with the
-Nth allocation refused by a small library that stands before the C library's (made with `cc`). Each run has to end as a run
-of the machine: the replies are those to the requests that were not answered 503; where the 503 closes the stream,
-it is the last. A run whose memory ends before the first request says `goshelf: memory`.
+Runs the built program (`./goshelf --version` builds it) on a stream of publishes and fetches, over shelves in memory and
+over a file, once for each N, with the Nth allocation refused by a small library that stands before the C library's (made
+with `cc`). Each run has to end as a run of the machine: the replies are those to the requests that were not answered 503;
+where the 503 closes the stream, it is the last. A run whose memory ends before the first request says `goshelf: memory`.
+A file is opened again after it: what was answered 201 is there, and is answered 200 when it comes again.
 """
 
+import functools
 import os
+import shutil
 import subprocess
 import sys
 import tempfile
@@ -15,7 +18,7 @@ import tempfile
 ROOT = os.path.dirname(os.path.dirname(os.path.abspath(__file__)))
 PROGRAM = os.path.join(ROOT, "crates", "goshelf", "out", "goshelf")
 KEY = "alphakey00000001"
-WORDS = ["answer", "--mem", "--team", "alpha", "--key", KEY]
+IN_MEMORY = ["--mem", "--team", "alpha", "--key", KEY]
 
 LIBRARY = """
 #include <stdlib.h>
@@ -64,14 +67,36 @@ REQUESTS = [
 ]
 
 
-def run(library, requests, **more):
-    done = subprocess.run(
-        [PROGRAM] + WORDS,
-        input=b"".join(requests),
-        capture_output=True,
-        env={**os.environ, "LD_PRELOAD": library, **more},
-    )
-    return done.returncode, done.stdout, done.stderr
+class Runs:
+    """Runs of the program over one kind of store, each on one that is new."""
+
+    def __init__(self, folder, library, has_file):
+        self.folder, self.library, self.has_file = folder, library, has_file
+        self.file, self.fresh = os.path.join(folder, "run.db"), os.path.join(folder, "fresh.db")
+        if has_file and not os.path.exists(self.fresh):
+            for words in (["init"], ["team-add", "--team", "alpha"], ["key-add", "--shelf", "alpha", "--key", KEY]):
+                subprocess.run([PROGRAM, words[0], "--db", self.fresh] + words[1:], check=True)
+
+    def again(self, requests, **more):
+        """Runs on the store as the last run left it."""
+        words = ["answer"] + (["--db", self.file] if self.has_file else IN_MEMORY)
+        env = {**os.environ, "LD_PRELOAD": self.library, **more}
+        done = subprocess.run([PROGRAM] + words, input=b"".join(requests), capture_output=True, env=env)
+        return done.returncode, done.stdout, done.stderr
+
+    def run(self, requests, **more):
+        if self.has_file:
+            for end in ("", "-wal"):
+                if os.path.exists(self.file + end):
+                    os.remove(self.file + end)
+                if os.path.exists(self.fresh + end):
+                    shutil.copy(self.fresh + end, self.file + end)
+        return self.again(requests, **more)
+
+    @functools.cache
+    def without(self, *left_out):
+        """The replies to the requests but these, with ample memory."""
+        return replies(self.run([it for i, it in enumerate(REQUESTS) if i not in left_out])[1])
 
 
 def replies(text):
@@ -85,25 +110,38 @@ def replies(text):
     return found
 
 
-def judge(n, library, outcome):
+def judge(n, runs):
     """What is wrong with the run whose nth allocation was refused."""
-    status, output, errors = outcome
+    status, output, errors = runs.run(REQUESTS, REFUSED=str(n))
+    got = replies(output)
+    if runs.has_file:
+        accepted = [it for it, (number, _) in zip(REQUESTS, got) if number == 201]
+        after = runs.again(accepted)
+        if after[0] or [number for number, _ in replies(after[1])] != [200] * len(accepted):
+            return f"{n}: opened again, {after}"
     if status == 1:
         return None if (output, errors) == (b"", b"goshelf: memory\n") else f"{n}: refused with {errors}"
     if status != 0 or errors:
         return f"{n}: status {status}, {errors}"
-    got = replies(output)
     places = [i for i, (number, _) in enumerate(got) if number == 503]
     if len(places) > 1:
         return f"{n}: {len(places)} replies 503"
     if not places:
-        same = got == replies(run(library, REQUESTS)[1])
+        same = got == runs.without()
     elif places[0] + 1 == len(got) < len(REQUESTS):
-        same = got[:-1] == replies(run(library, REQUESTS[: places[0]])[1])
+        same = got[:-1] == runs.without(*range(places[0], len(REQUESTS)))
     else:
-        rest = REQUESTS[: places[0]] + REQUESTS[places[0] + 1 :]
-        same = got[: places[0]] + got[places[0] + 1 :] == replies(run(library, rest)[1])
+        same = got[: places[0]] + got[places[0] + 1 :] == runs.without(places[0])
     return None if same else f"{n}: the other replies differ"
+
+
+def sweep(runs):
+    """How many allocations there are, and what is wrong where one of them is refused."""
+    status, output, errors = runs.run(REQUESTS, COUNT="1")
+    if status != 0 or any(number == 503 for number, _ in replies(output)):
+        sys.exit("a 503 with ample memory")
+    wrong = [judge(n, runs) for n in range(1, int(errors) + 1)]
+    return len(wrong), [it for it in wrong if it]
 
 
 def main():
@@ -114,15 +152,13 @@ def main():
         with open(source, "w") as file:
             file.write(LIBRARY)
         subprocess.run(["cc", "-shared", "-fPIC", "-O1", "-o", library, source], check=True)
-        status, output, errors = run(library, REQUESTS, COUNT="1")
-        if status != 0 or any(number == 503 for number, _ in replies(output)):
-            sys.exit("a 503 with ample memory")
-        allocations = int(errors)
-        wrong = [judge(n, library, run(library, REQUESTS, REFUSED=str(n))) for n in range(1, allocations + 1)]
-    for line in filter(None, wrong):
+        count, wrong = sweep(Runs(folder, library, False))
+        more, others = sweep(Runs(folder, library, True))
+    for line in wrong + others:
         print(line)
-    failed = sum(line is not None for line in wrong)
-    print(f"{allocations - failed} passed, {failed} failed")
+    failed = len(wrong) + len(others)
+    print(f"in memory {count} allocations, over a file {more}")
+    print(f"{count + more - failed} passed, {failed} failed")
     sys.exit(1 if failed else 0)
 
 

@@ -1,0 +1,116 @@
+#!/usr/bin/env python3
+"""What a request costs `goshelf answer --mem`: instructions by valgrind's count, reads by strace's, and peak memory.
+
+Build the program first (`./goshelf --version`); it wants valgrind and strace. With --program FILE it measures that program.
+"""
+
+import fcntl
+import os
+import re
+import subprocess
+import sys
+import tempfile
+import termios
+import time
+
+sys.path.insert(0, os.path.dirname(os.path.abspath(__file__)))
+from answer import KEY, PROGRAM, WORDS, get, publish
+
+ZIP = 16 * 2**20
+PATH, VERSION = "example.com/lib", "v1.0.0"
+
+
+def stream_of(*requests):
+    """A file with these requests, at its start."""
+    source = tempfile.TemporaryFile()
+    for request in requests:
+        source.writelines(request)
+    source.seek(0)
+    return source
+
+
+def instructions(program, source, feed=None):
+    """How many instructions the program takes to answer what it reads."""
+    with tempfile.TemporaryDirectory() as folder:
+        words = ["valgrind", "--tool=callgrind", f"--callgrind-out-file={folder}/out", program, *WORDS]
+        child = subprocess.Popen(words, stdin=source, stdout=subprocess.DEVNULL, stderr=subprocess.PIPE)
+        if feed:
+            feed()
+        told = child.communicate()[1].decode()
+    return int(re.search(r"Collected : (\d+)", told).group(1))
+
+
+def byte_by_byte(program, stream):
+    """The same of a stream of which each read brings one byte."""
+    reading, writing = os.pipe()
+
+    def feed():
+        left = bytearray(4)
+        for byte in stream:
+            while int.from_bytes(fcntl.ioctl(reading, termios.FIONREAD, bytes(left)), sys.byteorder):
+                time.sleep(0.00001)
+            os.write(writing, bytes([byte]))
+        os.close(writing)
+
+    count = instructions(program, reading, feed)
+    os.close(reading)
+    return count
+
+
+def reads(program, source):
+    """How often the program reads its input."""
+    with tempfile.NamedTemporaryFile() as told:
+        subprocess.run(["strace", "-e", "trace=read", "-o", told.name, program, *WORDS], stdin=source, stdout=subprocess.DEVNULL)
+        return sum(line.startswith(b"read(0,") for line in told)
+
+
+def peak(program, source):
+    """The peak of the program's memory, in bytes, and how the first reply to the last request begins."""
+    with tempfile.TemporaryFile() as target:
+        child = subprocess.Popen([program, *WORDS], stdin=source, stdout=target)
+        usage = os.wait4(child.pid, 0)[2]
+        target.seek(0)
+        statuses = re.findall(rb"HTTP/1.1 (\d+) ", target.read(4096))
+    return usage.ru_maxrss * 1024, [it.decode() for it in statuses]
+
+
+def put(key=KEY, path=PATH, module=PATH):
+    parts = publish(path, VERSION, ZIP)
+    head = next(parts).replace(KEY.encode(), key.encode())
+    yield head.replace(f"module {path}".encode(), f"module {module}".encode())
+    yield from parts
+
+
+def long_heads():
+    """Heads of 16,384 bytes: one long value, 60 headers, one long target."""
+    start, end = b"GET /k/x HTTP/1.1\r\n", b"\r\n\r\n"
+    yield "one value", start + b"A: " + b"x" * (16_384 - len(start) - len(end) - 3) + end
+    rows = b"".join(b"Header-%02d: " % n + b"y" * 256 + b"\r\n" for n in range(60))
+    yield "60 headers", start + rows + b"Z: " + b"x" * (16_384 - len(start) - len(rows) - len(end) - 3) + end
+    yield "one target", b"GET /" + b"x" * (16_384 - 5 - 9 - 4) + b" HTTP/1.1" + end
+
+
+def main():
+    program = sys.argv[sys.argv.index("--program") + 1] if "--program" in sys.argv else PROGRAM
+    counts = [instructions(program, stream_of(publish(PATH, VERSION), *(get(PATH, VERSION, "mod") for _ in range(n)))) for n in (1_000, 2_000)]
+    print(f"a GET of a small .mod: {(counts[1] - counts[0]) // 1_000:,} instructions")
+    if "--gets" in sys.argv:
+        return
+    nothing = instructions(program, stream_of())
+    for name, head in long_heads():
+        whole = instructions(program, stream_of([head])) - nothing
+        print(f"a head of {len(head):,} bytes, {name}: {whole:,} instructions at once, {byte_by_byte(program, head) - nothing:,} byte by byte")
+    print(f"a first PUT with a zip of 16 MiB: {reads(program, stream_of(put())):,} reads")
+    for name, requests in {
+        "a first PUT": [put()],
+        "the same PUT again": [put(), put()],
+        "a PUT with an unknown key": [put(key="alphakey00000002")],
+        "a PUT that is refused": [put(module="example.com/bil")],
+        "a GET of the zip": [put(), get(PATH, VERSION, "zip")],
+    }.items():
+        memory, statuses = peak(program, stream_of(*requests))
+        print(f"{name}: {memory / 2**20:.1f} MiB at the peak, {memory / ZIP:.2f} times the zip ({', '.join(statuses)})")
+
+
+if __name__ == "__main__":
+    main()

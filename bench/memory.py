@@ -1,0 +1,56 @@
+#!/usr/bin/env python3
+"""Memory and time of the program on stores of several sizes: to open one, to fetch its largest zip, to publish the largest one.
+
+Build the program first (`./goshelf --version`). The stores are made by sqlite3, with the tables of bench/store.py. With numbers, the stores of
+so many MiB alone (100, 500).
+"""
+
+import os
+import sys
+import tempfile
+
+from store import KEY, answered, get, insert, made, place, publish
+
+MIB = 1_048_576
+LARGEST = 16 * MIB
+# the bytes of a zip: small, middle and the largest
+ZIPS = (1024, MIB, LARGEST)
+
+
+def filled(file, size, zip_length):
+    """A store of about so many bytes with zips of this length, made in one transaction: how many versions it has."""
+    conn = made(file)
+    conn.execute("BEGIN")
+    # a small version takes about 1,480 bytes in the tables, a larger one hardly more than its zip
+    count = size // (1480 if zip_length == 1024 else zip_length + 300)
+    for n in range(count):
+        insert(conn, n, zip_length)
+    conn.execute("COMMIT")
+    conn.close()
+    return count
+
+
+def zip_of(n):
+    path, version = place(n)
+    return f"GET /k/{KEY}/{path}/@v/{version}.zip HTTP/1.1\r\n\r\n".encode()
+
+
+def main():
+    sizes = [int(word) for word in sys.argv[1:]] or [100, 500]
+    for size in sizes:
+        for zip_length in ZIPS:
+            with tempfile.TemporaryDirectory(prefix="goshelf-memory-") as folder:
+                file = os.path.join(folder, "shelves.db")
+                count = filled(file, size * MIB, zip_length)
+                mib = os.path.getsize(file) / MIB
+                seconds, opened = answered(file, [])
+                _, fetched = answered(file, [zip_of(0)])
+                _, published = answered(file, [publish(count, LARGEST), get(0)])
+                print(
+                    f"{count:,} versions with zips of {zip_length:,} bytes, {mib:,.0f} MiB: opened in {seconds:.2f} s with {opened:,.0f} MiB; "
+                    f"{fetched:,.0f} MiB to fetch a zip, {published:,.0f} MiB to publish one of 16 MiB"
+                )
+
+
+if __name__ == "__main__":
+    main()

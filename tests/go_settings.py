@@ -1,0 +1,98 @@
+#!/usr/bin/env python3
+"""What the go settings of docs/OPERATING.md tell the proxy behind the shelf: nothing of a module that the shelf sees, else the names.
+
+Build the program first (`./goshelf --version`); `go` is on the path (Debian: golang-go). The proxy behind is one that has no module and notes
+what it is asked; nothing else is reached.
+"""
+
+import http.server
+import io
+import os
+import subprocess
+import sys
+import tempfile
+import threading
+import zipfile
+
+ROOT = os.path.dirname(os.path.dirname(os.path.abspath(__file__)))
+PROGRAM = os.path.join(ROOT, "crates", "goshelf", "out", "goshelf")
+KEY, READER = "alphakey00000001", "alphareader00001"
+AT = "example.com/greet@v1.0.0"
+FILES = {"go.mod": "module example.com/greet\n", "greet.go": "package greet\n\nconst Text = 1\n", "sub/sub.go": "package sub\n\nconst Text = 1\n"}
+ASKED = []
+
+
+class Behind(http.server.BaseHTTPRequestHandler):
+    """A proxy that has no module."""
+
+    def do_GET(self):
+        ASKED.append(self.path)
+        self.send_error(404)
+
+    def log_message(self, *_):
+        pass
+
+
+def goshelf(store, command, *words):
+    subprocess.run([PROGRAM, command, "--db", store, *words], check=True, stdout=subprocess.DEVNULL)
+
+
+def new_store(folder):
+    store = os.path.join(folder, "shelves.db")
+    goshelf(store, "team-add", "--team", "alpha")
+    goshelf(store, "key-add", "--shelf", "alpha", "--key", KEY)
+    goshelf(store, "key-add", "--shelf", "alpha", "--key", READER, "--read-only")
+    gomod, zipped, held = os.path.join(folder, "go.mod"), os.path.join(folder, "greet.zip"), io.BytesIO()
+    with zipfile.ZipFile(held, "w") as file:
+        for name, text in FILES.items():
+            file.writestr(f"{AT}/{name}", text)
+    for name, text in ((gomod, FILES["go.mod"].encode()), (zipped, held.getvalue())):
+        with open(name, "wb") as file:
+            file.write(text)
+    goshelf(store, "publish", "--key", KEY, "--module", "example.com/greet", "--version", "v1.0.0", "--mod", gomod, "--zip", zipped)
+    return store
+
+
+def asked(proxies, imported, *words, **settings):
+    """Runs the go command in a module that imports this package, with no cache: whether it ended well, and the paths that the proxy behind was asked."""
+    ASKED.clear()
+    with tempfile.TemporaryDirectory(prefix="goshelf-go-") as folder:
+        with open(f"{folder}/go.mod", "w", encoding="utf-8") as file:
+            file.write("module example.com/hello\n\ngo 1.19\n")
+        with open(f"{folder}/main.go", "w", encoding="utf-8") as file:
+            file.write(f'package main\n\nimport it "{imported}"\n\nfunc main() {{ println(it.Text) }}\n')
+        own = {"HOME": folder, "GOPATH": f"{folder}/go", "GOFLAGS": "-modcacherw", "GOPROXY": proxies, "GONOSUMDB": "example.com"}
+        clean = {name: text for name, text in os.environ.items() if not name.startswith("GO")}
+        ran = subprocess.run(["go", *words], cwd=folder, env={**clean, **own, **settings}, capture_output=True, timeout=120)
+    return ran.returncode == 0, {it.split("/@v/")[0].strip("/") for it in ASKED}
+
+
+def main():
+    behind = http.server.ThreadingHTTPServer(("127.0.0.1", 0), Behind)
+    threading.Thread(target=behind.serve_forever, daemon=True).start()
+    with tempfile.TemporaryDirectory(prefix="goshelf-settings-") as folder:
+        words = [PROGRAM, "serve", "--db", new_store(folder), "--port", "0"]
+        child = subprocess.Popen(words, stdout=subprocess.PIPE, text=True)
+        shelf = f"http://127.0.0.1:{child.stdout.readline().rsplit(':', 1)[1].strip()}/k/{READER}"
+        proxies = f"{shelf},http://127.0.0.1:{behind.server_port}"
+        greet, fronts = "example.com/greet", {"example.com", "example.com/nosuch", "example.com/nosuch/pkg"}
+        rows = [
+            ("a module that the shelf sees", asked(proxies, greet, "get", AT), (True, set())),
+            ("a package below it", asked(proxies, f"{greet}/sub", "mod", "tidy"), (True, set())),
+            ("a package that it has not", asked(proxies, f"{greet}/nosub", "mod", "tidy"), (False, set())),
+            ("an import that no module fits", asked(proxies, "example.com/nosuch/pkg", "mod", "tidy"), (False, fronts)),
+            ("a version that is not there", asked(proxies, greet, "get", f"{greet}@v9.9.9"), (False, {"example.com", greet})),
+            ("the shelf alone", asked(shelf, "example.com/nosuch/pkg", "mod", "tidy"), (False, set())),
+            ("GOPRIVATE and GONOPROXY=none", asked(proxies, greet, "get", AT, GOPRIVATE="example.com", GONOPROXY="none", GONOSUMDB=""), (True, set())),
+        ]
+        child.terminate()
+        child.wait()
+    wrong = [(name, told, want) for name, told, want in rows if told != want]
+    for name, told, want in wrong:
+        print(f"FAILED {name}: {told}, and not {want}")
+    print(f"{len(rows) - len(wrong)} passed, {len(wrong)} failed")
+    sys.exit(1 if wrong else 0)
+
+
+if __name__ == "__main__":
+    main()

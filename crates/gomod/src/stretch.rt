@@ -1,6 +1,7 @@
 //! Versions from a low one to a high one.
 
-ghost use Rattle.std.specs.Prelude.{◌≡◌, IfOk};
+ghost use Rattle.std.specs.Prelude.{◌≡◌, IfOk, not};
+ghost use Rattle.gomod.specs.Paths.{is_below as lies_below};
 ghost use Rattle.gomod.specs.Spans.{joined};
 
 use super::entries::is_below;
@@ -52,6 +53,13 @@ impl Stretch {
             Some(high) => high,
             None => &self.low,
         }
+    }
+
+    /// Whether a version is not above all of them.
+    pub(crate) fn reaches(&self, version: &Version) -> bool
+        ensures { result ≡ not (lies_below self.now.high version.now) }
+    {
+        !is_below(self.high(), version)
     }
 
     fn into_high(self) -> Version

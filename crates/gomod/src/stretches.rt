@@ -123,6 +123,5 @@ fn some_has(stretches: &[Stretch], version: &Version) -> bool
     if begun == 0 {
         return false;
     }
-    let last = &stretches[begun - 1];
-    !is_below(last.high(), version)
+    stretches[begun - 1].reaches(version)
 }

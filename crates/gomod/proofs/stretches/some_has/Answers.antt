@@ -17,7 +17,6 @@ returns c =
     let v = c.args.version.now in
     let is = c.args.stretches.now in
     let point = IsPartitionPoint-from_clause (λ i. not (is_below v i.low)) is c.partition_point-begun.result c.partition_point-begun.ensures.partitioned (parted v is c.requires) (λ a r q k. search rules) in
-    let high : c.is_below.result ≡ is_below c.index-stretches-begun.result.high v = c.is_below.ensures ∙ ap (λ u. is_below u v) c.high.ensures in
     let at = ap (λ (i : Interval). not (is_below i.high v)) c.index-stretches-begun.is in
-    ap not high ∙ at
+    c.reaches.ensures ∙ at
     ∙ told_some v c.partition_point-begun.result is _ c.requires (omega (arith, c.if-begun-eq0.false)) c.partition_point-begun.ensures.bound point.0 point.1

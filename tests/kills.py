@@ -138,7 +138,8 @@ def start_serve(store):
 
     def ready():
         line = child.stdout.readline()
-        return line, lambda number: send(int(line.rsplit(":", 1)[1]), number)
+        # (it may be killed in the middle of that line)
+        return line.endswith("\n"), lambda number: send(int(line.rsplit(":", 1)[1]), number)
 
     return child, ready
 

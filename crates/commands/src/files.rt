@@ -34,6 +34,14 @@ pub fn holds_bytes(rt: &HostRuntime, path: &str) -> bool {
     }
 }
 
+/// Whether there is such a file, and it has no bytes. A folder or a device is none.
+pub fn is_empty_file(rt: &HostRuntime, path: &str) -> bool {
+    match fs::metadata(rt, path) {
+        Ok(found) => found.is_file() && found.len() == 0,
+        Err(_) => false,
+    }
+}
+
 /// Whether both paths lead to one file.
 pub fn is_same_file(rt: &HostRuntime, path: &str, other: &str) -> bool {
     let (Ok(one), Ok(two)) = (fs::metadata(rt, path), fs::metadata(rt, other)) else {

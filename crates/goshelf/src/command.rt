@@ -4,7 +4,8 @@ ghost use Rattle.clap.specs.Values.{kind_of};
 ghost use Rattle.commands.specs.Exit.{status_of, IsSilent};
 ghost use Rattle.goshelf.specs.Run.{EndsShown, Exits, Runs};
 
-use crate::arguments::{parser, task_of};
+use crate::arguments::parser;
+use crate::asked::task_of;
 use clap::ArgMatches;
 use clap::error::ErrorKind;
 use commands::exit::Ending;

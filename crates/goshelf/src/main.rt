@@ -4,6 +4,7 @@
 #![tactic(auto)]
 
 mod arguments;
+mod asked;
 mod command;
 #[cfg(test)]
 mod tests;

@@ -1,4 +1,5 @@
 //! Whole runs of the program, with their exact bytes.
+mod extracts;
 mod file_runs;
 mod imports;
 mod lists;

@@ -1,2 +1,3 @@
+pub mod Extract
 pub mod Opened
 pub mod Task

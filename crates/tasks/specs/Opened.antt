@@ -1,4 +1,8 @@
--- Why a command is refused whose store is not opened.
+-- A store that is opened, and why a command is refused whose store is not.
+use Rattle.std.specs.Prelude.{ℕ, ◌≡◌}
+use Rattle.world.specs.Store.{Shown}
+use Rattle.world.specs.World.{World}
+use Rattle.store.specs.Calls.{BeginsAt}
 use Rattle.store.specs.declared.refusal.Refusal.{Refusal as Unopened}
 use Rattle.store.specs.declared.refusal.Refusal.TheVariants as store
 use Rattle.commands.specs.declared.refusal.Refusal.{Refusal}
@@ -12,7 +16,12 @@ unopened store.BadSchema = refusal.BadSchema
 unopened store.NotEmpty = refusal.NotEmpty
 unopened store.NoTeam = refusal.NoTeam
 
--- the same of `init`, which does not judge tables: a file that has any has bytes
+-- the same of a store that is to be made, whose tables are not judged: a file that has any has bytes
 abbrev pub unmade : Refusal → Refusal
 unmade refusal.BadSchema = refusal.NotEmpty
 unmade other = other
+
+-- a store that was just opened: as far as its disk was honest it stands for a world, and a crash leaves that world alone
+pub record HasBegun {S : Type 0} (shown : S → Shown) (failures : S → ℕ) (store : S) : Type 0 where
+  pub world : (shown store).is_honest → (w : World) × BeginsAt (shown store) w
+  pub none_failed : failures store ≡ 0

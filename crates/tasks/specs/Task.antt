@@ -1,8 +1,6 @@
 -- What is done for a task.
 use Rattle.std.specs.Prelude.{ℕ, List, ◌≡◌, ◌⊎◌, Bool, Option, Result, Ok, Err}
 use Rattle.world.specs.Store.{Shown}
-use Rattle.world.specs.World.{World}
-use Rattle.store.specs.Calls.{BeginsAt}
 use Rattle.store.specs.declared.refusal.Refusal.{Refusal as Unopened}
 use Rattle.commands.specs.Opening.{AnsweredFor}
 use Rattle.commands.specs.Work.{Works, acceptance}
@@ -10,7 +8,8 @@ use Rattle.commands.specs.declared.refusal.Refusal.{Refusal}
 use Rattle.commands.specs.declared.refusal.Refusal.TheVariants.{NotEmpty}
 use Rattle.commands.specs.declared.work.Work.{Work}
 use Rattle.commands.specs.declared.work.Work.TheVariants.{Open}
-use Rattle.tasks.specs.Opened.{unopened, unmade}
+use Rattle.tasks.specs.Extract.{ExtractsFile}
+use Rattle.tasks.specs.Opened.{unopened, unmade, HasBegun}
 use Rattle.tasks.specs.declared.Task.{Task}
 use Rattle.tasks.specs.declared.Task.TheVariants as task
 
@@ -33,17 +32,12 @@ module _ (unread unread_new written written_new : Option (List ℕ)) (result : R
     pub tells : result ≡ acceptance ended
 
 module _ {S : Type 0} (shown : S → Shown) (failures : S → ℕ) where
-  -- a store that was just opened: as far as its disk was honest it stands for a world, and a crash leaves that world alone
-  pub record HasBegun (store : S) : Type 0 where
-    pub world : (shown store).is_honest → (w : World) × BeginsAt (shown store) w
-    pub none_failed : failures store ≡ 0
-
   -- a store was opened, and the work was done on it
   pub record WorksOpened
       (unread unread_new written written_new : Option (List ℕ)) (work : Work) (result : Result Bool Refusal) : Type 0 where
     pub begun : S
     pub ended : S
-    pub begins : HasBegun begun
+    pub begins : HasBegun shown failures begun
     pub works : Works shown failures
         (record { store = begun; unread = unread; written = written })
         (record { store = ended; unread = unread_new; written = written_new }) result work
@@ -60,6 +54,13 @@ module _ {S : Type 0} (shown : S → Shown) (failures : S → ℕ) where
       TellsAlone unread unread_new written written_new result (Err NotEmpty)
       ⊎ ((opened : Result Bool Refusal) × WorksOnFile unread unread_new written written_new Open opened × (result ≡ made opened))
 
+  -- a team's part of the store of a file was put into that of another or was not, and nothing was read or written
+  pub record ExtractsAlone
+      (unread unread_new written written_new : Option (List ℕ)) (team : List ℕ) (result : Result Bool Refusal) : Type 0 where
+    pub ended : Result (Unit {0}) Refusal
+    pub extracts : ExtractsFile shown failures team ended
+    pub tells : TellsAlone unread unread_new written written_new result (acceptance ended)
+
   -- what is done, by the kind of task
   abbrev pub Performs : Option (List ℕ) → Option (List ℕ) → Option (List ℕ) → Option (List ℕ) → Result Bool Refusal → Task → Type 0
   Performs unread unread_new written written_new result (task.Init db) = Inits unread unread_new written written_new result
@@ -67,3 +68,5 @@ module _ {S : Type 0} (shown : S → Shown) (failures : S → ℕ) where
       AnswersInMemory unread unread_new written written_new result team.now key.now
   Performs unread unread_new written written_new result (task.OnStore db work) =
       WorksOnFile unread unread_new written written_new work result
+  Performs unread unread_new written written_new result (task.Extract db team to) =
+      ExtractsAlone unread unread_new written written_new team.now result

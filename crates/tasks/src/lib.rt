@@ -1,18 +1,24 @@
-//! What a run of the program does: on the store of a file, or on shelves in memory.
+//! What a run of the program does: on the store of a file or of two, or on shelves in memory.
 //!
 //! | task | what it does |
 //! |---|---|
 //! | [`Task::Init`] | makes a store with the shelf `common` alone, in a file that has no bytes |
 //! | [`Task::AnswerInMemory`] | answers requests from shelves in memory |
 //! | [`Task::OnStore`] | opens the store of a file and does one work of `commands` on it |
+//! | [`Task::Extract`] | opens the stores of two files and puts a team's part of the one into the other |
 //!
-//! One function alone holds the store of a file. Nothing here reads the words of a command line.
+//! A store of a file is held by one function for each kind of task: that of a work, that of what is extracted from, that of what
+//! is extracted into. Each ends it by `close`. Nothing here reads the words of a command line.
 #![tactic(auto)]
 
 ghost use Rattle.std.specs.Prelude.{◌≡◌};
+ghost use Rattle.commands.specs.Work as told;
 ghost use Rattle.tasks.specs.Opened as spec;
 ghost use Rattle.tasks.specs.Task.{Performs, Inits, WorksOnFile};
 
+mod extract;
+
+use crate::extract::extract_file;
 use commands::files::holds_bytes;
 use commands::memory::answer_in_memory;
 use commands::refusal::Refusal;
@@ -27,11 +33,25 @@ use world::shelves::Shelves;
 #[derive(Clone, Copy, Drop)]
 pub enum Task<'a> {
     /// `init --db F`: makes a store with the shelf `common` alone, in a file that has no bytes.
-    Init { db: &'a str },
+    Init {
+        db: &'a str,
+    },
     /// `answer --mem --team T --key K`: answers the requests on the input from shelves in memory.
-    AnswerInMemory { team: &'a str, key: &'a str },
+    AnswerInMemory {
+        team: &'a str,
+        key: &'a str,
+    },
     /// What is done on the store of a file.
-    OnStore { db: &'a str, work: Work<'a> },
+    OnStore {
+        db: &'a str,
+        work: Work<'a>,
+    },
+    /// `extract --db F --team T --to G`: makes the store of G that of the part of team T of the store of F.
+    Extract {
+        db: &'a str,
+        team: &'a str,
+        to: &'a str,
+    },
 }
 
 /// Does a task, and tells whether it was accepted: only a publish and an import may be told so and not be.
@@ -51,7 +71,16 @@ pub fn perform<I: Read, O: Write>(
             Ok(true)
         }
         Task::OnStore { db, work } => on_file(rt, db, work, input, output),
+        Task::Extract { db, team, to } => acceptance(extract_file(rt, db, team, to)),
     }
+}
+
+/// What a task tells that is accepted once it is done.
+fn acceptance(ended: Result<(), Refusal>) -> Result<bool, Refusal>
+    ensures { result ≡ told.acceptance ended }
+{
+    ended?;
+    Ok(true)
 }
 
 /// Makes a store with the shelf `common` alone. A file that has bytes is `NotEmpty`.
@@ -69,12 +98,12 @@ fn init<I: Read, O: Write>(
     }
     match on_file(rt, path, &Work::Open, input, output) {
         Ok(done) => Ok(done),
-        Err(refusal) => Err(init_refusal(refusal)),
+        Err(refusal) => Err(unmade(refusal)),
     }
 }
 
-/// Why no store is made. Tables that are none of a store's are bytes like others.
-fn init_refusal(refusal: Refusal) -> Refusal
+/// Why no store is made in a file. Tables that are none of a store's are bytes like others.
+fn unmade(refusal: Refusal) -> Refusal
     ensures { result ≡ spec.unmade refusal }
 {
     match refusal {

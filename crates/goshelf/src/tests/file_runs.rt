@@ -77,7 +77,7 @@ const TABLE: &[u8] =
     b"/\x01\x06\x17\x0f\x0f\x01Otablexx\x02CREATE TABLE x (a INTEGER) STRICT\r\0\0\0\0\x02";
 
 /// A database that is no store, as Python's sqlite3 makes it.
-fn foreign(alloc: Global) -> Result<Vec<u8>, AllocError> {
+pub fn foreign(alloc: Global) -> Result<Vec<u8>, AllocError> {
     let mut bytes = Vec::from_slice(alloc, HEAD)?;
     bytes.resize(463, 0)?;
     bytes.extend_from_slice(TABLE)?;

@@ -52,7 +52,8 @@ const GET: &[u8] = b"GET /k/alphakey00000001/example.com/lib/@v/v1.0.0.mod HTTP/
 const SERVED: &str =
     "HTTP/1.1 200 OK\r\nContent-Type: text/plain; charset=utf-8\r\nContent-Length: 23\r\nConnection: close\r\n\r\nmodule example.com/lib\n";
 
-const NOT_FOUND: &str =
+/// The reply to what is not there.
+pub const NOT_FOUND: &str =
     "HTTP/1.1 404 Not Found\r\nContent-Type: text/plain; charset=utf-8\r\nContent-Length: 10\r\nConnection: close\r\n\r\nnot found\n";
 
 /// What a run reads.

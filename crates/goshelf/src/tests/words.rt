@@ -30,6 +30,9 @@ publish --db none.db
 import --db none.db --key alphakey00000001
 inventory --db none.db
 requires --db none.db --key alphakey00000001 --module example.com/lib
+extract --db none.db --team alpha
+extract --db none.db --to other.db
+extract --team alpha --to other.db
 answer
 answer --mem --team alpha
 answer --team alpha --key alphakey00000001
@@ -56,6 +59,7 @@ publish --help | --db --key --module --version --mod --zip --time
 import --help | --db --key --list
 inventory --help | --db --key
 requires --help | --db --key --module --version
+extract --help | --db --team --to
 answer --help | --db --mem --team --key
 serve --help | --db --port --connections
 ";

@@ -1,0 +1,48 @@
+-- What an extract from the store of one file into that of another does.
+use Rattle.std.specs.Prelude.{ℕ, List, ◌≡◌, ◌⊎◌, Result, Ok, Err}
+use Rattle.world.specs.Store.{Shown}
+use Rattle.store.specs.Extracted.{Extracts, HasCauseInEither}
+use Rattle.store.specs.declared.refusal.Refusal.{Refusal as Unopened}
+use Rattle.commands.specs.declared.refusal.Refusal.{Refusal}
+use Rattle.commands.specs.declared.refusal.Refusal.TheVariants.{NotEmpty}
+use Rattle.tasks.specs.Opened.{unopened, unmade, HasBegun}
+
+-- how it ends, by what the store told
+abbrev pub extracted : Result (Unit {0}) Unopened → Result (Unit {0}) Refusal
+extracted (Ok u) = Ok tt
+extracted (Err why) = Err (unopened why)
+
+module _ {S F : Type 0} (shown : S → Shown) (failures : S → ℕ) (shown_too : F → Shown) (failures_too : F → ℕ) (source source_new : S) where
+  -- the team's part of the source was put into an open store, or it was not, and why is told
+  pub record ExtractsPart (fresh fresh_new : F) (team : List ℕ) (result : Result (Unit {0}) Refusal) : Type 0 where
+    pub told : Result (Unit {0}) Unopened
+    pub extracts : Extracts (shown source) (shown source_new) (shown_too fresh) (shown_too fresh_new) team told
+    pub cause : HasCauseInEither (failures source) (failures source_new) (failures_too fresh) (failures_too fresh_new) told
+    pub ends : result ≡ extracted told
+
+  -- the store of a file was opened, and the part was put into it or was not
+  pub record FillsOpened (team : List ℕ) (result : Result (Unit {0}) Refusal) : Type 0 where
+    pub fresh : F
+    pub fresh_new : F
+    pub begins : HasBegun shown_too failures_too fresh
+    pub extracts : ExtractsPart fresh fresh_new team result
+
+  -- nothing was done with the source: the file is its own, or its store was not opened, and why is told
+  pub record FillsNone (result : Result (Unit {0}) Refusal) : Type 0 where
+    pub same : source_new ≡ source
+    pub tells : (result ≡ Err NotEmpty) ⊎ ((why : Unopened) × (result ≡ Err (unmade (unopened why))))
+
+  abbrev pub Fills : List ℕ → Result (Unit {0}) Refusal → Type 0
+  Fills team result = FillsOpened team result ⊎ FillsNone result
+
+module _ {S : Type 0} (shown : S → Shown) (failures : S → ℕ) (team : List ℕ) where
+  -- the store of one file was opened, and a team's part of it was put into that of another, or was not
+  pub record ExtractsOpened (result : Result (Unit {0}) Refusal) : Type 0 where
+    pub source : S
+    pub source_new : S
+    pub begins : HasBegun shown failures source
+    pub fills : Fills shown failures shown failures source source_new team result
+
+  -- so it was; or both are one file without bytes, or the store of the first was not opened, and why is told
+  abbrev pub ExtractsFile : Result (Unit {0}) Refusal → Type 0
+  ExtractsFile result = ExtractsOpened result ⊎ ((result ≡ Err NotEmpty) ⊎ ((why : Unopened) × (result ≡ Err (unopened why))))

@@ -1,0 +1,70 @@
+//! A team's part of the store of one file as the store of another.
+
+ghost use Rattle.std.specs.Prelude.{◌≡◌};
+ghost use Rattle.tasks.specs.Extract.{ExtractsFile, ExtractsPart, Fills};
+
+use crate::{open_refusal, unmade};
+use commands::files::{is_empty_file, is_same_file};
+use commands::refusal::Refusal;
+use sqlite::Alter;
+use std::rt::HostRuntime;
+use store::open::FileShelves;
+use store::store::SqlShelves;
+use world::shelves::Shelves;
+
+/// Makes the store of one file that of a team's part of the store of another. Where both paths lead to one file it is `NotEmpty`,
+/// and an empty one stays so.
+pub(crate) fn extract_file(rt: &HostRuntime, db: &str, team: &str, to: &str) -> Result<(), Refusal>
+    ensures { ExtractsFile ⟦<FileShelves as Shelves>⟧.shown ⟦<FileShelves as Shelves>⟧.failure_count team.now result }
+{
+    if is_empty_file(rt, db) && is_same_file(rt, db, to) {
+        return Err(Refusal::NotEmpty);
+    }
+    let mut source = match FileShelves::open_file(rt, db) {
+        Ok(shelves) => shelves,
+        Err(unopened) => return Err(open_refusal(unopened)),
+    };
+    let told = extract_to(rt, db, &mut source, team, to);
+    source.close();
+    told
+}
+
+/// Opens the store of a file and puts a team's part of an open store into it. The file of the open one, which is at `db`, is no
+/// empty store, and is not opened again.
+fn extract_to<S: Alter>(
+    rt: &HostRuntime,
+    db: &str,
+    source: &mut SqlShelves<S>,
+    team: &str,
+    to: &str,
+) -> Result<(), Refusal>
+    ensures { Fills ⟦<SqlShelves<S> as Shelves>⟧.shown ⟦<SqlShelves<S> as Shelves>⟧.failure_count
+        ⟦<FileShelves as Shelves>⟧.shown ⟦<FileShelves as Shelves>⟧.failure_count source.old source.new team.now result }
+{
+    if is_same_file(rt, db, to) {
+        return Err(Refusal::NotEmpty);
+    }
+    let mut fresh = match FileShelves::open_file(rt, to) {
+        Ok(shelves) => shelves,
+        Err(unopened) => return Err(unmade(open_refusal(unopened))),
+    };
+    let told = extract_part(source, team, &mut fresh);
+    fresh.close();
+    told
+}
+
+/// Puts a team's part of one open store into another.
+fn extract_part<S: Alter, F: Alter>(
+    source: &mut SqlShelves<S>,
+    team: &str,
+    fresh: &mut SqlShelves<F>,
+) -> Result<(), Refusal>
+    ensures { ExtractsPart ⟦<SqlShelves<S> as Shelves>⟧.shown ⟦<SqlShelves<S> as Shelves>⟧.failure_count
+        ⟦<SqlShelves<F> as Shelves>⟧.shown ⟦<SqlShelves<F> as Shelves>⟧.failure_count
+        source.old source.new fresh.old fresh.new team.now result }
+{
+    match source.extract(team, fresh) {
+        Ok(()) => Ok(()),
+        Err(refusal) => Err(open_refusal(refusal)),
+    }
+}

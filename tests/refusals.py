@@ -100,10 +100,10 @@ def full_disk():
         print("      no tmpfs can be mounted here: a full disk is not tried")
         return
     try:
-        new_store("whole.db")
-        shutil.copy("whole.db", "small/f.db")
-        if os.path.exists("whole.db-wal"):
-            shutil.copy("whole.db-wal", "small/f.db-wal")
+        new_store("source.db")
+        shutil.copy("source.db", "small/f.db")
+        if os.path.exists("source.db-wal"):
+            shutil.copy("source.db-wal", "small/f.db-wal")
         with open("small/filler", "wb", buffering=0) as filler:
             try:
                 while filler.write(b"x" * 512):
@@ -167,6 +167,16 @@ def files():
     wants("the list was mended", "", "" if ran.stdout == b"1 200 already published\n2 201 published\n" else ran.stdout)
 
 
+def extracts():
+    new_store("whole.db")
+    open("text", "w").write("no store")
+    wants("extract: no such team", "no-team", word("extract --db whole.db --team beta --to part.db"))
+    wants("extract: G is no store", "not-empty", word("extract --db whole.db --team alpha --to text"))
+    wants("extract: G is F", "not-empty", word("extract --db whole.db --team alpha --to whole.db"))
+    wants("extract: another file", "", word("extract --db whole.db --team alpha --to part.db"))
+    wants("extract: G has a team", "not-empty", word("extract --db whole.db --team alpha --to part.db"))
+
+
 def names():
     new_store("n.db")
     for cause, team in (("an upper-case letter", "Alpha"), ("a digit first", "1team"), ("33 bytes", "a" * 33), ("common", "common")):
@@ -202,7 +212,7 @@ def memory():
 def main():
     with tempfile.TemporaryDirectory() as folder:
         os.chdir(folder)
-        for part in (device, rights, full_disk, bad_schema, files, names, memory):
+        for part in (device, rights, full_disk, bad_schema, files, extracts, names, memory):
             part()
         os.chdir("/")
     print(f"{sum(tried)} of {len(tried)} are as docs/OPERATING.md says")

@@ -74,6 +74,15 @@ fn bad_words_end_with_2(rt: HostRuntime) -> Result<(), Fail> {
     Ok(())
 }
 
+#[test]
+fn answer_alone_shows_both_forms(rt: HostRuntime) -> Result<(), Fail> {
+    let ended = run(&rt, "answer", b"")?;
+    let told = String::from_utf8(ended.errors)?;
+    assert!(rt; told.as_str().contains("goshelf answer --db <F>"));
+    assert!(rt; told.as_str().contains("goshelf answer --mem --team <T> --key <K>"));
+    Ok(())
+}
+
 /// What is shown for `--help` or `--version`; nothing where the run ends otherwise.
 fn shown(rt: &HostRuntime, words: &str) -> Result<String, Fail> {
     let ended = run(rt, words, b"")?;

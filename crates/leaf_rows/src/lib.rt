@@ -22,6 +22,8 @@ mod lengths;
 #[cfg(test)]
 mod module_paths;
 #[cfg(test)]
+mod order_keys;
+#[cfg(test)]
 mod orders;
 #[cfg(test)]
 mod replies;

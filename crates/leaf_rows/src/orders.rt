@@ -1,7 +1,7 @@
 //! The orders of versions, and the versions of paths. (SemVer 2.0.0, section 11; Go Modules Reference, "Versions".)
 use crate::rows::column;
 use modpath::{LoosePath, ModulePath};
-use modver::{Version, VersionFault, compare, fits, fits_loose, rank_compare};
+use modver::{Version, compare, fits, fits_loose, order_key, rank_compare, rank_key};
 use std::alloc::Global;
 use std::cmp::Ordering;
 use std::test::Fail;
@@ -29,6 +29,35 @@ v1.0.0-9999999999999999999999999999999999999999999999999999999999999999999999999
 v1.0.0-rc.2
 v1.0.0-rc.10
 v1.0.0
+";
+
+/// Versions in ascending order, of which each is lower than the next by another part of its key: the numbers byte by byte, the kind
+/// of an identifier, its digits, its letters, where it ends, whether more follow, and whether there is one.
+const PARTS: &str = "\
+v0.0.0-0
+v0.0.0
+v0.0.255
+v0.0.256
+v0.255.65536
+v0.256.0
+v1.0.0-9
+v1.0.0-9.0
+v1.0.0-10
+v1.0.0--
+v1.0.0-0a
+v1.0.0-Z
+v1.0.0-a
+v1.0.0-rc
+v1.0.0-rc.1
+v1.0.0-rc.1.0
+v1.0.0-rc.a
+v1.0.0-rc-1
+v1.0.0-rcz
+v1.0.0
+v1.0.1-0
+v72057594037927935.0.0
+v72057594037927936.0.0
+v18446744073709551615.0.0
 ";
 
 /// Versions in ascending order of rank: by class, and then by stamp or precedence.
@@ -78,19 +107,24 @@ mymod/v2|v1.0.0|false
 gopkg.in/yaml.v1|v0.0.0-20160105164936-4f90aeace3a2|true
 ";
 
+/// What orders versions: a comparison, or the bytes of their keys.
+#[derive(Clone, Copy)]
+enum Order {
+    Precedence,
+    OrderKeys,
+    Rank,
+    RankKeys,
+}
+
 /// How two texts stand as versions.
-fn compared(
-    alloc: Global,
-    left: &str,
-    right: &str,
-    by_rank: bool,
-) -> Result<Ordering, VersionFault> {
+fn compared(alloc: Global, left: &str, right: &str, order: Order) -> Result<Ordering, Fail> {
     let left = Version::parse(alloc, left)?;
     let right = Version::parse(alloc, right)?;
-    Ok(if by_rank {
-        rank_compare(&left, &right)
-    } else {
-        compare(&left, &right)
+    Ok(match order {
+        Order::Precedence => compare(&left, &right),
+        Order::OrderKeys => order_key(alloc, &left)?.cmp(&order_key(alloc, &right)?),
+        Order::Rank => rank_compare(&left, &right),
+        Order::RankKeys => rank_key(alloc, &left)?.cmp(&rank_key(alloc, &right)?),
     })
 }
 
@@ -100,10 +134,10 @@ fn stands(
     texts: &str,
     place: usize,
     left: &str,
-    by_rank: bool,
-) -> Result<bool, VersionFault> {
+    order: Order,
+) -> Result<bool, Fail> {
     for (other, right) in texts.lines().enumerate() {
-        if compared(alloc, left, right, by_rank)? != place.cmp(&other) {
+        if compared(alloc, left, right, order)? != place.cmp(&other) {
             return Ok(false);
         }
     }
@@ -111,9 +145,9 @@ fn stands(
 }
 
 /// Whether the versions ascend: each is compared with each.
-fn ascend(alloc: Global, texts: &str, by_rank: bool) -> Result<bool, VersionFault> {
+fn ascend(alloc: Global, texts: &str, order: Order) -> Result<bool, Fail> {
     for (place, left) in texts.lines().enumerate() {
-        if !stands(alloc, texts, place, left, by_rank)? {
+        if !stands(alloc, texts, place, left, order)? {
             return Ok(false);
         }
     }
@@ -122,16 +156,20 @@ fn ascend(alloc: Global, texts: &str, by_rank: bool) -> Result<bool, VersionFaul
 
 #[test]
 fn precedence_is_that_of_the_standard(rt: HostRuntime) -> Result<(), Fail> {
-    assert!(rt; ascend(rt.alloc(), STANDARD, false)?);
-    assert!(rt; ascend(rt.alloc(), NUMBERS, false)?);
-    let marked = compared(rt.alloc(), "v2.0.0-rc.1", "v2.0.0-rc.1+incompatible", false)?;
-    assert!(rt; marked == Ordering::Equal);
+    for order in [Order::Precedence, Order::OrderKeys] {
+        assert!(rt; ascend(rt.alloc(), STANDARD, order)?);
+        assert!(rt; ascend(rt.alloc(), NUMBERS, order)?);
+        assert!(rt; ascend(rt.alloc(), PARTS, order)?);
+        let marked = compared(rt.alloc(), "v2.0.0-rc.1", "v2.0.0-rc.1+incompatible", order)?;
+        assert!(rt; marked == Ordering::Equal);
+    }
     Ok(())
 }
 
 #[test]
 fn rank_goes_by_class_and_then_by_stamp_or_precedence(rt: HostRuntime) -> Result<(), Fail> {
-    assert!(rt; ascend(rt.alloc(), RANKS, true)?);
+    assert!(rt; ascend(rt.alloc(), RANKS, Order::Rank)?);
+    assert!(rt; ascend(rt.alloc(), RANKS, Order::RankKeys)?);
     Ok(())
 }
 

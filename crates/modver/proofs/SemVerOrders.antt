@@ -105,6 +105,13 @@ any-byte : (xs : List ℕ) → list_all (λ (b : ℕ). true) xs ≡ true
 any-byte [] = refl
 any-byte (x ∷ xs) = any-byte xs
 
+-- texts in the order of their bytes
+pub bytes-lower : (xs ys : List ℕ) → slice_cmp nat_cmp xs ys ≡ Less → IsLexicallyLower (λ (a : ℕ) (b : ℕ). a < b) xs ys
+bytes-lower xs ys h = less-lists (λ (b : ℕ). true) nat_cmp (λ (a : ℕ) (b : ℕ). a < b) bytes-tell xs ys (any-byte xs) (any-byte ys) h
+
+pub lower-bytes : (xs ys : List ℕ) → IsLexicallyLower (λ (a : ℕ) (b : ℕ). a < b) xs ys → slice_cmp nat_cmp xs ys ≡ Less
+lower-bytes xs ys h = lists-less (λ (b : ℕ). true) nat_cmp (λ (a : ℕ) (b : ℕ). a < b) bytes-tell xs ys (any-byte xs) (any-byte ys) h
+
 -- ---- identifiers
 
 itself-list : {A : Type 0} (R : A → A → Ordering) → ((x : A) → R x x ≡ Equal) → (xs : List A) → slice_cmp R xs xs ≡ Equal

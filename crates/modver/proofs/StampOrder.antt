@@ -20,7 +20,7 @@ use Rattle.modver.proofs.Ranks.{IsDigits, stamp-digits}
 use Rattle.modver.proofs.DotParts.{no-stamp}
 
 -- a list of 14
-record Fourteen (s : List ℕ) : Type 0 where
+pub record Fourteen (s : List ℕ) : Type 0 where
   pub a : ℕ
   pub b : ℕ
   pub c : ℕ
@@ -37,7 +37,7 @@ record Fourteen (s : List ℕ) : Type 0 where
   pub n : ℕ
   pub same : s ≡ a ∷ b ∷ c ∷ d ∷ e ∷ f ∷ g ∷ h ∷ i ∷ j ∷ k ∷ l ∷ m ∷ n ∷ []
 
-fourteen : (s : List ℕ) → length s ≡ 14 → Fourteen s
+pub fourteen : (s : List ℕ) → length s ≡ 14 → Fourteen s
 fourteen [] size = absurd (omega arith)
 fourteen (a ∷ []) size = absurd (omega arith)
 fourteen (a ∷ b ∷ []) size = absurd (omega arith)

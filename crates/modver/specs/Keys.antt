@@ -1,0 +1,29 @@
+-- Keys of order: bytes whose order is that of the versions.
+use Rattle.std.specs.Prelude.{ℕ, List, [], ◌∷◌, ◌++◌, length, Option, Some, None, if◌then◌else◌}
+use Rattle.std.specs.Int.{to_be_bytes, w64}
+use Rattle.std.specs.List.{flat_map}
+use Rattle.modver.specs.Class.{stamp_of}
+use Rattle.modver.specs.SemanticVersion.{SemanticVersion, is_numeric}
+
+-- a number: 1, how many digits it has, and these; another identifier: 2, its bytes, and 0
+abbrev pub identifier_key : List ℕ → List ℕ
+identifier_key i = if is_numeric i then 1 ∷ length i ∷ i else 2 ∷ (i ++ 0 ∷ [])
+
+-- a release: 3, which is more than any identifier begins with; else each identifier, and 0 behind the last
+abbrev pub pre_release_key : List (List ℕ) → List ℕ
+pre_release_key [] = 3 ∷ []
+pre_release_key (i ∷ rest) = flat_map identifier_key (i ∷ rest) ++ 0 ∷ []
+
+-- the three numbers in 8 bytes each, the greatest byte first, and then the pre-release; the mark does not enter
+unfoldable pub order_key_of : SemanticVersion → List ℕ
+order_key_of v = to_be_bytes w64 v.major ++ (to_be_bytes w64 v.minor ++ (to_be_bytes w64 v.patch ++ pre_release_key v.identifiers))
+
+-- 3 for a release, 2 for a pre-release, 1 and the stamp for a pseudo-version
+abbrev pub class_key : List (List ℕ) → Option (List ℕ) → List ℕ
+class_key [] stamp = 3 ∷ []
+class_key (i ∷ rest) None = 2 ∷ []
+class_key (i ∷ rest) (Some stamp) = 1 ∷ stamp
+
+-- the class, and then the key of order
+unfoldable pub rank_key_of : SemanticVersion → List ℕ
+rank_key_of v = class_key v.identifiers (stamp_of v) ++ order_key_of v

@@ -1,24 +1,24 @@
 -- A caller is told what it is told in every world that is the same to it.
-use Rattle.std.proofs.Common.{◌≡◌, ◌≢◌, ℕ, List, [], ◌∷◌, Option, Some, None, Result, Ok, Err, sym, ◌∙◌, subst}
+use Rattle.std.proofs.Common.{◌≡◌, ◌≢◌, ℕ, List, [], ◌∷◌, Option, Some, None, Result, Ok, refl, sym, ap, ◌∙◌, subst}
 use Rattle.std.specs.Io.KnownBytes.{Appends}
 use Rattle.wire.specs.Message.{Request, ReadsMessage, clean, too_large, bad}
 use Rattle.wire.specs.declared.reply.Fixed.{Fixed}
 use Rattle.wire.specs.declared.reply.Fixed.TheVariants.{TooLarge, BadRequest, Unavailable}
 use Rattle.wire.proofs.StreamLemmas.{message_unique, no_message_at_end}
-use Rattle.shelf.specs.declared.reply.Reply.{Reply}
 use Rattle.shelf.specs.declared.reply.Answer.TheVariants.{Replied}
 use Rattle.world.specs.World.{World, IsWorld}
 use Rattle.world.specs.Store.{Shown}
+use Rattle.shelf.specs.Machine.{ask_reply, after_ask}
 use Rattle.shelf.proofs.Blind.{blind}
 use Rattle.engine.specs.Ask.{ask_of}
 use Rattle.engine.specs.First.{First, Answers, Closes, TakesFirst, ServesFirst, first_bytes, first_status, first_exchanges}
-use Rattle.engine.specs.Isolated.{IsToldByItsShelf, AnswersByItsShelf}
+use Rattle.engine.specs.Isolated.{AnswersByItsShelf}
 use Rattle.engine.specs.Exchange.{Outcome, Unserved, Met, Told}
-use Rattle.engine.specs.Reply.{bytes_of}
+use Rattle.engine.specs.Reply.{bytes_of, page_of, page_status}
 use Rattle.engine.specs.Served.{IsClosing, closing_status}
 use Rattle.engine.specs.Store.{GoesThrough}
+use Rattle.engine.specs.TwoStores.{TwoAnswersAreAlike}
 use Rattle.engine.specs.declared.fault.Io.{Io}
-use Rattle.engine.specs.declared.fault.Io.TheVariants as io
 
 some_inside : (a b : ℕ) → Some a ≡ Some b → a ≡ b
 some_inside a b e = cc
@@ -32,42 +32,75 @@ closed_by_503 (Some BadRequest) input m rest status reads closes is = absurd (no
 closed_by_503 (Some Unavailable) input m rest status reads closes is = some_inside status 503 is
 closed_by_503 (Some other) input m rest status reads closes is = absurd closes
 
-module _
-    (old new : Shown) (before now : ℕ) (u u' written written_new : Option (List ℕ))
-    (sound : (w : World) → old.stands w → IsWorld w) where
-  reply_alike : (m : Request) (reply : Reply) → GoesThrough old new before now (record { message = m; outcome = Told reply } ∷ [])
-      → Appends written written_new (bytes_of m (Replied reply)) → IsToldByItsShelf old new written written_new m
-  reply_alike m reply through appends honest w x s t k stands is_world low seen has key =
+-- the machine's reply, in the world that the store stood for, was written and its status told
+record IsReplied (new : Shown) (written written_new : Option (List ℕ)) (w : World) (m : Request) (status : ℕ) : Type 0 where
+  bytes : Appends written written_new (bytes_of m (Replied (ask_reply w (ask_of m))))
+  number : status ≡ page_status (page_of m (ask_reply w (ask_of m)))
+  stands : new.stands (after_ask w (ask_of m))
+
+-- so it was in each world that the store may have stood for
+abbrev IsRepliedInEach : Shown → Shown → Option (List ℕ) → Option (List ℕ) → Request → ℕ → Type 0
+IsRepliedInEach old new written written_new m status =
+    new.is_honest → (w : World) → old.stands w → IsReplied new written written_new w m status
+
+module _ (old new : Shown) (before now : ℕ) (u u' written written_new : Option (List ℕ)) where
+  outcome_told : (m : Request) (outcome : Outcome) (status : ℕ) → let first = Answers (record { message = m; outcome = outcome }) in
+      GoesThrough old new before now (first_exchanges first) → Some status ≡ first_status first → Appends written written_new (first_bytes first)
+      → status ≢ 503 → IsRepliedInEach old new written written_new m status
+  outcome_told m Unserved status through is appends other honest w stands = absurd (other (some_inside status 503 is))
+  outcome_told m (Met fault) status through is appends other honest w stands = absurd (other (some_inside status 503 is))
+  outcome_told m (Told reply) status through is appends other honest w stands =
       let at = through.runs.at honest w stands in
-      let same = blind w x s t k (ask_of m) (sound w stands) is_world low seen has key in
       record {
-        bytes = subst (λ r. Appends written written_new (bytes_of m (Replied r))) (at.run.0 ∙ same.0) appends;
+        bytes = subst (λ r. Appends written written_new (bytes_of m (Replied r))) at.run.0 appends;
+        number = some_inside status (page_status (page_of m reply)) is ∙ ap (λ r. page_status (page_of m r)) at.run.0;
         stands = at.ends;
-        low = same.1;
       }
 
-  outcome_alike : (m : Request) (outcome : Outcome) (status : ℕ) → let first = Answers (record { message = m; outcome = outcome }) in
-      GoesThrough old new before now (first_exchanges first) → Some status ≡ first_status first → Appends written written_new (first_bytes first)
-      → status ≢ 503 → IsToldByItsShelf old new written written_new m
-  outcome_alike m Unserved status through is appends other = absurd (other (some_inside status 503 is))
-  outcome_alike m (Met fault) status through is appends other = absurd (other (some_inside status 503 is))
-  outcome_alike m (Told reply) status through is appends other = reply_alike m reply through appends
-
-  first_alike : (first : First) (input : List ℕ) (m : Request) (rest : List ℕ) (status : ℕ) → u ≡ Some input → TakesFirst u u' first
+  first_told : (first : First) (input : List ℕ) (m : Request) (rest : List ℕ) (status : ℕ) → u ≡ Some input → TakesFirst u u' first
       → GoesThrough old new before now (first_exchanges first) → Some status ≡ first_status first → Appends written written_new (first_bytes first)
-      → ReadsMessage input m rest → status ≢ 503 → IsToldByItsShelf old new written written_new m
-  first_alike (Answers x) input m rest status known takes through is appends reads other =
+      → ReadsMessage input m rest → status ≢ 503 → IsRepliedInEach old new written written_new m status
+  first_told (Answers x) input m rest status known takes through is appends reads other =
       let same : takes.input ≡ input = rw known at takes.told in
       let one = message_unique input x.message m takes.stands.0 rest (subst (λ bytes. ReadsMessage bytes x.message takes.stands.0) same takes.stands.1) reads in
-      subst (λ n. IsToldByItsShelf old new written written_new n) one.0 (outcome_alike x.message x.outcome status through is appends other)
-  first_alike (Closes closing) input m rest status known takes through is appends reads other =
+      subst (λ n. IsRepliedInEach old new written written_new n status) one.0 (outcome_told x.message x.outcome status through is appends other)
+  first_told (Closes closing) input m rest status known takes through is appends reads other =
       let same : takes.input ≡ input = rw known at takes.told in
       absurd (other (closed_by_503 closing input m rest status reads (subst (λ bytes. IsClosing bytes closing) same takes.stands) is))
 
-  pub alike : (result : Result (Option ℕ) Io) → ServesFirst old new before now u u' written written_new result
-      → AnswersByItsShelf old new u written written_new result
-  alike (Ok given) (first, takes, through, is, appends) input m rest status known reads same other =
-      let given_is : given ≡ Some status = cc in
-      first_alike first input m rest status known takes through (sym given_is ∙ is) appends reads other
-  alike (Err io.Read) serves input m rest status known reads same other = cc
-  alike (Err io.Write) serves input m rest status known reads same other = cc
+  message_told : (input : List ℕ) (m : Request) (rest : List ℕ) (status : ℕ) → u ≡ Some input
+      → ServesFirst old new before now u u' written written_new (Ok (Some status)) → ReadsMessage input m rest → status ≢ 503
+      → IsRepliedInEach old new written written_new m status
+  message_told input m rest status known (first, takes, through, is, appends) reads other =
+      first_told first input m rest status known takes through is appends reads other
+
+  pub alike : ((w : World) → old.stands w → IsWorld w) → (result : Result (Option ℕ) Io)
+      → ServesFirst old new before now u u' written written_new result → AnswersByItsShelf old new u written written_new result
+  alike sound result serves input m rest status known reads ended other honest w x s t k stands is_world low seen has key =
+      let told = message_told input m rest status known (subst (ServesFirst old new before now u u' written written_new) ended serves) reads other honest w stands in
+      let same = blind w x s t k (ask_of m) (sound w stands) is_world low seen has key in
+      record {
+        bytes = subst (λ r. Appends written written_new (bytes_of m (Replied r))) same.0 told.bytes;
+        stands = told.stands;
+        low = same.1;
+      }
+
+-- ---- two stores
+
+pub two_answers_are_alike : (old new old_too new_too : Shown) → ((w : World) → old.stands w → IsWorld w)
+    → ((w : World) → old_too.stands w → IsWorld w) → TwoAnswersAreAlike old new old_too new_too
+two_answers_are_alike old new old_too new_too sound sound_too w x s m written written_new written_too written_too_new status status_too two other other_too =
+    let told = message_told old new two.before two.now (Some two.input) two.unread written written_new two.input m two.rest status refl
+    two.serves two.reads other two.honest w two.stands in
+    let told_too = message_told old_too new_too two.before_too two.now_too (Some two.input) two.unread_too written_too written_too_new two.input m two.rest status_too refl
+    two.serves_too two.reads other_too two.honest_too x two.stands_too in
+    let same = blind w x s two.shelf two.key (ask_of m) (sound w two.stands) (sound_too x two.stands_too) two.low two.sees_it two.belongs_to_it two.asks_with in
+    record {
+      text = bytes_of m (Replied (ask_reply w (ask_of m)));
+      wrote = told.bytes;
+      wrote_too = subst (λ r. Appends written_too written_too_new (bytes_of m (Replied r))) (sym same.0) told_too.bytes;
+      statuses = told_too.number ∙ ap (λ r. page_status (page_of m r)) (sym same.0) ∙ sym told.number;
+      stands = told.stands;
+      stands_too = told_too.stands;
+      low = same.1;
+    }

@@ -9,4 +9,5 @@ pub mod Reply
 pub mod Served
 pub mod Store
 pub mod Turn
+pub mod TwoStores
 pub mod Written

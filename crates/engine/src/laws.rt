@@ -5,6 +5,7 @@ ghost use Rattle.world.specs.World.{gomod_limit, zip_limit};
 ghost use Rattle.engine.specs.Calls.{CallsTellAlike, CallsTellAlikeAsFar};
 ghost use Rattle.engine.specs.Headline.{CallersAreToldAlike, BytesStayServed, LatestIsWritten};
 ghost use Rattle.engine.specs.Parts.{PartWritesTheSame, OthersAreWrittenNotFound};
+ghost use Rattle.engine.specs.TwoStores.{TwoAnswersAreAlike};
 
 use world::shelves::Shelves;
 
@@ -34,6 +35,15 @@ pub fn isolation_of_calls<S: Shelves, T: Shelves>()
         → CallsTellAlike (S.shown old) (S.shown new) (T.shown old_too) (T.shown new_too) }
     ensures as_far { (old new : S) (old_too new_too : T)
         → CallsTellAlikeAsFar (S.shown old) (S.shown new) (T.shown old_too) (T.shown new_too) }
+{}
+
+/// Two calls of [`answer_one`](crate::answer_one) that read the same bytes, over any two stores whose worlds are the same to a shelf, asked
+/// with a key that the shelf sees: where both end well, and neither with the 503, they write the same bytes and tell the same status, and the
+/// worlds after them are the same to the shelf again. So two databases answer alike whose rows of other teams differ in number, order and
+/// row numbers.
+pub fn isolation_of_one_request<S: Shelves, T: Shelves>()
+    ensures { (old new : S) (old_too new_too : T)
+        → TwoAnswersAreAlike (S.shown old) (S.shown new) (T.shown old_too) (T.shown new_too) }
 {}
 
 /// A store and one that stands for a team's part of its world write the same text for each message with a key of the team or of `common` that

@@ -1,0 +1,132 @@
+//! Imports that break off: the list can't be read on, or a line can't be printed.
+use crate::calls::{imported, seen_by};
+use crate::doubles::{Sink, Source};
+use crate::in_memory::put;
+use crate::rows::{first_lines, newlines};
+use commands::memory::shelves_with;
+use commands::sources::{FilesInMemory, Sources};
+use std::alloc::{AllocError, Global};
+use std::io::Read;
+use std::test::Fail;
+use world::shelves::Shelves;
+
+const KEY: &str = "alphakey00000001";
+
+fn files(alloc: Global) -> Result<FilesInMemory, AllocError> {
+    let mut files = FilesInMemory::new(alloc);
+    put(alloc, &mut files, "i.mod | module example.com/i;\nempty |")?;
+    Ok(files)
+}
+
+/// Three rows, with the lines that are printed for them and what the shelf sees then.
+const LIST: &[u8] =
+    b"path,version,time,mod,zip\nexample.com/i,v1.0.0,,i.mod,empty\nexample.com/i,v1.1.0,,i.mod,empty\nexample.com/i,v1.2.0,,i.mod,empty\n";
+
+const LINES: &str = "1 201 published\n2 201 published\n3 201 published\n";
+
+const INVENTORY: &str = "\
+path,version,shelf,class,time,mod_bytes,zip_bytes
+example.com/i,v1.0.0,alpha,release,,21,0
+example.com/i,v1.1.0,alpha,release,,21,0
+example.com/i,v1.2.0,alpha,release,,21,0
+";
+
+/// What an import prints, how it ends, and what the shelf sees then.
+fn left_by<S: Shelves + Drop, L: Read + Drop, F: Sources>(
+    alloc: Global,
+    mut shelves: S,
+    list: L,
+    files: &F,
+    output: Sink,
+) -> Result<String, Fail> {
+    let ended = imported(alloc, &mut shelves, files, KEY, list, output)?;
+    let seen = seen_by(alloc, &mut shelves, KEY)?;
+    Ok(format!(in alloc; "{}\n{}", ended.as_str(), seen.as_str())?)
+}
+
+/// The same from shelves on which nothing stands.
+fn left<L: Read + Drop, F: Sources>(
+    alloc: Global,
+    list: L,
+    files: &F,
+    output: Sink,
+) -> Result<String, Fail> {
+    let shelves = shelves_with(alloc, "alpha", KEY)?;
+    left_by(alloc, shelves, list, files, output)
+}
+
+/// What is left where this was printed, the import ended so, and so many rows are done.
+fn left_after(
+    alloc: Global,
+    printed: &str,
+    ending: &str,
+    rows: usize,
+) -> Result<String, AllocError> {
+    let seen = first_lines(alloc, INVENTORY, rows.saturating_add(1))?;
+    format!(in alloc; "{printed}{ending}\n{}", seen.as_str())
+}
+
+/// What is left where so many lines of the list were read, and then it can't be read on.
+fn left_unread(alloc: Global, lines: usize) -> Result<String, AllocError> {
+    let rows = lines.saturating_sub(1);
+    let done = first_lines(alloc, LINES, rows)?;
+    let printed = format!(in alloc; "{}{lines} 503 unavailable\n", done.as_str())?;
+    left_after(alloc, printed.as_str(), "some out", rows)
+}
+
+/// Whether that is left where the list can't be read on after so many reads.
+fn stays<F: Sources>(alloc: Global, files: &F, reads: usize) -> Result<bool, Fail> {
+    let list = Source { rest: LIST, reads };
+    let left = left(alloc, list, files, Sink::new(alloc, usize::MAX, true))?;
+    let wanted = left_unread(alloc, newlines(LIST, reads))?;
+    Ok(left.as_str() == wanted.as_str())
+}
+
+#[test]
+fn rows_before_a_failed_read_stay(rt: HostRuntime) -> Result<(), Fail> {
+    let files = files(rt.alloc())?;
+    for reads in 0..LIST.len() + 1 {
+        assert!(rt; stays(rt.alloc(), &files, reads)?, "at {reads}");
+    }
+    Ok(())
+}
+
+/// Two rows and one that is bad, with the lines that are printed for them.
+const BAD: &[u8] =
+    b"path,version,time,mod,zip\nexample.com/i,v1.0.0,,i.mod,empty\nexample.com/i,v1.1.0,,i.mod,empty\nexample.com/i,v1.2.0\n";
+
+const BAD_LINES: &str = "1 201 published\n2 201 published\n3 bad row\n";
+
+/// Whether a beginning of the lines was printed where there is room for no more, and the row whose line it breaks off is done.
+fn breaks_off<F: Sources>(alloc: Global, files: &F, room: usize) -> Result<bool, Fail> {
+    let left = left(alloc, BAD, files, Sink::new(alloc, room, true))?;
+    let printed = BAD_LINES.get(..room).ok_or("no such place")?;
+    let rows = newlines(BAD_LINES.as_bytes(), room)
+        .saturating_add(1)
+        .min(2);
+    let wanted = left_after(alloc, printed, "io", rows)?;
+    Ok(left.as_str() == wanted.as_str())
+}
+
+#[test]
+fn a_row_whose_line_breaks_off_is_done(rt: HostRuntime) -> Result<(), Fail> {
+    let files = files(rt.alloc())?;
+    for room in 0..BAD_LINES.len() {
+        assert!(rt; breaks_off(rt.alloc(), &files, room)?, "at {room}");
+    }
+    Ok(())
+}
+
+/// Whether the first row is the last that is done where its line is not flushed.
+fn stops_unflushed<F: Sources>(alloc: Global, files: &F) -> Result<bool, Fail> {
+    let left = left(alloc, BAD, files, Sink::new(alloc, usize::MAX, false))?;
+    let wanted = left_after(alloc, "1 201 published\n", "io", 1)?;
+    Ok(left.as_str() == wanted.as_str())
+}
+
+#[test]
+fn a_row_whose_line_is_not_flushed_is_the_last(rt: HostRuntime) -> Result<(), Fail> {
+    let files = files(rt.alloc())?;
+    assert!(rt; stops_unflushed(rt.alloc(), &files)?);
+    Ok(())
+}

@@ -1,0 +1,127 @@
+//! The commands over any store and any files, and their answers as texts.
+use crate::doubles::Sink;
+use crate::rows::{column, with_lines};
+use commands::import::{Ending, import};
+use commands::inventory::inventory;
+use commands::refusal::Refusal;
+use commands::registry::{add_key, add_team};
+use commands::requirements::requirements;
+use commands::sources::Sources;
+use engine::Io;
+use std::alloc::Global;
+use std::io::Read;
+use std::str::from_utf8;
+use std::test::Fail;
+use world::shelves::Shelves;
+
+/// The first row of a script that is answered otherwise; empty where each has its own answer. A row is a command, a key, what it asks
+/// for, and the answer, in which `;` stands for a newline. The store is let go then.
+pub fn wrong_row<'a, S: Shelves + Drop, F: Sources>(
+    alloc: Global,
+    mut shelves: S,
+    files: &F,
+    script: &'a str,
+) -> Result<&'a str, Fail> {
+    for row in script.lines() {
+        if !holds(alloc, &mut shelves, files, row)? {
+            return Ok(row);
+        }
+    }
+    Ok("")
+}
+
+/// Whether a row has its answer.
+fn holds<S: Shelves, F: Sources>(
+    alloc: Global,
+    shelves: &mut S,
+    files: &F,
+    row: &str,
+) -> Result<bool, Fail> {
+    let wanted = with_lines(alloc, column(row, 3))?;
+    Ok(answered(alloc, shelves, files, row)?.as_str() == wanted.as_str())
+}
+
+/// The answer to a row.
+fn answered<S: Shelves, F: Sources>(
+    alloc: Global,
+    shelves: &mut S,
+    files: &F,
+    row: &str,
+) -> Result<String, Fail> {
+    let (key, asked) = (column(row, 1), column(row, 2));
+    match column(row, 0) {
+        "import" => import_file(alloc, shelves, files, key, asked),
+        "inventory" => seen_by(alloc, shelves, key),
+        "requires" => required(alloc, shelves, key, asked),
+        "team-add" => ended(alloc, add_team(shelves, asked)),
+        "key-add" => ended(alloc, add_key(shelves, asked, key, false)),
+        "reader-add" => ended(alloc, add_key(shelves, asked, key, true)),
+        _ => Ok(String::from_str(alloc, "no such command")?),
+    }
+}
+
+/// How a command of the registry ended.
+fn ended(alloc: Global, told: Result<(), Refusal>) -> Result<String, Fail> {
+    match told {
+        Ok(()) => Ok(String::from_str(alloc, "done")?),
+        Err(refusal) => Ok(String::from_str(alloc, refusal.word())?),
+    }
+}
+
+/// Imports the list in a file.
+fn import_file<S: Shelves, F: Sources>(
+    alloc: Global,
+    shelves: &mut S,
+    files: &F,
+    key: &str,
+    name: &str,
+) -> Result<String, Fail> {
+    let list = files.bytes(name, 4096)?;
+    let output = Sink::new(alloc, usize::MAX, true);
+    imported(alloc, shelves, files, key, list.as_slice(), output)
+}
+
+/// The lines that an import prints, and how it ends.
+pub fn imported<S: Shelves, F: Sources, L: Read + Drop>(
+    alloc: Global,
+    shelves: &mut S,
+    files: &F,
+    key: &str,
+    list: L,
+    mut output: Sink,
+) -> Result<String, Fail> {
+    let ending = ending_of(import(alloc, shelves, key, list, files, &mut output));
+    Ok(format!(in alloc; "{}{ending}", from_utf8(output.taken.as_slice())?)?)
+}
+
+/// How an import ended.
+fn ending_of(ended: Result<Ending, Io>) -> &'static str {
+    match ended {
+        Ok(Ending::AllIn) => "all in",
+        Ok(Ending::SomeOut) => "some out",
+        Ok(Ending::BadRow) => "bad row",
+        Err(_) => "io",
+    }
+}
+
+/// What the shelf of a key sees, or why that is not told.
+pub fn seen_by<S: Shelves>(alloc: Global, shelves: &mut S, key: &str) -> Result<String, Fail> {
+    match inventory(alloc, shelves, key) {
+        Ok(text) => Ok(String::from_str(alloc, from_utf8(text.as_slice())?)?),
+        Err(fault) => Ok(format!(in alloc; "{fault:?}")?),
+    }
+}
+
+/// What a version requires, its path and its name behind `@`; or `none`.
+fn required<S: Shelves>(
+    alloc: Global,
+    shelves: &mut S,
+    key: &str,
+    asked: &str,
+) -> Result<String, Fail> {
+    let (path, version) = asked.split_once('@').ok_or("no version")?;
+    match requirements(alloc, shelves, key, path, version)? {
+        Some(lines) => Ok(String::from_str(alloc, from_utf8(lines.as_slice())?)?),
+        None => Ok(String::from_str(alloc, "none")?),
+    }
+}

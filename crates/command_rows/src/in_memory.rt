@@ -1,0 +1,92 @@
+//! Files in memory.
+use crate::rows::{column, with_lines};
+use commands::sources::{FilesInMemory, Sources};
+use std::alloc::{AllocError, Global};
+use std::str::from_utf8;
+use std::test::Fail;
+
+/// Puts files, one a line: a name and its text, in which `;` stands for a newline.
+pub fn put(alloc: Global, files: &mut FilesInMemory, table: &str) -> Result<(), AllocError> {
+    for row in table.lines() {
+        put_file(alloc, files, column(row, 0), column(row, 1))?;
+    }
+    Ok(())
+}
+
+fn put_file(
+    alloc: Global,
+    files: &mut FilesInMemory,
+    name: &str,
+    text: &str,
+) -> Result<(), AllocError> {
+    let text = with_lines(alloc, text)?;
+    files.insert(name, text.as_bytes())
+}
+
+/// What is told of a name: its bytes, of which there is at most one more than this many, or why there are none.
+fn told<F: Sources>(alloc: Global, files: &F, name: &str, most: u32) -> Result<String, Fail> {
+    match files.bytes(name, u64::from(most)) {
+        Ok(bytes) => Ok(String::from_str(alloc, from_utf8(bytes.as_slice())?)?),
+        Err(fault) => Ok(format!(in alloc; "{fault:?}")?),
+    }
+}
+
+/// Whether that is told of a name which its row says.
+fn is_told<F: Sources>(alloc: Global, files: &F, row: &str) -> Result<bool, Fail> {
+    let most = column(row, 1).parse::<u32>()?;
+    let wanted = with_lines(alloc, column(row, 2))?;
+    Ok(told(alloc, files, column(row, 0), most)?.as_str() == wanted.as_str())
+}
+
+/// Puts the files of a row with two columns; asks for the name of one with three.
+fn holds(alloc: Global, files: &mut FilesInMemory, row: &str) -> Result<bool, Fail> {
+    if row.split('|').count() == 3 {
+        return is_told(alloc, files, row);
+    }
+    put_file(alloc, files, column(row, 0), column(row, 1))?;
+    Ok(true)
+}
+
+/// The first row of which something else is told; empty where each is told as it says.
+fn wrong_row<'a>(alloc: Global, files: &mut FilesInMemory, rows: &'a str) -> Result<&'a str, Fail> {
+    for row in rows.lines() {
+        if !holds(alloc, files, row)? {
+            return Ok(row);
+        }
+    }
+    Ok("")
+}
+
+/// Files that are put, one of 21 bytes, one of none and one of one; and what is told of a name where so many bytes are the most.
+const ROWS: &str = "\
+a.mod | 100 | NoFile
+a.mod | module example.com/a;
+empty |
+one | X
+a.mod | 100 | module example.com/a;
+a.mod | 21 | module example.com/a;
+a.mod | 20 | module example.com/a;
+a.mod | 19 | module example.com/a
+a.mod | 4 | modul
+a.mod | 0 | m
+empty | 100 |
+empty | 0 |
+one | 1 | X
+one | 0 | X
+none | 100 | NoFile
+a.mo | 100 | NoFile
+A.mod | 100 | NoFile
+a.mod | module example.com/b;
+none | Y
+a.mod | 100 | module example.com/b;
+none | 100 | Y
+one | 100 | X
+two | 100 | NoFile
+";
+
+#[test]
+fn files_in_memory_have_the_bytes_that_were_put(rt: HostRuntime) -> Result<(), Fail> {
+    let mut files = FilesInMemory::new(rt.alloc());
+    assert_eq!(rt; wrong_row(rt.alloc(), &mut files, ROWS)?, "");
+    Ok(())
+}

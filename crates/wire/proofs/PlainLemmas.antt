@@ -1,15 +1,16 @@
 -- Texts in their escaped form.
-use Rattle.std.proofs.Common.{◌≡◌, ◌==◌, ◌⊎◌, ℕ, ◌+◌, ◌-◌, List, [], ◌∷◌, Option, Some, None, true, false, refl, sym, ap, ◌∙◌, inl, inr, arith, subst}
-use Rattle.std.proofs.lemmas.Bool.{cases_Bool, false_from_ne_true}
+use Rattle.std.proofs.Common.{◌≡◌, ◌==◌, ◌⊎◌, ℕ, ◌+◌, ◌-◌, List, [], ◌∷◌, Option, Some, None, true, false, not, refl, sym, ap, ◌∙◌, inl, inr, arith, subst}
+use Rattle.std.proofs.lemmas.Bool.{and_parts, cases_Bool, false_from_ne_true, not-true}
 use Rattle.std.proofs.lemmas.Str.{IsUtf8-from_is_utf8, is_utf8-from_IsUtf8}
 use Rattle.std.specs.Char.{is_ascii_uppercase}
+use Rattle.std.specs.List.{list_all}
 use Rattle.std.specs.Option.{unwrap_or}
 use Rattle.std.specs.Str.{IsUtf8, is_utf8}
 use Rattle.modpath.specs.declared.escaping.EscapeFault.{EscapeFault}
 use Rattle.modpath.specs.declared.escaping.EscapeFault.TheVariants as refused
 use Rattle.modpath.specs.Escape.{IsUnescaped, escape_fault, escaped, has_bang}
 use Rattle.modpath.proofs.EscapeLaw.{faults_are_exact}
-use Rattle.wire.specs.Place.{plain_of, unescaped}
+use Rattle.wire.specs.Place.{plain_of, stands_for_itself, unescaped}
 
 -- the escaped form undone
 pub unescaped-escaped : (plain : List ℕ) → has_bang plain ≡ false → unescaped (escaped plain) ≡ plain
@@ -51,6 +52,20 @@ pub plain-refused : (bytes text : List ℕ) (fault : EscapeFault) → text ≡ b
     → ¬ (fault ≡ refused.Memory) → plain_of bytes ≡ None
 plain-refused bytes text fault same (inl memory) other = absurd (other memory)
 plain-refused bytes text fault same (inr some) other = plain-fault bytes fault (rw same at some)
+
+-- a text of bytes that stand for themselves
+pub unescaped-itself : (text : List ℕ) → list_all stands_for_itself text ≡ true → IsUnescaped text text
+unescaped-itself [] h = record { same = refl; no_bang = refl }
+unescaped-itself (b ∷ rest) h =
+    let both = and_parts (stands_for_itself b) (list_all stands_for_itself rest) h in
+    let here = and_parts (not (b == 33)) (not (is_ascii_uppercase b)) both.0 in
+    let other : (b == 33) ≡ false = not-true (b == 33) here.0 in
+    let lower : is_ascii_uppercase b ≡ false = not-true (is_ascii_uppercase b) here.1 in
+    let ih = unescaped-itself rest both.1 in
+    record { same = rw lower (ap (λ (l : List ℕ). b ∷ l) ih.same); no_bang = rw other ih.no_bang }
+
+pub plain-itself : (text : List ℕ) → IsUtf8 text → list_all stands_for_itself text ≡ true → plain_of text ≡ Some text
+plain-itself text utf8 h = plain-some text text utf8 (unescaped-itself text h)
 
 -- what a text stands for
 plain-by : (text plain : List ℕ) → is_utf8 text ≡ true → (fault : Option EscapeFault) → escape_fault text ≡ fault → plain_of text ≡ Some plain

@@ -3,19 +3,18 @@ use Rattle.std.proofs.Common.{◌≡◌, ◌==◌, ℕ, ◌+◌, ◌<◌, List, 
 use Rattle.std.proofs.lemmas.Bool.{and_parts, cases_Bool, lt-ltb, ltb-true}
 use Rattle.std.proofs.lemmas.Bool.Decides.{Decides-eqb, nat_tests}
 use Rattle.std.proofs.lemmas.List.{drop_at, take-append-drop, take_at}
-use Rattle.std.proofs.lemmas.Str.{IsCharBoundary-after_ascii, IsCharBoundary-before_ascii, IsUtf8-drop, IsUtf8-from_ascii, IsUtf8-take}
+use Rattle.std.proofs.lemmas.Str.{IsCharBoundary-after_ascii, IsCharBoundary-before_ascii, IsUtf8-drop, IsUtf8-take}
 use Rattle.std.specs.Cmp.Lexicographic.{pointwise, pointwise_decides}
 use Rattle.std.specs.List.{list_any}
 use Rattle.std.specs.Option.{option_and_then, option_map}
 use Rattle.std.specs.Str.{IsUtf8}
-use Rattle.matchit.specs.Params.{AllText, named, walk}
+use Rattle.matchit.specs.Params.{Shows, walk}
 use Rattle.matchit.specs.Router.{RouteOf}
 use Rattle.matchit.specs.Seek.{first}
 use Rattle.wire.specs.Place.{around, without_start}
 use Rattle.wire.specs.Route.{area_of, is_own, path_route, routed_of, routes, shelf_route, split_of, with_key}
 use Rattle.wire.specs.declared.routes.Area.{Area}
 use Rattle.wire.specs.declared.routes.Area.TheVariants as area
-use Rattle.wire.proofs.PlainBytes.{ascii-from}
 use Rattle.wire.proofs.RouteLemmas.{AreBytes, Splits, first_of_split, splits_of_first}
 use Rattle.wire.proofs.TargetLemmas.{around-is, around-taken, if-some, map-some, start-is, then-some}
 use Rattle.wire.proofs.WalkLemmas.{walk_path, walk_shelf}
@@ -193,29 +192,30 @@ no-route-by target bytes none (Some (a, key, rest)) e =
 pub no-route : (target : List ℕ) → AreBytes target → first routes target ≡ None → routed_of target ≡ None
 no-route target bytes none = no-route-by target bytes none (routed_of target) refl
 
--- the parameters by their names are the key and the rest
-pub record Finds (target : List ℕ) (a : Area) (pairs : List (List ℕ × List ℕ)) : Type 0 where
+-- the parameters of a match are the key and then the rest, under their names
+pub record AreTaken (target : List ℕ) (a : Area) (pairs : List (List ℕ × List ℕ)) : Type 0 where
   pub key : List ℕ
   pub rest : List ℕ
   pub routed : routed_of target ≡ Some (a, key, rest)
-  pub texts : AllText pairs
-  pub named_key : named (codes "key") pairs ≡ Some key
-  pub named_rest : named (codes "rest") pairs ≡ Some rest
-
-finds-by : (target : List ℕ) (a : Area) (key rest : List ℕ) (pairs : List (List ℕ × List ℕ)) → routed_of target ≡ Some (a, key, rest) → IsUtf8 key × IsUtf8 rest
-    → pairs ≡ (codes "key", key) ∷ (codes "rest", rest) ∷ [] → Finds target a pairs
-finds-by target a key rest pairs routed texts is = record {
-  key = key;
-  rest = rest;
-  routed = routed;
-  texts = rw is (IsUtf8-from_ascii (codes "key") (ascii-from (codes "key") refl), texts.0, (IsUtf8-from_ascii (codes "rest") (ascii-from (codes "rest") refl), texts.1, tt));
-  named_key = rw is refl;
-  named_rest = rw is refl;
-}
+  pub texts : IsUtf8 key × IsUtf8 rest
+  pub are : pairs ≡ (codes "key", key) ∷ (codes "rest", rest) ∷ []
 
 pub found-params : (target path : List ℕ) (route : RouteOf Area) → AreBytes target → IsUtf8 target → path ≡ target → first routes target ≡ Some route
-    → Finds target route.value (walk route.pattern route.text path route.names 0 0)
+    → AreTaken target route.value (walk route.pattern route.text path route.names 0 0)
 found-params target path route bytes utf8 same found =
     let walked = found-route target route bytes utf8 found in
-    finds-by target route.value walked.key walked.rest _ walked.routed walked.texts
-    (ap (λ (p : List ℕ). walk route.pattern route.text p route.names 0 0) same ∙ walked.walked)
+    record {
+      key = walked.key;
+      rest = walked.rest;
+      routed = walked.routed;
+      texts = walked.texts;
+      are = ap (λ (p : List ℕ). walk route.pattern route.text p route.names 0 0) same ∙ walked.walked;
+    }
+
+-- the parameter that `next` gives is the first of those that are left, and its part is shown as it is where that is text
+pub next-given : (pairs left more : List (List ℕ × List ℕ)) (p : List ℕ × List ℕ) (name part shown : List ℕ) → pairs ≡ p ∷ left
+    → pairs ≡ (name, part) ∷ more → IsUtf8 part → Shows p.1 shown → (shown ≡ part) × (left ≡ more)
+next-given pairs left more p name part shown gives is utf8 shows =
+    let same : p ≡ (name, part) = cc (gives, is) in
+    let value : p.1 ≡ part = ap (λ (x : List ℕ × List ℕ). x.1) same in
+    let text : shown ≡ p.1 = shows (subst IsUtf8 (sym value) utf8) in (text ∙ value, cc (gives, is))

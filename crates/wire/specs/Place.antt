@@ -1,5 +1,6 @@
 -- Module paths and versions in their escaped forms, around `/@`. (Go Modules Reference, "GOPROXY protocol".)
-use Rattle.std.specs.Prelude.{◌≡◌, ◌==◌, ℕ, ◌-◌, nat_eq, nat_lt, Bool, true, false, ◌&&◌, List, [], ◌∷◌, ◌++◌, length, take, drop, codes, Option, Some, None, is_none, option_map, if◌then◌else◌}
+use Rattle.std.specs.Prelude.{◌≡◌, ◌==◌, ℕ, ◌-◌, nat_eq, nat_lt, Bool, true, false, ◌&&◌, List, [], ◌∷◌, ◌++◌, length, take, drop, codes, Option, Some, None, is_none, not, option_map, if◌then◌else◌}
+use Rattle.std.specs.Char.{is_ascii_uppercase}
 use Rattle.std.specs.Option.{option_and_then}
 use Rattle.std.specs.Cmp.Lexicographic.{pointwise}
 use Rattle.std.specs.List.{before_first, after_first, position_or_len}
@@ -43,6 +44,10 @@ without_slash parts = option_map (λ front. (front, parts.1)) (without_end (code
 -- a text around `/@`, where no other `@` stands before it
 unfoldable pub cut_of : List ℕ → Option (List ℕ × List ℕ)
 cut_of text = option_and_then without_slash (around 64 text)
+
+-- a byte that stands for itself in the escaped form
+abbrev pub stands_for_itself : ℕ → Bool
+stands_for_itself b = not (b == 33) && not (is_ascii_uppercase b)
 
 -- the text without each `!`, with an upper-case letter behind it
 abbrev pub unescaped_after : Bool → List ℕ → List ℕ

@@ -1,11 +1,14 @@
 //! Module paths and versions as they stand in targets: in their escaped form, around `/@`.
-ghost use Rattle.std.specs.Prelude.{◌≡◌, None, Some, IfOk, MatchOption, option_map, string_bytes};
-ghost use Rattle.wire.specs.Place.{around, cut_of, plain_of, path_of, version_from, place_of};
+ghost use Rattle.std.specs.Prelude.{◌≡◌, None, Some, IfOk, MatchOption, option_map};
+ghost use Rattle.std.specs.Cow.{cow_str_bytes};
+ghost use Rattle.std.specs.List.{list_all};
+ghost use Rattle.wire.specs.Place.{around, cut_of, plain_of, path_of, stands_for_itself, version_from, place_of};
 
 use crate::message::Memory;
 use modpath::{EscapeFault, ModulePath, PathError, unescape};
 use modver::{Version, VersionFault};
 use std::alloc::Global;
+use std::borrow::CowStr;
 
 /// A module path and a version of it.
 #[derive(Drop)]
@@ -83,17 +86,27 @@ pub(crate) fn read_version(alloc: Global, bytes: &[u8]) -> Result<Option<Version
     }
 }
 
-/// The text whose escaped form the bytes are.
-fn read_plain(alloc: Global, bytes: &[u8]) -> Result<Option<String>, Memory>
-    ensures { IfOk result (λ found. option_map string_bytes found ≡ plain_of bytes.now) }
+/// The text whose escaped form the bytes are: the bytes as they stand where each stands for itself, and else put together anew.
+fn read_plain(alloc: Global, bytes: &[u8]) -> Result<Option<CowStr<'_>>, Memory>
+    ensures { IfOk result (λ found. option_map cow_str_bytes found ≡ plain_of bytes.now) }
 {
     let Ok(text) = str::from_utf8(bytes) else {
         return Ok(None);
     };
+    if stand_for_themselves(bytes) {
+        return Ok(Some(CowStr::Borrowed(text)));
+    }
     match unescape(alloc, text) {
-        Ok(plain) => Ok(Some(plain)),
+        Ok(plain) => Ok(Some(CowStr::Owned(plain))),
         Err(EscapeFault::Upper) => Ok(None),
         Err(EscapeFault::Bang) => Ok(None),
         Err(EscapeFault::Memory) => Err(Memory),
     }
+}
+
+/// Whether each byte stands for itself in the escaped form: none is a `!` or an upper-case letter.
+fn stand_for_themselves(bytes: &[u8]) -> bool
+    ensures { result ≡ list_all stands_for_itself bytes.now }
+{
+    bytes.iter().all(|b| *b != b'!' && !b.is_ascii_uppercase())
 }

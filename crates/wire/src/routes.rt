@@ -93,10 +93,11 @@ fn split<'t>(routes: &Router<Area>, target: &'t str) -> Option<Routed<'t>>
         return None;
     };
     let area = *found.value;
-    let Some(key) = found.params.get("key") else {
+    let mut params = found.params.iter();
+    let Some((_, key)) = params.next() else {
         return None;
     };
-    let Some(rest) = found.params.get("rest") else {
+    let Some((_, rest)) = params.next() else {
         return None;
     };
     Some(Routed { area, key, rest })

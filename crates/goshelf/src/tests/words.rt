@@ -79,7 +79,10 @@ fn answer_alone_shows_both_forms(rt: HostRuntime) -> Result<(), Fail> {
     let ended = run(&rt, "answer", b"")?;
     let told = String::from_utf8(ended.errors)?;
     assert!(rt; told.as_str().contains("goshelf answer --db <F>"));
-    assert!(rt; told.as_str().contains("goshelf answer --mem --team <T> --key <K>"));
+    assert!(rt;
+        told.as_str()
+            .contains("goshelf answer --mem --team <T> --key <K>")
+    );
     Ok(())
 }
 

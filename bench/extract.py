@@ -2,8 +2,9 @@
 """Time and memory of `goshelf extract`, beside Python's sqlite3 that copies the same rows.
 
 Build the program first (`./goshelf --version`). A store of 100,000 versions of ten teams is made by sqlite3, and one team's part of it
-extracted, in turn with sqlite3, which copies the rows of that part into new tables in one transaction with synchronous FULL. The time of
-the program has the openings of both stores in it, whose time and memory are told too. With --quick the store is a tenth as large.
+extracted, in turn with sqlite3, which copies the rows of that part into new tables in one transaction with synchronous FULL. The program
+reads and judges the whole store when it opens it, which sqlite3 does not; so an opening alone is timed in each turn too, and the time of
+an extract is told with and without it. With --quick the store is a tenth as large.
 """
 
 import os
@@ -12,6 +13,7 @@ import subprocess
 import sys
 import tempfile
 import time
+from collections import namedtuple
 
 from store import BLOCK, PROGRAM, TABLES, answered, gomod
 
@@ -99,6 +101,34 @@ def rows(file):
     return found
 
 
+Turn = namedtuple("Turn", "seconds peak opening opened beside")
+
+
+def turn(whole, ours, theirs):
+    """An opening of the whole, an extract, and the copy by sqlite3: seconds, and the peaks of the first two."""
+    opening, opened = answered(whole, [])
+    return Turn(*extracted(whole, ours), opening, opened, copied(whole, theirs))
+
+
+def spread(values, form):
+    """The median of some values, the least and the most."""
+    values = sorted(values)
+    return f"{values[len(values) // 2]:{form}} ({values[0]:{form}} to {values[-1]:{form}})"
+
+
+def tell(turns, part):
+    """Prints the times of the turns."""
+    without = [max(it.seconds - it.opening, 1e-9) for it in turns]
+    print(
+        f"{part}, medians of {len(turns)} turns: extracted in {spread((it.seconds for it in turns), '.2f')} s, of which opening the whole takes "
+        f"{spread((it.opening for it in turns), '.2f')} s; sqlite3 copies in {spread((it.beside for it in turns), '.2f')} s"
+    )
+    print(
+        f"  {spread((it.seconds / it.beside for it in turns), '.2f')} times sqlite3's time with the opening, "
+        f"{spread((took / it.beside for took, it in zip(without, turns)), '.2f')} times without it"
+    )
+
+
 def main():
     entries = 10_000 if "--quick" in sys.argv else 100_000
     if not os.path.exists(PROGRAM):
@@ -106,23 +136,14 @@ def main():
     with tempfile.TemporaryDirectory(dir=os.environ.get("STORES")) as folder:
         whole, ours, theirs = (os.path.join(folder, name) for name in ("whole.db", "ours.db", "theirs.db"))
         filled(whole, entries)
-        pairs = [(*extracted(whole, ours), copied(whole, theirs)) for _ in range(ROUNDS)]
-        opening, opened = answered(whole, [])
-        opening_part, opened_part = answered(ours, [])
+        turns = [turn(whole, ours, theirs) for _ in range(ROUNDS)]
+        tell(turns, f"a part of {entries // len(TEAMS):,} versions out of {entries:,} ({os.path.getsize(whole) / 2**20:,.0f} MiB)")
+        # before this process grows: a child's peak begins at its parent's
+        _, opened_part = answered(ours, [])
         if rows(ours) != rows(theirs):
             sys.exit("the two copies differ")
-        seconds, peak, beside = (sorted(it[n] for it in pairs) for n in range(3))
-        ratios = sorted(ours_took / theirs_took for ours_took, _, theirs_took in pairs)
-        middle = ROUNDS // 2
-        print(
-            f"a part of {entries // len(TEAMS):,} versions out of a store of {entries:,} ({os.path.getsize(whole) / 2**20:,.0f} MiB): "
-            f"{seconds[middle]:.2f} s ({seconds[0]:.2f} to {seconds[-1]:.2f}), sqlite3 {beside[middle]:.2f} s ({beside[0]:.2f} to {beside[-1]:.2f}); "
-            f"{ratios[middle]:.2f} times its time ({ratios[0]:.2f} to {ratios[-1]:.2f}, {ROUNDS} pairs in turn)"
-        )
-        print(
-            f"peak {peak[-1]:,.0f} MiB; the whole is opened in {opening:.2f} s with {opened:,.0f} MiB, the part in {opening_part:.2f} s with "
-            f"{opened_part:,.0f} MiB"
-        )
+        peak, opened = max(it.peak for it in turns), max(it.opened for it in turns)
+        print(f"peak {peak:,.1f} MiB; the whole is opened with {opened:,.1f} MiB, the part with {opened_part:,.1f} MiB")
 
 
 if __name__ == "__main__":

@@ -5,4 +5,5 @@ mod imports;
 mod lists;
 mod runs;
 mod sockets;
+mod two_worlds;
 mod words;

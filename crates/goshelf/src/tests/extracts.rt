@@ -8,7 +8,7 @@ use std::rt::HostRuntime;
 use std::test::Fail;
 
 /// The lists that are imported, and the files that are published.
-const FILES: &str = "\
+pub const FILES: &str = "\
 extracts/none |
 extracts/a | a
 extracts/c | c
@@ -95,7 +95,7 @@ fn asked_of(alloc: Global, key: &str, row: &str) -> Result<String, AllocError> {
 }
 
 /// What a store answers to all of them.
-fn answers(rt: &HostRuntime, words: &str, key: &str) -> Result<Ended, Fail> {
+pub fn answers(rt: &HostRuntime, words: &str, key: &str) -> Result<Ended, Fail> {
     let mut asked = String::new(rt.alloc());
     for row in VERSIONS.lines() {
         asked.push_str(asked_of(rt.alloc(), key, row)?.as_str())?;

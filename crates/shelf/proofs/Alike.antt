@@ -13,7 +13,7 @@ use Rattle.world.specs.World.{World, chain, heading, count}
 use Rattle.world.specs.Lines.{in_order}
 use Rattle.world.specs.Visible.{versions_seen, paths_seen}
 use Rattle.shelf.specs.Versions.{named, highest}
-use Rattle.shelf.specs.Machine.{decided, decision, gomod_of, entry_seen, versions_of, module_of, highest_left, latest_by, latest_of, latest_reply, query_reply, gomod_reply, zip_reply, info_reply, list_reply}
+use Rattle.shelf.specs.Machine.{decided, decision, gomod_of, offered, standing_if, standing_of, versions_of, module_of, highest_left, latest_by, latest_of, latest_reply, query_reply, gomod_reply, zip_reply, info_reply, list_reply}
 use Rattle.world.proofs.Orders.{texts_total, texts_exact}
 use Rattle.world.proofs.Seen.{contains_versions, contains_paths}
 use Rattle.shelf.proofs.Views.{SameSeen, sees_itself, view_same, heading_same, count_same}
@@ -21,8 +21,8 @@ use Rattle.shelf.proofs.Views.{SameSeen, sees_itself, view_same, heading_same, c
 module _ (w x : World) (s : List ℕ) (chains : chain w s ≡ chain x s) (same : SameSeen w x s) where
   -- ---- a publish
 
-  entry_same : (p : Publish) → entry_seen w s p ≡ entry_seen x s p
-  entry_same p = ap (option_map (λ (o : Seen). o.entry)) (view_same w x s p.path (version_text p.version) chains same)
+  standing_same : (p : Publish) → standing_of w s p ≡ standing_of x s p
+  standing_same p = ap (λ o. standing_if (option_map (λ (y : Seen). y.entry) o) (offered p)) (view_same w x s p.path (version_text p.version) chains same)
 
   -- ---- the versions and the paths
 
@@ -70,5 +70,5 @@ module _ (w x : World) (s : List ℕ) (chains : chain w s ≡ chain x s) (same :
 
 pub decision_same : (w x : World) (h : Holder) (p : Publish) → chain w h.shelf ≡ chain x h.shelf → SameSeen w x h.shelf → decision w (Some h) p ≡ decision x (Some h) p
 decision_same w x h p chains same =
-    ap (λ seen. decided p (Some h.right) (gomod_of p) seen (count w h.shelf p.path)) (entry_same w x h.shelf chains same p)
-    ∙ ap (λ n. decided p (Some h.right) (gomod_of p) (entry_seen x h.shelf p) n) (count_same w x h.shelf p.path (same h.shelf (sees_itself w h.shelf)))
+    ap (λ there. decided p (Some h.right) (gomod_of p) there (count w h.shelf p.path)) (standing_same w x h.shelf chains same p)
+    ∙ ap (λ n. decided p (Some h.right) (gomod_of p) (standing_of x h.shelf p) n) (count_same w x h.shelf p.path (same h.shelf (sees_itself w h.shelf)))

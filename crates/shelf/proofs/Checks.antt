@@ -1,6 +1,6 @@
 -- What the outcome of the checks of a publish says of each of them.
 use Rattle.std.proofs.Common.{◌≡◌, ℕ, ◌<◌, List, [], ◌∷◌, ◌++◌, Bool, true, false, cond, refl, ◌∙◌, sym, ap, subst, Option, Some, None}
-use Rattle.std.specs.Prelude.{not, is_none, is_some, option_map, unwrap_or, nat_le}
+use Rattle.std.specs.Prelude.{not, is_none, option_map, unwrap_or, nat_le}
 use Rattle.std.specs.List.{list_any}
 use Rattle.std.specs.Option.{option_or}
 use Rattle.std.specs.FinMap as map
@@ -16,6 +16,9 @@ use Rattle.world.specs.declared.entry.Seen.{Seen}
 use Rattle.world.specs.declared.entry.Holder.{Holder}
 use Rattle.world.specs.declared.entry.Right.{Right}
 use Rattle.world.specs.declared.entry.Right.TheVariants.{Reads, Publishes}
+use Rattle.world.specs.declared.standing.Standing.{Standing}
+use Rattle.world.specs.declared.standing.Standing.TheVariants as standing
+use Rattle.world.specs.Standing.{same_entry, standing_to, entry_seen}
 use Rattle.shelf.specs.declared.ask.Body.{Body}
 use Rattle.shelf.specs.declared.ask.Publish.{Publish}
 use Rattle.world.specs.declared.reading.Reading.{Reading}
@@ -24,7 +27,7 @@ use Rattle.shelf.specs.declared.reply.Decision.TheVariants.{Published, Same, Con
 use Rattle.world.specs.Forms.{fits, suffix_of}
 use Rattle.world.specs.GoMods.{reading_of}
 use Rattle.world.specs.World.{World, IsEntry, common, seen_at, first_on, view, count, version_limit}
-use Rattle.shelf.specs.Machine.{first_failing, is_readable, may_publish, is_too_large, entry_time, entry_of, gomod_of, is_same, offered, request_checks, gomod_checks, shelf_checks, decided, own_refusal, entry_seen, shelf_decision, decision, place_of}
+use Rattle.shelf.specs.Machine.{first_failing, is_readable, may_publish, is_too_large, entry_time, entry_of, gomod_of, is_same, is_other, offered, request_checks, gomod_checks, shelf_checks, decided_by_shelf, decided, own_refusal, standing_if, standing_of, shelf_decision, decision, place_of}
 use Rattle.world.specs.Store.{IsRoomFor}
 use Rattle.world.specs.EntryTest.{is_small, is_time_of}
 use Rattle.world.proofs.EntryTests.{gomod_so, small_so, time_so}
@@ -40,32 +43,32 @@ failing_after (c ∷ cs) ds = elim c.0 as (λ b. cond b (Some c.1) (first_failin
 ]
 
 -- a publish that is refused for itself is refused whatever its go.mod says and whatever stands
-pub refused : (p : Publish) (right : Option Right) (reading : Option Reading) (seen : Option Entry) (n : ℕ) (d : Decision)
-    → first_failing (request_checks p right) ≡ Some d → decided p right reading seen n ≡ d
-refused p right reading seen n d e =
-    ap (λ o. unwrap_or o Published) (failing_after (request_checks p right) (gomod_checks p reading ++ shelf_checks p seen n)
-    ∙ ap (λ o. option_or o (first_failing (gomod_checks p reading ++ shelf_checks p seen n))) e)
+pub refused : (p : Publish) (right : Option Right) (reading : Option Reading) (there : Standing) (n : ℕ) (d : Decision)
+    → first_failing (request_checks p right) ≡ Some d → decided p right reading there n ≡ d
+refused p right reading there n d e =
+    ap (λ o. unwrap_or o Published) (failing_after (request_checks p right) (gomod_checks p reading ++ shelf_checks there n)
+    ∙ ap (λ o. option_or o (first_failing (gomod_checks p reading ++ shelf_checks there n))) e)
 
 -- else it is judged by its go.mod
-judged : (p : Publish) (right : Option Right) (reading : Option Reading) (seen : Option Entry) (n : ℕ)
+judged : (p : Publish) (right : Option Right) (reading : Option Reading) (there : Standing) (n : ℕ)
     → first_failing (request_checks p right) ≡ None
-    → first_failing (request_checks p right ++ gomod_checks p reading ++ shelf_checks p seen n) ≡ option_or (first_failing (gomod_checks p reading)) (first_failing (shelf_checks p seen n))
-judged p right reading seen n e =
-    failing_after (request_checks p right) (gomod_checks p reading ++ shelf_checks p seen n)
-    ∙ ap (λ o. option_or o (first_failing (gomod_checks p reading ++ shelf_checks p seen n))) e
-    ∙ failing_after (gomod_checks p reading) (shelf_checks p seen n)
+    → first_failing (request_checks p right ++ gomod_checks p reading ++ shelf_checks there n) ≡ option_or (first_failing (gomod_checks p reading)) (first_failing (shelf_checks there n))
+judged p right reading there n e =
+    failing_after (request_checks p right) (gomod_checks p reading ++ shelf_checks there n)
+    ∙ ap (λ o. option_or o (first_failing (gomod_checks p reading ++ shelf_checks there n))) e
+    ∙ failing_after (gomod_checks p reading) (shelf_checks there n)
 
-pub refused_by_gomod : (p : Publish) (right : Option Right) (reading : Option Reading) (seen : Option Entry) (n : ℕ) (d : Decision)
-    → first_failing (request_checks p right) ≡ None → first_failing (gomod_checks p reading) ≡ Some d → decided p right reading seen n ≡ d
-refused_by_gomod p right reading seen n d e f =
-    ap (λ o. unwrap_or o Published) (judged p right reading seen n e ∙ ap (λ o. option_or o (first_failing (shelf_checks p seen n))) f)
+pub refused_by_gomod : (p : Publish) (right : Option Right) (reading : Option Reading) (there : Standing) (n : ℕ) (d : Decision)
+    → first_failing (request_checks p right) ≡ None → first_failing (gomod_checks p reading) ≡ Some d → decided p right reading there n ≡ d
+refused_by_gomod p right reading there n d e f =
+    ap (λ o. unwrap_or o Published) (judged p right reading there n e ∙ ap (λ o. option_or o (first_failing (shelf_checks there n))) f)
 
 -- and then by what stands
-pub compared : (p : Publish) (right : Option Right) (reading : Option Reading) (seen : Option Entry) (n : ℕ)
+pub compared : (p : Publish) (right : Option Right) (reading : Option Reading) (there : Standing) (n : ℕ)
     → first_failing (request_checks p right) ≡ None → first_failing (gomod_checks p reading) ≡ None
-    → decided p right reading seen n ≡ unwrap_or (first_failing (shelf_checks p seen n)) Published
-compared p right reading seen n e f =
-    ap (λ o. unwrap_or o Published) (judged p right reading seen n e ∙ ap (λ o. option_or o (first_failing (shelf_checks p seen n))) f)
+    → decided p right reading there n ≡ unwrap_or (first_failing (shelf_checks there n)) Published
+compared p right reading there n e f =
+    ap (λ o. unwrap_or o Published) (judged p right reading there n e ∙ ap (λ o. option_or o (first_failing (shelf_checks there n))) f)
 
 -- ---- what a publish is refused for by itself
 
@@ -79,13 +82,13 @@ then_by_gomod p right e = failing_after (request_checks p (Some right)) (gomod_c
 -- what is refused so is refused whatever stands
 pub refused_alone : (w : World) (h : Holder) (p : Publish) (d : Decision) → own_refusal p h.right ≡ Some d → decision w (Some h) p ≡ d
 refused_alone w h p d e =
-    let checks = shelf_checks p (entry_seen w h.shelf p) (count w h.shelf p.path) in
+    let checks = shelf_checks (standing_of w h.shelf p) (count w h.shelf p.path) in
     ap (λ o. unwrap_or o Published) (failing_after (request_checks p (Some h.right) ++ gomod_checks p (gomod_of p)) checks ∙ ap (λ o. option_or o (first_failing checks)) e)
 
 -- and what is not is judged by what stands
 pub judged_by_shelf : (w : World) (h : Holder) (p : Publish) → own_refusal p h.right ≡ None → decision w (Some h) p ≡ shelf_decision w h.shelf p
 judged_by_shelf w h p e =
-    let checks = shelf_checks p (entry_seen w h.shelf p) (count w h.shelf p.path) in
+    let checks = shelf_checks (standing_of w h.shelf p) (count w h.shelf p.path) in
     ap (λ o. unwrap_or o Published) (failing_after (request_checks p (Some h.right) ++ gomod_checks p (gomod_of p)) checks ∙ ap (λ o. option_or o (first_failing checks)) e)
 
 -- ---- checks that were passed
@@ -158,9 +161,20 @@ entry_form s p right b body is =
 
 -- ---- a publish that was stored
 
-nothing_from : {A : Type 0} (o : Option A) → is_some o ≡ false → o ≡ None
-nothing_from None e = refl
-nothing_from (Some x) e = absurd (true≢false e)
+absent_from : (there : Standing) → is_same there ≡ false → is_other there ≡ false → there ≡ standing.Absent
+absent_from standing.Absent same other = refl
+absent_from standing.Same same other = absurd (true≢false same)
+absent_from standing.Other same other = absurd (true≢false other)
+
+-- only nothing that is seen makes an entry absent
+nothing_there : (o : Option Entry) (e : Entry) → standing_to o e ≡ standing.Absent → o ≡ None
+nothing_there None e is = refl
+nothing_there (Some d) e is =
+    elim (same_entry d e) as (λ b. cond b standing.Same standing.Other ≡ standing.Absent → Some d ≡ None) [ true ↦ λ no. absurd (cc no) | false ↦ λ no. absurd (cc no) ] is
+
+pub body_there : (o : Option Body) → is_none o ≡ false → (b : Body) × (o ≡ Some b)
+body_there None e = absurd (true≢false e)
+body_there (Some b) e = (b, refl)
 
 not_mapped : {A B : Type 0} (f : A → B) (o : Option A) → option_map f o ≡ None → o ≡ None
 not_mapped f None e = refl
@@ -171,23 +185,27 @@ nothing_at None s rest e = refl
 nothing_at (Some x) s rest e = cc
 
 -- what a publish was that passed all checks
-pub record Accepted (p : Publish) (right : Option Right) (reading : Option Reading) (seen : Option Entry) (n : ℕ) : Type 0 where
+pub record Accepted (p : Publish) (right : Option Right) (reading : Option Reading) (there : Standing) (n : ℕ) : Type 0 where
   pub passing : Passing p right reading
-  pub unseen : seen ≡ None
+  pub unseen : there ≡ standing.Absent
   pub room : n < version_limit
 
-pub accepted : (p : Publish) (right : Option Right) (reading : Option Reading) (seen : Option Entry) (n : ℕ) → decided p right reading seen n ≡ Published → Accepted p right reading seen n
-accepted p right reading seen n e =
-    let all = passed_before is_published (request_checks p right ++ gomod_checks p reading) (shelf_checks p seen n) Published refl refl e in
-    let shelf = (passed_before is_published (shelf_checks p seen n) [] Published refl refl all.1).0 in
+pub accepted : (p : Publish) (right : Option Right) (reading : Option Reading) (there : Standing) (n : ℕ) → decided p right reading there n ≡ Published → Accepted p right reading there n
+accepted p right reading there n e =
+    let all = passed_before is_published (request_checks p right ++ gomod_checks p reading) (shelf_checks there n) Published refl refl e in
+    let shelf = (passed_before is_published (shelf_checks there n) [] Published refl refl all.1).0 in
     record {
       passing = passing p right reading [] all.0;
-      unseen = nothing_from seen shelf.1.0;
+      unseen = absent_from there shelf.0 shelf.1.0;
       room = leb-false version_limit n shelf.1.1.0;
     }
 
 pub unseen : (w : World) (h : Holder) (p : Publish) → decision w (Some h) p ≡ Published → view w h.shelf p.path (version_text p.version) ≡ None
-unseen w h p e = not_mapped _ _ (accepted p (Some h.right) (gomod_of p) (entry_seen w h.shelf p) (count w h.shelf p.path) e).unseen
+unseen w h p e =
+    let is = accepted p (Some h.right) (gomod_of p) (standing_of w h.shelf p) (count w h.shelf p.path) e in
+    let body = body_there p.body (files_told p (Some h.right) (gomod_of p) is.passing) in
+    let seen = entry_seen w h.shelf p.path (version_text p.version) in
+    not_mapped _ _ (nothing_there seen (entry_of p body.0) (sym (ap (λ o. standing_if seen (option_map (entry_of p) o)) body.1) ∙ is.unseen))
 
 pub body_of : (p : Publish) (o : Option Body) (e : Entry) → option_map (entry_of p) o ≡ Some e → (b : Body) × (o ≡ Some b) × (entry_of p b ≡ e)
 body_of p None e is = cc
@@ -195,7 +213,7 @@ body_of p (Some b) e is = (b, refl, cc)
 
 pub room_for : (w : World) (h : Holder) (p : Publish) (e : Entry) → set.contains w.shelves h.shelf ≡ true → decision w (Some h) p ≡ Published → offered p ≡ Some e → IsRoomFor w (place_of h.shelf p) e
 room_for w h p e stands is_published is_offered =
-    let is = accepted p (Some h.right) (gomod_of p) (entry_seen w h.shelf p) (count w h.shelf p.path) is_published in
+    let is = accepted p (Some h.right) (gomod_of p) (standing_of w h.shelf p) (count w h.shelf p.path) is_published in
     let body = body_of p p.body e is_offered in
     record {
       stands = stands;
@@ -206,9 +224,14 @@ room_for w h p e stands is_published is_offered =
 
 -- ---- a publish whose like is there already
 
-pub record Again (p : Publish) (right : Option Right) (reading : Option Reading) (seen : Option Entry) : Type 0 where
+pub record Again (p : Publish) (right : Option Right) (reading : Option Reading) (there : Standing) : Type 0 where
   pub passing : Passing p right reading
-  pub same : is_same seen (offered p) ≡ true
+  pub same : there ≡ standing.Same
+
+same_so : (there : Standing) → is_same there ≡ true → there ≡ standing.Same
+same_so standing.Same e = refl
+same_so standing.Absent e = absurd (true≢false (sym e))
+same_so standing.Other e = absurd (true≢false (sym e))
 
 only_same : (x y z : Bool) → cond x Same (cond y Conflict (cond z Full Published)) ≡ Same → x ≡ true
 only_same true y z e = refl
@@ -222,12 +245,12 @@ outcome_of false true z = refl
 outcome_of false false true = refl
 outcome_of false false false = refl
 
-pub same_again : (p : Publish) (right : Option Right) (reading : Option Reading) (seen : Option Entry) (n : ℕ) → decided p right reading seen n ≡ Same → Again p right reading seen
-same_again p right reading seen n e =
-    let parts = passed_before is_same_answer (request_checks p right ++ gomod_checks p reading) (shelf_checks p seen n) Same refl refl e in
+pub same_again : (p : Publish) (right : Option Right) (reading : Option Reading) (there : Standing) (n : ℕ) → decided p right reading there n ≡ Same → Again p right reading there
+same_again p right reading there n e =
+    let parts = passed_before is_same_answer (request_checks p right ++ gomod_checks p reading) (shelf_checks there n) Same refl refl e in
     record {
       passing = passing p right reading [] parts.0;
-      same = only_same (is_same seen (offered p)) (is_some seen) (nat_le version_limit n) (sym (outcome_of (is_same seen (offered p)) (is_some seen) (nat_le version_limit n)) ∙ parts.1);
+      same = same_so there (only_same (is_same there) (is_other there) (nat_le version_limit n) (sym (outcome_of (is_same there) (is_other there) (nat_le version_limit n)) ∙ parts.1));
     }
 
 -- the right of a key whose publish was accepted
@@ -240,8 +263,8 @@ pub passes_again : (p : Publish) (right : Right) (reading : Option Reading) → 
 passes_again p right reading is = subst (λ r. Passing p (Some r) reading) (publishes right is.own.1.1.0) is
 
 -- and of such a publish, by a key that may publish, the like is there
-pub same_decided : (p : Publish) (right : Option Right) (reading : Option Reading) (seen : Option Entry) (n : ℕ) → Passing p right reading → is_same seen (offered p) ≡ true
-    → decided p right reading seen n ≡ Same
-same_decided p right reading seen n is same =
-    compared p right reading seen n (passed_none (request_checks p right) is.own) (passed_none (gomod_checks p reading) is.gomod)
-    ∙ ap (λ b. unwrap_or (cond b (Some Same) (first_failing ((is_some seen, Conflict) ∷ (nat_le version_limit n, Full) ∷ []))) Published) same
+pub same_decided : (p : Publish) (right : Option Right) (reading : Option Reading) (there : Standing) (n : ℕ) → Passing p right reading → there ≡ standing.Same
+    → decided p right reading there n ≡ Same
+same_decided p right reading there n is same =
+    compared p right reading there n (passed_none (request_checks p right) is.own) (passed_none (gomod_checks p reading) is.gomod)
+    ∙ ap (λ there. decided_by_shelf there n) same

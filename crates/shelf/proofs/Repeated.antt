@@ -1,5 +1,5 @@
 -- A list of publishes that was accepted changes nothing when it comes again.
-use Rattle.std.proofs.Common.{◌≡◌, ℕ, List, [], ◌∷◌, true, refl, ◌∙◌, sym, ap, subst, Option, Some, None, inl, inr}
+use Rattle.std.proofs.Common.{◌≡◌, ℕ, List, [], ◌∷◌, true, cond, refl, ◌∙◌, sym, ap, subst, Option, Some, None, inl, inr}
 use Rattle.std.specs.Prelude.{option_map}
 use Rattle.std.specs.FinMap as map
 use Rattle.std.specs.FinSet as set
@@ -20,7 +20,9 @@ use Rattle.shelf.specs.declared.reply.Reply.TheVariants as reply
 use Rattle.shelf.specs.declared.reply.Answer.{Answer}
 use Rattle.shelf.specs.declared.reply.Answer.TheVariants.{Replied, Failed}
 use Rattle.world.specs.World.{World, IsWorld, count}
-use Rattle.shelf.specs.Machine.{decision, gomod_of, same_time, same_entry, is_same, offered, entry_seen, after_decision, stored, place_of, after, Run}
+use Rattle.world.specs.Standing.{same_time, same_entry}
+use Rattle.world.specs.declared.standing.Standing.TheVariants as standing
+use Rattle.shelf.specs.Machine.{decision, gomod_of, offered, standing_if, standing_of, after_decision, stored, place_of, after, Run}
 use Rattle.shelf.specs.Isolation.{belongs}
 use Rattle.shelf.specs.Immutability.{IsAccepted, IsAcceptance, AllAccepted, AllSameOrFailed, puts, RepeatedListChangesNothing}
 use Rattle.world.proofs.Orders.{text_self}
@@ -40,10 +42,10 @@ same_itself e = and_from _ _ (and_from _ _ (text_self e.gomod) (text_self e.zip)
 
 kept_is_same : (w : World) (s : List ℕ) (p : Publish) → Kept w s p → decision w (Some (record { shelf = s; right = Publishes })) p ≡ Same
 kept_is_same w s p kept =
-    let seen : entry_seen w s p ≡ Some kept.seen.entry = ap (option_map (λ (x : Seen). x.entry)) kept.is_seen in
-    let same : is_same (entry_seen w s p) (offered p) ≡ true =
-    ap (λ o. is_same o (offered p)) seen ∙ ap (is_same (Some kept.seen.entry)) kept.is_offered ∙ same_itself kept.seen.entry in
-    same_decided p (Some Publishes) (gomod_of p) (entry_seen w s p) (count w s p.path) kept.passing same
+    let e : Entry = kept.seen.entry in
+    let same : standing_of w s p ≡ standing.Same =
+    ap (λ o. standing_if (option_map (λ (x : Seen). x.entry) o) (offered p)) kept.is_seen ∙ ap (standing_if (Some e)) kept.is_offered ∙ ap (λ b. cond b standing.Same standing.Other) (same_itself e) in
+    same_decided p (Some Publishes) (gomod_of p) (standing_of w s p) (count w s p.path) kept.passing same
 
 -- ---- the list for the first time
 

@@ -1,6 +1,6 @@
 -- What was served or accepted once is served for good.
-use Rattle.std.proofs.Common.{◌≡◌, ℕ, List, [], ◌∷◌, true, false, refl, ◌∙◌, sym, ap, subst, Option, Some, None, inl, inr}
-use Rattle.std.specs.Prelude.{bytes_eq, ◌&&◌, option_map, is_none}
+use Rattle.std.proofs.Common.{◌≡◌, ℕ, List, [], ◌∷◌, true, false, cond, refl, ◌∙◌, sym, ap, subst, Option, Some, None, inl, inr}
+use Rattle.std.specs.Prelude.{bytes_eq, ◌&&◌, option_map}
 use Rattle.std.specs.Option.{option_or}
 use Rattle.std.specs.FinMap as map
 use Rattle.std.specs.FinSet as set
@@ -24,11 +24,13 @@ use Rattle.shelf.specs.declared.reply.Reply.TheVariants as reply
 use Rattle.shelf.specs.declared.reply.Answer.{Answer}
 use Rattle.shelf.specs.declared.reply.Answer.TheVariants.{Replied, Failed}
 use Rattle.world.specs.World.{World, IsWorld, common, seen_at, first_on, view, without_zip, heading}
-use Rattle.shelf.specs.Machine.{decision, gomod_of, same_time, same_entry, is_same, offered, entry_of, entry_seen, gomod_reply, zip_reply, info_reply, query_reply, keyed_reply, after_decision, stored, place_of, after, Run}
+use Rattle.world.specs.Standing.{same_time, same_entry, standing_to, entry_seen}
+use Rattle.world.specs.declared.standing.Standing.TheVariants as standing
+use Rattle.shelf.specs.Machine.{decision, gomod_of, offered, entry_of, standing_if, standing_of, gomod_reply, zip_reply, info_reply, query_reply, keyed_reply, after_decision, stored, place_of, after, Run}
 use Rattle.shelf.specs.Isolation.{belongs}
 use Rattle.shelf.specs.Immutability.{IsOfVersion, IsFound, StaysServed, IsAccepted, asks_back, AcceptedIsServed}
 use Rattle.world.proofs.Orders.{places_total, get_put, text_same}
-use Rattle.shelf.proofs.Checks.{Passing, files_told, accepted, same_again, passes_again}
+use Rattle.shelf.proofs.Checks.{Passing, body_there, files_told, accepted, same_again, passes_again}
 use Rattle.shelf.proofs.Chains.{stands_after}
 use Rattle.shelf.proofs.Stays.{stays_through}
 
@@ -92,23 +94,26 @@ same_whole d e same =
       time = sym (same_times d.time e.time parts.1) i;
     }
 
+same_there : (d f : Entry) → standing_to (Some d) f ≡ standing.Same → f ≡ d
+same_there d f =
+    elim (same_entry d f) as (λ b. same_entry d f ≡ b → cond b standing.Same standing.Other ≡ standing.Same → f ≡ d) [
+      | true ↦ λ same _. same_whole d f same
+      | false ↦ λ _ other. absurd (cc other)
+    ] refl
+
 -- an entry that is the same as the one that is handed in
-same_offer : (seen offer : Option Entry) → is_same seen offer ≡ true → (e : Entry) × (seen ≡ Some e) × (offer ≡ Some e)
-same_offer None offer e = absurd (true≢false (sym e))
-same_offer (Some d) None e = absurd (true≢false (sym e))
-same_offer (Some d) (Some f) e = (d, refl, ap Some (same_whole d f e))
+same_offer : (seen offer : Option Entry) → standing_if seen offer ≡ standing.Same → (e : Entry) × (seen ≡ Some e) × (offer ≡ Some e)
+same_offer seen None e = absurd (cc e)
+same_offer None (Some f) e = absurd (cc e)
+same_offer (Some d) (Some f) e = (d, refl, ap Some (same_there d f e))
 
 entry_is_seen : (o : Option Seen) (e : Entry) → option_map (λ (x : Seen). x.entry) o ≡ Some e → (seen : Seen) × (o ≡ Some seen) × (seen.entry ≡ e)
 entry_is_seen None e is = cc
 entry_is_seen (Some x) e is = (x, refl, cc)
 
-body_there : (o : Option Body) → is_none o ≡ false → (b : Body) × (o ≡ Some b)
-body_there None e = absurd (true≢false e)
-body_there (Some b) e = (b, refl)
-
 kept_published : (w : World) (h : Holder) (p : Publish) → decision w (Some h) p ≡ Published → Kept (after_decision w (Some h) p Published) h.shelf p
 kept_published w h p is =
-    let checks = accepted p (Some h.right) (gomod_of p) (entry_seen w h.shelf p) _ is in
+    let checks = accepted p (Some h.right) (gomod_of p) (standing_of w h.shelf p) _ is in
     let there = body_there p.body (files_told p (Some h.right) (gomod_of p) checks.passing) in
     let b = there.0 in
     let body = there.1 in
@@ -126,8 +131,8 @@ kept_published w h p is =
 
 kept_same : (w : World) (h : Holder) (p : Publish) → decision w (Some h) p ≡ Same → Kept w h.shelf p
 kept_same w h p is =
-    let checks = same_again p (Some h.right) (gomod_of p) (entry_seen w h.shelf p) _ is in
-    let entry = same_offer (entry_seen w h.shelf p) (offered p) checks.same in
+    let checks = same_again p (Some h.right) (gomod_of p) (standing_of w h.shelf p) _ is in
+    let entry = same_offer (entry_seen w h.shelf p.path (version_text p.version)) (offered p) checks.same in
     let seen = entry_is_seen (view w h.shelf p.path (version_text p.version)) entry.0 entry.1 in
     record {
       passing = passes_again p h.right (gomod_of p) checks.passing;

@@ -1,5 +1,5 @@
 -- The machine: the reply to each event and the world after it, alone and in a list.
-use Rattle.std.specs.Prelude.{ℕ, ◌≡◌, ◌⊎◌, List, [], ◌∷◌, ◌++◌, Bool, true, false, not, ◌&&◌, nat_le, Option, Some, None, is_some, is_none, option_map, unwrap_or, bytes_eq}
+use Rattle.std.specs.Prelude.{ℕ, ◌≡◌, ◌⊎◌, List, [], ◌∷◌, ◌++◌, Bool, true, false, not, ◌&&◌, nat_le, Option, Some, None, is_none, option_map, unwrap_or}
 use Rattle.std.specs.FinMap as map
 use Rattle.modver.specs.SemanticVersion.{version_text}
 use Rattle.world.specs.declared.entry.Place.{Place}
@@ -42,6 +42,9 @@ use Rattle.world.specs.GoMods.{reading_of, module_told}
 use Rattle.world.specs.Lines.{in_order}
 use Rattle.world.specs.Registry.{team_added, key_added, key_revoked, after_team_add, after_key_add, after_key_revoke}
 use Rattle.shelf.specs.Versions.{named, listed, highest, unretracted}
+use Rattle.world.specs.declared.standing.Standing.{Standing}
+use Rattle.world.specs.declared.standing.Standing.TheVariants as standing
+use Rattle.world.specs.Standing.{standing_to, entry_seen}
 use Rattle.world.specs.Visible.{versions_seen, paths_seen}
 use Rattle.world.specs.World.{World, version_limit, place, view, heading, count, with_entry}
 
@@ -142,41 +145,40 @@ gomod_of p = option_map (λ b. reading_of b.gomod) p.body
 
 -- ---- what stands already
 
-abbrev pub same_time : Option (List ℕ) → Option (List ℕ) → Bool
-same_time None None = true
-same_time None (Some u) = false
-same_time (Some t) None = false
-same_time (Some t) (Some u) = bytes_eq t u
+abbrev pub is_same : Standing → Bool
+is_same standing.Same = true
+is_same there = false
 
-abbrev pub same_entry : Entry → Entry → Bool
-same_entry d e = bytes_eq d.gomod e.gomod && bytes_eq d.zip e.zip && same_time d.time e.time
+abbrev pub is_other : Standing → Bool
+is_other standing.Other = true
+is_other there = false
 
--- whether two entries are there and the same
-abbrev pub is_same : Option Entry → Option Entry → Bool
-is_same (Some d) (Some e) = same_entry d e
-is_same d e = false
-
--- the checks against what stands: this entry is visible, and so many versions of the path are on the shelf
-abbrev pub shelf_checks : Publish → Option Entry → ℕ → List (Bool × Decision)
-shelf_checks p seen n =
-    (is_same seen (offered p), Same)
-    ∷ (is_some seen, Conflict)
+-- the checks against what stands: the publish stands so to what is visible, and so many versions of the path are on the shelf
+abbrev pub shelf_checks : Standing → ℕ → List (Bool × Decision)
+shelf_checks there n =
+    (is_same there, Same)
+    ∷ (is_other there, Conflict)
     ∷ (nat_le version_limit n, Full)
     ∷ []
 
 -- their outcome
-abbrev pub decided_by_shelf : Publish → Option Entry → ℕ → Decision
-decided_by_shelf p seen n = unwrap_or (first_failing (shelf_checks p seen n)) Published
+abbrev pub decided_by_shelf : Standing → ℕ → Decision
+decided_by_shelf there n = unwrap_or (first_failing (shelf_checks there n)) Published
 
 -- the outcome of the checks in their order
-abbrev pub decided : Publish → Option Right → Option Reading → Option Entry → ℕ → Decision
-decided p right reading seen n = unwrap_or (first_failing (request_checks p right ++ gomod_checks p reading ++ shelf_checks p seen n)) Published
+abbrev pub decided : Publish → Option Right → Option Reading → Standing → ℕ → Decision
+decided p right reading there n = unwrap_or (first_failing (request_checks p right ++ gomod_checks p reading ++ shelf_checks there n)) Published
 
 -- ---- a publish
 
--- the entry that a shelf sees at the path and the version of a publish
-abbrev pub entry_seen : World → List ℕ → Publish → Option Entry
-entry_seen w s p = option_map (λ seen. seen.entry) (view w s p.path (version_text p.version))
+-- how what is handed in, if the files are told apart, stands to the entry that is seen
+abbrev pub standing_if : Option Entry → Option Entry → Standing
+standing_if seen None = standing.Absent
+standing_if seen (Some e) = standing_to seen e
+
+-- how a publish stands to what a shelf sees of its path and version
+abbrev pub standing_of : World → List ℕ → Publish → Standing
+standing_of w s p = standing_if (entry_seen w s p.path (version_text p.version)) (offered p)
 
 -- the answer of the first check of a publish by a key with this right, or of its go.mod, that fails
 abbrev pub own_refusal : Publish → Right → Option Decision
@@ -184,12 +186,12 @@ own_refusal p right = first_failing (request_checks p (Some right) ++ gomod_chec
 
 -- the outcome of the checks of a publish against what stands on a shelf
 abbrev pub shelf_decision : World → List ℕ → Publish → Decision
-shelf_decision w s p = decided_by_shelf p (entry_seen w s p) (count w s p.path)
+shelf_decision w s p = decided_by_shelf (standing_of w s p) (count w s p.path)
 
 -- the decision on a publish in a world, by what its key holds
 abbrev pub decision : World → Option Holder → Publish → Decision
-decision w None p = decided p None None None 0
-decision w (Some h) p = decided p (Some h.right) (gomod_of p) (entry_seen w h.shelf p) (count w h.shelf p.path)
+decision w None p = decided p None None standing.Absent 0
+decision w (Some h) p = decided p (Some h.right) (gomod_of p) (standing_of w h.shelf p) (count w h.shelf p.path)
 
 -- where a publish to a shelf is stored
 abbrev pub place_of : List ℕ → Publish → Place

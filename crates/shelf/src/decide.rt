@@ -1,25 +1,25 @@
 //! The checks of a publish.
-ghost use Rattle.std.specs.Prelude.{◌≡◌, option_copied, Some, true};
+ghost use Rattle.std.specs.Prelude.{◌≡◌, option_copied, true};
 ghost use Rattle.shelf.specs.Machine as spec;
 
 use crate::ask::{GivenTime, Publish};
 use crate::reply::{Decision, Refusal};
-use modver::TimeText;
-use world::entry::{Entry, MAX_VERSIONS, Right};
+use world::entry::{MAX_VERSIONS, Right};
 use world::entry_test::{Misfit, module_misfit, own_misfit};
 use world::reading::Reading;
+use world::standing::Standing;
 
 /// The outcome of the checks of a publish by a key with this right (none: an unknown key), whose
-/// go.mod was read so (none: a check before fails), where this entry is visible and so many versions
-/// of the path stand on the shelf. It takes no memory.
+/// go.mod was read so (none: a check before fails), where it stands so to what is visible and so many
+/// versions of the path stand on the shelf. It takes no memory.
 pub fn decide(
     publish: &Publish,
     right: Option<Right>,
     gomod: Option<&Reading>,
-    seen: Option<&Entry>,
+    standing: Standing,
     count: u64,
 ) -> Decision
-    ensures { result ≡ spec.decided publish.now right (option_copied gomod.entry) (option_copied seen.entry) count }
+    ensures { result ≡ spec.decided publish.now right (option_copied gomod.entry) standing count }
 {
     if let Some(refused) = refusal(publish, right) {
         return refused;
@@ -27,7 +27,7 @@ pub fn decide(
     if let Some(refused) = gomod_refusal(publish, gomod) {
         return refused;
     }
-    decide_by_shelf(publish, seen, count)
+    decide_by_shelf(standing, count)
 }
 
 /// The answer of the first check of the go.mod that fails. It takes no memory.
@@ -108,43 +108,15 @@ fn well_formed(publish: &Publish)
     let _version = publish.version.as_str();
 }
 
-/// The outcome of the checks against what stands: this entry is visible, and so many versions of the
-/// path stand on the shelf. It takes no memory.
-pub(crate) fn decide_by_shelf(publish: &Publish, seen: Option<&Entry>, count: u64) -> Decision
-    ensures { result ≡ spec.decided_by_shelf publish.now (option_copied seen.entry) count }
+/// The outcome of the checks against what stands: a publish stands so to what is visible, and so many
+/// versions of the path stand on the shelf. It takes no memory.
+pub(crate) fn decide_by_shelf(standing: Standing, count: u64) -> Decision
+    ensures { result ≡ spec.decided_by_shelf standing count }
 {
-    if let Some(entry) = seen {
-        return if is_same(entry, publish) {
-            Decision::Same
-        } else {
-            Decision::Conflict
-        };
-    }
-    if count >= MAX_VERSIONS {
-        return Decision::Full;
-    }
-    Decision::Published
-}
-
-fn is_same(entry: &Entry, publish: &Publish) -> bool
-    ensures { result ≡ spec.is_same (Some entry.now) (spec.offered publish.now) }
-{
-    match &publish.body {
-        Some(body) => {
-            entry.gomod.as_slice() == body.gomod.as_slice()
-                && entry.zip.as_slice() == body.zip.as_slice()
-                && is_same_time(entry.time, publish.entry_time())
-        }
-        None => false,
-    }
-}
-
-fn is_same_time(left: Option<TimeText>, right: Option<TimeText>) -> bool
-    ensures { result ≡ spec.same_time left right }
-{
-    match (left, right) {
-        (None, None) => true,
-        (Some(left), Some(right)) => left.as_str() == right.as_str(),
-        _ => false,
+    match standing {
+        Standing::Same => Decision::Same,
+        Standing::Other => Decision::Conflict,
+        Standing::Absent if count >= MAX_VERSIONS => Decision::Full,
+        Standing::Absent => Decision::Published,
     }
 }

@@ -1,17 +1,18 @@
 //! The checks of a publish by a key of a shelf, over any store.
 ghost use Rattle.std.specs.Prelude.{◌≡◌, IfOk, Some};
 ghost use Rattle.shelf.specs.Machine as spec;
-ghost use Rattle.shelf.specs.Machine.{decision, entry_seen, shelf_decision};
+ghost use Rattle.shelf.specs.Machine.{decision, standing_of, shelf_decision};
 ghost use Rattle.world.specs.Store.{Reads, HasCause};
 
 use crate::ask::Publish;
 use crate::decide::{decide_by_shelf, gomod_refusal, refusal};
 use crate::reply::Decision;
 use std::alloc::{AllocError, Global};
-use world::entry::{Entry, Holder, Right};
+use world::entry::{Holder, Right};
 use world::reading::Reading;
 use world::registry::StoreFault;
 use world::shelves::Shelves;
+use world::standing::Standing;
 
 /// The outcome of the checks of a publish by a key of a shelf. One that is refused for itself looks
 /// at no entry.
@@ -66,23 +67,22 @@ fn judge_by_shelf<S: Shelves>(
         (λ w. shelf_decision w shelf.now publish.now) }
     ensures cause { HasCause (S.failure_count shelves.old) (S.failure_count shelves.new) result }
 {
-    let seen = seen_entry(shelves, shelf, publish)?;
+    let standing = compare(shelves, shelf, publish)?;
     let count = shelves.count(shelf, &publish.path)?;
-    Ok(decide_by_shelf(publish, seen.as_ref(), count))
+    Ok(decide_by_shelf(standing, count))
 }
 
-/// The entry that the shelf sees at the path and the version of a publish.
-fn seen_entry<S: Shelves>(
+/// How a publish stands to what the shelf sees of its path and version. None of its files is copied.
+fn compare<S: Shelves>(
     shelves: &mut S,
     shelf: &str,
     publish: &Publish,
-) -> Result<Option<Entry>, StoreFault>
-    ensures reads { Reads (S.shown shelves.old) (S.shown shelves.new) result (λ w. entry_seen w shelf.now publish.now) }
+) -> Result<Standing, StoreFault>
+    ensures reads { Reads (S.shown shelves.old) (S.shown shelves.new) result (λ w. standing_of w shelf.now publish.now) }
     ensures cause { HasCause (S.failure_count shelves.old) (S.failure_count shelves.new) result }
 {
-    let seen = shelves.entry(shelf, &publish.path, &publish.version)?;
-    match seen {
-        Some(seen) => Ok(Some(seen.entry)),
-        None => Ok(None),
-    }
+    let Some(entry) = publish.entry() else {
+        return Ok(Standing::Absent);
+    };
+    shelves.compare(shelf, &publish.path, &publish.version, &entry)
 }

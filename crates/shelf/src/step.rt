@@ -12,6 +12,7 @@ use std::alloc::Global;
 use world::entry::Holder;
 use world::registry::StoreFault;
 use world::shelves::Shelves;
+use world::standing::Standing;
 
 /// Answers a request.
 pub fn step<S: Shelves>(alloc: Global, shelves: &mut S, ask: &Ask) -> Result<Reply, StoreFault>
@@ -42,7 +43,7 @@ fn answer_publish<S: Shelves>(
     ensures cause { HasCause (S.failure_count shelves.old) (S.failure_count shelves.new) result }
 {
     let Some(holder) = shelves.key(key)? else {
-        return Ok(decide(publish, None, None, None, 0));
+        return Ok(decide(publish, None, None, Standing::Absent, 0));
     };
     publish_to(alloc, shelves, &holder, publish)
 }

@@ -106,7 +106,7 @@ fn of_version<S: Shelves>(
     let shelf = column(call, 1);
     let version = Version::parse(alloc, column(call, 3))?;
     match column(call, 0) {
-        "insert" => insert(alloc, shelves, path, &version, call),
+        "insert" | "compare" => of_entry(alloc, shelves, path, &version, call),
         "entry" => entry(alloc, shelves, shelf, path, &version),
         "heading" => heading(alloc, shelves, shelf, path, &version),
         _ => Ok(String::from_str(alloc, "no such call")?),
@@ -121,24 +121,27 @@ pub fn time_of(text: &str) -> Result<Option<TimeText>, Fail> {
     Ok(Some(read_time(text)?))
 }
 
-/// Puts an entry: behind the version stand its go.mod, its zip and its time.
-fn insert<S: Shelves>(
+/// The answer to a call that hands in an entry: behind the version stand its go.mod, its zip and its time.
+fn of_entry<S: Shelves>(
     alloc: Global,
     shelves: &mut S,
     path: &ModulePath,
     version: &Version,
     call: &str,
 ) -> Result<String, Fail> {
+    let shelf = column(call, 1);
     let gomod = with_lines(alloc, column(call, 4))?;
     let entry = EntryRef {
         gomod: gomod.as_bytes(),
         zip: column(call, 5).as_bytes(),
         time: time_of(column(call, 6))?,
     };
-    Ok(named(
-        alloc,
-        shelves.insert(column(call, 1), path, version, &entry),
-    )?)
+    if column(call, 0) == "compare" {
+        let standing = shelves.compare(shelf, path, version, &entry);
+        return Ok(named(alloc, standing)?);
+    }
+    let inserted = shelves.insert(shelf, path, version, &entry);
+    Ok(named(alloc, inserted)?)
 }
 
 /// The shelf of an entry, its go.mod, its zip and its time.

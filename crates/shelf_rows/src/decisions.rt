@@ -10,6 +10,7 @@ use std::test::Fail;
 use world::bytes::Bytes;
 use world::entry::{Entry, Right};
 use world::reading::Reading;
+use world::standing::{Standing, standing_to};
 
 /// A publish of `example.com/lib` and its decision: the right of the key; the version; the time; the go.mod and the zip, `-` where
 /// they are not told apart; the go.mod as it is read; the zip and the time of the entry that is
@@ -103,6 +104,14 @@ fn seen(alloc: Global, zip: &str, time: &str) -> Result<Option<Entry>, Fail> {
     Ok(Some(Entry::copy_of(alloc, &offered)?))
 }
 
+/// How a publish stands to the entry that is seen.
+fn compared(publish: &Publish, seen: Option<&Entry>) -> Standing {
+    match (seen, publish.entry()) {
+        (Some(seen), Some(entry)) => standing_to(&seen.as_ref(), &entry),
+        _ => Standing::Absent,
+    }
+}
+
 /// What is decided of a publish whose go.mod was read.
 fn decided_as_read(
     alloc: Global,
@@ -113,7 +122,8 @@ fn decided_as_read(
     let right = right(column(row, 0));
     let count = column(row, 8).parse::<u64>()?;
     let seen = seen(alloc, column(row, 6), column(row, 7))?;
-    Ok(decide(publish, right, reading, seen.as_ref(), count))
+    let standing = compared(publish, seen.as_ref());
+    Ok(decide(publish, right, reading, standing, count))
 }
 
 fn decided(alloc: Global, row: &str, publish: &Publish) -> Result<Decision, Fail> {

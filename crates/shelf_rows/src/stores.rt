@@ -95,6 +95,22 @@ heading|alpha|example.com/lib|v1.0.0 = module example.com/lib;|
 insert|alpha|example.com/lib|v1.0.0|module \"example.com/lib\";||2024-02-29T12:34:56Z = ()
 heading|alpha|example.com/lib|v1.0.0 = module \"example.com/lib\";|2024-02-29T12:34:56Z
 heading|common|example.com/lib|v1.0.0 = module example.com/lib;|
+====
+team-add|alpha = Done
+compare|alpha|example.com/x|v1.0.0|module example.com/x;|zip|2024-02-29T23:59:59Z = Absent
+insert|common|example.com/x|v1.0.0|module example.com/x;|zip|2024-02-29T23:59:59Z = ()
+compare|alpha|example.com/x|v1.0.0|module example.com/x;|zip|2024-02-29T23:59:59Z = Same
+compare|alpha|example.com/x|v1.0.0|module \"example.com/x\";|zip|2024-02-29T23:59:59Z = Other
+compare|alpha|example.com/x|v1.0.0|module example.com/x;|zap|2024-02-29T23:59:59Z = Other
+compare|alpha|example.com/x|v1.0.0|module example.com/x;|zip|2024-02-29T23:59:58Z = Other
+compare|alpha|example.com/x|v1.0.0|module example.com/x;|zip = Other
+compare|alpha|example.com/x|v1.1.0|module example.com/x;|zip = Absent
+insert|alpha|example.com/x|v1.0.0|module example.com/x;|own = ()
+compare|alpha|example.com/x|v1.0.0|module example.com/x;|zip|2024-02-29T23:59:59Z = Other
+compare|alpha|example.com/x|v1.0.0|module example.com/x;|own = Same
+compare|common|example.com/x|v1.0.0|module example.com/x;|zip|2024-02-29T23:59:59Z = Same
+compare|common|example.com/x|v1.0.0|module example.com/x;|own = Other
+failures = 0
 ";
 
 /// The tables keep a second row of one version out, and that is a failure of the store.

@@ -25,7 +25,7 @@ use Rattle.world.specs.World.{World, common, place, seen_at, view, first_on, hea
 use Rattle.tables.specs.Schema.{store_schema}
 use Rattle.store.specs.declared.entries.VersionRow.{VersionRow}
 use Rattle.tables.specs.Means.{Means, IsVersion, IsAt}
-use Rattle.store.specs.Reading.{IsRowOf, HasZip}
+use Rattle.store.specs.Reading.{IsRowOf, HasZip, ShowsZip, entry_with}
 use Rattle.store.specs.Lookup.{lookup, passes, FirstFound}
 use Rattle.store.specs.Calls.{Selects}
 use Rattle.store.proofs.Texts.{row_text, zip_text}
@@ -125,23 +125,31 @@ and_true true e = e
 and_true false e = refl
 
 module _ (id : ℤ) (db : Database) where
-  pub zip_read : (row : Row) (zip : List ℕ) → Selects zip_text (Int id ∷ []) db (Some row) → column row 0 ≡ Blob zip → HasZip db.trees id (Some zip)
+  zip_read : (row : Row) (zip : List ℕ) → Selects zip_text (Int id ∷ []) db (Some row) → column row 0 ≡ Blob zip → HasZip db.trees id (Some zip)
   zip_read row zip picked is =
       let found = selected_found zip_text (Int id ∷ []) db 8 by_number (col 1 2 ∷ []) _ zip_is (λ _. refl) (Some row) picked in
       (found.0, found.1, (and_parts _ _ found.2).0, sym (ap (λ (r : Row). column r 0) found.3) ∙ is)
 
-  pub zip_lacks : Selects zip_text (Int id ∷ []) db None → HasZip db.trees id None
+  zip_lacks : Selects zip_text (Int id ∷ []) db None → HasZip db.trees id None
   zip_lacks picked row there = and_true (equal Binary (rowid row) (Int id)) (selected_found zip_text (Int id ∷ []) db 8 by_number (col 1 2 ∷ []) _ zip_is (λ _. refl) None picked row there)
 
+  pub zip_shown : (found : Option Row) → Selects zip_text (Int id ∷ []) db found → ShowsZip db.trees id found
+  zip_shown (Some row) picked = λ zip is. zip_read row zip picked is
+  zip_shown None picked = zip_lacks picked
+
 -- the two rows are the entry
-pub entry_whole : (db : Trees) (w : World) (p : Place) (v : VersionRow) (zip : List ℕ) → IsRowOf db w p v → HasZip db v.id (Some zip)
-    → Some (record { shelf = v.shelf; entry = record { gomod = v.heading.gomod; zip = zip; time = v.heading.time } }) ≡ seen_at (map.get w.entries p) p.shelf
-entry_whole db w p v zip it found =
+pub entry_of_rows : (db : Trees) (w : World) (p : Place) (v : VersionRow) (zip : List ℕ) → IsRowOf db w p v → HasZip db v.id (Some zip) → Some (entry_with v.heading zip) ≡ map.get w.entries p
+entry_of_rows db w p v zip it found =
     let zips : it.entry.zip ≡ zip = let e = sym (it.is.only found.0 found.1 (ap (λ x. equal Binary (rowid found.0) x) it.id ∙ found.2)) ∙ found.3 in cc in
     let mods = ap (λ (h : Heading). h.gomod) it.heading in
     let times = ap (λ (h : Heading). h.time) it.heading in
-    let shelves = it.shelf in
-    ap Some (λ i. record { shelf = shelves i; entry = record { gomod = mods i; zip = sym zips i; time = times i } }) ∙ sym (ap (λ o. seen_at o p.shelf) it.kept)
+    let whole : entry_with v.heading zip ≡ it.entry = λ i. record { gomod = mods i; zip = sym zips i; time = times i } in
+    ap (λ (e : Entry). Some e) whole ∙ sym it.kept
+
+pub entry_whole : (db : Trees) (w : World) (p : Place) (v : VersionRow) (zip : List ℕ) → IsRowOf db w p v → HasZip db v.id (Some zip)
+    → Some (record { shelf = v.shelf; entry = record { gomod = v.heading.gomod; zip = zip; time = v.heading.time } }) ≡ seen_at (map.get w.entries p) p.shelf
+entry_whole db w p v zip it found =
+    ap (λ s. seen_at (Some (entry_with v.heading zip)) s) it.shelf ∙ ap (λ o. seen_at o p.shelf) (entry_of_rows db w p v zip it found)
 
 pub entry_lacks : (w : World) (p : Place) → map.get w.entries p ≡ None → None ≡ seen_at (map.get w.entries p) p.shelf
 entry_lacks w p none = sym (ap (λ o. seen_at o p.shelf) none)

@@ -11,6 +11,7 @@ pub mod AddTeamLemmas
 pub mod AddEntryLemmas
 pub mod TransactionLemmas
 pub mod HeadingLemmas
+pub mod StandingLemmas
 pub mod CountLemmas
 pub mod VisibleLemmas
 pub mod RevokeLemmas

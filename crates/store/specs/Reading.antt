@@ -9,6 +9,7 @@ use Rattle.sqlite_schema.specs.Rules.{equal}
 use Rattle.sqlite_rules.specs.Lists.{Has}
 use Rattle.world.specs.declared.entry.Place.{Place}
 use Rattle.world.specs.declared.entry.Entry.{Entry}
+use Rattle.world.specs.declared.entry.Heading.{Heading}
 use Rattle.world.specs.World.{World, heading_of}
 use Rattle.store.specs.declared.entries.VersionRow.{VersionRow}
 use Rattle.tables.specs.Means.{IsVersion}
@@ -31,3 +32,12 @@ HasRow db w p None = map.get w.entries p ≡ None
 abbrev pub HasZip : Trees → ℤ → Option (List ℕ) → Type 0
 HasZip db id (Some zip) = (row : Row) × Has (db body_table.tree) row × (equal Binary (rowid row) (Int id) ≡ true) × (column row 2 ≡ Blob zip)
 HasZip db id None = (row : Row) → Has (db body_table.tree) row → equal Binary (rowid row) (Int id) ≡ false
+
+-- a heading and a zip
+abbrev pub entry_with : Heading → List ℕ → Entry
+entry_with h zip = record { gomod = h.gomod; zip = zip; time = h.time }
+
+-- so it is of the row of a zip, whose one column has the zip
+abbrev pub ShowsZip : Trees → ℤ → Option Row → Type 0
+ShowsZip db id (Some row) = (zip : List ℕ) → column row 0 ≡ Blob zip → HasZip db id (Some zip)
+ShowsZip db id None = HasZip db id None

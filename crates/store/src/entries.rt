@@ -13,7 +13,7 @@ ghost use Rattle.tables.specs.Schema.{store_schema};
 ghost use Rattle.tables.specs.Means.{StandsFor};
 ghost use Rattle.store.specs.Calls.{InEachWorld, IsOpenIfHonest, Spares, ChangesAt};
 ghost use Rattle.tables.specs.Calls.{Honestly};
-ghost use Rattle.store.specs.Reading.{HasRow, HasZip};
+ghost use Rattle.store.specs.Reading.{HasRow, HasZip, ShowsZip};
 ghost use Rattle.store.specs.Added.{HasAdded};
 
 use crate::shelves::{find_row, has_shelf};
@@ -71,7 +71,7 @@ fn read_version(row: &Row) -> Result<VersionRow, Error>
 }
 
 /// The row of a version on a shelf.
-fn row_at<S: Alter>(
+pub(crate) fn row_at<S: Alter>(
     conn: &mut Connection<S>,
     shelf: &str,
     path: &str,
@@ -101,13 +101,22 @@ fn read_zip(row: &Row) -> Result<Bytes, Error>
     Ok(Bytes::new(zip))
 }
 
+/// The row of the zip that has this number.
+pub(crate) fn zip_row<S: Alter>(conn: &mut Connection<S>, id: i64) -> Result<Option<Row>, Error>
+    ensures spares { Spares (state S.Store conn.old) (state S.Store conn.new) }
+    ensures answer { InEachWorld (state S.Store conn.old) (state S.Store conn.new) (λ old new w.
+        IfOk result (λ found. IsTrue old.is_open × IsTrue new.is_open × ShowsZip old.now.trees id found)) }
+{
+    find_row(conn, "SELECT zip FROM body WHERE id = ?1", params![id])
+}
+
 /// The zip that has this number.
 fn find_zip<S: Alter>(conn: &mut Connection<S>, id: i64) -> Result<Option<Bytes>, Error>
     ensures spares { Spares (state S.Store conn.old) (state S.Store conn.new) }
     ensures answer { InEachWorld (state S.Store conn.old) (state S.Store conn.new) (λ old new w.
         IfOk result (λ found. IsTrue old.is_open × IsTrue new.is_open × HasZip old.now.trees id found)) }
 {
-    match find_row(conn, "SELECT zip FROM body WHERE id = ?1", params![id])? {
+    match zip_row(conn, id)? {
         Some(row) => Ok(Some(read_zip(&row)?)),
         None => Ok(None),
     }

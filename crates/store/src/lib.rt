@@ -25,6 +25,7 @@
 #![tactic(auto)]
 
 mod adopt;
+mod compare;
 mod entries;
 mod extract;
 mod extract_judge;

@@ -11,6 +11,7 @@ ghost use Rattle.tables.specs.Causes.{IsHindered, IsVast};
 ghost use Rattle.store.specs.Opened.{Opens, IsBad, LeavesFirst, IsOfOpening};
 
 use crate::adopt::open_tables;
+use crate::compare::find_standing;
 use crate::entries::{add_entry, count_entries, find_entry, find_heading};
 use crate::refusal::Refusal;
 use crate::revoke::revoke_key;
@@ -25,6 +26,7 @@ use world::entry::{EntryRef, Heading, Holder, Right, Seen};
 use world::names::{is_key, is_team_name};
 use world::registry::{Registered, StoreFault};
 use world::shelves::Shelves;
+use world::standing::Standing;
 use world::text_set::TextSet;
 
 /// Shelves whose entries and keys are rows of SQL tables.
@@ -93,6 +95,25 @@ impl<S: Alter> Shelves for SqlShelves<S> {
     ) -> Result<Option<Heading>, StoreFault> {
         match find_heading(&mut self.conn, shelf, path.as_str(), version.as_str()) {
             Ok(found) => Ok(found),
+            Err(error) => Err(fault(&mut self.failures, error)),
+        }
+    }
+
+    fn compare(
+        &mut self,
+        shelf: &str,
+        path: &ModulePath,
+        version: &Version,
+        entry: &EntryRef,
+    ) -> Result<Standing, StoreFault> {
+        match find_standing(
+            &mut self.conn,
+            shelf,
+            path.as_str(),
+            version.as_str(),
+            entry,
+        ) {
+            Ok(standing) => Ok(standing),
             Err(error) => Err(fault(&mut self.failures, error)),
         }
     }

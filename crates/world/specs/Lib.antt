@@ -5,6 +5,7 @@ pub mod Lines
 pub mod Forms
 pub mod GoMods
 pub mod World
+pub mod Standing
 pub mod Registry
 pub mod EntryTest
 pub mod Code

@@ -16,8 +16,9 @@
 //! [`map_shelves::MapShelves`] keeps the shelves in ordered maps. [`entry_test`] has the checks of an entry, for a
 //! publish and for a store that takes over tables, and [`laws`] says that they are exact. [`entry`] has what stands
 //! on a shelf and what a key holds, [`names`] the rules of team names and keys, [`forms`] the path and the version
-//! that a text is, [`reading`] what a go.mod says, and [`registry`] what a command of the registry comes to and why
-//! a store fails; contracts see the types of [`bytes`] and [`text_set`] as lists and sets.
+//! that a text is, [`reading`] what a go.mod says, [`standing`] how an entry that is handed in stands to what is
+//! there, and [`registry`] what a command of the registry comes to and why a store fails; contracts see the types of
+//! [`bytes`] and [`text_set`] as lists and sets.
 #![tactic(auto)]
 
 pub mod bytes;
@@ -32,4 +33,5 @@ pub mod names;
 pub mod reading;
 pub mod registry;
 pub mod shelves;
+pub mod standing;
 pub mod text_set;

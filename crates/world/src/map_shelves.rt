@@ -2,6 +2,7 @@
 ghost use Rattle.std.specs.Prelude.{◌≡◌, option_copied, option_map, IfOk, IsOk};
 ghost use Rattle.std.specs.FinMap as map;
 ghost use Rattle.modver.specs.SemanticVersion.{version_text};
+ghost use Rattle.world.specs.Standing.{standing};
 ghost use Rattle.world.specs.World.{only_common, place, seen_at, heading_of, count};
 
 use crate::entry::{Entry, EntryRef, Heading, Holder, Right, Seen};
@@ -10,6 +11,7 @@ use crate::maps::text_map::TextMap;
 use crate::names::{COMMON, is_key, is_team_name};
 use crate::registry::{Registered, StoreFault};
 use crate::shelves::Shelves;
+use crate::standing::{Standing, standing_to};
 use crate::text_set::TextSet;
 use modpath::ModulePath;
 use modver::Version;
@@ -143,6 +145,28 @@ impl Shelves for MapShelves {
             return Ok(own);
         }
         Ok(self.heading_on(COMMON, path, version)?)
+    }
+
+    /// How an entry that is handed in stands to what the shelf sees of the version. It takes no memory.
+    fn compare(
+        &mut self,
+        shelf: &str,
+        path: &ModulePath,
+        version: &Version,
+        entry: &EntryRef,
+    ) -> Result<Standing, StoreFault>
+        ensures reads { Reads (in_memory self.old) (in_memory self.new) result
+            (λ w. standing w shelf.now path.now (version_text version.now) entry.now) }
+        ensures cause { HasCause 0 0 result }
+        ensures answers { IsOk result }
+    {
+        if let Some(own) = self.entry_on(shelf, path, version) {
+            return Ok(standing_to(&own.as_ref(), entry));
+        }
+        match self.entry_on(COMMON, path, version) {
+            Some(of_common) => Ok(standing_to(&of_common.as_ref(), entry)),
+            None => Ok(Standing::Absent),
+        }
     }
 
     fn versions(&mut self, shelf: &str, path: &ModulePath) -> Result<TextSet, StoreFault> {

@@ -1,6 +1,7 @@
 //! A store of shelves.
 use crate::entry::{EntryRef, Heading, Holder, Right, Seen};
 use crate::registry::{Registered, StoreFault};
+use crate::standing::Standing;
 use crate::text_set::TextSet;
 use modpath::ModulePath;
 use modver::Version;
@@ -13,6 +14,7 @@ pub trait Shelves {
     ghost use Rattle.modver.specs.SemanticVersion.{version_text};
     ghost use Rattle.world.specs.World.{World, IsWorld, place, view, heading, count, with_entry};
     ghost use Rattle.world.specs.Registry.{team_added, after_team_add, key_added, after_key_add, key_revoked, after_key_revoke};
+    ghost use Rattle.world.specs.Standing.{standing};
     ghost use Rattle.world.specs.Visible.{versions_seen, paths_seen};
     ghost use Rattle.world.specs.Store.{Shown, Does, DoesWhere, Reads, IsRoomFor, HasCause};
 
@@ -49,6 +51,17 @@ pub trait Shelves {
         version: &Version,
     ) -> Result<Option<Heading>, StoreFault>
         ensures reads { Reads (shown self.old) (shown self.new) result (λ w. heading w shelf.now path.now (version_text version.now)) }
+        ensures cause { HasCause (failure_count self.old) (failure_count self.new) result };
+
+    /// How an entry that is handed in stands to what the shelf sees of the version.
+    fn compare(
+        &mut self,
+        shelf: &str,
+        path: &ModulePath,
+        version: &Version,
+        entry: &EntryRef,
+    ) -> Result<Standing, StoreFault>
+        ensures reads { Reads (shown self.old) (shown self.new) result (λ w. standing w shelf.now path.now (version_text version.now) entry.now) }
         ensures cause { HasCause (failure_count self.old) (failure_count self.new) result };
 
     /// The texts of the versions of the path that the shelf sees.

@@ -53,6 +53,28 @@ def change(name, *statements):
     conn.close()
 
 
+# what docs/OPERATING.md has sqlite3 run in a new store, to take over the rows of a file f
+TAKE_OVER = (
+    "BEGIN",
+    "INSERT INTO shelf SELECT name FROM f.shelf WHERE name <> 'common'",
+    "INSERT INTO access (token, shelf, publish) SELECT token, shelf, publish FROM f.access",
+    "INSERT INTO version (id, shelf, path, version, time, mod) SELECT id, shelf, path, version, time, mod FROM f.version",
+    "INSERT INTO body (id, zip) SELECT id, zip FROM f.body",
+    "COMMIT",
+)
+
+
+def reordered(name, other):
+    """Makes a file with the tables and the rows of another, the tables in the order of their names."""
+    conn = sqlite3.connect(name, isolation_level=None)
+    conn.execute("ATTACH ? AS f", (other,))
+    tables = conn.execute("SELECT name, sql FROM f.sqlite_schema WHERE type = 'table' ORDER BY name").fetchall()
+    for table, sql in tables:
+        conn.execute(sql)
+        conn.execute(f"INSERT INTO {table} SELECT * FROM f.{table}")
+    conn.close()
+
+
 def device():
     new_store("d.db")
     serve = subprocess.Popen([PROGRAM, *"serve --db d.db --port 0".split()], stdout=subprocess.PIPE)
@@ -137,6 +159,32 @@ def bad_schema():
         wants(cause, "bad-schema", word("team-add --db rows.db --team beta"))
     change("rows.db", ["DROP TABLE sqlite_stat1"])
     wants("sqlite_stat1 was dropped", "", word("team-add --db rows.db --team beta"))
+    reordered("order.db", "b.db")
+    wants("the tables in another order", "bad-schema", word("team-add --db order.db --team beta"))
+    assert word("init --db taken.db") == ""
+    change("taken.db", ["ATTACH 'order.db' AS f"], *([statement] for statement in TAKE_OVER))
+    wants("a new store took the rows over", "taken", word("team-add --db taken.db --team alpha"))
+
+
+def numbers():
+    new_store("v.db")
+    mod, last, first = b"module example.com/n\n", 2**63 - 1, -(2**63)
+    open("n.mod", "wb").write(mod)
+
+    def add(number, version):
+        row = ["INSERT INTO version VALUES (?, 'alpha', 'example.com/n', ?, NULL, ?)", number, version, mod]
+        change("v.db", row, ["INSERT INTO body VALUES (?, X'')", number])
+
+    def published(version):
+        line = f"publish --db v.db --key {KEY} --module example.com/n --mod n.mod --zip n.mod --version {version}"
+        return subprocess.run([PROGRAM, *line.split()], capture_output=True, timeout=60).stdout.decode().strip()
+
+    add(last, "v1.0.0")
+    wants("a row has the last number", "201 published", published("v1.1.0"))
+    add(first, "v1.2.0")
+    wants("one has the first number too", "503 unavailable", published("v1.3.0"))
+    change("v.db", *([f"UPDATE {table} SET id = 0 WHERE id = ?", last] for table in ("version", "body")))
+    wants("the last number was changed to 0", "201 published", published("v1.3.0"))
 
 
 def files():
@@ -212,7 +260,7 @@ def memory():
 def main():
     with tempfile.TemporaryDirectory() as folder:
         os.chdir(folder)
-        for part in (device, rights, full_disk, bad_schema, files, extracts, names, memory):
+        for part in (device, rights, full_disk, bad_schema, numbers, files, extracts, names, memory):
             part()
         os.chdir("/")
     print(f"{sum(tried)} of {len(tried)} are as docs/OPERATING.md says")

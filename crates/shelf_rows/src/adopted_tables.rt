@@ -30,7 +30,7 @@ CREATE TABLE x (a INTEGER) STRICT
 CREATE TABLE body (id INTEGER PRIMARY KEY, zip BLOB NOT NULL) STRICT
 ";
 
-/// What makes others of the tables.
+/// What makes others of the tables, the last two in another order and by another text.
 const OTHERS: &str = "\
 CREATE TABLE x (a INTEGER) STRICT
 CREATE INDEX by_path ON version (path)
@@ -39,6 +39,8 @@ DROP TABLE body
 DROP TABLE body;CREATE TABLE body (id INTEGER PRIMARY KEY REFERENCES version (id), zip BLOB) STRICT
 DROP TABLE body;CREATE TABLE body (id INTEGER PRIMARY KEY REFERENCES version (id), zip BLOB NOT NULL, size INTEGER) STRICT
 DROP TABLE meta;CREATE TABLE meta (name TEXT PRIMARY KEY, value INTEGER NOT NULL)
+DROP TABLE body;DROP TABLE version;DROP TABLE access;CREATE TABLE version (id INTEGER PRIMARY KEY, shelf TEXT NOT NULL REFERENCES shelf (name), path TEXT NOT NULL, version TEXT NOT NULL, time TEXT, mod BLOB NOT NULL, UNIQUE (shelf, path, version)) STRICT;CREATE TABLE access (token TEXT PRIMARY KEY, shelf TEXT NOT NULL REFERENCES shelf (name), publish INTEGER NOT NULL CHECK (publish IN (0, 1))) STRICT;CREATE TABLE body (id INTEGER PRIMARY KEY REFERENCES version (id), zip BLOB NOT NULL) STRICT
+DROP TABLE body;DROP TABLE version;DROP TABLE access;CREATE TABLE access (token TEXT PRIMARY KEY, shelf TEXT NOT NULL REFERENCES shelf (name), publish INTEGER NOT NULL CHECK (publish = 0 OR publish = 1)) STRICT;CREATE TABLE version (id INTEGER PRIMARY KEY, shelf TEXT NOT NULL REFERENCES shelf (name), path TEXT NOT NULL, version TEXT NOT NULL, time TEXT, mod BLOB NOT NULL, UNIQUE (shelf, path, version)) STRICT;CREATE TABLE body (id INTEGER PRIMARY KEY REFERENCES version (id), zip BLOB NOT NULL) STRICT
 ";
 
 /// What makes rows that stand for no world.
@@ -61,6 +63,10 @@ UPDATE version SET mod = X''
 UPDATE version SET path = 'example.com/other'
 DELETE FROM body
 ";
+
+/// What makes the last table again, as it was.
+const MADE_AGAIN: &str =
+    "DROP TABLE body;CREATE TABLE body (id INTEGER PRIMARY KEY REFERENCES version (id), zip BLOB NOT NULL) STRICT;INSERT INTO body VALUES (7, X'5A')";
 
 /// What keeps the rows those of a world.
 const FIT: &str =
@@ -85,6 +91,37 @@ INSERT INTO body SELECT id, X'' FROM version WHERE id <> 7;
 
 const ONE_MORE: &str =
     "INSERT INTO version SELECT 1, shelf, path, 'v1.1.0', NULL, mod FROM version WHERE id = 7;INSERT INTO body VALUES (1, X'')";
+
+/// A version that has the last number.
+const LAST: &str = "\
+INSERT INTO version VALUES (9223372036854775807, 'common', 'example.com/lib', 'v1.1.0', NULL, X'6d6f64756c65206578616d706c652e636f6d2f6c69620a');
+INSERT INTO body VALUES (9223372036854775807, X'5959');
+";
+
+/// Publishes over rows of which one has the last number, and what is then read.
+const BELOW: &str = "\
+PUT A example.com/own/@v/v1.0.0 | 201 Created | plain | published; | module example.com/own; | a
+PUT A example.com/own/@v/v1.1.0 | 201 Created | plain | published; | module example.com/own; | b
+PUT A example.com/own/@v/v1.0.0 | 200 OK | plain | already published; | module example.com/own; | a
+GET A example.com/own/@v/v1.0.0.zip | 200 OK | zip | a
+GET A example.com/own/@v/v1.1.0.zip | 200 OK | zip | b
+GET A example.com/lib/@v/v1.0.0.zip | 200 OK | zip | Z
+GET A example.com/lib/@v/v1.1.0.zip | 200 OK | zip | YY
+failures = 0
+";
+
+/// A version that has the first number.
+const FIRST: &str = "\
+INSERT INTO version SELECT -9223372036854775808, shelf, path, 'v1.2.0', time, mod FROM version WHERE id = 7;
+INSERT INTO body VALUES (-9223372036854775808, X'5A');
+";
+
+/// A publish over rows of which one has the last number and one the first.
+const NONE_BELOW: &str = "\
+insert|alpha|example.com/own|v1.0.0|module example.com/own; = Device
+failures = 1
+GET A example.com/lib/@v/v1.0.0.zip | 200 OK | zip | Z
+";
 
 /// What stands in the tables and rows, as the store tells it.
 const KEPT: &str = "\
@@ -131,18 +168,20 @@ fn told_of<'a>(
     }
 }
 
-/// Adopts a connection with such tables and rows, once statements have changed them, and at most so many steps a statement.
-fn adopted(
+/// Adopts a connection with such tables and rows, once statements have changed them, and at most so many steps a statement, and has
+/// the store answer a script.
+fn adopted<'a>(
     alloc: Global,
     tables: &str,
     rows: &str,
     sql: &str,
     steps: Option<u64>,
-) -> Result<Told<'static>, Fail> {
+    script: &'a str,
+) -> Result<Told<'a>, Fail> {
     let mut conn = Connection::open_in_memory(alloc)?;
     let prepared = prepare(&mut conn, tables, rows, sql);
     conn.set_step_limit(steps);
-    let told = told_of(alloc, conn, KEPT)?;
+    let told = told_of(alloc, conn, script)?;
     prepared?;
     Ok(told)
 }
@@ -154,7 +193,7 @@ fn refusal_after(
     rows: &str,
     sql: &str,
 ) -> Result<Option<Refusal>, Fail> {
-    match adopted(alloc, tables, rows, sql, None)? {
+    match adopted(alloc, tables, rows, sql, None, KEPT)? {
         Ok(_) => Ok(None),
         Err((refusal, _)) => Ok(Some(refusal)),
     }
@@ -177,6 +216,7 @@ fn bad_tables_are_refused(rt: HostRuntime) -> Result<(), Fail> {
     assert!(rt; are_bad(alloc, TABLES, "", OTHERS)?);
     assert!(rt; are_bad(alloc, TABLES, ROWS, UNFIT)?);
     assert_eq!(rt; refusal_after(alloc, TABLES, ROWS, FIT)?, None);
+    assert_eq!(rt; refusal_after(alloc, TABLES, ROWS, MADE_AGAIN)?, None);
     Ok(())
 }
 
@@ -194,13 +234,25 @@ fn at_most_4096_versions_of_a_path_are_taken(rt: HostRuntime) -> Result<(), Fail
 
 #[test]
 fn tables_that_are_there_are_kept(rt: HostRuntime) -> Result<(), Fail> {
-    assert!(rt; adopted(rt.alloc(), TABLES, ROWS, "", None)? == Ok(""));
+    assert!(rt; adopted(rt.alloc(), TABLES, ROWS, "", None, KEPT)? == Ok(""));
+    Ok(())
+}
+
+#[test]
+fn a_version_finds_a_number_below_the_lowest(rt: HostRuntime) -> Result<(), Fail> {
+    let alloc = rt.alloc();
+    assert_eq!(rt; adopted(alloc, TABLES, ROWS, LAST, None, BELOW)?, Ok(""));
+    let both = format!(in alloc; "{LAST}{FIRST}")?;
+    assert_eq!(rt;
+        adopted(alloc, TABLES, ROWS, both.as_str(), None, NONE_BELOW)?,
+        Ok("")
+    );
     Ok(())
 }
 
 #[test]
 fn a_refused_connection_comes_back(rt: HostRuntime) -> Result<(), Fail> {
-    let told = adopted(rt.alloc(), TABLES, ROWS, "DELETE FROM body", None)?;
+    let told = adopted(rt.alloc(), TABLES, ROWS, "DELETE FROM body", None, KEPT)?;
     assert!(rt; told == Err((Refusal::BadSchema, Some(1))));
     Ok(())
 }
@@ -216,7 +268,7 @@ fn a_connection_in_a_transaction_is_refused(rt: HostRuntime) -> Result<(), Fail>
 
 #[test]
 fn a_connection_limited_in_its_steps_is_refused(rt: HostRuntime) -> Result<(), Fail> {
-    let told = adopted(rt.alloc(), TABLES, ROWS, "", Some(1))?;
+    let told = adopted(rt.alloc(), TABLES, ROWS, "", Some(1), KEPT)?;
     assert!(rt; matches!(told, Err((Refusal::Device, _))));
     Ok(())
 }

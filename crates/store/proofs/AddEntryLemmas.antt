@@ -1,5 +1,5 @@
 -- What the two INSERTs of an entry do.
-use Rattle.std.proofs.Common.{◌≡◌, ℕ, ℤ, List, [], ◌∷◌, Option, Some, None, unwrap_or, Ok, refl, ap, subst, ◌∙◌}
+use Rattle.std.proofs.Common.{◌≡◌, ℕ, ℤ, List, [], ◌∷◌, Option, Some, None, unwrap_or, Ok, refl, ap, subst, ◌∙◌, IsTrue}
 use Rattle.sqlite.specs.declared.types.Value.TheVariants.{Null, Int, Text, Blob}
 use Rattle.sqlite.specs.Order.{Row}
 use Rattle.sqlite.specs.Values.{or_null, bound_value}
@@ -20,7 +20,7 @@ use Rattle.world.specs.declared.entry.Place.{Place}
 use Rattle.world.specs.declared.entry.Entry.{Entry}
 use Rattle.tables.specs.Inserted.{Inserted}
 use Rattle.store.specs.Added.{HasAdded, version_row, body_row}
-use Rattle.store.proofs.Texts.{add_version_text, add_body_text}
+use Rattle.store.proofs.Texts.{add_version_text, add_numbered_text, add_body_text}
 use Rattle.tables.proofs.InsertLemmas.{inserted, enforced, cast_null, cast_int}
 
 abbrev pub version_terms : List Term
@@ -73,24 +73,72 @@ module _ (limit : Option ℕ) (p : Place) (e : Entry) where
       let it = inserted limit body_table refl (body_params id e) body_terms 3 (Int id ∷ Null ∷ Blob e.zip ∷ []) refl (λ _. refl) 4 refl db [] tally after has h in
       (it.0, rw (cast_null, cast_int id) at it.1)
 
--- both, one after the other, within a transaction
+-- The row of a version is put in with a number, and then that of its body, within a transaction.
+then_body : (p : Place) (e : Entry) (old mid new : State) (sql : List ℕ) (params : Row) (one two : ℕ) (id : ℤ) → ExecutesInside 0 sql params old mid (Ok one) → IsTrue old.is_open → mid.now.schema ≡ store_schema
+    → Inserted old.now.trees mid.now.trees version_table (version_row id p e) → mid.last_rowid ≡ id → ExecutesInside 0 add_body_text (body_params mid.last_rowid e) mid new (Ok two) → HasAdded old new p e
+then_body p e old mid new sql params one two id first was_open has put told second =
+    let v = runs_as add_body_text (body_params mid.last_rowid e) mid new store_schema has _ body_is body_plain two second.0 in
+    let b = body_added mid.step_limit p e mid.last_rowid mid.now v.tally new.now has v.changed in
+    record {
+      id = id;
+      mid = mid.now.trees;
+      first = put;
+      second = subst (λ n. Inserted mid.now.trees new.now.trees body_table (body_row n e)) told b.1;
+      schema = b.0;
+      sound = v.sound;
+      is_open = v.shown.is_open;
+      was_open = was_open;
+      committed = second.1.committed_is ∙ first.1.committed_is;
+      inside = second.1.mode;
+    }
+
+-- both, one after the other, within a transaction, where sqlite chooses the number
 pub both_added : (p : Place) (e : Entry) (old mid new : State) (one two : ℕ) → old.now.schema ≡ store_schema → ExecutesInside 0 add_version_text (version_params p e) old mid (Ok one)
     → ExecutesInside 0 add_body_text (body_params mid.last_rowid e) mid new (Ok two) → HasAdded old new p e
 both_added p e old mid new one two has first second =
     let w = runs_as add_version_text (version_params p e) old mid store_schema has _ version_is version_plain one first.0 in
     let a = version_added old.step_limit p e old.now w.tally mid.now has w.changed in
-    let v = runs_as add_body_text (body_params mid.last_rowid e) mid new store_schema a.0 _ body_is body_plain two second.0 in
-    let b = body_added mid.step_limit p e mid.last_rowid mid.now v.tally new.now a.0 v.changed in
-    let id : mid.last_rowid ≡ next_rowid (old.now.trees 6) = w.last_rowid ∙ ap (λ o. unwrap_or o old.last_rowid) a.2 in
-    record {
-      id = next_rowid (old.now.trees 6);
-      mid = mid.now.trees;
-      first = a.1;
-      second = subst (λ n. Inserted mid.now.trees new.now.trees body_table (body_row n e)) id b.1;
-      schema = b.0;
-      sound = v.sound;
-      is_open = v.shown.is_open;
-      was_open = w.shown.was_open;
-      committed = second.1.committed_is ∙ first.1.committed_is;
-      inside = second.1.mode;
-    }
+    then_body p e old mid new add_version_text (version_params p e) one two (next_rowid (old.now.trees 6)) first w.shown.was_open a.0 a.1 (w.last_rowid ∙ ap (λ o. unwrap_or o old.last_rowid) a.2) second
+
+-- ---- with a number that is given, or else sqlite's choice
+
+abbrev pub numbered_terms : List Term
+numbered_terms = col 0 0 ∷ lit Null ∷ col 0 1 ∷ col 0 2 ∷ col 0 3 ∷ col 0 4 ∷ col 0 5 ∷ []
+
+numbered_is : command_of (understood store_schema add_numbered_text) ≡ Insert 3 (Values numbered_terms 7)
+unfolding understood everything
+numbered_is = refl
+
+numbered_plain : IsPlain (understood store_schema add_numbered_text)
+unfolding understood everything
+numbered_plain = (refl, refl)
+
+abbrev pub numbered_params : Option ℤ → Place → Entry → Row
+numbered_params number p e = or_null Int number ∷ version_params p e
+
+-- a number is bound as it is
+pub number_bound : (number : Option ℤ) → bound_value (or_null Int number) ≡ or_null Int number
+number_bound None = refl
+number_bound (Some n) = refl
+
+-- the number of the row
+abbrev number_of : Option ℤ → List Row → ℤ
+number_of None rows = next_rowid rows
+number_of (Some n) rows = n
+
+module _ (limit : Option ℕ) (p : Place) (e : Entry) where
+  numbered_added : (number : Option ℤ) (db : Database) (tally : Tally) (after : Database) → db.schema ≡ store_schema → Does limit enforced (numbered_params number p e) db [] None (Insert 3 (Values numbered_terms 7)) (Ok (tally, after))
+      → (after.schema ≡ store_schema) × Inserted db.trees after.trees version_table (version_row (number_of number (db.trees 6)) p e) × (tally.last ≡ Some (number_of number (db.trees 6)))
+  numbered_added None db tally after has h =
+      let it = inserted limit version_table refl (numbered_params None p e) numbered_terms 7 (Null ∷ Null ∷ Text p.shelf ∷ Text p.path ∷ Text p.version ∷ or_null Text e.time ∷ Blob e.gomod ∷ []) refl (λ _. refl) 3 refl db [] tally after has h in
+      (it.0, rw (cast_null, cast_time e.time) at it.1, rw cast_null at it.2)
+  numbered_added (Some n) db tally after has h =
+      let it = inserted limit version_table refl (numbered_params (Some n) p e) numbered_terms 7 (Int n ∷ Null ∷ Text p.shelf ∷ Text p.path ∷ Text p.version ∷ or_null Text e.time ∷ Blob e.gomod ∷ []) refl (λ _. refl) 3 refl db [] tally after has h in
+      (it.0, rw (cast_null, cast_int n, cast_time e.time) at it.1, rw (cast_int n) at it.2)
+
+pub numbered_both : (number : Option ℤ) (p : Place) (e : Entry) (old mid new : State) (one two : ℕ) → old.now.schema ≡ store_schema → ExecutesInside 0 add_numbered_text (numbered_params number p e) old mid (Ok one)
+    → ExecutesInside 0 add_body_text (body_params mid.last_rowid e) mid new (Ok two) → HasAdded old new p e
+numbered_both number p e old mid new one two has first second =
+    let w = runs_as add_numbered_text (numbered_params number p e) old mid store_schema has _ numbered_is numbered_plain one first.0 in
+    let a = numbered_added old.step_limit p e number old.now w.tally mid.now has w.changed in
+    then_body p e old mid new add_numbered_text (numbered_params number p e) one two (number_of number (old.now.trees 6)) first w.shown.was_open a.0 a.1 (w.last_rowid ∙ ap (λ o. unwrap_or o old.last_rowid) a.2) second

@@ -26,3 +26,4 @@ pub mod TransactionEnds
 pub mod FilledLemmas
 pub mod BlankLemmas
 pub mod ExtractedLemmas
+pub mod NumberLemmas

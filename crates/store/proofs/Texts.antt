@@ -25,6 +25,15 @@ count_text = codes "SELECT count(*) FROM version WHERE shelf = ?1 AND path = ?2"
 abbrev pub add_version_text : List ℕ
 add_version_text = codes "INSERT INTO version (shelf, path, version, time, mod) VALUES (?1, ?2, ?3, ?4, ?5)"
 
+abbrev pub last_number_text : List ℕ
+last_number_text = codes "SELECT id FROM version WHERE id = ?1"
+
+abbrev pub numbers_text : List ℕ
+numbers_text = codes "SELECT id FROM version ORDER BY id"
+
+abbrev pub add_numbered_text : List ℕ
+add_numbered_text = codes "INSERT INTO version (id, shelf, path, version, time, mod) VALUES (?1, ?2, ?3, ?4, ?5, ?6)"
+
 abbrev pub add_body_text : List ℕ
 add_body_text = codes "INSERT INTO body (id, zip) VALUES (?1, ?2)"
 

@@ -9,3 +9,4 @@ pub mod Restart
 pub mod Pairs
 pub mod Extract
 pub mod Extracted
+pub mod Numbers

@@ -16,7 +16,8 @@ ghost use Rattle.tables.specs.Calls.{Honestly};
 ghost use Rattle.store.specs.Reading.{HasRow, HasZip, ShowsZip};
 ghost use Rattle.store.specs.Added.{HasAdded};
 
-use crate::shelves::{find_row, has_shelf};
+use crate::numbers::chosen_number;
+use crate::shelves::find_row;
 use modver::{TimeText, read_time};
 use sqlite::{Alter, Connection, Error, ErrorCode, Row, Transaction, params};
 use text::Text;
@@ -242,9 +243,10 @@ fn time_text(time: &Option<TimeText>) -> Option<&str>
     }
 }
 
-/// Writes the two rows of an entry.
+/// Writes the two rows of an entry, with this number or with one that sqlite chooses.
 fn insert_rows<'p, S: Alter>(
     tx: &mut Transaction<'_, S>,
+    number: Option<i64>,
     shelf: &'p str,
     path: &'p str,
     version: &'p str,
@@ -260,8 +262,8 @@ fn insert_rows<'p, S: Alter>(
 {
     let time = time_text(&entry.time);
     tx.execute(
-        "INSERT INTO version (shelf, path, version, time, mod) VALUES (?1, ?2, ?3, ?4, ?5)",
-        params![shelf, path, version, time, entry.gomod],
+        "INSERT INTO version (id, shelf, path, version, time, mod) VALUES (?1, ?2, ?3, ?4, ?5, ?6)",
+        params![number, shelf, path, version, time, entry.gomod],
     )?;
     let id = tx.last_insert_rowid();
     tx.execute(
@@ -274,6 +276,7 @@ fn insert_rows<'p, S: Alter>(
 /// Stores an entry where there is none, with both its rows or with neither.
 fn insert_entry<S: Alter>(
     conn: &mut Connection<S>,
+    number: Option<i64>,
     shelf: &str,
     path: &str,
     version: &str,
@@ -289,7 +292,7 @@ fn insert_entry<S: Alter>(
         return Err(Error::SqliteFailure(ErrorCode::TransactionState));
     }
     let mut tx = conn.transaction();
-    insert_rows(&mut tx, shelf, path, version, entry)?;
+    insert_rows(&mut tx, number, shelf, path, version, entry)?;
     tx.commit()?;
     Ok(())
 }
@@ -308,6 +311,6 @@ pub(crate) fn add_entry<S: Alter>(
         → ChangesAt old new (is_ok result) w (with_entry w (place shelf.now path.now version.now) entry.now)) }
 {
     // A connection that is shut refuses this, so the next line finds the tables.
-    has_shelf(conn, shelf)?;
-    insert_entry(conn, shelf, path, version, entry)
+    let number = chosen_number(conn)?;
+    insert_entry(conn, number, shelf, path, version, entry)
 }

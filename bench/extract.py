@@ -1,13 +1,16 @@
 #!/usr/bin/env python3
 """Time and memory of `goshelf extract`, beside Python's sqlite3 that copies the same rows.
 
-Build the program first (`./goshelf --version`). A store of 100,000 versions of ten teams is made by sqlite3, and one team's part of it
-extracted, in turn with sqlite3, which copies the rows of that part into new tables in one transaction with synchronous FULL. The program
-reads and judges the whole store when it opens it, which sqlite3 does not; so an opening alone is timed in each turn too, and the time of
-an extract is told with and without it. With --quick the store is a tenth as large.
+Build the program first (`./goshelf --version`), and have strace. A store of 100,000 versions of ten teams is made by sqlite3, and one
+team's part of it extracted, in turn with sqlite3, which copies the rows of that part into new tables in one transaction with synchronous
+FULL. The program reads and judges the whole store when it opens it, which sqlite3 does not. strace tells the two apart by the calls on
+the file of the part: its making goes from the first of them, once the whole was opened, to the end of the last. Reads and writes are not
+traced, so tracing costs next to nothing; an extract without it is timed in each turn too. With --quick the store is a tenth as large.
 """
 
 import os
+import re
+import shutil
 import sqlite3
 import subprocess
 import sys
@@ -20,6 +23,10 @@ from store import BLOCK, PROGRAM, TABLES, answered, gomod
 ROUNDS = 5
 TEAMS = [f"team{n}" for n in range(10)]
 TEAM = "team4"
+# calls that name a file, or by -y the file of a descriptor, but those that read and write it
+TRACED = "open,openat,stat,lstat,newfstatat,statx,access,faccessat2,flock,ftruncate,fsync,fdatasync,unlink,rename,close"
+# the process, the moment, the call, and the seconds that it took
+CALL = re.compile(r"(?:\d+ +)?(\d+\.\d+) (.*?)(?: <(\d+\.\d+)>)?$")
 # at most as many versions of one path
 OF_A_PATH = 4000
 COPY = (
@@ -75,6 +82,28 @@ def extracted(whole, part):
     return seconds, usage.ru_maxrss / 1024
 
 
+def parts_of(trace, whole, part):
+    """Seconds of opening the whole and of making the part, by the calls in a trace."""
+    calls = [call for call in map(CALL.match, trace) if call]
+    opens = [n for n, call in enumerate(calls) if call[2].startswith("open") and f'"{whole}"' in call[2]]
+    # what is asked of the part before the whole is opened is none of its making
+    making = [call for call in calls[opens[-1] :] if part in call[2]] if opens else []
+    if not making:
+        sys.exit("the trace has no call on the part")
+    first, last = making[0], making[-1]
+    return float(first[1]) - float(calls[0][1]), float(last[1]) + float(last[3] or 0) - float(first[1])
+
+
+def traced(whole, part):
+    """Seconds of opening the whole and of making the part."""
+    removed(part)
+    trace = part + ".trace"
+    extract = [PROGRAM, "extract", "--db", whole, "--team", TEAM, "--to", part]
+    subprocess.run(["strace", "-f", "--seccomp-bpf", "-y", "-ttt", "-T", "-s", "4096", "-e", "trace=" + TRACED, "-o", trace, *extract], check=True)
+    with open(trace) as lines:
+        return parts_of(lines.read().splitlines(), whole, part)
+
+
 def copied(whole, part):
     """Seconds of sqlite3, from the opening of both to the end of the transaction."""
     removed(part)
@@ -101,13 +130,12 @@ def rows(file):
     return found
 
 
-Turn = namedtuple("Turn", "seconds peak opening opened beside")
+Turn = namedtuple("Turn", "opening making seconds peak beside")
 
 
 def turn(whole, ours, theirs):
-    """An opening of the whole, an extract, and the copy by sqlite3: seconds, and the peaks of the first two."""
-    opening, opened = answered(whole, [])
-    return Turn(*extracted(whole, ours), opening, opened, copied(whole, theirs))
+    """A traced extract, one that is not traced, with its peak, and the copy by sqlite3."""
+    return Turn(*traced(whole, ours), *extracted(whole, ours), copied(whole, theirs))
 
 
 def spread(values, form):
@@ -118,14 +146,13 @@ def spread(values, form):
 
 def tell(turns, part):
     """Prints the times of the turns."""
-    without = [max(it.seconds - it.opening, 1e-9) for it in turns]
     print(
-        f"{part}, medians of {len(turns)} turns: extracted in {spread((it.seconds for it in turns), '.2f')} s, of which opening the whole takes "
-        f"{spread((it.opening for it in turns), '.2f')} s; sqlite3 copies in {spread((it.beside for it in turns), '.2f')} s"
+        f"{part}, medians of {len(turns)} turns: the whole is opened in {spread((it.opening for it in turns), '.2f')} s, and the part made in "
+        f"{spread((it.making for it in turns), '.3f')} s; sqlite3 copies it in {spread((it.beside for it in turns), '.3f')} s"
     )
     print(
-        f"  {spread((it.seconds / it.beside for it in turns), '.2f')} times sqlite3's time with the opening, "
-        f"{spread((took / it.beside for took, it in zip(without, turns)), '.2f')} times without it"
+        f"  making it takes {spread((it.making / it.beside for it in turns), '.2f')} times sqlite3's time; without strace all takes "
+        f"{spread((it.seconds for it in turns), '.2f')} s"
     )
 
 
@@ -133,16 +160,19 @@ def main():
     entries = 10_000 if "--quick" in sys.argv else 100_000
     if not os.path.exists(PROGRAM):
         sys.exit("build the program first: ./goshelf --version")
+    if shutil.which("strace") is None:
+        sys.exit("strace is wanted")
     with tempfile.TemporaryDirectory(dir=os.environ.get("STORES")) as folder:
-        whole, ours, theirs = (os.path.join(folder, name) for name in ("whole.db", "ours.db", "theirs.db"))
+        whole, ours, theirs = (os.path.join(os.path.realpath(folder), name) for name in ("whole.db", "ours.db", "theirs.db"))
         filled(whole, entries)
         turns = [turn(whole, ours, theirs) for _ in range(ROUNDS)]
         tell(turns, f"a part of {entries // len(TEAMS):,} versions out of {entries:,} ({os.path.getsize(whole) / 2**20:,.0f} MiB)")
         # before this process grows: a child's peak begins at its parent's
+        _, opened = answered(whole, [])
         _, opened_part = answered(ours, [])
         if rows(ours) != rows(theirs):
             sys.exit("the two copies differ")
-        peak, opened = max(it.peak for it in turns), max(it.opened for it in turns)
+        peak = max(it.peak for it in turns)
         print(f"peak {peak:,.1f} MiB; the whole is opened with {opened:,.1f} MiB, the part with {opened_part:,.1f} MiB")
 
 

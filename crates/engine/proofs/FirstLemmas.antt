@@ -1,7 +1,7 @@
 -- What the call for the first message says.
 use Rattle.std.proofs.Common.{◌≡◌, ℕ, List, ◌++◌, Option, Some, Result, Ok, Err, IfOk, sym, ap, ◌∙◌, subst, append_assoc}
-use Rattle.std.specs.Io.KnownBytes.{Consumes}
-use Rattle.std.proofs.KnownBytes.{Consumes-trans}
+use Rattle.std.specs.Io.KnownBytes.{Consumes, Keeps}
+use Rattle.std.proofs.KnownBytes.{Consumes-trans, Consumes-kept, Keeps-refl}
 use Rattle.wire.specs.Message.{ReadsMessage}
 use Rattle.wire.specs.Framing.{Framing, IsUnfinished, view}
 use Rattle.wire.specs.declared.message.Message.{Message}
@@ -16,6 +16,7 @@ use Rattle.engine.specs.declared.fault.Io.{Io}
 use Rattle.engine.specs.declared.fault.Io.TheVariants as io
 use Rattle.engine.specs.declared.turn.Taken.TheVariants as taken
 use Rattle.engine.specs.declared.turn.Turn.TheVariants as turn
+use Rattle.engine.proofs.StoreLemmas.{through_none}
 use Rattle.engine.proofs.ServedLemmas.{left_of, Tells_left, Tells_after}
 
 -- what stands first was written
@@ -25,6 +26,13 @@ pub first_served : (old new : Shown) (before now : ℕ) (u u' w w' : Option (Lis
 first_served old new before now u u' w w' first (Ok status) takes through delivers is = (first, takes, through, is, delivers)
 first_served old new before now u u' w w' first (Err io.Read) takes through (wrong, delivers) is = cc
 first_served old new before now u u' w w' first (Err io.Write) takes through (_, delivers) is = (first, takes, through, delivers)
+
+-- a read failed before, and nothing was done
+pub first_unread : (shown : Shown) (count : ℕ) (u₀ u₁ u₂ w : Option (List ℕ)) (got : List ℕ) (result : Result (Option ℕ) Io)
+    → result ≡ Err io.Read → Consumes u₀ u₁ got → IsUnfinished got → Keeps u₁ u₂ → ServesFirst shown shown count count u₀ u₂ w w result
+first_unread shown count u₀ u₁ u₂ w got result is consumed waits keeps =
+    subst (ServesFirst shown shown count count u₀ u₂ w w) (sym is)
+    (got, Consumes-kept u₀ u₁ u₂ got consumed keeps, waits, through_none shown count, Keeps-refl w)
 
 module _
     (u₀ u₁ : Option (List ℕ)) (framing : Framing) (consumed : Consumes u₀ u₁ framing.held) (waits : IsUnfinished framing.held)

@@ -192,6 +192,63 @@ fn fronts_are_what_they_are(rt: HostRuntime) -> Result<(), Fail> {
     Ok(())
 }
 
+/// What a stream gives that comes byte by byte, as a word, and how many of its bytes had come by then.
+fn answer_by_bytes(alloc: Global, bytes: &[u8]) -> Result<(&'static str, usize), Memory> {
+    let mut framer = Framer::new(alloc);
+    let mut fed = 0usize;
+    for byte in bytes {
+        framer.feed(&[*byte])?;
+        fed = fed.saturating_add(1);
+        match framer.next()? {
+            Next::NeedMore => {}
+            Next::Message(_) => return Ok(("message", fed)),
+            Next::Bad(Bad::BadRequest) => return Ok(("400", fed)),
+            Next::Bad(Bad::TooLarge) => return Ok(("413", fed)),
+        }
+    }
+    Ok(("more", fed))
+}
+
+#[test]
+fn fronts_may_come_by_bytes(rt: HostRuntime) -> Result<(), Fail> {
+    for row in FRONTS.lines() {
+        let bytes = with_lines(rt.alloc(), column(row, 0))?;
+        let (given, _) = answer_by_bytes(rt.alloc(), bytes.as_bytes())?;
+        assert!(rt; given == column(row, 1), "{row}");
+    }
+    Ok(())
+}
+
+/// Bytes that no head can go on from their last one on; `;` stands for a newline.
+const BROKEN_OFF: &str = "\
+G(
+\rG
+;\ra
+GET\t
+GET  
+GET /\t
+GET / X
+GET / HTTP/1.2
+GET / HTTP/1.1\ra
+GET / HTTP/1.1\r;:
+GET / HTTP/1.1\r; 
+GET / HTTP/1.1\r;A 
+GET / HTTP/1.1\r;A\t
+GET / HTTP/1.1\r;A: b\u{0}
+GET / HTTP/1.1\r;A: b\rc
+GET / HTTP/1.1\r;A: b\r;\ra
+";
+
+#[test]
+fn a_malformed_head_is_refused_at_its_byte(rt: HostRuntime) -> Result<(), Fail> {
+    for row in BROKEN_OFF.lines() {
+        let bytes = with_lines(rt.alloc(), row)?;
+        let (given, fed) = answer_by_bytes(rt.alloc(), bytes.as_bytes())?;
+        assert!(rt; given == "400" && fed == bytes.len(), "{row}");
+    }
+    Ok(())
+}
+
 /// A head of so many headers, of which the last is this one, and of at least so many bytes; an empty line stands before it.
 fn head_of(alloc: Global, headers: u8, last: &[u8], length: usize) -> Result<Vec<u8>, Memory> {
     let mut head = Vec::from_slice(alloc, b"\r\nGET / HTTP/1.1\r\n")?;
@@ -226,6 +283,20 @@ fn heads_have_limits(rt: HostRuntime) -> Result<(), Fail> {
         assert!(rt; length == 0 || head.len() == length, "{row}");
         assert!(rt; answer(rt.alloc(), &head)? == column(row, 3), "{row}");
     }
+    Ok(())
+}
+
+/// At their limits too: of a header too many the line is waited for.
+#[test]
+fn a_long_head_may_come_by_bytes(rt: HostRuntime) -> Result<(), Fail> {
+    let many = head_of(rt.alloc(), 64, b"A: b", 0)?;
+    assert!(rt; answer_by_bytes(rt.alloc(), &many)? == ("message", many.len()));
+    let more = head_of(rt.alloc(), 65, b"A: b", 0)?;
+    assert!(rt; answer_by_bytes(rt.alloc(), &more)? == ("400", more.len().saturating_sub(2)));
+    let long = head_of(rt.alloc(), 1, b"A: ", 16_384)?;
+    assert!(rt; answer_by_bytes(rt.alloc(), &long)? == ("message", 16_384));
+    let longer = head_of(rt.alloc(), 1, b"A: ", 16_385)?;
+    assert!(rt; answer_by_bytes(rt.alloc(), &longer)? == ("400", 16_384));
     Ok(())
 }
 

@@ -1,4 +1,6 @@
 pub mod BegunLemmas
+pub mod HeadFrontLemmas
+pub mod HeadLineLemmas
 pub mod FramingLemmas
 pub mod HeadLemmas
 pub mod StreamLemmas

@@ -6,6 +6,7 @@ pub mod Pieces
 pub mod Reply
 pub mod Info
 pub mod Values
+pub mod HeadFront
 pub mod Place
 pub mod Route
 pub mod Query

@@ -4,6 +4,7 @@ ghost use Rattle.wire.specs.Framing.{Answers, IsBad, IsUnfinished, HasMessage, G
 
 use crate::cut::bodiless_of;
 use crate::head::{Front, HEADER_LIMIT, front_of};
+use crate::head_front::{Looked, look};
 use crate::message::{Memory, Message};
 use httparse::spans::EMPTY_HEADER_SPAN;
 use std::alloc::Global;
@@ -45,6 +46,8 @@ pub struct Framer {
     start: usize,
     /// The length of the message that has begun, once its head is whole; else 0.
     wanted: usize,
+    /// What was looked at of a head that is not whole.
+    looked: Option<Looked>,
     failure: Option<Bad>,
 }
 
@@ -52,13 +55,14 @@ impl Model for Framer {
     ghost use Rattle.std.specs.Prelude.{◌≤◌, length, drop};
     ghost use Rattle.std.specs.Option.{ForSome};
     ghost use Rattle.wire.specs.Framing.{Framing, IsBad, Awaits};
+    ghost use Rattle.wire.specs.HeadFront.{HasLooked};
 
     ghost Value = { Framing };
 
     ghost view = { λ f. record { held = drop f.start f.bytes.items; failure = f.failure } };
 
     ghost invariant = { λ f. (f.start ≤ length f.bytes.items) × ForSome f.failure (IsBad (drop f.start f.bytes.items))
-        × Awaits (drop f.start f.bytes.items) f.wanted };
+        × Awaits (drop f.start f.bytes.items) f.wanted × HasLooked (drop f.start f.bytes.items) f.looked };
 }
 
 /// Takes the first n bytes off.
@@ -79,6 +83,7 @@ impl Framer {
             bytes: Vec::new(alloc),
             start: 0,
             wanted: 0,
+            looked: None,
             failure: None,
         }
     }
@@ -136,9 +141,16 @@ impl Framer {
         if held.len() < self.wanted {
             return Ok(Next::NeedMore);
         }
+        if self.stays_open() {
+            return Ok(Next::NeedMore);
+        }
+        let held = &self.bytes[self.start..];
         let mut headers = [EMPTY_HEADER_SPAN; HEADER_LIMIT];
         match front_of(held, &mut headers) {
-            Front::Unfinished => Ok(Next::NeedMore),
+            Front::Unfinished => {
+                self.looked = look(held);
+                Ok(Next::NeedMore)
+            }
             Front::Failed(bad) => Ok(self.fail(bad)),
             Front::Begun(head) => {
                 let len = head.spans.len + head.body;
@@ -151,6 +163,21 @@ impl Framer {
                 Ok(Next::Message(Message { body, ..message }))
             }
         }
+    }
+
+    /// Whether what came since plainly only goes on with a head that is not whole. Nothing before it is looked at again.
+    fn stays_open(&mut self) -> bool
+        ensures same { self.new ≡ self.old }
+        ensures open { IsTrue result → IsUnfinished self.old.held }
+    {
+        let Some(looked) = self.looked else {
+            return false;
+        };
+        let Some(on) = looked.on(&self.bytes[self.start..]) else {
+            return false;
+        };
+        self.looked = Some(on);
+        true
     }
 
     /// Takes a head and a body off, and gives the body: in a copy, or in the buffer itself where the body is large and no less than
@@ -178,6 +205,7 @@ impl Framer {
         let copy = Vec::from_slice(*self.bytes.allocator(), &self.bytes[from..from + body])?;
         self.start += head + body;
         self.wanted = 0;
+        self.looked = None;
         Ok(copy)
     }
 
@@ -195,6 +223,7 @@ impl Framer {
         remove_front(&mut taken, from);
         self.start = 0;
         self.wanted = 0;
+        self.looked = None;
         Ok(taken)
     }
 

@@ -29,6 +29,7 @@
 mod cut;
 pub mod framer;
 mod head;
+mod head_front;
 pub mod info;
 pub mod laws;
 pub mod length;

@@ -1,10 +1,10 @@
-use Rattle.std.proofs.Common.{[], Some, refl}
+use Rattle.std.proofs.Common.{[], Some, refl, rules}
 use Rattle.std.proofs.KnownBytes.{Consumes-nil}
 use Rattle.wire.specs.Framing.{view}
 use Rattle.wire.proofs.StreamLemmas.{unfinished_nothing}
 use Rattle.engine.specs.First.{Answers, Closes}
 use Rattle.engine.specs.Exchange.{Exchange}
-use Rattle.engine.proofs.FirstLemmas.{first_served, closes_reading, takes_message, takes_closing}
+use Rattle.engine.proofs.FirstLemmas.{first_served, first_unread, closes_reading, takes_message, takes_closing}
 use Rattle.engine.proofs.StoreLemmas.{through_none}
 use Rattle.engine.proofs.answer.serve_first.Goals as goal
 
@@ -35,3 +35,9 @@ returns-in-Close-take-clause-serves g c =
     let takes = takes_closing _ _ c.loop.framer far.consumed far.unfinished _ c.read_more.new.framer (rw c.in_default.is at c.in_ok-closing.ensures) c.in-Close-take.closing c.take.new.framer c.in-Close-take.ensures in
     rw far.untouched
     (first_served _ _ _ _ _ _ _ _ (Closes (Some c.in-Close-take.closing)) _ takes (through_none _ _) (rw far.unwritten at write.bytes) write.status)
+
+pub returns-in_err-closing-clause-serves : goal.returns-in_err-closing-clause-serves
+returns-in_err-closing-clause-serves g c =
+    let far = c.loop.invariant in
+    rw (far.untouched, far.unwritten)
+    (first_unread _ _ _ _ _ _ c.loop.framer.held c.from_residual.result (search (c, rules)) far.consumed far.unfinished c.in_err-closing.ensures.1)

@@ -1,0 +1,44 @@
+-- The part of a head that some bytes end in.
+use Rattle.std.specs.Prelude.{◌≡◌, ℕ, ◌≤◌, List, [], ◌∷◌, ◌++◌, length, take, Option, ⊤}
+use Rattle.std.specs.Option.{ForSome}
+use Rattle.httparse.specs.Ascii.{line_feed, carriage_return, colon}
+use Rattle.httparse.specs.Grammar.{is_value_byte, AllPass, LineEnd, IsToken, Field, EndsInTarget, HasNoRequest, print_blank}
+use Rattle.httparse.specs.Pieces.{Then, RequestStart, FieldLines}
+use Rattle.wire.specs.declared.head_front.Place.{Place}
+use Rattle.wire.specs.declared.head_front.Place.TheVariants as place
+use Rattle.wire.specs.declared.head_front.Looked.{Looked}
+
+-- the bytes are empty lines, a request line, some headers, and then rest
+abbrev pub HasLines : List ℕ → List ℕ → Type 0
+HasLines bytes rest = (lines : (List LineEnd × (List ℕ × (List ℕ × (ℕ × LineEnd)))) × List Field) × Then RequestStart FieldLines lines bytes rest
+
+-- the bytes end in that part of a head
+abbrev pub EndsIn : Place → List ℕ → Type 0
+EndsIn place.Blank bytes = (ends : List LineEnd) × (bytes ≡ print_blank ends)
+EndsIn place.BlankReturn bytes = (ends : List LineEnd) × (bytes ≡ print_blank ends ++ carriage_return ∷ [])
+EndsIn place.Method bytes = (ends : List LineEnd) × (method : List ℕ) × IsToken method × (bytes ≡ print_blank ends ++ method)
+EndsIn place.Target bytes = EndsInTarget bytes
+EndsIn place.Line bytes = HasLines bytes []
+EndsIn place.HeaderName bytes = (name : List ℕ) × IsToken name × HasLines bytes name
+EndsIn place.HeaderValue bytes = (name raw : List ℕ) × IsToken name × AllPass is_value_byte raw × HasLines bytes (name ++ colon ∷ raw)
+EndsIn place.Return bytes =
+    (name raw : List ℕ) × IsToken name × AllPass is_value_byte raw × HasLines bytes (name ++ colon ∷ raw ++ carriage_return ∷ [])
+
+-- and no head is whole in them
+abbrev pub Stands : Place → List ℕ → Type 0
+Stands place bytes = EndsIn place bytes × HasNoRequest bytes
+
+-- the first of the bytes were looked at
+pub record WasLookedAt (bytes : List ℕ) (looked : Looked) : Type 0 where
+  pub fits : looked.len ≤ length bytes
+  pub stands : Stands looked.place (take looked.len bytes)
+
+-- so were they where anything was looked at
+pub record HasLooked (bytes : List ℕ) (looked : Option Looked) : Type 0 where
+  pub was : ForSome looked (WasLookedAt bytes)
+
+-- there are no bytes, or the last is a line feed
+abbrev pub EndsLine : List ℕ → Type 0
+EndsLine [] = ⊤
+EndsLine (b ∷ []) = b ≡ line_feed
+EndsLine (b ∷ c ∷ bytes) = EndsLine (c ∷ bytes)

@@ -1,0 +1,129 @@
+//! What a store tells of its world.
+use crate::open::{Deed, with_store};
+use modpath::ModulePath;
+use modver::Version;
+use sqlite::{Alter, Files};
+use sqlite_disk::Memory;
+use std::alloc::Global;
+use std::str::from_utf8;
+use std::test::Fail;
+use store::store::SqlShelves;
+use world::shelves::Shelves;
+
+/// The names that the rows know.
+const KEYS: &str =
+    "alphakey00000001 alphareader00001 betakey000000001 commonkey0000001 gammakey00000001";
+
+const TEAMS: &str = "alpha beta gamma";
+
+const SHELVES: &str = "alpha beta";
+
+const PATHS: &str = "example.com/lib example.com/new example.com/x";
+
+const VERSIONS: &str = "v1.0.0 v1.1.0";
+
+/// Tells what a key holds.
+fn tell_key<S: Shelves>(shelves: &mut S, key: &str, told: &mut String) -> Result<(), Fail> {
+    if let Some(holder) = shelves.key(key)? {
+        write!(told, "{key} {} {:?}\n", holder.shelf.as_str(), holder.right)?;
+    }
+    Ok(())
+}
+
+/// Tells the entry of a version.
+fn tell_entry<S: Shelves>(
+    shelves: &mut S,
+    shelf: &str,
+    path: &ModulePath,
+    version: &Version,
+    told: &mut String,
+) -> Result<(), Fail> {
+    if let Some(seen) = shelves.entry(shelf, path, version)? {
+        let entry = seen.entry.as_ref();
+        write!(told, "{} {}\n", seen.shelf.as_str(), entry.time.is_some())?;
+        told.push_str(from_utf8(entry.gomod)?)?;
+        told.push_str(from_utf8(entry.zip)?)?;
+    }
+    Ok(())
+}
+
+/// Tells the versions of a path, and their entries.
+fn tell_path<S: Shelves>(
+    alloc: Global,
+    shelves: &mut S,
+    shelf: &str,
+    path: &str,
+    told: &mut String,
+) -> Result<(), Fail> {
+    let path = ModulePath::parse(alloc, path)?;
+    let lines = shelves.versions(shelf, &path)?.lines(alloc)?;
+    told.push_str(from_utf8(lines.as_slice())?)?;
+    for version in VERSIONS.split(' ') {
+        let version = Version::parse(alloc, version)?;
+        tell_entry(shelves, shelf, &path, &version, told)?;
+    }
+    Ok(())
+}
+
+/// Tells what a shelf sees.
+fn tell_shelf<S: Shelves>(
+    alloc: Global,
+    shelves: &mut S,
+    shelf: &str,
+    told: &mut String,
+) -> Result<(), Fail> {
+    let lines = shelves.paths(shelf)?.lines(alloc)?;
+    told.push_str(from_utf8(lines.as_slice())?)?;
+    for path in PATHS.split(' ') {
+        tell_path(alloc, shelves, shelf, path, told)?;
+    }
+    Ok(())
+}
+
+/// Tells of each team whether it is there. It adds those that are not.
+fn tell_teams<S: Shelves>(shelves: &mut S, told: &mut String) -> Result<(), Fail> {
+    for team in TEAMS.split(' ') {
+        write!(told, "{team} {:?}\n", shelves.team_add(team)?)?;
+    }
+    Ok(())
+}
+
+/// What a store tells of the names that the rows know. The store goes on then, and is let go.
+fn told_by<S: Shelves + Drop>(alloc: Global, mut shelves: S) -> Result<String, Fail> {
+    let mut told = String::new(alloc);
+    for key in KEYS.split(' ') {
+        tell_key(&mut shelves, key, &mut told)?;
+    }
+    for shelf in SHELVES.split(' ') {
+        tell_shelf(alloc, &mut shelves, shelf, &mut told)?;
+    }
+    tell_teams(&mut shelves, &mut told)?;
+    Ok(told)
+}
+
+/// Has a store tell.
+#[derive(Drop)]
+struct Look {
+    told: String,
+}
+
+impl Deed for Look {
+    fn run<S: Alter + Drop>(
+        &mut self,
+        alloc: Global,
+        shelves: SqlShelves<S>,
+        _chosen: u8,
+    ) -> Result<u8, Fail> {
+        self.told = told_by(alloc, shelves)?;
+        Ok(0)
+    }
+}
+
+/// What the store of two files tells; nothing where it can't be opened.
+pub fn world_of(alloc: Global, files: Files<Memory>) -> Result<String, Fail> {
+    let mut look = Look {
+        told: String::new(alloc),
+    };
+    with_store(alloc, files, &mut look, 0)?;
+    Ok(look.told)
+}

@@ -7,8 +7,7 @@ use Rattle.modver.specs.Class.{class_of}
 use Rattle.modver.specs.SemanticVersion.{SemanticVersion, version_text}
 use Rattle.modver.specs.declared.version.Class.{Class}
 use Rattle.modver.specs.declared.version.Class.TheVariants as class
-use Rattle.shelf.specs.Machine.{versions_of}
-use Rattle.shelf.specs.Versions.{ordered}
+use Rattle.world.specs.Versions.{versions_of}
 use Rattle.world.specs.Forms.{path_of}
 use Rattle.world.specs.Lines.{in_order}
 use Rattle.world.specs.Store.{Shown, Reads, HasCause}
@@ -44,7 +43,7 @@ row_at w s p v = row_of p v (view w s p (version_text v))
 
 -- the versions of a path that the shelf sees, by precedence
 abbrev pub rows_of_path : World → List ℕ → List ℕ → List Row
-rows_of_path w s p = flat_map (row_at w s p) (in_order (ordered (versions_of w s p)))
+rows_of_path w s p = flat_map (row_at w s p) (versions_of w s p)
 
 -- the same of the path that a text is
 abbrev pub rows_at : World → List ℕ → Option (List ℕ) → List Row

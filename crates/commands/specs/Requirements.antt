@@ -4,7 +4,7 @@ use Rattle.std.specs.List.{flat_map}
 use Rattle.gomod.specs.Module.{GoModule}
 use Rattle.gomod.specs.declared.entries.Requirement.{Requirement}
 use Rattle.modver.specs.SemanticVersion.{SemanticVersion, version_text}
-use Rattle.shelf.specs.Machine.{module_of}
+use Rattle.world.specs.Latest.{module_of}
 use Rattle.world.specs.World.{World, heading}
 use Rattle.world.specs.declared.entry.Heading.{Heading}
 use Rattle.world.specs.declared.entry.Holder.{Holder}

@@ -8,7 +8,6 @@ ghost use Rattle.commands.specs.Reading.{Adds};
 use crate::inventory_text::text_of;
 use modpath::ModulePath;
 use modver::{TimeText, Version};
-use shelf::versions::{named, ordered};
 use std::alloc::{AllocError, Global};
 use text::Text;
 use world::bytes::Bytes;
@@ -134,11 +133,9 @@ fn add_path<S: Shelves>(
     ensures adds { Adds (S.shown shelves.old) (S.shown shelves.new) rows.old.items rows.new.items result (λ w. spec.rows_of_path w shelf.now path.now) }
     ensures cause { HasCause (S.failure_count shelves.old) (S.failure_count shelves.new) result }
 {
-    let texts = shelves.versions(shelf, path)?;
-    let named = named(alloc, &texts)?;
-    let versions = ordered(alloc, named)?;
-    for ranked in versions.iter() {
-        add_version(alloc, shelves, shelf, path, &ranked.version, rows)?;
+    let versions = shelves.versions(shelf, path)?;
+    for version in versions.as_slice() {
+        add_version(alloc, shelves, shelf, path, version, rows)?;
     }
     Ok(())
 }

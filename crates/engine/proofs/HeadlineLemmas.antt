@@ -15,7 +15,8 @@ use Rattle.shelf.specs.declared.reply.Answer.{Answer}
 use Rattle.shelf.specs.declared.reply.Answer.TheVariants.{Replied, Failed}
 use Rattle.shelf.specs.declared.reply.Reply.{Reply}
 use Rattle.shelf.specs.declared.reply.Reply.TheVariants as reply
-use Rattle.shelf.specs.Machine.{Run, after, keyed_reply, query_reply, gomod_reply, zip_reply, info_reply, latest_of, latest_reply}
+use Rattle.shelf.specs.Machine.{Run, after, keyed_reply, query_reply, gomod_reply, zip_reply, info_reply, latest_reply}
+use Rattle.world.specs.Latest.{latest_of}
 use Rattle.shelf.specs.Isolation.{is_kept, marked, belongs, IsAnsweredIfKept, KeptAnswered, IsReplied, AllReplied}
 use Rattle.shelf.specs.Immutability.{IsOfVersion, IsFound, IsFailed}
 use Rattle.shelf.proofs.Isolated.{purged_runs_agree}

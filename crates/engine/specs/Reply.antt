@@ -56,7 +56,7 @@ reply_page sum (reply.Decided decision) = page.Fixed (fixed_of decision)
 reply_page sum (reply.GoMod text) = page.Body kind.TextPlain (gomod_body sum text)
 reply_page sum (reply.Zip zip) = page.Body kind.Zip zip
 reply_page sum (reply.Info version time) = page.Body kind.Json (info_bytes version time)
-reply_page sum (reply.Versions versions) = page.Body kind.TextPlain (lines_of (map version_text (in_order versions)))
+reply_page sum (reply.Versions versions) = page.Body kind.TextPlain (lines_of (map version_text versions))
 reply_page sum (reply.Paths paths) = page.Body kind.TextPlain (lines_of (in_order paths))
 reply_page sum (reply.Registry outcome) = page.Fixed fixed.NotFound
 

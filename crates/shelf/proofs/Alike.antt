@@ -12,8 +12,9 @@ use Rattle.shelf.specs.declared.reply.Reply.TheVariants as reply
 use Rattle.world.specs.World.{World, chain, heading, count}
 use Rattle.world.specs.Lines.{in_order}
 use Rattle.world.specs.Visible.{versions_seen, paths_seen}
-use Rattle.shelf.specs.Versions.{named, highest}
-use Rattle.shelf.specs.Machine.{decided, decision, gomod_of, offered, standing_if, standing_of, versions_of, module_of, highest_left, latest_by, latest_of, latest_reply, query_reply, gomod_reply, zip_reply, info_reply, list_reply}
+use Rattle.world.specs.Versions.{named, by_precedence, versions_of}
+use Rattle.world.specs.Latest.{highest, module_of, highest_left, latest_by, latest_of}
+use Rattle.shelf.specs.Machine.{decided, decision, gomod_of, offered, standing_if, standing_of, latest_reply, query_reply, gomod_reply, zip_reply, info_reply, list_reply}
 use Rattle.world.proofs.Orders.{texts_total, texts_exact}
 use Rattle.world.proofs.Seen.{contains_versions, contains_paths}
 use Rattle.shelf.proofs.Views.{SameSeen, sees_itself, view_same, heading_same, count_same}
@@ -29,6 +30,9 @@ module _ (w x : World) (s : List ℕ) (chains : chain w s ≡ chain x s) (same :
   pub versions_same : (p : List ℕ) → versions_seen w s p ≡ versions_seen x s p
   versions_same p = set.same_set texts_total texts_exact _ _ (λ v.
       contains_versions w s p v ∙ ap is_some (view_same w x s p v chains same) ∙ sym (contains_versions x s p v))
+
+  versions_of_same : (p : List ℕ) → versions_of w s p ≡ versions_of x s p
+  versions_of_same p = ap (λ vs. in_order (by_precedence (named (in_order vs)))) (versions_same p)
 
   both_or_none : (a b : Bool) → (a ≡ true → b ≡ true) → (b ≡ true → a ≡ true) → a ≡ b
   both_or_none true b to back = sym (to refl)
@@ -49,10 +53,10 @@ module _ (w x : World) (s : List ℕ) (chains : chain w s ≡ chain x s) (same :
   latest_by_same p None = refl
   latest_by_same p (Some top) =
       ap (λ o. highest_left (module_of o) (versions_of w s p)) (heading_same w x s p (version_text top) chains same)
-      ∙ ap (λ vs. highest_left (module_of (heading x s p (version_text top))) (named (in_order vs))) (versions_same p)
+      ∙ ap (highest_left (module_of (heading x s p (version_text top)))) (versions_of_same p)
 
   latest_same : (p : List ℕ) → latest_of w s p ≡ latest_of x s p
-  latest_same p = ap (λ vs. latest_by w s p (highest (named (in_order vs)))) (versions_same p) ∙ latest_by_same p (highest (versions_of x s p))
+  latest_same p = ap (λ vs. latest_by w s p (highest vs)) (versions_of_same p) ∙ latest_by_same p (highest (versions_of x s p))
 
   told_of : (p : List ℕ) (v : Option SemanticVersion) → latest_reply w s p v ≡ latest_reply x s p v
   told_of p None = refl
@@ -64,7 +68,7 @@ module _ (w x : World) (s : List ℕ) (chains : chain w s ≡ chain x s) (same :
   query_same (query.GoMod p v) = ap gomod_reply (heading_same w x s p (version_text v) chains same)
   query_same (query.Zip p v) = ap zip_reply (view_same w x s p (version_text v) chains same)
   query_same (query.Info p v) = ap (info_reply v) (heading_same w x s p (version_text v) chains same)
-  query_same (query.List p) = ap (λ vs. list_reply (named (in_order vs))) (versions_same p)
+  query_same (query.List p) = ap list_reply (versions_of_same p)
   query_same (query.Latest p) = ap (latest_reply w s p) (latest_same p) ∙ told_of p (latest_of x s p)
   query_same query.Modules = ap reply.Paths paths_same
 

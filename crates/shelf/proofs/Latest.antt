@@ -16,13 +16,15 @@ use Rattle.world.specs.declared.reading.Reading.{Reading}
 use Rattle.world.specs.declared.reading.Reading.TheVariants.{Module, Fault}
 use Rattle.shelf.specs.declared.reply.Reply.TheVariants as reply
 use Rattle.world.specs.GoMods.{Says, told, reading_of, module_told}
-use Rattle.shelf.specs.Machine.{versions_of, module_of, highest_left, latest_by, latest_of, latest_reply, info_reply, query_reply}
-use Rattle.shelf.specs.PathLaws.{IsSeen, seen_versions, HighestSays, unretracted_versions, LatestIsTheTop, NoneIsLatest, HasTime, LatestIsTold, LatestIsNotFound}
-use Rattle.shelf.specs.Versions.{AllOf, highest, unretracted}
+use Rattle.world.specs.Versions.{versions_of}
+use Rattle.world.specs.Latest.{module_of, highest_left, latest_by, latest_of, AllOf, highest, unretracted}
+use Rattle.shelf.specs.Machine.{latest_reply, info_reply, query_reply}
+use Rattle.world.specs.Visible.{IsSeen, seen_versions}
+use Rattle.shelf.specs.PathLaws.{HighestSays, unretracted_versions, LatestIsTheTop, NoneIsLatest, HasTime, LatestIsTold, LatestIsNotFound}
 use Rattle.world.specs.World.{World, IsWorld, view, without_zip, heading}
-use Rattle.shelf.proofs.Members.{no_member}
-use Rattle.shelf.proofs.Highest.{none_highest, highest_top, left}
-use Rattle.shelf.proofs.Told.{entry_at, seen_members, versions_fit}
+use Rattle.world.proofs.Members.{no_member}
+use Rattle.world.proofs.Highest.{none_highest, highest_top, left}
+use Rattle.world.proofs.SeenVersions.{entry_at, seen_members, versions_fit}
 
 -- ---- what a go.mod says
 

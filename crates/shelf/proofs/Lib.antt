@@ -1,5 +1,4 @@
 pub mod InMemory
-pub mod VersionOrder
 pub mod Checks
 pub mod Misfits
 pub mod Runs
@@ -14,10 +13,6 @@ pub mod Stays
 pub mod Served
 pub mod Repeated
 pub mod Changes
-pub mod Members
-pub mod Highest
-pub mod Tops
 pub mod Told
-pub mod Newest
 pub mod Latest
 pub mod Parts

@@ -1,5 +1,4 @@
-pub mod Code
-pub mod Versions
+pub mod Listed
 pub mod Machine
 pub mod Publishing
 pub mod Runs

@@ -1,7 +1,7 @@
 -- The machine: the reply to each event and the world after it, alone and in a list.
 use Rattle.std.specs.Prelude.{ℕ, ◌≡◌, ◌⊎◌, List, [], ◌∷◌, ◌++◌, Bool, true, false, not, ◌&&◌, nat_le, Option, Some, None, is_none, option_map, unwrap_or}
 use Rattle.std.specs.FinMap as map
-use Rattle.modver.specs.SemanticVersion.{version_text}
+use Rattle.modver.specs.SemanticVersion.{version_text, SemanticVersion}
 use Rattle.world.specs.declared.entry.Place.{Place}
 use Rattle.world.specs.declared.entry.Entry.{Entry}
 use Rattle.world.specs.declared.entry.Heading.{Heading}
@@ -27,9 +27,7 @@ use Rattle.shelf.specs.declared.reply.Reply.{Reply}
 use Rattle.shelf.specs.declared.reply.Answer.{Answer}
 use Rattle.shelf.specs.declared.reply.Answer.TheVariants.{Replied, Failed}
 use Rattle.world.specs.declared.registry.StoreFault.TheVariants.{Device}
-use Rattle.gomod.specs.Module.{GoModule}
 use Rattle.modver.specs.Class.{class_of}
-use Rattle.modver.specs.SemanticVersion.{SemanticVersion}
 use Rattle.modver.specs.declared.version.Class.{Class}
 use Rattle.modver.specs.declared.version.Class.TheVariants as class
 use Rattle.world.specs.declared.entry_test.Misfit.{Misfit}
@@ -38,14 +36,15 @@ use Rattle.world.specs.declared.reading.Reading.{Reading}
 pub use Rattle.world.specs.EntryTest.{first_failing}
 use Rattle.world.specs.EntryTest.{is_small, is_time_of, has_fault, fault_line, names_other, has_more}
 use Rattle.world.specs.Forms.{is_path, has_text, is_time, fits, suffix_of}
-use Rattle.world.specs.GoMods.{reading_of, module_told}
-use Rattle.world.specs.Lines.{in_order}
+use Rattle.world.specs.GoMods.{reading_of}
 use Rattle.world.specs.Registry.{team_added, key_added, key_revoked, after_team_add, after_key_add, after_key_revoke}
-use Rattle.shelf.specs.Versions.{named, listed, highest, unretracted}
+use Rattle.shelf.specs.Listed.{listed}
 use Rattle.world.specs.declared.standing.Standing.{Standing}
 use Rattle.world.specs.declared.standing.Standing.TheVariants as standing
 use Rattle.world.specs.Standing.{standing_to, entry_seen}
-use Rattle.world.specs.Visible.{versions_seen, paths_seen}
+use Rattle.world.specs.Latest.{latest_of}
+use Rattle.world.specs.Versions.{versions_of}
+use Rattle.world.specs.Visible.{paths_seen}
 use Rattle.world.specs.World.{World, version_limit, place, view, heading, count, with_entry}
 
 -- ---- the checks of a publish
@@ -236,29 +235,6 @@ info_reply v (Some shown) = reply.Info v shown.time
 abbrev pub list_reply : List SemanticVersion → Reply
 list_reply [] = reply.NotFound
 list_reply (v ∷ vs) = reply.Versions (listed (v ∷ vs))
-
--- the versions of a path that a shelf sees
-abbrev pub versions_of : World → List ℕ → List ℕ → List SemanticVersion
-versions_of w s p = named (in_order (versions_seen w s p))
-
--- what the go.mod of a version says
-abbrev pub module_of : Option Heading → Option GoModule
-module_of None = None
-module_of (Some shown) = module_told (reading_of shown.gomod)
-
--- the highest of some versions that this go.mod does not retract
-abbrev pub highest_left : Option GoModule → List SemanticVersion → Option SemanticVersion
-highest_left None vs = None
-highest_left (Some m) vs = highest (unretracted m vs)
-
--- the same by the go.mod of this version, the highest
-abbrev pub latest_by : World → List ℕ → List ℕ → Option SemanticVersion → Option SemanticVersion
-latest_by w s p None = None
-latest_by w s p (Some top) = highest_left (module_of (heading w s p (version_text top))) (versions_of w s p)
-
--- the latest version of a path: the highest that the go.mod of the highest does not retract
-abbrev pub latest_of : World → List ℕ → List ℕ → Option SemanticVersion
-latest_of w s p = latest_by w s p (highest (versions_of w s p))
 
 -- the name and the time of the latest version
 abbrev pub latest_reply : World → List ℕ → List ℕ → Option SemanticVersion → Reply

@@ -1,28 +1,24 @@
 -- What a shelf is told of paths: which versions and paths it sees, the list of a path, and its latest version.
-use Rattle.std.specs.Prelude.{ℕ, ◌≡◌, ◌↔◌, ◌⊎◌, List, [], ◌∷◌, Option, Some, None, true, Contains}
+use Rattle.std.specs.Prelude.{ℕ, ◌≡◌, ◌↔◌, ◌⊎◌, List, Option, Some, None, true, Contains}
 use Rattle.std.specs.FinSet as set
 use Rattle.std.specs.declared.cmp.Ordering.TheVariants.{Less}
 use Rattle.gomod.specs.Module.{GoModule, IsRetracted}
 use Rattle.latest.specs.Latest.{Versions, IsTop}
 use Rattle.modver.specs.Class.{class_of}
 use Rattle.modver.specs.Precedence.{IsBelow}
-use Rattle.modver.specs.SemanticVersion.{SemanticVersion, IsVersion, version_text}
+use Rattle.modver.specs.SemanticVersion.{SemanticVersion, version_text}
 use Rattle.modver.specs.declared.version.Class.TheVariants as class
 use Rattle.world.specs.declared.entry.Seen.{Seen}
 use Rattle.shelf.specs.declared.ask.Query.TheVariants as query
 use Rattle.shelf.specs.declared.reply.Reply.TheVariants as reply
 use Rattle.world.specs.GoMods.{Says}
-use Rattle.world.specs.Lines.{in_order}
-use Rattle.shelf.specs.Machine.{query_reply, latest_of}
-use Rattle.shelf.specs.Versions.{version_cmp}
-use Rattle.world.specs.Visible.{versions_seen, paths_seen}
+use Rattle.world.specs.Lines.{in_order, EachToNext}
+use Rattle.shelf.specs.Machine.{query_reply}
+use Rattle.world.specs.Latest.{latest_of}
+use Rattle.world.specs.Visible.{IsSeen, seen_versions, versions_seen, paths_seen}
 use Rattle.world.specs.World.{World, IsWorld, text_cmp, view}
 
 -- ---- what a shelf sees
-
--- a shelf sees an entry at this version of a path
-abbrev pub IsSeen : World → List ℕ → List ℕ → List ℕ → Type 0
-IsSeen w s p v = (e : Seen) × (view w s p v ≡ Some e)
 
 -- The versions of a path are those at which the shelf sees an entry.
 abbrev pub VersionsAreSeen : Type 0
@@ -31,14 +27,6 @@ VersionsAreSeen = (w : World) (s p v : List ℕ) → (set.contains (versions_see
 -- The paths are those of which it sees some version.
 abbrev pub PathsAreSeen : Type 0
 PathsAreSeen = (w : World) (s p : List ℕ) → (set.contains (paths_seen w s) p ≡ true) ↔ ((v : List ℕ) × IsSeen w s p v)
-
--- ---- lists in order
-
--- each stands in this relation to the next
-abbrev pub EachToNext : {A : Type 0} → (A → A → Type 0) → List A → Type 0
-EachToNext R [] = Unit {0}
-EachToNext R (x ∷ []) = Unit {0}
-EachToNext R (x ∷ y ∷ ys) = R x y × EachToNext R (y ∷ ys)
 
 -- The paths that a shelf is told are those of which it sees some version, in the order of their bytes.
 pub record ArePaths (w : World) (s : List ℕ) (ps : List (List ℕ)) : Type 0 where
@@ -49,10 +37,6 @@ abbrev pub PathsAreTold : Type 0
 PathsAreTold = (w : World) (s : List ℕ) → (ps : set.FinSet text_cmp) × (query_reply w s query.Modules ≡ reply.Paths ps) × ArePaths w s (in_order ps)
 
 -- ---- the list of a path
-
--- the versions of a path that a shelf sees
-abbrev pub seen_versions : World → List ℕ → List ℕ → Versions
-seen_versions w s p v = IsVersion v × IsSeen w s p (version_text v)
 
 -- a release or a pre-release
 abbrev pub IsListed : SemanticVersion → Type 0
@@ -67,7 +51,7 @@ pub record AreListed (w : World) (s p : List ℕ) (vs : List SemanticVersion) : 
 abbrev pub ListIsTold : Type 0
 ListIsTold =
     (w : World) (s p v : List ℕ) → IsWorld w → IsSeen w s p v
-    → (vs : set.FinSet version_cmp) × (query_reply w s (query.List p) ≡ reply.Versions vs) × AreListed w s p (in_order vs)
+    → (vs : List SemanticVersion) × (query_reply w s (query.List p) ≡ reply.Versions vs) × AreListed w s p vs
 
 -- One that sees none of it, and no other, is told that there is none.
 abbrev pub ListIsNotFound : Type 0

@@ -1,24 +1,20 @@
 //! Answers to GETs over any store. (Go Modules Reference, "GOPROXY protocol".)
-ghost use Rattle.std.specs.Prelude.{◌≡◌, ℕ, List, IfOk};
+ghost use Rattle.std.specs.Prelude.{◌≡◌};
 ghost use Rattle.std.specs.FinMap as map;
 ghost use Rattle.shelf.specs.Machine as spec;
-ghost use Rattle.modver.specs.SemanticVersion.{version_text};
-ghost use Rattle.shelf.specs.Machine.{keyed_reply, query_reply, latest_of};
-ghost use Rattle.world.specs.World.{heading};
+ghost use Rattle.shelf.specs.Machine.{keyed_reply, query_reply};
 ghost use Rattle.world.specs.Store.{Reads, HasCause};
-ghost use Rattle.shelf.specs.Versions.{AllOf};
 
 use crate::ask::Query;
+use crate::listed::listed;
 use crate::reply::Reply;
-use crate::versions::{highest, highest_left, listed, named};
-use gomod::GoMod;
 use modpath::ModulePath;
 use modver::Version;
-use std::alloc::{AllocError, Global};
+use std::alloc::Global;
 use world::entry::{Heading, Seen};
-use world::reading::Reading;
 use world::registry::StoreFault;
 use world::shelves::Shelves;
+use world::version_list::Versions;
 
 /// Answers a GET.
 pub fn answer_query<S: Shelves>(
@@ -51,8 +47,8 @@ fn answer_from<S: Shelves>(
         Query::GoMod { path, version } => answer_gomod(shelves, shelf, path, version),
         Query::Zip { path, version } => answer_zip(shelves, shelf, path, version),
         Query::Info { path, version } => answer_info(shelves, shelf, path, version.copy(alloc)?),
-        Query::List { path } => answer_list(alloc, shelves, shelf, path),
-        Query::Latest { path } => answer_latest(alloc, shelves, shelf, path),
+        Query::List { path } => answer_list(shelves, shelf, path),
+        Query::Latest { path } => answer_latest(shelves, shelf, path),
         Query::Modules => Ok(Reply::Paths(shelves.paths(shelf)?)),
     }
 }
@@ -104,7 +100,6 @@ fn answer_info<S: Shelves>(
 
 /// Answers a GET of the list of a path.
 fn answer_list<S: Shelves>(
-    alloc: Global,
     shelves: &mut S,
     shelf: &str,
     path: &ModulePath,
@@ -113,9 +108,8 @@ fn answer_list<S: Shelves>(
         (λ w. query_reply w shelf.now (Query.List path.now)) }
     ensures cause { HasCause (S.failure_count shelves.old) (S.failure_count shelves.new) result }
 {
-    let texts = shelves.versions(shelf, path)?;
-    let versions = named(alloc, &texts)?;
-    Ok(list_reply(alloc, versions)?)
+    let versions = shelves.versions(shelf, path)?;
+    Ok(list_reply(versions))
 }
 
 fn info_reply(version: Version, heading: Option<Heading>) -> Reply
@@ -152,18 +146,17 @@ fn zip_reply(seen: Option<Seen>) -> Reply
 }
 
 /// The releases and pre-releases among the versions of a path, if it has any version.
-fn list_reply(alloc: Global, versions: Vec<Version>) -> Result<Reply, AllocError>
-    ensures { IfOk result (λ r. r ≡ spec.list_reply versions.items) }
+fn list_reply(versions: Versions) -> Reply
+    ensures { result ≡ spec.list_reply versions }
 {
-    if versions.is_empty() {
-        return Ok(Reply::NotFound);
+    if versions.as_slice().is_empty() {
+        return Reply::NotFound;
     }
-    Ok(Reply::Versions(listed(alloc, versions)?))
+    Reply::Versions(listed(versions))
 }
 
 /// Answers a GET of the latest version of a path.
 fn answer_latest<S: Shelves>(
-    alloc: Global,
     shelves: &mut S,
     shelf: &str,
     path: &ModulePath,
@@ -172,72 +165,8 @@ fn answer_latest<S: Shelves>(
         (λ w. query_reply w shelf.now (Query.Latest path.now)) }
     ensures cause { HasCause (S.failure_count shelves.old) (S.failure_count shelves.new) result }
 {
-    let Some(version) = latest_version(alloc, shelves, shelf, path)? else {
+    let Some(version) = shelves.latest(shelf, path)? else {
         return Ok(Reply::NotFound);
     };
     answer_info(shelves, shelf, path, version)
-}
-
-/// The highest version of a path that the go.mod of the highest does not retract.
-fn latest_version<S: Shelves>(
-    alloc: Global,
-    shelves: &mut S,
-    shelf: &str,
-    path: &ModulePath,
-) -> Result<Option<Version>, StoreFault>
-    ensures reads { Reads (S.shown shelves.old) (S.shown shelves.new) result (λ w. latest_of w shelf.now path.now) }
-    ensures cause { HasCause (S.failure_count shelves.old) (S.failure_count shelves.new) result }
-{
-    let texts = shelves.versions(shelf, path)?;
-    let versions = named(alloc, &texts)?;
-    let Some(newest) = highest(versions.as_slice()) else {
-        return Ok(None);
-    };
-    let gomod = gomod_at(alloc, shelves, shelf, path, newest)?;
-    Ok(latest_left(alloc, versions.as_slice(), gomod)?)
-}
-
-/// The highest of some versions of a path that a go.mod does not retract.
-fn latest_left(
-    alloc: Global,
-    versions: &[Version],
-    gomod: Option<GoMod>,
-) -> Result<Option<Version>, AllocError>
-    ensures { IfOk result (λ v. (path : List ℕ) → AllOf path versions.now → v ≡ spec.highest_left gomod versions.now) }
-{
-    let Some(gomod) = gomod else {
-        return Ok(None);
-    };
-    match highest_left(versions, &gomod) {
-        None => Ok(None),
-        Some(version) => Ok(Some(version.copy(alloc)?)),
-    }
-}
-
-/// What the go.mod of a version says that the shelf sees.
-fn gomod_at<S: Shelves>(
-    alloc: Global,
-    shelves: &mut S,
-    shelf: &str,
-    path: &ModulePath,
-    version: &Version,
-) -> Result<Option<GoMod>, StoreFault>
-    ensures reads { Reads (S.shown shelves.old) (S.shown shelves.new) result
-        (λ w. spec.module_of (heading w shelf.now path.now (version_text version.now))) }
-    ensures cause { HasCause (S.failure_count shelves.old) (S.failure_count shelves.new) result }
-{
-    Ok(gomod_in(alloc, shelves.heading(shelf, path, version)?)?)
-}
-
-/// What the go.mod of a version says.
-fn gomod_in(alloc: Global, heading: Option<Heading>) -> Result<Option<GoMod>, AllocError>
-    ensures { IfOk result (λ m. m ≡ spec.module_of heading) }
-{
-    let Some(heading) = heading else {
-        return Ok(None);
-    };
-    match Reading::of(alloc, heading.gomod.as_slice())? {
-        Reading::Module(gomod) => Ok(Some(gomod)),
-        Reading::Fault(_) => Ok(None),
-    }
 }

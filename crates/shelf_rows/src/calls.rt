@@ -82,6 +82,7 @@ fn of_path<S: Shelves>(alloc: Global, shelves: &mut S, call: &str) -> Result<Str
     match column(call, 0) {
         "count" => Ok(named(alloc, shelves.count(shelf, &path))?),
         "versions" => versions(alloc, shelves, shelf, &path),
+        "latest" => latest(alloc, shelves, shelf, &path),
         _ => of_version(alloc, shelves, &path, call),
     }
 }
@@ -94,6 +95,18 @@ fn versions<S: Shelves>(
 ) -> Result<String, Fail> {
     let lines = shelves.versions(shelf, path)?.lines(alloc)?;
     Ok(String::from_str(alloc, from_utf8(lines.as_slice())?)?)
+}
+
+fn latest<S: Shelves>(
+    alloc: Global,
+    shelves: &mut S,
+    shelf: &str,
+    path: &ModulePath,
+) -> Result<String, Fail> {
+    match shelves.latest(shelf, path)? {
+        Some(version) => Ok(String::from_str(alloc, version.as_str())?),
+        None => Ok(String::from_str(alloc, "none")?),
+    }
 }
 
 /// The answer to a call that names a version of the path too.

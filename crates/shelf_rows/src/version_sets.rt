@@ -1,7 +1,7 @@
 //! Versions in order. (SemVer 2.0.0, section 11.)
-use modver::Version;
-use shelf::version_set::VersionSet;
 use std::test::Fail;
+use world::text_set::TextSet;
+use world::versions::ascending;
 
 /// Versions in no order, one of them twice.
 const VERSIONS: &str = "\
@@ -32,13 +32,13 @@ v2.0.0+incompatible
 ";
 
 #[test]
-fn a_set_goes_by_precedence(rt: HostRuntime) -> Result<(), Fail> {
-    let mut set = VersionSet::new(rt.alloc());
-    assert!(rt; set.is_empty());
+fn versions_go_by_precedence(rt: HostRuntime) -> Result<(), Fail> {
+    let mut texts = TextSet::new(rt.alloc());
     for text in VERSIONS.lines() {
-        set.insert(Version::parse(rt.alloc(), text)?)?;
+        texts.insert(String::from_str(rt.alloc(), text)?)?;
     }
-    assert!(rt; !set.is_empty());
-    assert!(rt; set.lines(rt.alloc())?.as_slice() == ORDERED.as_bytes());
+    let versions = ascending(rt.alloc(), &texts)?;
+    assert!(rt; versions.as_slice().len() == 10);
+    assert!(rt; versions.lines(rt.alloc())?.as_slice() == ORDERED.as_bytes());
     Ok(())
 }

@@ -24,10 +24,13 @@ use std::alloc::Global;
 use world::counts::Counts;
 use world::entry::{EntryRef, Heading, Holder, Right, Seen};
 use world::names::{is_key, is_team_name};
+use world::reading::gomod_in;
 use world::registry::{Registered, StoreFault};
 use world::shelves::Shelves;
 use world::standing::Standing;
 use world::text_set::TextSet;
+use world::version_list::Versions;
+use world::versions::{highest, latest_left};
 
 /// Shelves whose entries and keys are rows of SQL tables.
 #[derive(Drop)]
@@ -118,11 +121,21 @@ impl<S: Alter> Shelves for SqlShelves<S> {
         }
     }
 
-    fn versions(&mut self, shelf: &str, path: &ModulePath) -> Result<TextSet, StoreFault> {
+    fn versions(&mut self, shelf: &str, path: &ModulePath) -> Result<Versions, StoreFault> {
         match find_versions(self.alloc, &mut self.conn, shelf, path.as_str()) {
             Ok(versions) => Ok(versions),
             Err(error) => Err(fault(&mut self.failures, error)),
         }
+    }
+
+    fn latest(&mut self, shelf: &str, path: &ModulePath) -> Result<Option<Version>, StoreFault> {
+        let versions = self.versions(shelf, path)?;
+        let Some(newest) = highest(versions.as_slice()) else {
+            return Ok(None);
+        };
+        let heading = self.heading(shelf, path, newest)?;
+        let gomod = gomod_in(self.alloc, heading)?;
+        Ok(latest_left(self.alloc, versions.as_slice(), gomod)?)
     }
 
     fn paths(&mut self, shelf: &str) -> Result<TextSet, StoreFault> {

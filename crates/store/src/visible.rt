@@ -7,7 +7,8 @@ ghost use Rattle.sqlite.specs.Held.{state};
 ghost use Rattle.sqlite.specs.Listing.{understood, reads_listing};
 ghost use Rattle.sqlite.specs.Values.{bound};
 ghost use Rattle.sqlite.proofs.Callers.{command_of};
-ghost use Rattle.world.specs.Visible.{versions_seen, paths_seen};
+ghost use Rattle.world.specs.Versions.{versions_of};
+ghost use Rattle.world.specs.Visible.{paths_seen};
 ghost use Rattle.tables.specs.Schema.{store_schema};
 ghost use Rattle.store.specs.Calls.{InEachWorld, Spares};
 ghost use Rattle.store.specs.Lists.{AddsTexts, AddsVersions, AddsPaths};
@@ -17,6 +18,8 @@ use sqlite::{Alter, Connection, Error, Row, params};
 use std::alloc::Global;
 use world::names::COMMON;
 use world::text_set::TextSet;
+use world::version_list::Versions;
+use world::versions::ascending;
 
 /// The rows of the answer to a query.
 fn find_rows<S: Alter>(
@@ -84,21 +87,21 @@ fn add_paths<S: Alter>(
     add_texts(texts, rows.as_slice())
 }
 
-/// The versions of a path that a shelf sees: its own and those of `common`.
+/// The versions of a path that a shelf sees, its own and those of `common`, in ascending precedence.
 pub(crate) fn find_versions<S: Alter>(
     alloc: Global,
     conn: &mut Connection<S>,
     shelf: &str,
     path: &str,
-) -> Result<TextSet, Error>
+) -> Result<Versions, Error>
     ensures spares { Spares (state S.Store conn.old) (state S.Store conn.new) }
     ensures answer { InEachWorld (state S.Store conn.old) (state S.Store conn.new) (λ _ _ w.
-        IfOk result (λ texts. texts ≡ versions_seen w shelf.now path.now)) }
+        IfOk result (λ versions. versions ≡ versions_of w shelf.now path.now)) }
 {
     let mut texts = TextSet::new(alloc);
     add_versions(conn, shelf, path, &mut texts)?;
     add_versions(conn, COMMON, path, &mut texts)?;
-    Ok(texts)
+    Ok(ascending(alloc, &texts)?)
 }
 
 /// The paths that a shelf sees: its own and those of `common`.

@@ -13,6 +13,13 @@ pub mod PathForm
 pub mod EntryTests
 pub mod Retained
 pub mod Seen
+pub mod Members
+pub mod VersionOrder
+pub mod Precedence
+pub mod SeenVersions
+pub mod Highest
+pub mod Tops
+pub mod Newest
 pub mod Sound
 pub mod Counted
 pub mod Sees

@@ -1,8 +1,9 @@
--- The code of a world, by which a proof tells worlds apart.
+-- The codes of a world and of a version, by which a proof tells them apart.
 use Rattle.std.specs.Prelude.{ℕ, List, Bool, true, false, refl, ◌≡◌, Option}
 use Rattle.std.specs.Coded.{Coded, code_by, coded×, coded_ℕ, coded_list, coded_bool, coded_option}
 use Rattle.std.specs.FinMap as map
 use Rattle.std.specs.FinSet as set
+use Rattle.modver.specs.SemanticVersion.{SemanticVersion}
 use Rattle.world.specs.declared.entry.Place.{Place}
 use Rattle.world.specs.declared.entry.Entry.{Entry}
 use Rattle.world.specs.declared.entry.Holder.{Holder}
@@ -12,6 +13,12 @@ use Rattle.world.specs.World.{World, text_cmp, place_cmp}
 
 abbrev pub text_code : Coded (List ℕ)
 text_code = coded_list coded_ℕ
+
+abbrev pub version_code : Coded SemanticVersion
+version_code =
+    code_by (ℕ × (ℕ × (ℕ × (List (List ℕ) × Bool)))) (coded× coded_ℕ (coded× coded_ℕ (coded× coded_ℕ (coded× (coded_list text_code) coded_bool))))
+    (λ v. (v.major, (v.minor, (v.patch, (v.identifiers, v.marked)))))
+    (λ p. record { major = p.0; minor = p.1.0; patch = p.1.1.0; identifiers = p.1.1.1.0; marked = p.1.1.1.1 }) (λ _. refl)
 
 abbrev may_publish : Right → Bool
 may_publish Reads = false

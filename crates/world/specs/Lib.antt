@@ -10,6 +10,8 @@ pub mod Registry
 pub mod EntryTest
 pub mod Code
 pub mod Visible
+pub mod Versions
+pub mod Latest
 pub mod Store
 pub mod Kept
 pub mod Counts

@@ -13,6 +13,12 @@ bare (k ∷ ks) = (k, tt) ∷ bare ks
 unfoldable pub in_order : {K : Type 0} {R : K → K → Ordering} → set.FinSet R → List K
 in_order {R = R} s = map.keys (map.from_entries {R = R} (bare (set.items s)))
 
+-- each stands in this relation to the next
+abbrev pub EachToNext : {A : Type 0} → (A → A → Type 0) → List A → Type 0
+EachToNext R [] = Unit {0}
+EachToNext R (x ∷ []) = Unit {0}
+EachToNext R (x ∷ y ∷ ys) = R x y × EachToNext R (y ∷ ys)
+
 -- texts, each ended by a newline
 abbrev pub lines_of : List (List ℕ) → List ℕ
 lines_of [] = []

@@ -1,6 +1,7 @@
 //! What holds of worlds by their definitions alone.
 ghost use Rattle.world.specs.EntryTest.{EntryTestIsExact};
 ghost use Rattle.world.specs.Part.{PartIsWorld, PartHasTheChain};
+ghost use Rattle.world.specs.Versions.{VersionsAscend};
 
 /// The test of an entry passes exactly those that may stand at their place.
 pub fn entry_tests()
@@ -11,4 +12,9 @@ pub fn entry_tests()
 pub fn parts()
     ensures world { PartIsWorld }
     ensures chain { PartHasTheChain }
+{}
+
+/// The versions of a path that a shelf sees stand in their list once each, each below the next. (SemVer 2.0.0, section 11.)
+pub fn versions_ascend()
+    ensures { VersionsAscend }
 {}

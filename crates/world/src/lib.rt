@@ -17,8 +17,8 @@
 //! publish and for a store that takes over tables, and [`laws`] says that they are exact. [`entry`] has what stands
 //! on a shelf and what a key holds, [`names`] the rules of team names and keys, [`forms`] the path and the version
 //! that a text is, [`reading`] what a go.mod says, [`standing`] how an entry that is handed in stands to what is
-//! there, and [`registry`] what a command of the registry comes to and why a store fails; contracts see the types of
-//! [`bytes`] and [`text_set`] as lists and sets.
+//! there, [`versions`] the order of versions and the choice of the latest, and [`registry`] what a command of the registry
+//! comes to and why a store fails; contracts see the types of [`bytes`], [`version_list`] and [`text_set`] as lists and sets.
 #![tactic(auto)]
 
 pub mod bytes;
@@ -35,3 +35,6 @@ pub mod registry;
 pub mod shelves;
 pub mod standing;
 pub mod text_set;
+pub mod version_list;
+mod version_set;
+pub mod versions;

@@ -3,16 +3,20 @@ ghost use Rattle.std.specs.Prelude.{◌≡◌, option_copied, option_map, IfOk, 
 ghost use Rattle.std.specs.FinMap as map;
 ghost use Rattle.modver.specs.SemanticVersion.{version_text};
 ghost use Rattle.world.specs.Standing.{standing};
+ghost use Rattle.world.specs.Visible.{versions_seen};
 ghost use Rattle.world.specs.World.{only_common, place, seen_at, heading_of, count};
 
 use crate::entry::{Entry, EntryRef, Heading, Holder, Right, Seen};
 use crate::maps::entry_map::EntryMap;
 use crate::maps::text_map::TextMap;
 use crate::names::{COMMON, is_key, is_team_name};
+use crate::reading::gomod_in;
 use crate::registry::{Registered, StoreFault};
 use crate::shelves::Shelves;
 use crate::standing::{Standing, standing_to};
 use crate::text_set::TextSet;
+use crate::version_list::Versions;
+use crate::versions::{ascending, highest, latest_left};
 use modpath::ModulePath;
 use modver::Version;
 use std::alloc::{AllocError, Global};
@@ -59,6 +63,18 @@ impl MapShelves {
         ensures { option_copied result ≡ map.get self.now.entries (place shelf.now path.now (version_text version.now)) }
     {
         self.entries.get(shelf, path.as_str(), version.as_str())
+    }
+
+    /// The texts of the versions of a path that a shelf sees.
+    fn texts_of(&self, shelf: &str, path: &str) -> Result<TextSet, AllocError>
+        ensures { IfOk result (λ texts. texts ≡ versions_seen self.now shelf.now path.now) }
+    {
+        let mut texts = TextSet::new(self.alloc);
+        self.entries
+            .add_versions(self.alloc, shelf, path, &mut texts)?;
+        self.entries
+            .add_versions(self.alloc, COMMON, path, &mut texts)?;
+        Ok(texts)
     }
 
     /// A copy of what stands on a shelf.
@@ -169,14 +185,19 @@ impl Shelves for MapShelves {
         }
     }
 
-    fn versions(&mut self, shelf: &str, path: &ModulePath) -> Result<TextSet, StoreFault> {
-        let mut versions = TextSet::new(self.alloc);
-        let path = path.as_str();
-        self.entries
-            .add_versions(self.alloc, shelf, path, &mut versions)?;
-        self.entries
-            .add_versions(self.alloc, COMMON, path, &mut versions)?;
-        Ok(versions)
+    fn versions(&mut self, shelf: &str, path: &ModulePath) -> Result<Versions, StoreFault> {
+        let texts = self.texts_of(shelf, path.as_str())?;
+        Ok(ascending(self.alloc, &texts)?)
+    }
+
+    fn latest(&mut self, shelf: &str, path: &ModulePath) -> Result<Option<Version>, StoreFault> {
+        let versions = self.versions(shelf, path)?;
+        let Some(newest) = highest(versions.as_slice()) else {
+            return Ok(None);
+        };
+        let heading = self.heading(shelf, path, newest)?;
+        let gomod = gomod_in(self.alloc, heading)?;
+        Ok(latest_left(self.alloc, versions.as_slice(), gomod)?)
     }
 
     fn paths(&mut self, shelf: &str) -> Result<TextSet, StoreFault> {

@@ -1,7 +1,9 @@
-//! What a go.mod says to a publish.
+//! What a go.mod says.
 ghost use Rattle.std.specs.Prelude.{◌≡◌, IfOk};
 ghost use Rattle.world.specs.GoMods.{reading_of};
+ghost use Rattle.world.specs.Latest.{module_of};
 
+use crate::entry::Heading;
 use gomod::{GoMod, GoModFault};
 use std::alloc::{AllocError, Global};
 
@@ -24,5 +26,18 @@ impl Reading {
             Err(GoModFault::Memory) => Err(AllocError),
             Err(fault) => Ok(Reading::Fault(fault.line())),
         }
+    }
+}
+
+/// What the go.mod of a version says.
+pub fn gomod_in(alloc: Global, heading: Option<Heading>) -> Result<Option<GoMod>, AllocError>
+    ensures { IfOk result (λ m. m ≡ module_of heading) }
+{
+    let Some(heading) = heading else {
+        return Ok(None);
+    };
+    match Reading::of(alloc, heading.gomod.as_slice())? {
+        Reading::Module(gomod) => Ok(Some(gomod)),
+        Reading::Fault(_) => Ok(None),
     }
 }

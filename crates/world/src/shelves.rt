@@ -3,6 +3,7 @@ use crate::entry::{EntryRef, Heading, Holder, Right, Seen};
 use crate::registry::{Registered, StoreFault};
 use crate::standing::Standing;
 use crate::text_set::TextSet;
+use crate::version_list::Versions;
 use modpath::ModulePath;
 use modver::Version;
 
@@ -15,7 +16,9 @@ pub trait Shelves {
     ghost use Rattle.world.specs.World.{World, IsWorld, place, view, heading, count, with_entry};
     ghost use Rattle.world.specs.Registry.{team_added, after_team_add, key_added, after_key_add, key_revoked, after_key_revoke};
     ghost use Rattle.world.specs.Standing.{standing};
-    ghost use Rattle.world.specs.Visible.{versions_seen, paths_seen};
+    ghost use Rattle.world.specs.Latest.{latest_of};
+    ghost use Rattle.world.specs.Versions.{versions_of};
+    ghost use Rattle.world.specs.Visible.{paths_seen};
     ghost use Rattle.world.specs.Store.{Shown, Does, DoesWhere, Reads, IsRoomFor, HasCause};
 
     /// What is known of it.
@@ -64,9 +67,15 @@ pub trait Shelves {
         ensures reads { Reads (shown self.old) (shown self.new) result (λ w. standing w shelf.now path.now (version_text version.now) entry.now) }
         ensures cause { HasCause (failure_count self.old) (failure_count self.new) result };
 
-    /// The texts of the versions of the path that the shelf sees.
-    fn versions(&mut self, shelf: &str, path: &ModulePath) -> Result<TextSet, StoreFault>
-        ensures reads { Reads (shown self.old) (shown self.new) result (λ w. versions_seen w shelf.now path.now) }
+    /// The versions of the path that the shelf sees, each once, in ascending precedence. (SemVer 2.0.0, section 11.)
+    fn versions(&mut self, shelf: &str, path: &ModulePath) -> Result<Versions, StoreFault>
+        ensures reads { Reads (shown self.old) (shown self.new) result (λ w. versions_of w shelf.now path.now) }
+        ensures cause { HasCause (failure_count self.old) (failure_count self.new) result };
+
+    /// The latest version of the path: of those that the shelf sees the highest by rank that the go.mod of the highest
+    /// does not retract. (Go Modules Reference, "GOPROXY protocol", on `@latest`.)
+    fn latest(&mut self, shelf: &str, path: &ModulePath) -> Result<Option<Version>, StoreFault>
+        ensures reads { Reads (shown self.old) (shown self.new) result (λ w. latest_of w shelf.now path.now) }
         ensures cause { HasCause (failure_count self.old) (failure_count self.new) result };
 
     /// The paths that the shelf sees.

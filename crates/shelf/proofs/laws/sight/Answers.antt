@@ -1,4 +1,5 @@
-use Rattle.shelf.proofs.Told.{versions_are_seen, paths_are_seen, paths_are_told}
+use Rattle.world.proofs.SeenVersions.{versions_are_seen}
+use Rattle.shelf.proofs.Told.{paths_are_seen, paths_are_told}
 use Rattle.shelf.proofs.laws.sight.Goals as goal
 
 pub returns : goal.returns

@@ -1,0 +1,66 @@
+use Rattle.std.proofs.Common.{rules, List, ℕ, Some, None, ◌≡◌}
+use Rattle.sqlite.specs.Held.{state}
+use Rattle.world.specs.Latest.{AllOf, highest}
+use Rattle.world.proofs.Newest.{none_read, latest_read}
+use Rattle.store.specs.Calls.{shown_with}
+use Rattle.store.proofs.store.SqlShelvesShelves.latest.Goals as goal
+
+pub returns-in_default-clause-reads : goal.returns-in_default-clause-reads
+returns-in_default-clause-reads g c =
+    let vs = c.in_ok-versions.versions in
+    let none : (path : List ℕ) → AllOf path vs → None ≡ highest vs = rw c.as_slice.ensures at c.in_default.ensures in
+    none_read (shown_with (state g.S.Store c.args.self.now.conn) c.args.self.now.counts) _ (λ w stands. stands.0.1) c.args.shelf.now c.args.path.now vs
+    c.in_ok-versions.ensures.reads none
+
+pub returns-clause-reads : goal.returns-clause-reads
+returns-clause-reads g c =
+    let vs = c.in_ok-versions.versions in
+    let top : (path : List ℕ) → AllOf path vs → Some c.in-Some.newest.now ≡ highest vs = rw c.as_slice.ensures at c.in-Some.ensures in
+    let left = rw c.as_slice-2.ensures at c.in_ok-latest_left.ensures in
+    latest_read (shown_with (state g.S.Store c.args.self.now.conn) c.args.self.now.counts) _ (λ w stands. stands.0.1) c.args.shelf.now c.args.path.now vs
+    c.in_ok-versions.ensures.reads _ c.in-Some.newest.now c.in_ok-heading.heading c.in_ok-gomod.gomod _ top c.in_ok-heading.ensures.reads c.in_ok-gomod.ensures
+    left
+
+pub returns-in_err-versions-clause-reads : goal.returns-in_err-versions-clause-reads
+returns-in_err-versions-clause-reads g c =
+    let read = c.in_err-versions.ensures.reads in
+    record {
+      honest = read.honest;
+      at = λ h w stands. let told = read.at h w stands in record { answer = search rules; stays = told.stays; left = told.left };
+    }
+
+pub returns-in_err-heading-clause-reads : goal.returns-in_err-heading-clause-reads
+returns-in_err-heading-clause-reads g c =
+    let read = c.in_ok-versions.ensures.reads in
+    let then = c.in_err-heading.ensures.reads in
+    record {
+      honest = λ h. read.honest (then.honest h);
+      at = λ h w stands.
+          let told = read.at (then.honest h) w stands in
+          let seen = then.at h w told.stays in
+          record { answer = search rules; stays = seen.stays; left = λ x y was. seen.left x y (told.left x y was) };
+    }
+
+pub returns-in_err-gomod-clause-reads : goal.returns-in_err-gomod-clause-reads
+returns-in_err-gomod-clause-reads g c =
+    let read = c.in_ok-versions.ensures.reads in
+    let then = c.in_ok-heading.ensures.reads in
+    record {
+      honest = λ h. read.honest (then.honest h);
+      at = λ h w stands.
+          let told = read.at (then.honest h) w stands in
+          let seen = then.at h w told.stays in
+          record { answer = search rules; stays = seen.stays; left = λ x y was. seen.left x y (told.left x y was) };
+    }
+
+pub returns-in_err-latest_left-clause-reads : goal.returns-in_err-latest_left-clause-reads
+returns-in_err-latest_left-clause-reads g c =
+    let read = c.in_ok-versions.ensures.reads in
+    let then = c.in_ok-heading.ensures.reads in
+    record {
+      honest = λ h. read.honest (then.honest h);
+      at = λ h w stands.
+          let told = read.at (then.honest h) w stands in
+          let seen = then.at h w told.stays in
+          record { answer = search rules; stays = seen.stays; left = λ x y was. seen.left x y (told.left x y was) };
+    }

@@ -1,0 +1,48 @@
+-- The latest version of a path, by what was read of a store.
+use Rattle.std.proofs.Common.{◌≡◌, ℕ, List, sym, ap, subst, ◌∙◌, Option, Some, None, Ok}
+use Rattle.gomod.specs.Module.{GoModule}
+use Rattle.modver.specs.SemanticVersion.{SemanticVersion, version_text}
+use Rattle.world.specs.declared.entry.Heading.{Heading}
+use Rattle.world.specs.Latest.{AllOf, highest, module_of, highest_left, latest_by, latest_of}
+use Rattle.world.specs.Store.{Shown, Reads}
+use Rattle.world.specs.Versions.{versions_of}
+use Rattle.world.specs.World.{World, IsWorld, heading}
+use Rattle.world.proofs.SeenVersions.{versions_fit}
+
+-- the versions of a path were read
+module _ (old mid : Shown) (sound : (w : World) → old.stands w → IsWorld w) (s p : List ℕ) (vs : List SemanticVersion) (read : Reads old mid (Ok vs) (λ w. versions_of w s p)) where
+  -- in a world they fit the path
+  all_fit : (w : World) → old.stands w → vs ≡ versions_of w s p → AllOf p vs
+  all_fit w stands are = subst (AllOf p) (sym are) (versions_fit w (sound w stands) s p)
+
+  pub none_read : ((path : List ℕ) → AllOf path vs → None ≡ highest vs) → Reads old mid (Ok None) (λ w. latest_of w s p)
+  none_read none = record {
+    honest = read.honest;
+    at = λ h w stands.
+        let told = read.at h w stands in
+        record {
+          answer = ap (latest_by w s p) (none p (all_fit w stands told.answer) ∙ ap highest told.answer);
+          stays = told.stays;
+          left = told.left;
+        };
+  }
+
+  -- and then the go.mod of the highest
+  pub latest_read : (new : Shown) (top : SemanticVersion) (shown : Option Heading) (m : Option GoModule) (v : Option SemanticVersion)
+      → ((path : List ℕ) → AllOf path vs → Some top ≡ highest vs) → Reads mid new (Ok shown) (λ w. heading w s p (version_text top))
+      → m ≡ module_of shown → ((path : List ℕ) → AllOf path vs → v ≡ highest_left m vs) → Reads old new (Ok v) (λ w. latest_of w s p)
+  latest_read new top shown m v is_top then is_read is_latest = record {
+    honest = λ h. read.honest (then.honest h);
+    at = λ h w stands.
+        let told = read.at (then.honest h) w stands in
+        let seen = then.at h w told.stays in
+        let all = all_fit w stands told.answer in
+        record {
+          answer =
+              is_latest p all ∙ ap (highest_left m) told.answer
+              ∙ ap (λ o. highest_left o (versions_of w s p)) (is_read ∙ ap module_of seen.answer)
+              ∙ ap (latest_by w s p) (is_top p all ∙ ap highest told.answer);
+          stays = seen.stays;
+          left = λ x y was. seen.left x y (told.left x y was);
+        };
+  }

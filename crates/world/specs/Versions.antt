@@ -1,0 +1,54 @@
+-- Versions in the order of their precedence, and those of a path that a shelf sees.
+use Rattle.std.specs.Prelude.{ℕ, ◌↔◌, List, [], ◌∷◌, Contains, Option, Some, None}
+use Rattle.std.proofs.lemmas.Cmp.{nat_list_cmp_total, on_total, then_total}
+use Rattle.std.specs.Cmp.{IsTotalOrder}
+use Rattle.std.specs.Cmp.Lexicographic.{slice_cmp}
+use Rattle.std.specs.FinSet as set
+use Rattle.std.specs.Ordering.{nat_cmp, on, then_cmp}
+use Rattle.std.specs.declared.cmp.Ordering.{Ordering}
+use Rattle.modver.proofs.StrictOrders.{precedence_total}
+use Rattle.modver.specs.Precedence.{IsBelow, precedence}
+use Rattle.modver.specs.Reading.{version_of}
+use Rattle.modver.specs.SemanticVersion.{SemanticVersion, version_text}
+use Rattle.world.specs.Lines.{in_order, EachToNext}
+use Rattle.world.specs.Visible.{seen_versions, versions_seen}
+use Rattle.world.specs.World.{World, IsWorld}
+
+-- ---- what texts name
+
+abbrev pub with_version : Option SemanticVersion → List SemanticVersion → List SemanticVersion
+with_version None vs = vs
+with_version (Some v) vs = v ∷ vs
+
+-- the versions that texts name
+abbrev pub named : List (List ℕ) → List SemanticVersion
+named [] = []
+named (t ∷ ts) = with_version (version_of t) (named ts)
+
+-- ---- by precedence
+
+-- the order of precedence, and where that is equal of the texts
+abbrev pub version_cmp : SemanticVersion → SemanticVersion → Ordering
+version_cmp = then_cmp precedence (on version_text (slice_cmp nat_cmp))
+
+-- it is a total order
+pub versions_total : IsTotalOrder version_cmp
+versions_total = then_total precedence_total (on_total version_text nat_list_cmp_total)
+
+-- the versions of a list by precedence, each once
+abbrev pub by_precedence : List SemanticVersion → set.FinSet version_cmp
+by_precedence [] = set.empty
+by_precedence (v ∷ vs) = set.insert (by_precedence vs) v
+
+-- the versions of a path that a shelf sees, in ascending precedence
+abbrev pub versions_of : World → List ℕ → List ℕ → List SemanticVersion
+versions_of w s p = in_order (by_precedence (named (in_order (versions_seen w s p))))
+
+-- these are the versions of a path that a shelf sees, each below the next
+pub record AreVersions (w : World) (s p : List ℕ) (vs : List SemanticVersion) : Type 0 where
+  pub members : (v : SemanticVersion) → Contains vs v ↔ seen_versions w s p v
+  pub ascend : EachToNext IsBelow vs
+
+-- So it is in a world.
+abbrev pub VersionsAscend : Type 0
+VersionsAscend = (w : World) (s p : List ℕ) → IsWorld w → AreVersions w s p (versions_of w s p)

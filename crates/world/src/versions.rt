@@ -1,0 +1,80 @@
+//! The versions that texts name, by their precedence, and the highest of them by rank.
+ghost use Rattle.std.specs.Prelude.{◌≡◌, ℕ, List, IfOk, option_copied};
+ghost use Rattle.world.specs.Latest as spec;
+ghost use Rattle.world.specs.Latest.{AllOf};
+ghost use Rattle.world.specs.Lines.{in_order};
+ghost use Rattle.world.specs.Versions.{named, by_precedence};
+
+use crate::forms::version_of;
+use crate::text_set::TextSet;
+use crate::version_list::Versions;
+use crate::version_set::VersionSet;
+use gomod::GoMod;
+use latest::{latest, top};
+use modver::Version;
+use std::alloc::{AllocError, Global};
+
+/// The versions that texts name, in the order of the texts.
+fn named(alloc: Global, texts: &TextSet) -> Result<Vec<Version>, AllocError>
+    ensures { IfOk result (λ vs. vs.items ≡ named (in_order texts.now)) }
+{
+    let mut versions = Vec::new(alloc);
+    for text in texts.iter() {
+        if let Some(version) = version_of(alloc, text.as_str())? {
+            versions.push(version)?;
+        }
+    }
+    Ok(versions)
+}
+
+/// The versions of a list by precedence, each once.
+fn by_precedence(alloc: Global, mut versions: Vec<Version>) -> Result<VersionSet, AllocError>
+    ensures { IfOk result (λ s. s ≡ by_precedence versions.items) }
+{
+    let mut set = VersionSet::new(alloc);
+    while let Some(version) = versions.pop() {
+        set.insert(version)?;
+    }
+    Ok(set)
+}
+
+/// The versions that texts name, in ascending precedence. (SemVer 2.0.0, section 11.)
+pub fn ascending(alloc: Global, texts: &TextSet) -> Result<Versions, AllocError>
+    ensures { IfOk result (λ vs. vs ≡ in_order (by_precedence (named (in_order texts.now)))) }
+{
+    let named = named(alloc, texts)?;
+    by_precedence(alloc, named)?.into_list(alloc)
+}
+
+/// The highest of some versions of a path, by rank. It takes no memory.
+pub fn highest(versions: &[Version]) -> Option<&Version>
+    ensures { (path : List ℕ) → AllOf path versions.now → option_copied result ≡ spec.highest versions.now }
+{
+    let place = top(versions)?;
+    versions.get(place)
+}
+
+/// The highest of those that a go.mod does not retract. It takes no memory.
+pub fn highest_left<'a>(versions: &'a [Version], gomod: &GoMod) -> Option<&'a Version>
+    ensures { (path : List ℕ) → AllOf path versions.now → option_copied result ≡ spec.highest (spec.unretracted gomod.now versions.now) }
+{
+    let place = latest(versions, gomod)?;
+    versions.get(place)
+}
+
+/// The highest of some versions of a path that a go.mod does not retract.
+pub fn latest_left(
+    alloc: Global,
+    versions: &[Version],
+    gomod: Option<GoMod>,
+) -> Result<Option<Version>, AllocError>
+    ensures { IfOk result (λ v. (path : List ℕ) → AllOf path versions.now → v ≡ spec.highest_left gomod versions.now) }
+{
+    let Some(gomod) = gomod else {
+        return Ok(None);
+    };
+    match highest_left(versions, &gomod) {
+        None => Ok(None),
+        Some(version) => Ok(Some(version.copy(alloc)?)),
+    }
+}

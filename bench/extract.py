@@ -18,7 +18,7 @@ import tempfile
 import time
 from collections import namedtuple
 
-from store import BLOCK, PROGRAM, TABLES, answered, gomod
+from store import BLOCK, PROGRAM, TABLES, answered, gomod, keys
 
 ROUNDS = 5
 TEAMS = [f"team{n}" for n in range(10)]
@@ -56,9 +56,9 @@ def filled(file, entries):
         conn.execute("INSERT INTO access VALUES (?, ?, 1)", (f"{team}key0000000001", team))
     for n in range(entries):
         team, place = TEAMS[n % len(TEAMS)], n // len(TEAMS)
-        path = f"example.com/m{place // OF_A_PATH}"
-        row = (team, path, f"v1.0.{place % OF_A_PATH}", gomod(path))
-        number = conn.execute("INSERT INTO version (shelf, path, version, mod) VALUES (?, ?, ?, ?)", row).lastrowid
+        path, version = f"example.com/m{place // OF_A_PATH}", f"v1.0.{place % OF_A_PATH}"
+        row = (team, path, version, gomod(path), *keys(version))
+        number = conn.execute("INSERT INTO version (shelf, path, version, mod, order_key, rank_key) VALUES (?, ?, ?, ?, ?, ?)", row).lastrowid
         conn.execute("INSERT INTO body VALUES (?, ?)", (number, BLOCK))
     conn.execute("COMMIT")
     conn.close()
@@ -124,7 +124,7 @@ def copied(whole, part):
 def rows(file):
     """What a store has, without the numbers of its rows."""
     conn = sqlite3.connect(file)
-    versions = "SELECT shelf, path, version, time, mod, zip FROM version JOIN body USING (id) ORDER BY shelf, path, version"
+    versions = "SELECT shelf, path, version, time, mod, order_key, rank_key, zip FROM version JOIN body USING (id) ORDER BY shelf, path, version"
     found = [conn.execute(query).fetchall() for query in ("SELECT * FROM shelf ORDER BY name", "SELECT * FROM access ORDER BY token", versions)]
     conn.close()
     return found

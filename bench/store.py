@@ -21,9 +21,9 @@ TABLES = """
 CREATE TABLE meta (name TEXT PRIMARY KEY, value INTEGER NOT NULL) STRICT;
 CREATE TABLE shelf (name TEXT PRIMARY KEY) STRICT;
 CREATE TABLE access (token TEXT PRIMARY KEY, shelf TEXT NOT NULL REFERENCES shelf (name), publish INTEGER NOT NULL CHECK (publish IN (0, 1))) STRICT;
-CREATE TABLE version (id INTEGER PRIMARY KEY, shelf TEXT NOT NULL REFERENCES shelf (name), path TEXT NOT NULL, version TEXT NOT NULL, time TEXT, mod BLOB NOT NULL, UNIQUE (shelf, path, version)) STRICT;
+CREATE TABLE version (id INTEGER PRIMARY KEY, shelf TEXT NOT NULL REFERENCES shelf (name), path TEXT NOT NULL, version TEXT NOT NULL, time TEXT, mod BLOB NOT NULL, order_key BLOB NOT NULL, rank_key BLOB NOT NULL, UNIQUE (shelf, path, version)) STRICT;
 CREATE TABLE body (id INTEGER PRIMARY KEY REFERENCES version (id), zip BLOB NOT NULL) STRICT;
-INSERT INTO meta VALUES ('schema', 1);
+INSERT INTO meta VALUES ('schema', 2);
 INSERT INTO shelf VALUES ('common'), ('alpha');
 INSERT INTO access VALUES ('alphakey00000001', 'alpha', 1);
 """
@@ -32,6 +32,12 @@ INSERT INTO access VALUES ('alphakey00000001', 'alpha', 1);
 def place(n):
     """The path and the version of the nth entry, with at most 4,000 versions to a path."""
     return f"example.com/m{n // 4000}", f"v1.0.{n % 4000}"
+
+
+def keys(version):
+    """The order_key and the rank_key of a release."""
+    order = b"".join(int(number).to_bytes(8, "big") for number in version[1:].split(".")) + b"\3"
+    return order, b"\3" + order
 
 
 def gomod(path):
@@ -60,8 +66,8 @@ def made(file):
 
 def insert(conn, n, zip_length):
     path, version = place(n)
-    row = ("alpha", path, version, gomod(path))
-    number = conn.execute("INSERT INTO version (shelf, path, version, mod) VALUES (?, ?, ?, ?)", row).lastrowid
+    row = ("alpha", path, version, gomod(path), *keys(version))
+    number = conn.execute("INSERT INTO version (shelf, path, version, mod, order_key, rank_key) VALUES (?, ?, ?, ?, ?, ?)", row).lastrowid
     conn.execute("INSERT INTO body VALUES (?, ?)", (number, BLOCK * (zip_length // len(BLOCK))))
 
 

@@ -39,6 +39,12 @@ def wants(cause, wanted, told):
     print(f"{'ok   ' if told == wanted else 'WRONG'} {wanted or 'done':10} {cause}" + ("" if told == wanted else f": {told!r}"))
 
 
+def keys(version):
+    """The order_key and the rank_key of a release."""
+    order = b"".join(int(number).to_bytes(8, "big") for number in version[1:].split(".")) + b"\3"
+    return order, b"\3" + order
+
+
 def new_store(name):
     for line in ("init", "team-add --team alpha", f"key-add --shelf alpha --key {KEY}"):
         assert word(f"{line} --db {name}") == ""
@@ -58,7 +64,7 @@ TAKE_OVER = (
     "BEGIN",
     "INSERT INTO shelf SELECT name FROM f.shelf WHERE name <> 'common'",
     "INSERT INTO access (token, shelf, publish) SELECT token, shelf, publish FROM f.access",
-    "INSERT INTO version (id, shelf, path, version, time, mod) SELECT id, shelf, path, version, time, mod FROM f.version",
+    "INSERT INTO version (id, shelf, path, version, time, mod, order_key, rank_key) SELECT id, shelf, path, version, time, mod, order_key, rank_key FROM f.version",
     "INSERT INTO body (id, zip) SELECT id, zip FROM f.body",
     "COMMIT",
 )
@@ -172,7 +178,7 @@ def numbers():
     open("n.mod", "wb").write(mod)
 
     def add(number, version):
-        row = ["INSERT INTO version VALUES (?, 'alpha', 'example.com/n', ?, NULL, ?)", number, version, mod]
+        row = ["INSERT INTO version VALUES (?, 'alpha', 'example.com/n', ?, NULL, ?, ?, ?)", number, version, mod, *keys(version)]
         change("v.db", row, ["INSERT INTO body VALUES (?, X'')", number])
 
     def published(version):
@@ -250,7 +256,7 @@ def memory():
     new_store("m.db")
     change(
         "m.db",
-        ["INSERT INTO version VALUES (1, 'alpha', 'example.com/big', 'v1.0.0', NULL, ?)", b"module example.com/big\n"],
+        ["INSERT INTO version VALUES (1, 'alpha', 'example.com/big', 'v1.0.0', NULL, ?, ?, ?)", b"module example.com/big\n", *keys("v1.0.0")],
         ["INSERT INTO body VALUES (1, ?)", os.urandom(16_000_000)],
     )
     wants("the system gave no memory", "memory", word("team-add --db m.db --team beta", before=limit))

@@ -11,12 +11,26 @@ const TABLES: &str = "\
 CREATE TABLE meta (name TEXT PRIMARY KEY, value INTEGER NOT NULL) STRICT;
 CREATE TABLE shelf (name TEXT PRIMARY KEY) STRICT;
 CREATE TABLE access (token TEXT PRIMARY KEY, shelf TEXT NOT NULL REFERENCES shelf (name), publish INTEGER NOT NULL CHECK (publish IN (0, 1))) STRICT;
-CREATE TABLE version (id INTEGER PRIMARY KEY, shelf TEXT NOT NULL REFERENCES shelf (name), path TEXT NOT NULL, version TEXT NOT NULL, time TEXT, mod BLOB NOT NULL, UNIQUE (shelf, path, version)) STRICT;
+CREATE TABLE version (id INTEGER PRIMARY KEY, shelf TEXT NOT NULL REFERENCES shelf (name), path TEXT NOT NULL, version TEXT NOT NULL, time TEXT, mod BLOB NOT NULL, order_key BLOB NOT NULL, rank_key BLOB NOT NULL, UNIQUE (shelf, path, version)) STRICT;
 CREATE TABLE body (id INTEGER PRIMARY KEY REFERENCES version (id), zip BLOB NOT NULL) STRICT;
 ";
 
 /// A team with a key, and a version of `common`.
 const ROWS: &str = "\
+INSERT INTO meta VALUES ('schema', 2);
+INSERT INTO shelf VALUES ('common'), ('alpha');
+INSERT INTO access VALUES ('alphakey00000001', 'alpha', 1);
+INSERT INTO version VALUES (7, 'common', 'example.com/lib', 'v1.0.0', NULL, X'6d6f64756c65206578616d706c652e636f6d2f6c69620a', X'00000000000000010000000000000000000000000000000003', X'0300000000000000010000000000000000000000000000000003');
+INSERT INTO body VALUES (7, X'5A');
+";
+
+/// The tables of schema 1, which have no keys of order, with their rows.
+pub const SCHEMA_1: &str = "\
+CREATE TABLE meta (name TEXT PRIMARY KEY, value INTEGER NOT NULL) STRICT;
+CREATE TABLE shelf (name TEXT PRIMARY KEY) STRICT;
+CREATE TABLE access (token TEXT PRIMARY KEY, shelf TEXT NOT NULL REFERENCES shelf (name), publish INTEGER NOT NULL CHECK (publish IN (0, 1))) STRICT;
+CREATE TABLE version (id INTEGER PRIMARY KEY, shelf TEXT NOT NULL REFERENCES shelf (name), path TEXT NOT NULL, version TEXT NOT NULL, time TEXT, mod BLOB NOT NULL, UNIQUE (shelf, path, version)) STRICT;
+CREATE TABLE body (id INTEGER PRIMARY KEY REFERENCES version (id), zip BLOB NOT NULL) STRICT;
 INSERT INTO meta VALUES ('schema', 1);
 INSERT INTO shelf VALUES ('common'), ('alpha');
 INSERT INTO access VALUES ('alphakey00000001', 'alpha', 1);
@@ -32,6 +46,7 @@ CREATE TABLE body (id INTEGER PRIMARY KEY, zip BLOB NOT NULL) STRICT
 
 /// What makes others of the tables, the last two in another order and by another text.
 const OTHERS: &str = "\
+DROP TABLE body;DROP TABLE version;CREATE TABLE version (id INTEGER PRIMARY KEY, shelf TEXT NOT NULL REFERENCES shelf (name), path TEXT NOT NULL, version TEXT NOT NULL, time TEXT, mod BLOB NOT NULL, order_key BLOB NOT NULL, rank_key BLOB, UNIQUE (shelf, path, version)) STRICT;CREATE TABLE body (id INTEGER PRIMARY KEY REFERENCES version (id), zip BLOB NOT NULL) STRICT
 CREATE TABLE x (a INTEGER) STRICT
 CREATE INDEX by_path ON version (path)
 CREATE VIEW paths AS SELECT path FROM version
@@ -39,29 +54,35 @@ DROP TABLE body
 DROP TABLE body;CREATE TABLE body (id INTEGER PRIMARY KEY REFERENCES version (id), zip BLOB) STRICT
 DROP TABLE body;CREATE TABLE body (id INTEGER PRIMARY KEY REFERENCES version (id), zip BLOB NOT NULL, size INTEGER) STRICT
 DROP TABLE meta;CREATE TABLE meta (name TEXT PRIMARY KEY, value INTEGER NOT NULL)
-DROP TABLE body;DROP TABLE version;DROP TABLE access;CREATE TABLE version (id INTEGER PRIMARY KEY, shelf TEXT NOT NULL REFERENCES shelf (name), path TEXT NOT NULL, version TEXT NOT NULL, time TEXT, mod BLOB NOT NULL, UNIQUE (shelf, path, version)) STRICT;CREATE TABLE access (token TEXT PRIMARY KEY, shelf TEXT NOT NULL REFERENCES shelf (name), publish INTEGER NOT NULL CHECK (publish IN (0, 1))) STRICT;CREATE TABLE body (id INTEGER PRIMARY KEY REFERENCES version (id), zip BLOB NOT NULL) STRICT
-DROP TABLE body;DROP TABLE version;DROP TABLE access;CREATE TABLE access (token TEXT PRIMARY KEY, shelf TEXT NOT NULL REFERENCES shelf (name), publish INTEGER NOT NULL CHECK (publish = 0 OR publish = 1)) STRICT;CREATE TABLE version (id INTEGER PRIMARY KEY, shelf TEXT NOT NULL REFERENCES shelf (name), path TEXT NOT NULL, version TEXT NOT NULL, time TEXT, mod BLOB NOT NULL, UNIQUE (shelf, path, version)) STRICT;CREATE TABLE body (id INTEGER PRIMARY KEY REFERENCES version (id), zip BLOB NOT NULL) STRICT
+DROP TABLE body;DROP TABLE version;DROP TABLE access;CREATE TABLE version (id INTEGER PRIMARY KEY, shelf TEXT NOT NULL REFERENCES shelf (name), path TEXT NOT NULL, version TEXT NOT NULL, time TEXT, mod BLOB NOT NULL, order_key BLOB NOT NULL, rank_key BLOB NOT NULL, UNIQUE (shelf, path, version)) STRICT;CREATE TABLE access (token TEXT PRIMARY KEY, shelf TEXT NOT NULL REFERENCES shelf (name), publish INTEGER NOT NULL CHECK (publish IN (0, 1))) STRICT;CREATE TABLE body (id INTEGER PRIMARY KEY REFERENCES version (id), zip BLOB NOT NULL) STRICT
+DROP TABLE body;DROP TABLE version;DROP TABLE access;CREATE TABLE access (token TEXT PRIMARY KEY, shelf TEXT NOT NULL REFERENCES shelf (name), publish INTEGER NOT NULL CHECK (publish = 0 OR publish = 1)) STRICT;CREATE TABLE version (id INTEGER PRIMARY KEY, shelf TEXT NOT NULL REFERENCES shelf (name), path TEXT NOT NULL, version TEXT NOT NULL, time TEXT, mod BLOB NOT NULL, order_key BLOB NOT NULL, rank_key BLOB NOT NULL, UNIQUE (shelf, path, version)) STRICT;CREATE TABLE body (id INTEGER PRIMARY KEY REFERENCES version (id), zip BLOB NOT NULL) STRICT
 ";
 
 /// What makes rows that stand for no world.
 const UNFIT: &str = "\
 DELETE FROM meta
-UPDATE meta SET value = 2
+UPDATE meta SET value = 1
 UPDATE meta SET name = 'Schema'
-INSERT INTO meta VALUES ('other', 1)
+INSERT INTO meta VALUES ('other', 2)
 UPDATE version SET shelf = 'alpha';DELETE FROM shelf WHERE name = 'common'
 INSERT INTO shelf VALUES ('Beta')
 INSERT INTO access VALUES ('shortkey1234567', 'common', 0)
 INSERT INTO access VALUES ('UPPERKEY00000001', 'common', 0)
 UPDATE version SET path = 'example.com//lib'
 UPDATE version SET version = 'v1.0'
-UPDATE version SET version = 'v2.0.0'
-UPDATE version SET version = 'v0.0.0-20240229123456-0123456789ab'
-UPDATE version SET version = 'v0.0.0-20240229123456-0123456789ab', time = '2024-02-29T12:34:57Z'
+UPDATE version SET version = 'v2.0.0', order_key = X'00000000000000020000000000000000000000000000000003', rank_key = X'0300000000000000020000000000000000000000000000000003'
+UPDATE version SET version = 'v0.0.0-20240229123456-0123456789ab', order_key = X'0000000000000000000000000000000000000000000000000232303234303232393132333435362d3031323334353637383961620000', rank_key = X'0132303234303232393132333435360000000000000000000000000000000000000000000000000232303234303232393132333435362d3031323334353637383961620000'
+UPDATE version SET version = 'v0.0.0-20240229123456-0123456789ab', time = '2024-02-29T12:34:57Z', order_key = X'0000000000000000000000000000000000000000000000000232303234303232393132333435362d3031323334353637383961620000', rank_key = X'0132303234303232393132333435360000000000000000000000000000000000000000000000000232303234303232393132333435362d3031323334353637383961620000'
 UPDATE version SET time = '2024-02-30T12:34:56Z'
 UPDATE version SET mod = X''
 UPDATE version SET path = 'example.com/other'
 DELETE FROM body
+UPDATE version SET order_key = X'00000000000000010000000000000000000000000000000103'
+UPDATE version SET rank_key = X'0300000000000000010000000000000000000000000000000103'
+UPDATE version SET order_key = X''
+UPDATE version SET rank_key = order_key
+UPDATE version SET order_key = rank_key, rank_key = order_key
+UPDATE version SET version = 'v1.0.1'
 ";
 
 /// What makes the last table again, as it was.
@@ -70,31 +91,17 @@ const MADE_AGAIN: &str =
 
 /// What keeps the rows those of a world.
 const FIT: &str =
-    "UPDATE version SET version = 'v0.0.0-20240229123456-0123456789ab', time = '2024-02-29T12:34:56Z'";
+    "UPDATE version SET version = 'v0.0.0-20240229123456-0123456789ab', time = '2024-02-29T12:34:56Z', order_key = X'0000000000000000000000000000000000000000000000000232303234303232393132333435362d3031323334353637383961620000', rank_key = X'0132303234303232393132333435360000000000000000000000000000000000000000000000000232303234303232393132333435362d3031323334353637383961620000'";
 
-/// The versions of a path doubled twelve times, which makes 4,096.
-const MOST: &str = "\
-INSERT INTO version SELECT id + 1, shelf, path, 'v1.' || (id + 1) || '.0', NULL, mod FROM version;
-INSERT INTO version SELECT id + 2, shelf, path, 'v1.' || (id + 2) || '.0', NULL, mod FROM version;
-INSERT INTO version SELECT id + 4, shelf, path, 'v1.' || (id + 4) || '.0', NULL, mod FROM version;
-INSERT INTO version SELECT id + 8, shelf, path, 'v1.' || (id + 8) || '.0', NULL, mod FROM version;
-INSERT INTO version SELECT id + 16, shelf, path, 'v1.' || (id + 16) || '.0', NULL, mod FROM version;
-INSERT INTO version SELECT id + 32, shelf, path, 'v1.' || (id + 32) || '.0', NULL, mod FROM version;
-INSERT INTO version SELECT id + 64, shelf, path, 'v1.' || (id + 64) || '.0', NULL, mod FROM version;
-INSERT INTO version SELECT id + 128, shelf, path, 'v1.' || (id + 128) || '.0', NULL, mod FROM version;
-INSERT INTO version SELECT id + 256, shelf, path, 'v1.' || (id + 256) || '.0', NULL, mod FROM version;
-INSERT INTO version SELECT id + 512, shelf, path, 'v1.' || (id + 512) || '.0', NULL, mod FROM version;
-INSERT INTO version SELECT id + 1024, shelf, path, 'v1.' || (id + 1024) || '.0', NULL, mod FROM version;
-INSERT INTO version SELECT id + 2048, shelf, path, 'v1.' || (id + 2048) || '.0', NULL, mod FROM version;
-INSERT INTO body SELECT id, X'' FROM version WHERE id <> 7;
-";
+/// A body for each version but the first.
+const BODIES: &str = "INSERT INTO body SELECT id, X'' FROM version WHERE id <> 7;";
 
 const ONE_MORE: &str =
-    "INSERT INTO version SELECT 1, shelf, path, 'v1.1.0', NULL, mod FROM version WHERE id = 7;INSERT INTO body VALUES (1, X'')";
+    "INSERT INTO version SELECT 1, shelf, path, 'v1.0.1', NULL, mod, X'00000000000000010000000000000000000000000000000103', X'0300000000000000010000000000000000000000000000000103' FROM version WHERE id = 7;INSERT INTO body VALUES (1, X'')";
 
 /// A version that has the last number.
 const LAST: &str = "\
-INSERT INTO version VALUES (9223372036854775807, 'common', 'example.com/lib', 'v1.1.0', NULL, X'6d6f64756c65206578616d706c652e636f6d2f6c69620a');
+INSERT INTO version VALUES (9223372036854775807, 'common', 'example.com/lib', 'v1.1.0', NULL, X'6d6f64756c65206578616d706c652e636f6d2f6c69620a', X'00000000000000010000000000000001000000000000000003', X'0300000000000000010000000000000001000000000000000003');
 INSERT INTO body VALUES (9223372036854775807, X'5959');
 ";
 
@@ -112,7 +119,7 @@ failures = 0
 
 /// A version that has the first number.
 const FIRST: &str = "\
-INSERT INTO version SELECT -9223372036854775808, shelf, path, 'v1.2.0', time, mod FROM version WHERE id = 7;
+INSERT INTO version SELECT -9223372036854775808, shelf, path, 'v1.2.0', time, mod, X'00000000000000010000000000000002000000000000000003', X'0300000000000000010000000000000002000000000000000003' FROM version WHERE id = 7;
 INSERT INTO body VALUES (-9223372036854775808, X'5A');
 ";
 
@@ -214,16 +221,34 @@ fn bad_tables_are_refused(rt: HostRuntime) -> Result<(), Fail> {
     let alloc = rt.alloc();
     assert!(rt; are_bad(alloc, "", "", FOREIGN)?);
     assert!(rt; are_bad(alloc, TABLES, "", OTHERS)?);
+    assert_eq!(rt;
+        refusal_after(alloc, SCHEMA_1, "", "")?,
+        Some(Refusal::BadSchema)
+    );
     assert!(rt; are_bad(alloc, TABLES, ROWS, UNFIT)?);
     assert_eq!(rt; refusal_after(alloc, TABLES, ROWS, FIT)?, None);
     assert_eq!(rt; refusal_after(alloc, TABLES, ROWS, MADE_AGAIN)?, None);
     Ok(())
 }
 
+/// 4,096 versions of a path.
+fn most_rows(alloc: Global) -> Result<String, Fail> {
+    let mut rows = String::from_str(alloc, ROWS)?;
+    for n in 1..4096_u64 {
+        write!(
+            rows,
+            "INSERT INTO version SELECT 7 + {n}, shelf, path, 'v1.{n}.0', NULL, mod, \
+             X'0000000000000001{n:016x}000000000000000003', X'030000000000000001{n:016x}000000000000000003' FROM version WHERE id = 7;"
+        )?;
+    }
+    rows.push_str(BODIES)?;
+    Ok(rows)
+}
+
 #[test]
 fn at_most_4096_versions_of_a_path_are_taken(rt: HostRuntime) -> Result<(), Fail> {
     let alloc = rt.alloc();
-    let rows = format!(in alloc; "{ROWS}{MOST}")?;
+    let rows = most_rows(alloc)?;
     assert_eq!(rt; refusal_after(alloc, TABLES, rows.as_str(), "")?, None);
     assert_eq!(rt;
         refusal_after(alloc, TABLES, rows.as_str(), ONE_MORE)?,

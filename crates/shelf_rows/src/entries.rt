@@ -6,7 +6,7 @@ use modver::Version;
 use std::alloc::Global;
 use std::test::Fail;
 use world::entry::EntryRef;
-use world::entry_test::{Misfit, may_stand, module_misfit, own_misfit};
+use world::entry_test::{Misfit, fitting_version, module_misfit, own_misfit};
 use world::reading::Reading;
 
 /// A path, a version, a go.mod in which `;` stands for a newline, a time, and whether they may stand together.
@@ -38,7 +38,11 @@ fn entries_may_stand_or_not(rt: HostRuntime) -> Result<(), Fail> {
             zip: b"zip",
             time: time_of(column(columns, 3))?,
         };
-        let may = may_stand(rt.alloc(), column(columns, 0), column(columns, 1), &entry)?;
+        let text = column(columns, 1);
+        let may = match fitting_version(rt.alloc(), column(columns, 0), text, &entry)? {
+            Some(version) => version.as_str() == text,
+            None => false,
+        };
         assert!(rt; may == (wanted.as_str() == "true"), "{row}");
     }
     Ok(())

@@ -1,4 +1,5 @@
 //! Stores in files. Each test has a folder of its own.
+use crate::adopted_tables::SCHEMA_1;
 use crate::calls::wrong_row;
 use crate::requests::REQUESTS;
 use sqlite::{Connection, Error};
@@ -128,6 +129,44 @@ fn a_damaged_file_is_refused(rt: HostRuntime) -> Result<(), Fail> {
         ""
     );
     fs::remove_dir_all(&rt, "store_damaged_test")?;
+    Ok(())
+}
+
+#[test]
+fn a_file_of_schema_1_is_refused(rt: HostRuntime) -> Result<(), Fail> {
+    let _ = fs::remove_dir_all(&rt, "store_schema_test");
+    fs::create_dir(&rt, "store_schema_test")?;
+    let bytes = bytes_after(&rt, "store_schema_test/a.db", SCHEMA_1)?;
+    assert!(rt; stays(&rt, "store_schema_test/a.db", bytes.as_slice())?);
+    fs::remove_dir_all(&rt, "store_schema_test")?;
+    Ok(())
+}
+
+/// Keys that are not those of `v1.0.0`, and those that are.
+const WRONG_KEYS: &str = "\
+UPDATE version SET order_key = X'00000000000000010000000000000000000000000000000103'
+UPDATE version SET rank_key = X'0200000000000000010000000000000000000000000000000003'
+UPDATE version SET order_key = X'', rank_key = X''
+";
+
+const RIGHT_KEYS: &str =
+    "UPDATE version SET order_key = X'00000000000000010000000000000000000000000000000003', rank_key = X'0300000000000000010000000000000000000000000000000003'";
+
+#[test]
+fn a_file_with_keys_of_another_version_is_refused(rt: HostRuntime) -> Result<(), Fail> {
+    let _ = fs::remove_dir_all(&rt, "store_keys_test");
+    fs::create_dir(&rt, "store_keys_test")?;
+    assert_eq!(rt; wrong_row_of_file(&rt, "store_keys_test/a.db", FILL)?, "");
+    for sql in WRONG_KEYS.lines() {
+        execute(&rt, "store_keys_test/a.db", RIGHT_KEYS)?;
+        assert_eq!(rt; refusal(&rt, "store_keys_test/a.db")?, None);
+        execute(&rt, "store_keys_test/a.db", sql)?;
+        assert_eq!(rt;
+            refusal(&rt, "store_keys_test/a.db")?,
+            Some(Refusal::BadSchema)
+        );
+    }
+    fs::remove_dir_all(&rt, "store_keys_test")?;
     Ok(())
 }
 

@@ -19,17 +19,21 @@ use Rattle.tables.specs.Schema.{store_schema, version_table, body_table}
 use Rattle.world.specs.declared.entry.Place.{Place}
 use Rattle.world.specs.declared.entry.Entry.{Entry}
 use Rattle.tables.specs.Inserted.{Inserted}
-use Rattle.store.specs.Added.{HasAdded, version_row, body_row}
+use Rattle.store.specs.Added.{HasAdded, version_row, version_values, body_row}
 use Rattle.store.proofs.Texts.{add_version_text, add_numbered_text, add_body_text}
 use Rattle.tables.proofs.InsertLemmas.{inserted, enforced, cast_null, cast_int}
 
+-- how many values a row of `version` has
+abbrev version_width : ℕ
+version_width = 9
+
 abbrev pub version_terms : List Term
-version_terms = lit Null ∷ lit Null ∷ col 0 0 ∷ col 0 1 ∷ col 0 2 ∷ col 0 3 ∷ col 0 4 ∷ []
+version_terms = lit Null ∷ lit Null ∷ col 0 0 ∷ col 0 1 ∷ col 0 2 ∷ col 0 3 ∷ col 0 4 ∷ col 0 5 ∷ col 0 6 ∷ []
 
 abbrev pub body_terms : List Term
 body_terms = col 0 0 ∷ lit Null ∷ col 0 1 ∷ []
 
-version_is : command_of (understood store_schema add_version_text) ≡ Insert 3 (Values version_terms 7)
+version_is : command_of (understood store_schema add_version_text) ≡ Insert 3 (Values version_terms version_width)
 unfolding understood everything
 version_is = refl
 
@@ -54,17 +58,14 @@ cast_time : (time : Option (List ℕ)) → cast kind.Text (or_null Text time) �
 cast_time None = refl
 cast_time (Some t) = refl
 
-abbrev pub version_params : Place → Entry → Row
-version_params p e = Text p.shelf ∷ Text p.path ∷ Text p.version ∷ or_null Text e.time ∷ Blob e.gomod ∷ []
-
 abbrev pub body_params : ℤ → Entry → Row
 body_params id e = Int id ∷ Blob e.zip ∷ []
 
 module _ (limit : Option ℕ) (p : Place) (e : Entry) where
-  version_added : (db : Database) (tally : Tally) (after : Database) → db.schema ≡ store_schema → Does limit enforced (version_params p e) db [] None (Insert 3 (Values version_terms 7)) (Ok (tally, after))
+  version_added : (db : Database) (tally : Tally) (after : Database) → db.schema ≡ store_schema → Does limit enforced (version_values p e) db [] None (Insert 3 (Values version_terms version_width)) (Ok (tally, after))
       → (after.schema ≡ store_schema) × Inserted db.trees after.trees version_table (version_row (next_rowid (db.trees 6)) p e) × (tally.last ≡ Some (next_rowid (db.trees 6)))
   version_added db tally after has h =
-      let it = inserted limit version_table refl (version_params p e) version_terms 7 (Null ∷ Null ∷ Text p.shelf ∷ Text p.path ∷ Text p.version ∷ or_null Text e.time ∷ Blob e.gomod ∷ []) refl (λ _. refl) 3 refl db [] tally after has h in
+      let it = inserted limit version_table refl (version_values p e) version_terms version_width (Null ∷ Null ∷ version_values p e) refl (λ _. refl) 3 refl db [] tally after has h in
       (it.0, rw (cast_null, cast_time e.time) at it.1, rw cast_null at it.2)
 
   body_added : (id : ℤ) (db : Database) (tally : Tally) (after : Database) → db.schema ≡ store_schema → Does limit enforced (body_params id e) db [] None (Insert 4 (Values body_terms 3)) (Ok (tally, after))
@@ -93,19 +94,19 @@ then_body p e old mid new sql params one two id first was_open has put told seco
     }
 
 -- both, one after the other, within a transaction, where sqlite chooses the number
-pub both_added : (p : Place) (e : Entry) (old mid new : State) (one two : ℕ) → old.now.schema ≡ store_schema → ExecutesInside 0 add_version_text (version_params p e) old mid (Ok one)
+pub both_added : (p : Place) (e : Entry) (old mid new : State) (one two : ℕ) → old.now.schema ≡ store_schema → ExecutesInside 0 add_version_text (version_values p e) old mid (Ok one)
     → ExecutesInside 0 add_body_text (body_params mid.last_rowid e) mid new (Ok two) → HasAdded old new p e
 both_added p e old mid new one two has first second =
-    let w = runs_as add_version_text (version_params p e) old mid store_schema has _ version_is version_plain one first.0 in
+    let w = runs_as add_version_text (version_values p e) old mid store_schema has _ version_is version_plain one first.0 in
     let a = version_added old.step_limit p e old.now w.tally mid.now has w.changed in
-    then_body p e old mid new add_version_text (version_params p e) one two (next_rowid (old.now.trees 6)) first w.shown.was_open a.0 a.1 (w.last_rowid ∙ ap (λ o. unwrap_or o old.last_rowid) a.2) second
+    then_body p e old mid new add_version_text (version_values p e) one two (next_rowid (old.now.trees 6)) first w.shown.was_open a.0 a.1 (w.last_rowid ∙ ap (λ o. unwrap_or o old.last_rowid) a.2) second
 
 -- ---- with a number that is given, or else sqlite's choice
 
 abbrev pub numbered_terms : List Term
-numbered_terms = col 0 0 ∷ lit Null ∷ col 0 1 ∷ col 0 2 ∷ col 0 3 ∷ col 0 4 ∷ col 0 5 ∷ []
+numbered_terms = col 0 0 ∷ lit Null ∷ col 0 1 ∷ col 0 2 ∷ col 0 3 ∷ col 0 4 ∷ col 0 5 ∷ col 0 6 ∷ col 0 7 ∷ []
 
-numbered_is : command_of (understood store_schema add_numbered_text) ≡ Insert 3 (Values numbered_terms 7)
+numbered_is : command_of (understood store_schema add_numbered_text) ≡ Insert 3 (Values numbered_terms version_width)
 unfolding understood everything
 numbered_is = refl
 
@@ -114,7 +115,7 @@ unfolding understood everything
 numbered_plain = (refl, refl)
 
 abbrev pub numbered_params : Option ℤ → Place → Entry → Row
-numbered_params number p e = or_null Int number ∷ version_params p e
+numbered_params number p e = or_null Int number ∷ version_values p e
 
 -- a number is bound as it is
 pub number_bound : (number : Option ℤ) → bound_value (or_null Int number) ≡ or_null Int number
@@ -127,13 +128,13 @@ number_of None rows = next_rowid rows
 number_of (Some n) rows = n
 
 module _ (limit : Option ℕ) (p : Place) (e : Entry) where
-  numbered_added : (number : Option ℤ) (db : Database) (tally : Tally) (after : Database) → db.schema ≡ store_schema → Does limit enforced (numbered_params number p e) db [] None (Insert 3 (Values numbered_terms 7)) (Ok (tally, after))
+  numbered_added : (number : Option ℤ) (db : Database) (tally : Tally) (after : Database) → db.schema ≡ store_schema → Does limit enforced (numbered_params number p e) db [] None (Insert 3 (Values numbered_terms version_width)) (Ok (tally, after))
       → (after.schema ≡ store_schema) × Inserted db.trees after.trees version_table (version_row (number_of number (db.trees 6)) p e) × (tally.last ≡ Some (number_of number (db.trees 6)))
   numbered_added None db tally after has h =
-      let it = inserted limit version_table refl (numbered_params None p e) numbered_terms 7 (Null ∷ Null ∷ Text p.shelf ∷ Text p.path ∷ Text p.version ∷ or_null Text e.time ∷ Blob e.gomod ∷ []) refl (λ _. refl) 3 refl db [] tally after has h in
+      let it = inserted limit version_table refl (numbered_params None p e) numbered_terms version_width (Null ∷ Null ∷ version_values p e) refl (λ _. refl) 3 refl db [] tally after has h in
       (it.0, rw (cast_null, cast_time e.time) at it.1, rw cast_null at it.2)
   numbered_added (Some n) db tally after has h =
-      let it = inserted limit version_table refl (numbered_params (Some n) p e) numbered_terms 7 (Int n ∷ Null ∷ Text p.shelf ∷ Text p.path ∷ Text p.version ∷ or_null Text e.time ∷ Blob e.gomod ∷ []) refl (λ _. refl) 3 refl db [] tally after has h in
+      let it = inserted limit version_table refl (numbered_params (Some n) p e) numbered_terms version_width (Int n ∷ Null ∷ version_values p e) refl (λ _. refl) 3 refl db [] tally after has h in
       (it.0, rw (cast_null, cast_int n, cast_time e.time) at it.1, rw (cast_int n) at it.2)
 
 pub numbered_both : (number : Option ℤ) (p : Place) (e : Entry) (old mid new : State) (one two : ℕ) → old.now.schema ≡ store_schema → ExecutesInside 0 add_numbered_text (numbered_params number p e) old mid (Ok one)

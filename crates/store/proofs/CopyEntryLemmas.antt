@@ -41,6 +41,7 @@ use Rattle.store.proofs.DifferLemmas.{differ_is}
 use Rattle.store.proofs.PairLemmas.{all_paired, begun_paired}
 use Rattle.tables.proofs.FitTests.{at_place}
 use Rattle.tables.proofs.OneWorld.{texts_same, blobs_same}
+use Rattle.tables.proofs.ListingLemmas.{entry_columns, entry_names}
 use Rattle.tables.proofs.Maps.{put_keeps, put_splits}
 use Rattle.store.proofs.TransactionLemmas.{entry_means}
 
@@ -49,11 +50,8 @@ use Rattle.store.proofs.TransactionLemmas.{entry_means}
 abbrev on_shelf : List Term
 on_shelf = op2 (Compare Eq Binary) (col 2 0) (col 1 0) ∷ op2 (Compare Eq Binary) (col 1 2) (col 0 0) ∷ []
 
-abbrev shown : List Term
-shown = col 1 2 ∷ col 1 3 ∷ col 1 4 ∷ col 1 5 ∷ col 1 6 ∷ col 2 2 ∷ []
-
 entries_on_is : command_of (understood store_schema entries_on_text)
-    ≡ Select (record { lets = []; body = pairs 6 8 on_shelf shown }) (codes "shelf" ∷ codes "path" ∷ codes "version" ∷ codes "time" ∷ codes "mod" ∷ codes "zip" ∷ [])
+    ≡ Select (record { lets = []; body = pairs 6 8 on_shelf entry_columns }) entry_names
 unfolding understood everything
 entries_on_is = refl
 
@@ -66,11 +64,11 @@ unfolding understood everything
 entries_on_tables = refl
 
 -- a row of `version` with its body, as they are shown
-shown_entry : (shelf : List ℕ) (bodies : List Row) (r b : Row) (it : Place × Entry) → IsVersion bodies r it → column b 2 ≡ Blob it.1.zip → ShowsWhole (eval_all shown ((Text shelf ∷ []) ∷ r ∷ b ∷ [])) it
-shown_entry shelf bodies r b it is zip = record { shelf = is.place.0; path = is.place.1; version = is.place.2; time = is.time; gomod = is.gomod; zip = zip }
+shown_entry : (shelf : List ℕ) (bodies : List Row) (r b : Row) (it : Place × Entry) → IsVersion bodies r it → column b 2 ≡ Blob it.1.zip → ShowsWhole (eval_all entry_columns ((Text shelf ∷ []) ∷ r ∷ b ∷ [])) it
+shown_entry shelf bodies r b it is zip = record { shelf = is.place.0; path = is.place.1; version = is.place.2; time = is.time; gomod = is.gomod; zip = zip; keys = record { order = is.keys.order; rank = is.keys.rank } }
 
 module _ (shelf : List ℕ) (db : Database) (w : World) (means : Means db.trees w) where
-  entry_found : (rows : List Row) → ArePaired (db.trees 6) (db.trees 8) on_shelf shown (Text shelf ∷ []) rows → (row : Row) → Has rows row
+  entry_found : (rows : List Row) → ArePaired (db.trees 6) (db.trees 8) on_shelf entry_columns (Text shelf ∷ []) rows → (row : Row) → Has rows row
       → (it : Place × Entry) × ShowsWhole row it × (map.get w.entries it.0 ≡ Some it.1) × (it.0.shelf ≡ shelf)
   entry_found rows found row there =
       let from = found.sound row there in
@@ -80,20 +78,20 @@ module _ (shelf : List ℕ) (db : Database) (w : World) (means : Means db.trees 
       let own : it.0.0.shelf ≡ shelf = let e = sym it.1.place.0 ∙ at in cc in
       (it.0, subst (λ r. ShowsWhole r it.0) (sym from.5) (shown_entry shelf (db.trees 8) from.0 from.1 it.0 it.1 (it.1.only from.1 from.3 parts.0)), it.2, own)
 
-  found_entry : (rows : List Row) → ArePaired (db.trees 6) (db.trees 8) on_shelf shown (Text shelf ∷ []) rows → (it : Place × Entry) → map.get w.entries it.0 ≡ Some it.1 → it.0.shelf ≡ shelf
+  found_entry : (rows : List Row) → ArePaired (db.trees 6) (db.trees 8) on_shelf entry_columns (Text shelf ∷ []) rows → (it : Place × Entry) → map.get w.entries it.0 ≡ Some it.1 → it.0.shelf ≡ shelf
       → (row : Row) × Has rows row × ShowsWhole row it
   found_entry rows found it holds own =
       let from = means.entries.found it holds in
       let at : column from.0 2 ≡ Text shelf = from.2.place.0 ∙ ap Text own in
       let passed : passes_both on_shelf (Text shelf ∷ []) from.0 from.2.body ≡ true = and_from _ _ from.2.same (rw (at, equals_itself shelf) refl) in
-      (eval_all shown ((Text shelf ∷ []) ∷ from.0 ∷ from.2.body ∷ []), found.complete from.0 from.2.body from.1 from.2.there passed, shown_entry shelf (db.trees 8) from.0 from.2.body it from.2 from.2.zip)
+      (eval_all entry_columns ((Text shelf ∷ []) ∷ from.0 ∷ from.2.body ∷ []), found.complete from.0 from.2.body from.1 from.2.there passed, shown_entry shelf (db.trees 8) from.0 from.2.body it from.2 from.2.zip)
 
-  pub all_on : (rows : List Row) → Reads (command_of (understood store_schema entries_on_text)) db (Text shelf ∷ []) rows → ArePaired (db.trees 6) (db.trees 8) on_shelf shown (Text shelf ∷ []) rows
-  all_on rows read = all_paired entries_on_text (Text shelf ∷ []) db 6 8 on_shelf shown _ entries_on_is (λ _. refl) (λ _. refl) rows read
+  pub all_on : (rows : List Row) → Reads (command_of (understood store_schema entries_on_text)) db (Text shelf ∷ []) rows → ArePaired (db.trees 6) (db.trees 8) on_shelf entry_columns (Text shelf ∷ []) rows
+  all_on rows read = all_paired entries_on_text (Text shelf ∷ []) db 6 8 on_shelf entry_columns _ entries_on_is (λ _. refl) (λ _. refl) rows read
 
 pub entries_fit : (shelf : List ℕ) → AllFit IsEntryShown entries_on_text (Text shelf ∷ [])
 entries_fit shelf db w rows row means first =
-    let begun = begun_paired entries_on_text (Text shelf ∷ []) db 6 8 on_shelf shown _ entries_on_is (λ _. refl) (λ _. refl) (rows ++ row ∷ []) first in
+    let begun = begun_paired entries_on_text (Text shelf ∷ []) db 6 8 on_shelf entry_columns _ entries_on_is (λ _. refl) (λ _. refl) (rows ++ row ∷ []) first in
     let it = entry_found shelf db w means _ begun.1 row (at_place rows begun.0 row) in
     (it.0, it.1)
 

@@ -23,7 +23,7 @@ abbrev pub count_text : List ℕ
 count_text = codes "SELECT count(*) FROM version WHERE shelf = ?1 AND path = ?2"
 
 abbrev pub add_version_text : List ℕ
-add_version_text = codes "INSERT INTO version (shelf, path, version, time, mod) VALUES (?1, ?2, ?3, ?4, ?5)"
+add_version_text = codes "INSERT INTO version (shelf, path, version, time, mod, order_key, rank_key) VALUES (?1, ?2, ?3, ?4, ?5, ?6, ?7)"
 
 abbrev pub last_number_text : List ℕ
 last_number_text = codes "SELECT id FROM version WHERE id = ?1"
@@ -32,7 +32,7 @@ abbrev pub numbers_text : List ℕ
 numbers_text = codes "SELECT id FROM version ORDER BY id"
 
 abbrev pub add_numbered_text : List ℕ
-add_numbered_text = codes "INSERT INTO version (id, shelf, path, version, time, mod) VALUES (?1, ?2, ?3, ?4, ?5, ?6)"
+add_numbered_text = codes "INSERT INTO version (id, shelf, path, version, time, mod, order_key, rank_key) VALUES (?1, ?2, ?3, ?4, ?5, ?6, ?7, ?8)"
 
 abbrev pub add_body_text : List ℕ
 add_body_text = codes "INSERT INTO body (id, zip) VALUES (?1, ?2)"
@@ -50,7 +50,7 @@ abbrev pub keys_on_text : List ℕ
 keys_on_text = codes "SELECT token, shelf, publish FROM access WHERE shelf = ?1"
 
 abbrev pub entries_on_text : List ℕ
-entries_on_text = codes "SELECT v.shelf, v.path, v.version, v.time, v.mod, b.zip FROM version AS v JOIN body AS b ON b.id = v.id WHERE v.shelf = ?1"
+entries_on_text = codes "SELECT v.shelf, v.path, v.version, v.time, v.mod, b.zip, v.order_key, v.rank_key FROM version AS v JOIN body AS b ON b.id = v.id WHERE v.shelf = ?1"
 
 abbrev pub other_shelf_text : List ℕ
 other_shelf_text = codes "SELECT name FROM shelf WHERE name <> ?1"

@@ -40,6 +40,7 @@ among_more bodies more new still split row x apart it = record {
   place = it.place;
   time = it.time;
   gomod = it.gomod;
+  keys = it.keys;
   body = it.body;
   there = still it.body it.there;
   same = it.same;
@@ -87,6 +88,7 @@ module _ (w : World) (p : Place) (e : Entry) (unused : map.get w.entries p ≡ N
         place = (refl, refl, refl);
         time = refl;
         gomod = refl;
+        keys = record { order = refl; rank = refl };
         body = body_row a.id e;
         there = there;
         same = int_itself a.id;

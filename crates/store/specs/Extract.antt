@@ -14,6 +14,7 @@ use Rattle.world.specs.declared.entry.Holder.{Holder}
 use Rattle.world.specs.declared.entry.Place.{Place}
 use Rattle.world.specs.declared.entry.Entry.{Entry}
 use Rattle.world.specs.World.{World, with_key, with_team, with_entry}
+use Rattle.tables.specs.Fit.{ShowsKeys}
 use Rattle.tables.specs.Means.{may_publish, Means, StandFor}
 use Rattle.tables.specs.Schema.{store_schema}
 
@@ -80,7 +81,7 @@ CopiesKeys s w = AddsKeys (λ it. (map.get w.keys it.0 ≡ Some it.1) × (it.1.s
 
 -- ---- entries
 
--- a row shows an entry with its place
+-- a row shows an entry with its place, and the keys of its version
 pub record ShowsWhole (row : Row) (it : Place × Entry) : Type 0 where
   pub shelf : column row 0 ≡ Text it.0.shelf
   pub path : column row 1 ≡ Text it.0.path
@@ -88,6 +89,7 @@ pub record ShowsWhole (row : Row) (it : Place × Entry) : Type 0 where
   pub time : column row 3 ≡ or_null Text it.1.time
   pub gomod : column row 4 ≡ Blob it.1.gomod
   pub zip : column row 5 ≡ Blob it.1.zip
+  pub keys : ShowsKeys row it.0.version
 
 abbrev pub IsEntryShown : Row → Type 0
 IsEntryShown row = (it : Place × Entry) × ShowsWhole row it

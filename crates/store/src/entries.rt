@@ -8,6 +8,7 @@ ghost use Rattle.sqlite.specs.Values.{or_null};
 ghost use Rattle.sqlite.specs.Held.{state};
 ghost use Rattle.sqlite.specs.State.{KeepsCommit, Survives};
 ghost use Rattle.sqlite_trees.specs.View.{doubt};
+ghost use Rattle.modver.specs.SemanticVersion.{version_text};
 ghost use Rattle.world.specs.World.{place, seen_at, view, heading_of, heading, count, with_entry};
 ghost use Rattle.tables.specs.Schema.{store_schema};
 ghost use Rattle.tables.specs.Means.{StandsFor};
@@ -16,10 +17,12 @@ ghost use Rattle.tables.specs.Calls.{Honestly};
 ghost use Rattle.store.specs.Reading.{HasRow, HasZip, ShowsZip};
 ghost use Rattle.store.specs.Added.{HasAdded};
 
+use crate::keyed::KeyedVersion;
 use crate::numbers::chosen_number;
 use crate::shelves::find_row;
-use modver::{TimeText, read_time};
+use modver::{TimeText, Version, read_time};
 use sqlite::{Alter, Connection, Error, ErrorCode, Row, Transaction, params};
+use std::alloc::Global;
 use text::Text;
 use world::bytes::Bytes;
 use world::entry::{Entry, EntryRef, Heading, Seen};
@@ -249,7 +252,7 @@ fn insert_rows<'p, S: Alter>(
     number: Option<i64>,
     shelf: &'p str,
     path: &'p str,
-    version: &'p str,
+    version: &'p KeyedVersion<'p>,
     entry: &'p EntryRef<'p>,
 ) -> Result<(), Error>
     ensures same_reference { tx.new.conn.ghost_name ≡ tx.old.conn.ghost_name }
@@ -262,8 +265,17 @@ fn insert_rows<'p, S: Alter>(
 {
     let time = time_text(&entry.time);
     tx.execute(
-        "INSERT INTO version (id, shelf, path, version, time, mod) VALUES (?1, ?2, ?3, ?4, ?5, ?6)",
-        params![number, shelf, path, version, time, entry.gomod],
+        "INSERT INTO version (id, shelf, path, version, time, mod, order_key, rank_key) VALUES (?1, ?2, ?3, ?4, ?5, ?6, ?7, ?8)",
+        params![
+            number,
+            shelf,
+            path,
+            version.as_str(),
+            time,
+            entry.gomod,
+            version.order(),
+            version.rank()
+        ],
     )?;
     let id = tx.last_insert_rowid();
     tx.execute(
@@ -279,7 +291,7 @@ fn insert_entry<S: Alter>(
     number: Option<i64>,
     shelf: &str,
     path: &str,
-    version: &str,
+    version: &KeyedVersion,
     entry: &EntryRef,
 ) -> Result<(), Error>
     ensures clean { doubt (state S.Store conn.old).is_clean ≤ doubt (state S.Store conn.new).is_clean }
@@ -297,20 +309,22 @@ fn insert_entry<S: Alter>(
     Ok(())
 }
 
-/// Stores an entry where there is none, unless the connection is shut.
+/// Stores an entry where there is none, unless the connection is shut. The keys of the version are made first.
 pub(crate) fn add_entry<S: Alter>(
+    alloc: Global,
     conn: &mut Connection<S>,
     shelf: &str,
     path: &str,
-    version: &str,
+    version: &Version,
     entry: &EntryRef,
 ) -> Result<(), Error>
     ensures clean { doubt (state S.Store conn.old).is_clean ≤ doubt (state S.Store conn.new).is_clean }
     ensures changes { InEachWorld (state S.Store conn.old) (state S.Store conn.new) (λ old new w.
-        map.get w.entries (place shelf.now path.now version.now) ≡ None
-        → ChangesAt old new (is_ok result) w (with_entry w (place shelf.now path.now version.now) entry.now)) }
+        map.get w.entries (place shelf.now path.now (version_text version.now)) ≡ None
+        → ChangesAt old new (is_ok result) w (with_entry w (place shelf.now path.now (version_text version.now)) entry.now)) }
 {
+    let keyed = KeyedVersion::of(alloc, version)?;
     // A connection that is shut refuses this, so the next line finds the tables.
     let number = chosen_number(conn)?;
-    insert_entry(conn, number, shelf, path, version, entry)
+    insert_entry(conn, number, shelf, path, &keyed, entry)
 }

@@ -127,7 +127,7 @@ pub(crate) fn copy_keys<S: Alter, F: Alter>(
     )
 }
 
-/// Entries, each with its row in `version` and its row in `body`, under a number of its own.
+/// Entries, each with its row in `version`, which carries its keys, and its row in `body`, under a number of its own.
 struct Entries;
 
 impl RowSink for Entries {
@@ -142,10 +142,12 @@ impl RowSink for Entries {
             row.get_ref(2)?,
             row.get_ref(3)?,
             row.get_ref(4)?,
+            row.get_ref(6)?,
+            row.get_ref(7)?,
         ];
         let zip = row.get_ref(5)?;
         tx.execute(
-            "INSERT INTO version (shelf, path, version, time, mod) VALUES (?1, ?2, ?3, ?4, ?5)",
+            "INSERT INTO version (shelf, path, version, time, mod, order_key, rank_key) VALUES (?1, ?2, ?3, ?4, ?5, ?6, ?7)",
             &values,
         )?;
         let id = tx.last_insert_rowid();
@@ -169,7 +171,7 @@ pub(crate) fn copy_entries<S: Alter, F: Alter>(
 {
     hand_on(
         source,
-        "SELECT v.shelf, v.path, v.version, v.time, v.mod, b.zip FROM version AS v JOIN body AS b ON b.id = v.id WHERE v.shelf = ?1",
+        "SELECT v.shelf, v.path, v.version, v.time, v.mod, b.zip, v.order_key, v.rank_key FROM version AS v JOIN body AS b ON b.id = v.id WHERE v.shelf = ?1",
         params![shelf],
         tx,
         &Entries,

@@ -15,7 +15,7 @@
 //! | `heading` | the row of `version` on the own shelf, or else on `common`, and no row of `body` |
 //! | `versions`, `paths` | the rows of `version` on the own shelf, then those on `common` |
 //! | `count` | how many rows of `version` the path has on the shelf; asked once, and then kept |
-//! | `insert` | the row of `version` that has the last number, and where there is one, that of the lowest; then in one transaction a row of `version` and a row of `body` |
+//! | `insert` | the row of `version` that has the last number, and where there is one, that of the lowest; then in one transaction a row of `version`, with the keys of its version, and a row of `body` |
 //! | `team_add`, `key_add` | a row of `shelf`; a row of `access` |
 //! | `key_revoke` | the row of `access` is taken away |
 //! | `extract` | of the team and of `common` the rows of `access`, and those of `version` with `body`, one at a time, into a fresh store in one transaction |
@@ -31,6 +31,7 @@ mod extract;
 mod extract_judge;
 mod extract_part;
 mod extract_rows;
+mod keyed;
 pub mod laws;
 mod numbers;
 pub mod open;

@@ -166,10 +166,11 @@ impl<S: Alter> Shelves for SqlShelves<S> {
         entry: &EntryRef,
     ) -> Result<(), StoreFault> {
         match add_entry(
+            self.alloc,
             &mut self.conn,
             shelf,
             path.as_str(),
-            version.as_str(),
+            version,
             entry,
         ) {
             Ok(()) => {

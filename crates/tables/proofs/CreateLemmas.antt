@@ -1,11 +1,11 @@
 -- The tables as one text makes them.
-use Rattle.std.proofs.Common.{◌≡◌, ◌<◌, ◌-◌, ℕ, suc, ℤ, pos, true, false, List, [], ◌∷◌, length, take, drop, Some, None, Ok, Err, Result, inl, inr, refl, sym, ap, subst, subst₂, ◌∙◌, codes, arith, IsTrue, OnOk, lit<}
+use Rattle.std.proofs.Common.{◌≡◌, ◌<◌, ◌-◌, ◌++◌, ℕ, suc, ℤ, pos, true, false, List, [], ◌∷◌, length, take, drop, Some, None, Ok, Err, Result, inl, inr, refl, sym, ap, subst, subst₂, ◌∙◌, codes, arith, IsTrue, OnOk, lit<}
 use Rattle.std.proofs.lemmas.Bool.{cases_Bool}
 use Rattle.sqlite.specs.declared.types.Value.TheVariants.{Null, Int, Text}
 use Rattle.sqlite_trees.specs.declared.store.Store.{Ghosts}
 use Rattle.sqlite.specs.Order.{Row}
 use Rattle.sqlite.specs.Tree.{Trees}
-use Rattle.sqlite.specs.Term.{lit}
+use Rattle.sqlite.specs.Term.{Term, lit}
 use Rattle.sqlite.specs.Table.{Table}
 use Rattle.sqlite.specs.Schema.{Schema}
 use Rattle.sqlite.specs.Change.{created, next_tree, KeepsRows}
@@ -23,7 +23,7 @@ use Rattle.sqlite.specs.State.{State, KeepsCommit, Runs, ExecutesIn, shows_rows,
 use Rattle.sqlite.specs.Held.{Held, state}
 use Rattle.sqlite.proofs.Callers.{IsPlain, command_of, statement_of}
 use Rattle.sqlite_tied.specs.Compute.{everything}
-use Rattle.tables.specs.Schema.{no_schema, store_schema, meta_table, shelf_table, access_table, version_table, body_table}
+use Rattle.tables.specs.Schema.{no_schema, store_schema, meta_table, shelf_table, access_table, version_table, body_table, meta_text, shelf_text, access_text, version_text, body_text}
 use Rattle.sqlite.specs.Order.{column}
 use Rattle.tables.specs.Means.{Means, schema_named}
 use Rattle.std.specs.FinSet as set
@@ -72,47 +72,48 @@ module _ (schema next : Schema) (sql : List ℕ) (table : Table) (is : command_o
         subst (λ (d : Database). KeepsRows schema.tables old.now.trees d.trees) (sym now) (subst (λ s. KeepsRows s.tables old.now.trees first.0.trees) has made.others),
       )
 
-abbrev pub text1 : List ℕ
-text1 = codes "CREATE TABLE meta (name TEXT PRIMARY KEY, value INTEGER NOT NULL) STRICT;CREATE TABLE shelf (name TEXT PRIMARY KEY) STRICT;CREATE TABLE access (token TEXT PRIMARY KEY, shelf TEXT NOT NULL REFERENCES shelf (name), publish INTEGER NOT NULL CHECK (publish IN (0, 1))) STRICT;CREATE TABLE version (id INTEGER PRIMARY KEY, shelf TEXT NOT NULL REFERENCES shelf (name), path TEXT NOT NULL, version TEXT NOT NULL, time TEXT, mod BLOB NOT NULL, UNIQUE (shelf, path, version)) STRICT;CREATE TABLE body (id INTEGER PRIMARY KEY REFERENCES version (id), zip BLOB NOT NULL) STRICT;INSERT INTO meta (name, value) VALUES ('schema', 1);INSERT INTO shelf (name) VALUES ('common')"
-
+-- each statement with what ends it, and what is left from each on
 abbrev pub first1 : List ℕ
-first1 = codes "CREATE TABLE meta (name TEXT PRIMARY KEY, value INTEGER NOT NULL) STRICT;"
-
-abbrev pub text2 : List ℕ
-text2 = codes "CREATE TABLE shelf (name TEXT PRIMARY KEY) STRICT;CREATE TABLE access (token TEXT PRIMARY KEY, shelf TEXT NOT NULL REFERENCES shelf (name), publish INTEGER NOT NULL CHECK (publish IN (0, 1))) STRICT;CREATE TABLE version (id INTEGER PRIMARY KEY, shelf TEXT NOT NULL REFERENCES shelf (name), path TEXT NOT NULL, version TEXT NOT NULL, time TEXT, mod BLOB NOT NULL, UNIQUE (shelf, path, version)) STRICT;CREATE TABLE body (id INTEGER PRIMARY KEY REFERENCES version (id), zip BLOB NOT NULL) STRICT;INSERT INTO meta (name, value) VALUES ('schema', 1);INSERT INTO shelf (name) VALUES ('common')"
+first1 = meta_text ++ codes ";"
 
 abbrev pub first2 : List ℕ
-first2 = codes "CREATE TABLE shelf (name TEXT PRIMARY KEY) STRICT;"
-
-abbrev pub text3 : List ℕ
-text3 = codes "CREATE TABLE access (token TEXT PRIMARY KEY, shelf TEXT NOT NULL REFERENCES shelf (name), publish INTEGER NOT NULL CHECK (publish IN (0, 1))) STRICT;CREATE TABLE version (id INTEGER PRIMARY KEY, shelf TEXT NOT NULL REFERENCES shelf (name), path TEXT NOT NULL, version TEXT NOT NULL, time TEXT, mod BLOB NOT NULL, UNIQUE (shelf, path, version)) STRICT;CREATE TABLE body (id INTEGER PRIMARY KEY REFERENCES version (id), zip BLOB NOT NULL) STRICT;INSERT INTO meta (name, value) VALUES ('schema', 1);INSERT INTO shelf (name) VALUES ('common')"
+first2 = shelf_text ++ codes ";"
 
 abbrev pub first3 : List ℕ
-first3 = codes "CREATE TABLE access (token TEXT PRIMARY KEY, shelf TEXT NOT NULL REFERENCES shelf (name), publish INTEGER NOT NULL CHECK (publish IN (0, 1))) STRICT;"
-
-abbrev pub text4 : List ℕ
-text4 = codes "CREATE TABLE version (id INTEGER PRIMARY KEY, shelf TEXT NOT NULL REFERENCES shelf (name), path TEXT NOT NULL, version TEXT NOT NULL, time TEXT, mod BLOB NOT NULL, UNIQUE (shelf, path, version)) STRICT;CREATE TABLE body (id INTEGER PRIMARY KEY REFERENCES version (id), zip BLOB NOT NULL) STRICT;INSERT INTO meta (name, value) VALUES ('schema', 1);INSERT INTO shelf (name) VALUES ('common')"
+first3 = access_text ++ codes ";"
 
 abbrev pub first4 : List ℕ
-first4 = codes "CREATE TABLE version (id INTEGER PRIMARY KEY, shelf TEXT NOT NULL REFERENCES shelf (name), path TEXT NOT NULL, version TEXT NOT NULL, time TEXT, mod BLOB NOT NULL, UNIQUE (shelf, path, version)) STRICT;"
-
-abbrev pub text5 : List ℕ
-text5 = codes "CREATE TABLE body (id INTEGER PRIMARY KEY REFERENCES version (id), zip BLOB NOT NULL) STRICT;INSERT INTO meta (name, value) VALUES ('schema', 1);INSERT INTO shelf (name) VALUES ('common')"
+first4 = version_text ++ codes ";"
 
 abbrev pub first5 : List ℕ
-first5 = codes "CREATE TABLE body (id INTEGER PRIMARY KEY REFERENCES version (id), zip BLOB NOT NULL) STRICT;"
-
-abbrev pub text6 : List ℕ
-text6 = codes "INSERT INTO meta (name, value) VALUES ('schema', 1);INSERT INTO shelf (name) VALUES ('common')"
+first5 = body_text ++ codes ";"
 
 abbrev pub first6 : List ℕ
-first6 = codes "INSERT INTO meta (name, value) VALUES ('schema', 1);"
-
-abbrev pub text7 : List ℕ
-text7 = codes "INSERT INTO shelf (name) VALUES ('common')"
+first6 = codes "INSERT INTO meta (name, value) VALUES ('schema', 2);"
 
 abbrev pub first7 : List ℕ
 first7 = codes "INSERT INTO shelf (name) VALUES ('common')"
+
+abbrev pub text7 : List ℕ
+text7 = first7
+
+abbrev pub text6 : List ℕ
+text6 = first6 ++ text7
+
+abbrev pub text5 : List ℕ
+text5 = first5 ++ text6
+
+abbrev pub text4 : List ℕ
+text4 = first4 ++ text5
+
+abbrev pub text3 : List ℕ
+text3 = first3 ++ text4
+
+abbrev pub text2 : List ℕ
+text2 = first2 ++ text3
+
+abbrev pub text1 : List ℕ
+text1 = first1 ++ text2
 
 abbrev pub schema0 : Schema
 schema0 = record { tables = []; indexes = take 0 store_schema.indexes; views = [] }
@@ -180,7 +181,14 @@ pub make5 : (command_of (understood schema4 first5) ≡ CreateTable) × IsPlain 
 unfolding understood everything
 make5 = (refl, (refl, refl), refl, refl)
 
-pub put6 : (command_of (understood store_schema first6) ≡ Insert 0 (Values (lit Null ∷ lit (Text (codes "schema")) ∷ lit (Int (pos 1)) ∷ []) 3)) × IsPlain (understood store_schema first6)
+-- the row that names the schema
+abbrev pub meta_terms : List Term
+meta_terms = lit Null ∷ lit (Text (codes "schema")) ∷ lit (Int schema_named.1) ∷ []
+
+abbrev pub meta_source : Row
+meta_source = Null ∷ Text (codes "schema") ∷ Int schema_named.1 ∷ []
+
+pub put6 : (command_of (understood store_schema first6) ≡ Insert 0 (Values meta_terms 3)) × IsPlain (understood store_schema first6)
 unfolding understood everything
 put6 = (refl, (refl, refl))
 
@@ -189,7 +197,7 @@ unfolding understood everything
 put7 = (refl, (refl, refl))
 
 abbrev pub meta_row : Row
-meta_row = Int (pos 1) ∷ Text (codes "schema") ∷ Int (pos 1) ∷ []
+meta_row = Int (pos 1) ∷ Text (codes "schema") ∷ Int schema_named.1 ∷ []
 
 abbrev pub common_row : Row
 common_row = Int (pos 1) ∷ Text (codes "common") ∷ []
@@ -227,8 +235,8 @@ pub put_meta : (old new : State) (count : ℕ) → old.now.schema ≡ store_sche
     × (new.now.trees 8 ≡ old.now.trees 8)
 put_meta old new count has none h =
     let w = ran_as first6 old new store_schema has _ put6.0 put6.1 count h in
-    let it = inserted old.step_limit meta_table refl [] (lit Null ∷ lit (Text (codes "schema")) ∷ lit (Int (pos 1)) ∷ []) 3 (Null ∷ Text (codes "schema") ∷ Int (pos 1) ∷ []) refl (λ _. refl) 0 refl old.now [] w.tally new.now has w.changed in
-    (it.0, rw none at (rw (cast_null, cast_int (pos 1)) at it.1.rows), it.1.tables.1.0 (λ e. omega (arith, e)), it.1.tables.1.1.0 (λ e. omega (arith, e)), it.1.tables.1.1.1.0 (λ e. omega (arith, e)), it.1.tables.1.1.1.1.0 (λ e. omega (arith, e)))
+    let it = inserted old.step_limit meta_table refl [] meta_terms 3 meta_source refl (λ _. refl) 0 refl old.now [] w.tally new.now has w.changed in
+    (it.0, rw none at (rw (cast_null, cast_int schema_named.1) at it.1.rows), it.1.tables.1.0 (λ e. omega (arith, e)), it.1.tables.1.1.0 (λ e. omega (arith, e)), it.1.tables.1.1.1.0 (λ e. omega (arith, e)), it.1.tables.1.1.1.1.0 (λ e. omega (arith, e)))
 
 put_common : (old new : State) (count : ℕ) → old.now.schema ≡ store_schema → old.now.trees 2 ≡ [] → ExecutesIn true first7 [] old new (Ok count)
     → (new.now.schema ≡ store_schema) × (new.now.trees 2 ≡ common_row ∷ []) × (new.now.trees 4 ≡ old.now.trees 4) × (new.now.trees 6 ≡ old.now.trees 6)

@@ -1,14 +1,16 @@
 -- Entries that are tested.
-use Rattle.std.proofs.Common.{◌≡◌, ℕ, Bool, List, Option, Some, None, IfSome, Decides, refl, sym, subst, ◌∙◌}
+use Rattle.std.proofs.Common.{◌≡◌, ℕ, Bool, true, false, cond, List, Option, Some, None, IfSome, refl, sym, ap, subst, ◌∙◌}
 use Rattle.modver.specs.Class.{class_of}
+use Rattle.modver.specs.Reading.{version_of}
 use Rattle.modver.specs.SemanticVersion.{SemanticVersion}
 use Rattle.modver.specs.Time.{IsTime}
 use Rattle.modver.specs.declared.version.Class.{Class}
 use Rattle.modver.specs.declared.version.Class.TheVariants as class
+use Rattle.modver.proofs.Readings.{version-of}
 use Rattle.modver.proofs.PseudoForms.{each-class, stamp-time}
 use Rattle.world.specs.declared.entry.Place.{Place}
 use Rattle.world.specs.declared.entry.Entry.{Entry}
-use Rattle.world.specs.EntryTest.{is_entry}
+use Rattle.world.specs.EntryTest.{is_entry, fitting_version}
 use Rattle.world.specs.World.{place, IsEntry, IsTimeOf}
 use Rattle.world.proofs.EntryTests.{entry_exact}
 
@@ -25,6 +27,18 @@ timed v class.Pre (Some t) is of = of
 pub entry_timed : (q : Place) (e : Entry) → IsEntry q e → IfSome e.time IsTime
 entry_timed q e is = timed is.version.0 (class_of is.version.0) e.time refl is.time
 
--- the test of an entry tells whether it may stand at its place
-pub test_decides : (p v : List ℕ) (e : Entry) (b : Bool) → b ≡ is_entry p v e → (s : List ℕ) → Decides b (IsEntry (place s p v) e)
-test_decides p v e b told s = let exact = entry_exact s p v e in (λ passes. exact.0 (sym told ∙ passes), λ may. told ∙ exact.1 may)
+-- an entry with which a version is told may stand there on any shelf, and the text is that version
+pub fitting_some : (p v : List ℕ) (e : Entry) (x : SemanticVersion) → Some x ≡ fitting_version p v e → ((s : List ℕ) → IsEntry (place s p v) e) × (version_of v ≡ Some x)
+fitting_some p v e x told = let it = picked (is_entry p v e) (version_of v) told in (λ s. (entry_exact s p v e).0 it.0, it.1)
+  where
+    picked : (b : Bool) (o : Option SemanticVersion) → Some x ≡ cond b o None → (b ≡ true) × (o ≡ Some x)
+    picked true o is = (refl, sym is)
+    picked false o is = absurd (cc)
+
+-- and one with which none is told may not
+pub fitting_none : (p v : List ℕ) (e : Entry) → None ≡ fitting_version p v e → (s : List ℕ) → IsEntry (place s p v) e → ⊥
+fitting_none p v e told s is =
+    let passes : is_entry p v e ≡ true = (entry_exact s p v e).1 is in
+    let named : version_of v ≡ Some is.version.0 = (version-of v is.version.0).1 is.version.1 in
+    let both : ◌≡◌ {A = Option SemanticVersion} None (Some is.version.0) = told ∙ (ap (λ b. cond b (version_of v) None) passes ∙ named) in
+    absurd (cc)

@@ -19,6 +19,7 @@ pub mod RunLemmas
 pub mod JoinLemmas
 pub mod SoundLemmas
 pub mod EntryTests
+pub mod VersionKeyLemmas
 pub mod RowFits
 pub mod FitTests
 pub mod WalkCauses

@@ -114,13 +114,16 @@ abbrev pub with_bodies : Join
 with_bodies = inner 6 (left 8 (op2 (Compare Eq Binary) (col 2 0) (col 1 0) ∷ []) end)
 
 abbrev pub entry_columns : List Term
-entry_columns = col 1 2 ∷ col 1 3 ∷ col 1 4 ∷ col 1 5 ∷ col 1 6 ∷ col 2 2 ∷ []
+entry_columns = col 1 2 ∷ col 1 3 ∷ col 1 4 ∷ col 1 5 ∷ col 1 6 ∷ col 2 2 ∷ col 1 7 ∷ col 1 8 ∷ []
+
+abbrev pub entry_names : List (List ℕ)
+entry_names = codes "shelf" ∷ codes "path" ∷ codes "version" ∷ codes "time" ∷ codes "mod" ∷ codes "zip" ∷ codes "order_key" ∷ codes "rank_key" ∷ []
 
 abbrev pub by_place : List (Term × Key)
 by_place = (col 1 2, ascending Binary) ∷ (col 1 3, ascending Binary) ∷ (col 1 4, ascending Binary) ∷ []
 
 pub entry_rows_is : command_of (understood store_schema entry_rows_text)
-    ≡ Select (record { lets = []; body = listing with_bodies entry_columns by_place }) (codes "shelf" ∷ codes "path" ∷ codes "version" ∷ codes "time" ∷ codes "mod" ∷ codes "zip" ∷ [])
+    ≡ Select (record { lets = []; body = listing with_bodies entry_columns by_place }) entry_names
 unfolding understood everything
 entry_rows_is = refl
 

@@ -1,16 +1,21 @@
 -- What a row that fits has in its columns.
-use Rattle.std.proofs.Common.{◌≡◌, Bool, false, true≢false, List, [], ℕ, Option, Some, None, IfSome, Decides, sym, ap, subst, ◌∙◌}
+use Rattle.std.proofs.Common.{◌≡◌, Bool, false, true≢false, List, [], ℕ, Option, Some, None, Ok, Err, Result, IfOk, IfSome, Decides, sym, ap, subst, subst₂, ◌∙◌}
 use Rattle.std.specs.Str.{IsUtf8}
 use Rattle.sqlite.specs.declared.types.Value.{Value}
 use Rattle.sqlite.specs.declared.types.Value.TheVariants.{Null, Int, Real, Text, Blob}
 use Rattle.sqlite.specs.Values.{or_null}
 use Rattle.sqlite.specs.Order.{Row, column}
+use Rattle.sqlite.specs.declared.error.Error.{Error}
 use Rattle.world.specs.declared.entry.Place.{Place}
 use Rattle.world.specs.declared.entry.Entry.{Entry}
+use Rattle.world.specs.EntryTest.{fitting_version}
 use Rattle.world.specs.World.{place, IsEntry}
-use Rattle.tables.specs.Fit.{IsShelfRow, IsKeyRow, IsEntryRow, ShowsFiles, text_in, place_in}
+use Rattle.tables.specs.Fit.{IsShelfRow, IsKeyRow, IsEntryRow, ShowsAt, ShowsFiles, ShowsKeys, text_in, place_in}
+use Rattle.modver.specs.Keys.{order_key_of, rank_key_of}
+use Rattle.modver.specs.SemanticVersion.{SemanticVersion}
 use Rattle.modver.specs.Time.{IsTime}
-use Rattle.tables.proofs.EntryTests.{entry_timed}
+use Rattle.tables.proofs.EntryTests.{entry_timed, fitting_none, fitting_some}
+use Rattle.tables.proofs.VersionKeyLemmas.{order_at, rank_at}
 use Rattle.tables.proofs.AsciiLemmas.{shelf_utf8, key_utf8, path_utf8, version_utf8}
 
 abbrev pub HasNoText : Row → ℕ → Type 0
@@ -31,8 +36,9 @@ no_version row none fits = none fits.0.version fits.2.version (version_utf8 fits
 pub place_shown : (row : Row) (s p v : List ℕ) → column row 0 ≡ Text s → column row 1 ≡ Text p → column row 2 ≡ Text v → place s p v ≡ place_in row
 place_shown row s p v one two three = λ i. record { shelf = text_in (sym one i); path = text_in (sym two i); version = text_in (sym three i) }
 
-pub entry_shown : (row : Row) (s p v : List ℕ) (e : Entry) → column row 0 ≡ Text s → IsUtf8 s → column row 1 ≡ Text p → column row 2 ≡ Text v → ShowsFiles row e → IsEntry (place s p v) e → IsEntryRow row
-entry_shown row s p v e one utf8 two three files may = (place s p v, e, record { shelf = one; path = two; version = three; files = files; utf8 = utf8; may = may })
+pub entry_shown : (row : Row) (s p v : List ℕ) (e : Entry) → column row 0 ≡ Text s → IsUtf8 s → column row 1 ≡ Text p → column row 2 ≡ Text v → ShowsFiles row e → ShowsKeys row v → IsEntry (place s p v) e
+    → IsEntryRow row
+entry_shown row s p v e one utf8 two three files keys may = (place s p v, e, record { shelf = one; path = two; version = three; files = files; keys = keys; utf8 = utf8; may = may })
 
 -- the text that a value is, or none
 abbrev pub time_in : Value → Option (List ℕ)
@@ -53,15 +59,27 @@ same_entry row d e one two =
     let time : d.time ≡ e.time = time_told (column row 3) d.time one.time ∙ sym (time_told (column row 3) e.time two.time) in
     λ i. record { gomod = gomod i; zip = zip i; time = time i }
 
--- the files of a row tell whether it shows an entry that may stand there
-pub entry_told : (row : Row) (p v : List ℕ) (e : Entry) (b : Bool) → ShowsFiles row e → ((s : List ℕ) → Decides b (IsEntry (place s p v) e)) → Decides b ((x : Entry) × ShowsFiles row x × ((s : List ℕ) → IsEntry (place s p v) x))
-entry_told row p v e b files told = (λ t. (e, files, λ s. (told s).0 t), λ x. (told []).1 (subst (IsEntry (place [] p v)) (same_entry row x.0 e x.1 files) (x.2 [])))
+-- where the files of a row are those of an entry that may stand there, the last columns tell whether the row shows it with its keys
+pub keys_told : (row : Row) (p v : List ℕ) (e : Entry) (x : SemanticVersion) (r : Result Bool Error) → ShowsFiles row e → Some x ≡ fitting_version p v e
+    → IfOk r (λ b. Decides b ((column row 6 ≡ Blob (order_key_of x)) × (column row 7 ≡ Blob (rank_key_of x)))) → IfOk r (λ b. Decides b (ShowsAt row p v))
+keys_told row p v e x (Err _) files fits told = tt
+keys_told row p v e x (Ok b) files fits told =
+    let it = fitting_some p v e x fits in
+    let order = ap Blob (order_at v x it.1) in
+    let rank = ap Blob (rank_at v x it.1) in (
+      λ t. record { entry = e; files = files; keys = record { order = (told.0 t).0 ∙ sym order; rank = (told.0 t).1 ∙ sym rank }; may = it.0 },
+      λ at. told.1 (at.keys.order ∙ order, at.keys.rank ∙ rank),
+    )
 
-pub no_time : (row : Row) (p v : List ℕ) → ((t : Option (List ℕ)) → column row 3 ≡ or_null Text t → IfSome t IsTime → ⊥) → ((e : Entry) × ShowsFiles row e × ((s : List ℕ) → IsEntry (place s p v) e)) → ⊥
-no_time row p v none it = none it.0.time it.1.time (entry_timed (place [] p v) it.0 (it.2 []))
+-- where they are those of none, the row shows none
+pub none_fits : (row : Row) (p v : List ℕ) (e : Entry) → ShowsFiles row e → None ≡ fitting_version p v e → ShowsAt row p v → ⊥
+none_fits row p v e files none at = fitting_none p v e none [] (subst (IsEntry (place [] p v)) (same_entry row at.entry e at.files files) (at.may []))
+
+pub no_time : (row : Row) (p v : List ℕ) → ((t : Option (List ℕ)) → column row 3 ≡ or_null Text t → IfSome t IsTime → ⊥) → ShowsAt row p v → ⊥
+no_time row p v none at = none at.entry.time at.files.time (entry_timed (place [] p v) at.entry (at.may []))
 
 -- the row shows no entry that may stand at its place, whatever its shelf is
-pub none_shown : (row : Row) (p v : List ℕ) (b : Bool) → column row 1 ≡ Text p → column row 2 ≡ Text v → b ≡ false → Decides b ((e : Entry) × ShowsFiles row e × ((s : List ℕ) → IsEntry (place s p v) e)) → IsEntryRow row → ⊥
+pub none_shown : (row : Row) (p v : List ℕ) (b : Bool) → column row 1 ≡ Text p → column row 2 ≡ Text v → b ≡ false → Decides b (ShowsAt row p v) → IsEntryRow row → ⊥
 none_shown row p v b path version is_none told fits =
     let q : Place = fits.0 in
     let e : Entry = fits.1 in
@@ -69,4 +87,5 @@ none_shown row p v b path version is_none told fits =
     let one : q.path ≡ p = let f = sym fits.2.path ∙ path in cc in
     let two : q.version ≡ v = let f = sym fits.2.version ∙ version in cc in
     let anywhere : (s : List ℕ) → IsEntry (place s q.path q.version) e = λ s. record { path = is.path; version = is.version; fits = is.fits; gomod = is.gomod; zip = is.zip; time = is.time; reads = is.reads } in
-    true≢false (sym (told.1 (e, fits.2.files, λ s. subst (λ (x : List ℕ). IsEntry (place s p x) e) two (subst (λ (x : List ℕ). IsEntry (place s x q.version) e) one (anywhere s)))) ∙ is_none)
+    let at : ShowsAt row q.path q.version = record { entry = e; files = fits.2.files; keys = fits.2.keys; may = anywhere } in
+    true≢false (sym (told.1 (subst₂ (ShowsAt row) one two at)) ∙ is_none)

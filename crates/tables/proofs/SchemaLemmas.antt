@@ -1,8 +1,11 @@
-use Rattle.std.proofs.Common.{◌≡◌, Ok, refl, [], ◌∷◌, fold}
+-- The tables as their texts make them, and the columns of `version`.
+use Rattle.std.proofs.Common.{◌≡◌, ◌≤◌, ◌<◌, Bool, Decides, List, Ok, refl, sym, ap, ◌∙◌, [], ◌∷◌, arith, codes, fold, get_or, length}
 use Rattle.sqlite.specs.Compile.{table_defined_by}
 use Rattle.sqlite.specs.Change.{created}
 use Rattle.sqlite_tied.specs.Compute.{everything}
-use Rattle.tables.specs.Schema.{store_schema, no_schema, meta_text, shelf_text, access_text, version_text, body_text, meta_table, shelf_table, access_table, version_table, body_table}
+use Rattle.sqlite.specs.Kind.TheVariants.{Integer, Text, Blob}
+use Rattle.sqlite_schema.specs.declared.schema.Column.{Column}
+use Rattle.tables.specs.Schema.{store_schema, no_schema, given, optional, version_columns, meta_text, shelf_text, access_text, version_text, body_text, meta_table, shelf_table, access_table, version_table, body_table}
 
 pub made1 : table_defined_by meta_text ≡ Ok (record meta_table { tree = 0 })
 unfolding everything
@@ -27,3 +30,35 @@ made5 = refl
 pub made6 : fold created no_schema (meta_table ∷ shelf_table ∷ access_table ∷ version_table ∷ body_table ∷ []) ≡ store_schema
 unfolding everything
 made6 = refl
+
+-- a list of eight is that of what stands in its places
+eight : (xs : List Column) (i s p v t g o r : Column) → 8 ≤ length xs → length xs < 9
+    → i ≡ get_or xs 0 i → s ≡ get_or xs 1 s → p ≡ get_or xs 2 p → v ≡ get_or xs 3 v → t ≡ get_or xs 4 t → g ≡ get_or xs 5 g → o ≡ get_or xs 6 o → r ≡ get_or xs 7 r
+    → xs ≡ i ∷ s ∷ p ∷ v ∷ t ∷ g ∷ o ∷ r ∷ []
+eight [] i s p v t g o r long short ei es ep ev et eg eo er = absurd (omega (arith, long))
+eight (x0 ∷ []) i s p v t g o r long short ei es ep ev et eg eo er = absurd (omega (arith, long))
+eight (x0 ∷ x1 ∷ []) i s p v t g o r long short ei es ep ev et eg eo er = absurd (omega (arith, long))
+eight (x0 ∷ x1 ∷ x2 ∷ []) i s p v t g o r long short ei es ep ev et eg eo er = absurd (omega (arith, long))
+eight (x0 ∷ x1 ∷ x2 ∷ x3 ∷ []) i s p v t g o r long short ei es ep ev et eg eo er = absurd (omega (arith, long))
+eight (x0 ∷ x1 ∷ x2 ∷ x3 ∷ x4 ∷ []) i s p v t g o r long short ei es ep ev et eg eo er = absurd (omega (arith, long))
+eight (x0 ∷ x1 ∷ x2 ∷ x3 ∷ x4 ∷ x5 ∷ []) i s p v t g o r long short ei es ep ev et eg eo er = absurd (omega (arith, long))
+eight (x0 ∷ x1 ∷ x2 ∷ x3 ∷ x4 ∷ x5 ∷ x6 ∷ []) i s p v t g o r long short ei es ep ev et eg eo er = absurd (omega (arith, long))
+eight (x0 ∷ x1 ∷ x2 ∷ x3 ∷ x4 ∷ x5 ∷ x6 ∷ x7 ∷ []) i s p v t g o r long short ei es ep ev et eg eo er = λ j. sym ei j ∷ sym es j ∷ sym ep j ∷ sym ev j ∷ sym et j ∷ sym eg j ∷ sym eo j ∷ sym er j ∷ []
+eight (x0 ∷ x1 ∷ x2 ∷ x3 ∷ x4 ∷ x5 ∷ x6 ∷ x7 ∷ x8 ∷ rest) i s p v t g o r long short ei es ep ev et eg eo er = absurd (omega (arith, short))
+
+-- where the first four are those of the schema, the others tell
+pub columns_told : (xs : List Column) (i s p v t g o r : Column) → 8 ≤ length xs → length xs < 9
+    → i ≡ get_or xs 0 i → s ≡ get_or xs 1 s → p ≡ get_or xs 2 p → v ≡ get_or xs 3 v → t ≡ get_or xs 4 t → g ≡ get_or xs 5 g → o ≡ get_or xs 6 o → r ≡ get_or xs 7 r
+    → (i ≡ optional (codes "id") Integer) × (s ≡ given (codes "shelf") Text) × (p ≡ given (codes "path") Text) × (v ≡ given (codes "version") Text)
+    → (b : Bool) → Decides b ((t ≡ optional (codes "time") Text) × (g ≡ given (codes "mod") Blob) × (o ≡ given (codes "order_key") Blob) × (r ≡ given (codes "rank_key") Blob))
+    → Decides b (xs ≡ version_columns)
+columns_told xs i s p v t g o r long short ei es ep ev et eg eo er place b told =
+    let all = eight xs i s p v t g o r long short ei es ep ev et eg eo er in (
+      λ h. let other = told.0 h in all ∙ (λ j. place.0 j ∷ place.1 j ∷ place.2 j ∷ place.3 j ∷ other.0 j ∷ other.1 j ∷ other.2 j ∷ other.3 j ∷ []),
+      λ is. told.1 (
+        et ∙ ap (λ l. get_or l 4 t) is,
+        eg ∙ ap (λ l. get_or l 5 g) is,
+        eo ∙ ap (λ l. get_or l 6 o) is,
+        er ∙ ap (λ l. get_or l 7 r) is,
+      ),
+    )

@@ -14,4 +14,4 @@ abbrev pub number_rows_text : List ℕ
 number_rows_text = codes "SELECT rowid FROM access ORDER BY rowid"
 
 abbrev pub entry_rows_text : List ℕ
-entry_rows_text = codes "SELECT v.shelf, v.path, v.version, v.time, v.mod, b.zip FROM version AS v LEFT JOIN body AS b ON b.id = v.id ORDER BY v.shelf, v.path, v.version"
+entry_rows_text = codes "SELECT v.shelf, v.path, v.version, v.time, v.mod, b.zip, v.order_key, v.rank_key FROM version AS v LEFT JOIN body AS b ON b.id = v.id ORDER BY v.shelf, v.path, v.version"

@@ -1,6 +1,6 @@
 -- Why the tables are not made.
-use Rattle.std.proofs.Common.{◌≡◌, ◌-◌, ℕ, suc, pos, [], ◌∷◌, length, Some, Ok, Err, Result, inl, inr, refl, ◌∙◌, codes, IsTrue, IfErr, true≢false, lit<}
-use Rattle.sqlite.specs.declared.types.Value.TheVariants.{Null, Int, Text}
+use Rattle.std.proofs.Common.{◌≡◌, ◌-◌, ℕ, suc, [], ◌∷◌, length, Some, Ok, Err, Result, inl, inr, refl, ◌∙◌, codes, IsTrue, IfErr, true≢false, lit<}
+use Rattle.sqlite.specs.declared.types.Value.TheVariants.{Null, Text}
 use Rattle.sqlite_trees.specs.declared.store.Store.{Ghosts}
 use Rattle.sqlite.specs.Term.{lit}
 use Rattle.sqlite.specs.Command.TheVariants.{CreateTable}
@@ -9,8 +9,9 @@ use Rattle.sqlite.specs.Held.{Held, state}
 use Rattle.sqlite.specs.declared.error.Error.{Error}
 use Rattle.tables.specs.Schema.{no_schema, store_schema, meta_table, shelf_table, access_table, version_table, body_table, meta_text, shelf_text, access_text, version_text, body_text}
 use Rattle.tables.specs.Causes.{IsExcused}
+use Rattle.tables.specs.Means.{schema_named}
 use Rattle.tables.proofs.InsertLemmas.{cast_null, cast_int}
-use Rattle.tables.proofs.CreateLemmas.{ran_as, makes, put_meta, text1, text2, text3, text4, text5, text6, text7, first1, first2, first3, first4, first5, first6, first7, schema0, schema1, schema2, schema3, schema4, schema5, cut1, cut2, cut3, cut4, cut5, cut6, cut7, make1, make2, make3, make4, make5, put6, put7, meta_row, common_row}
+use Rattle.tables.proofs.CreateLemmas.{ran_as, makes, put_meta, meta_terms, meta_source, text1, text2, text3, text4, text5, text6, text7, first1, first2, first3, first4, first5, first6, first7, schema0, schema1, schema2, schema3, schema4, schema5, cut1, cut2, cut3, cut4, cut5, cut6, cut7, make1, make2, make3, make4, make5, put6, put7, meta_row, common_row}
 use Rattle.tables.proofs.CauseLemmas.{IsOnItsWay, make_excused, put_excused, turn_or_stop, excused_since, on_its_way, further}
 use Rattle.tables.proofs.MakeLemmas.{alone1, alone2, alone3, alone4, alone5, alone6, alone7, able1, able2, able3, able4, able5, AreEmpty, puts_meta, puts_common}
 
@@ -34,8 +35,8 @@ module _ {S : Type 0} (g : Ghosts S) (start new : Held S) (e : Error) where
       → RunInTurn g (Some 0) (suc (suc most)) text6 mid new (Err e) → Fault
   meta_step mid most way inside has a b empty run = elim (turn_or_stop g mid new e text6 first6 text7 (lit< tt) cut6.0 cut6.1 inside store_schema has _ put6.0 tt (suc most) run) [
     | inl stop ↦ excused_since (state g start) (state g mid) (state g new) e way (
-        put_excused first6 0 meta_table refl refl (lit Null ∷ lit (Text (codes "schema")) ∷ lit (Int (pos 1)) ∷ []) 3 (Null ∷ Text (codes "schema") ∷ Int (pos 1) ∷ []) refl (λ _. refl) (λ limit db x r. elim r [ inl (is, no') ↦ absurd (true≢false no') | inr (is, some) ↦ some ])
-        put6.0 put6.1 alone6 (state g mid) (state g new) e has meta_row (rw (a, cast_null, cast_int (pos 1)) refl) (puts_meta (state g mid).now.trees a b empty) stop)
+        put_excused first6 0 meta_table refl refl meta_terms 3 meta_source refl (λ _. refl) (λ limit db x r. elim r [ inl (is, no') ↦ absurd (true≢false no') | inr (is, some) ↦ some ])
+        put6.0 put6.1 alone6 (state g mid) (state g new) e has meta_row (rw (a, cast_null, cast_int schema_named.1) refl) (puts_meta (state g mid).now.trees a b empty) stop)
     | inr (next, count, step, rest, within) ↦ (
         let it = put_meta (state g mid) (state g next) count has a step.runs in
         let ran = ran_as first6 (state g mid) (state g next) store_schema has _ put6.0 put6.1 count step.runs in

@@ -28,7 +28,7 @@ use Rattle.sqlite.specs.State.{State, HasCleanDisk, IsUnchanged, Survives, Begin
 use Rattle.sqlite.proofs.Callers.{IsPlain, command_of}
 use Rattle.tables.specs.Schema.{store_schema, meta_table, shelf_table, access_table, version_table, body_table}
 use Rattle.tables.specs.Means.{is_numbered_as}
-use Rattle.tables.specs.Fit.{joined, entry_shown}
+use Rattle.tables.specs.Fit.{joined, entry_shown, entry_width}
 use Rattle.tables.specs.Walks.{Tests, IsAlone, IsWalkable, ShowsTooMany}
 use Rattle.tables.specs.Causes.{IsExcused, IsVast, HasReason}
 use Rattle.tables.proofs.Texts.{meta_rows_text, shelf_rows_text, key_rows_text, number_rows_text, entry_rows_text}
@@ -37,7 +37,7 @@ use Rattle.tables.proofs.Ascending.{has_permuted}
 use Rattle.tables.proofs.FitTests.{at_place}
 use Rattle.tables.proofs.WalkLemmas.{unchanged_schema, some_walked}
 use Rattle.tables.proofs.CauseLemmas.{unrun, IsOnItsWay, excused_since, on_its_way}
-use Rattle.tables.proofs.ListingLemmas.{listing, listed_rows, first_listed, IsListing, of_table, of_entries, with_bodies, entry_columns, by_token, by_number, by_place, meta_rows_is, shelf_rows_is, key_rows_is, number_rows_is, entry_rows_is}
+use Rattle.tables.proofs.ListingLemmas.{listing, listed_rows, first_listed, IsListing, of_table, of_entries, with_bodies, entry_columns, entry_names, by_token, by_number, by_place, meta_rows_is, shelf_rows_is, key_rows_is, number_rows_is, entry_rows_is}
 
 -- ---- one query
 
@@ -174,9 +174,6 @@ number_walkable = is_walkable number_rows_text (inner 4 end) (col 1 0 ∷ []) by
 pub number_vast : (db : Database) → db.schema ≡ store_schema → ShowsTooMany number_rows_text db → IsVast db
 number_vast db has h = record { schema = has; table = access_table; listed = inr (inr (inl refl)); rows = many_rows number_rows_text 4 (col 1 0 ∷ []) by_number (codes "rowid" ∷ []) number_rows_is db refl h }
 
-abbrev entry_names : List (List ℕ)
-entry_names = codes "shelf" ∷ codes "path" ∷ codes "version" ∷ codes "time" ∷ codes "mod" ∷ codes "zip" ∷ []
-
 entry_typed : (db : Database) → db.schema ≡ store_schema → RefusesQuery None db (record { lets = []; body = listing with_bodies entry_columns by_place }) [] (SqliteFailure TypeMismatch) → ⊥
 unfolding understood everything
 entry_typed db has h = elim h [ inl (same, wrong) ↦ true≢false (rw has at wrong) | inr (inl (other, over)) ↦ absurd (cc) | inr (inr (other, some)) ↦ true≢false (sym some) ]
@@ -185,7 +182,7 @@ entry_alone : IsAlone entry_rows_text (understood store_schema entry_rows_text)
 unfolding understood everything
 entry_alone = (lit≤ tt, refl)
 
-pub entry_walkable : IsWalkable entry_rows_text 6
+pub entry_walkable : IsWalkable entry_rows_text entry_width
 entry_walkable = is_walkable entry_rows_text with_bodies entry_columns by_place entry_names entry_rows_is refl entry_typed entry_alone
 
 filter_few : {X : Type 0} (p : X → Bool) (xs : List X) → length (filter p xs) ≤ length xs

@@ -79,6 +79,7 @@ module _ (db : Trees) (w : World) (means : Means db w) (is : IsWorld w) where
           path = it.1.place.1;
           version = it.1.place.2;
           files = record { time = it.1.time; gomod = it.1.gomod; zip = ap (λ (b : Row). column b 2) body ∙ it.1.zip };
+          keys = record { order = it.1.keys.order; rank = it.1.keys.rank };
           utf8 = shelf_utf8 it.0.0.shelf (is.team_names it.0.0.shelf (is.entries_stand it.0.0 it.0.1 it.2));
           may = is.entries_fit it.0.0 it.0.1 it.2;
         },

@@ -24,7 +24,7 @@ use Rattle.world.specs.World.{World, IsWorld, IsEntry, common, count, text_cmp, 
 use Rattle.world.proofs.Orders.{texts_total, texts_exact, places_total, places_exact, text_same}
 use Rattle.tables.specs.Schema.{store_schema}
 use Rattle.tables.specs.Means.{may_publish}
-use Rattle.tables.specs.Means.{Means, IsMeta, IsAccess, IsNumbered, IsVersion, schema_named}
+use Rattle.tables.specs.Means.{Means, IsMeta, IsAccess, IsNumbered, IsVersion, HasKeys, schema_named}
 use Rattle.tables.specs.Fit.{text_in, int_in, place_in, is_on, joined, entry_shown, meta_shown, name_shown, number_shown, ShowsEntry, AreFit}
 use Rattle.tables.proofs.JoinLemmas.{HasOneBody, body_of, one_body, joined_is, its_body, no_other, bodies_once}
 use Rattle.tables.proofs.RowMapLemmas.{made_of, made_from, made_has, entries_of, len_part}
@@ -187,6 +187,7 @@ module _ (db : Trees) (sound : IsSound store_schema db) (fit : AreFit db) where
         place = (held_text (column row 2) it.0.shelf shows.shelf, held_text (column row 3) it.0.path shows.path, held_text (column row 4) it.0.version shows.version);
         time = shows.files.time ∙ ap (or_null Text) (time_told (column row 5) it.1.time shows.files.time);
         gomod = held_blob (column row 6) it.1.gomod shows.files.gomod;
+        keys = subst (HasKeys row) (ap text_in (sym shows.version)) (record { order = shows.keys.order; rank = shows.keys.rank });
         body = b.0;
         there = its.0;
         same = its.1;

@@ -10,8 +10,9 @@ use Rattle.sqlite_trees.specs.Tree.{IsAscending}
 use Rattle.sqlite_rules.specs.Lists.{Has}
 use Rattle.world.specs.declared.entry.Place.{Place}
 use Rattle.world.specs.declared.entry.Entry.{Entry}
-use Rattle.world.specs.World.{IsEntry, common, is_team_name, is_key, version_limit}
+use Rattle.world.specs.World.{IsEntry, place, common, is_team_name, is_key, version_limit}
 use Rattle.tables.specs.Means.{is_numbered_as}
+use Rattle.tables.specs.VersionKeys.{order_key_at, rank_key_at}
 use Rattle.tables.specs.Schema.{meta_table, shelf_table, access_table, version_table, body_table}
 
 abbrev pub text_in : Value → List ℕ
@@ -41,7 +42,12 @@ number_shown row = column row 0 ∷ []
 
 -- the row of a version with the row of a body, or with none
 abbrev pub entry_shown : Row → Row → Row
-entry_shown row body = column row 2 ∷ column row 3 ∷ column row 4 ∷ column row 5 ∷ column row 6 ∷ column body 2 ∷ []
+entry_shown row body =
+    column row 2 ∷ column row 3 ∷ column row 4 ∷ column row 5 ∷ column row 6 ∷ column body 2 ∷ column row 7 ∷ column row 8 ∷ []
+
+-- how many values are read of it
+abbrev pub entry_width : ℕ
+entry_width = 8
 
 -- each row of a version with each row of a body that has its number, or alone where there is none
 abbrev pub joined : List Row → List Row → List Row
@@ -50,7 +56,7 @@ joined versions bodies = flat_map (λ row. map (entry_shown row) (or_nulls (filt
 -- ---- one row
 
 abbrev pub IsSchemaRow : Row → Type 0
-IsSchemaRow row = (column row 0 ≡ Text (codes "schema")) × (column row 1 ≡ Int (pos 1))
+IsSchemaRow row = (column row 0 ≡ Text (codes "schema")) × (column row 1 ≡ Int (pos 2))
 
 abbrev pub IsShelfRow : Row → Type 0
 IsShelfRow row = (name : List ℕ) × (column row 0 ≡ Text name) × ((name ≡ common) ⊎ (is_team_name name ≡ true))
@@ -76,12 +82,25 @@ pub record ShowsFiles (row : Row) (e : Entry) : Type 0 where
   pub gomod : column row 4 ≡ Blob e.gomod
   pub zip : column row 5 ≡ Blob e.zip
 
--- the row shows an entry that may stand at its place
+-- the row shows the keys of the version that this text is
+pub record ShowsKeys (row : Row) (version : List ℕ) : Type 0 where
+  pub order : column row 6 ≡ Blob (order_key_at version)
+  pub rank : column row 7 ≡ Blob (rank_key_at version)
+
+-- the row shows an entry that may stand at the path and the version, on whatever shelf, and the keys of the version
+pub record ShowsAt (row : Row) (path version : List ℕ) : Type 0 where
+  pub entry : Entry
+  pub files : ShowsFiles row entry
+  pub keys : ShowsKeys row version
+  pub may : (s : List ℕ) → IsEntry (place s path version) entry
+
+-- the row shows an entry that may stand at its place, and the keys of its version
 pub record ShowsEntry (row : Row) (q : Place) (e : Entry) : Type 0 where
   pub shelf : column row 0 ≡ Text q.shelf
   pub path : column row 1 ≡ Text q.path
   pub version : column row 2 ≡ Text q.version
   pub files : ShowsFiles row e
+  pub keys : ShowsKeys row q.version
   pub utf8 : IsUtf8 q.shelf
   pub may : IsEntry q e
 

@@ -1,4 +1,5 @@
 pub mod Schema
+pub mod VersionKeys
 pub mod Means
 pub mod Inserted
 pub mod Made

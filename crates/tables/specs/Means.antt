@@ -19,6 +19,7 @@ use Rattle.world.specs.declared.entry.Right.TheVariants.{Reads, Publishes}
 use Rattle.world.specs.declared.entry.Place.{Place}
 use Rattle.world.specs.declared.entry.Entry.{Entry}
 use Rattle.world.specs.World.{World, IsWorld}
+use Rattle.tables.specs.VersionKeys.{order_key_at, rank_key_at}
 use Rattle.tables.specs.Schema.{store_schema, meta_table, shelf_table, access_table, version_table, body_table}
 
 -- the rows and the facts say the same: each row is of a fact that holds, and each fact that holds has a row
@@ -28,7 +29,7 @@ pub record Tabulates {X : Type 0} (IsRow : Row → X → Type 0) (rows : List Ro
 
 -- the schema is named by its number
 abbrev pub schema_named : List ℕ × ℤ
-schema_named = (codes "schema", pos 1)
+schema_named = (codes "schema", pos 2)
 
 abbrev pub IsMeta : Row → List ℕ × ℤ → Type 0
 IsMeta row it = (column row 1 ≡ Text it.0) × (column row 2 ≡ Int it.1)
@@ -72,11 +73,17 @@ IsEachNumberOnce = IsAscending (λ a b. is_numbered_as a b ≡ false)
 abbrev pub IsEachPlaceOnce : List Row → Type 0
 IsEachPlaceOnce = IsAscending (λ a b. (p : Place) → IsAt a p → IsAt b p → ⊥)
 
+-- a row of `version` has the keys of the version that this text names
+pub record HasKeys (row : Row) (version : List ℕ) : Type 0 where
+  pub order : column row 7 ≡ Blob (order_key_at version)
+  pub rank : column row 8 ≡ Blob (rank_key_at version)
+
 -- a row of `version`, with a row of `body` that has its number, whose zip is that of each that has it
 pub record IsVersion (bodies : List Row) (row : Row) (it : Place × Entry) : Type 0 where
   pub place : IsAt row it.0
   pub time : column row 5 ≡ or_null Text it.1.time
   pub gomod : column row 6 ≡ Blob it.1.gomod
+  pub keys : HasKeys row it.0.version
   pub body : Row
   pub there : Has bodies body
   pub same : is_numbered_as body row ≡ true

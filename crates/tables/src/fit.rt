@@ -1,6 +1,7 @@
 //! Whether the rows of the tables stand for a world.
 
 ghost use Rattle.std.specs.Prelude.{◌≡◌, ◌≤◌, ◌||◌, ◌⊎◌, pos, map, length, true, false, IfOk, IfErr, IfSome, OnOk, IsTrue, Decides, MatchOption, IsUtf8, Some};
+ghost use Rattle.modver.specs.Keys.{order_key_of, rank_key_of};
 ghost use Rattle.modver.specs.Time.{IsTime};
 ghost use Rattle.sqlite.specs.declared.types.Value.TheVariants.{Int, Text as StoredText, Blob};
 ghost use Rattle.sqlite.specs.Order.{Row as Shown, column};
@@ -12,18 +13,17 @@ ghost use Rattle.tables.specs.Means.{IsSettled, StandsForSome, StandsForNone};
 ghost use Rattle.tables.specs.Calls.{Honestly, FailsWithReason};
 ghost use Rattle.tables.specs.Causes.{HasReason};
 ghost use Rattle.tables.specs.Walks.{Tests, MayFollow, run_with};
-ghost use Rattle.world.specs.World.{place, IsEntry};
-ghost use Rattle.tables.specs.Fit.{IsSchemaRow, IsShelfRow, IsKeyRow, IsNumberRow, IsEntryRow, ShowsFiles, is_common, key_in, number_in, place_in, is_on, IsMetaFit, AreShelvesFit, AreKeysFit, AreNumbersFit, AreEntriesFit, AreFit, meta_shown, name_shown, number_shown, joined};
+ghost use Rattle.tables.specs.Fit.{IsSchemaRow, IsShelfRow, IsKeyRow, IsNumberRow, IsEntryRow, ShowsAt, entry_width, is_common, key_in, number_in, place_in, is_on, IsMetaFit, AreShelvesFit, AreKeysFit, AreNumbersFit, AreEntriesFit, AreFit, meta_shown, name_shown, number_shown, joined};
 
 use crate::schema::is_store_schema;
 use crate::walk::{RowTest, rows_pass};
-use modver::{TimeText, read_time};
+use modver::{TimeText, Version, order_key, rank_key, read_time};
 use sqlite::types::ValueRef;
 use sqlite::{Alter, Connection, Error, ErrorCode, Row};
 use std::alloc::Global;
 use text::Text;
 use world::entry::{EntryRef, MAX_VERSIONS, Place};
-use world::entry_test::may_stand;
+use world::entry_test::fitting_version;
 use world::names::{COMMON, is_key, is_team_name};
 
 /// The text of a column, if it is one.
@@ -95,15 +95,15 @@ fn int_at(row: &Row, at: usize) -> Result<Option<i64>, Error>
     }
 }
 
-/// Whether a column is the number 1.
-fn is_one_at(row: &Row, at: usize) -> Result<bool, Error>
-    ensures found { IfOk result (λ b. Decides b (column row.now at ≡ Int (pos 1))) }
+/// Whether a column is the number of the schema.
+fn is_schema_at(row: &Row, at: usize) -> Result<bool, Error>
+    ensures found { IfOk result (λ b. Decides b (column row.now at ≡ Int (pos 2))) }
     ensures past { IfErr result (λ _. length row.now ≤ at) }
 {
-    Ok(matches!(row.get_ref(at)?, ValueRef::Int(1)))
+    Ok(matches!(row.get_ref(at)?, ValueRef::Int(2)))
 }
 
-/// The rows of `meta`: each names schema 1.
+/// The rows of `meta`: each names schema 2.
 #[derive(Drop)]
 struct MetaRows {
     has_row: bool,
@@ -117,7 +117,7 @@ impl RowTest for MetaRows {
     ghost Keeps = { λ _ _ next. next.has_row ≡ true };
 
     fn passes(&mut self, row: &Row) -> Result<bool, Error> {
-        if text_at(row, 0)? != Some("schema") || !is_one_at(row, 1)? {
+        if text_at(row, 0)? != Some("schema") || !is_schema_at(row, 1)? {
             return Ok(false);
         }
         self.has_row = true;
@@ -210,8 +210,8 @@ impl RowTest for NumberRows {
     }
 }
 
-/// The rows of entries in the order of their places: each entry may stand at its place, no place comes
-/// twice, and no path too often on a shelf.
+/// The rows of entries in the order of their places: each entry may stand at its place and has the keys of
+/// its version, no place comes twice, and no path too often on a shelf.
 #[derive(Drop)]
 struct EntryRows {
     alloc: Global,
@@ -220,7 +220,7 @@ struct EntryRows {
 }
 
 impl RowTest for EntryRows {
-    ghost width = { 6 };
+    ghost width = { entry_width };
 
     ghost Fits = { λ rows row. IsEntryRow row × MayFollow rows.last rows.many (place_in row) };
 
@@ -239,12 +239,12 @@ impl RowTest for EntryRows {
     }
 }
 
-/// The place of an entry that a row shows, if the entry may stand there.
+/// The place of an entry that a row shows, if the entry may stand there and the keys are its version's.
 fn entry_place(alloc: Global, row: &Row) -> Result<Option<Place>, Error>
     ensures found { IfOk result (λ found. MatchOption found
         (IsEntryRow row.now → ⊥)
         (λ q. (q ≡ place_in row.now) × IsEntryRow row.now)) }
-    ensures memory { 6 ≤ length row.now → IfErr result (λ e. e ≡ Error.SqliteFailure ErrorCode.OutOfMemory) }
+    ensures memory { entry_width ≤ length row.now → IfErr result (λ e. e ≡ Error.SqliteFailure ErrorCode.OutOfMemory) }
 {
     let Some(shelf) = text_at(row, 0)? else {
         return Ok(None);
@@ -261,11 +261,30 @@ fn entry_place(alloc: Global, row: &Row) -> Result<Option<Place>, Error>
     Ok(Some(Place::new(alloc, shelf, path, version)?))
 }
 
-/// Whether the other columns of a row show an entry that may stand at a path and a version.
+/// Whether a column is these bytes.
+fn is_blob_at(row: &Row, at: usize, bytes: &[u8]) -> Result<bool, Error>
+    ensures found { IfOk result (λ b. Decides b (column row.now at ≡ Blob bytes.now)) }
+    ensures past { IfErr result (λ _. length row.now ≤ at) }
+{
+    Ok(matches!(row.get_ref(at)?, ValueRef::Blob(found) if found == bytes))
+}
+
+/// Whether the last columns of a row show the keys of a version.
+fn shows_keys(alloc: Global, row: &Row, version: &Version) -> Result<bool, Error>
+    ensures verdict { IfOk result (λ shows. Decides shows
+        ((column row.now 6 ≡ Blob (order_key_of version.now)) × (column row.now 7 ≡ Blob (rank_key_of version.now)))) }
+    ensures memory { entry_width ≤ length row.now → IfErr result (λ e. e ≡ Error.SqliteFailure ErrorCode.OutOfMemory) }
+{
+    let order = order_key(alloc, version)?;
+    let rank = rank_key(alloc, version)?;
+    Ok(is_blob_at(row, 6, &order)? && is_blob_at(row, 7, &rank)?)
+}
+
+/// Whether the other columns of a row show an entry that may stand at a path and a version, and the keys
+/// of the version.
 fn shows_entry(alloc: Global, row: &Row, path: &str, version: &str) -> Result<bool, Error>
-    ensures verdict { IfOk result (λ may. Decides may
-        ((e : _) × ShowsFiles row.now e × ((s : _) → IsEntry (place s path.now version.now) e))) }
-    ensures memory { 6 ≤ length row.now → IfErr result (λ e. e ≡ Error.SqliteFailure ErrorCode.OutOfMemory) }
+    ensures verdict { IfOk result (λ may. Decides may (ShowsAt row.now path.now version.now)) }
+    ensures memory { entry_width ≤ length row.now → IfErr result (λ e. e ≡ Error.SqliteFailure ErrorCode.OutOfMemory) }
 {
     let Some(gomod) = blob_at(row, 4)? else {
         return Ok(false);
@@ -276,7 +295,10 @@ fn shows_entry(alloc: Global, row: &Row, path: &str, version: &str) -> Result<bo
     let Some(time) = time_at(row, 3)? else {
         return Ok(false);
     };
-    Ok(may_stand(alloc, path, version, &EntryRef { gomod, zip, time })?)
+    match fitting_version(alloc, path, version, &EntryRef { gomod, zip, time })? {
+        Some(version) => shows_keys(alloc, row, &version),
+        None => Ok(false),
+    }
 }
 
 /// How many of a path on its shelf have come with this place, if it may follow the last one.
@@ -301,7 +323,7 @@ fn run_up_to(last: &Option<Place>, many: u64, place: &Place) -> Option<u64>
     }
 }
 
-/// Whether `meta` names schema 1 and nothing else.
+/// Whether `meta` names schema 2 and nothing else.
 fn has_schema<S: Alter>(conn: &mut Connection<S>) -> Result<bool, Error>
     ensures tests { Tests (state S.Store conn.old) (state S.Store conn.new) result
         (λ db. IsMetaFit (map meta_shown (db 0))) }
@@ -347,8 +369,8 @@ fn has_numbers<S: Alter>(conn: &mut Connection<S>) -> Result<bool, Error>
     rows_pass(conn, "SELECT rowid FROM access ORDER BY rowid", &mut rows)
 }
 
-/// Whether each version with its body is an entry that may stand at its place, each place comes once,
-/// and no path too often on a shelf.
+/// Whether each version with its body is an entry that may stand at its place, with the keys of the
+/// version, each place comes once, and no path too often on a shelf.
 fn has_entries<S: Alter>(alloc: Global, conn: &mut Connection<S>) -> Result<bool, Error>
     ensures tests { Tests (state S.Store conn.old) (state S.Store conn.new) result
         (λ db. AreEntriesFit (joined (db 6) (db 8))) }
@@ -361,7 +383,7 @@ fn has_entries<S: Alter>(alloc: Global, conn: &mut Connection<S>) -> Result<bool
     };
     rows_pass(
         conn,
-        "SELECT v.shelf, v.path, v.version, v.time, v.mod, b.zip FROM version AS v LEFT JOIN body AS b ON b.id = v.id ORDER BY v.shelf, v.path, v.version",
+        "SELECT v.shelf, v.path, v.version, v.time, v.mod, b.zip, v.order_key, v.rank_key FROM version AS v LEFT JOIN body AS b ON b.id = v.id ORDER BY v.shelf, v.path, v.version",
         &mut rows,
     )
 }

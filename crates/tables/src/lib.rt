@@ -1,13 +1,13 @@
 //! The SQL tables that keep a world: what their rows mean, and whether those that are there mean one.
 //!
-//! There are five STRICT tables, schema 1:
+//! There are five STRICT tables, schema 2:
 //!
 //! | table | a row is | columns |
 //! |---|---|---|
-//! | `meta` | the number of the schema, 1, under the name `schema` | `name`, `value` |
+//! | `meta` | the number of the schema, 2, under the name `schema` | `name`, `value` |
 //! | `shelf` | a shelf; `common` is always there | `name` |
 //! | `access` | a key, the shelf that it belongs to and whether it may publish | `token`, `shelf`, `publish` |
-//! | `version` | a version of a module on a shelf, its time and its go.mod | `id`, `shelf`, `path`, `version`, `time`, `mod` |
+//! | `version` | a version of a module on a shelf, its time, its go.mod and the keys of its order | `id`, `shelf`, `path`, `version`, `time`, `mod`, `order_key`, `rank_key` |
 //! | `body` | the zip of the version that has the same number | `id`, `zip` |
 //!
 //! They stand for one world at most: each row of `shelf` is a shelf, each row of `access` a key, and
@@ -16,7 +16,7 @@
 //!
 //! | call | its statements |
 //! |---|---|
-//! | `create` | in one transaction the five tables and the rows of schema 1 and of `common` |
+//! | `create` | in one transaction the five tables and the rows of schema 2 and of `common` |
 //! | `stand_for_world` | each row of each table once, in walks that keep the row before |
 //!
 //! What is said of values holds where each answer of the disk was what had been written.

@@ -1,14 +1,15 @@
 //! Whether the tables are those of the schema.
 
-ghost use Rattle.std.specs.Prelude.{◌≡◌, ℕ, suc, Some, Decides, ◌∷◌, [], bytes_eq};
+ghost use Rattle.std.specs.Prelude.{◌≡◌, ℕ, suc, Some, Decides, ◌∷◌, [], bytes_eq, codes};
 ghost use Rattle.sqlite_value.specs.Keys.{plain};
+ghost use Rattle.sqlite.specs.Kind.TheVariants.{Integer, Text, Blob};
 ghost use Rattle.sqlite_schema.specs.Code.{term_to, terms_in};
 ghost use Rattle.sqlite_sql.specs.Term.{op2, lit, col};
 ghost use Rattle.sqlite_sql.specs.declared.ops.BinaryOp.TheVariants.{Compare};
 ghost use Rattle.sqlite_sql.specs.declared.ops.CompareOp.TheVariants.{Eq};
 ghost use Rattle.sqlite_value.specs.declared.keys.Collation.TheVariants.{Binary};
 ghost use Rattle.sqlite_value.specs.declared.value.Value.TheVariants.{Int};
-ghost use Rattle.tables.specs.Schema.{store_schema, no_schema, is_flag, meta_table, shelf_table, access_table, version_table, body_table, no_stamps, IsBare, column_of, refers, unique_index, meta_index, shelf_index, access_index};
+ghost use Rattle.tables.specs.Schema.{store_schema, no_schema, is_flag, meta_table, shelf_table, access_table, version_table, version_columns, body_table, no_stamps, IsBare, column_of, given, optional, refers, unique_index, meta_index, shelf_index, access_index};
 
 use sqlite_items::Items;
 use sqlite_schema::code::{Op, Terms};
@@ -162,21 +163,44 @@ fn has_version_key(uniques: &[Items<usize>], orders: &[Order]) -> bool
     }
 }
 
+/// The number of a version, and the columns that name its place.
+fn are_place_columns(id: &Column, shelf: &Column, path: &Column, version: &Column) -> bool
+    ensures { Decides result ((id.now ≡ optional (codes "id") Integer) × (shelf.now ≡ given (codes "shelf") Text)
+        × (path.now ≡ given (codes "path") Text) × (version.now ≡ given (codes "version") Text)) }
+{
+    is_column(id, "id", Kind::Integer, false)
+        && is_column(shelf, "shelf", Kind::Text, true)
+        && is_column(path, "path", Kind::Text, true)
+        && is_column(version, "version", Kind::Text, true)
+}
+
+/// The time of a version, its go.mod, and its keys of order.
+fn are_other_columns(time: &Column, gomod: &Column, order: &Column, rank: &Column) -> bool
+    ensures { Decides result ((time.now ≡ optional (codes "time") Text) × (gomod.now ≡ given (codes "mod") Blob)
+        × (order.now ≡ given (codes "order_key") Blob) × (rank.now ≡ given (codes "rank_key") Blob)) }
+{
+    is_column(time, "time", Kind::Text, false)
+        && is_column(gomod, "mod", Kind::Blob, true)
+        && is_column(order, "order_key", Kind::Blob, true)
+        && is_column(rank, "rank_key", Kind::Blob, true)
+}
+
+fn are_version_columns(columns: &[Column]) -> bool
+    ensures { Decides result (columns.now ≡ version_columns) }
+{
+    match columns {
+        [id, shelf, path, version, time, gomod, order, rank] => {
+            are_place_columns(id, shelf, path, version)
+                && are_other_columns(time, gomod, order, rank)
+        }
+        _ => false,
+    }
+}
+
 fn is_version_table(table: &Table) -> bool
     ensures { Decides result (table.now ≡ version_table) }
 {
-    let is_shaped = match table.columns.as_slice() {
-        [id, shelf, path, version, time, gomod] => {
-            is_column(id, "id", Kind::Integer, false)
-                && is_column(shelf, "shelf", Kind::Text, true)
-                && is_column(path, "path", Kind::Text, true)
-                && is_column(version, "version", Kind::Text, true)
-                && is_column(time, "time", Kind::Text, false)
-                && is_column(gomod, "mod", Kind::Blob, true)
-        }
-        _ => false,
-    };
-    is_shaped
+    are_version_columns(table.columns.as_slice())
         && is_bare(table, "version", 6)
         && table.key == Some(0)
         && is_place(table.primary.as_slice(), 0)
@@ -275,7 +299,7 @@ fn are_indexes(indexes: &[Index]) -> bool
     }
 }
 
-/// Whether a connection has the tables of schema 1 and nothing else.
+/// Whether a connection has the tables of schema 2 and nothing else.
 pub(crate) fn is_store_schema(schema: &Schema) -> bool
     ensures { Decides result (schema.now ≡ store_schema) }
 {

@@ -91,6 +91,10 @@ goes_with (Some p) (Some v) e = is_none (own_misfit p v e) && is_none (module_mi
 abbrev pub is_entry : List ℕ → List ℕ → Entry → Bool
 is_entry path version e = goes_with (path_of path) (version_of version) e
 
+-- the version that the second text is, if an entry may stand at it and at the path that the first is
+abbrev pub fitting_version : List ℕ → List ℕ → Entry → Option SemanticVersion
+fitting_version path version e = if is_entry path version e then version_of version else None
+
 -- So it is exactly where it may stand on any shelf.
 abbrev pub EntryTestIsExact : Type 0
 EntryTestIsExact = (s path version : List ℕ) (e : Entry) → (is_entry path version e ≡ true) ↔ IsEntry (place s path version) e

@@ -67,27 +67,31 @@ fn misfit_of(path: &ModulePath, version: &Version, says: &GoMod) -> Option<Misfi
     None
 }
 
-/// Whether an entry may stand at the path and the version that these texts are: both are well formed,
-/// and no check of the entry fails. (Go Modules Reference, "Module paths", "Versions" and "go.mod files".)
-pub fn may_stand(
+/// The version that a text is, if an entry may stand at it and at the path that another text is: both are
+/// well formed, and no check of the entry fails. (Go Modules Reference, "Module paths", "Versions" and
+/// "go.mod files".)
+pub fn fitting_version(
     alloc: Global,
     path: &str,
     version: &str,
     entry: &EntryRef,
-) -> Result<bool, AllocError>
-    ensures { IfOk result (λ b. b ≡ spec.is_entry path.now version.now entry.now) }
+) -> Result<Option<Version>, AllocError>
+    ensures { IfOk result (λ v. v ≡ spec.fitting_version path.now version.now entry.now) }
 {
     let Some(path) = path_of(alloc, path)? else {
-        return Ok(false);
+        return Ok(None);
     };
     let Some(version) = version_of(alloc, version)? else {
-        return Ok(false);
+        return Ok(None);
     };
     if own_misfit(&path, &version, entry).is_some() {
-        return Ok(false);
+        return Ok(None);
     }
     let gomod = Reading::of(alloc, entry.gomod)?;
-    Ok(module_misfit(&path, &version, &gomod).is_none())
+    if module_misfit(&path, &version, &gomod).is_some() {
+        return Ok(None);
+    }
+    Ok(Some(version))
 }
 
 fn is_small(entry: &EntryRef) -> bool

@@ -17,9 +17,9 @@ returns-clause-added g c clean inside has =
     let e : Entry = c.args.entry.now in
     let first = c.in_ok-execute.ensures.runs (was_clean mid new c.execute-2.ensures.survives.clean clean) inside in
     let one : ExecutesInside 0 add_numbered_text (numbered_params c.args.number p e) old mid (Ok c.in_ok-execute.field-0) =
-    rw (c.params-to_sql.ensures, number_bound c.args.number, c.params-to_sql-2.ensures, c.params-to_sql-3.ensures, c.params-to_sql-4.ensures, c.params-to_sql-5.ensures, c.time_text-time.ensures, ap (λ (x : Entry). x.time) c.entry.view_is, time_bound e.time, c.params-to_sql-6.ensures, ap (λ (x : Entry). x.gomod) c.entry.view_is) at first in
+    rw (c.params-to_sql.ensures, number_bound c.args.number, c.params-to_sql-2.ensures, c.params-to_sql-3.ensures, c.params-to_sql-4.ensures, c.params-to_sql-5.ensures, c.time_text-time.ensures, ap (λ (x : Entry). x.time) c.entry.view_is, time_bound e.time, c.params-to_sql-6.ensures, ap (λ (x : Entry). x.gomod) c.entry.view_is, c.params-to_sql-7.ensures, c.params-to_sql-8.ensures, c.as_str.ensures, c.order.ensures, c.rank.ensures) at first in
     let second = c.in_ok-execute-2.ensures.runs clean first.1.mode in
     let range : SFits w64 c.last_insert_rowid-id.result = search rules in
-    let told = rw (c.params-to_sql-7.ensures, c.params-to_sql-8.ensures, ap (λ (x : Entry). x.zip) c.entry.view_is, to_z-of_z {w = w64} {z = c.last_insert_rowid-id.result} range) at second in
+    let told = rw (c.params-to_sql-9.ensures, c.params-to_sql-10.ensures, ap (λ (x : Entry). x.zip) c.entry.view_is, to_z-of_z {w = w64} {z = c.last_insert_rowid-id.result} range) at second in
     let two : ExecutesInside 0 add_body_text (body_params mid.last_rowid e) mid new (Ok c.in_ok-execute-2.field-0) = rw c.last_insert_rowid-id.ensures at told in
     numbered_both c.args.number p e old mid new c.in_ok-execute.field-0 c.in_ok-execute-2.field-0 has one two

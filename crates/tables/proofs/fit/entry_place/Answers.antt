@@ -24,4 +24,4 @@ returns-clause-found c =
     let path = rw c.in-Some-2.is at c.in_ok-path.ensures.found in
     let version = rw c.in-Some-3.is at c.in_ok-version.ensures.found in
     let entry = c.in_ok-shows_entry.ensures.verdict.0 c.if-not-branch.false in
-    (c.in_ok-new.ensures ∙ place_shown row s p v shelf.0 path.0 version.0, entry_shown row s p v entry.0 shelf.0 shelf.1 path.0 version.0 entry.1 (entry.2 s))
+    (c.in_ok-new.ensures ∙ place_shown row s p v shelf.0 path.0 version.0, entry_shown row s p v entry.entry shelf.0 shelf.1 path.0 version.0 entry.files entry.keys (entry.may s))

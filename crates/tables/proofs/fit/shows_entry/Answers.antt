@@ -1,7 +1,6 @@
-use Rattle.std.proofs.Common.{sym, true≢false}
+use Rattle.std.proofs.Common.{sym, ◌∙◌, true≢false}
 use Rattle.world.specs.declared.entry.Entry.{Entry}
-use Rattle.tables.proofs.EntryTests.{test_decides}
-use Rattle.tables.proofs.RowFits.{entry_told, no_time}
+use Rattle.tables.proofs.RowFits.{keys_told, none_fits, no_time}
 use Rattle.tables.proofs.fit.shows_entry.Goals as goal
 
 pub returns-in_default-3-clause-verdict : goal.returns-in_default-3-clause-verdict
@@ -9,9 +8,17 @@ returns-in_default-3-clause-verdict c =
     let none = no_time c.args.row.now c.args.path.now c.args.version.now (rw c.in_default-3.is at c.in_ok-time.ensures.found) in
     (λ e. absurd (true≢false (sym e)), λ it. absurd (none it))
 
-pub returns-clause-verdict : goal.returns-clause-verdict
-returns-clause-verdict c =
+pub returns-in-Some-4-clause-verdict : goal.returns-in-Some-4-clause-verdict
+returns-in-Some-4-clause-verdict c =
     let e : Entry = record { gomod = c.in-Some.gomod.now; zip = c.in-Some-2.zip.now; time = c.in-Some-3.time } in
-    entry_told c.args.row.now c.args.path.now c.args.version.now e c.in_ok-may_stand.field-0
+    keys_told c.args.row.now c.args.path.now c.args.version.now e c.in-Some-4.version c.shows_keys.result
     (record { time = rw c.in-Some-3.is at c.in_ok-time.ensures.found; gomod = rw c.in-Some.is at c.in_ok-gomod.ensures.found; zip = rw c.in-Some-2.is at c.in_ok-zip.ensures.found })
-    (test_decides c.args.path.now c.args.version.now e c.in_ok-may_stand.field-0 c.in_ok-may_stand.ensures)
+    (sym c.in-Some-4.is ∙ c.in_ok-version.ensures) c.shows_keys.ensures.verdict
+
+pub returns-in-None-clause-verdict : goal.returns-in-None-clause-verdict
+returns-in-None-clause-verdict c =
+    let e : Entry = record { gomod = c.in-Some.gomod.now; zip = c.in-Some-2.zip.now; time = c.in-Some-3.time } in
+    let none = none_fits c.args.row.now c.args.path.now c.args.version.now e
+    (record { time = rw c.in-Some-3.is at c.in_ok-time.ensures.found; gomod = rw c.in-Some.is at c.in_ok-gomod.ensures.found; zip = rw c.in-Some-2.is at c.in_ok-zip.ensures.found })
+    (sym c.in-None.is ∙ c.in_ok-version.ensures) in
+    (λ t. absurd (true≢false (sym t)), λ it. absurd (none it))

@@ -1,4 +1,4 @@
-use Rattle.std.proofs.Common.{◌≡◌, ◌∙◌, List, ℕ, Ok, Err, Option, IfOk, IfErr, MatchOption, subst, sym}
+use Rattle.std.proofs.Common.{◌≡◌, ◌∙◌, List, ℕ, Ok, Err, IfOk, IfErr, MatchOption, subst, sym}
 use Rattle.std.specs.Prelude.{Result}
 use Rattle.std.specs.Result.{result_ok}
 use Rattle.modver.specs.Time.{IsTime, IsTimeFault}

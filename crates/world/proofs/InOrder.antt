@@ -93,6 +93,35 @@ pub both : (a b : Bool) → T a → T b → T (a && b)
 both true b p q = q
 both false b p q = p
 
+first : (a b : Bool) → T (a && b) → T a
+first true b h = tt
+first false b h = absurd h
+
+second : (a b : Bool) → T (a && b) → T b
+second true b h = h
+second false b h = absurd h
+
+module _ {K X : Type 0} (R : K → K → Ordering) where
+  below_keys : (k : K) (es : List (K × X)) → T (below_all R k es) → T (below_all R k (bare (each (λ e. e.0) es)))
+  below_keys k [] below = tt
+  below_keys k (e ∷ es) below = both _ _ (first _ _ below) (below_keys k es (second _ _ below))
+
+  -- the keys of entries that rise
+  keys_rise : (es : List (K × X)) → T (map.is_sorted R es) → T (map.is_sorted R (bare (each (λ e. e.0) es)))
+  keys_rise [] up = tt
+  keys_rise (e ∷ es) up = both _ _ (below_keys e.0 es (first _ _ up)) (keys_rise es (second _ _ up))
+
+module _ {K : Type 0} {R : K → K → Ordering} (o : IsTotalOrder R) (exact : map.IsAntisymmetric R) (s : set.FinSet R) where
+  -- of a set that has the keys of a map, these keys
+  pub in_order-keys : {X : Type 0} (m : map.FinMap R X) → ((q : K) → set.contains s q ≡ is_some (map.get m q)) → in_order s ≡ map.keys m
+  in_order-keys m same =
+      ap in_order (set.same_set o exact s (set.from_list (map.keys m)) (λ q. same q ∙ map.contains_key-keys m q ∙ sym (set.contains-from_list o (map.keys m) q)))
+      ∙ in_order-from_list o exact (map.keys m) (keys_rise R (map.entries m) (map.entries_sorted m))
+
+  -- of a set that has nothing
+  pub in_order-nothing : ((q : K) → set.contains s q ≡ false) → in_order s ≡ []
+  in_order-nothing none = ap in_order (set.same_set o exact s (set.from_list []) (λ q. none q ∙ sym (set.contains-from_list o [] q))) ∙ in_order-from_list o exact [] tt
+
 module _ {Y K : Type 0} (R : K → K → Ordering) (f : Y → K) where
   above_all : (x : Y) (ys : List Y) → AllByRecursion (λ y. R (f x) (f y) ≡ Less) ys → T (below_all R (f x) (bare (each f ys)))
   above_all x [] above = tt

@@ -10,6 +10,8 @@ use Rattle.world.specs.declared.entry.Entry.{Entry}
 use Rattle.world.specs.Visible.{versions_among, paths_among}
 use Rattle.world.specs.World.{text_cmp, place}
 use Rattle.world.specs.Kept.{Nested, EachHasVersion, by_place, get_under, map_at, put_at, with_texts}
+use Rattle.world.specs.Lines.{in_order}
+use Rattle.world.proofs.InOrder.{in_order-keys, in_order-nothing}
 use Rattle.world.proofs.Orders.{texts_total, texts_exact, get_put}
 use Rattle.world.proofs.MapsNested.{get_put_under}
 use Rattle.world.proofs.MapsPlaces.{get_by_place}
@@ -67,11 +69,11 @@ module _ (m : Nested) (s : List ℕ) where
   has_version : (p v : List ℕ) → set.contains (versions_among s p (map.entries (by_place m))) v ≡ is_some (option_and_then (λ versions. map.get versions v) (get_under m s p))
   has_version p v = contains_among s p v (map.entries (by_place m)) ∙ ap is_some (sym (map.get-entries (by_place m) (place s p v)) ∙ at_place p v)
 
-  pub no_versions : (p : List ℕ) (old : set.FinSet text_cmp) → None ≡ get_under m s p → old ≡ set.union old (versions_among s p (map.entries (by_place m)))
-  no_versions p old none = no_more old _ (λ v. has_version p v ∙ ap (λ o. is_some (option_and_then (λ versions. map.get versions v) o)) (sym none))
+  pub no_versions : (p : List ℕ) → None ≡ get_under m s p → in_order (versions_among s p (map.entries (by_place m))) ≡ []
+  no_versions p none = in_order-nothing texts_total texts_exact _ (λ v. has_version p v ∙ ap (λ o. is_some (option_and_then (λ versions. map.get versions v) o)) (sym none))
 
-  pub more_versions : (p : List ℕ) (old : set.FinSet text_cmp) (versions : map.FinMap text_cmp Entry) → Some versions ≡ get_under m s p → with_texts old (map.keys versions) ≡ set.union old (versions_among s p (map.entries (by_place m)))
-  more_versions p old versions found = more_keys old _ versions (λ v. has_version p v ∙ ap (λ o. is_some (option_and_then (λ versions. map.get versions v) o)) (sym found))
+  pub the_versions : (p : List ℕ) (versions : map.FinMap text_cmp Entry) → Some versions ≡ get_under m s p → in_order (versions_among s p (map.entries (by_place m))) ≡ map.keys versions
+  the_versions p versions found = in_order-keys texts_total texts_exact _ versions (λ v. has_version p v ∙ ap (λ o. is_some (option_and_then (λ versions. map.get versions v) o)) (sym found))
 
 -- ---- paths
 

@@ -1,5 +1,5 @@
 -- The versions of a list by precedence are its versions, and those of one path stand each below the next.
-use Rattle.std.proofs.Common.{◌≡◌, ℕ, List, [], ◌∷◌, true, refl, ◌∙◌, sym, ap, subst, inl, inr, ◌⊎◌}
+use Rattle.std.proofs.Common.{◌≡◌, ℕ, List, [], ◌∷◌, Bool, true, false, refl, ◌∙◌, sym, ap, subst, inl, inr, ◌⊎◌}
 use Rattle.std.specs.Prelude.{◌↔◌, Contains}
 use Rattle.std.specs.Ordering.{eq_by_cmp, is_eq, ordering_then}
 use Rattle.std.specs.declared.cmp.Ordering.{Ordering}
@@ -21,6 +21,11 @@ use Rattle.world.proofs.VersionOrder.{versions_exact}
 
 -- ---- their members
 
+same_bool : (a b : Bool) → (a ≡ true → b ≡ true) → (b ≡ true → a ≡ true) → a ≡ b
+same_bool true b f g = sym (f refl)
+same_bool false true f g = g refl
+same_bool false false f g = refl
+
 one_more : (vs : List SemanticVersion) (x v : SemanticVersion) → (set.contains (by_precedence (x ∷ vs)) v ≡ true) ↔ ((x ≡ v) ⊎ (set.contains (by_precedence vs) v ≡ true))
 one_more vs x v =
     let more = set.contains-insert versions_total (by_precedence vs) x v in (
@@ -39,6 +44,12 @@ set_members (x ∷ vs) v =
       λ at. elim (more.0 at) [ inl same ↦ subst (Contains (x ∷ vs)) same (first_member x vs) | inr old ↦ later_member x v vs (rest.0 old) ],
       λ at. more.1 (elim (member_cases x v vs at) [ inl same ↦ inl same | inr later ↦ inr (rest.1 later) ]),
     )
+
+-- lists of the same versions are the same by precedence
+pub same_versions : (vs us : List SemanticVersion) → ((v : SemanticVersion) → Contains vs v ↔ Contains us v) → by_precedence vs ≡ by_precedence us
+same_versions vs us same = set.same_set versions_total versions_exact _ _ (λ v. same_bool _ _
+    (λ at. (set_members us v).1 ((same v).0 ((set_members vs v).0 at)))
+    (λ at. (set_members vs v).1 ((same v).1 ((set_members us v).0 at))))
 
 pub sorted_members : (vs : List SemanticVersion) (v : SemanticVersion) → Contains (in_order (by_precedence vs)) v ↔ Contains vs v
 sorted_members vs v =

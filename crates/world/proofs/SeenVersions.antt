@@ -1,11 +1,12 @@
 -- The versions of a path that a shelf sees are those at which it sees an entry, and each fits the path.
-use Rattle.std.proofs.Common.{◌≡◌, ℕ, List, [], ◌∷◌, true, refl, ◌∙◌, sym, ap, subst, inl, inr, Option, Some, None}
-use Rattle.std.specs.Prelude.{◌↔◌, Contains, is_some}
+use Rattle.std.proofs.Common.{◌≡◌, ℕ, List, [], ◌∷◌, true, refl, ◌∙◌, sym, ap, subst, inl, inr, ◌⊎◌, ◌++◌, false, Option, Some, None}
+use Rattle.std.specs.Prelude.{◌↔◌, ◌||◌, Contains, is_some}
 use Rattle.std.specs.Option.{option_or}
 use Rattle.std.specs.declared.cmp.Ordering.TheVariants.{Less}
 use Rattle.std.specs.FinMap as map
 use Rattle.std.specs.FinSet as set
-use Rattle.std.proofs.lemmas.Bool.{true≢false}
+use Rattle.std.proofs.lemmas.Bool.{true≢false, or_cases, or_left, or_right}
+use Rattle.std.proofs.lemmas.List.Elements.{Contains-append_left, Contains-append_right, Contains-append_cases}
 use Rattle.modver.specs.Fits.{IsVersionOf, fits}
 use Rattle.modver.specs.Reading.{IsCanonical, version_of}
 use Rattle.modver.specs.SemanticVersion.{SemanticVersion, version_text}
@@ -15,11 +16,11 @@ use Rattle.world.specs.declared.entry.Seen.{Seen}
 use Rattle.world.specs.Latest.{AllOf}
 use Rattle.world.specs.Lines.{in_order, EachToNext}
 use Rattle.world.specs.Versions.{with_version, named, version_cmp, by_precedence, versions_of, VersionsAscend}
-use Rattle.world.specs.Visible.{IsSeen, seen_versions, versions_seen}
-use Rattle.world.specs.World.{World, IsWorld, IsEntry, chain, place, seen_at, first_on, view}
+use Rattle.world.specs.Visible.{IsSeen, seen_versions, versions_among, versions_seen}
+use Rattle.world.specs.World.{World, IsWorld, IsEntry, chain, common, place, text_cmp, seen_at, first_on, view}
 use Rattle.world.proofs.Orders.{texts_total, texts_exact}
 use Rattle.world.proofs.Members.{no_member, first_member, later_member, member_cases, in_order_rises, in_order_of, in_set_of}
-use Rattle.world.proofs.Precedence.{sorted_members, below_next}
+use Rattle.world.proofs.Precedence.{same_versions, sorted_members, below_next}
 use Rattle.world.proofs.Seen.{contains_versions}
 
 -- ---- what is seen
@@ -61,7 +62,52 @@ named_by (t ∷ ts) v =
       )
     ] refl
 
+-- those that the texts of a set name
+module _ (v : SemanticVersion) where
+  abbrev NamedIn : set.FinSet text_cmp → Type 0
+  NamedIn ts = (t : List ℕ) × (set.contains ts t ≡ true) × (version_of t ≡ Some v)
+
+  named_in : (ts : set.FinSet text_cmp) → Contains (named (in_order ts)) v ↔ NamedIn ts
+  named_in ts = (
+    λ at. let by = (named_by (in_order ts) v).0 at in (by.0, in_set_of texts_total texts_exact ts by.0 by.1, by.2),
+    λ h. (named_by (in_order ts) v).1 (h.0, in_order_of texts_total texts_exact ts h.0 h.1, h.2),
+  )
+
+  -- two sets name what the texts of both name
+  module _ (a b : set.FinSet text_cmp) where
+    abbrev both : set.FinSet text_cmp
+    both = set.union a (set.union b set.empty)
+
+    either : (t : List ℕ) → set.contains both t ≡ (set.contains a t || (set.contains b t || false))
+    either t = set.contains-union texts_total a (set.union b set.empty) t ∙ ap (λ x. set.contains a t || x) (set.contains-union texts_total b set.empty t ∙ ap (λ x. set.contains b t || x) (set.contains-empty text_cmp t))
+
+    in_one : (t : List ℕ) → set.contains both t ≡ true → (set.contains a t ≡ true) ⊎ (set.contains b t ≡ true)
+    in_one t at = elim (or_cases (set.contains a t) _ (sym (either t) ∙ at)) [
+      | inl one ↦ inl one
+      | inr rest ↦ elim (or_cases (set.contains b t) false rest) [ inl other ↦ inr other | inr never ↦ absurd (true≢false (sym never)) ]
+    ]
+
+    pub named_in_both : Contains (named (in_order a) ++ named (in_order b)) v ↔ Contains (named (in_order both)) v
+    named_in_both = (
+      λ at. elim (Contains-append_cases (named (in_order a)) (named (in_order b)) v at) [
+        | inl one ↦ let by = (named_in a).0 one in (named_in both).1 (by.0, either by.0 ∙ or_left _ _ by.1, by.2)
+        | inr other ↦ let by = (named_in b).0 other in (named_in both).1 (by.0, either by.0 ∙ or_right (set.contains a by.0) _ (or_left _ false by.1), by.2)
+      ],
+      λ at.
+          let by = (named_in both).0 at in
+          elim (in_one by.0 by.1) [
+            | inl one ↦ Contains-append_left (named (in_order a)) (named (in_order b)) v ((named_in a).1 (by.0, one, by.2))
+            | inr other ↦ Contains-append_right (named (in_order a)) (named (in_order b)) v ((named_in b).1 (by.0, other, by.2))
+          ],
+    )
+
 -- ---- the versions of a path that a shelf sees
+
+-- those on its own shelf and those on common, in whatever order
+pub on_both_shelves : (w : World) (s p : List ℕ)
+    → in_order (by_precedence (named (in_order (versions_among s p (map.entries w.entries))) ++ named (in_order (versions_among common p (map.entries w.entries))))) ≡ versions_of w s p
+on_both_shelves w s p =
+    ap in_order (same_versions _ _ (λ v. named_in_both v (versions_among s p (map.entries w.entries)) (versions_among common p (map.entries w.entries))))
 
 -- what is seen stands on a shelf
 stands_on : (w : World) (ss : List (List ℕ)) (p v : List ℕ) (e : Seen) → first_on w ss p v ≡ Some e → map.get w.entries (place e.shelf p v) ≡ Some e.entry

@@ -2,8 +2,9 @@
 ghost use Rattle.std.specs.Prelude.{◌≡◌, option_copied, option_map, IfOk, IsOk};
 ghost use Rattle.std.specs.FinMap as map;
 ghost use Rattle.modver.specs.SemanticVersion.{version_text};
+ghost use Rattle.world.specs.Lines.{in_order};
 ghost use Rattle.world.specs.Standing.{standing};
-ghost use Rattle.world.specs.Visible.{versions_seen};
+ghost use Rattle.world.specs.Versions.{by_precedence, versions_of};
 ghost use Rattle.world.specs.World.{only_common, place, seen_at, heading_of, count};
 
 use crate::entry::{Entry, EntryRef, Heading, Holder, Right, Seen};
@@ -16,7 +17,7 @@ use crate::shelves::Shelves;
 use crate::standing::{Standing, standing_to};
 use crate::text_set::TextSet;
 use crate::version_list::Versions;
-use crate::versions::{ascending, highest, latest_left};
+use crate::versions::{highest, latest_left, sorted};
 use modpath::ModulePath;
 use modver::Version;
 use std::alloc::{AllocError, Global};
@@ -65,16 +66,16 @@ impl MapShelves {
         self.entries.get(shelf, path.as_str(), version.as_str())
     }
 
-    /// The texts of the versions of a path that a shelf sees.
-    fn texts_of(&self, shelf: &str, path: &str) -> Result<TextSet, AllocError>
-        ensures { IfOk result (λ texts. texts ≡ versions_seen self.now shelf.now path.now) }
+    /// The versions of a path that a shelf sees, in no order; one that stands on both shelves is there twice.
+    fn versions_seen(&self, shelf: &str, path: &str) -> Result<Vec<Version>, AllocError>
+        ensures { IfOk result (λ vs. in_order (by_precedence vs.items) ≡ versions_of self.now shelf.now path.now) }
     {
-        let mut texts = TextSet::new(self.alloc);
+        let mut versions = Vec::new(self.alloc);
         self.entries
-            .add_versions(self.alloc, shelf, path, &mut texts)?;
+            .add_versions(self.alloc, shelf, path, &mut versions)?;
         self.entries
-            .add_versions(self.alloc, COMMON, path, &mut texts)?;
-        Ok(texts)
+            .add_versions(self.alloc, COMMON, path, &mut versions)?;
+        Ok(versions)
     }
 
     /// A copy of what stands on a shelf.
@@ -186,12 +187,12 @@ impl Shelves for MapShelves {
     }
 
     fn versions(&mut self, shelf: &str, path: &ModulePath) -> Result<Versions, StoreFault> {
-        let texts = self.texts_of(shelf, path.as_str())?;
-        Ok(ascending(self.alloc, &texts)?)
+        let versions = self.versions_seen(shelf, path.as_str())?;
+        Ok(sorted(self.alloc, versions)?)
     }
 
     fn latest(&mut self, shelf: &str, path: &ModulePath) -> Result<Option<Version>, StoreFault> {
-        let versions = self.versions(shelf, path)?;
+        let versions = self.versions_seen(shelf, path.as_str())?;
         let Some(newest) = highest(versions.as_slice()) else {
             return Ok(None);
         };

@@ -1,11 +1,13 @@
 //! The versions that texts name, by their precedence, and the highest of them by rank.
-ghost use Rattle.std.specs.Prelude.{◌≡◌, ℕ, List, IfOk, option_copied};
+ghost use Rattle.std.specs.Prelude.{◌≡◌, ◌++◌, ℕ, List, IfOk, OnOk, option_copied};
+ghost use Rattle.std.specs.FinMap as map;
 ghost use Rattle.world.specs.Latest as spec;
 ghost use Rattle.world.specs.Latest.{AllOf};
 ghost use Rattle.world.specs.Lines.{in_order};
 ghost use Rattle.world.specs.Versions.{named, by_precedence};
 
 use crate::forms::version_of;
+use crate::maps::text_map::TextMap;
 use crate::text_set::TextSet;
 use crate::version_list::Versions;
 use crate::version_set::VersionSet;
@@ -27,6 +29,22 @@ fn named(alloc: Global, texts: &TextSet) -> Result<Vec<Version>, AllocError>
     Ok(versions)
 }
 
+/// Adds the versions that the texts of a map name to others, in the order of the texts.
+pub fn add_named<V>(
+    alloc: Global,
+    texts: &TextMap<V>,
+    versions: &mut Vec<Version>,
+) -> Result<(), AllocError>
+    ensures { OnOk result (versions.new.items ≡ versions.old.items ++ named (map.keys texts.now)) }
+{
+    for key in texts.keys() {
+        if let Some(version) = version_of(alloc, key.as_str())? {
+            versions.push(version)?;
+        }
+    }
+    Ok(())
+}
+
 /// The versions of a list by precedence, each once.
 fn by_precedence(alloc: Global, mut versions: Vec<Version>) -> Result<VersionSet, AllocError>
     ensures { IfOk result (λ s. s ≡ by_precedence versions.items) }
@@ -38,12 +56,18 @@ fn by_precedence(alloc: Global, mut versions: Vec<Version>) -> Result<VersionSet
     Ok(set)
 }
 
+/// The versions of a list in ascending precedence, each once. (SemVer 2.0.0, section 11.)
+pub fn sorted(alloc: Global, versions: Vec<Version>) -> Result<Versions, AllocError>
+    ensures { IfOk result (λ vs. vs ≡ in_order (by_precedence versions.items)) }
+{
+    by_precedence(alloc, versions)?.into_list(alloc)
+}
+
 /// The versions that texts name, in ascending precedence. (SemVer 2.0.0, section 11.)
 pub fn ascending(alloc: Global, texts: &TextSet) -> Result<Versions, AllocError>
     ensures { IfOk result (λ vs. vs ≡ in_order (by_precedence (named (in_order texts.now)))) }
 {
-    let named = named(alloc, texts)?;
-    by_precedence(alloc, named)?.into_list(alloc)
+    sorted(alloc, named(alloc, texts)?)
 }
 
 /// The highest of some versions of a path, by rank. It takes no memory.

@@ -1,13 +1,17 @@
 //! Entries by their places.
-ghost use Rattle.std.specs.Prelude.{◌≡◌, ◌&&◌, OnOk, OnErr, option_copied, bytes_eq};
+ghost use Rattle.std.specs.Prelude.{◌≡◌, ◌&&◌, ◌++◌, OnOk, OnErr, option_copied, bytes_eq};
 ghost use Rattle.std.specs.FinMap as map;
 ghost use Rattle.std.specs.FinSet as set;
+ghost use Rattle.world.specs.Lines.{in_order};
+ghost use Rattle.world.specs.Versions.{named};
 ghost use Rattle.world.specs.Visible.{versions_among, paths_among};
 ghost use Rattle.world.specs.World.{place};
 
 use crate::entry::Entry;
 use crate::maps::text_map::TextMap;
 use crate::text_set::TextSet;
+use crate::versions::add_named;
+use modver::Version;
 use std::alloc::{AllocError, Global};
 use std::marker::Model;
 
@@ -60,19 +64,19 @@ impl EntryMap {
         }
     }
 
-    /// Puts the versions of a path on a shelf into a set.
+    /// Adds the versions of a path on a shelf to others.
     pub fn add_versions(
         &self,
         alloc: Global,
         shelf: &str,
         path: &str,
-        versions: &mut TextSet,
+        versions: &mut Vec<Version>,
     ) -> Result<(), AllocError>
-        ensures { OnOk result (versions.new ≡ set.union versions.old (versions_among shelf.now path.now (map.entries self.now))) }
+        ensures { OnOk result (versions.new.items ≡ versions.old.items ++ named (in_order (versions_among shelf.now path.now (map.entries self.now)))) }
     {
         match self.shelves.get_under(shelf, path) {
             None => Ok(()),
-            Some(found) => found.add_keys(alloc, versions),
+            Some(found) => add_named(alloc, found, versions),
         }
     }
 

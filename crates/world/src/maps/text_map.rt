@@ -1,5 +1,5 @@
 //! An ordered map from texts.
-ghost use Rattle.std.specs.Prelude.{◌≡◌, ℕ, List, OnOk, OnErr, option_copied, is_some, string_bytes};
+ghost use Rattle.std.specs.Prelude.{◌≡◌, ℕ, List, OnOk, OnErr, option_copied, is_some, map as each, string_bytes};
 ghost use Rattle.std.specs.FinMap as map;
 ghost use Rattle.std.specs.Option.{option_copied_mut};
 ghost use Rattle.std.specs.Borrow.{sem};
@@ -10,6 +10,7 @@ ghost use Rattle.world.specs.Kept.{get_under, put_under, with_texts};
 use crate::text_set::TextSet;
 use std::alloc::{AllocError, Global};
 use std::collections::BTreeMap;
+use std::collections::btree_map::Keys;
 use std::marker::Model;
 
 /// An ordered map from texts, which contracts see as a finite map from their bytes.
@@ -59,11 +60,18 @@ impl<V> TextMap<V> {
         self.tree.len()
     }
 
+    /// Its texts in order. It takes no memory.
+    pub fn keys(&self) -> Keys<'_, String, V>
+        ensures { each string_bytes result ≡ map.keys self.now }
+    {
+        self.tree.keys()
+    }
+
     /// Puts its texts into a set.
     pub fn add_keys(&self, alloc: Global, texts: &mut TextSet) -> Result<(), AllocError>
         ensures { OnOk result (texts.new ≡ with_texts texts.old (map.keys self.now)) }
     {
-        for key in self.tree.keys() {
+        for key in self.keys() {
             texts.insert(String::from_str(alloc, key.as_str())?)?;
         }
         Ok(())

@@ -1,6 +1,5 @@
 use Rattle.std.proofs.Common.{◌∙◌, ap}
-use Rattle.world.specs.Lines.{in_order}
-use Rattle.world.specs.Versions.{named, by_precedence, versions_of}
+use Rattle.world.specs.Versions.{versions_of}
 use Rattle.world.specs.World.{World}
 use Rattle.world.proofs.MapsDone.{told}
 use Rattle.world.proofs.map_shelves.MapShelvesShelves.versions.Goals as goal
@@ -11,7 +10,6 @@ returns-clause-reads c = record {
   at = λ _ w is.
       let s = c.args.shelf.now in
       let p = c.args.path.now in
-      let texts = rw c.as_str.ensures.value at c.in_ok-texts.ensures in
-      told c.args.self.now w _ (versions_of w s p) is
-      (c.in_ok-ascending.ensures ∙ ap (λ ts. in_order (by_precedence (named (in_order ts)))) texts ∙ ap (λ (x : World). versions_of x s p) is.0);
+      let found = rw c.as_str.ensures.value at c.in_ok-versions.ensures in
+      told c.args.self.now w _ (versions_of w s p) is (c.in_ok-sorted.ensures ∙ found ∙ ap (λ (x : World). versions_of x s p) is.0);
 }

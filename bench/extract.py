@@ -33,7 +33,7 @@ COPY = (
     "INSERT INTO shelf SELECT name FROM whole.shelf WHERE name = ?1",
     "INSERT INTO access SELECT * FROM whole.access WHERE shelf IN ('common', ?1)",
     "INSERT INTO version SELECT * FROM whole.version WHERE shelf IN ('common', ?1)",
-    "INSERT INTO body SELECT body.* FROM whole.version JOIN whole.body USING (id) WHERE shelf IN ('common', ?1)",
+    "INSERT INTO piece SELECT piece.* FROM whole.version JOIN whole.piece ON piece.version = version.id WHERE shelf IN ('common', ?1)",
 )
 
 
@@ -59,7 +59,7 @@ def filled(file, entries):
         path, version = f"example.com/m{place // OF_A_PATH}", f"v1.0.{place % OF_A_PATH}"
         row = (team, path, version, gomod(path), *keys(version))
         number = conn.execute("INSERT INTO version (shelf, path, version, mod, order_key, rank_key) VALUES (?, ?, ?, ?, ?, ?)", row).lastrowid
-        conn.execute("INSERT INTO body VALUES (?, ?)", (number, BLOCK))
+        conn.execute("INSERT INTO piece VALUES (?, 0, ?)", (number, BLOCK))
     conn.execute("COMMIT")
     conn.close()
 

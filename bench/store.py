@@ -16,13 +16,15 @@ ROOT = os.path.dirname(os.path.dirname(os.path.abspath(__file__)))
 PROGRAM = os.path.join(ROOT, "crates", "goshelf", "out", "goshelf")
 KEY = "alphakey00000001"
 BLOCK = bytes(range(256)) * 4
+# bytes of a piece of a zip but for its last
+PIECE = 65_536
 ROUNDS = 7
 TABLES = """
 CREATE TABLE meta (name TEXT PRIMARY KEY, value INTEGER NOT NULL) STRICT;
 CREATE TABLE shelf (name TEXT PRIMARY KEY) STRICT;
 CREATE TABLE access (token TEXT PRIMARY KEY, shelf TEXT NOT NULL REFERENCES shelf (name), publish INTEGER NOT NULL CHECK (publish IN (0, 1))) STRICT;
 CREATE TABLE version (id INTEGER PRIMARY KEY, shelf TEXT NOT NULL REFERENCES shelf (name), path TEXT NOT NULL, version TEXT NOT NULL, time TEXT, mod BLOB NOT NULL, order_key BLOB NOT NULL, rank_key BLOB NOT NULL, UNIQUE (shelf, path, version)) STRICT;
-CREATE TABLE body (id INTEGER PRIMARY KEY REFERENCES version (id), zip BLOB NOT NULL) STRICT;
+CREATE TABLE piece (version INTEGER NOT NULL REFERENCES version (id), number INTEGER NOT NULL CHECK (number >= 0), bytes BLOB NOT NULL, PRIMARY KEY (version, number)) STRICT;
 INSERT INTO meta VALUES ('schema', 2);
 INSERT INTO shelf VALUES ('common'), ('alpha');
 INSERT INTO access VALUES ('alphakey00000001', 'alpha', 1);
@@ -68,7 +70,9 @@ def insert(conn, n, zip_length):
     path, version = place(n)
     row = ("alpha", path, version, gomod(path), *keys(version))
     number = conn.execute("INSERT INTO version (shelf, path, version, mod, order_key, rank_key) VALUES (?, ?, ?, ?, ?, ?)", row).lastrowid
-    conn.execute("INSERT INTO body VALUES (?, ?)", (number, BLOCK * (zip_length // len(BLOCK))))
+    zip = BLOCK * (zip_length // len(BLOCK))
+    for at in range(0, len(zip), PIECE):
+        conn.execute("INSERT INTO piece VALUES (?, ?, ?)", (number, at // PIECE, zip[at : at + PIECE]))
 
 
 def filled(file, entries):

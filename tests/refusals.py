@@ -59,13 +59,15 @@ def change(name, *statements):
     conn.close()
 
 
+# bytes of a piece of a zip but for its last
+PIECE = 65_536
 # what docs/OPERATING.md has sqlite3 run in a new store, to take over the rows of a file f
 TAKE_OVER = (
     "BEGIN",
     "INSERT INTO shelf SELECT name FROM f.shelf WHERE name <> 'common'",
     "INSERT INTO access (token, shelf, publish) SELECT token, shelf, publish FROM f.access",
     "INSERT INTO version (id, shelf, path, version, time, mod, order_key, rank_key) SELECT id, shelf, path, version, time, mod, order_key, rank_key FROM f.version",
-    "INSERT INTO body (id, zip) SELECT id, zip FROM f.body",
+    "INSERT INTO piece (version, number, bytes) SELECT version, number, bytes FROM f.piece",
     "COMMIT",
 )
 
@@ -179,7 +181,7 @@ def numbers():
 
     def add(number, version):
         row = ["INSERT INTO version VALUES (?, 'alpha', 'example.com/n', ?, NULL, ?, ?, ?)", number, version, mod, *keys(version)]
-        change("v.db", row, ["INSERT INTO body VALUES (?, X'')", number])
+        change("v.db", row, ["INSERT INTO piece VALUES (?, 0, X'5A')", number])
 
     def published(version):
         line = f"publish --db v.db --key {KEY} --module example.com/n --mod n.mod --zip n.mod --version {version}"
@@ -189,7 +191,7 @@ def numbers():
     wants("a row has the last number", "201 published", published("v1.1.0"))
     add(first, "v1.2.0")
     wants("one has the first number too", "503 unavailable", published("v1.3.0"))
-    change("v.db", *([f"UPDATE {table} SET id = 0 WHERE id = ?", last] for table in ("version", "body")))
+    change("v.db", *([f"UPDATE {table} SET {column} = 0 WHERE {column} = ?", last] for table, column in (("version", "id"), ("piece", "version"))))
     wants("the last number was changed to 0", "201 published", published("v1.3.0"))
 
 
@@ -257,7 +259,7 @@ def memory():
     change(
         "m.db",
         ["INSERT INTO version VALUES (1, 'alpha', 'example.com/big', 'v1.0.0', NULL, ?, ?, ?)", b"module example.com/big\n", *keys("v1.0.0")],
-        ["INSERT INTO body VALUES (1, ?)", os.urandom(16_000_000)],
+        *(["INSERT INTO piece VALUES (1, ?, ?)", number, os.urandom(PIECE)] for number in range(244)),
     )
     wants("the system gave no memory", "memory", word("team-add --db m.db --team beta", before=limit))
     wants("with more memory", "", word("team-add --db m.db --team beta"))

@@ -1,4 +1,4 @@
-//! Files of the most bytes, one byte more, and go.mod files of very many lines and words.
+//! Files of the most bytes, one byte more, zips about the length of a piece, and go.mod files of very many lines and words.
 use crate::stores::{Maps, Tables, wrong_row_of};
 use std::test::Fail;
 
@@ -21,6 +21,31 @@ GET A -/gosum/example.com/m/@v/v1.0.0;; & GET A example.com/m/@latest;; | plain 
 fn files_of_the_most_bytes_come_back(rt: HostRuntime) -> Result<(), Fail> {
     assert_eq!(rt; wrong_row_of::<Maps>(rt.alloc(), FILES)?, "");
     assert_eq!(rt; wrong_row_of::<Tables>(rt.alloc(), FILES)?, "");
+    Ok(())
+}
+
+/// Publishes of zips that end where a piece of 65,536 bytes ends or beside it, and the zips that are got back.
+const PIECES: &str = "\
+no byte, one, a full piece of 65,536, a byte more, and two full pieces and a byte
+PUT A example.com/p/@v/v1.0.0 ~ module example.com/p$ & PUT A example.com/p/@v/v1.0.1 ~ module example.com/p$ ~ Z | 201 published$ & 201 published$
+PUT A example.com/p/@v/v1.0.2 ~ module example.com/p$ ~ <65536*a> | 201 published$
+PUT A example.com/p/@v/v1.0.3 ~ module example.com/p$ ~ <65536*a>b | 201 published$
+PUT A example.com/p/@v/v1.0.4 ~ module example.com/p$ ~ <65536*a><65536*b>c | 201 published$
+GET A example.com/p/@v/v1.0.0.zip;; & GET A example.com/p/@v/v1.0.1.zip;; | zip & zip Z
+GET A example.com/p/@v/v1.0.2.zip;; & GET A example.com/p/@v/v1.0.3.zip;; | zip <65536*a> & zip <65536*a>b
+GET A example.com/p/@v/v1.0.4.zip;; | zip <65536*a><65536*b>c
+the same again, and others: another byte in each piece, a byte less and one more, no byte and one
+PUT A example.com/p/@v/v1.0.0 ~ module example.com/p$ & PUT A example.com/p/@v/v1.0.4 ~ module example.com/p$ ~ <65536*a><65536*b>c | 200 already published$ & 200 already published$
+PUT A example.com/p/@v/v1.0.4 ~ module example.com/p$ ~ <65535*a>x<65536*b>c & PUT A example.com/p/@v/v1.0.4 ~ module example.com/p$ ~ <65536*a>x<65535*b>c | 409 conflict$ & 409 conflict$
+PUT A example.com/p/@v/v1.0.4 ~ module example.com/p$ ~ <65536*a><65536*b>x & PUT A example.com/p/@v/v1.0.4 ~ module example.com/p$ ~ <65536*b><65536*a>c | 409 conflict$ & 409 conflict$
+PUT A example.com/p/@v/v1.0.4 ~ module example.com/p$ ~ <65536*a><65536*b> & PUT A example.com/p/@v/v1.0.4 ~ module example.com/p$ ~ <65536*a><65536*b>cc | 409 conflict$ & 409 conflict$
+PUT A example.com/p/@v/v1.0.0 ~ module example.com/p$ ~ Z & PUT A example.com/p/@v/v1.0.1 ~ module example.com/p$ | 409 conflict$ & 409 conflict$
+";
+
+#[test]
+fn zips_that_end_where_a_piece_ends_come_back(rt: HostRuntime) -> Result<(), Fail> {
+    assert_eq!(rt; wrong_row_of::<Maps>(rt.alloc(), PIECES)?, "");
+    assert_eq!(rt; wrong_row_of::<Tables>(rt.alloc(), PIECES)?, "");
     Ok(())
 }
 

@@ -12,7 +12,7 @@ CREATE TABLE meta (name TEXT PRIMARY KEY, value INTEGER NOT NULL) STRICT;
 CREATE TABLE shelf (name TEXT PRIMARY KEY) STRICT;
 CREATE TABLE access (token TEXT PRIMARY KEY, shelf TEXT NOT NULL REFERENCES shelf (name), publish INTEGER NOT NULL CHECK (publish IN (0, 1))) STRICT;
 CREATE TABLE version (id INTEGER PRIMARY KEY, shelf TEXT NOT NULL REFERENCES shelf (name), path TEXT NOT NULL, version TEXT NOT NULL, time TEXT, mod BLOB NOT NULL, order_key BLOB NOT NULL, rank_key BLOB NOT NULL, UNIQUE (shelf, path, version)) STRICT;
-CREATE TABLE body (id INTEGER PRIMARY KEY REFERENCES version (id), zip BLOB NOT NULL) STRICT;
+CREATE TABLE piece (version INTEGER NOT NULL REFERENCES version (id), number INTEGER NOT NULL CHECK (number >= 0), bytes BLOB NOT NULL, PRIMARY KEY (version, number)) STRICT;
 ";
 
 /// A team with a key, and a version of `common`.
@@ -21,7 +21,7 @@ INSERT INTO meta VALUES ('schema', 2);
 INSERT INTO shelf VALUES ('common'), ('alpha');
 INSERT INTO access VALUES ('alphakey00000001', 'alpha', 1);
 INSERT INTO version VALUES (7, 'common', 'example.com/lib', 'v1.0.0', NULL, X'6d6f64756c65206578616d706c652e636f6d2f6c69620a', X'00000000000000010000000000000000000000000000000003', X'0300000000000000010000000000000000000000000000000003');
-INSERT INTO body VALUES (7, X'5A');
+INSERT INTO piece VALUES (7, 0, X'5A');
 ";
 
 /// The tables of schema 1, which have no keys of order, with their rows.
@@ -46,16 +46,22 @@ CREATE TABLE body (id INTEGER PRIMARY KEY, zip BLOB NOT NULL) STRICT
 
 /// What makes others of the tables, the last two in another order and by another text.
 const OTHERS: &str = "\
-DROP TABLE body;DROP TABLE version;CREATE TABLE version (id INTEGER PRIMARY KEY, shelf TEXT NOT NULL REFERENCES shelf (name), path TEXT NOT NULL, version TEXT NOT NULL, time TEXT, mod BLOB NOT NULL, order_key BLOB NOT NULL, rank_key BLOB, UNIQUE (shelf, path, version)) STRICT;CREATE TABLE body (id INTEGER PRIMARY KEY REFERENCES version (id), zip BLOB NOT NULL) STRICT
+DROP TABLE piece;DROP TABLE version;CREATE TABLE version (id INTEGER PRIMARY KEY, shelf TEXT NOT NULL REFERENCES shelf (name), path TEXT NOT NULL, version TEXT NOT NULL, time TEXT, mod BLOB NOT NULL, order_key BLOB NOT NULL, rank_key BLOB, UNIQUE (shelf, path, version)) STRICT;CREATE TABLE piece (version INTEGER NOT NULL REFERENCES version (id), number INTEGER NOT NULL CHECK (number >= 0), bytes BLOB NOT NULL, PRIMARY KEY (version, number)) STRICT
 CREATE TABLE x (a INTEGER) STRICT
 CREATE INDEX by_path ON version (path)
 CREATE VIEW paths AS SELECT path FROM version
-DROP TABLE body
-DROP TABLE body;CREATE TABLE body (id INTEGER PRIMARY KEY REFERENCES version (id), zip BLOB) STRICT
-DROP TABLE body;CREATE TABLE body (id INTEGER PRIMARY KEY REFERENCES version (id), zip BLOB NOT NULL, size INTEGER) STRICT
+DROP TABLE piece
+DROP TABLE piece;CREATE TABLE piece (version INTEGER NOT NULL REFERENCES version (id), number INTEGER NOT NULL CHECK (number >= 0), bytes BLOB, PRIMARY KEY (version, number)) STRICT
+DROP TABLE piece;CREATE TABLE piece (version INTEGER NOT NULL REFERENCES version (id), number INTEGER NOT NULL CHECK (number >= 0), bytes BLOB NOT NULL, size INTEGER, PRIMARY KEY (version, number)) STRICT
+DROP TABLE piece;CREATE TABLE piece (version INTEGER NOT NULL REFERENCES version (id), number INTEGER NOT NULL, bytes BLOB NOT NULL, PRIMARY KEY (version, number)) STRICT
+DROP TABLE piece;CREATE TABLE piece (version INTEGER NOT NULL REFERENCES version (id), number INTEGER NOT NULL CHECK (number > 0), bytes BLOB NOT NULL, PRIMARY KEY (version, number)) STRICT
+DROP TABLE piece;CREATE TABLE piece (version INTEGER NOT NULL REFERENCES version (id), number INTEGER NOT NULL CHECK (number >= 0), bytes BLOB NOT NULL) STRICT
+DROP TABLE piece;CREATE TABLE piece (version INTEGER NOT NULL REFERENCES version (id), number INTEGER NOT NULL CHECK (number >= 0), bytes BLOB NOT NULL, PRIMARY KEY (number, version)) STRICT
+DROP TABLE piece;CREATE TABLE piece (version INTEGER NOT NULL, number INTEGER NOT NULL CHECK (number >= 0), bytes BLOB NOT NULL, PRIMARY KEY (version, number)) STRICT
+DROP TABLE piece;CREATE TABLE body (id INTEGER PRIMARY KEY REFERENCES version (id), zip BLOB NOT NULL) STRICT
 DROP TABLE meta;CREATE TABLE meta (name TEXT PRIMARY KEY, value INTEGER NOT NULL)
-DROP TABLE body;DROP TABLE version;DROP TABLE access;CREATE TABLE version (id INTEGER PRIMARY KEY, shelf TEXT NOT NULL REFERENCES shelf (name), path TEXT NOT NULL, version TEXT NOT NULL, time TEXT, mod BLOB NOT NULL, order_key BLOB NOT NULL, rank_key BLOB NOT NULL, UNIQUE (shelf, path, version)) STRICT;CREATE TABLE access (token TEXT PRIMARY KEY, shelf TEXT NOT NULL REFERENCES shelf (name), publish INTEGER NOT NULL CHECK (publish IN (0, 1))) STRICT;CREATE TABLE body (id INTEGER PRIMARY KEY REFERENCES version (id), zip BLOB NOT NULL) STRICT
-DROP TABLE body;DROP TABLE version;DROP TABLE access;CREATE TABLE access (token TEXT PRIMARY KEY, shelf TEXT NOT NULL REFERENCES shelf (name), publish INTEGER NOT NULL CHECK (publish = 0 OR publish = 1)) STRICT;CREATE TABLE version (id INTEGER PRIMARY KEY, shelf TEXT NOT NULL REFERENCES shelf (name), path TEXT NOT NULL, version TEXT NOT NULL, time TEXT, mod BLOB NOT NULL, order_key BLOB NOT NULL, rank_key BLOB NOT NULL, UNIQUE (shelf, path, version)) STRICT;CREATE TABLE body (id INTEGER PRIMARY KEY REFERENCES version (id), zip BLOB NOT NULL) STRICT
+DROP TABLE piece;DROP TABLE version;DROP TABLE access;CREATE TABLE version (id INTEGER PRIMARY KEY, shelf TEXT NOT NULL REFERENCES shelf (name), path TEXT NOT NULL, version TEXT NOT NULL, time TEXT, mod BLOB NOT NULL, order_key BLOB NOT NULL, rank_key BLOB NOT NULL, UNIQUE (shelf, path, version)) STRICT;CREATE TABLE access (token TEXT PRIMARY KEY, shelf TEXT NOT NULL REFERENCES shelf (name), publish INTEGER NOT NULL CHECK (publish IN (0, 1))) STRICT;CREATE TABLE piece (version INTEGER NOT NULL REFERENCES version (id), number INTEGER NOT NULL CHECK (number >= 0), bytes BLOB NOT NULL, PRIMARY KEY (version, number)) STRICT
+DROP TABLE piece;DROP TABLE version;DROP TABLE access;CREATE TABLE access (token TEXT PRIMARY KEY, shelf TEXT NOT NULL REFERENCES shelf (name), publish INTEGER NOT NULL CHECK (publish = 0 OR publish = 1)) STRICT;CREATE TABLE version (id INTEGER PRIMARY KEY, shelf TEXT NOT NULL REFERENCES shelf (name), path TEXT NOT NULL, version TEXT NOT NULL, time TEXT, mod BLOB NOT NULL, order_key BLOB NOT NULL, rank_key BLOB NOT NULL, UNIQUE (shelf, path, version)) STRICT;CREATE TABLE piece (version INTEGER NOT NULL REFERENCES version (id), number INTEGER NOT NULL CHECK (number >= 0), bytes BLOB NOT NULL, PRIMARY KEY (version, number)) STRICT
 ";
 
 /// What makes rows that stand for no world.
@@ -76,7 +82,14 @@ UPDATE version SET version = 'v0.0.0-20240229123456-0123456789ab', time = '2024-
 UPDATE version SET time = '2024-02-30T12:34:56Z'
 UPDATE version SET mod = X''
 UPDATE version SET path = 'example.com/other'
-DELETE FROM body
+UPDATE piece SET number = 1
+UPDATE piece SET bytes = X''
+INSERT INTO piece VALUES (7, 1, X'5A')
+UPDATE piece SET bytes = X'FULL5A'
+UPDATE piece SET bytes = X'FULL';INSERT INTO piece VALUES (7, 2, X'5A')
+UPDATE piece SET bytes = X'FULL';INSERT INTO piece VALUES (7, 1, X'')
+UPDATE piece SET bytes = X'FULL';INSERT INTO piece VALUES (7, 1, X'5A');INSERT INTO piece VALUES (7, 2, X'5A')
+UPDATE piece SET bytes = X'FULL';INSERT INTO piece VALUES (7, 255, X'5A')
 UPDATE version SET order_key = X'00000000000000010000000000000000000000000000000103'
 UPDATE version SET rank_key = X'0300000000000000010000000000000000000000000000000103'
 UPDATE version SET order_key = X''
@@ -87,22 +100,23 @@ UPDATE version SET version = 'v1.0.1'
 
 /// What makes the last table again, as it was.
 const MADE_AGAIN: &str =
-    "DROP TABLE body;CREATE TABLE body (id INTEGER PRIMARY KEY REFERENCES version (id), zip BLOB NOT NULL) STRICT;INSERT INTO body VALUES (7, X'5A')";
+    "DROP TABLE piece;CREATE TABLE piece (version INTEGER NOT NULL REFERENCES version (id), number INTEGER NOT NULL CHECK (number >= 0), bytes BLOB NOT NULL, PRIMARY KEY (version, number)) STRICT;INSERT INTO piece VALUES (7, 0, X'5A')";
 
-/// What keeps the rows those of a world.
-const FIT: &str =
-    "UPDATE version SET version = 'v0.0.0-20240229123456-0123456789ab', time = '2024-02-29T12:34:56Z', order_key = X'0000000000000000000000000000000000000000000000000232303234303232393132333435362d3031323334353637383961620000', rank_key = X'0132303234303232393132333435360000000000000000000000000000000000000000000000000232303234303232393132333435362d3031323334353637383961620000'";
-
-/// A body for each version but the first.
-const BODIES: &str = "INSERT INTO body SELECT id, X'' FROM version WHERE id <> 7;";
+/// What keeps the rows those of a world: another version, an empty zip, and zips of a full piece and of a byte more.
+const FIT: &str = "\
+UPDATE version SET version = 'v0.0.0-20240229123456-0123456789ab', time = '2024-02-29T12:34:56Z', order_key = X'0000000000000000000000000000000000000000000000000232303234303232393132333435362d3031323334353637383961620000', rank_key = X'0132303234303232393132333435360000000000000000000000000000000000000000000000000232303234303232393132333435362d3031323334353637383961620000'
+DELETE FROM piece
+UPDATE piece SET bytes = X'FULL'
+UPDATE piece SET bytes = X'FULL';INSERT INTO piece VALUES (7, 1, X'5A')
+";
 
 const ONE_MORE: &str =
-    "INSERT INTO version SELECT 1, shelf, path, 'v1.0.1', NULL, mod, X'00000000000000010000000000000000000000000000000103', X'0300000000000000010000000000000000000000000000000103' FROM version WHERE id = 7;INSERT INTO body VALUES (1, X'')";
+    "INSERT INTO version SELECT 1, shelf, path, 'v1.0.1', NULL, mod, X'00000000000000010000000000000000000000000000000103', X'0300000000000000010000000000000000000000000000000103' FROM version WHERE id = 7";
 
 /// A version that has the last number.
 const LAST: &str = "\
 INSERT INTO version VALUES (9223372036854775807, 'common', 'example.com/lib', 'v1.1.0', NULL, X'6d6f64756c65206578616d706c652e636f6d2f6c69620a', X'00000000000000010000000000000001000000000000000003', X'0300000000000000010000000000000001000000000000000003');
-INSERT INTO body VALUES (9223372036854775807, X'5959');
+INSERT INTO piece VALUES (9223372036854775807, 0, X'5959');
 ";
 
 /// Publishes over rows of which one has the last number, and what is then read.
@@ -120,7 +134,7 @@ failures = 0
 /// A version that has the first number.
 const FIRST: &str = "\
 INSERT INTO version SELECT -9223372036854775808, shelf, path, 'v1.2.0', time, mod, X'00000000000000010000000000000002000000000000000003', X'0300000000000000010000000000000002000000000000000003' FROM version WHERE id = 7;
-INSERT INTO body VALUES (-9223372036854775808, X'5A');
+INSERT INTO piece VALUES (-9223372036854775808, 0, X'5A');
 ";
 
 /// A publish over rows of which one has the last number and one the first.
@@ -206,14 +220,27 @@ fn refusal_after(
     }
 }
 
-/// Whether tables are refused as bad after each of these statements.
-fn are_bad(alloc: Global, tables: &str, rows: &str, statements: &str) -> Result<bool, Fail> {
-    for sql in statements.lines() {
-        if refusal_after(alloc, tables, rows, sql)? != Some(Refusal::BadSchema) {
+/// Whether tables are refused so, or taken, after each of these statements, in which `FULL` stands for the 65,536 bytes of a full piece.
+fn are_told(
+    alloc: Global,
+    tables: &str,
+    rows: &str,
+    statements: &str,
+    told: Option<Refusal>,
+) -> Result<bool, Fail> {
+    let full = "5A".repeat(alloc, 65536)?;
+    for line in statements.lines() {
+        let sql = line.replace(alloc, "FULL", full.as_str())?;
+        if refusal_after(alloc, tables, rows, sql.as_str())? != told {
             return Ok(false);
         }
     }
     Ok(true)
+}
+
+/// Whether tables are refused as bad after each of these statements.
+fn are_bad(alloc: Global, tables: &str, rows: &str, statements: &str) -> Result<bool, Fail> {
+    are_told(alloc, tables, rows, statements, Some(Refusal::BadSchema))
 }
 
 #[test]
@@ -226,7 +253,7 @@ fn bad_tables_are_refused(rt: HostRuntime) -> Result<(), Fail> {
         Some(Refusal::BadSchema)
     );
     assert!(rt; are_bad(alloc, TABLES, ROWS, UNFIT)?);
-    assert_eq!(rt; refusal_after(alloc, TABLES, ROWS, FIT)?, None);
+    assert!(rt; are_told(alloc, TABLES, ROWS, FIT, None)?);
     assert_eq!(rt; refusal_after(alloc, TABLES, ROWS, MADE_AGAIN)?, None);
     Ok(())
 }
@@ -241,7 +268,6 @@ fn most_rows(alloc: Global) -> Result<String, Fail> {
              X'0000000000000001{n:016x}000000000000000003', X'030000000000000001{n:016x}000000000000000003' FROM version WHERE id = 7;"
         )?;
     }
-    rows.push_str(BODIES)?;
     Ok(rows)
 }
 
@@ -277,7 +303,14 @@ fn a_version_finds_a_number_below_the_lowest(rt: HostRuntime) -> Result<(), Fail
 
 #[test]
 fn a_refused_connection_comes_back(rt: HostRuntime) -> Result<(), Fail> {
-    let told = adopted(rt.alloc(), TABLES, ROWS, "DELETE FROM body", None, KEPT)?;
+    let told = adopted(
+        rt.alloc(),
+        TABLES,
+        ROWS,
+        "UPDATE piece SET number = 1",
+        None,
+        KEPT,
+    )?;
     assert!(rt; told == Err((Refusal::BadSchema, Some(1))));
     Ok(())
 }

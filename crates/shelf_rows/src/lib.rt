@@ -39,3 +39,5 @@ mod stores;
 mod stream;
 #[cfg(test)]
 mod version_sets;
+#[cfg(test)]
+mod zip_sizes;

@@ -75,8 +75,8 @@ module _ (w : World) (token : List ℕ) (g : Holder) (unused : map.get w.keys to
     numbered = rw it.rows (numbered_put (db 4) (next_rowid (db 4)) _ refl it.fresh means.numbered);
     entries = rw (it.tables.1.1.1.0 (λ e. omega (arith, e)), it.tables.1.1.1.1.0 (λ e. omega (arith, e))) means.entries;
     tokens = rw it.rows (put_apart (λ a b. (t : List ℕ) → column a 1 ≡ Text t → column b 1 ≡ Text t → ⊥) (λ a b apart t also is. apart t is also) _ (db 4) (all_from _ (db 4) (token_free (db 4) means.access (Int (next_rowid (db 4))))) means.tokens);
-    bodies = rw (it.tables.1.1.1.1.0 (λ e. omega (arith, e))) means.bodies;
     places = rw (it.tables.1.1.1.0 (λ e. omega (arith, e))) means.places;
+    pieces = rw (it.tables.1.1.1.1.0 (λ e. omega (arith, e))) means.pieces;
   }
 
   pub add_key_turns : (old : State) → Holds old w → Rewrites add_key_text (key_params token g) (Insert 2 (Values terms 4)) add_key_is add_key_plain (inserting 2 (Values terms 4)) old old w (with_key w token g)

@@ -21,7 +21,8 @@ use Rattle.world.specs.Registry.{team_added, after_team_add}
 use Rattle.world.proofs.Sound.{still}
 use Rattle.tables.specs.Schema.{store_schema, shelf_table}
 use Rattle.tables.specs.Means.{Holds, Means, IsShelf}
-use Rattle.store.specs.Extract.{Writing}
+use Rattle.store.specs.Rows.{Filling}
+use Rattle.store.specs.Extract.{PutsShelf}
 use Rattle.store.specs.Views.{with_team_added}
 use Rattle.store.proofs.Texts.{add_shelf_text}
 use Rattle.tables.proofs.InsertLemmas.{Inserted, inserted, enforced, cast_null}
@@ -59,8 +60,8 @@ module _ (w : World) (name : List ℕ) where
     numbered = rw (it.tables.1.1.0 (λ e. omega (arith, e))) means.numbered;
     entries = rw (it.tables.1.1.1.0 (λ e. omega (arith, e)), it.tables.1.1.1.1.0 (λ e. omega (arith, e))) means.entries;
     tokens = rw (it.tables.1.1.0 (λ e. omega (arith, e))) means.tokens;
-    bodies = rw (it.tables.1.1.1.1.0 (λ e. omega (arith, e))) means.bodies;
     places = rw (it.tables.1.1.1.0 (λ e. omega (arith, e))) means.places;
+    pieces = rw (it.tables.1.1.1.1.0 (λ e. omega (arith, e))) means.pieces;
   }
 
   pub add_shelf_turns : (old : State) → Holds old w → Rewrites add_shelf_text (shelf_params name) (Insert 1 (Values terms 2)) add_shelf_is add_shelf_plain (inserting 1 (Values terms 2)) old old w (with_team w name)
@@ -80,13 +81,11 @@ pub misnamed_team : (w : World) (name : List ℕ) → is_team_name name ≡ fals
 misnamed_team w name wrong = rw wrong refl
 
 -- one shelf is written within a transaction
-pub shelf_written : (old new : State) (x : World) (name : List ℕ) (count : ℕ) → Writing old x → ExecutesInside 0 add_shelf_text (shelf_params name) old new (Ok count) → Writing new (with_team x name)
-shelf_written old new x name count writing ran =
-    let wrote = runs_as add_shelf_text (shelf_params name) old new store_schema writing.schema _ add_shelf_is add_shelf_plain count ran.0 in
-    let it = added old.step_limit name old.now [] wrote.tally new.now writing.schema wrote.changed in
-    record {
-      schema = it.0;
-      trees = record { sound = subst (λ s. IsSound s new.now.trees) it.0 wrote.sound; means = shelf_means x name old.now.trees new.now.trees it.1 writing.trees.means };
-      is_open = wrote.shown.is_open;
-      inside = ran.1.mode;
-    }
+pub shelf_put : (old new : State) (name : List ℕ) (count : ℕ) → Filling old → ExecutesInside 0 add_shelf_text (shelf_params name) old new (Ok count) → PutsShelf name old.now.trees new.now.trees × Filling new
+shelf_put old new name count filling ran =
+    let wrote = runs_as add_shelf_text (shelf_params name) old new store_schema filling.schema _ add_shelf_is add_shelf_plain count ran.0 in
+    let it = added old.step_limit name old.now [] wrote.tally new.now filling.schema wrote.changed in
+    let sound = subst (λ s. IsSound s new.now.trees) it.0 wrote.sound in (
+      λ x stand. record { sound = sound; means = shelf_means x name old.now.trees new.now.trees it.1 stand.means },
+      record { schema = it.0; sound = sound; is_open = wrote.shown.is_open; inside = ran.1.mode },
+    )

@@ -28,11 +28,12 @@ use Rattle.world.specs.declared.entry.Holder.{Holder}
 use Rattle.world.specs.World.{World, with_key}
 use Rattle.world.proofs.Orders.{texts_total, texts_exact, get_put}
 use Rattle.tables.specs.Schema.{store_schema, access_table}
-use Rattle.tables.specs.Means.{Means, IsAccess}
+use Rattle.tables.specs.Means.{Means, IsAccess, StandFor}
 use Rattle.store.specs.Lookup.{lookup, passes as found_by, AreFound}
 use Rattle.tables.specs.Walks.{Pass}
 use Rattle.tables.specs.Inserted.{Inserted}
-use Rattle.store.specs.Extract.{Writing, AllFit, ShowsKey, IsKeyShown, PutsKey, AddsKeys, CopiesKeys}
+use Rattle.store.specs.Rows.{Filling}
+use Rattle.store.specs.Extract.{AllFit, ShowsKey, IsKeyShown, AddsKey, PutsKey, AddsKeys, CopiesKeys}
 use Rattle.store.proofs.Texts.{keys_on_text, add_key_text}
 use Rattle.tables.proofs.ValueLemmas.{equals_text, equals_itself, fresh_before}
 use Rattle.store.proofs.DifferLemmas.{differ_is}
@@ -108,7 +109,7 @@ key_same row a b one two =
 abbrev IsAmong : List Row → List ℕ × Holder → Type 0
 IsAmong rows it = (row : Row) × Has rows row × ShowsKey row it
 
-pub put_all : (x y : World) (rows : List Row) → Pass (λ _ row. IsKeyShown row) (λ u row v. PutsKey row u v) x rows y → AddsKeys (IsAmong rows) x y
+pub put_all : (x y : World) (rows : List Row) → Pass (λ _ row. IsKeyShown row) (λ u row v. AddsKey row u v) x rows y → AddsKeys (IsAmong rows) x y
 put_all x y [] passed = record {
   shelves = ap (λ (u : World). u.shelves) passed;
   entries = ap (λ (u : World). u.entries) passed;
@@ -116,7 +117,7 @@ put_all x y [] passed = record {
 }
 put_all x y (row ∷ rows) passed =
     let mid : World = passed.1 in
-    let put : PutsKey row x mid = passed.2 in
+    let put : AddsKey row x mid = passed.2 in
     let rest = put_all mid y rows passed.3 in
     let after : mid ≡ with_key x put.0.0 put.0.1 = put.3 in
     record {
@@ -144,7 +145,7 @@ put_all x y (row ∷ rows) passed =
 
 -- the keys of a shelf
 pub keys_copied : (shelf : List ℕ) (db : Database) (w x y : World) (rows : List Row) → Means db.trees w → Reads (command_of (understood store_schema keys_on_text)) db (Text shelf ∷ []) rows
-    → Pass (λ _ row. IsKeyShown row) (λ u row v. PutsKey row u v) x rows y → CopiesKeys shelf w x y
+    → Pass (λ _ row. IsKeyShown row) (λ u row v. AddsKey row u v) x rows y → CopiesKeys shelf w x y
 keys_copied shelf db w x y rows means read passed =
     let adds = put_all x y rows passed in
     let found = all_on shelf db w means rows read in
@@ -195,18 +196,23 @@ key_new db after x token g sound means it = go (map.get x.keys token) refl
         absurd (token_alone after sound new from.0 token number.0 (next_rowid (db 4)) here there refl from.2.0 number.1 refl apart)
 
 -- one key is written within a transaction
-pub key_written : (old new : State) (x : World) (token : List ℕ) (g : Holder) (count : ℕ) → Writing old x → ExecutesInside 0 add_key_text (key_params token g) old new (Ok count)
-    → (map.get x.keys token ≡ None) × Writing new (with_key x token g)
-key_written old new x token g count writing ran =
-    let wrote = runs_as add_key_text (key_params token g) old new store_schema writing.schema _ add_key_is add_key_plain count ran.0 in
-    let it = added old.step_limit token g old.now [] wrote.tally new.now writing.schema wrote.changed in
-    let sound : IsSound store_schema new.now.trees = subst (λ s. IsSound s new.now.trees) it.0 wrote.sound in
-    let unused = key_new old.now.trees new.now.trees x token g sound writing.trees.means it.1 in (
-      unused,
-      record {
-        schema = it.0;
-        trees = record { sound = sound; means = key_means x token g unused old.now.trees new.now.trees it.1 writing.trees.means };
-        is_open = wrote.shown.is_open;
-        inside = ran.1.mode;
-      },
+pub key_put : (old new : State) (row : Row) (token : List ℕ) (g : Holder) (count : ℕ) → ShowsKey row (token, g) → Filling old → ExecutesInside 0 add_key_text (key_params token g) old new (Ok count)
+    → PutsKey row old.now.trees new.now.trees × Filling new
+key_put old new row token g count shows filling ran =
+    let wrote = runs_as add_key_text (key_params token g) old new store_schema filling.schema _ add_key_is add_key_plain count ran.0 in
+    let it = added old.step_limit token g old.now [] wrote.tally new.now filling.schema wrote.changed in
+    let sound : IsSound store_schema new.now.trees = subst (λ s. IsSound s new.now.trees) it.0 wrote.sound in (
+      λ x stand.
+          let unused = key_new old.now.trees new.now.trees x token g sound stand.means it.1 in
+          (with_key x token g, ((token, g), shows, unused, refl), record { sound = sound; means = key_means x token g unused old.now.trees new.now.trees it.1 stand.means }),
+      record { schema = it.0; sound = sound; is_open = wrote.shown.is_open; inside = ran.1.mode },
     )
+
+-- so it is of the worlds that the tables stand for, one after the other
+pub keys_passed : (db after : Trees) (x : World) (rows : List Row) → StandFor db x → Pass (λ _ row. IsKeyShown row) (λ t row u. PutsKey row t u) db rows after
+    → (y : World) × Pass (λ _ row. IsKeyShown row) (λ u row v. AddsKey row u v) x rows y × StandFor after y
+keys_passed db after x [] stand passed = (x, refl, subst (λ t. StandFor t x) (sym passed) stand)
+keys_passed db after x (row ∷ rows) stand passed =
+    let put = passed.2 x stand in
+    let rest = keys_passed passed.1 after put.0 rows put.2 passed.3 in
+    (rest.0, (passed.0, put.0, put.1, rest.1), rest.2)

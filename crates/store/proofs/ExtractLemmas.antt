@@ -2,6 +2,7 @@
 use Rattle.std.proofs.Common.{◌≡◌, ◌≤◌, Bool, true, false, ℕ, List, Result, Ok, Err, inl, refl, sym, subst, ◌∙◌, arith, IsTrue, is_ok, OnOk, true≢false}
 use Rattle.sqlite_trees.specs.View.{doubt}
 use Rattle.sqlite.specs.Order.{Row}
+use Rattle.sqlite.specs.Tree.{Trees}
 use Rattle.sqlite.specs.Effect.{Database, Reads, ReadsFirst}
 use Rattle.sqlite.specs.Listing.{understood, reads_listing}
 use Rattle.sqlite.specs.State.{State, HasCleanDisk, IsUnchanged, Survives, KeepsCommit, CommitsShowing, Shown, Begins}
@@ -14,7 +15,8 @@ use Rattle.tables.specs.Walks.{Looks}
 use Rattle.tables.proofs.FailureLemmas.{was_clean}
 use Rattle.tables.proofs.WalkLemmas.{unchanged_schema, kept_then}
 use Rattle.store.specs.Calls.{Spares}
-use Rattle.store.specs.Extract.{Writing, GoesOn, IsReady, IsReadBy, Copies, PutsShelf, Then}
+use Rattle.store.specs.Rows.{Filling, GoesOn}
+use Rattle.store.specs.Extract.{IsReady, IsReadBy, Copies, OfWorlds, PutsShelf, AddsShelf, Then}
 use Rattle.store.proofs.CallLemmas.{kept_stands}
 
 -- ---- a query with parameters, one row at a time
@@ -71,8 +73,8 @@ when_ok (Err e) done h = absurd (true≢false (sym done))
 pub goes_on_if : {A E : Type 0} (r : Result A E) (a b : State) → Survives a b (λ _. ⊥) → (HasCleanDisk b → IsTrue a.in_transaction → KeepsCommit a b) → (HasCleanDisk b → IsTrue a.in_transaction → OnOk r (IsTrue b.in_transaction)) → GoesOn a b (is_ok r)
 goes_on_if r a b survives kept inside = record { survives = survives; kept = kept; inside = λ clean is done. when_ok r done (inside clean is) }
 
-pub copied : {A E : Type 0} (r : Result A E) (Makes : World → World → World → Type 0) (s t a b : State) → Looks s t → (HasCleanDisk t → s.now.schema ≡ store_schema → OnOk r (IsUnchanged s t)) → GoesOn a b (is_ok r)
-    → (HasCleanDisk t → HasCleanDisk b → s.now.schema ≡ store_schema → (w x : World) → Means s.now.trees w → Writing a x → OnOk r ((y : World) × Makes w x y × Writing b y)) → Copies Makes s t a b (is_ok r)
+pub copied : {A E : Type 0} (r : Result A E) (Makes : Trees → Trees → Trees → Type 0) (s t a b : State) → Looks s t → (HasCleanDisk t → s.now.schema ≡ store_schema → OnOk r (IsUnchanged s t)) → GoesOn a b (is_ok r)
+    → (HasCleanDisk t → HasCleanDisk b → s.now.schema ≡ store_schema → (w : World) → Means s.now.trees w → Filling a → OnOk r (Makes s.now.trees a.now.trees b.now.trees × Filling b)) → Copies Makes s t a b (is_ok r)
 copied r Makes s t a b looks same goes_on makes =
     let has = λ (ready : IsReady s) (clean : HasCleanDisk t). (ready (was_clean s t looks.clean clean)).1 in
     record {
@@ -83,14 +85,15 @@ copied r Makes s t a b looks same goes_on makes =
         same = λ clean done. when_ok r done (same clean (has ready clean));
       };
       goes_on = goes_on;
-      makes = λ clean good ready w x means writing done. when_ok r done (makes clean good (has ready clean) w x means writing);
+      makes = λ clean good ready w means filling done. when_ok r done (makes clean good (has ready clean) w means filling);
     }
 
 unchanged_itself : (s : State) → IsTrue s.is_open → IsUnchanged s s
 unchanged_itself s is = (record { was_open = is; is_open = is; now_is = refl; committed_is = refl; mode = refl }, record { changes = refl; last_rowid = refl }, refl)
 
 -- a shelf is put in, and the source is not touched
-pub put_copied : {A E : Type 0} (r : Result A E) (name : List ℕ) (s a b : State) → GoesOn a b (is_ok r) → (HasCleanDisk b → (x : World) → Writing a x → OnOk r (Writing b (with_team x name))) → Copies (PutsShelf name) s s a b (is_ok r)
+pub put_copied : {A E : Type 0} (r : Result A E) (name : List ℕ) (s a b : State) → GoesOn a b (is_ok r) → (HasCleanDisk b → Filling a → OnOk r (PutsShelf name a.now.trees b.now.trees × Filling b))
+    → Copies (OfWorlds (AddsShelf name)) s s a b (is_ok r)
 put_copied r name s a b goes_on puts = record {
   clean = omega arith;
   reads = λ ready. record {
@@ -99,10 +102,12 @@ put_copied r name s a b goes_on puts = record {
     same = λ clean _. unchanged_itself s (ready clean).0;
   };
   goes_on = goes_on;
-  makes = λ clean good ready w x means writing done. (with_team x name, refl, when_ok r done (puts good x writing));
+  makes = λ clean good ready w means filling done.
+      let it = when_ok r done (puts good filling) in
+      (λ v x meant stand. (with_team x name, refl, it.0 x stand), it.1);
 }
 
-module _ (P Q : World → World → World → Type 0) (s t u a b c : State) (done : Bool) (p : Copies P s t a b true) (q : Copies Q t u b c done) where
+module _ (P Q : Trees → Trees → Trees → Type 0) (s t u a b c : State) (done : Bool) (p : Copies P s t a b true) (q : Copies Q t u b c done) where
   still_ready : IsReady s → IsReady t
   still_ready ready clean = let same = (p.reads ready).same clean refl in (same.0.is_open, unchanged_schema s t same (ready (was_clean s t p.clean clean)).1)
 
@@ -119,30 +124,30 @@ module _ (P Q : World → World → World → Type 0) (s t u a b c : State) (don
           same = λ clean all. unchanged_then s t u (first.same (late clean) refl) (next.same clean all);
         };
     goes_on = goes_on_then a b c done p.goes_on q.goes_on;
-    makes = λ clean good ready w x means writing all.
+    makes = λ clean good ready w means filling all.
         let late = was_clean t u q.clean clean in
-        let one = p.makes late (was_clean b c q.goes_on.survives.clean good) ready w x means writing refl in
+        let one = p.makes late (was_clean b c q.goes_on.survives.clean good) ready w means filling refl in
         let now = ((p.reads ready).same late refl).0.now_is in
-        let two = q.makes clean good (still_ready ready) w one.0 (subst (λ (d : Database). Means d.trees w) (sym now) means) one.2 all in
-        (two.0, (one.0, one.1, two.1), two.2);
+        let two = q.makes clean good (still_ready ready) w (subst (λ (d : Database). Means d.trees w) (sym now) means) one.1 all in
+        ((b.now.trees, one.0, subst (λ (d : Database). Q d.trees b.now.trees c.now.trees) now two.0), two.1);
   }
 
 -- the same said by less
-pub copies_weaker : (P Q : World → World → World → Type 0) (s t a b : State) (done : Bool) → ((w x y : World) → P w x y → Q w x y) → Copies P s t a b done → Copies Q s t a b done
+pub copies_weaker : (P Q : Trees → Trees → Trees → Type 0) (s t a b : State) (done : Bool) → ((source db after : Trees) → P source db after → Q source db after) → Copies P s t a b done → Copies Q s t a b done
 copies_weaker P Q s t a b done less p = record {
   clean = p.clean;
   reads = p.reads;
   goes_on = p.goes_on;
-  makes = λ clean good ready w x means writing all. let it = p.makes clean good ready w x means writing all in (it.0, less w x it.0 it.1, it.2);
+  makes = λ clean good ready w means filling all. let it = p.makes clean good ready w means filling all in (less s.now.trees a.now.trees b.now.trees it.0, it.1);
 }
 
--- where not all was done, it makes no other world
-pub copies_part : (P Q : World → World → World → Type 0) (s t a b : State) → Copies P s t a b false → Copies Q s t a b false
+-- where not all was done, nothing is said of what it makes
+pub copies_part : (P Q : Trees → Trees → Trees → Type 0) (s t a b : State) → Copies P s t a b false → Copies Q s t a b false
 copies_part P Q s t a b p = record {
   clean = p.clean;
   reads = p.reads;
   goes_on = p.goes_on;
-  makes = λ clean good ready w x means writing all. absurd (true≢false (sym all));
+  makes = λ clean good ready w means filling all. absurd (true≢false (sym all));
 }
 
 -- what is only read is spared

@@ -13,7 +13,9 @@ use Rattle.std.specs.FinMap as map
 use Rattle.world.specs.Counts.{Tally, AreCounts}
 use Rattle.world.proofs.Counted.{empty_counts}
 use Rattle.store.specs.Calls.{Spares, ChangesAt, shown_of, shown_with}
-use Rattle.store.specs.Extract.{Writing, IsReady, Copies}
+use Rattle.store.specs.Rows.{Writing}
+use Rattle.store.specs.Extract.{IsReady, Copies}
+use Rattle.store.proofs.RowLemmas.{filling_of, writing_of}
 use Rattle.store.specs.Extracted.{MakesPart, is_written, IsRead, Tells, ExtractsAt, Extracts}
 use Rattle.store.specs.declared.extract_judge.Judged.{Judged}
 use Rattle.store.specs.declared.extract_judge.Judged.TheVariants as judged
@@ -96,8 +98,9 @@ pub part_written : (s t a b : State) (w : World) (team : List ℕ) → Copies (M
     → Writing a only_common → Writing b (part w team)
 part_written s t a b w team fills ready clean good stands is has writing =
     let was = was_clean s t fills.clean clean in
-    let it = fills.makes clean good ready w only_common (stands was (ready was).0).trees.means writing refl in
-    subst (Writing b) (it.1 is has refl) it.2
+    let means = (stands was (ready was).0).trees.means in
+    let it = fills.makes clean good ready w means (filling_of a only_common writing) refl in
+    writing_of b (part w team) it.1 (it.0 w means is has writing.trees)
 
 -- ---- with the counts that the stores keep
 

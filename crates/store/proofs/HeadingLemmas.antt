@@ -1,5 +1,5 @@
 -- What the queries of an entry and of its heading answer.
-use Rattle.std.proofs.Common.{◌≡◌, ◌&&◌, ℕ, ℤ, Bool, true, false, List, [], ◌∷◌, Option, Some, None, refl, sym, ap, subst, ◌∙◌, option_map, codes, true≢false}
+use Rattle.std.proofs.Common.{◌≡◌, ℕ, true, false, List, [], ◌∷◌, filter, Option, Some, None, refl, sym, ap, subst, ◌∙◌, option_map, codes, true≢false}
 use Rattle.std.specs.Option.{option_or}
 use Rattle.std.proofs.lemmas.Bool.{and_parts}
 use Rattle.std.specs.FinMap as map
@@ -9,7 +9,7 @@ use Rattle.sqlite_sql.specs.declared.ops.BinaryOp.TheVariants.{Compare}
 use Rattle.sqlite_sql.specs.declared.ops.CompareOp.TheVariants.{Eq}
 use Rattle.sqlite.specs.Order.{Row, column}
 use Rattle.sqlite.specs.Values.{or_null}
-use Rattle.sqlite.specs.Tree.{Trees, rowid}
+use Rattle.sqlite.specs.Tree.{Trees}
 use Rattle.sqlite.specs.Term.{Term, col, op2}
 use Rattle.sqlite.specs.Effect.{Database}
 use Rattle.sqlite.specs.Listing.{understood, reads_listing}
@@ -24,11 +24,11 @@ use Rattle.world.specs.declared.entry.Heading.{Heading}
 use Rattle.world.specs.World.{World, common, place, seen_at, view, first_on, heading_of, without_zip, heading}
 use Rattle.tables.specs.Schema.{store_schema}
 use Rattle.store.specs.declared.entries.VersionRow.{VersionRow}
-use Rattle.tables.specs.Means.{Means, IsVersion, IsAt}
-use Rattle.store.specs.Reading.{IsRowOf, HasZip, ShowsZip, entry_with}
+use Rattle.tables.specs.Means.{Means, IsVersion, IsAt, ArePieces}
+use Rattle.store.specs.Reading.{IsRowOf, IsZip, entry_with}
 use Rattle.store.specs.Lookup.{lookup, passes, FirstFound}
 use Rattle.store.specs.Calls.{Selects}
-use Rattle.store.proofs.Texts.{row_text, zip_text}
+use Rattle.store.proofs.Texts.{row_text}
 use Rattle.tables.proofs.ValueLemmas.{equals_text, equals_itself}
 use Rattle.store.proofs.LookupLemmas.{selected_found}
 use Rattle.tables.proofs.CountedRows.{same_place}
@@ -50,21 +50,6 @@ row_plain = (refl, refl)
 pub row_tables : reads_listing store_schema row_text ≡ false
 unfolding understood everything
 row_tables = refl
-
-abbrev by_number : List Term
-by_number = op2 (Compare Eq Binary) (col 1 0) (col 0 0) ∷ []
-
-zip_is : command_of (understood store_schema zip_text) ≡ Select (record { lets = []; body = lookup 8 by_number (col 1 2 ∷ []) }) (codes "zip" ∷ [])
-unfolding understood everything
-zip_is = refl
-
-pub zip_plain : IsPlain (understood store_schema zip_text)
-unfolding understood everything
-zip_plain = (refl, refl)
-
-pub zip_tables : reads_listing store_schema zip_text ≡ false
-unfolding understood everything
-zip_tables = refl
 
 -- a value is of one time
 same_time : (a b : Option (List ℕ)) → or_null Text a ≡ or_null Text b → a ≡ b
@@ -120,36 +105,22 @@ module _ (p : Place) (db : Database) (w : World) (means : Means db.trees w) wher
   pub row_lacks : Selects row_text (place_params p) db None → map.get w.entries p ≡ None
   row_lacks picked = row_none (selected_found row_text (place_params p) db 6 by_place row_shown _ row_is (λ _. refl) None picked)
 
-and_true : (b : Bool) → (b && true) ≡ false → b ≡ false
-and_true true e = e
-and_true false e = refl
+-- the rows of the version's pieces are those of the entry's zip
+pub zip_of : (db : Trees) (w : World) (p : Place) (v : VersionRow) → (it : IsRowOf db w p v) → IsZip db v.id it.entry.zip
+zip_of db w p v it = subst (λ n. ArePieces (filter (λ row. equal Binary (column row 1) n) (db 8)) it.entry.zip) it.id it.is.zip
 
-module _ (id : ℤ) (db : Database) where
-  zip_read : (row : Row) (zip : List ℕ) → Selects zip_text (Int id ∷ []) db (Some row) → column row 0 ≡ Blob zip → HasZip db.trees id (Some zip)
-  zip_read row zip picked is =
-      let found = selected_found zip_text (Int id ∷ []) db 8 by_number (col 1 2 ∷ []) _ zip_is (λ _. refl) (Some row) picked in
-      (found.0, found.1, (and_parts _ _ found.2).0, sym (ap (λ (r : Row). column r 0) found.3) ∙ is)
-
-  zip_lacks : Selects zip_text (Int id ∷ []) db None → HasZip db.trees id None
-  zip_lacks picked row there = and_true (equal Binary (rowid row) (Int id)) (selected_found zip_text (Int id ∷ []) db 8 by_number (col 1 2 ∷ []) _ zip_is (λ _. refl) None picked row there)
-
-  pub zip_shown : (found : Option Row) → Selects zip_text (Int id ∷ []) db found → ShowsZip db.trees id found
-  zip_shown (Some row) picked = λ zip is. zip_read row zip picked is
-  zip_shown None picked = zip_lacks picked
-
--- the two rows are the entry
-pub entry_of_rows : (db : Trees) (w : World) (p : Place) (v : VersionRow) (zip : List ℕ) → IsRowOf db w p v → HasZip db v.id (Some zip) → Some (entry_with v.heading zip) ≡ map.get w.entries p
-entry_of_rows db w p v zip it found =
-    let zips : it.entry.zip ≡ zip = let e = sym (it.is.only found.0 found.1 (ap (λ x. equal Binary (rowid found.0) x) it.id ∙ found.2)) ∙ found.3 in cc in
+-- the rows are the entry
+pub entry_of_rows : (db : Trees) (w : World) (p : Place) (v : VersionRow) (zip : List ℕ) → (it : IsRowOf db w p v) → zip ≡ it.entry.zip → Some (entry_with v.heading zip) ≡ map.get w.entries p
+entry_of_rows db w p v zip it zips =
     let mods = ap (λ (h : Heading). h.gomod) it.heading in
     let times = ap (λ (h : Heading). h.time) it.heading in
-    let whole : entry_with v.heading zip ≡ it.entry = λ i. record { gomod = mods i; zip = sym zips i; time = times i } in
+    let whole : entry_with v.heading zip ≡ it.entry = λ i. record { gomod = mods i; zip = zips i; time = times i } in
     ap (λ (e : Entry). Some e) whole ∙ sym it.kept
 
-pub entry_whole : (db : Trees) (w : World) (p : Place) (v : VersionRow) (zip : List ℕ) → IsRowOf db w p v → HasZip db v.id (Some zip)
+pub entry_whole : (db : Trees) (w : World) (p : Place) (v : VersionRow) (zip : List ℕ) → IsRowOf db w p v → ((there : List ℕ) → IsZip db v.id there → zip ≡ there)
     → Some (record { shelf = v.shelf; entry = record { gomod = v.heading.gomod; zip = zip; time = v.heading.time } }) ≡ seen_at (map.get w.entries p) p.shelf
 entry_whole db w p v zip it found =
-    ap (λ s. seen_at (Some (entry_with v.heading zip)) s) it.shelf ∙ ap (λ o. seen_at o p.shelf) (entry_of_rows db w p v zip it found)
+    ap (λ s. seen_at (Some (entry_with v.heading zip)) s) it.shelf ∙ ap (λ o. seen_at o p.shelf) (entry_of_rows db w p v zip it (found it.entry.zip (zip_of db w p v it)))
 
 pub entry_lacks : (w : World) (p : Place) → map.get w.entries p ≡ None → None ≡ seen_at (map.get w.entries p) p.shelf
 entry_lacks w p none = sym (ap (λ o. seen_at o p.shelf) none)

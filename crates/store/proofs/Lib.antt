@@ -8,8 +8,11 @@ pub mod KeyLemmas
 pub mod ShelfLemmas
 pub mod AddKeyLemmas
 pub mod AddTeamLemmas
+pub mod RowLemmas
+pub mod AddZipLemmas
 pub mod AddEntryLemmas
 pub mod TransactionLemmas
+pub mod PieceLemmas
 pub mod HeadingLemmas
 pub mod StandingLemmas
 pub mod CountLemmas
@@ -21,7 +24,7 @@ pub mod DifferLemmas
 pub mod PairLemmas
 pub mod ExtractLemmas
 pub mod CopyKeyLemmas
-pub mod CopyEntryLemmas
+pub mod CopyRowLemmas
 pub mod TransactionEnds
 pub mod FilledLemmas
 pub mod BlankLemmas

@@ -184,8 +184,8 @@ module _ (w : World) (token : List ℕ) where
           numbered = rw r.rows (numbered_left (old.now.trees 4) r.out means.access means.numbered r.found);
           entries = rw (r.tables.1.1.1.0 (λ e. omega (arith, e)), r.tables.1.1.1.1.0 (λ e. omega (arith, e))) means.entries;
           tokens = rw r.rows (ascending_left _ (ids_of r.out) (old.now.trees 4) means.tokens);
-          bodies = rw (r.tables.1.1.1.1.0 (λ e. omega (arith, e))) means.bodies;
           places = rw (r.tables.1.1.1.0 (λ e. omega (arith, e))) means.places;
+          pieces = rw (r.tables.1.1.1.1.0 (λ e. omega (arith, e))) means.pieces;
         },
       )
 

@@ -1,5 +1,6 @@
 -- How an entry stands to the one that two rows are, and to what a shelf sees.
-use Rattle.std.proofs.Common.{◌≡◌, ℕ, List, [], ◌∷◌, true, false, cond, Option, Some, None, refl, sym, ap, ◌∙◌, option_map}
+use Rattle.std.proofs.Common.{◌≡◌, ◌&&◌, ℕ, Bool, List, [], ◌∷◌, true, false, true≢false, cond, Option, Some, None, refl, sym, ap, ◌∙◌, option_map}
+use Rattle.std.specs.Prelude.{bytes_eq}
 use Rattle.std.specs.Option.{option_or}
 use Rattle.std.specs.FinMap as map
 use Rattle.sqlite.specs.Tree.{Trees}
@@ -8,15 +9,39 @@ use Rattle.world.specs.declared.entry.Entry.{Entry}
 use Rattle.world.specs.declared.entry.Seen.{Seen}
 use Rattle.world.specs.declared.standing.Standing.{Standing}
 use Rattle.world.specs.declared.standing.Standing.TheVariants.{Absent, Same, Other}
-use Rattle.world.specs.Standing.{same_entry, standing_to, standing}
+use Rattle.world.specs.Standing.{same_entry, same_time, standing_to, standing}
 use Rattle.world.specs.World.{World, common, place, seen_at, first_on}
 use Rattle.store.specs.declared.entries.VersionRow.{VersionRow}
-use Rattle.store.specs.Reading.{IsRowOf, HasZip, entry_with}
-use Rattle.store.proofs.HeadingLemmas.{entry_of_rows}
+use Rattle.store.specs.Reading.{IsRowOf, IsZip, same_heading}
+use Rattle.store.proofs.HeadingLemmas.{entry_of_rows, zip_of}
 
-pub standing_whole : (db : Trees) (w : World) (p : Place) (v : VersionRow) (zip : List ℕ) (e : Entry) (found : Standing) → IsRowOf db w p v → HasZip db v.id (Some zip)
-    → found ≡ standing_to (Some (entry_with v.heading zip)) e → found ≡ standing_to (map.get w.entries p) e
-standing_whole db w p v zip e found it has is = is ∙ ap (λ o. standing_to o e) (entry_of_rows db w p v zip it has)
+-- where the rest is the same, the zips tell
+by_zips : (a z t : Bool) → (a && t) ≡ true → (a && z && t) ≡ z
+by_zips true true true h = refl
+by_zips true true false h = absurd (true≢false (sym h))
+by_zips true false true h = refl
+by_zips true false false h = refl
+by_zips false z t h = absurd (true≢false (sym h))
+
+not_same : (a z t : Bool) → (a && t) ≡ false → (a && z && t) ≡ false
+not_same true true true h = absurd (true≢false h)
+not_same true true false h = refl
+not_same true false t h = refl
+not_same false z t h = refl
+
+pub standing_whole : (db : Trees) (w : World) (p : Place) (v : VersionRow) (e : Entry) (same : Bool) → IsRowOf db w p v → same_heading v.heading e ≡ true → ((there : List ℕ) → IsZip db v.id there → same ≡ bytes_eq there e.zip)
+    → cond same Same Other ≡ standing_to (map.get w.entries p) e
+standing_whole db w p v e same it headed zips =
+    let mods = bytes_eq v.heading.gomod e.gomod in
+    let times = same_time v.heading.time e.time in
+    let zip : same ≡ bytes_eq it.entry.zip e.zip = zips it.entry.zip (zip_of db w p v it) in
+    ap (λ b. cond b Same Other) (zip ∙ sym (by_zips mods (bytes_eq it.entry.zip e.zip) times headed))
+    ∙ ap (λ o. standing_to o e) (entry_of_rows db w p v it.entry.zip it refl)
+
+pub standing_other : (db : Trees) (w : World) (p : Place) (v : VersionRow) (e : Entry) → IsRowOf db w p v → same_heading v.heading e ≡ false → Other ≡ standing_to (map.get w.entries p) e
+standing_other db w p v e it headed =
+    ap (λ b. cond b Same Other) (sym (not_same (bytes_eq v.heading.gomod e.gomod) (bytes_eq it.entry.zip e.zip) (same_time v.heading.time e.time) headed))
+    ∙ ap (λ o. standing_to o e) (entry_of_rows db w p v it.entry.zip it refl)
 
 pub standing_lacks : (w : World) (p : Place) (e : Entry) → map.get w.entries p ≡ None → Absent ≡ standing_to (map.get w.entries p) e
 standing_lacks w p e none = sym (ap (λ o. standing_to o e) none)

@@ -16,14 +16,11 @@ add_shelf_text = codes "INSERT INTO shelf (name) VALUES (?1)"
 abbrev pub row_text : List ℕ
 row_text = codes "SELECT id, shelf, time, mod FROM version WHERE shelf = ?1 AND path = ?2 AND version = ?3"
 
-abbrev pub zip_text : List ℕ
-zip_text = codes "SELECT zip FROM body WHERE id = ?1"
+abbrev pub piece_text : List ℕ
+piece_text = codes "SELECT bytes FROM piece WHERE version = ?1 AND number = ?2"
 
 abbrev pub count_text : List ℕ
 count_text = codes "SELECT count(*) FROM version WHERE shelf = ?1 AND path = ?2"
-
-abbrev pub add_version_text : List ℕ
-add_version_text = codes "INSERT INTO version (shelf, path, version, time, mod, order_key, rank_key) VALUES (?1, ?2, ?3, ?4, ?5, ?6, ?7)"
 
 abbrev pub last_number_text : List ℕ
 last_number_text = codes "SELECT id FROM version WHERE id = ?1"
@@ -31,11 +28,11 @@ last_number_text = codes "SELECT id FROM version WHERE id = ?1"
 abbrev pub numbers_text : List ℕ
 numbers_text = codes "SELECT id FROM version ORDER BY id"
 
-abbrev pub add_numbered_text : List ℕ
-add_numbered_text = codes "INSERT INTO version (id, shelf, path, version, time, mod, order_key, rank_key) VALUES (?1, ?2, ?3, ?4, ?5, ?6, ?7, ?8)"
+abbrev pub add_version_text : List ℕ
+add_version_text = codes "INSERT INTO version (id, shelf, path, version, time, mod, order_key, rank_key) VALUES (?1, ?2, ?3, ?4, ?5, ?6, ?7, ?8)"
 
-abbrev pub add_body_text : List ℕ
-add_body_text = codes "INSERT INTO body (id, zip) VALUES (?1, ?2)"
+abbrev pub add_piece_text : List ℕ
+add_piece_text = codes "INSERT INTO piece (version, number, bytes) VALUES (?1, ?2, ?3)"
 
 abbrev pub versions_text : List ℕ
 versions_text = codes "SELECT version FROM version WHERE shelf = ?1 AND path = ?2"
@@ -49,8 +46,11 @@ revoke_key_text = codes "DELETE FROM access WHERE token = ?1"
 abbrev pub keys_on_text : List ℕ
 keys_on_text = codes "SELECT token, shelf, publish FROM access WHERE shelf = ?1"
 
-abbrev pub entries_on_text : List ℕ
-entries_on_text = codes "SELECT v.shelf, v.path, v.version, v.time, v.mod, b.zip, v.order_key, v.rank_key FROM version AS v JOIN body AS b ON b.id = v.id WHERE v.shelf = ?1"
+abbrev pub versions_on_text : List ℕ
+versions_on_text = codes "SELECT id, shelf, path, version, time, mod, order_key, rank_key FROM version WHERE shelf = ?1"
+
+abbrev pub pieces_on_text : List ℕ
+pieces_on_text = codes "SELECT p.version, p.number, p.bytes FROM version AS v JOIN piece AS p ON p.version = v.id WHERE v.shelf = ?1"
 
 abbrev pub other_shelf_text : List ℕ
 other_shelf_text = codes "SELECT name FROM shelf WHERE name <> ?1"

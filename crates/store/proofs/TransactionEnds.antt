@@ -1,5 +1,5 @@
 -- How a transaction ends in which the tables came to stand for another world.
-use Rattle.std.proofs.Common.{◌≡◌, ◌≤◌, ◌⊎◌, true, false, inl, inr, refl, sym, ap, subst, ◌∙◌, IsTrue, true≢false}
+use Rattle.std.proofs.Common.{◌≡◌, ◌≤◌, ◌⊎◌, true, false, None, inl, inr, refl, sym, ap, subst, ◌∙◌, IsTrue, true≢false}
 use Rattle.sqlite_trees.specs.View.{doubt}
 use Rattle.sqlite_trees.specs.declared.store.Store.{Ghosts}
 use Rattle.sqlite.specs.Tree.{Trees}
@@ -8,11 +8,17 @@ use Rattle.sqlite.specs.State.{State, HasCleanDisk, Shows, IsRolledBack, KeepsCo
 use Rattle.sqlite.specs.Held.{Held, state}
 use Rattle.sqlite.specs.Steps.{FailsToCommit}
 use Rattle.sqlite.specs.declared.error.Error.{Error}
-use Rattle.world.specs.World.{World}
+use Rattle.std.specs.FinMap as map
+use Rattle.world.specs.declared.entry.Place.{Place}
+use Rattle.world.specs.declared.entry.Entry.{Entry}
+use Rattle.world.specs.World.{World, with_entry}
 use Rattle.tables.specs.Means.{Holds, Stands, StandFor}
 use Rattle.store.specs.Calls.{ChangesAt}
-use Rattle.store.specs.Extract.{Writing}
+use Rattle.store.specs.Rows.{Writing, Filling}
+use Rattle.store.specs.Added.{HasAdded}
 use Rattle.tables.proofs.FailureLemmas.{was_clean}
+use Rattle.store.proofs.RowLemmas.{filling_of, writing_of}
+use Rattle.store.proofs.TransactionLemmas.{entry_means}
 use Rattle.store.proofs.WriteLemmas.{open_leaves}
 
 module _ {S : Type 0} (g : Ghosts S) (h : Held S) (last exit : State) (w next : World) (opened : HasCleanDisk (state g h) → IsTrue (state g h).is_open) where
@@ -85,3 +91,9 @@ module _ {S : Type 0} (g : Ghosts S) (h : Held S) (last exit : State) (w next : 
 pub commit_failed : (last exit : State) (x : Error) → IsTrue last.in_transaction → FailsToCommit last exit x → IsRolledBack last exit
 commit_failed last exit x inside (inl fails) = fails.3
 commit_failed last exit x inside (inr late) = absurd (true≢false (sym inside ∙ late.1))
+
+-- an entry that is written within a transaction
+pub entry_written : (begun last : State) (w : World) (p : Place) (e : Entry) → map.get w.entries p ≡ None → Writing begun w → (Filling begun → HasAdded begun.now.trees last.now.trees p e × Filling last) → Writing last (with_entry w p e)
+entry_written begun last w p e unused writing add =
+    let it = add (filling_of begun w writing) in
+    writing_of last (with_entry w p e) it.1 (entry_means w p e unused begun.now.trees last.now.trees writing.trees.sound it.0 writing.trees.means)

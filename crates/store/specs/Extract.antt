@@ -1,5 +1,5 @@
 -- Rows of one store that are handed on to another, within a transaction of it.
-use Rattle.std.specs.Prelude.{ℕ, ◌≡◌, ◌≤◌, ◌⊎◌, ◌↔◌, List, [], ◌∷◌, ◌++◌, Bool, Some, None, IsTrue, pos, if◌then◌else◌}
+use Rattle.std.specs.Prelude.{ℕ, ◌≡◌, ◌≤◌, ◌⊎◌, ◌↔◌, List, [], ◌∷◌, ◌++◌, filter, Bool, Some, None, IsTrue, pos, if◌then◌else◌}
 use Rattle.std.specs.FinMap as map
 use Rattle.sqlite.specs.declared.types.Value.TheVariants.{Int, Text, Blob}
 use Rattle.sqlite.specs.Order.{Row, column}
@@ -7,29 +7,18 @@ use Rattle.sqlite.specs.Values.{or_null}
 use Rattle.sqlite.specs.Tree.{Trees}
 use Rattle.sqlite.specs.Effect.{Database, ReadsFirst}
 use Rattle.sqlite.specs.Listing.{understood}
-use Rattle.sqlite.specs.State.{State, HasCleanDisk, IsUnchanged, IsRolledBack, Survives, KeepsCommit}
+use Rattle.sqlite.specs.State.{State, HasCleanDisk, IsUnchanged, IsRolledBack}
 use Rattle.sqlite.proofs.Callers.{command_of}
 use Rattle.sqlite_trees.specs.View.{doubt}
 use Rattle.world.specs.declared.entry.Holder.{Holder}
 use Rattle.world.specs.declared.entry.Place.{Place}
-use Rattle.world.specs.declared.entry.Entry.{Entry}
-use Rattle.world.specs.World.{World, with_key, with_team, with_entry}
-use Rattle.tables.specs.Fit.{ShowsKeys}
-use Rattle.tables.specs.Means.{may_publish, Means, StandFor}
-use Rattle.tables.specs.Schema.{store_schema}
-
--- within a transaction, the tables stand for the world
-pub record Writing (s : State) (x : World) : Type 0 where
-  pub schema : s.now.schema ≡ store_schema
-  pub trees : StandFor s.now.trees x
-  pub is_open : IsTrue s.is_open
-  pub inside : IsTrue s.in_transaction
-
--- within a transaction, of which nothing is committed, and which goes on where all was done and no answer of the disk was wrong
-pub record GoesOn (old new : State) (done : Bool) : Type 0 where
-  pub survives : Survives old new (λ _. ⊥)
-  pub kept : HasCleanDisk new → IsTrue old.in_transaction → KeepsCommit old new
-  pub inside : HasCleanDisk new → IsTrue old.in_transaction → IsTrue done → IsTrue new.in_transaction
+use Rattle.world.specs.declared.entry.Heading.{Heading}
+use Rattle.world.specs.World.{World, common, with_key, with_team}
+use Rattle.sqlite_rules.specs.Lists.{Has}
+use Rattle.tables.specs.Means.{may_publish, Means, StandFor, IsEachPlaceOnce, IsEachPieceOnce, is_of}
+use Rattle.tables.specs.Schema.{store_schema, version_table, piece_table}
+use Rattle.tables.specs.VersionKeys.{order_key_at, rank_key_at}
+use Rattle.store.specs.Rows.{Filling, GoesOn, AddsRows, IsElseSame, IsRead, AreApart, version_read, piece_read}
 
 -- an open connection over tables of the schema, as far as no answer of the disk was wrong
 abbrev pub IsReady : State → Type 0
@@ -41,14 +30,18 @@ pub record IsReadBy (old new : State) (done : Bool) : Type 0 where
   pub kept : HasCleanDisk new → IsUnchanged old new ⊎ IsRolledBack old new
   pub same : HasCleanDisk new → IsTrue done → IsUnchanged old new
 
--- Rows of a source are put into a fresh store, within a transaction of it, which makes of its world another.
-pub record Copies (Makes : World → World → World → Type 0) (source source_new fresh fresh_new : State) (done : Bool) : Type 0 where
+-- Rows of a source are put into a fresh store, within a transaction of it, which makes of its tables others.
+pub record Copies (Makes : Trees → Trees → Trees → Type 0) (source source_new fresh fresh_new : State) (done : Bool) : Type 0 where
   pub clean : doubt source.is_clean ≤ doubt source_new.is_clean
   pub reads : IsReady source → IsReadBy source source_new done
   pub goes_on : GoesOn fresh fresh_new done
   pub makes :
-      HasCleanDisk source_new → HasCleanDisk fresh_new → IsReady source → (w x : World) → Means source.now.trees w → Writing fresh x → IsTrue done
-      → (y : World) × Makes w x y × Writing fresh_new y
+      HasCleanDisk source_new → HasCleanDisk fresh_new → IsReady source → (w : World) → Means source.now.trees w → Filling fresh → IsTrue done
+      → Makes source.now.trees fresh.now.trees fresh_new.now.trees × Filling fresh_new
+
+-- of tables that stand for a world it makes those that stand for another
+abbrev pub OfWorlds : (World → World → World → Type 0) → Trees → Trees → Trees → Type 0
+OfWorlds Makes source db after = (w x : World) → Means source w → StandFor db x → (y : World) × Makes w x y × StandFor after y
 
 -- each row that the query shows of tables that stand for a world is so
 abbrev pub AllFit : (Row → Type 0) → List ℕ → Row → Type 0
@@ -66,8 +59,12 @@ abbrev pub IsKeyShown : Row → Type 0
 IsKeyShown row = (it : List ℕ × Holder) × ShowsKey row it
 
 -- the key was not there, and is
-abbrev pub PutsKey : Row → World → World → Type 0
-PutsKey row x y = (it : List ℕ × Holder) × ShowsKey row it × (map.get x.keys it.0 ≡ None) × (y ≡ with_key x it.0 it.1)
+abbrev pub AddsKey : Row → World → World → Type 0
+AddsKey row x y = (it : List ℕ × Holder) × ShowsKey row it × (map.get x.keys it.0 ≡ None) × (y ≡ with_key x it.0 it.1)
+
+-- so it is of the worlds that the tables stand for
+abbrev pub PutsKey : Row → Trees → Trees → Type 0
+PutsKey row db after = (x : World) → StandFor db x → (y : World) × AddsKey row x y × StandFor after y
 
 -- a world has the keys of another and those that are so, and is else the same
 pub record AddsKeys (IsSo : List ℕ × Holder → Type 0) (x y : World) : Type 0 where
@@ -79,41 +76,56 @@ pub record AddsKeys (IsSo : List ℕ × Holder → Type 0) (x y : World) : Type 
 abbrev pub CopiesKeys : List ℕ → World → World → World → Type 0
 CopiesKeys s w = AddsKeys (λ it. (map.get w.keys it.0 ≡ Some it.1) × (it.1.shelf ≡ s))
 
--- ---- entries
+-- ---- entries, by the rows of their versions and of their zips
 
--- a row shows an entry with its place, and the keys of its version
-pub record ShowsWhole (row : Row) (it : Place × Entry) : Type 0 where
-  pub shelf : column row 0 ≡ Text it.0.shelf
-  pub path : column row 1 ≡ Text it.0.path
-  pub version : column row 2 ≡ Text it.0.version
-  pub time : column row 3 ≡ or_null Text it.1.time
-  pub gomod : column row 4 ≡ Blob it.1.gomod
-  pub zip : column row 5 ≡ Blob it.1.zip
-  pub keys : ShowsKeys row it.0.version
+-- values show a version with its place, and the keys that its version has
+pub record ShowsVersion (values : Row) (p : Place) (h : Heading) : Type 0 where
+  pub shelf : column values 1 ≡ Text p.shelf
+  pub path : column values 2 ≡ Text p.path
+  pub version : column values 3 ≡ Text p.version
+  pub time : column values 4 ≡ or_null Text h.time
+  pub gomod : column values 5 ≡ Blob h.gomod
+  pub order : column values 6 ≡ Blob (order_key_at p.version)
+  pub rank : column values 7 ≡ Blob (rank_key_at p.version)
 
-abbrev pub IsEntryShown : Row → Type 0
-IsEntryShown row = (it : Place × Entry) × ShowsWhole row it
+abbrev pub IsVersionShown : Row → Type 0
+IsVersionShown values = (p : Place) × (h : Heading) × ShowsVersion values p h
 
--- nothing was at the place, and the entry is
-abbrev pub PutsEntry : Row → World → World → Type 0
-PutsEntry row x y = (it : Place × Entry) × ShowsWhole row it × (map.get x.entries it.0 ≡ None) × (y ≡ with_entry x it.0 it.1)
+-- the values are those of a version on the shelf
+abbrev pub IsVersionOn : List ℕ → Trees → Row → Type 0
+IsVersionOn shelf db values = IsRead version_read (db version_table.tree) values × (column values 1 ≡ Text shelf)
 
--- a world has the entries of another and those that are so, and is else the same
-pub record AddsEntries (IsSo : Place × Entry → Type 0) (x y : World) : Type 0 where
-  pub shelves : y.shelves ≡ x.shelves
-  pub keys : y.keys ≡ x.keys
-  pub entries : (it : Place × Entry) → (map.get y.entries it.0 ≡ Some it.1) ↔ ((map.get x.entries it.0 ≡ Some it.1) ⊎ IsSo it)
+-- the values are those of a piece of a version on the shelf
+abbrev pub IsPieceOn : List ℕ → Trees → Row → Type 0
+IsPieceOn shelf db values =
+    (version : Row) × Has (db version_table.tree) version × (column version 2 ≡ Text shelf) × IsRead piece_read (filter (is_of version) (db piece_table.tree)) values
 
--- it has the entries of one shelf of w beside its own
-abbrev pub CopiesEntries : List ℕ → World → World → World → Type 0
-CopiesEntries s w = AddsEntries (λ it. (map.get w.entries it.0 ≡ Some it.1) × (it.0.shelf ≡ s))
+-- the versions of one shelf are put in, beside those that were there
+pub record CopiesVersions (shelf : List ℕ) (source db after : Trees) : Type 0 where
+  pub rows : AddsRows version_read (IsVersionOn shelf source) (db version_table.tree) (after version_table.tree)
+  pub apart : AreApart IsEachPlaceOnce (db version_table.tree) → AreApart IsEachPlaceOnce (after version_table.tree)
+  pub tables : IsElseSame version_table db after
+
+-- the pieces of its zips are put in, beside those that were there
+pub record CopiesPieces (shelf : List ℕ) (source db after : Trees) : Type 0 where
+  pub rows : AddsRows piece_read (IsPieceOn shelf source) (db piece_table.tree) (after piece_table.tree)
+  pub apart : AreApart IsEachPieceOnce (db piece_table.tree) → AreApart IsEachPieceOnce (after piece_table.tree)
+  pub tables : IsElseSame piece_table db after
 
 -- ---- one after another
 
--- a shelf is put in, of whatever world the source stands for
-abbrev pub PutsShelf : List ℕ → World → World → World → Type 0
-PutsShelf name w x y = y ≡ with_team x name
+-- a shelf is put in
+abbrev pub PutsShelf : List ℕ → Trees → Trees → Type 0
+PutsShelf name db after = (x : World) → StandFor db x → StandFor after (with_team x name)
+
+-- so it is of whatever world the source stands for
+abbrev pub AddsShelf : List ℕ → World → World → World → Type 0
+AddsShelf name w x y = y ≡ with_team x name
 
 -- the one, and then the other
-abbrev pub Then : (World → World → World → Type 0) → (World → World → World → Type 0) → World → World → World → Type 0
-Then P Q w x z = (y : World) × P w x y × Q w y z
+abbrev pub Then : {X : Type 0} → (X → X → X → Type 0) → (X → X → X → Type 0) → X → X → X → Type 0
+Then {X} P Q w x z = (y : X) × P w x y × Q w y z
+
+-- the versions of a team and of `common`, and then the pieces of both
+abbrev pub CopiesEntries : List ℕ → Trees → Trees → Trees → Type 0
+CopiesEntries team = Then (Then (Then (CopiesVersions team) (CopiesVersions common)) (CopiesPieces team)) (CopiesPieces common)

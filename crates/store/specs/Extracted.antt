@@ -3,7 +3,9 @@ use Rattle.std.specs.Prelude.{ℕ, ◌≡◌, ◌≢◌, ◌≤◌, ◌⊎◌, L
 use Rattle.std.specs.FinMap as map
 use Rattle.std.specs.FinSet as set
 use Rattle.sqlite.specs.State.{State, HasCleanDisk}
-use Rattle.tables.specs.Means.{StandsFor}
+use Rattle.sqlite.specs.Tree.{Trees}
+use Rattle.tables.specs.Means.{Means, StandFor, StandsFor}
+use Rattle.store.specs.Extract.{Then, AddsShelf, CopiesKeys}
 use Rattle.world.specs.declared.entry.Entry.{Entry}
 use Rattle.world.specs.declared.entry.Holder.{Holder}
 use Rattle.world.specs.declared.entry.Place.{Place}
@@ -35,9 +37,13 @@ IsJudged w x team judged.NotEmpty = IsTeam w team × (x ≢ only_common)
 
 -- ---- the part of a team
 
--- of a world that has `common` alone it is made
-abbrev pub MakesPart : List ℕ → World → World → World → Type 0
-MakesPart team w x y = IsWorld w → set.contains w.shelves team ≡ true → x ≡ only_common → y ≡ part w team
+-- the team's shelf is put in, and the keys of it and of `common`
+abbrev pub MakesRegistry : List ℕ → World → World → World → Type 0
+MakesRegistry team = Then (Then (AddsShelf team) (CopiesKeys team)) (CopiesKeys common)
+
+-- of tables that stand for `common` alone those of the part are made
+abbrev pub MakesPart : List ℕ → Trees → Trees → Trees → Type 0
+MakesPart team source db after = (w : World) → Means source w → IsWorld w → set.contains w.shelves team ≡ true → StandFor db only_common → Means after (part w team)
 
 -- whether the part was written
 abbrev pub is_written : Result Judged CopyError → Bool

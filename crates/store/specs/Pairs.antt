@@ -21,9 +21,9 @@ pairs t u filter project = record {
 }
 
 abbrev pub passes_both : List Term → Row → Row → Row → Bool
-passes_both filter params row body = list_all (holds (params ∷ row ∷ body ∷ [])) filter
+passes_both filter params row other = list_all (holds (params ∷ row ∷ other ∷ [])) filter
 
 -- the pairs that pass, as they are shown
-pub record ArePaired (rows bodies : List Row) (filter project : List Term) (params : Row) (out : List Row) : Type 0 where
-  pub sound : (x : Row) → Has out x → (row : Row) × (body : Row) × Has rows row × Has bodies body × (passes_both filter params row body ≡ true) × (x ≡ eval_all project (params ∷ row ∷ body ∷ []))
-  pub complete : (row body : Row) → Has rows row → Has bodies body → passes_both filter params row body ≡ true → Has out (eval_all project (params ∷ row ∷ body ∷ []))
+pub record ArePaired (rows others : List Row) (filter project : List Term) (params : Row) (out : List Row) : Type 0 where
+  pub sound : (x : Row) → Has out x → (row : Row) × (other : Row) × Has rows row × Has others other × (passes_both filter params row other ≡ true) × (x ≡ eval_all project (params ∷ row ∷ other ∷ []))
+  pub complete : (row other : Row) → Has rows row → Has others other → passes_both filter params row other ≡ true → Has out (eval_all project (params ∷ row ∷ other ∷ []))

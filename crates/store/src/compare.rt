@@ -1,45 +1,36 @@
 //! How an entry that is handed in stands to those in the tables. A zip that is there is compared where
-//! its row has it.
+//! its rows have it.
 
-ghost use Rattle.std.specs.Prelude.{◌≡◌, Some, IfOk, IsTrue};
+ghost use Rattle.std.specs.Prelude.{◌≡◌, IfOk, IsTrue};
 ghost use Rattle.std.specs.FinMap as map;
 ghost use Rattle.sqlite.specs.Held.{state};
-ghost use Rattle.sqlite.specs.Order.{column};
-ghost use Rattle.sqlite.specs.declared.types.Value.TheVariants.{Blob};
 ghost use Rattle.world.specs.Standing.{standing, standing_to};
 ghost use Rattle.world.specs.World.{place};
 ghost use Rattle.store.specs.Calls.{InEachWorld, Spares};
-ghost use Rattle.store.specs.Reading.{entry_with};
+ghost use Rattle.store.specs.Reading.{same_heading};
 
-use crate::entries::{VersionRow, row_at, zip_row};
-use sqlite::types::ValueRef;
-use sqlite::{Alter, Connection, Error, ErrorCode, Row};
-use world::entry::EntryRef;
+use crate::entries::row_at;
+use crate::pieces::has_zip;
+use sqlite::{Alter, Connection, Error};
+use world::entry::{EntryRef, Heading};
 use world::names::COMMON;
 use world::standing::{Standing, standing_to};
 
-/// The zip in its row.
-fn lent_zip(row: &Row) -> Result<&[u8], Error>
-    ensures { IfOk result (λ zip. column row.now 0 ≡ Blob zip.now) }
+/// Whether an entry has this go.mod and this time.
+fn has_heading(heading: &Heading, entry: &EntryRef) -> bool
+    ensures { result ≡ same_heading heading.now entry.now }
 {
-    match row.get_ref(0)? {
-        ValueRef::Blob(zip) => Ok(zip),
-        _ => Err(Error::SqliteFailure(ErrorCode::DatabaseCorrupt)),
-    }
-}
-
-/// How an entry stands to that of the row of a version and the row of its zip.
-fn standing_in(version: &VersionRow, body: &Row, entry: &EntryRef) -> Result<Standing, Error>
-    ensures { IfOk result (λ found. (zip : _) × (column body.now 0 ≡ Blob zip)
-        × (found ≡ standing_to (Some (entry_with version.now.heading zip)) entry.now)) }
-{
-    let zip = lent_zip(body)?;
     let there = EntryRef {
-        gomod: version.heading.gomod.as_slice(),
-        zip,
-        time: version.heading.time,
+        gomod: heading.gomod.as_slice(),
+        zip: &[],
+        time: heading.time,
     };
-    Ok(standing_to(&there, entry))
+    let here = EntryRef {
+        gomod: entry.gomod,
+        zip: &[],
+        time: entry.time,
+    };
+    standing_to(&there, &here) == Standing::Same
 }
 
 /// How an entry stands to that of a version on a shelf.
@@ -58,10 +49,14 @@ fn standing_at<S: Alter>(
     let Some(row) = row_at(conn, shelf, path, version)? else {
         return Ok(Standing::Absent);
     };
-    let Some(body) = zip_row(conn, row.id)? else {
-        return Err(Error::SqliteFailure(ErrorCode::DatabaseCorrupt));
-    };
-    standing_in(&row, &body, entry)
+    if !has_heading(&row.heading, entry) {
+        return Ok(Standing::Other);
+    }
+    if has_zip(conn, row.id, entry.zip)? {
+        Ok(Standing::Same)
+    } else {
+        Ok(Standing::Other)
+    }
 }
 
 /// How an entry stands to what a shelf sees of a version: to its own entry, or else to that of `common`.

@@ -10,15 +10,18 @@ ghost use Rattle.sqlite.specs.State.{KeepsCommit, Survives};
 ghost use Rattle.sqlite_trees.specs.View.{doubt};
 ghost use Rattle.modver.specs.SemanticVersion.{version_text};
 ghost use Rattle.world.specs.World.{place, seen_at, view, heading_of, heading, count, with_entry};
-ghost use Rattle.tables.specs.Schema.{store_schema};
+ghost use Rattle.tables.specs.Schema.{version_table};
 ghost use Rattle.tables.specs.Means.{StandsFor};
+ghost use Rattle.tables.specs.Inserted.{Inserted};
 ghost use Rattle.store.specs.Calls.{InEachWorld, IsOpenIfHonest, Spares, ChangesAt};
 ghost use Rattle.tables.specs.Calls.{Honestly};
-ghost use Rattle.store.specs.Reading.{HasRow, HasZip, ShowsZip};
-ghost use Rattle.store.specs.Added.{HasAdded};
+ghost use Rattle.store.specs.Reading.{HasRow};
+ghost use Rattle.store.specs.Rows.{Filling, GoesOn};
+ghost use Rattle.store.specs.Added.{HasAdded, version_row};
 
 use crate::keyed::KeyedVersion;
 use crate::numbers::chosen_number;
+use crate::pieces::{find_zip, insert_zip};
 use crate::shelves::find_row;
 use modver::{TimeText, Version, read_time};
 use sqlite::{Alter, Connection, Error, ErrorCode, Row, Transaction, params};
@@ -98,36 +101,9 @@ pub(crate) fn row_at<S: Alter>(
     }
 }
 
-fn read_zip(row: &Row) -> Result<Bytes, Error>
-    ensures { IfOk result (λ zip. column row.now 0 ≡ Blob zip) }
-{
-    let zip: Vec<u8> = row.get(0)?;
-    Ok(Bytes::new(zip))
-}
-
-/// The row of the zip that has this number.
-pub(crate) fn zip_row<S: Alter>(conn: &mut Connection<S>, id: i64) -> Result<Option<Row>, Error>
-    ensures spares { Spares (state S.Store conn.old) (state S.Store conn.new) }
-    ensures answer { InEachWorld (state S.Store conn.old) (state S.Store conn.new) (λ old new w.
-        IfOk result (λ found. IsTrue old.is_open × IsTrue new.is_open × ShowsZip old.now.trees id found)) }
-{
-    find_row(conn, "SELECT zip FROM body WHERE id = ?1", params![id])
-}
-
-/// The zip that has this number.
-fn find_zip<S: Alter>(conn: &mut Connection<S>, id: i64) -> Result<Option<Bytes>, Error>
-    ensures spares { Spares (state S.Store conn.old) (state S.Store conn.new) }
-    ensures answer { InEachWorld (state S.Store conn.old) (state S.Store conn.new) (λ old new w.
-        IfOk result (λ found. IsTrue old.is_open × IsTrue new.is_open × HasZip old.now.trees id found)) }
-{
-    match zip_row(conn, id)? {
-        Some(row) => Ok(Some(read_zip(&row)?)),
-        None => Ok(None),
-    }
-}
-
 /// The entry of a version on a shelf, with the shelf.
 fn entry_at<S: Alter>(
+    alloc: Global,
     conn: &mut Connection<S>,
     shelf: &str,
     path: &str,
@@ -141,9 +117,7 @@ fn entry_at<S: Alter>(
     let Some(row) = row_at(conn, shelf, path, version)? else {
         return Ok(None);
     };
-    let Some(zip) = find_zip(conn, row.id)? else {
-        return Err(Error::SqliteFailure(ErrorCode::DatabaseCorrupt));
-    };
+    let zip = find_zip(alloc, conn, row.id)?;
     Ok(Some(Seen {
         shelf: row.shelf,
         entry: Entry {
@@ -156,6 +130,7 @@ fn entry_at<S: Alter>(
 
 /// The entry that a shelf sees: its own, or else that of `common`.
 pub(crate) fn find_entry<S: Alter>(
+    alloc: Global,
     conn: &mut Connection<S>,
     shelf: &str,
     path: &str,
@@ -165,9 +140,9 @@ pub(crate) fn find_entry<S: Alter>(
     ensures answer { InEachWorld (state S.Store conn.old) (state S.Store conn.new) (λ _ _ w.
         IfOk result (λ found. found ≡ view w shelf.now path.now version.now)) }
 {
-    match entry_at(conn, shelf, path, version)? {
+    match entry_at(alloc, conn, shelf, path, version)? {
         Some(seen) => Ok(Some(seen)),
-        None => entry_at(conn, COMMON, path, version),
+        None => entry_at(alloc, conn, COMMON, path, version),
     }
 }
 
@@ -246,22 +221,24 @@ fn time_text(time: &Option<TimeText>) -> Option<&str>
     }
 }
 
-/// Writes the two rows of an entry, with this number or with one that sqlite chooses.
-fn insert_rows<'p, S: Alter>(
+/// Writes the row of a version, with this number or with one that sqlite chooses, and tells its number.
+fn insert_version<'p, S: Alter>(
     tx: &mut Transaction<'_, S>,
     number: Option<i64>,
     shelf: &'p str,
     path: &'p str,
     version: &'p KeyedVersion<'p>,
     entry: &'p EntryRef<'p>,
-) -> Result<(), Error>
+) -> Result<i64, Error>
     ensures same_reference { tx.new.conn.ghost_name ≡ tx.old.conn.ghost_name }
     ensures survives { Survives (state S.Store tx.old.conn.now) (state S.Store tx.new.conn.now) (λ _. ⊥) }
     ensures kept { Honestly (state S.Store tx.old.conn.now) (state S.Store tx.new.conn.now) (λ old new.
         IsTrue old.in_transaction → KeepsCommit old new) }
-    ensures added { Honestly (state S.Store tx.old.conn.now) (state S.Store tx.new.conn.now) (λ old new.
-        IsTrue old.in_transaction → old.now.schema ≡ store_schema
-        → OnOk result (HasAdded old new (place shelf.now path.now version.now) entry.now)) }
+    ensures inside { Honestly (state S.Store tx.old.conn.now) (state S.Store tx.new.conn.now) (λ old new.
+        IsTrue old.in_transaction → OnOk result (IsTrue new.in_transaction)) }
+    ensures puts { Honestly (state S.Store tx.old.conn.now) (state S.Store tx.new.conn.now) (λ old new.
+        Filling old → IfOk result (λ id. Inserted old.now.trees new.now.trees version_table
+        (version_row id (place shelf.now path.now version.now) entry.now) × Filling new)) }
 {
     let time = time_text(&entry.time);
     tx.execute(
@@ -277,15 +254,29 @@ fn insert_rows<'p, S: Alter>(
             version.rank()
         ],
     )?;
-    let id = tx.last_insert_rowid();
-    tx.execute(
-        "INSERT INTO body (id, zip) VALUES (?1, ?2)",
-        params![id, entry.zip],
-    )?;
-    Ok(())
+    Ok(tx.last_insert_rowid())
 }
 
-/// Stores an entry where there is none, with both its rows or with neither.
+/// Writes the rows of an entry: that of its version, and then those of its zip.
+fn insert_rows<'p, S: Alter>(
+    tx: &mut Transaction<'_, S>,
+    number: Option<i64>,
+    shelf: &'p str,
+    path: &'p str,
+    version: &'p KeyedVersion<'p>,
+    entry: &'p EntryRef<'p>,
+) -> Result<(), Error>
+    ensures same_reference { tx.new.conn.ghost_name ≡ tx.old.conn.ghost_name }
+    ensures goes_on { GoesOn (state S.Store tx.old.conn.now) (state S.Store tx.new.conn.now) (is_ok result) }
+    ensures added { Honestly (state S.Store tx.old.conn.now) (state S.Store tx.new.conn.now) (λ old new.
+        Filling old → OnOk result (HasAdded old.now.trees new.now.trees (place shelf.now path.now version.now) entry.now
+        × Filling new)) }
+{
+    let id = insert_version(tx, number, shelf, path, version, entry)?;
+    insert_zip(tx, id, entry.zip)
+}
+
+/// Stores an entry where there is none, with all its rows or with none of them.
 fn insert_entry<S: Alter>(
     conn: &mut Connection<S>,
     number: Option<i64>,

@@ -6,14 +6,15 @@ ghost use Rattle.sqlite.specs.Held.{state};
 ghost use Rattle.sqlite.specs.State.{HasCleanDisk, KeepsCommit, Survives};
 ghost use Rattle.sqlite_trees.specs.View.{doubt};
 ghost use Rattle.world.specs.Part.{part};
-ghost use Rattle.world.specs.World.{IsWorld, only_common, with_team};
+ghost use Rattle.world.specs.World.{IsWorld, only_common};
 ghost use Rattle.tables.specs.Means.{Stands};
 ghost use Rattle.store.specs.Calls.{IsOpenIfHonest, Spares, ChangesAt};
 ghost use Rattle.tables.specs.Calls.{Honestly};
-ghost use Rattle.store.specs.Extract.{Writing, IsReady, Copies};
-ghost use Rattle.store.specs.Extracted.{MakesPart};
+ghost use Rattle.store.specs.Rows.{Filling};
+ghost use Rattle.store.specs.Extract.{IsReady, Copies, OfWorlds, PutsShelf, CopiesEntries};
+ghost use Rattle.store.specs.Extracted.{MakesRegistry, MakesPart};
 
-use crate::extract_rows::{CopyError, copy_entries, copy_keys};
+use crate::extract_rows::{CopyError, copy_keys, copy_pieces, copy_versions};
 use sqlite::{Alter, Connection, Error, ErrorCode, Transaction, params};
 use world::names::COMMON;
 
@@ -26,10 +27,44 @@ fn put_shelf<F: Alter>(tx: &mut Transaction<'_, F>, name: &str) -> Result<(), Er
     ensures inside { Honestly (state F.Store tx.old.conn.now) (state F.Store tx.new.conn.now) (λ old new.
         IsTrue old.in_transaction → OnOk result (IsTrue new.in_transaction)) }
     ensures puts { Honestly (state F.Store tx.old.conn.now) (state F.Store tx.new.conn.now) (λ old new.
-        (x : _) → Writing old x → OnOk result (Writing new (with_team x name.now))) }
+        Filling old → OnOk result (PutsShelf name.now old.now.trees new.now.trees × Filling new)) }
 {
     tx.execute("INSERT INTO shelf (name) VALUES (?1)", params![name])?;
     Ok(())
+}
+
+/// Writes the shelf of a team, and the keys of it and of `common`.
+fn fill_registry<S: Alter, F: Alter>(
+    source: &mut Connection<S>,
+    team: &str,
+    tx: &mut Transaction<'_, F>,
+) -> Result<(), CopyError>
+    ensures same_reference { tx.new.conn.ghost_name ≡ tx.old.conn.ghost_name }
+    ensures fills { Copies (OfWorlds (MakesRegistry team.now)) (state S.Store source.old) (state S.Store source.new)
+        (state F.Store tx.old.conn.now) (state F.Store tx.new.conn.now) (is_ok result) }
+{
+    match put_shelf(tx, team) {
+        Ok(()) => {}
+        Err(error) => return Err(CopyError::Fresh(error)),
+    }
+    copy_keys(source, tx, team)?;
+    copy_keys(source, tx, COMMON)
+}
+
+/// Writes the rows of the entries of a team and of `common`: their versions, and then their zips.
+fn fill_entries<S: Alter, F: Alter>(
+    source: &mut Connection<S>,
+    team: &str,
+    tx: &mut Transaction<'_, F>,
+) -> Result<(), CopyError>
+    ensures same_reference { tx.new.conn.ghost_name ≡ tx.old.conn.ghost_name }
+    ensures fills { Copies (CopiesEntries team.now) (state S.Store source.old) (state S.Store source.new)
+        (state F.Store tx.old.conn.now) (state F.Store tx.new.conn.now) (is_ok result) }
+{
+    copy_versions(source, tx, team)?;
+    copy_versions(source, tx, COMMON)?;
+    copy_pieces(source, tx, team)?;
+    copy_pieces(source, tx, COMMON)
 }
 
 /// Fills a store that has `common` alone with the part of a team: its shelf, then the keys and the entries of both.
@@ -42,14 +77,8 @@ fn fill<S: Alter, F: Alter>(
     ensures fills { Copies (MakesPart team.now) (state S.Store source.old) (state S.Store source.new)
         (state F.Store tx.old.conn.now) (state F.Store tx.new.conn.now) (is_ok result) }
 {
-    match put_shelf(tx, team) {
-        Ok(()) => {}
-        Err(error) => return Err(CopyError::Fresh(error)),
-    }
-    copy_keys(source, tx, team)?;
-    copy_keys(source, tx, COMMON)?;
-    copy_entries(source, tx, team)?;
-    copy_entries(source, tx, COMMON)
+    fill_registry(source, team, tx)?;
+    fill_entries(source, team, tx)
 }
 
 /// Writes the part of a team into a store that has `common` alone, whole or not at all.

@@ -1,6 +1,6 @@
 //! Rows of one store that are handed on to another, one at a time, within a transaction of it.
 
-ghost use Rattle.std.specs.Prelude.{◌≡◌, false, OnOk, is_ok, IsTrue};
+ghost use Rattle.std.specs.Prelude.{◌≡◌, ⊤, false, OnOk, is_ok, IsTrue};
 ghost use Rattle.sqlite.specs.Effect.{Reads};
 ghost use Rattle.sqlite.specs.Given.{IsPlain};
 ghost use Rattle.sqlite.specs.Held.{state};
@@ -9,13 +9,15 @@ ghost use Rattle.sqlite.specs.Order.{Row as Shown};
 ghost use Rattle.sqlite.specs.State.{HasCleanDisk, IsUnchanged, KeepsCommit, Survives};
 ghost use Rattle.sqlite.specs.Values.{bound};
 ghost use Rattle.sqlite.proofs.Callers.{command_of};
-ghost use Rattle.world.specs.World.{World};
+ghost use Rattle.sqlite.specs.Tree.{Trees};
 ghost use Rattle.tables.specs.Schema.{store_schema};
 ghost use Rattle.tables.specs.Means.{Means};
 ghost use Rattle.tables.specs.Walks.{Looks, Pass};
 ghost use Rattle.tables.specs.Calls.{Honestly};
-ghost use Rattle.store.specs.Extract.{Writing, Copies, AllFit, IsKeyShown, PutsKey, CopiesKeys, IsEntryShown, PutsEntry, CopiesEntries};
+ghost use Rattle.store.specs.Rows.{Filling, PutsVersion, PutsPiece};
+ghost use Rattle.store.specs.Extract.{Copies, OfWorlds, AllFit, IsKeyShown, PutsKey, CopiesKeys, IsVersionShown, CopiesVersions, CopiesPieces};
 
+use crate::pieces::{insert_piece, lent_bytes};
 use sqlite::types::ValueRef;
 use sqlite::{Alter, Connection, Error, ErrorCode, Row, Transaction, params};
 
@@ -37,8 +39,8 @@ pub(crate) trait RowSink {
     /// What a row has to be.
     ghost Fits: { Shown → Type 0 };
 
-    /// What a row makes of the world.
-    ghost Puts: { Shown → World → World → Type 0 };
+    /// What a row makes of the tables.
+    ghost Puts: { Shown → Trees → Trees → Type 0 };
 
     fn put<F: Alter>(&self, tx: &mut Transaction<'_, F>, row: &Row) -> Result<(), Error>
         ensures same_reference { tx.new.conn.ghost_name ≡ tx.old.conn.ghost_name }
@@ -48,7 +50,7 @@ pub(crate) trait RowSink {
         ensures inside { Honestly (state F.Store tx.old.conn.now) (state F.Store tx.new.conn.now) (λ old new.
             IsTrue old.in_transaction → OnOk result (IsTrue new.in_transaction)) }
         ensures puts { Honestly (state F.Store tx.old.conn.now) (state F.Store tx.new.conn.now) (λ old new.
-            (x : _) → Fits row.now → Writing old x → OnOk result ((y : _) × Puts row.now x y × Writing new y)) };
+            Fits row.now → Filling old → OnOk result (Puts row.now old.now.trees new.now.trees × Filling new)) };
 }
 
 /// Hands on each row that a query shows, while the query is read. No more than one row is in memory.
@@ -72,9 +74,9 @@ pub(crate) fn hand_on<S: Alter, F: Alter, T: RowSink>(
     ensures inside { Honestly (state F.Store tx.old.conn.now) (state F.Store tx.new.conn.now) (λ old new.
         IsTrue old.in_transaction → OnOk result (IsTrue new.in_transaction)) }
     ensures puts { HasCleanDisk (state S.Store source.new) → HasCleanDisk (state F.Store tx.new.conn.now) → (state S.Store source.old).now.schema ≡ store_schema
-        → (w x : _) → Means (state S.Store source.old).now.trees w → Writing (state F.Store tx.old.conn.now) x
-        → OnOk result ((rows : _) × Reads (command_of (understood store_schema sql.now)) (state S.Store source.old).now (bound params.now) rows
-        × ((y : _) × Pass (λ _ row. T.Fits row) (λ x row y. T.Puts row x y) x rows y × Writing (state F.Store tx.new.conn.now) y)) }
+        → (w : _) → Means (state S.Store source.old).now.trees w → Filling (state F.Store tx.old.conn.now)
+        → OnOk result (Filling (state F.Store tx.new.conn.now) × ((rows : _) × Reads (command_of (understood store_schema sql.now)) (state S.Store source.old).now (bound params.now) rows
+        × Pass (λ _ row. T.Fits row) (λ db row after. T.Puts row db after) (state F.Store tx.old.conn.now).now.trees rows (state F.Store tx.new.conn.now).now.trees)) }
 {
     let mut rows = source.query(sql, params)?;
     'rows: for _turn in 0..u128::MAX {
@@ -115,7 +117,7 @@ pub(crate) fn copy_keys<S: Alter, F: Alter>(
     shelf: &str,
 ) -> Result<(), CopyError>
     ensures same_reference { tx.new.conn.ghost_name ≡ tx.old.conn.ghost_name }
-    ensures copies { Copies (CopiesKeys shelf.now) (state S.Store source.old) (state S.Store source.new)
+    ensures copies { Copies (OfWorlds (CopiesKeys shelf.now)) (state S.Store source.old) (state S.Store source.new)
         (state F.Store tx.old.conn.now) (state F.Store tx.new.conn.now) (is_ok result) }
 {
     hand_on(
@@ -127,53 +129,83 @@ pub(crate) fn copy_keys<S: Alter, F: Alter>(
     )
 }
 
-/// Entries, each with its row in `version`, which carries its keys, and its row in `body`, under a number of its own.
-struct Entries;
+/// Versions, whose rows go into `version` as they stand, with their numbers and their keys of order.
+struct Versions;
 
-impl RowSink for Entries {
-    ghost Fits = { IsEntryShown };
+impl RowSink for Versions {
+    ghost Fits = { IsVersionShown };
 
-    ghost Puts = { PutsEntry };
+    ghost Puts = { PutsVersion };
 
     fn put<F: Alter>(&self, tx: &mut Transaction<'_, F>, row: &Row) -> Result<(), Error> {
+        let id: i64 = row.get(0)?;
         let values = [
-            row.get_ref(0)?,
+            ValueRef::Int(id),
             row.get_ref(1)?,
             row.get_ref(2)?,
             row.get_ref(3)?,
             row.get_ref(4)?,
+            row.get_ref(5)?,
             row.get_ref(6)?,
             row.get_ref(7)?,
         ];
-        let zip = row.get_ref(5)?;
         tx.execute(
-            "INSERT INTO version (shelf, path, version, time, mod, order_key, rank_key) VALUES (?1, ?2, ?3, ?4, ?5, ?6, ?7)",
+            "INSERT INTO version (id, shelf, path, version, time, mod, order_key, rank_key) VALUES (?1, ?2, ?3, ?4, ?5, ?6, ?7, ?8)",
             &values,
-        )?;
-        let id = tx.last_insert_rowid();
-        tx.execute(
-            "INSERT INTO body (id, zip) VALUES (?1, ?2)",
-            &[ValueRef::Int(id), zip],
         )?;
         Ok(())
     }
 }
 
-/// Copies the entries of one shelf.
-pub(crate) fn copy_entries<S: Alter, F: Alter>(
+/// Copies the rows of the versions on one shelf.
+pub(crate) fn copy_versions<S: Alter, F: Alter>(
     source: &mut Connection<S>,
     tx: &mut Transaction<'_, F>,
     shelf: &str,
 ) -> Result<(), CopyError>
     ensures same_reference { tx.new.conn.ghost_name ≡ tx.old.conn.ghost_name }
-    ensures copies { Copies (CopiesEntries shelf.now) (state S.Store source.old) (state S.Store source.new)
+    ensures copies { Copies (CopiesVersions shelf.now) (state S.Store source.old) (state S.Store source.new)
         (state F.Store tx.old.conn.now) (state F.Store tx.new.conn.now) (is_ok result) }
 {
     hand_on(
         source,
-        "SELECT v.shelf, v.path, v.version, v.time, v.mod, b.zip, v.order_key, v.rank_key FROM version AS v JOIN body AS b ON b.id = v.id WHERE v.shelf = ?1",
+        "SELECT id, shelf, path, version, time, mod, order_key, rank_key FROM version WHERE shelf = ?1",
         params![shelf],
         tx,
-        &Entries,
+        &Versions,
+    )
+}
+
+/// Pieces of zips, whose rows go into `piece` as they stand.
+struct Pieces;
+
+impl RowSink for Pieces {
+    ghost Fits = { λ _. ⊤ };
+
+    ghost Puts = { PutsPiece };
+
+    fn put<F: Alter>(&self, tx: &mut Transaction<'_, F>, row: &Row) -> Result<(), Error> {
+        let version: i64 = row.get(0)?;
+        let number: i64 = row.get(1)?;
+        insert_piece(tx, version, number, lent_bytes(row, 2)?)
+    }
+}
+
+/// Copies the rows of the zips of the versions on one shelf.
+pub(crate) fn copy_pieces<S: Alter, F: Alter>(
+    source: &mut Connection<S>,
+    tx: &mut Transaction<'_, F>,
+    shelf: &str,
+) -> Result<(), CopyError>
+    ensures same_reference { tx.new.conn.ghost_name ≡ tx.old.conn.ghost_name }
+    ensures copies { Copies (CopiesPieces shelf.now) (state S.Store source.old) (state S.Store source.new)
+        (state F.Store tx.old.conn.now) (state F.Store tx.new.conn.now) (is_ok result) }
+{
+    hand_on(
+        source,
+        "SELECT p.version, p.number, p.bytes FROM version AS v JOIN piece AS p ON p.version = v.id WHERE v.shelf = ?1",
+        params![shelf],
+        tx,
+        &Pieces,
     )
 }

@@ -11,14 +11,15 @@
 //! |---|---|
 //! | `adopt` | those of `tables::fit::stand_for_world`, or where there are no tables of `tables::create::create` |
 //! | `key` | the row of `access` that has the key |
-//! | `entry` | the row of `version` on the own shelf, or else on `common`, then its row of `body` |
-//! | `heading` | the row of `version` on the own shelf, or else on `common`, and no row of `body` |
+//! | `entry` | the row of `version` on the own shelf, or else on `common`, then its rows of `piece`, one after the other |
+//! | `heading` | the row of `version` on the own shelf, or else on `common`, and no row of `piece` |
+//! | `compare` | those of `entry`, up to the first piece that is another |
 //! | `versions`, `paths` | the rows of `version` on the own shelf, then those on `common` |
 //! | `count` | how many rows of `version` the path has on the shelf; asked once, and then kept |
-//! | `insert` | the row of `version` that has the last number, and where there is one, that of the lowest; then in one transaction a row of `version`, with the keys of its version, and a row of `body` |
+//! | `insert` | the row of `version` that has the last number, and where there is one, that of the lowest; then in one transaction a row of `version`, with the keys of its version, and a row of `piece` for each piece of the zip |
 //! | `team_add`, `key_add` | a row of `shelf`; a row of `access` |
 //! | `key_revoke` | the row of `access` is taken away |
-//! | `extract` | of the team and of `common` the rows of `access`, and those of `version` with `body`, one at a time, into a fresh store in one transaction |
+//! | `extract` | of the team and of `common` the rows of `access`, then those of `version`, then those of `piece`, one at a time, into a fresh store in one transaction |
 //!
 //! What is said of values holds where each answer of the disk was what had been written. A fault is
 //! `Memory` where memory was wanted, and otherwise `Device`, which is counted.
@@ -35,6 +36,7 @@ mod keyed;
 pub mod laws;
 mod numbers;
 pub mod open;
+mod pieces;
 pub mod refusal;
 mod revoke;
 mod shelves;

@@ -84,7 +84,13 @@ impl<S: Alter> Shelves for SqlShelves<S> {
         path: &ModulePath,
         version: &Version,
     ) -> Result<Option<Seen>, StoreFault> {
-        match find_entry(&mut self.conn, shelf, path.as_str(), version.as_str()) {
+        match find_entry(
+            self.alloc,
+            &mut self.conn,
+            shelf,
+            path.as_str(),
+            version.as_str(),
+        ) {
             Ok(found) => Ok(found),
             Err(error) => Err(fault(&mut self.failures, error)),
         }

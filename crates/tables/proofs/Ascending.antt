@@ -11,6 +11,7 @@ use Rattle.sqlite_trees.specs.Tree.{IsAscending}
 use Rattle.sqlite_trees.proofs.ListLemmas.{all-permutation, all_weaker, along_permutation, IsPermutation-filter}
 use Rattle.sqlite_rules.specs.Lists.{Has}
 use Rattle.sqlite_rules.proofs.ListLemmas.{all_has, all_from, has_left, has_right}
+use Rattle.sqlite_rules.proofs.ProbeLemmas.{mapped_has}
 
 module _ {X : Type 0} (P : X → X → Type 0) where
   -- from this element on, each with the next
@@ -121,3 +122,15 @@ filter_push {X} p (y ∷ xs) x = go (p y) (filter_push p xs x)
     go : (b : Bool) → length (filter p (xs ++ x ∷ [])) ≡ length (filter p xs) + cond (p x) 1 0 → length (cond b (y ∷ filter p (xs ++ x ∷ [])) (filter p (xs ++ x ∷ []))) ≡ length (cond b (y ∷ filter p xs) (filter p xs)) + cond (p x) 1 0
     go true h = omega (arith, h)
     go false h = h
+
+pub ascending_from_map : {X Y : Type 0} (P : Y → Y → Type 0) (f : X → Y) (xs : List X) → IsAscending P (mapped f xs) → IsAscending (λ a b. P (f a) (f b)) xs
+ascending_from_map P f [] up = tt
+ascending_from_map P f (x ∷ xs) up = (all_from _ xs (λ y there. all_has (P (f x)) (mapped f xs) (f y) up.0 (mapped_has f xs y there)), ascending_from_map P f xs up.1)
+
+-- where no two have one key, those that have are one
+pub one_by_key : {X K : Type 0} (key : X → K) (xs : List X) → IsAscending (λ a b. key a ≡ key b → ⊥) xs → (a b : X) → Has xs a → Has xs b → key a ≡ key b → a ≡ b
+one_by_key key [] once a b here there same = absurd here
+one_by_key key (x ∷ xs) once a b (inl one) (inl two) same = one ∙ sym two
+one_by_key key (x ∷ xs) once a b (inl one) (inr there) same = absurd (all_has (λ y. key x ≡ key y → ⊥) xs b once.0 there (ap key (sym one) ∙ same))
+one_by_key key (x ∷ xs) once a b (inr here) (inl two) same = absurd (all_has (λ y. key x ≡ key y → ⊥) xs a once.0 here (ap key (sym two) ∙ sym same))
+one_by_key key (x ∷ xs) once a b (inr here) (inr there) same = one_by_key key xs once.1 a b here there same

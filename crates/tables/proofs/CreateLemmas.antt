@@ -23,7 +23,7 @@ use Rattle.sqlite.specs.State.{State, KeepsCommit, Runs, ExecutesIn, shows_rows,
 use Rattle.sqlite.specs.Held.{Held, state}
 use Rattle.sqlite.proofs.Callers.{IsPlain, command_of, statement_of}
 use Rattle.sqlite_tied.specs.Compute.{everything}
-use Rattle.tables.specs.Schema.{no_schema, store_schema, meta_table, shelf_table, access_table, version_table, body_table, meta_text, shelf_text, access_text, version_text, body_text}
+use Rattle.tables.specs.Schema.{no_schema, store_schema, meta_table, shelf_table, access_table, version_table, piece_table, meta_text, shelf_text, access_text, version_text, piece_text}
 use Rattle.sqlite.specs.Order.{column}
 use Rattle.tables.specs.Means.{Means, schema_named}
 use Rattle.std.specs.FinSet as set
@@ -86,7 +86,7 @@ abbrev pub first4 : List ℕ
 first4 = version_text ++ codes ";"
 
 abbrev pub first5 : List ℕ
-first5 = body_text ++ codes ";"
+first5 = piece_text ++ codes ";"
 
 abbrev pub first6 : List ℕ
 first6 = codes "INSERT INTO meta (name, value) VALUES ('schema', 2);"
@@ -131,7 +131,7 @@ abbrev pub schema4 : Schema
 schema4 = record { tables = meta_table ∷ shelf_table ∷ access_table ∷ version_table ∷ []; indexes = take 4 store_schema.indexes; views = [] }
 
 abbrev pub schema5 : Schema
-schema5 = record { tables = meta_table ∷ shelf_table ∷ access_table ∷ version_table ∷ body_table ∷ []; indexes = take 4 store_schema.indexes; views = [] }
+schema5 = record { tables = meta_table ∷ shelf_table ∷ access_table ∷ version_table ∷ piece_table ∷ []; indexes = take 5 store_schema.indexes; views = [] }
 
 pub cut1 : (take (first_len text1) text1 ≡ first1) × (drop (first_len text1) text1 ≡ text2)
 unfolding everything
@@ -177,7 +177,7 @@ pub make4 : (command_of (understood schema3 first4) ≡ CreateTable) × IsPlain 
 unfolding understood everything
 make4 = (refl, (refl, refl), refl, refl)
 
-pub make5 : (command_of (understood schema4 first5) ≡ CreateTable) × IsPlain (understood schema4 first5) × (table_defined_by (statement_of first5 (understood schema4 first5)) ≡ Ok (record body_table { tree = 0 })) × (created schema4 (record body_table { tree = 0 }) ≡ schema5)
+pub make5 : (command_of (understood schema4 first5) ≡ CreateTable) × IsPlain (understood schema4 first5) × (table_defined_by (statement_of first5 (understood schema4 first5)) ≡ Ok (record piece_table { tree = 0 })) × (created schema4 (record piece_table { tree = 0 }) ≡ schema5)
 unfolding understood everything
 make5 = (refl, (refl, refl), refl, refl)
 
@@ -207,7 +207,7 @@ record Rows (db : Trees) : Type 0 where
   shelf : db 2 ≡ common_row ∷ []
   access : db 4 ≡ []
   version : db 6 ≡ []
-  body : db 8 ≡ []
+  piece : db 8 ≡ []
 
 means : (db : Trees) → Rows db → Means db only_common
 means db r = record {
@@ -223,8 +223,8 @@ means db r = record {
   numbered = rw r.access (record { number = λ row none. absurd none; own = λ a b none. absurd none });
   entries = rw r.version (record { each = λ row none. absurd none; found = λ x some. absurd (none_in_empty place_cmp x.0 x.1 some) });
   tokens = rw r.access tt;
-  bodies = rw r.body tt;
   places = rw r.version tt;
+  pieces = rw r.piece tt;
 }
   where
     only_name : (name : List ℕ) → IsTrue (set.contains only_common.shelves name) → codes "common" ≡ name
@@ -259,7 +259,7 @@ module _ {S : Type 0} (g : Ghosts S) (old new : Held S) where
       let d = turn g c.0 new text4 first4 text5 (lit< tt) cut4.0 cut4.1 (length text1 - 4) c.3 in
       let D = makes schema3 schema4 first4 (record version_table { tree = 0 }) make4.0 make4.1 make4.2 make4.3 refl (state g c.0) (state g d.0) d.1 C.0 d.2 in
       let e = turn g d.0 new text5 first5 text6 (lit< tt) cut5.0 cut5.1 (length text1 - 5) d.3 in
-      let E = makes schema4 schema5 first5 (record body_table { tree = 0 }) make5.0 make5.1 make5.2 make5.3 refl (state g d.0) (state g e.0) e.1 D.0 e.2 in
+      let E = makes schema4 schema5 first5 (record piece_table { tree = 0 }) make5.0 make5.1 make5.2 make5.3 refl (state g d.0) (state g e.0) e.1 D.0 e.2 in
       let f = turn g e.0 new text6 first6 text7 (lit< tt) cut6.0 cut6.1 (length text1 - 6) e.3 in
       let meta : (state g e.0).now.trees 0 ≡ [] = E.2.0 ∙ (D.2.0 ∙ (C.2.0 ∙ (B.2.0 ∙ A.1))) in
       let F = put_meta (state g e.0) (state g f.0) f.1 E.0 meta f.2 in
@@ -268,8 +268,8 @@ module _ {S : Type 0} (g : Ghosts S) (old new : Held S) where
       let L = put_common (state g f.0) (state g l.0) l.1 F.0 shelf l.2 in
       let access : (state g l.0).now.trees 4 ≡ [] = L.2 ∙ (F.3 ∙ (E.2.1.1.0 ∙ (D.2.1.1.0 ∙ C.1))) in
       let version : (state g l.0).now.trees 6 ≡ [] = L.3 ∙ (F.4 ∙ (E.2.1.1.1.0 ∙ D.1)) in
-      let body : (state g l.0).now.trees 8 ≡ [] = L.7 ∙ (F.5 ∙ E.1) in
-      let rows : Rows (state g l.0).now.trees = record { meta = L.4 ∙ F.1; shelf = L.1; access = access; version = version; body = body } in
+      let piece : (state g l.0).now.trees 8 ≡ [] = L.7 ∙ (F.5 ∙ E.1) in
+      let rows : Rows (state g l.0).now.trees = record { meta = L.4 ∙ F.1; shelf = L.1; access = access; version = version; piece = piece } in
       let same : new ≡ l.0 = l.3.1 in
       let shown : IsTrue (state g new).is_open = ap (λ h. (state g h).is_open) same ∙ L.6 in
       record {

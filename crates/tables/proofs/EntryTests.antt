@@ -1,5 +1,5 @@
 -- Entries that are tested.
-use Rattle.std.proofs.Common.{◌≡◌, ℕ, Bool, true, false, cond, List, Option, Some, None, IfSome, refl, sym, ap, subst, ◌∙◌}
+use Rattle.std.proofs.Common.{◌≡◌, ◌≤◌, ℕ, length, Bool, true, false, cond, List, Option, Some, None, IfSome, refl, sym, ap, subst, ◌∙◌}
 use Rattle.modver.specs.Class.{class_of}
 use Rattle.modver.specs.Reading.{version_of}
 use Rattle.modver.specs.SemanticVersion.{SemanticVersion}
@@ -11,7 +11,7 @@ use Rattle.modver.proofs.PseudoForms.{each-class, stamp-time}
 use Rattle.world.specs.declared.entry.Place.{Place}
 use Rattle.world.specs.declared.entry.Entry.{Entry}
 use Rattle.world.specs.EntryTest.{is_entry, fitting_version}
-use Rattle.world.specs.World.{place, IsEntry, IsTimeOf}
+use Rattle.world.specs.World.{place, IsEntry, IsTimeOf, zip_limit}
 use Rattle.world.proofs.EntryTests.{entry_exact}
 
 -- the time that goes with the class of a version is a time
@@ -42,3 +42,7 @@ fitting_none p v e told s is =
     let named : version_of v ≡ Some is.version.0 = (version-of v is.version.0).1 is.version.1 in
     let both : ◌≡◌ {A = Option SemanticVersion} None (Some is.version.0) = told ∙ (ap (λ b. cond b (version_of v) None) passes ∙ named) in
     absurd (cc)
+
+-- an entry that may stand there may stand with another zip that is no longer than a zip may be
+pub with_zip : (q : Place) (e : Entry) (zip : List ℕ) → IsEntry q e → length zip ≤ zip_limit → IsEntry q (record e { zip = zip })
+with_zip q e zip is small = record { path = is.path; version = is.version; fits = is.fits; gomod = is.gomod; zip = small; time = is.time; reads = is.reads }

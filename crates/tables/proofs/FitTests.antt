@@ -26,7 +26,6 @@ use Rattle.world.proofs.Orders.{texts_total, texts_exact, places_total, places_e
 use Rattle.tables.specs.Schema.{store_schema}
 use Rattle.tables.specs.Walks.{Looks, Tests, Pass, Walks, MayFollow, run_with}
 use Rattle.tables.specs.Fit
-use Rattle.tables.specs.Fit.{joined}
 use Rattle.tables.specs.declared.fit.MetaRows.{MetaRows}
 use Rattle.tables.specs.declared.fit.ShelfRows.{ShelfRows}
 use Rattle.tables.specs.declared.fit.KeyRows.{KeyRows}
@@ -59,7 +58,7 @@ walked Fits Keeps sql old new (Ok true) start end P looks same answer yes' no' =
 walked Fits Keeps sql old new (Ok false) start end P looks same answer yes' no' = told old new false P looks same (λ clean has. refused (no' (answer clean has)))
 walked Fits Keeps sql old new (Err e) start end P looks same answer yes' no' = no_answer old new e P looks
 
-pass_each : {X : Type 0} (Fits : X → Row → Type 0) (Keeps : X → Row → X → Type 0) (start : X) (rows : List Row) (end : X) → Pass Fits Keeps start rows end → (row : Row) → Has rows row → (x : X) × Fits x row
+pub pass_each : {X : Type 0} (Fits : X → Row → Type 0) (Keeps : X → Row → X → Type 0) (start : X) (rows : List Row) (end : X) → Pass Fits Keeps start rows end → (row : Row) → Has rows row → (x : X) × Fits x row
 pass_each {X} Fits Keeps start [] end p row there = absurd there
 pass_each {X} Fits Keeps start (r ∷ rows) end p row (inl same) = (start, subst (Fits start) (sym same) p.0)
 pass_each {X} Fits Keeps start (r ∷ rows) end p row (inr later) = pass_each Fits Keeps p.1 rows end p.3 row later
@@ -163,7 +162,7 @@ module _ (db : Database) (start end : ShelfRows) where
 
 -- ---- access: rows in the order of a key, each with a key of its own
 
-not_itself : {K : Type 0} {R : K → K → Ordering} → IsTotalOrder R → (a b : K) → R a b ≡ Less → a ≡ b → ⊥
+pub not_itself : {K : Type 0} {R : K → K → Ordering} → IsTotalOrder R → (a b : K) → R a b ≡ Less → a ≡ b → ⊥
 not_itself {K} {R} o a b less same = let e : Less ≡ Equal = sym less ∙ (ap (R a) (sym same) ∙ tied_itself o a) in absurd (cc)
 
 module _ {T K : Type 0} {R : K → K → Ordering} (total : IsTotalOrder R) (exact : IsAntisymmetric R) (IsRow : Row → Type 0) (key : Row → K) (last : T → Option K)
@@ -246,7 +245,7 @@ module _ (db : Database) where
       let first = first_listed number_rows_text _ _ _ _ number_rows_is db (w.0 ++ w.1 ∷ []) w.3 in
       once_false int_cmp_total int_cmp-IsAntisymmetric Fit.IsNumberRow Fit.number_in (λ (x : NumberRows). x.last) ints_in_order start w.2 new w.0 w.1 first.0 _ (numbers_listed db.trees _ first.1) w.4 w.5
 
--- ---- version and body
+-- ---- version
 
 abbrev pub EntryFits : EntryRows → Row → Type 0
 EntryFits rows row = Fit.IsEntryRow row × MayFollow rows.last rows.many (Fit.place_in row)
@@ -290,7 +289,7 @@ module _ (db : Database) (start end : EntryRows) where
       ascends (λ a b. place_cmp (Fit.place_in a) (Fit.place_in b) ≡ Less) (λ a b c. places_total.trans (Fit.place_in a) (Fit.place_in b) (Fit.place_in c)) rows
       (adjacent_both _ _ _ (λ a b upto apart. apart_below places_total places_exact (Fit.place_in a) (Fit.place_in b) upto apart) rows upto apart)
 
-  pub entries_true : start.last ≡ None → Walks EntryFits EntryKeeps entry_rows_text db start end true → Fit.AreEntriesFit (joined (db.trees 6) (db.trees 8))
+  pub entries_true : start.last ≡ None → Walks EntryFits EntryKeeps entry_rows_text db start end true → Fit.AreEntriesFit (map Fit.entry_shown (db.trees 6))
   entries_true new w =
       let it = all_listed entry_rows_text _ _ _ _ entry_rows_is db w.0 w.1 in
       let same = entries_listed db.trees w.0 it in
@@ -304,7 +303,7 @@ module _ (db : Database) (start end : EntryRows) where
             subst (λ n. n ≤ version_limit) (sym (filter_permuted (λ row. Fit.is_on s p (Fit.place_in row)) w.0 _ back)) few;
       }
 
-  pub entries_false : start.last ≡ None → Walks EntryFits EntryKeeps entry_rows_text db start end false → Fit.AreEntriesFit (joined (db.trees 6) (db.trees 8)) → ⊥
+  pub entries_false : start.last ≡ None → Walks EntryFits EntryKeeps entry_rows_text db start end false → Fit.AreEntriesFit (map Fit.entry_shown (db.trees 6)) → ⊥
   entries_false new w fit =
       let first = first_listed entry_rows_text _ _ _ _ entry_rows_is db (w.0 ++ w.1 ∷ []) w.3 in
       let same = entries_listed db.trees _ first.1 in

@@ -4,6 +4,7 @@ pub mod Ascending
 pub mod ValueLemmas
 pub mod SchemaLemmas
 pub mod FlagLemmas
+pub mod BoundLemmas
 pub mod FailureLemmas
 pub mod AsciiLemmas
 pub mod RowMapLemmas
@@ -16,14 +17,17 @@ pub mod UnmadeLemmas
 pub mod WalkLemmas
 pub mod ListingLemmas
 pub mod RunLemmas
+pub mod PieceLemmas
 pub mod JoinLemmas
 pub mod SoundLemmas
 pub mod EntryTests
 pub mod VersionKeyLemmas
 pub mod RowFits
 pub mod FitTests
+pub mod PieceTests
 pub mod WalkCauses
 pub mod CountedRows
+pub mod ZipOf
 pub mod WorldOf
 pub mod WorldFits
 pub mod OneWorld

@@ -1,31 +1,28 @@
 -- What a query that lists all rows answers.
-use Rattle.std.proofs.Common.{◌≡◌, ◌&&◌, ◌++◌, ℕ, pos, negsuc, Bool, true, false, List, [], ◌∷◌, map, filter, flat_map, None, IsPermutation, refl, sym, ap, subst, subst₂, ◌∙◌, codes}
+use Rattle.std.proofs.Common.{◌≡◌, ◌++◌, ℕ, pos, negsuc, false, List, [], ◌∷◌, map, flat_map, None, IsPermutation, refl, sym, ap, subst, subst₂, ◌∙◌, codes}
 use Rattle.std.specs.Prelude.{IsSorted}
 use Rattle.std.specs.Ordering.{is_lt}
 use Rattle.std.proofs.lemmas.List.Sorted.{IsPermutation-map}
 use Rattle.sqlite.specs.declared.types.Value.TheVariants.{Null, Int}
 use Rattle.sqlite.specs.Collation.TheVariants.{Binary}
-use Rattle.sqlite_sql.specs.declared.ops.BinaryOp.TheVariants.{Compare}
-use Rattle.sqlite_sql.specs.declared.ops.CompareOp.TheVariants.{Eq}
 use Rattle.sqlite_value.specs.declared.keys.Key.{Key}
 use Rattle.sqlite_value.specs.Keys.{ascending}
 use Rattle.sqlite.specs.Order.{Row, column}
-use Rattle.sqlite.specs.Term.{Term, Env, lit, col, op2, eval_all}
+use Rattle.sqlite.specs.Term.{Term, Env, lit, col, eval_all}
 use Rattle.sqlite.specs.Tree.{Trees}
-use Rattle.sqlite.specs.Query.{Query, Join, inner, left, end, IsAnswer, Output, output, output_cmp, key_cmp, matches, or_nulls}
+use Rattle.sqlite.specs.Query.{Query, Join, inner, end, IsAnswer, Output, output, output_cmp, key_cmp, matches}
 use Rattle.sqlite.specs.Program.{overlay}
 use Rattle.sqlite.specs.Effect.{Database, Reads, ReadsFirst}
 use Rattle.sqlite.specs.Listing.{understood, reads_listing}
 use Rattle.sqlite.specs.Command.TheVariants.{Select}
 use Rattle.sqlite.proofs.Callers.{IsPlain, command_of}
 use Rattle.sqlite_tied.specs.Compute.{everything}
-use Rattle.sqlite_trees.proofs.ListLemmas.{map-map, map-flat_map, flat_map_same_on}
+use Rattle.sqlite_trees.proofs.ListLemmas.{map-map}
 use Rattle.sqlite_rules.specs.Lists.{Has}
 use Rattle.sqlite_rules.proofs.ProbeLemmas.{has_mapped}
 use Rattle.tables.specs.Schema.{store_schema}
-use Rattle.tables.specs.Means.{is_numbered_as}
-use Rattle.tables.specs.Fit.{joined, meta_shown, name_shown, number_shown, entry_shown}
-use Rattle.tables.proofs.Texts.{meta_rows_text, shelf_rows_text, key_rows_text, number_rows_text, entry_rows_text}
+use Rattle.tables.specs.Fit.{meta_shown, name_shown, number_shown, entry_shown, piece_shown}
+use Rattle.tables.proofs.Texts.{meta_rows_text, shelf_rows_text, key_rows_text, number_rows_text, entry_rows_text, piece_rows_text}
 use Rattle.tables.proofs.Ascending.{has_permuted, Adjacent, adjacent_map, adjacent_among, sorted_adjacent}
 
 abbrev pub listing : Join → List Term → List (Term × Key) → Query
@@ -110,20 +107,16 @@ pub number_rows_tables : reads_listing store_schema number_rows_text ≡ false
 unfolding understood everything
 number_rows_tables = refl
 
-abbrev pub with_bodies : Join
-with_bodies = inner 6 (left 8 (op2 (Compare Eq Binary) (col 2 0) (col 1 0) ∷ []) end)
-
 abbrev pub entry_columns : List Term
-entry_columns = col 1 2 ∷ col 1 3 ∷ col 1 4 ∷ col 1 5 ∷ col 1 6 ∷ col 2 2 ∷ col 1 7 ∷ col 1 8 ∷ []
+entry_columns = col 1 2 ∷ col 1 3 ∷ col 1 4 ∷ col 1 5 ∷ col 1 6 ∷ col 1 7 ∷ col 1 8 ∷ []
 
 abbrev pub entry_names : List (List ℕ)
-entry_names = codes "shelf" ∷ codes "path" ∷ codes "version" ∷ codes "time" ∷ codes "mod" ∷ codes "zip" ∷ codes "order_key" ∷ codes "rank_key" ∷ []
+entry_names = codes "shelf" ∷ codes "path" ∷ codes "version" ∷ codes "time" ∷ codes "mod" ∷ codes "order_key" ∷ codes "rank_key" ∷ []
 
 abbrev pub by_place : List (Term × Key)
 by_place = (col 1 2, ascending Binary) ∷ (col 1 3, ascending Binary) ∷ (col 1 4, ascending Binary) ∷ []
 
-pub entry_rows_is : command_of (understood store_schema entry_rows_text)
-    ≡ Select (record { lets = []; body = listing with_bodies entry_columns by_place }) entry_names
+pub entry_rows_is : command_of (understood store_schema entry_rows_text) ≡ Select (record { lets = []; body = listing (inner 6 end) entry_columns by_place }) entry_names
 unfolding understood everything
 entry_rows_is = refl
 
@@ -134,6 +127,27 @@ entry_rows_plain = (refl, refl)
 pub entry_rows_tables : reads_listing store_schema entry_rows_text ≡ false
 unfolding understood everything
 entry_rows_tables = refl
+
+abbrev pub piece_columns : List Term
+piece_columns = col 1 1 ∷ col 1 2 ∷ col 1 3 ∷ []
+
+abbrev pub piece_names : List (List ℕ)
+piece_names = codes "version" ∷ codes "number" ∷ codes "bytes" ∷ []
+
+abbrev pub by_piece : List (Term × Key)
+by_piece = (col 1 1, ascending Binary) ∷ (col 1 2, ascending Binary) ∷ []
+
+pub piece_rows_is : command_of (understood store_schema piece_rows_text) ≡ Select (record { lets = []; body = listing (inner 8 end) piece_columns by_piece }) piece_names
+unfolding understood everything
+piece_rows_is = refl
+
+pub piece_rows_plain : IsPlain (understood store_schema piece_rows_text)
+unfolding understood everything
+piece_rows_plain = (refl, refl)
+
+pub piece_rows_tables : reads_listing store_schema piece_rows_text ≡ false
+unfolding understood everything
+piece_rows_tables = refl
 
 -- ---- the rows that are listed
 
@@ -149,17 +163,6 @@ map_singles f g (x ∷ xs) = ap (λ l. f (g x) ∷ l) (map_singles f g xs)
 
 pub of_table : (tree : ℕ) (project : List Term) (db : Trees) → map (eval_all project) (matches db [] (inner tree end) ([] ∷ [])) ≡ map (λ row. eval_all project ([] ∷ row ∷ [])) (db tree)
 of_table tree project db = map_singles (eval_all project) (λ row. [] ∷ row ∷ []) (db tree)
-
-and_true : (b : Bool) → (b && true) ≡ b
-and_true true = refl
-and_true false = refl
-
-pub of_entries : (db : Trees) → map (eval_all entry_columns) (matches db [] with_bodies ([] ∷ [])) ≡ joined (db 6) (db 8)
-of_entries db =
-    map-flat_map (eval_all entry_columns) _ (db 6)
-    ∙ flat_map_same_on _ _ (λ row.
-    map_singles (eval_all entry_columns) (λ body. [] ∷ row ∷ body ∷ []) _
-    ∙ ap (λ (p : Row → Bool). map (entry_shown row) (or_nulls (filter p (db 8)))) (λ i body. and_true (is_numbered_as body row) i)) (db 6)
 
 module _ (sql : List ℕ) (from : Join) (project : List Term) (order : List (Term × Key)) (names : List (List ℕ)) (is : command_of (understood store_schema sql) ≡ Select (record { lets = []; body = listing from project order }) names) (db : Database) where
   pub all_listed : (rows : List Row) → Reads (command_of (understood store_schema sql)) db [] rows → IsListing (listing from project order) (overlay db.trees []) rows
@@ -210,10 +213,16 @@ pub numbers_listed : (db : Trees) (out : List Row) → NumbersListed db out → 
 numbers_listed db out it = subst (λ l. IsPermutation l out) (of_table 4 (col 1 0 ∷ []) (overlay db [])) (listed_rows (inner 4 end) (col 1 0 ∷ []) by_number (overlay db []) out it)
 
 abbrev pub EntriesListed : Trees → List Row → Type 0
-EntriesListed db out = IsListing (listing with_bodies entry_columns by_place) (overlay db []) out
+EntriesListed db out = IsListing (listing (inner 6 end) entry_columns by_place) (overlay db []) out
 
-pub entries_listed : (db : Trees) (out : List Row) → EntriesListed db out → IsPermutation (joined (db 6) (db 8)) out
-entries_listed db out it = subst (λ l. IsPermutation l out) (of_entries (overlay db [])) (listed_rows with_bodies entry_columns by_place (overlay db []) out it)
+pub entries_listed : (db : Trees) (out : List Row) → EntriesListed db out → IsPermutation (map entry_shown (db 6)) out
+entries_listed db out it = subst (λ l. IsPermutation l out) (of_table 6 entry_columns (overlay db [])) (listed_rows (inner 6 end) entry_columns by_place (overlay db []) out it)
+
+abbrev pub PiecesListed : Trees → List Row → Type 0
+PiecesListed db out = IsListing (listing (inner 8 end) piece_columns by_piece) (overlay db []) out
+
+pub pieces_listed : (db : Trees) (out : List Row) → PiecesListed db out → IsPermutation (map piece_shown (db 8)) out
+pieces_listed db out it = subst (λ l. IsPermutation l out) (of_table 8 piece_columns (overlay db [])) (listed_rows (inner 8 end) piece_columns by_piece (overlay db []) out it)
 
 -- rows of one column in its order
 abbrev pub InOrder : List Row → Type 0
@@ -230,4 +239,10 @@ abbrev pub place_columns : Row → Row
 place_columns row = column row 0 ∷ column row 1 ∷ column row 2 ∷ []
 
 pub entries_in_order : (db : Trees) (out : List Row) → EntriesListed db out → Adjacent (λ a b. is_lt (key_cmp 0 (ascending Binary ∷ ascending Binary ∷ ascending Binary ∷ []) (place_columns b) (place_columns a)) ≡ false) out
-entries_in_order db out it = listed_in_order (listing with_bodies entry_columns by_place) (overlay db []) out it place_columns (λ env. refl)
+entries_in_order db out it = listed_in_order (listing (inner 6 end) entry_columns by_place) (overlay db []) out it place_columns (λ env. refl)
+
+abbrev pub number_columns : Row → Row
+number_columns row = column row 0 ∷ column row 1 ∷ []
+
+pub pieces_in_order : (db : Trees) (out : List Row) → PiecesListed db out → Adjacent (λ a b. is_lt (key_cmp 0 (ascending Binary ∷ ascending Binary ∷ []) (number_columns b) (number_columns a)) ≡ false) out
+pieces_in_order db out it = listed_in_order (listing (inner 8 end) piece_columns by_piece) (overlay db []) out it number_columns (λ env. refl)

@@ -30,7 +30,7 @@ use Rattle.sqlite.specs.declared.types.Value.TheVariants.{Text}
 use Rattle.sqlite.specs.Listing.{understood}
 use Rattle.sqlite.proofs.Callers.{statement_of}
 use Rattle.sqlite_tied.specs.Compute.{everything}
-use Rattle.tables.specs.Schema.{store_schema, meta_table, shelf_table, access_table, version_table, body_table, meta_text, shelf_text, access_text, version_text, body_text}
+use Rattle.tables.specs.Schema.{store_schema, meta_table, shelf_table, access_table, version_table, piece_table, meta_text, shelf_text, access_text, version_text, piece_text}
 use Rattle.tables.proofs.CreateLemmas.{first1, first2, first3, first4, first5, first6, first7, schema0, schema1, schema2, schema3, schema4, meta_row, common_row}
 use Rattle.tables.proofs.CauseLemmas.{IsAlone, IsMakeable}
 use Rattle.tables.proofs.PutLemmas.{IsPuttable}
@@ -135,27 +135,27 @@ able4 = record {
   fit = fit4;
 }
 
-fit5 : is_fit (Text (codes "table")) (Text body_table.name) (Text body_table.name) (Text body_text) ≡ true
+fit5 : is_fit (Text (codes "table")) (Text piece_table.name) (Text piece_table.name) (Text piece_text) ≡ true
 unfolding fits_kind begins same_name is_free_name value_cmp lib.Ieee.is_nan lib.Ieee.lt
 fit5 = refl
 
-pub alone5 : IsAlone first5 (understood schema4 first5) × (statement_of first5 (understood schema4 first5) ≡ body_text)
+pub alone5 : IsAlone first5 (understood schema4 first5) × (statement_of first5 (understood schema4 first5) ≡ piece_text)
 unfolding understood everything
 alone5 = ((lit≤ tt, refl), refl)
 
-pub able5 : IsMakeable schema4 body_text (record body_table { tree = 0 })
+pub able5 : IsMakeable schema4 piece_text (record piece_table { tree = 0 })
 unfolding understood everything
 able5 = record {
   defined = refl;
   ascii = refl;
   short = lit< tt;
   free = refl;
-  indexes_free = tt;
+  indexes_free = (refl, tt);
   named = refl;
   unreserved = refl;
   few = lit< tt;
   reals = lit< tt;
-  key_reals = tt;
+  key_reals = (lit< tt, tt);
   formed = refl;
   fit = fit5;
 }
@@ -174,7 +174,7 @@ alone7 = (lit≤ tt, refl)
 pub record AreEmpty (db : Trees) : Type 0 where
   pub access : db 4 ≡ []
   pub version : db 6 ≡ []
-  pub body : db 8 ≡ []
+  pub piece : db 8 ≡ []
 
 storable : (a b c : Value) → NotNan (number a) → NotNan (number b) → NotNan (number c) → length (bytes a) + length (bytes b) + length (bytes c) ≤ 1000 → IsStorable 0 (a ∷ b ∷ c ∷ [])
 storable a b c x y z short = record {
@@ -194,11 +194,11 @@ storable_pair a b x y short = record {
 
 meta_unique : (db : Trees) → db 2 ≡ [] → AreEmpty db → Keeps Unique store_schema (with_tree db 0 (put_all [] (meta_row ∷ [])))
 unfolding binary first_key value_cmp lib.Ieee.is_nan lib.Ieee.lt
-meta_unique db b e = rw (b, e.access, e.version, e.body) ((refl, tt), (tt, (tt, (tt, (tt, tt)))))
+meta_unique db b e = rw (b, e.access, e.version, e.piece) ((refl, tt), (tt, (tt, (tt, (tt, tt)))))
 
 common_unique : (db : Trees) → db 0 ≡ meta_row ∷ [] → AreEmpty db → Keeps Unique store_schema (with_tree db 2 (put_all [] (common_row ∷ [])))
 unfolding binary first_key value_cmp lib.Ieee.is_nan lib.Ieee.lt
-common_unique db a e = rw (a, e.access, e.version, e.body) ((refl, tt), ((refl, tt), (tt, (tt, (tt, tt)))))
+common_unique db a e = rw (a, e.access, e.version, e.piece) ((refl, tt), ((refl, tt), (tt, (tt, (tt, tt)))))
 
 meta_fine : (db : Trees) → db 0 ≡ [] → db 2 ≡ [] → AreEmpty db → (why : Refusal) → IsRefused store_schema Enforced db (record { table = meta_table; gone = []; news = meta_row ∷ [] }) why → ⊥
 meta_fine db a b e (Violates Datatype) h = true≢false h
@@ -231,7 +231,8 @@ meta_fits (inr (i, inl is, of, big)) = big (subst (λ (x : Index). IsStorable (i
 meta_fits (inr (i, inr (inl is), of, big)) = let e : 2 ≡ 0 = ap (λ (x : Index). x.table) (sym is) ∙ of in omega (arith, e)
 meta_fits (inr (i, inr (inr (inl is)), of, big)) = let e : 4 ≡ 0 = ap (λ (x : Index). x.table) (sym is) ∙ of in omega (arith, e)
 meta_fits (inr (i, inr (inr (inr (inl is))), of, big)) = let e : 6 ≡ 0 = ap (λ (x : Index). x.table) (sym is) ∙ of in omega (arith, e)
-meta_fits (inr (i, inr (inr (inr (inr none))), of, big)) = none
+meta_fits (inr (i, inr (inr (inr (inr (inl is)))), of, big)) = let e : 8 ≡ 0 = ap (λ (x : Index). x.table) (sym is) ∙ of in omega (arith, e)
+meta_fits (inr (i, inr (inr (inr (inr (inr none)))), of, big)) = none
 
 common_fits : IsOversized store_schema shelf_table common_row → ⊥
 unfolding is_nan
@@ -240,11 +241,12 @@ common_fits (inr (i, inl is, of, big)) = let e : 0 ≡ 2 = ap (λ (x : Index). x
 common_fits (inr (i, inr (inl is), of, big)) = big (subst (λ (x : Index). IsStorable (index_reals 0 x.columns) (entry_of x.columns common_row)) (sym is) (storable_pair _ _ tt tt (lit≤ tt)))
 common_fits (inr (i, inr (inr (inl is)), of, big)) = let e : 4 ≡ 2 = ap (λ (x : Index). x.table) (sym is) ∙ of in omega (arith, e)
 common_fits (inr (i, inr (inr (inr (inl is))), of, big)) = let e : 6 ≡ 2 = ap (λ (x : Index). x.table) (sym is) ∙ of in omega (arith, e)
-common_fits (inr (i, inr (inr (inr (inr none))), of, big)) = none
+common_fits (inr (i, inr (inr (inr (inr (inl is)))), of, big)) = let e : 8 ≡ 2 = ap (λ (x : Index). x.table) (sym is) ∙ of in omega (arith, e)
+common_fits (inr (i, inr (inr (inr (inr (inr none)))), of, big)) = none
 
 -- no row refers to another yet
 none_refer : (after : Trees) (rows names : List Row) → after 0 ≡ rows → after 2 ≡ names → AreEmpty after → Refers All store_schema after
-none_refer after rows names a b e = rw (e.access, e.version, e.body) (each_whole (after 0), (each_whole (after 2), (tt, (tt, (tt, tt)))))
+none_refer after rows names a b e = rw (e.access, e.version, e.piece) (each_whole (after 0), (each_whole (after 2), (tt, (tt, (tt, tt)))))
   where
     each_whole : (rows : List Row) → AllByRecursion (λ row. true ≡ true) rows
     each_whole [] = tt
@@ -257,7 +259,7 @@ puts_meta db a b e = record {
   refers = λ after put. none_refer after _ _ refl refl (record {
     access = put.tables.1.1.0 (λ x. omega (arith, x)) ∙ e.access;
     version = put.tables.1.1.1.0 (λ x. omega (arith, x)) ∙ e.version;
-    body = put.tables.1.1.1.1.0 (λ x. omega (arith, x)) ∙ e.body;
+    piece = put.tables.1.1.1.1.0 (λ x. omega (arith, x)) ∙ e.piece;
   });
 }
 
@@ -268,6 +270,6 @@ puts_common db a b e = record {
   refers = λ after put. none_refer after _ _ refl refl (record {
     access = put.tables.1.1.0 (λ x. omega (arith, x)) ∙ e.access;
     version = put.tables.1.1.1.0 (λ x. omega (arith, x)) ∙ e.version;
-    body = put.tables.1.1.1.1.0 (λ x. omega (arith, x)) ∙ e.body;
+    piece = put.tables.1.1.1.1.0 (λ x. omega (arith, x)) ∙ e.piece;
   });
 }

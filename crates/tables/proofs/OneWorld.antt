@@ -1,5 +1,5 @@
 -- Tables stand for at most one world.
-use Rattle.std.proofs.Common.{◌≡◌, ℕ, Bool, true, false, pos, cond, List, Option, Some, None, refl, sym, subst, ◌∙◌, IsTrue}
+use Rattle.std.proofs.Common.{◌≡◌, ℕ, Bool, true, false, pos, cond, List, length, filter, Option, Some, None, refl, sym, ap, subst, ◌∙◌, IsTrue, nat_lt, ltb-true, ltb-false}
 use Rattle.std.specs.declared.cmp.Ordering.{Ordering}
 use Rattle.std.specs.FinMap as map
 use Rattle.std.specs.FinSet as set
@@ -13,8 +13,10 @@ use Rattle.world.specs.declared.entry.Right.{Right}
 use Rattle.world.specs.declared.entry.Right.TheVariants.{Reads, Publishes}
 use Rattle.world.proofs.Orders.{texts_total, texts_exact, places_total, places_exact}
 use Rattle.tables.specs.Means.{may_publish}
-use Rattle.tables.specs.Means.{Tabulates, IsAccess, IsVersion, IsShelf}
+use Rattle.tables.specs.Pieces.{begin, piece, HasPiece}
+use Rattle.tables.specs.Means.{Tabulates, IsAccess, IsVersion, IsShelf, ArePieces, is_of}
 use Rattle.tables.specs.Laws.{StandForOne}
+use Rattle.tables.proofs.PieceLemmas.{no_piece, same_zip}
 use Rattle.tables.proofs.RowFits.{time_told}
 use Rattle.tables.proofs.CountedRows.{same_place}
 
@@ -41,6 +43,9 @@ same_test false false there back = refl
 pub texts_same : (v : Value) (s t : List ℕ) → v ≡ Text s → v ≡ Text t → t ≡ s
 texts_same v s t one two = let e = sym two ∙ one in cc
 
+ints_same : (v : Value) (m n : ℕ) → v ≡ Int (pos m) → v ≡ Int (pos n) → n ≡ m
+ints_same v m n one two = let e = sym two ∙ one in cc
+
 pub blobs_same : (v : Value) (s t : List ℕ) → v ≡ Blob s → v ≡ Blob t → t ≡ s
 blobs_same v s t one two = let e = sym two ∙ one in cc
 
@@ -57,11 +62,28 @@ one_access row x y one two =
     let right = rights_same (column row 3) x.1.right y.1.right one.2 two.2 in
     λ i. (key i, record { shelf = shelf i; right = right i })
 
-one_version : (bodies : List Row) (row : Row) (x y : Place × Entry) → IsVersion bodies row x → IsVersion bodies row y → y ≡ x
-one_version bodies row x y one two =
+-- rows that are the pieces of two zips tell the same pieces
+piece_told : (rows : List Row) (a b : List ℕ) → ArePieces rows a → ArePieces rows b → (n : ℕ) → HasPiece a n → HasPiece b n × (piece a n ≡ piece b n)
+piece_told rows a b one two n has =
+    let from = one.found n has in
+    let to = two.each from.0 from.1 in
+    let number : to.0 ≡ n = ints_same (column from.0 2) n to.0 from.2.number to.1.number in
+    let bytes : piece b to.0 ≡ piece a n = blobs_same (column from.0 3) (piece a n) (piece b to.0) from.2.bytes to.1.bytes in
+    (subst (HasPiece b) number to.2, sym bytes ∙ ap (piece b) number)
+
+one_zip : (rows : List Row) (a b : List ℕ) → ArePieces rows a → ArePieces rows b → a ≡ b
+one_zip rows a b one two = same_zip a b (λ n. go n (nat_lt (begin n) (length a)) (nat_lt (begin n) (length b)) refl refl)
+  where
+    go : (n : ℕ) (p q : Bool) → nat_lt (begin n) (length a) ≡ p → nat_lt (begin n) (length b) ≡ q → piece a n ≡ piece b n
+    go n true q in_a in_b = (piece_told rows a b one two n (ltb-true (begin n) (length a) in_a)).1
+    go n false true in_a in_b = sym (piece_told rows b a two one n (ltb-true (begin n) (length b) in_b)).1
+    go n false false in_a in_b = no_piece a n (ltb-false (begin n) (length a) in_a) ∙ sym (no_piece b n (ltb-false (begin n) (length b) in_b))
+
+one_version : (pieces : List Row) (row : Row) (x y : Place × Entry) → IsVersion pieces row x → IsVersion pieces row y → y ≡ x
+one_version pieces row x y one two =
     let place = same_place row y.0 x.0 two.place one.place in
     let gomod = blobs_same (column row 6) x.1.gomod y.1.gomod one.gomod two.gomod in
-    let zip = blobs_same (column one.body 2) x.1.zip y.1.zip one.zip (two.only one.body one.there one.same) in
+    let zip = one_zip (filter (is_of row) pieces) y.1.zip x.1.zip two.zip one.zip in
     let time : y.1.time ≡ x.1.time = time_told (column row 5) y.1.time two.time ∙ sym (time_told (column row 5) x.1.time one.time) in
     λ i. (place i, record { gomod = gomod i; zip = zip i; time = time i })
 

@@ -55,13 +55,13 @@ time_told v (Some t) is = ap time_in (sym is)
 pub same_entry : (row : Row) (d e : Entry) → ShowsFiles row d → ShowsFiles row e → d ≡ e
 same_entry row d e one two =
     let gomod : d.gomod ≡ e.gomod = let f = sym one.gomod ∙ two.gomod in cc in
-    let zip : d.zip ≡ e.zip = let f = sym one.zip ∙ two.zip in cc in
+    let zip : d.zip ≡ e.zip = one.zip ∙ sym two.zip in
     let time : d.time ≡ e.time = time_told (column row 3) d.time one.time ∙ sym (time_told (column row 3) e.time two.time) in
     λ i. record { gomod = gomod i; zip = zip i; time = time i }
 
 -- where the files of a row are those of an entry that may stand there, the last columns tell whether the row shows it with its keys
 pub keys_told : (row : Row) (p v : List ℕ) (e : Entry) (x : SemanticVersion) (r : Result Bool Error) → ShowsFiles row e → Some x ≡ fitting_version p v e
-    → IfOk r (λ b. Decides b ((column row 6 ≡ Blob (order_key_of x)) × (column row 7 ≡ Blob (rank_key_of x)))) → IfOk r (λ b. Decides b (ShowsAt row p v))
+    → IfOk r (λ b. Decides b ((column row 5 ≡ Blob (order_key_of x)) × (column row 6 ≡ Blob (rank_key_of x)))) → IfOk r (λ b. Decides b (ShowsAt row p v))
 keys_told row p v e x (Err _) files fits told = tt
 keys_told row p v e x (Ok b) files fits told =
     let it = fitting_some p v e x fits in

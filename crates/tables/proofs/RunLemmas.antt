@@ -21,14 +21,37 @@ use Rattle.tables.proofs.Ascending.{Adjacent, Steps, across, filter_push}
 
 -- what is kept of the rows so far is the key of the last one, and no row has that key
 module _ {X K : Type 0} (Fits : X → Row → Type 0) (Keeps : X → Row → X → Type 0) (last : X → Option K) (key : Row → K) (noted : (x : X) (row : Row) (next : X) → Keeps x row next → last next ≡ Some (key row)) where
-  module _ (apart : (x : X) (row : Row) → Fits x row → last x ≡ Some (key row) → ⊥) where
-    steps_apart : (x : X) (r : Row) (rows : List Row) (end : X) → last x ≡ Some (key r) → Pass Fits Keeps x rows end → Steps (λ a b. key a ≡ key b → ⊥) r rows
-    steps_apart x r [] end is passed = tt
-    steps_apart x r (y ∷ rows) end is passed = (λ same. apart x y passed.0 (is ∙ ap Some same), steps_apart passed.1 y rows end (noted x y passed.1 passed.2) passed.3)
+  module _ (P : K → K → Type 0) (follows : (x : X) (row : Row) (k : K) → Fits x row → last x ≡ Some k → P k (key row)) where
+    steps_follow : (x : X) (r : Row) (rows : List Row) (end : X) → last x ≡ Some (key r) → Pass Fits Keeps x rows end → Steps (λ a b. P (key a) (key b)) r rows
+    steps_follow x r [] end is passed = tt
+    steps_follow x r (y ∷ rows) end is passed = (follows x y (key r) passed.0 is, steps_follow passed.1 y rows end (noted x y passed.1 passed.2) passed.3)
 
-    pub adjacent_apart : (x : X) (rows : List Row) (end : X) → Pass Fits Keeps x rows end → Adjacent (λ a b. key a ≡ key b → ⊥) rows
-    adjacent_apart x [] end passed = tt
-    adjacent_apart x (r ∷ rows) end passed = steps_apart passed.1 r rows end (noted x r passed.1 passed.2) passed.3
+    pub adjacent_follow : (x : X) (rows : List Row) (end : X) → Pass Fits Keeps x rows end → Adjacent (λ a b. P (key a) (key b)) rows
+    adjacent_follow x [] end passed = tt
+    adjacent_follow x (r ∷ rows) end passed = steps_follow passed.1 r rows end (noted x r passed.1 passed.2) passed.3
+
+  pub adjacent_apart : ((x : X) (row : Row) → Fits x row → last x ≡ Some (key row) → ⊥) → (x : X) (rows : List Row) (end : X) → Pass Fits Keeps x rows end → Adjacent (λ a b. key a ≡ key b → ⊥) rows
+  adjacent_apart apart = adjacent_follow (λ k l. k ≡ l → ⊥) (λ x row k fits is same. apart x row fits (is ∙ ap Some same))
+
+  -- a row fits after the one before it, or it is the first
+  pub pass_at : (x : X) (rows : List Row) (end : X) → Pass Fits Keeps x rows end → (row : Row) → Has rows row → (kept : X) × Fits kept row × ((kept ≡ x) ⊎ ((r : Row) × Has rows r × (last kept ≡ Some (key r))))
+  pass_at x [] end passed row there = absurd there
+  pass_at x (r ∷ rows) end passed row (inl same) = (x, subst (Fits x) (sym same) passed.0, inl refl)
+  pass_at x (r ∷ rows) end passed row (inr later) =
+      let it = pass_at passed.1 rows end passed.3 row later in
+      let from : (it.0 ≡ x) ⊎ ((b : Row) × Has (r ∷ rows) b × (last it.0 ≡ Some (key b))) = elim it.2 [
+        | inl first ↦ inr (r, inl refl, ap last first ∙ noted x r passed.1 passed.2)
+        | inr before ↦ inr (before.0, inr before.1, before.2)
+      ] in
+      (it.0, it.1, from)
+
+  -- what is kept in the end is that of the last row, if there is one
+  pub last_row : (x : X) (rows : List Row) (end : X) → Pass Fits Keeps x rows end → ((rows ≡ []) × (end ≡ x)) ⊎ ((front : List Row) × (r : Row) × (rows ≡ front ++ r ∷ []) × (last end ≡ Some (key r)))
+  last_row x [] end passed = inl (refl, passed)
+  last_row x (r ∷ rows) end passed = elim (last_row passed.1 rows end passed.3) [
+    | inl none ↦ inr ([], r, ap (λ l. r ∷ l) none.0, ap last none.1 ∙ noted x r passed.1 passed.2)
+    | inr more ↦ inr (r ∷ more.0, more.1, ap (λ l. r ∷ l) more.2, more.3)
+  ]
 
   -- the last key is that of one of the rows
   pub last_of : (x : X) (rows : List Row) (end : X) → Pass Fits Keeps x rows end → (k : K) → last end ≡ Some k → (last x ≡ Some k) ⊎ ((r : Row) × Has rows r × (key r ≡ k))

@@ -5,7 +5,7 @@ use Rattle.sqlite.specs.Change.{created}
 use Rattle.sqlite_tied.specs.Compute.{everything}
 use Rattle.sqlite.specs.Kind.TheVariants.{Integer, Text, Blob}
 use Rattle.sqlite_schema.specs.declared.schema.Column.{Column}
-use Rattle.tables.specs.Schema.{store_schema, no_schema, given, optional, version_columns, meta_text, shelf_text, access_text, version_text, body_text, meta_table, shelf_table, access_table, version_table, body_table}
+use Rattle.tables.specs.Schema.{store_schema, no_schema, given, optional, version_columns, meta_text, shelf_text, access_text, version_text, piece_text, meta_table, shelf_table, access_table, version_table, piece_table}
 
 pub made1 : table_defined_by meta_text ≡ Ok (record meta_table { tree = 0 })
 unfolding everything
@@ -23,11 +23,11 @@ pub made4 : table_defined_by version_text ≡ Ok (record version_table { tree = 
 unfolding everything
 made4 = refl
 
-pub made5 : table_defined_by body_text ≡ Ok (record body_table { tree = 0 })
+pub made5 : table_defined_by piece_text ≡ Ok (record piece_table { tree = 0 })
 unfolding everything
 made5 = refl
 
-pub made6 : fold created no_schema (meta_table ∷ shelf_table ∷ access_table ∷ version_table ∷ body_table ∷ []) ≡ store_schema
+pub made6 : fold created no_schema (meta_table ∷ shelf_table ∷ access_table ∷ version_table ∷ piece_table ∷ []) ≡ store_schema
 unfolding everything
 made6 = refl
 

@@ -1,5 +1,5 @@
 -- What the rules of the schema say of a row.
-use Rattle.std.proofs.Common.{◌≡◌, ◌⊎◌, ◌&&◌, ◌||◌, ℕ, ℤ, pos, Bool, true, false, not, cond, List, [], ◌∷◌, drop, Some, None, inl, inr, refl, sym, ap, subst, ◌∙◌, true≢false, codes}
+use Rattle.std.proofs.Common.{◌≡◌, ◌⊎◌, ◌&&◌, ◌||◌, ℕ, ℤ, pos, Bool, true, false, not, cond, List, [], ◌∷◌, drop, Some, None, inl, inr, refl, sym, ap, subst, subst₂, ◌∙◌, true≢false, codes}
 use Rattle.std.specs.List.{list_any}
 use Rattle.std.specs.Ordering.{is_eq}
 use Rattle.std.specs.FinMap.{int_cmp-IsAntisymmetric}
@@ -12,7 +12,7 @@ use Rattle.sqlite_sql.specs.declared.ops.CompareOp.TheVariants.{Eq}
 use Rattle.sqlite_sql.specs.Ops.{binary, is_null, is_false, truth, from_truth, or3}
 use Rattle.sqlite.specs.Kind.TheVariants as kind
 use Rattle.sqlite.specs.Order.{Row, column}
-use Rattle.sqlite.specs.Tree.{Trees}
+use Rattle.sqlite.specs.Tree.{Trees, rowid}
 use Rattle.sqlite_schema.specs.Rules.{equal, suits, are_typed, is_held, parent_key}
 use Rattle.sqlite_schema.specs.Names.{same_name}
 use Rattle.sqlite_value.specs.Keys.{joined as key_joined, first_key}
@@ -23,9 +23,10 @@ use Rattle.sqlite_catalog.specs.Listing.{IsSound}
 use Rattle.sqlite_rules.specs.Lists.{Has}
 use Rattle.sqlite_rules.proofs.ListLemmas.{some_has}
 use Rattle.sqlite_rules.proofs.RuleLemmas.{keeps_at}
-use Rattle.tables.specs.Schema.{store_schema, access_table, version_table, given, refers}
+use Rattle.tables.specs.Schema.{store_schema, access_table, version_table, piece_table, given, refers}
+use Rattle.tables.specs.Means.{is_of}
 use Rattle.tables.specs.Fit.{text_in}
-use Rattle.tables.proofs.ValueLemmas.{tied, equals_text}
+use Rattle.tables.proofs.ValueLemmas.{tied, equals_text, equal_turned, equal_chain, equal_parts}
 
 -- ---- values of a type
 
@@ -50,6 +51,10 @@ one_of false false h = absurd (true≢false (sym h))
 
 same_int : (m n : ℤ) → is_eq (value_cmp (Int m) (Int n)) ≡ true → m ≡ n
 same_int m n h = int_cmp-IsAntisymmetric m n (sym (value_cmp-Int m n) ∙ tied _ h)
+
+-- numbers that SQL's = takes for equal are equal
+pub ints_equal : (m n : ℤ) → equal Binary (Int m) (Int n) ≡ true → m ≡ n
+ints_equal m n h = same_int m n (equal_parts (Int m) (Int n) h).2
 
 -- what passes the check is 0 or 1
 zero_or_one : (n : ℤ) → not (is_false (binary Or (binary (Compare Eq Binary) (Int n) (Int (pos 0))) (binary (Compare Eq Binary) (Int n) (Int (pos 1))))) ≡ true → (b : Bool) × (n ≡ cond b (pos 1) (pos 0))
@@ -117,3 +122,46 @@ pub version_shelf : (db : Trees) → IsSound store_schema db → (row : Row) →
 version_shelf db sound row there t is =
     let h = keeps_at ForeignKey store_schema db version_table row (sound.obeys.rules ForeignKey) (inr (inr (inr (inl refl)))) there in
     parent_of db row t is (sym (parents db row) ∙ held_if row t is _ h)
+
+-- ---- pieces
+
+typed_piece : (row : Row) → are_typed None 0 piece_table.columns (drop 1 row) ≡ true → is_null (column row 1) ≡ false → suits (given (codes "version") kind.Integer) (column row 1) ≡ true
+typed_piece [] typed present = absurd (true≢false present)
+typed_piece (a ∷ []) typed present = absurd (true≢false present)
+typed_piece (a ∷ v ∷ rest) typed present = (and_parts _ _ typed).0
+
+piece_listed : Has store_schema.tables piece_table
+piece_listed = inr (inr (inr (inr (inl refl))))
+
+names_version : (db : Trees) → IsSound store_schema db → (row : Row) → Has (db 8) row → is_null (column row 1) ≡ false
+names_version db sound row there = not_null (is_null (column row 1)) (and_parts _ _ (keeps_at NotNull store_schema db piece_table row (sound.obeys.rules NotNull) piece_listed there)).0
+
+-- a piece names a version by its number
+pub piece_number : (db : Trees) → IsSound store_schema db → (row : Row) → Has (db 8) row → (n : ℤ) × (column row 1 ≡ Int n)
+piece_number db sound row there =
+    let present = names_version db sound row there in
+    int_from (column row 1) (typed_piece row (and_parts _ _ (keeps_at Datatype store_schema db piece_table row (sound.obeys.rules Datatype) piece_listed there)).0 present) present
+
+versions : (db : Trees) (row : Row) → is_held db (1 ∷ []) row (parent_key store_schema.tables (refers 1 (codes "version") (codes "id"))) ≡ list_any (λ version. equal Binary (rowid version) (column row 1) && true) (db 6)
+unfolding same_name key_joined first_key
+versions db row = refl
+
+-- which has a row
+pub piece_version : (db : Trees) → IsSound store_schema db → (row : Row) → Has (db 8) row → (version : Row) × Has (db 6) version × (is_of version row ≡ true)
+piece_version db sound row there =
+    let h = keeps_at ForeignKey store_schema db piece_table row (sound.obeys.rules ForeignKey) piece_listed there in
+    let any = sym (versions db row) ∙ held (is_null (column row 1)) (names_version db sound row there) _ h in
+    let it = some_has (λ version. equal Binary (rowid version) (column row 1) && true) (db 6) any in
+    (it.0, it.1, equal_turned (column row 1) (rowid it.0) ∙ (and_parts _ _ it.2).0)
+  where
+    held : (null : Bool) → null ≡ false → (b : Bool) → (((null || false) || b) && true) ≡ true → b ≡ true
+    held true is b h = absurd (true≢false is)
+    held false is true h = refl
+    held false is false h = absurd (true≢false (sym h))
+
+-- pieces of one version have one number of it
+pub one_version : (version : Row) (a b : Value) (m n : ℤ) → a ≡ Int m → b ≡ Int n → equal Binary a (rowid version) ≡ true → equal Binary b (rowid version) ≡ true → a ≡ b
+one_version version a b m n one two here there =
+    let tied : equal Binary a b ≡ true = equal_chain a (rowid version) b here (equal_turned (rowid version) b ∙ there) in
+    let ints : equal Binary (Int m) (Int n) ≡ true = subst₂ (λ x y. equal Binary x y ≡ true) one two tied in
+    one ∙ (ap Int (ints_equal m n ints) ∙ sym two)

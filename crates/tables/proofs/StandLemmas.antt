@@ -24,6 +24,8 @@ module _ (old new : State) (has : old.now.schema ≡ store_schema) (clean : HasC
   found_some (Ok false) live tests = λ no. absurd (true≢false (sym no))
   found_some (Err e) live tests = tt
 
-  pub found_none : (r : Result Bool Error) → Tests old new r AreFit → IfOk r (λ b. b ≡ false → StandsForNone old.now)
-  found_none (Ok b) tests = λ no _ w means is. true≢false (sym ((tests.answer clean has).1 (world_fits old.now.trees w means is)) ∙ no)
-  found_none (Err e) tests = tt
+  pub found_none : (r : Result Bool Error) → IsLive old → Tests old new r AreFit → IfOk r (λ b. b ≡ false → StandsForNone old.now)
+  found_none (Ok b) live tests = λ no _ w means is.
+      let sound : IsSound store_schema old.now.trees = subst (λ s. IsSound s old.now.trees) has (live (tests.same clean has).0.was_open).0 in
+      true≢false (sym ((tests.answer clean has).1 (world_fits old.now.trees w sound means is)) ∙ no)
+  found_none (Err e) live tests = tt

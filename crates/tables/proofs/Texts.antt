@@ -14,4 +14,7 @@ abbrev pub number_rows_text : List ℕ
 number_rows_text = codes "SELECT rowid FROM access ORDER BY rowid"
 
 abbrev pub entry_rows_text : List ℕ
-entry_rows_text = codes "SELECT v.shelf, v.path, v.version, v.time, v.mod, b.zip, v.order_key, v.rank_key FROM version AS v LEFT JOIN body AS b ON b.id = v.id ORDER BY v.shelf, v.path, v.version"
+entry_rows_text = codes "SELECT shelf, path, version, time, mod, order_key, rank_key FROM version ORDER BY shelf, path, version"
+
+abbrev pub piece_rows_text : List ℕ
+piece_rows_text = codes "SELECT version, number, bytes FROM piece ORDER BY version, number"

@@ -7,7 +7,7 @@ use Rattle.sqlite.specs.Command.TheVariants.{CreateTable}
 use Rattle.sqlite.specs.Batch.{RunInTurn, ExecutesAllInside}
 use Rattle.sqlite.specs.Held.{Held, state}
 use Rattle.sqlite.specs.declared.error.Error.{Error}
-use Rattle.tables.specs.Schema.{no_schema, store_schema, meta_table, shelf_table, access_table, version_table, body_table, meta_text, shelf_text, access_text, version_text, body_text}
+use Rattle.tables.specs.Schema.{no_schema, store_schema, meta_table, shelf_table, access_table, version_table, piece_table, meta_text, shelf_text, access_text, version_text, piece_text}
 use Rattle.tables.specs.Causes.{IsExcused}
 use Rattle.tables.specs.Means.{schema_named}
 use Rattle.tables.proofs.InsertLemmas.{cast_null, cast_int}
@@ -40,18 +40,18 @@ module _ {S : Type 0} (g : Ghosts S) (start new : Held S) (e : Error) where
     | inr (next, count, step, rest, within) ↦ (
         let it = put_meta (state g mid) (state g next) count has a step.runs in
         let ran = ran_as first6 (state g mid) (state g next) store_schema has _ put6.0 put6.1 count step.runs in
-        last_step next most (further (state g start) (state g mid) (state g next) _ way step.survives ran.shown.is_open) within it.0 it.1 (it.2 ∙ b) (record { access = it.3 ∙ empty.access; version = it.4 ∙ empty.version; body = it.5 ∙ empty.body }) rest)
+        last_step next most (further (state g start) (state g mid) (state g next) _ way step.survives ran.shown.is_open) within it.0 it.1 (it.2 ∙ b) (record { access = it.3 ∙ empty.access; version = it.4 ∙ empty.version; piece = it.5 ∙ empty.piece }) rest)
   ]
 
-  body_step : (mid : Held S) (most : ℕ) → Way mid → IsTrue mid.in_transaction → (state g mid).now.schema ≡ schema4 → (state g mid).now.trees 0 ≡ [] → (state g mid).now.trees 2 ≡ [] → (state g mid).now.trees 4 ≡ [] → (state g mid).now.trees 6 ≡ []
+  piece_step : (mid : Held S) (most : ℕ) → Way mid → IsTrue mid.in_transaction → (state g mid).now.schema ≡ schema4 → (state g mid).now.trees 0 ≡ [] → (state g mid).now.trees 2 ≡ [] → (state g mid).now.trees 4 ≡ [] → (state g mid).now.trees 6 ≡ []
       → RunInTurn g (Some 0) (suc (suc (suc most))) text5 mid new (Err e) → Fault
-  body_step mid most way inside has a b c d run = elim (turn_or_stop g mid new e text5 first5 text6 (lit< tt) cut5.0 cut5.1 inside schema4 has CreateTable make5.0 tt (suc (suc most)) run) [
+  piece_step mid most way inside has a b c d run = elim (turn_or_stop g mid new e text5 first5 text6 (lit< tt) cut5.0 cut5.1 inside schema4 has CreateTable make5.0 tt (suc (suc most)) run) [
     | inl stop ↦ excused_since (state g start) (state g mid) (state g new) e way (
-        make_excused schema4 first5 body_text (record body_table { tree = 0 }) make5.0 make5.1 alone5.0 alone5.1 able5 refl (state g mid) (state g new) e has stop)
+        make_excused schema4 first5 piece_text (record piece_table { tree = 0 }) make5.0 make5.1 alone5.0 alone5.1 able5 refl (state g mid) (state g new) e has stop)
     | inr (next, count, step, rest, within) ↦ (
-        let it = makes schema4 schema5 first5 (record body_table { tree = 0 }) make5.0 make5.1 make5.2 make5.3 refl (state g mid) (state g next) count has step.runs in
+        let it = makes schema4 schema5 first5 (record piece_table { tree = 0 }) make5.0 make5.1 make5.2 make5.3 refl (state g mid) (state g next) count has step.runs in
         let ran = ran_as first5 (state g mid) (state g next) schema4 has CreateTable make5.0 make5.1 count step.runs in
-        meta_step next most (further (state g start) (state g mid) (state g next) _ way step.survives ran.shown.is_open) within it.0 (it.2.0 ∙ a) (it.2.1.0 ∙ b) (record { access = it.2.1.1.0 ∙ c; version = it.2.1.1.1.0 ∙ d; body = it.1 }) rest)
+        meta_step next most (further (state g start) (state g mid) (state g next) _ way step.survives ran.shown.is_open) within it.0 (it.2.0 ∙ a) (it.2.1.0 ∙ b) (record { access = it.2.1.1.0 ∙ c; version = it.2.1.1.1.0 ∙ d; piece = it.1 }) rest)
   ]
 
   version_step : (mid : Held S) (most : ℕ) → Way mid → IsTrue mid.in_transaction → (state g mid).now.schema ≡ schema3 → (state g mid).now.trees 0 ≡ [] → (state g mid).now.trees 2 ≡ [] → (state g mid).now.trees 4 ≡ []
@@ -62,7 +62,7 @@ module _ {S : Type 0} (g : Ghosts S) (start new : Held S) (e : Error) where
     | inr (next, count, step, rest, within) ↦ (
         let it = makes schema3 schema4 first4 (record version_table { tree = 0 }) make4.0 make4.1 make4.2 make4.3 refl (state g mid) (state g next) count has step.runs in
         let ran = ran_as first4 (state g mid) (state g next) schema3 has CreateTable make4.0 make4.1 count step.runs in
-        body_step next most (further (state g start) (state g mid) (state g next) _ way step.survives ran.shown.is_open) within it.0 (it.2.0 ∙ a) (it.2.1.0 ∙ b) (it.2.1.1.0 ∙ c) it.1 rest)
+        piece_step next most (further (state g start) (state g mid) (state g next) _ way step.survives ran.shown.is_open) within it.0 (it.2.0 ∙ a) (it.2.1.0 ∙ b) (it.2.1.1.0 ∙ c) it.1 rest)
   ]
 
   access_step : (mid : Held S) (most : ℕ) → Way mid → IsTrue mid.in_transaction → (state g mid).now.schema ≡ schema2 → (state g mid).now.trees 0 ≡ [] → (state g mid).now.trees 2 ≡ [] → RunInTurn g (Some 0) (suc (suc (suc (suc (suc most))))) text3 mid new (Err e) → Fault

@@ -1,7 +1,6 @@
 -- Why a walk over the rows of the tables fails.
-use Rattle.std.proofs.Common.{◌≡◌, ◌≤◌, ◌⊎◌, ◌+◌, ◌*◌, ◌^◌, ◌++◌, ℕ, Bool, true, false, cond, List, [], ◌∷◌, length, map, filter, Option, None, Ok, Err, Result, inl, inr, refl, sym, ap, subst, ◌∙◌, arith, codes, IfErr, true≢false, length-append, nat_lt, ltb-true, ltb-false, lit≤}
+use Rattle.std.proofs.Common.{◌≡◌, ◌≤◌, ◌⊎◌, ◌+◌, ◌^◌, ◌++◌, ℕ, Bool, true, false, List, [], ◌∷◌, length, map, Option, None, Ok, Err, Result, inl, inr, refl, sym, ap, subst, ◌∙◌, arith, codes, IfErr, true≢false, length-append, lit≤}
 use Rattle.std.specs.Prelude.{IsSome, IsErrAnd}
-use Rattle.std.proofs.lemmas.Bool.{cases_Bool}
 use Rattle.std.proofs.lemmas.List.{length-map}
 use Rattle.std.proofs.lemmas.List.Sorted.{length_permutation}
 use Rattle.sqlite_trees.specs.View.{doubt}
@@ -11,7 +10,7 @@ use Rattle.sqlite_trees.specs.declared.store.Store.{Ghosts}
 use Rattle.sqlite.specs.Held.{Held, state}
 use Rattle.sqlite.specs.Command.TheVariants.{Select}
 use Rattle.sqlite.specs.Term.{Term, col, eval, eval_all}
-use Rattle.sqlite.specs.Query.{Join, inner, end, matches, or_nulls}
+use Rattle.sqlite.specs.Query.{Join, inner, end, matches}
 use Rattle.sqlite.specs.Program.{overlay}
 use Rattle.sqlite.specs.Effect.{Database, ReadsFirst, RefusesToRead, RefusesQuery}
 use Rattle.sqlite_sql.specs.Query.{has_no_fold}
@@ -26,18 +25,17 @@ use Rattle.sqlite.specs.declared.error.ErrorCode.TheVariants.{TypeMismatch}
 use Rattle.sqlite.specs.Listing.{understood, reads_listing, IsSourceOf}
 use Rattle.sqlite.specs.State.{State, HasCleanDisk, IsUnchanged, Survives, Begins, FailsToQuery}
 use Rattle.sqlite.proofs.Callers.{IsPlain, command_of}
-use Rattle.tables.specs.Schema.{store_schema, meta_table, shelf_table, access_table, version_table, body_table}
-use Rattle.tables.specs.Means.{is_numbered_as}
-use Rattle.tables.specs.Fit.{joined, entry_shown, entry_width}
+use Rattle.tables.specs.Schema.{store_schema, meta_table, shelf_table, access_table, version_table, piece_table}
+use Rattle.tables.specs.Fit.{entry_width, piece_width}
 use Rattle.tables.specs.Walks.{Tests, IsAlone, IsWalkable, ShowsTooMany}
 use Rattle.tables.specs.Causes.{IsExcused, IsVast, HasReason}
-use Rattle.tables.proofs.Texts.{meta_rows_text, shelf_rows_text, key_rows_text, number_rows_text, entry_rows_text}
+use Rattle.tables.proofs.Texts.{meta_rows_text, shelf_rows_text, key_rows_text, number_rows_text, entry_rows_text, piece_rows_text}
 use Rattle.tables.proofs.FailureLemmas.{was_clean}
 use Rattle.tables.proofs.Ascending.{has_permuted}
 use Rattle.tables.proofs.FitTests.{at_place}
 use Rattle.tables.proofs.WalkLemmas.{unchanged_schema, some_walked}
 use Rattle.tables.proofs.CauseLemmas.{unrun, IsOnItsWay, excused_since, on_its_way}
-use Rattle.tables.proofs.ListingLemmas.{listing, listed_rows, first_listed, IsListing, of_table, of_entries, with_bodies, entry_columns, entry_names, by_token, by_number, by_place, meta_rows_is, shelf_rows_is, key_rows_is, number_rows_is, entry_rows_is}
+use Rattle.tables.proofs.ListingLemmas.{listing, listed_rows, first_listed, IsListing, of_table, entry_columns, entry_names, piece_columns, piece_names, by_token, by_number, by_place, by_piece, meta_rows_is, shelf_rows_is, key_rows_is, number_rows_is, entry_rows_is, piece_rows_is}
 
 -- ---- one query
 
@@ -174,7 +172,7 @@ number_walkable = is_walkable number_rows_text (inner 4 end) (col 1 0 ∷ []) by
 pub number_vast : (db : Database) → db.schema ≡ store_schema → ShowsTooMany number_rows_text db → IsVast db
 number_vast db has h = record { schema = has; table = access_table; listed = inr (inr (inl refl)); rows = many_rows number_rows_text 4 (col 1 0 ∷ []) by_number (codes "rowid" ∷ []) number_rows_is db refl h }
 
-entry_typed : (db : Database) → db.schema ≡ store_schema → RefusesQuery None db (record { lets = []; body = listing with_bodies entry_columns by_place }) [] (SqliteFailure TypeMismatch) → ⊥
+entry_typed : (db : Database) → db.schema ≡ store_schema → RefusesQuery None db (record { lets = []; body = listing (inner 6 end) entry_columns by_place }) [] (SqliteFailure TypeMismatch) → ⊥
 unfolding understood everything
 entry_typed db has h = elim h [ inl (same, wrong) ↦ true≢false (rw has at wrong) | inr (inl (other, over)) ↦ absurd (cc) | inr (inr (other, some)) ↦ true≢false (sym some) ]
 
@@ -183,45 +181,24 @@ unfolding understood everything
 entry_alone = (lit≤ tt, refl)
 
 pub entry_walkable : IsWalkable entry_rows_text entry_width
-entry_walkable = is_walkable entry_rows_text with_bodies entry_columns by_place entry_names entry_rows_is refl entry_typed entry_alone
-
-filter_few : {X : Type 0} (p : X → Bool) (xs : List X) → length (filter p xs) ≤ length xs
-filter_few p [] = omega arith
-filter_few {X} p (x ∷ xs) = go (p x) (filter_few p xs)
-  where
-    go : (b : Bool) → length (filter p xs) ≤ length xs → length (cond b (x ∷ filter p xs) (filter p xs)) ≤ length (x ∷ xs)
-    go true h = omega (arith, h)
-    go false h = omega (arith, h)
-
-nulls_few : (bodies : List Row) → length bodies + 1 ≤ 2 ^ 64 → length (or_nulls bodies) ≤ 2 ^ 64
-nulls_few [] few = omega arith
-nulls_few (b ∷ bodies) few = omega (arith, few)
-
--- a version is shown once for each body, or once
-joined_few : (versions bodies : List Row) → length bodies + 1 ≤ 2 ^ 64 → length (joined versions bodies) ≤ 2 ^ 64 * length versions
-joined_few [] bodies few = omega arith
-joined_few (row ∷ versions) bodies few =
-    let own = filter (λ body. is_numbered_as body row) bodies in
-    let fewer = filter_few (λ body. is_numbered_as body row) bodies in
-    let nulls = nulls_few own (omega (arith, few, fewer)) in
-    let shown = length-map (or_nulls own) (entry_shown row) in
-    let both = length-append (map (entry_shown row) (or_nulls own)) (joined versions bodies) in
-    let rest = joined_few versions bodies few in
-    omega (arith, nulls, shown, both, rest)
+entry_walkable = is_walkable entry_rows_text (inner 6 end) entry_columns by_place entry_names entry_rows_is refl entry_typed entry_alone
 
 pub entry_vast : (db : Database) → db.schema ≡ store_schema → ShowsTooMany entry_rows_text db → IsVast db
-entry_vast db has h =
-    let listed = many_listed entry_rows_text with_bodies entry_columns by_place entry_names entry_rows_is db h in
-    let same : length (map (eval_all entry_columns) (matches (overlay db.trees []) [] with_bodies ([] ∷ []))) ≡ length (joined (db.trees 6) (db.trees 8)) = ap length (of_entries (overlay db.trees [])) in
-    let long : 2 ^ 128 ≤ length (joined (db.trees 6) (db.trees 8)) + 1 = omega (arith, listed, same) in
-    elim (cases_Bool (nat_lt (length (db.trees 8)) (2 ^ 64))) [
-      | inl low ↦ (
-          let few = ltb-true (length (db.trees 8)) (2 ^ 64) low in
-          let most = joined_few (db.trees 6) (db.trees 8) (omega (arith, few)) in
-          let rows : 2 ^ 64 ≤ length (db.trees 6) = omega (arith, long, most) in
-          record { schema = has; table = version_table; listed = inr (inr (inr (inl refl))); rows = rows })
-      | inr high ↦ record { schema = has; table = body_table; listed = inr (inr (inr (inr (inl refl)))); rows = ltb-false (length (db.trees 8)) (2 ^ 64) high }
-    ]
+entry_vast db has h = record { schema = has; table = version_table; listed = inr (inr (inr (inl refl))); rows = many_rows entry_rows_text 6 entry_columns by_place entry_names entry_rows_is db refl h }
+
+piece_typed : (db : Database) → db.schema ≡ store_schema → RefusesQuery None db (record { lets = []; body = listing (inner 8 end) piece_columns by_piece }) [] (SqliteFailure TypeMismatch) → ⊥
+unfolding understood everything
+piece_typed db has h = elim h [ inl (same, wrong) ↦ true≢false (rw has at wrong) | inr (inl (other, over)) ↦ absurd (cc) | inr (inr (other, some)) ↦ true≢false (sym some) ]
+
+piece_alone : IsAlone piece_rows_text (understood store_schema piece_rows_text)
+unfolding understood everything
+piece_alone = (lit≤ tt, refl)
+
+pub piece_walkable : IsWalkable piece_rows_text piece_width
+piece_walkable = is_walkable piece_rows_text (inner 8 end) piece_columns by_piece piece_names piece_rows_is refl piece_typed piece_alone
+
+pub piece_vast : (db : Database) → db.schema ≡ store_schema → ShowsTooMany piece_rows_text db → IsVast db
+piece_vast db has h = record { schema = has; table = piece_table; listed = inr (inr (inr (inr (inl refl)))); rows = many_rows piece_rows_text 8 piece_columns by_piece piece_names piece_rows_is db refl h }
 
 -- ---- one walk after the other
 

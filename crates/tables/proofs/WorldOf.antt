@@ -1,5 +1,5 @@
 -- Rows that fit stand for a world.
-use Rattle.std.proofs.Common.{◌≡◌, ◌≤◌, ◌==◌, ◌⊎◌, ℕ, suc, pos, negsuc, Bool, true, false, cond, List, [], ◌∷◌, length, map as mapped, filter, inl, inr, refl, sym, ap, subst, subst₂, ◌∙◌, arith}
+use Rattle.std.proofs.Common.{◌≡◌, ◌≤◌, ◌==◌, ◌⊎◌, ℕ, suc, pos, negsuc, Bool, true, false, cond, List, [], ◌∷◌, length, map as mapped, filter, refl, sym, ap, subst, subst₂, ◌∙◌, arith}
 use Rattle.std.specs.Ordering.{is_eq, eq_by_cmp}
 use Rattle.std.specs.Cmp.{tied_itself}
 use Rattle.std.specs.FinSet as set
@@ -13,7 +13,7 @@ use Rattle.sqlite_catalog.specs.Listing.{IsSound}
 use Rattle.sqlite_trees.specs.Tree.{IsAscending}
 use Rattle.sqlite_trees.proofs.ListLemmas.{ascending_weaker}
 use Rattle.sqlite_rules.specs.Lists.{Has}
-use Rattle.sqlite_rules.proofs.ListLemmas.{all_has, all_from, some_has, some_from}
+use Rattle.sqlite_rules.proofs.ListLemmas.{some_has, some_from}
 use Rattle.sqlite_rules.proofs.ProbeLemmas.{has_mapped, mapped_has}
 use Rattle.world.specs.declared.entry.Place.{Place}
 use Rattle.world.specs.declared.entry.Entry.{Entry}
@@ -25,25 +25,15 @@ use Rattle.world.proofs.Orders.{texts_total, texts_exact, places_total, places_e
 use Rattle.tables.specs.Schema.{store_schema}
 use Rattle.tables.specs.Means.{may_publish}
 use Rattle.tables.specs.Means.{Means, IsMeta, IsAccess, IsNumbered, IsVersion, HasKeys, schema_named}
-use Rattle.tables.specs.Fit.{text_in, int_in, place_in, is_on, joined, entry_shown, meta_shown, name_shown, number_shown, ShowsEntry, AreFit}
-use Rattle.tables.proofs.JoinLemmas.{HasOneBody, body_of, one_body, joined_is, its_body, no_other, bodies_once}
+use Rattle.tables.specs.Fit.{text_in, int_in, nat_in, blob_in, place_in, is_on, entry_shown, piece_shown, meta_shown, name_shown, number_shown, ShowsEntry, AreFit}
+use Rattle.tables.proofs.Ascending.{ascending_from_map, one_by_key}
+use Rattle.tables.proofs.EntryTests.{with_zip}
+use Rattle.tables.proofs.ZipOf.{zip_of, zip_pieces, zip_small}
 use Rattle.tables.proofs.RowMapLemmas.{made_of, made_from, made_has, entries_of, len_part}
 use Rattle.tables.proofs.RowFits.{time_in, time_told}
 use Rattle.tables.proofs.SoundLemmas.{access_row, key_shelf, version_shelf}
 
 -- ---- lists
-
-ascending_from_map : {X Y : Type 0} (P : Y → Y → Type 0) (f : X → Y) (xs : List X) → IsAscending P (mapped f xs) → IsAscending (λ a b. P (f a) (f b)) xs
-ascending_from_map P f [] up = tt
-ascending_from_map P f (x ∷ xs) up = (all_from _ xs (λ y there. all_has (P (f x)) (mapped f xs) (f y) up.0 (mapped_has f xs y there)), ascending_from_map P f xs up.1)
-
--- where no two have one key, those that have are one
-one_by_key : {X K : Type 0} (key : X → K) (xs : List X) → IsAscending (λ a b. key a ≡ key b → ⊥) xs → (a b : X) → Has xs a → Has xs b → key a ≡ key b → a ≡ b
-one_by_key key [] once a b here there same = absurd here
-one_by_key key (x ∷ xs) once a b (inl one) (inl two) same = one ∙ sym two
-one_by_key key (x ∷ xs) once a b (inl one) (inr there) same = absurd (all_has (λ y. key x ≡ key y → ⊥) xs b once.0 there (ap key (sym one) ∙ same))
-one_by_key key (x ∷ xs) once a b (inr here) (inl two) same = absurd (all_has (λ y. key x ≡ key y → ⊥) xs a once.0 here (ap key (sym two) ∙ sym same))
-one_by_key key (x ∷ xs) once a b (inr here) (inr there) same = one_by_key key xs once.1 a b here there same
 
 pub length_mapped : {X Y : Type 0} (p : Y → Bool) (f : X → Y) (xs : List X) → length (filter p (mapped f xs)) ≡ length (filter (λ x. p (f x)) xs)
 length_mapped p f [] = refl
@@ -54,13 +44,6 @@ length_mapped {X} {Y} p f (x ∷ xs) = go (p (f x)) (length_mapped p f xs)
     go false h = h
 
 -- ---- what a row says
-
-abbrev blob_in : Value → List ℕ
-blob_in Null = []
-blob_in (Int n) = []
-blob_in (Real x) = []
-blob_in (Text t) = []
-blob_in (Blob b) = b
 
 abbrev is_one : Value → Bool
 is_one Null = false
@@ -96,7 +79,7 @@ abbrev place_of : Row → Place
 place_of row = record { shelf = text_in (column row 2); path = text_in (column row 3); version = text_in (column row 4) }
 
 abbrev entry_of : List Row → Row → Entry
-entry_of bodies row = record { gomod = blob_in (column row 6); zip = blob_in (column (body_of bodies row) 2); time = time_in (column row 5) }
+entry_of pieces row = record { gomod = blob_in (column row 6); zip = zip_of pieces row; time = time_in (column row 5) }
 
 pub world_of : Trees → World
 world_of db = record {
@@ -159,49 +142,32 @@ module _ (db : Trees) (sound : IsSound store_schema db) (fit : AreFit db) where
 
   -- ---- entries
 
-  one : HasOneBody (db 6) (db 8)
-  one = one_body (db 6) (db 8) fit.entries.each fit.entries.once
-
-  abbrev shown : Row → Row
-  shown row = entry_shown row (body_of (db 8) row)
-
-  shown_are : joined (db 6) (db 8) ≡ mapped shown (db 6)
-  shown_are = joined_is (db 6) (db 8) one
-
   places_once : IsAscending (λ a b. place_of a ≡ place_of b → ⊥) (db 6)
-  places_once = ascending_from_map _ shown (db 6) (subst (IsAscending (λ a b. place_in a ≡ place_in b → ⊥)) shown_are fit.entries.once)
+  places_once = ascending_from_map _ entry_shown (db 6) fit.entries.once
 
-  entry_shown_at : (row : Row) → Has (db 6) row → (q : Place) × (e : Entry) × ShowsEntry (shown row) q e
-  entry_shown_at row there = fit.entries.each (shown row) (subst (λ l. Has l (shown row)) (sym shown_are) (mapped_has shown (db 6) row there))
+  entry_shown_at : (row : Row) → Has (db 6) row → (q : Place) × (e : Entry) × ShowsEntry (entry_shown row) q e
+  entry_shown_at row there = fit.entries.each (entry_shown row) (mapped_has entry_shown (db 6) row there)
 
   version_is : (row : Row) → Has (db 6) row → IsVersion (db 8) row (place_of row, entry_of (db 8) row)
   version_is row there =
       let it = entry_shown_at row there in
       let shows = it.2 in
-      let b = one row there in
-      let body = body_of (db 8) row in
-      let is : body ≡ b.0 = Rattle.tables.proofs.JoinLemmas.body_is (db 8) row b.0 b.1 in
-      let its = its_body (db 8) row b.0 b.1 in
-      let zip = held_blob (column body 2) it.1.zip shows.files.zip in
       record {
         place = (held_text (column row 2) it.0.shelf shows.shelf, held_text (column row 3) it.0.path shows.path, held_text (column row 4) it.0.version shows.version);
         time = shows.files.time ∙ ap (or_null Text) (time_told (column row 5) it.1.time shows.files.time);
         gomod = held_blob (column row 6) it.1.gomod shows.files.gomod;
         keys = subst (HasKeys row) (ap text_in (sym shows.version)) (record { order = shows.keys.order; rank = shows.keys.rank });
-        body = b.0;
-        there = its.0;
-        same = its.1;
-        zip = ap (λ (x : Row). column x 2) (sym is) ∙ zip;
-        only = λ other here tied. ap (λ (x : Row). column x 2) (no_other (db 8) row b.0 other b.1 here tied ∙ sym is) ∙ zip;
+        zip = zip_pieces db fit.pieces row;
       }
 
   may_stand : (row : Row) → Has (db 6) row → IsEntry (place_of row) (entry_of (db 8) row)
   may_stand row there =
       let it = entry_shown_at row there in
       let shows = it.2 in
+      let zip = zip_of (db 8) row in
       let q : it.0 ≡ place_of row = λ i. record { shelf = ap text_in (sym shows.shelf) i; path = ap text_in (sym shows.path) i; version = ap text_in (sym shows.version) i } in
-      let e : it.1 ≡ entry_of (db 8) row = λ i. record { gomod = ap blob_in (sym shows.files.gomod) i; zip = ap blob_in (sym shows.files.zip) i; time = time_told (column row 5) it.1.time shows.files.time i } in
-      subst₂ IsEntry q e shows.may
+      let e : record it.1 { zip = zip } ≡ entry_of (db 8) row = λ i. record { gomod = ap blob_in (sym shows.files.gomod) i; zip = zip; time = time_told (column row 5) it.1.time shows.files.time i } in
+      subst₂ IsEntry q e (with_zip it.0 it.1 zip shows.may (zip_small db fit.pieces row))
 
   -- ---- the world
 
@@ -235,8 +201,8 @@ module _ (db : Trees) (sound : IsSound store_schema db) (fit : AreFit db) where
     };
     numbered = numbers_own;
     tokens = ascending_weaker _ _ (λ a b apart token one two. apart (ap text_in (one ∙ sym two))) (db 4) tokens_once;
-    bodies = bodies_once db sound one;
     places = ascending_weaker _ _ (λ a b apart p at by. apart (λ i. record { shelf = ap text_in (at.0 ∙ sym by.0) i; path = ap text_in (at.1 ∙ sym by.1) i; version = ap text_in (at.2 ∙ sym by.2) i })) (db 6) places_once;
+    pieces = ascending_weaker _ _ (λ a b apart version number. apart (λ i. (int_in (version i), nat_in (number i)))) (db 8) (ascending_from_map _ piece_shown (db 8) fit.pieces.pieces.once);
   }
 
   few_at : (s p : List ℕ) → count (world_of db) s p ≤ version_limit
@@ -244,7 +210,7 @@ module _ (db : Trees) (sound : IsSound store_schema db) (fit : AreFit db) where
   few_at s p =
       let part = len_part places_total places_exact (is_on s p) (entries_of places_total places_exact place_of (entry_of (db 8)) (db 6)) in
       let rows = length_mapped (λ (e : Place × Entry). is_on s p e.0) (λ row. (place_of row, entry_of (db 8) row)) (db 6) in
-      let shows = ap (λ l. length (filter (λ row. is_on s p (place_in row)) l)) shown_are ∙ length_mapped (λ row. is_on s p (place_in row)) shown (db 6) in
+      let shows = length_mapped (λ row. is_on s p (place_in row)) entry_shown (db 6) in
       omega (arith, part, rows, shows, fit.entries.few s p)
 
   pub fit_world : IsWorld (world_of db)

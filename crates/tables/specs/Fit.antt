@@ -1,19 +1,19 @@
 -- What the rows of the tables have to be to stand for a world.
-use Rattle.std.specs.Prelude.{◌≡◌, ◌≤◌, ◌⊎◌, ◌&&◌, ℕ, ℤ, pos, Bool, true, List, [], ◌∷◌, length, map, filter, flat_map, bytes_eq, codes, IsUtf8}
+use Rattle.std.specs.Prelude.{◌≡◌, ◌≤◌, ◌<◌, ◌⊎◌, ◌&&◌, ◌==◌, ◌+◌, ℕ, ℤ, pos, negsuc, Bool, true, List, [], ◌∷◌, length, map, filter, bytes_eq, codes, IsUtf8}
 use Rattle.sqlite.specs.declared.types.Value.{Value}
 use Rattle.sqlite.specs.declared.types.Value.TheVariants.{Null, Int, Real, Text, Blob}
 use Rattle.sqlite.specs.Order.{Row, column}
 use Rattle.sqlite.specs.Tree.{Trees}
-use Rattle.sqlite.specs.Query.{or_nulls}
 use Rattle.sqlite.specs.Values.{or_null}
 use Rattle.sqlite_trees.specs.Tree.{IsAscending}
 use Rattle.sqlite_rules.specs.Lists.{Has}
 use Rattle.world.specs.declared.entry.Place.{Place}
 use Rattle.world.specs.declared.entry.Entry.{Entry}
 use Rattle.world.specs.World.{IsEntry, place, common, is_team_name, is_key, version_limit}
-use Rattle.tables.specs.Means.{is_numbered_as}
+use Rattle.tables.specs.declared.pieces.LastPiece.{LastPiece}
+use Rattle.tables.specs.Pieces.{piece_size, piece_limit}
 use Rattle.tables.specs.VersionKeys.{order_key_at, rank_key_at}
-use Rattle.tables.specs.Schema.{meta_table, shelf_table, access_table, version_table, body_table}
+use Rattle.tables.specs.Schema.{meta_table, shelf_table, access_table, version_table, piece_table}
 
 abbrev pub text_in : Value → List ℕ
 text_in Null = []
@@ -29,6 +29,21 @@ int_in (Real x) = pos 0
 int_in (Text t) = pos 0
 int_in (Blob b) = pos 0
 
+abbrev pub nat_in : Value → ℕ
+nat_in Null = 0
+nat_in (Int (pos n)) = n
+nat_in (Int (negsuc n)) = 0
+nat_in (Real x) = 0
+nat_in (Text t) = 0
+nat_in (Blob b) = 0
+
+abbrev pub blob_in : Value → List ℕ
+blob_in Null = []
+blob_in (Int n) = []
+blob_in (Real x) = []
+blob_in (Text t) = []
+blob_in (Blob b) = b
+
 -- ---- what is read of each row
 
 abbrev pub meta_shown : Row → Row
@@ -40,18 +55,19 @@ name_shown row = column row 1 ∷ []
 abbrev pub number_shown : Row → Row
 number_shown row = column row 0 ∷ []
 
--- the row of a version with the row of a body, or with none
-abbrev pub entry_shown : Row → Row → Row
-entry_shown row body =
-    column row 2 ∷ column row 3 ∷ column row 4 ∷ column row 5 ∷ column row 6 ∷ column body 2 ∷ column row 7 ∷ column row 8 ∷ []
+abbrev pub entry_shown : Row → Row
+entry_shown row = column row 2 ∷ column row 3 ∷ column row 4 ∷ column row 5 ∷ column row 6 ∷ column row 7 ∷ column row 8 ∷ []
 
 -- how many values are read of it
 abbrev pub entry_width : ℕ
-entry_width = 8
+entry_width = 7
 
--- each row of a version with each row of a body that has its number, or alone where there is none
-abbrev pub joined : List Row → List Row → List Row
-joined versions bodies = flat_map (λ row. map (entry_shown row) (or_nulls (filter (λ body. is_numbered_as body row) bodies))) versions
+abbrev pub piece_shown : Row → Row
+piece_shown row = column row 1 ∷ column row 2 ∷ column row 3 ∷ []
+
+-- how many values are read of it
+abbrev pub piece_width : ℕ
+piece_width = 3
 
 -- ---- one row
 
@@ -76,16 +92,16 @@ IsNumberRow row = (n : ℤ) × (column row 0 ≡ Int n)
 abbrev pub number_in : Row → ℤ
 number_in row = int_in (column row 0)
 
--- the row shows the entry but for its place
+-- the row shows the entry but for its place; of its zip it shows no byte
 pub record ShowsFiles (row : Row) (e : Entry) : Type 0 where
   pub time : column row 3 ≡ or_null Text e.time
   pub gomod : column row 4 ≡ Blob e.gomod
-  pub zip : column row 5 ≡ Blob e.zip
+  pub zip : e.zip ≡ []
 
 -- the row shows the keys of the version that this text is
 pub record ShowsKeys (row : Row) (version : List ℕ) : Type 0 where
-  pub order : column row 6 ≡ Blob (order_key_at version)
-  pub rank : column row 7 ≡ Blob (rank_key_at version)
+  pub order : column row 5 ≡ Blob (order_key_at version)
+  pub rank : column row 6 ≡ Blob (rank_key_at version)
 
 -- the row shows an entry that may stand at the path and the version, on whatever shelf, and the keys of the version
 pub record ShowsAt (row : Row) (path version : List ℕ) : Type 0 where
@@ -114,6 +130,30 @@ place_in row = record { shelf = text_in (column row 0); path = text_in (column r
 abbrev pub is_on : List ℕ → List ℕ → Place → Bool
 is_on s p q = bytes_eq q.shelf s && bytes_eq q.path p
 
+-- the row shows a piece: the number of its version, its own number, and its bytes, of which it has one at least
+pub record IsPieceRow (row : Row) : Type 0 where
+  pub version : ℤ
+  pub number : ℕ
+  pub bytes : List ℕ
+  pub of_version : column row 0 ≡ Int version
+  pub numbered : column row 1 ≡ Int (pos number)
+  pub holds : column row 2 ≡ Blob bytes
+  pub within : number < piece_limit
+  pub some : 0 < length bytes
+  pub most : length bytes ≤ piece_size
+
+-- the version that it is of, and its number
+abbrev pub piece_key : Row → ℤ × ℕ
+piece_key row = (int_in (column row 0), nat_in (column row 1))
+
+-- what a walk keeps of it
+abbrev pub piece_in : Row → LastPiece
+piece_in row = record { version = int_in (column row 0); number = nat_in (column row 1); is_full = length (blob_in (column row 2)) == piece_size }
+
+-- a full piece of a version
+abbrev pub full_piece : ℤ → ℕ → LastPiece
+full_piece version number = record { version = version; number = number; is_full = true }
+
 -- ---- the rows of a table
 
 pub record IsMetaFit (rows : List Row) : Type 0 where
@@ -141,9 +181,16 @@ pub record AreEntriesFit (rows : List Row) : Type 0 where
   pub once : IsAscending (λ a b. place_in a ≡ place_in b → ⊥) rows
   pub few : (s p : List ℕ) → length (filter (λ row. is_on s p (place_in row)) rows) ≤ version_limit
 
+-- no number comes twice of a version, and a full piece is before each but the first
+pub record ArePiecesFit (rows : List Row) : Type 0 where
+  pub pieces : AreOnce IsPieceRow piece_key rows
+  pub before : (row : Row) (n : ℕ) → Has rows row → nat_in (column row 1) ≡ n + 1
+      → (other : Row) × Has rows other × (piece_in other ≡ full_piece (int_in (column row 0)) n)
+
 pub record AreFit (db : Trees) : Type 0 where
   pub named : IsMetaFit (map meta_shown (db meta_table.tree))
   pub shelves : AreShelvesFit (map name_shown (db shelf_table.tree))
   pub access : AreKeysFit (map name_shown (db access_table.tree))
   pub numbers : AreNumbersFit (map number_shown (db access_table.tree))
-  pub entries : AreEntriesFit (joined (db version_table.tree) (db body_table.tree))
+  pub entries : AreEntriesFit (map entry_shown (db version_table.tree))
+  pub pieces : ArePiecesFit (map piece_shown (db piece_table.tree))

@@ -1,5 +1,6 @@
 pub mod Schema
 pub mod VersionKeys
+pub mod Pieces
 pub mod Means
 pub mod Inserted
 pub mod Made

@@ -1,5 +1,5 @@
 -- The world that the tables stand for. No row number and no order of rows occurs here.
-use Rattle.std.specs.Prelude.{ℕ, ℤ, Bool, true, false, pos, if◌then◌else◌, List, Some, IsTrue, codes, ◌≡◌}
+use Rattle.std.specs.Prelude.{ℕ, ℤ, Bool, true, false, pos, if◌then◌else◌, List, Some, IsTrue, codes, filter, ◌≡◌}
 use Rattle.sqlite.specs.declared.types.Value.TheVariants.{Int, Text, Blob}
 use Rattle.sqlite.specs.Order.{Row, column}
 use Rattle.sqlite.specs.Values.{or_null}
@@ -20,7 +20,8 @@ use Rattle.world.specs.declared.entry.Place.{Place}
 use Rattle.world.specs.declared.entry.Entry.{Entry}
 use Rattle.world.specs.World.{World, IsWorld}
 use Rattle.tables.specs.VersionKeys.{order_key_at, rank_key_at}
-use Rattle.tables.specs.Schema.{store_schema, meta_table, shelf_table, access_table, version_table, body_table}
+use Rattle.tables.specs.Pieces.{HasPiece, piece}
+use Rattle.tables.specs.Schema.{store_schema, meta_table, shelf_table, access_table, version_table, piece_table}
 
 -- the rows and the facts say the same: each row is of a fact that holds, and each fact that holds has a row
 pub record Tabulates {X : Type 0} (IsRow : Row → X → Type 0) (rows : List Row) (Holds : X → Type 0) : Type 0 where
@@ -48,10 +49,6 @@ flag b row = column row 3 ≡ Int (if b then pos 1 else pos 0)
 abbrev pub IsAccess : Row → List ℕ × Holder → Type 0
 IsAccess row it = (column row 1 ≡ Text it.0) × (column row 2 ≡ Text it.1.shelf) × flag (may_publish it.1.right) row
 
--- the rows have one number, as SQL compares them
-abbrev pub is_numbered_as : Row → Row → Bool
-is_numbered_as a b = equal Binary (rowid a) (rowid b)
-
 -- each row has a number, and no other row has it
 pub record IsNumbered (rows : List Row) : Type 0 where
   pub number : (row : Row) → Has rows row → (n : ℤ) × (rowid row ≡ Int n)
@@ -65,41 +62,50 @@ IsAt row p = (column row 2 ≡ Text p.shelf) × (column row 3 ≡ Text p.path) �
 abbrev pub IsEachTokenOnce : List Row → Type 0
 IsEachTokenOnce = IsAscending (λ a b. (token : List ℕ) → column a 1 ≡ Text token → column b 1 ≡ Text token → ⊥)
 
--- no two rows of `body` have one number
-abbrev pub IsEachNumberOnce : List Row → Type 0
-IsEachNumberOnce = IsAscending (λ a b. is_numbered_as a b ≡ false)
-
 -- no two rows of `version` name one place
 abbrev pub IsEachPlaceOnce : List Row → Type 0
 IsEachPlaceOnce = IsAscending (λ a b. (p : Place) → IsAt a p → IsAt b p → ⊥)
+
+-- no two rows of `piece` have one number of one version
+abbrev pub IsEachPieceOnce : List Row → Type 0
+IsEachPieceOnce = IsAscending (λ a b. column a 1 ≡ column b 1 → column a 2 ≡ column b 2 → ⊥)
 
 -- a row of `version` has the keys of the version that this text names
 pub record HasKeys (row : Row) (version : List ℕ) : Type 0 where
   pub order : column row 7 ≡ Blob (order_key_at version)
   pub rank : column row 8 ≡ Blob (rank_key_at version)
 
--- a row of `version`, with a row of `body` that has its number, whose zip is that of each that has it
-pub record IsVersion (bodies : List Row) (row : Row) (it : Place × Entry) : Type 0 where
+-- a row of `piece` is of the version whose row this is
+abbrev pub is_of : Row → Row → Bool
+is_of version row = equal Binary (column row 1) (rowid version)
+
+-- a row of `piece` has a number, and the bytes of the zip's piece of that number
+pub record IsPiece (zip : List ℕ) (row : Row) (n : ℕ) : Type 0 where
+  pub number : column row 2 ≡ Int (pos n)
+  pub bytes : column row 3 ≡ Blob (piece zip n)
+
+-- the rows are the pieces of the zip, in any order
+abbrev pub ArePieces : List Row → List ℕ → Type 0
+ArePieces rows zip = Tabulates (IsPiece zip) rows (HasPiece zip)
+
+-- a row of `version`, of which rows of `piece` are the zip's pieces
+pub record IsVersion (pieces : List Row) (row : Row) (it : Place × Entry) : Type 0 where
   pub place : IsAt row it.0
   pub time : column row 5 ≡ or_null Text it.1.time
   pub gomod : column row 6 ≡ Blob it.1.gomod
   pub keys : HasKeys row it.0.version
-  pub body : Row
-  pub there : Has bodies body
-  pub same : is_numbered_as body row ≡ true
-  pub zip : column body 2 ≡ Blob it.1.zip
-  pub only : (other : Row) → Has bodies other → is_numbered_as other row ≡ true → column other 2 ≡ Blob it.1.zip
+  pub zip : ArePieces (filter (is_of row) pieces) it.1.zip
 
 pub record Means (db : Trees) (w : World) : Type 0 where
   pub named : Tabulates IsMeta (db meta_table.tree) (λ it. it ≡ schema_named)
   pub shelves : Tabulates IsShelf (db shelf_table.tree) (λ name. IsTrue (set.contains w.shelves name))
   pub access : Tabulates IsAccess (db access_table.tree) (λ it. map.get w.keys it.0 ≡ Some it.1)
   pub numbered : IsNumbered (db access_table.tree)
-  pub entries : Tabulates (IsVersion (db body_table.tree)) (db version_table.tree) (λ it. map.get w.entries it.0 ≡ Some it.1)
-  -- each key, each body and each place has one row
+  pub entries : Tabulates (IsVersion (db piece_table.tree)) (db version_table.tree) (λ it. map.get w.entries it.0 ≡ Some it.1)
+  -- each key, each place and each piece has one row
   pub tokens : IsEachTokenOnce (db access_table.tree)
-  pub bodies : IsEachNumberOnce (db body_table.tree)
   pub places : IsEachPlaceOnce (db version_table.tree)
+  pub pieces : IsEachPieceOnce (db piece_table.tree)
 
 -- the trees are the tables of the schema, obey its rules, and stand for the world
 pub record StandFor (db : Trees) (w : World) : Type 0 where

@@ -12,6 +12,7 @@ use Rattle.sqlite.specs.Listing.{understood}
 use Rattle.sqlite.proofs.Callers.{command_of}
 use Rattle.world.specs.declared.entry.Place.{Place}
 use Rattle.world.specs.World.{version_limit}
+use Rattle.tables.specs.declared.pieces.LastPiece.{LastPiece}
 use Rattle.tables.specs.Schema.{store_schema}
 use Rattle.tables.specs.Fit.{is_on}
 
@@ -69,3 +70,15 @@ MayFollow (Some p) many q = (p ≡ q → ⊥) × (is_on p.shelf p.path q ≡ tru
 abbrev pub run_with : Option Place → ℕ → Place → ℕ
 run_with None many q = 1
 run_with (Some p) many q = if is_on p.shelf p.path q then many + 1 else 1
+
+-- ---- one piece after another, in order
+
+-- a piece may come after another: the next of its version, where that one is full, or the first of another version
+pub record GoesOn (last piece : LastPiece) : Type 0 where
+  pub next : last.version ≡ piece.version → (last.is_full ≡ true) × (piece.number ≡ last.number + 1)
+  pub first : (last.version ≡ piece.version → ⊥) → piece.number ≡ 0
+
+-- a piece may come after the last one, if there is one
+abbrev pub MayGoOn : Option LastPiece → LastPiece → Type 0
+MayGoOn None piece = piece.number ≡ 0
+MayGoOn (Some last) piece = GoesOn last piece

@@ -13,8 +13,10 @@ ghost use Rattle.tables.specs.Means.{IsSettled, StandsForSome, StandsForNone};
 ghost use Rattle.tables.specs.Calls.{Honestly, FailsWithReason};
 ghost use Rattle.tables.specs.Causes.{HasReason};
 ghost use Rattle.tables.specs.Walks.{Tests, MayFollow, run_with};
-ghost use Rattle.tables.specs.Fit.{IsSchemaRow, IsShelfRow, IsKeyRow, IsNumberRow, IsEntryRow, ShowsAt, entry_width, is_common, key_in, number_in, place_in, is_on, IsMetaFit, AreShelvesFit, AreKeysFit, AreNumbersFit, AreEntriesFit, AreFit, meta_shown, name_shown, number_shown, joined};
+ghost use Rattle.tables.specs.Fit.{IsSchemaRow, IsShelfRow, IsKeyRow, IsNumberRow, IsEntryRow, ShowsAt, entry_width, is_common, key_in, number_in, place_in, is_on, IsMetaFit, AreShelvesFit, AreKeysFit, AreNumbersFit, AreEntriesFit, AreFit, meta_shown, name_shown, number_shown, entry_shown};
 
+use crate::columns::{blob_at, int_at, is_blob_at, text_at};
+use crate::pieces::has_pieces;
 use crate::schema::is_store_schema;
 use crate::walk::{RowTest, rows_pass};
 use modver::{TimeText, Version, order_key, rank_key, read_time};
@@ -25,35 +27,6 @@ use text::Text;
 use world::entry::{EntryRef, MAX_VERSIONS, Place};
 use world::entry_test::fitting_version;
 use world::names::{COMMON, is_key, is_team_name};
-
-/// The text of a column, if it is one.
-fn text_at(row: &Row, at: usize) -> Result<Option<&str>, Error>
-    ensures found { IfOk result (λ found. MatchOption found
-        ((t : _) → column row.now at ≡ StoredText t → IsUtf8 t → ⊥)
-        (λ t. (column row.now at ≡ StoredText t.now) × IsUtf8 t.now)) }
-    ensures past { IfErr result (λ _. length row.now ≤ at) }
-{
-    match row.get_ref(at)? {
-        ValueRef::Text(bytes) => match std::str::from_utf8(bytes) {
-            Ok(text) => Ok(Some(text)),
-            Err(_) => Ok(None),
-        },
-        _ => Ok(None),
-    }
-}
-
-/// The bytes of a column, if it has any.
-fn blob_at(row: &Row, at: usize) -> Result<Option<&[u8]>, Error>
-    ensures found { IfOk result (λ found. MatchOption found
-        ((b : _) → column row.now at ≡ Blob b → ⊥)
-        (λ b. column row.now at ≡ Blob b.now)) }
-    ensures past { IfErr result (λ _. length row.now ≤ at) }
-{
-    match row.get_ref(at)? {
-        ValueRef::Blob(bytes) => Ok(Some(bytes)),
-        _ => Ok(None),
-    }
-}
 
 /// The time that bytes are, if they are one.
 fn time_of(bytes: &[u8]) -> Option<TimeText>
@@ -78,19 +51,6 @@ fn time_at(row: &Row, at: usize) -> Result<Option<Option<TimeText>>, Error>
             Some(time) => Ok(Some(Some(time))),
             None => Ok(None),
         },
-        _ => Ok(None),
-    }
-}
-
-/// The number of a column, if it is one.
-fn int_at(row: &Row, at: usize) -> Result<Option<i64>, Error>
-    ensures found { IfOk result (λ found. MatchOption found
-        ((n : _) → column row.now at ≡ Int n → ⊥)
-        (λ n. column row.now at ≡ Int n)) }
-    ensures past { IfErr result (λ _. length row.now ≤ at) }
-{
-    match row.get_ref(at)? {
-        ValueRef::Int(n) => Ok(Some(n)),
         _ => Ok(None),
     }
 }
@@ -210,8 +170,8 @@ impl RowTest for NumberRows {
     }
 }
 
-/// The rows of entries in the order of their places: each entry may stand at its place and has the keys of
-/// its version, no place comes twice, and no path too often on a shelf.
+/// The rows of `version` in the order of their places: each entry may stand at its place and has the keys
+/// of its version, no place comes twice, and no path too often on a shelf.
 #[derive(Drop)]
 struct EntryRows {
     alloc: Global,
@@ -261,27 +221,19 @@ fn entry_place(alloc: Global, row: &Row) -> Result<Option<Place>, Error>
     Ok(Some(Place::new(alloc, shelf, path, version)?))
 }
 
-/// Whether a column is these bytes.
-fn is_blob_at(row: &Row, at: usize, bytes: &[u8]) -> Result<bool, Error>
-    ensures found { IfOk result (λ b. Decides b (column row.now at ≡ Blob bytes.now)) }
-    ensures past { IfErr result (λ _. length row.now ≤ at) }
-{
-    Ok(matches!(row.get_ref(at)?, ValueRef::Blob(found) if found == bytes))
-}
-
 /// Whether the last columns of a row show the keys of a version.
 fn shows_keys(alloc: Global, row: &Row, version: &Version) -> Result<bool, Error>
     ensures verdict { IfOk result (λ shows. Decides shows
-        ((column row.now 6 ≡ Blob (order_key_of version.now)) × (column row.now 7 ≡ Blob (rank_key_of version.now)))) }
+        ((column row.now 5 ≡ Blob (order_key_of version.now)) × (column row.now 6 ≡ Blob (rank_key_of version.now)))) }
     ensures memory { entry_width ≤ length row.now → IfErr result (λ e. e ≡ Error.SqliteFailure ErrorCode.OutOfMemory) }
 {
     let order = order_key(alloc, version)?;
     let rank = rank_key(alloc, version)?;
-    Ok(is_blob_at(row, 6, &order)? && is_blob_at(row, 7, &rank)?)
+    Ok(is_blob_at(row, 5, &order)? && is_blob_at(row, 6, &rank)?)
 }
 
-/// Whether the other columns of a row show an entry that may stand at a path and a version, and the keys
-/// of the version.
+/// Whether the other columns of a row show an entry that may stand at a path and a version, of whose zip
+/// they show no byte, and the keys of the version.
 fn shows_entry(alloc: Global, row: &Row, path: &str, version: &str) -> Result<bool, Error>
     ensures verdict { IfOk result (λ may. Decides may (ShowsAt row.now path.now version.now)) }
     ensures memory { entry_width ≤ length row.now → IfErr result (λ e. e ≡ Error.SqliteFailure ErrorCode.OutOfMemory) }
@@ -289,13 +241,15 @@ fn shows_entry(alloc: Global, row: &Row, path: &str, version: &str) -> Result<bo
     let Some(gomod) = blob_at(row, 4)? else {
         return Ok(false);
     };
-    let Some(zip) = blob_at(row, 5)? else {
-        return Ok(false);
-    };
     let Some(time) = time_at(row, 3)? else {
         return Ok(false);
     };
-    match fitting_version(alloc, path, version, &EntryRef { gomod, zip, time })? {
+    let entry = EntryRef {
+        gomod,
+        zip: &[],
+        time,
+    };
+    match fitting_version(alloc, path, version, &entry)? {
         Some(version) => shows_keys(alloc, row, &version),
         None => Ok(false),
     }
@@ -369,11 +323,11 @@ fn has_numbers<S: Alter>(conn: &mut Connection<S>) -> Result<bool, Error>
     rows_pass(conn, "SELECT rowid FROM access ORDER BY rowid", &mut rows)
 }
 
-/// Whether each version with its body is an entry that may stand at its place, with the keys of the
-/// version, each place comes once, and no path too often on a shelf.
+/// Whether each version is an entry that may stand at its place, with the keys of the version, each place
+/// comes once, and no path too often on a shelf.
 fn has_entries<S: Alter>(alloc: Global, conn: &mut Connection<S>) -> Result<bool, Error>
     ensures tests { Tests (state S.Store conn.old) (state S.Store conn.new) result
-        (λ db. AreEntriesFit (joined (db 6) (db 8))) }
+        (λ db. AreEntriesFit (map entry_shown (db 6))) }
     ensures cause { FailsWithReason (state S.Store conn.old) (state S.Store conn.new) result }
 {
     let mut rows = EntryRows {
@@ -383,7 +337,7 @@ fn has_entries<S: Alter>(alloc: Global, conn: &mut Connection<S>) -> Result<bool
     };
     rows_pass(
         conn,
-        "SELECT v.shelf, v.path, v.version, v.time, v.mod, b.zip, v.order_key, v.rank_key FROM version AS v LEFT JOIN body AS b ON b.id = v.id ORDER BY v.shelf, v.path, v.version",
+        "SELECT shelf, path, version, time, mod, order_key, rank_key FROM version ORDER BY shelf, path, version",
         &mut rows,
     )
 }
@@ -405,7 +359,10 @@ fn is_fit<S: Alter>(alloc: Global, conn: &mut Connection<S>) -> Result<bool, Err
     if !has_numbers(conn)? {
         return Ok(false);
     }
-    has_entries(alloc, conn)
+    if !has_entries(alloc, conn)? {
+        return Ok(false);
+    }
+    has_pieces(conn)
 }
 
 /// Whether the tables are those of the schema and stand for a world. Nothing is written.

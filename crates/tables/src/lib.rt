@@ -8,11 +8,12 @@
 //! | `shelf` | a shelf; `common` is always there | `name` |
 //! | `access` | a key, the shelf that it belongs to and whether it may publish | `token`, `shelf`, `publish` |
 //! | `version` | a version of a module on a shelf, its time, its go.mod and the keys of its order | `id`, `shelf`, `path`, `version`, `time`, `mod`, `order_key`, `rank_key` |
-//! | `body` | the zip of the version that has the same number | `id`, `zip` |
+//! | `piece` | a piece of the zip of the version whose `id` it names: 65,536 bytes, or fewer of the last | `version`, `number`, `bytes` |
 //!
 //! They stand for one world at most: each row of `shelf` is a shelf, each row of `access` a key, and
-//! each row of `version`, with its row of `body`, an entry; each key and each entry has one row.
-//! The numbers of the rows and their order mean nothing.
+//! each row of `version` an entry, whose zip is in its rows of `piece`, joined in the order of their
+//! numbers, which are 0, 1, 2 and so on; each key, each entry and each piece has one row.
+//! The numbers of the rows of `version`, and the order of rows, mean nothing.
 //!
 //! | call | its statements |
 //! |---|---|
@@ -22,8 +23,10 @@
 //! What is said of values holds where each answer of the disk was what had been written.
 #![tactic(auto)]
 
+mod columns;
 pub mod create;
 pub mod fit;
 pub mod laws;
+pub mod pieces;
 pub mod schema;
 mod walk;

@@ -9,7 +9,7 @@ ghost use Rattle.sqlite_sql.specs.declared.ops.BinaryOp.TheVariants.{Compare};
 ghost use Rattle.sqlite_sql.specs.declared.ops.CompareOp.TheVariants.{Eq};
 ghost use Rattle.sqlite_value.specs.declared.keys.Collation.TheVariants.{Binary};
 ghost use Rattle.sqlite_value.specs.declared.value.Value.TheVariants.{Int};
-ghost use Rattle.tables.specs.Schema.{store_schema, no_schema, is_flag, meta_table, shelf_table, access_table, version_table, version_columns, body_table, no_stamps, IsBare, column_of, given, optional, refers, unique_index, meta_index, shelf_index, access_index};
+ghost use Rattle.tables.specs.Schema.{store_schema, no_schema, is_flag, meta_table, shelf_table, access_table, version_table, version_columns, piece_table, is_from_zero, no_stamps, IsBare, column_of, given, optional, refers, unique_index, meta_index, shelf_index, access_index, version_index, piece_index};
 
 use sqlite_items::Items;
 use sqlite_schema::code::{Op, Terms};
@@ -133,25 +133,6 @@ fn is_meta_table(table: &Table) -> bool
         && has_first_key(table.uniques.as_slice(), table.orders.as_slice())
         && has_no_terms(&table.checks)
         && table.references.is_empty()
-}
-
-fn is_body_table(table: &Table) -> bool
-    ensures { Decides result (table.now ≡ body_table) }
-{
-    let is_shaped = match table.columns.as_slice() {
-        [id, zip] => {
-            is_column(id, "id", Kind::Integer, false) && is_column(zip, "zip", Kind::Blob, true)
-        }
-        _ => false,
-    };
-    is_shaped
-        && is_bare(table, "body", 8)
-        && table.key == Some(0)
-        && is_place(table.primary.as_slice(), 0)
-        && table.uniques.is_empty()
-        && table.orders.is_empty()
-        && has_no_terms(&table.checks)
-        && is_reference(table.references.as_slice(), 0, "version", "id")
 }
 
 fn has_version_key(uniques: &[Items<usize>], orders: &[Order]) -> bool
@@ -279,6 +260,62 @@ fn is_access_table(table: &Table) -> bool
         && is_reference(table.references.as_slice(), 2, "shelf", "name")
 }
 
+/// `number >= 0`, from this node on.
+fn is_lower_bound(nodes: &[Op], at: usize) -> bool
+    ensures { (depth : ℕ) → Decides result (term_to nodes.now (suc (suc depth)) at ≡ is_from_zero) }
+{
+    let Some(Op::Binary(BinaryOp::Compare(CompareOp::Ge, Collation::Binary), left, right)) =
+        nodes.get(at) else {
+        return false;
+    };
+    matches!(nodes.get(*left), Some(Op::Column(1, 2)))
+        && matches!(nodes.get(*right), Some(Op::Literal(Value::Int(0))))
+}
+
+fn is_bound_among(nodes: &[Op], roots: &[usize]) -> bool
+    ensures { Decides result (terms_in nodes.now roots.now ≡ is_from_zero ∷ []) }
+{
+    match roots {
+        [root] => nodes.len() > 1 && is_lower_bound(nodes, *root),
+        _ => false,
+    }
+}
+
+fn is_bound_check(terms: &Terms) -> bool
+    ensures { Decides result (terms.now ≡ is_from_zero ∷ []) }
+{
+    is_bound_among(terms.nodes.as_slice(), terms.roots.as_slice())
+}
+
+fn has_piece_key(uniques: &[Items<usize>], orders: &[Order]) -> bool
+    ensures { Decides result ((uniques.now ≡ (1 ∷ 2 ∷ []) ∷ []) × (orders.now ≡ plain ∷ [])) }
+{
+    match (uniques, orders) {
+        ([unique], [order]) => matches!(unique.as_slice(), [1, 2]) && *order == Order::PLAIN,
+        _ => false,
+    }
+}
+
+fn is_piece_table(table: &Table) -> bool
+    ensures { Decides result (table.now ≡ piece_table) }
+{
+    let is_shaped = match table.columns.as_slice() {
+        [version, number, bytes] => {
+            is_column(version, "version", Kind::Integer, true)
+                && is_column(number, "number", Kind::Integer, true)
+                && is_column(bytes, "bytes", Kind::Blob, true)
+        }
+        _ => false,
+    };
+    is_shaped
+        && is_bare(table, "piece", 8)
+        && table.key.is_none()
+        && matches!(table.primary.as_slice(), [1, 2])
+        && has_piece_key(table.uniques.as_slice(), table.orders.as_slice())
+        && is_bound_check(&table.checks)
+        && is_reference(table.references.as_slice(), 1, "version", "id")
+}
+
 fn are_name_indexes(meta: &Index, shelf: &Index, access: &Index) -> bool
     ensures { Decides result ((meta.now ≡ meta_index) × (shelf.now ≡ shelf_index) × (access.now ≡ access_index)) }
 {
@@ -287,13 +324,19 @@ fn are_name_indexes(meta: &Index, shelf: &Index, access: &Index) -> bool
         && is_index(access, "sqlite_autoindex_access_1", 5, 4, &[1])
 }
 
+fn are_place_indexes(version: &Index, piece: &Index) -> bool
+    ensures { Decides result ((version.now ≡ version_index) × (piece.now ≡ piece_index)) }
+{
+    is_index(version, "sqlite_autoindex_version_1", 7, 6, &[2, 3, 4])
+        && is_index(piece, "sqlite_autoindex_piece_1", 9, 8, &[1, 2])
+}
+
 fn are_indexes(indexes: &[Index]) -> bool
     ensures { Decides result (indexes.now ≡ store_schema.indexes) }
 {
     match indexes {
-        [meta, shelf, access, version] => {
-            are_name_indexes(meta, shelf, access)
-                && is_index(version, "sqlite_autoindex_version_1", 7, 6, &[2, 3, 4])
+        [meta, shelf, access, version, piece] => {
+            are_name_indexes(meta, shelf, access) && are_place_indexes(version, piece)
         }
         _ => false,
     }
@@ -304,12 +347,12 @@ pub(crate) fn is_store_schema(schema: &Schema) -> bool
     ensures { Decides result (schema.now ≡ store_schema) }
 {
     let has_tables = match schema.tables.as_slice() {
-        [meta, shelf, access, version, body] => {
+        [meta, shelf, access, version, piece] => {
             is_meta_table(meta)
                 && is_shelf_table(shelf)
                 && is_access_table(access)
                 && is_version_table(version)
-                && is_body_table(body)
+                && is_piece_table(piece)
         }
         _ => false,
     };

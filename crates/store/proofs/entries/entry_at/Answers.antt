@@ -1,8 +1,8 @@
-use Rattle.std.proofs.Common.{Some, subst, to_z-of_z, w64, SFits, rules}
+use Rattle.std.proofs.Common.{sym, subst, to_z-of_z, w64, SFits, rules}
 use Rattle.sqlite.specs.Held.{state}
 use Rattle.sqlite.specs.Effect.{Database}
 use Rattle.world.specs.declared.entry.Place.{Place}
-use Rattle.store.specs.Reading.{HasRow, HasZip}
+use Rattle.store.specs.Reading.{HasRow, IsZip}
 use Rattle.tables.proofs.FailureLemmas.{was_clean}
 use Rattle.store.proofs.CallLemmas.{spares_then}
 use Rattle.store.proofs.HeadingLemmas.{entry_whole, entry_lacks}
@@ -17,9 +17,6 @@ returns-in_default-clause-answer g c clean w stands =
 
 pub returns-in_err-zip-clause-spares : goal.returns-in_err-zip-clause-spares
 returns-in_err-zip-clause-spares g c = spares_then _ _ _ c.row_at.ensures.spares c.find_zip.ensures.spares
-
-pub returns-in_default-2-clause-spares : goal.returns-in_default-2-clause-spares
-returns-in_default-2-clause-spares g c = spares_then _ _ _ c.row_at.ensures.spares c.find_zip.ensures.spares
 
 pub returns-clause-spares : goal.returns-clause-spares
 returns-clause-spares g c = spares_then _ _ _ c.row_at.ensures.spares c.find_zip.ensures.spares
@@ -36,5 +33,4 @@ returns-clause-answer g c clean w stands =
     let z = rw (to_z-of_z {w = w64} {z = c.in-Some.row.id} range) at (c.in_ok-zip.ensures.answer clean w (c.row_at.ensures.spares.stays w stands)) in
     let same = c.in_ok-row.ensures.same was w stands in
     let head = subst (HasRow old.now.trees w p) c.in-Some.is h.2 in
-    let zip = subst (HasZip mid.now.trees c.in-Some.row.id) c.in-Some-2.is z.2 in
-    (h.0, z.1, entry_whole old.now.trees w p c.in-Some.row c.in-Some-2.zip head (subst (λ (d : Database). HasZip d.trees c.in-Some.row.id (Some c.in-Some-2.zip)) same zip))
+    (h.0, z.0, entry_whole old.now.trees w p c.in-Some.row c.in_ok-zip.zip head (λ there is. z.1 there (subst (λ (d : Database). IsZip d.trees c.in-Some.row.id there) (sym same) is)))

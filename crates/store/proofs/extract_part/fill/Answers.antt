@@ -1,69 +1,20 @@
-use Rattle.std.proofs.Common.{true, false, Ok, Err, is_ok, sym, subst}
+use Rattle.std.proofs.Common.{is_ok, sym, subst}
 use Rattle.sqlite.specs.Held.{state}
-use Rattle.sqlite.specs.declared.error.Error.{Error}
-use Rattle.store.specs.Extract.{Copies, PutsShelf}
+use Rattle.store.specs.Extract.{Copies}
 use Rattle.store.specs.Extracted.{MakesPart}
 use Rattle.store.proofs.ChangeLemmas.{not_ok}
-use Rattle.store.proofs.ExtractLemmas.{goes_on_if, put_copied, copies_then, copies_weaker, copies_part}
+use Rattle.store.proofs.ExtractLemmas.{copies_then, copies_weaker, copies_part}
 use Rattle.store.proofs.FilledLemmas.{makes_part}
 use Rattle.store.proofs.extract_part.fill.Goals as goal
 
-pub returns-in-Err-clause-fills : goal.returns-in-Err-clause-fills
-returns-in-Err-clause-fills g c =
+pub returns-in_err-fill_registry-clause-fills : goal.returns-in_err-fill_registry-clause-fills
+returns-in_err-fill_registry-clause-fills g c =
     let team = c.args.team.now in
     let s = state g.S.Store c.args.source.now in
     let a = state g.F.Store c.args.tx.now.conn.now in
-    let b = state g.F.Store c.put_shelf.new.tx.conn.now in
-    let put = c.in-Err.ensures in
-    copies_part (PutsShelf team) (MakesPart team) s s a b
-    (put_copied {A = Unit {0}} {E = Error} (Err c.in-Err.error) team s a b (goes_on_if {A = Unit {0}} {E = Error} (Err c.in-Err.error) a b put.survives put.kept put.inside) put.puts)
-
-pub returns-in_err-copy_keys-clause-fills : goal.returns-in_err-copy_keys-clause-fills
-returns-in_err-copy_keys-clause-fills g c =
-    let team = c.args.team.now in
-    let s = state g.S.Store c.args.source.now in
-    let a = state g.F.Store c.args.tx.now.conn.now in
-    let b = state g.F.Store c.put_shelf.new.tx.conn.now in
-    let put = c.in-Ok.ensures in
-    let zero : Copies (PutsShelf team) s s a b true = put_copied {A = Unit {0}} {E = Error} (Ok tt) team s a b (goes_on_if {A = Unit {0}} {E = Error} (Ok tt) a b put.survives put.kept put.inside) put.puts in
-    let one = copies_then _ _ _ _ _ _ _ _ false zero c.in_err-copy_keys.ensures.copies in
-    subst (Copies (MakesPart team) s (state g.S.Store c.copy_keys.new.source) a (state g.F.Store c.copy_keys.new.tx.conn.now)) (sym (not_ok c.from_residual.result c.from_residual.ensures.0)) (copies_part _ (MakesPart team) _ _ _ _ one)
-
-pub returns-in_err-copy_keys-2-clause-fills : goal.returns-in_err-copy_keys-2-clause-fills
-returns-in_err-copy_keys-2-clause-fills g c =
-    let team = c.args.team.now in
-    let s = state g.S.Store c.args.source.now in
-    let a = state g.F.Store c.args.tx.now.conn.now in
-    let b = state g.F.Store c.put_shelf.new.tx.conn.now in
-    let put = c.in-Ok.ensures in
-    let zero : Copies (PutsShelf team) s s a b true = put_copied {A = Unit {0}} {E = Error} (Ok tt) team s a b (goes_on_if {A = Unit {0}} {E = Error} (Ok tt) a b put.survives put.kept put.inside) put.puts in
-    let one = copies_then _ _ _ _ _ _ _ _ true zero c.in_ok-copy_keys.ensures.copies in
-    let two = copies_then _ _ _ _ _ _ _ _ false one c.in_err-copy_keys-2.ensures.copies in
-    subst (Copies (MakesPart team) s (state g.S.Store c.copy_keys-2.new.source) a (state g.F.Store c.copy_keys-2.new.tx.conn.now)) (sym (not_ok c.from_residual-in_err-copy_keys-2.result c.from_residual-in_err-copy_keys-2.ensures.0)) (copies_part _ (MakesPart team) _ _ _ _ two)
-
-pub returns-in_err-copy_entries-clause-fills : goal.returns-in_err-copy_entries-clause-fills
-returns-in_err-copy_entries-clause-fills g c =
-    let team = c.args.team.now in
-    let s = state g.S.Store c.args.source.now in
-    let a = state g.F.Store c.args.tx.now.conn.now in
-    let b = state g.F.Store c.put_shelf.new.tx.conn.now in
-    let put = c.in-Ok.ensures in
-    let zero : Copies (PutsShelf team) s s a b true = put_copied {A = Unit {0}} {E = Error} (Ok tt) team s a b (goes_on_if {A = Unit {0}} {E = Error} (Ok tt) a b put.survives put.kept put.inside) put.puts in
-    let one = copies_then _ _ _ _ _ _ _ _ true zero c.in_ok-copy_keys.ensures.copies in
-    let two = copies_then _ _ _ _ _ _ _ _ true one c.in_ok-copy_keys-2.ensures.copies in
-    let three = copies_then _ _ _ _ _ _ _ _ false two c.in_err-copy_entries.ensures.copies in
-    subst (Copies (MakesPart team) s (state g.S.Store c.copy_entries.new.source) a (state g.F.Store c.copy_entries.new.tx.conn.now)) (sym (not_ok c.from_residual-in_err-copy_entries.result c.from_residual-in_err-copy_entries.ensures.0)) (copies_part _ (MakesPart team) _ _ _ _ three)
+    subst (Copies (MakesPart team) s (state g.S.Store c.fill_registry.new.source) a (state g.F.Store c.fill_registry.new.tx.conn.now)) (sym (not_ok c.from_residual.result c.from_residual.ensures.0)) (copies_part _ (MakesPart team) _ _ _ _ c.in_err-fill_registry.ensures.fills)
 
 pub returns-clause-fills : goal.returns-clause-fills
 returns-clause-fills g c =
     let team = c.args.team.now in
-    let s = state g.S.Store c.args.source.now in
-    let a = state g.F.Store c.args.tx.now.conn.now in
-    let b = state g.F.Store c.put_shelf.new.tx.conn.now in
-    let put = c.in-Ok.ensures in
-    let zero : Copies (PutsShelf team) s s a b true = put_copied {A = Unit {0}} {E = Error} (Ok tt) team s a b (goes_on_if {A = Unit {0}} {E = Error} (Ok tt) a b put.survives put.kept put.inside) put.puts in
-    let one = copies_then _ _ _ _ _ _ _ _ true zero c.in_ok-copy_keys.ensures.copies in
-    let two = copies_then _ _ _ _ _ _ _ _ true one c.in_ok-copy_keys-2.ensures.copies in
-    let three = copies_then _ _ _ _ _ _ _ _ true two c.in_ok-copy_entries.ensures.copies in
-    let four = copies_then _ _ _ _ _ _ _ _ (is_ok c.copy_entries-2.result) three c.copy_entries-2.ensures.copies in
-    copies_weaker _ (MakesPart team) _ _ _ _ _ (makes_part team) four
+    copies_weaker _ (MakesPart team) _ _ _ _ _ (makes_part team) (copies_then _ _ _ _ _ _ _ _ (is_ok c.fill_entries.result) c.in_ok-fill_registry.ensures.fills c.fill_entries.ensures.fills)

@@ -1,7 +1,7 @@
 use Rattle.sqlite.specs.Held.{state}
-use Rattle.store.specs.Extract.{CopiesKeys}
+use Rattle.store.specs.Extract.{OfWorlds, CopiesKeys}
 use Rattle.store.proofs.ChangeLemmas.{on_weaker}
-use Rattle.store.proofs.CopyKeyLemmas.{keys_on_plain, keys_on_tables, keys_fit, keys_copied}
+use Rattle.store.proofs.CopyKeyLemmas.{keys_on_plain, keys_on_tables, keys_fit, keys_passed, keys_copied}
 use Rattle.store.proofs.ExtractLemmas.{copied, goes_on_if}
 use Rattle.store.proofs.extract_rows.copy_keys.Goals as goal
 
@@ -20,7 +20,14 @@ returns-clause-copies g c =
     let source = state g.S.Store c.args.source.now in
     let fresh = state g.F.Store c.args.tx.now.conn.now in
     let done = state g.F.Store c.hand_on.new.tx.conn.now in
-    copied c.hand_on.result (CopiesKeys c.args.shelf.now) source (state g.S.Store c.hand_on.new.source) fresh done told.looks told.same (goes_on_if c.hand_on.result fresh done told.survives told.kept told.inside)
-    (λ clean good has w x means writing.
-    let put = rw c.params-to_sql.ensures at (told.puts clean good has w x means writing) in
-    on_weaker c.hand_on.result (λ it. (it.2.0, keys_copied c.args.shelf.now source.now w x it.2.0 it.0 means it.1 it.2.1, it.2.2)) put)
+    copied c.hand_on.result (OfWorlds (CopiesKeys c.args.shelf.now)) source (state g.S.Store c.hand_on.new.source) fresh done told.looks told.same (goes_on_if c.hand_on.result fresh done told.survives told.kept told.inside)
+    (λ clean good has w means filling.
+    let put = rw c.params-to_sql.ensures at (told.puts clean good has w means filling) in
+    on_weaker c.hand_on.result
+    (λ it. (
+      (λ v x meant stand.
+          let passed = keys_passed fresh.now.trees done.now.trees x it.1.0 stand it.1.2 in
+          (passed.0, keys_copied c.args.shelf.now source.now v x passed.0 it.1.0 meant it.1.1 passed.1, passed.2)),
+      it.0,
+    ))
+    put)

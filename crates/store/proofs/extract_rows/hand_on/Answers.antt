@@ -34,7 +34,7 @@ rows-init g c =
       λ clean has. (begun clean has).1,
       refl,
       goes_on_itself (state g.F.Store c.args.tx.now.conn.now),
-      λ clean _ has w x means writing. ([], (begun clean has).0, x, refl, writing),
+      λ clean _ has w means filling. (filling, [], (begun clean has).0, refl),
     )
 
 pub returns-in_err-row-clause-looks : goal.returns-in_err-row-clause-looks
@@ -89,14 +89,14 @@ pub returns-in_default-clause-inside : goal.returns-in_default-clause-inside
 returns-in_default-clause-inside g c clean is = c.rows.invariant.5.inside clean is refl
 
 pub returns-in_default-clause-puts : goal.returns-in_default-clause-puts
-returns-in_default-clause-puts g c clean good has w x means writing =
+returns-in_default-clause-puts g c clean good has w means filling =
     let moved = c.next.follows.holds-at-none in
     let now = c.next.follows.lender-at-none.conn.now in
     let late : HasCleanDisk (state g.S.Store now) = search rules in
     let before = was_clean (state g.S.Store c.rows.rows.conn.now) (state g.S.Store now) moved.survives.clean late in
-    let was = c.rows.invariant.6 before good has w x means writing in
-    let shown = (rw (c.in_ok-row.was, c.in_default.is) at (moved.ok late)) c.args.sql.now (bound c.args.params.now) was.0 was.1 in
-    (was.0, all_shown c.args.sql.now (bound c.args.params.now) c.requires.plain c.requires.tables (state g.S.Store c.args.source.now) (state g.S.Store c.rows.rows.conn.now) (state g.S.Store now) has (c.rows.invariant.3 before has) was.0 shown, (was.2, was.3, was.4))
+    let was = c.rows.invariant.6 before good has w means filling in
+    let shown = (rw (c.in_ok-row.was, c.in_default.is) at (moved.ok late)) c.args.sql.now (bound c.args.params.now) was.1 was.2 in
+    (was.0, (was.1, all_shown c.args.sql.now (bound c.args.params.now) c.requires.plain c.requires.tables (state g.S.Store c.args.source.now) (state g.S.Store c.rows.rows.conn.now) (state g.S.Store now) has (c.rows.invariant.3 before has) was.1 shown, was.3))
 
 pub returns-in-Err-clause-looks : goal.returns-in-Err-clause-looks
 returns-in-Err-clause-looks g c =
@@ -141,13 +141,13 @@ rows-preserved g c =
       still,
       put.same_reference ∙ kept.4,
       goes_on_then begun at end true kept.5 (record { survives = put.survives; kept = put.kept; inside = λ clean is _. put.inside clean is }),
-      λ clean good has w x means writing.
-          let was = kept.6 (was_clean mid new moved.survives.clean clean) (was_clean at end put.survives.clean good) has w x means writing in
-          let given = (rw (c.in_ok-row.was, c.in-Some.is) at (moved.ok clean)) sql params was.0 was.1 in
-          let rows = was.0 ++ row ∷ [] in
-          let fits = c.requires.fits old.now w was.0 row means (some_shown sql params c.requires.plain c.requires.tables old new new has (still clean has) rows (given_begin g.S.Store sql params now rows given)) in
-          let one = put.puts good was.2 fits was.4 in
-          (rows, given, one.0, one_more _ _ x was.0 was.2 row one.0 was.3 fits one.1, one.2),
+      λ clean good has w means filling.
+          let was = kept.6 (was_clean mid new moved.survives.clean clean) (was_clean at end put.survives.clean good) has w means filling in
+          let given = (rw (c.in_ok-row.was, c.in-Some.is) at (moved.ok clean)) sql params was.1 was.2 in
+          let rows = was.1 ++ row ∷ [] in
+          let fits = c.requires.fits old.now w was.1 row means (some_shown sql params c.requires.plain c.requires.tables old new new has (still clean has) rows (given_begin g.S.Store sql params now rows given)) in
+          let one = put.puts good fits was.0 in
+          (one.1, rows, given, one_more _ _ begun.now.trees was.1 at.now.trees row end.now.trees was.3 fits one.0),
     )
 
 pub returns-clause-looks : goal.returns-clause-looks

@@ -9,7 +9,7 @@ use Rattle.world.specs.World.{World}
 use Rattle.tables.specs.Schema.{store_schema}
 use Rattle.tables.specs.Means.{Means}
 use Rattle.tables.specs.Walks.{Pass}
-use Rattle.store.specs.Extract.{Writing, GoesOn}
+use Rattle.store.specs.Rows.{Filling, GoesOn}
 use Rattle.store.proofs.extract_rows.hand_on.Given as goal
 
 abbrev pub invariant-rows : goal.invariant-rows
@@ -21,8 +21,9 @@ invariant-rows g l =
     (l.rows.conn.ghost_name ≡ l.initial.rows.conn.ghost_name) × (doubt old.is_clean ≤ doubt now.is_clean) × (old.now.schema ≡ store_schema → Survives old now (λ _. ⊥))
     × (HasCleanDisk now → old.now.schema ≡ store_schema → IsUnchanged old now)
     × (l.tx.conn.ghost_name ≡ l.fn.tx.conn.ghost_name) × GoesOn begun at true
-    × (HasCleanDisk now → HasCleanDisk at → old.now.schema ≡ store_schema → (w x : World) → Means old.now.trees w → Writing begun x
-    → (given : List Row) × HasGiven g.S.Store l.fn.sql (bound l.fn.params) l.rows.conn.now given × (y : World) × Pass (λ _ row. g.T.RowSink.Fits row) (λ u row v. g.T.RowSink.Puts row u v) x given y × Writing at y)
+    × (HasCleanDisk now → HasCleanDisk at → old.now.schema ≡ store_schema → (w : World) → Means old.now.trees w → Filling begun
+    → Filling at × (given : List Row) × HasGiven g.S.Store l.fn.sql (bound l.fn.params) l.rows.conn.now given
+    × Pass (λ _ row. g.T.RowSink.Fits row) (λ db row after. g.T.RowSink.Puts row db after) begun.now.trees given at.now.trees)
 
 abbrev pub decreases-rows : goal.decreases-rows
 decreases-rows g l = 2 ^ 128 - l._turn

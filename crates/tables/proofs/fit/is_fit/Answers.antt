@@ -2,7 +2,7 @@ use Rattle.std.proofs.Common.{Ok, Err, true, map}
 use Rattle.sqlite.specs.Held.{state}
 use Rattle.sqlite.specs.Tree.{Trees}
 use Rattle.tables.specs.Walks.{Tests}
-use Rattle.tables.specs.Fit.{IsMetaFit, AreShelvesFit, AreKeysFit, AreNumbersFit, AreEntriesFit, AreFit, meta_shown, name_shown, number_shown, joined}
+use Rattle.tables.specs.Fit.{IsMetaFit, AreShelvesFit, AreKeysFit, AreNumbersFit, AreEntriesFit, ArePiecesFit, AreFit, meta_shown, name_shown, number_shown, entry_shown, piece_shown}
 use Rattle.tables.proofs.WalkLemmas.{tests_same, then_tests}
 use Rattle.tables.proofs.WalkCauses.{then_reason, told_error}
 use Rattle.tables.proofs.fit.is_fit.Goals as goal
@@ -20,7 +20,10 @@ abbrev Numbered : Trees → Type 0
 Numbered db = AreNumbersFit (map number_shown (db 4))
 
 abbrev Filled : Trees → Type 0
-Filled db = AreEntriesFit (joined (db 6) (db 8))
+Filled db = AreEntriesFit (map entry_shown (db 6))
+
+abbrev Pieced : Trees → Type 0
+Pieced db = ArePiecesFit (map piece_shown (db 8))
 
 abbrev TwoFit : Trees → Type 0
 TwoFit db = Named db × Shelved db
@@ -31,6 +34,9 @@ ThreeFit db = TwoFit db × Keyed db
 abbrev FourFit : Trees → Type 0
 FourFit db = ThreeFit db × Numbered db
 
+abbrev FiveFit : Trees → Type 0
+FiveFit db = FourFit db × Filled db
+
 pub returns-clause-tests : goal.returns-clause-tests
 returns-clause-tests g c =
     let first = state g.S.Store c.args.conn.now in
@@ -38,16 +44,19 @@ returns-clause-tests g c =
     let third = state g.S.Store c.has_shelves.new.conn in
     let fourth = state g.S.Store c.has_keys.new.conn in
     let fifth = state g.S.Store c.has_numbers.new.conn in
-    let last = state g.S.Store c.has_entries.new.conn in
+    let sixth = state g.S.Store c.has_entries.new.conn in
+    let last = state g.S.Store c.has_pieces.new.conn in
     let named : Tests first second (Ok true) Named = rw c.if-not-branch.false at c.in_ok-has_schema.ensures.tests in
     let shelved : Tests second third (Ok true) Shelved = rw c.if-not-branch-2.false at c.in_ok-has_shelves.ensures.tests in
     let keyed : Tests third fourth (Ok true) Keyed = rw c.if-not-branch-3.false at c.in_ok-has_keys.ensures.tests in
     let numbered : Tests fourth fifth (Ok true) Numbered = rw c.if-not-branch-4.false at c.in_ok-has_numbers.ensures.tests in
+    let filled : Tests fifth sixth (Ok true) Filled = rw c.if-not-branch-5.false at c.in_ok-has_entries.ensures.tests in
     let two = then_tests first second third (Ok true) Named Shelved named shelved in
     let three = then_tests first third fourth (Ok true) TwoFit Keyed two keyed in
     let four = then_tests first fourth fifth (Ok true) ThreeFit Numbered three numbered in
-    tests_same first last c.has_entries.result (λ db. FourFit db × Filled db) AreFit (λ db it. record { named = it.0.0.0.0; shelves = it.0.0.0.1; access = it.0.0.1; numbers = it.0.1; entries = it.1 })
-    (λ db fit. ((((fit.named, fit.shelves), fit.access), fit.numbers), fit.entries)) (then_tests first fifth last c.has_entries.result FourFit Filled four c.has_entries.ensures.tests)
+    let five = then_tests first fifth sixth (Ok true) FourFit Filled four filled in
+    tests_same first last c.has_pieces.result (λ db. FiveFit db × Pieced db) AreFit (λ db it. record { named = it.0.0.0.0.0; shelves = it.0.0.0.0.1; access = it.0.0.0.1; numbers = it.0.0.1; entries = it.0.1; pieces = it.1 })
+    (λ db fit. (((((fit.named, fit.shelves), fit.access), fit.numbers), fit.entries), fit.pieces)) (then_tests first sixth last c.has_pieces.result FiveFit Pieced five c.has_pieces.ensures.tests)
 
 pub returns-in_err-has_shelves-clause-cause : goal.returns-in_err-has_shelves-clause-cause
 returns-in_err-has_shelves-clause-cause g c clean has =
@@ -82,14 +91,14 @@ returns-in_err-has_numbers-clause-cause g c clean has =
     let three = then_tests first third fourth (Ok true) TwoFit Keyed two keyed in
     told_error _ c.from_residual-in_err-has_numbers.result c.in_err-has_numbers.field-0.0 c.from_residual-in_err-has_numbers.ensures.1 (then_reason first fourth fifth ThreeFit three c.has_numbers.ensures.tests.looks.clean clean has (Err _) c.in_err-has_numbers.ensures.cause)
 
-pub returns-clause-cause : goal.returns-clause-cause
-returns-clause-cause g c clean has =
+pub returns-in_err-has_entries-clause-cause : goal.returns-in_err-has_entries-clause-cause
+returns-in_err-has_entries-clause-cause g c clean has =
     let first = state g.S.Store c.args.conn.now in
     let second = state g.S.Store c.has_schema.new.conn in
     let third = state g.S.Store c.has_shelves.new.conn in
     let fourth = state g.S.Store c.has_keys.new.conn in
     let fifth = state g.S.Store c.has_numbers.new.conn in
-    let last = state g.S.Store c.has_entries.new.conn in
+    let sixth = state g.S.Store c.has_entries.new.conn in
     let named : Tests first second (Ok true) Named = rw c.if-not-branch.false at c.in_ok-has_schema.ensures.tests in
     let shelved : Tests second third (Ok true) Shelved = rw c.if-not-branch-2.false at c.in_ok-has_shelves.ensures.tests in
     let keyed : Tests third fourth (Ok true) Keyed = rw c.if-not-branch-3.false at c.in_ok-has_keys.ensures.tests in
@@ -97,4 +106,24 @@ returns-clause-cause g c clean has =
     let two = then_tests first second third (Ok true) Named Shelved named shelved in
     let three = then_tests first third fourth (Ok true) TwoFit Keyed two keyed in
     let four = then_tests first fourth fifth (Ok true) ThreeFit Numbered three numbered in
-    then_reason first fifth last FourFit four c.has_entries.ensures.tests.looks.clean clean has c.has_entries.result c.has_entries.ensures.cause
+    told_error _ c.from_residual-in_err-has_entries.result c.in_err-has_entries.field-0.0 c.from_residual-in_err-has_entries.ensures.1 (then_reason first fifth sixth FourFit four c.has_entries.ensures.tests.looks.clean clean has (Err _) c.in_err-has_entries.ensures.cause)
+
+pub returns-clause-cause : goal.returns-clause-cause
+returns-clause-cause g c clean has =
+    let first = state g.S.Store c.args.conn.now in
+    let second = state g.S.Store c.has_schema.new.conn in
+    let third = state g.S.Store c.has_shelves.new.conn in
+    let fourth = state g.S.Store c.has_keys.new.conn in
+    let fifth = state g.S.Store c.has_numbers.new.conn in
+    let sixth = state g.S.Store c.has_entries.new.conn in
+    let last = state g.S.Store c.has_pieces.new.conn in
+    let named : Tests first second (Ok true) Named = rw c.if-not-branch.false at c.in_ok-has_schema.ensures.tests in
+    let shelved : Tests second third (Ok true) Shelved = rw c.if-not-branch-2.false at c.in_ok-has_shelves.ensures.tests in
+    let keyed : Tests third fourth (Ok true) Keyed = rw c.if-not-branch-3.false at c.in_ok-has_keys.ensures.tests in
+    let numbered : Tests fourth fifth (Ok true) Numbered = rw c.if-not-branch-4.false at c.in_ok-has_numbers.ensures.tests in
+    let filled : Tests fifth sixth (Ok true) Filled = rw c.if-not-branch-5.false at c.in_ok-has_entries.ensures.tests in
+    let two = then_tests first second third (Ok true) Named Shelved named shelved in
+    let three = then_tests first third fourth (Ok true) TwoFit Keyed two keyed in
+    let four = then_tests first fourth fifth (Ok true) ThreeFit Numbered three numbered in
+    let five = then_tests first fifth sixth (Ok true) FourFit Filled four filled in
+    then_reason first sixth last FiveFit five c.has_pieces.ensures.tests.looks.clean clean has c.has_pieces.result c.has_pieces.ensures.cause

@@ -11,4 +11,4 @@ returns-clause-found g c clean =
 pub returns-clause-none : goal.returns-clause-none
 returns-clause-none g c clean =
     let has = sym c.schema.ensures.value ∙ c.is_store_schema.ensures.0 c.if-not-is_store_schema.false in
-    found_none (state g.S.Store c.args.conn.now) (state g.S.Store c.is_fit.new.conn) has clean c.is_fit.result c.is_fit.ensures.tests
+    found_none (state g.S.Store c.args.conn.now) (state g.S.Store c.is_fit.new.conn) has clean c.is_fit.result c.schema.ensures.live c.is_fit.ensures.tests

@@ -1,0 +1,123 @@
+//! Zips in pieces, and whether the rows of `piece` are such.
+
+ghost use Rattle.std.specs.Prelude.{◌≡◌, ◌≤◌, ◌<◌, ℕ, pos, map, length, IfOk, IfErr, Decides, MatchOption, Some};
+ghost use Rattle.sqlite.specs.declared.types.Value.TheVariants.{Int};
+ghost use Rattle.sqlite.specs.Order.{column};
+ghost use Rattle.sqlite.specs.Held.{state};
+ghost use Rattle.tables.specs.Calls.{FailsWithReason};
+ghost use Rattle.tables.specs.Walks.{Tests, MayGoOn};
+ghost use Rattle.tables.specs.Pieces.{piece_limit};
+ghost use Rattle.tables.specs.Fit.{IsPieceRow, ArePiecesFit, piece_in, piece_shown, piece_width};
+
+use crate::columns::{blob_at, int_at};
+use crate::walk::{RowTest, rows_pass};
+use sqlite::{Alter, Connection, Error, Row};
+
+/// How many bytes a piece of a zip has, but for the last, which may have fewer and has one at least.
+pub const PIECE_SIZE: usize = 65_536;
+
+/// The most pieces of a zip.
+const MAX_PIECES: u64 = 256;
+
+/// What is kept of the last row of `piece`.
+#[derive(Clone, Copy)]
+struct LastPiece {
+    version: i64,
+    number: u64,
+    is_full: bool,
+}
+
+/// The rows of `piece` in the order of their versions and numbers: the pieces of a version are numbered
+/// from 0 without gaps, and each but the last is full.
+#[derive(Drop)]
+struct PieceRows {
+    last: Option<LastPiece>,
+}
+
+impl RowTest for PieceRows {
+    ghost width = { piece_width };
+
+    ghost Fits = { λ rows row. IsPieceRow row × MayGoOn rows.last (piece_in row) };
+
+    ghost Keeps = { λ _ row next. next.last ≡ Some (piece_in row) };
+
+    fn passes(&mut self, row: &Row) -> Result<bool, Error> {
+        let Some(piece) = piece_at(row)? else {
+            return Ok(false);
+        };
+        if !may_go_on(self.last, piece) {
+            return Ok(false);
+        }
+        self.last = Some(piece);
+        Ok(true)
+    }
+}
+
+/// The number of a piece that a column is, if it is one.
+fn number_at(row: &Row, at: usize) -> Result<Option<u64>, Error>
+    ensures found { IfOk result (λ found. MatchOption found
+        ((n : ℕ) → column row.now at ≡ Int (pos n) → n < piece_limit → ⊥)
+        (λ n. (column row.now at ≡ Int (pos n)) × (n < piece_limit))) }
+    ensures past { IfErr result (λ _. length row.now ≤ at) }
+{
+    let Some(number) = int_at(row, at)? else {
+        return Ok(None);
+    };
+    match u64::try_from(number) {
+        Ok(number) if number < MAX_PIECES => Ok(Some(number)),
+        _ => Ok(None),
+    }
+}
+
+/// What is kept of the piece that a row shows, if it shows one.
+fn piece_at(row: &Row) -> Result<Option<LastPiece>, Error>
+    ensures found { IfOk result (λ found. MatchOption found
+        (IsPieceRow row.now → ⊥)
+        (λ p. (p ≡ piece_in row.now) × IsPieceRow row.now)) }
+    ensures past { IfErr result (λ _. length row.now < piece_width) }
+{
+    let Some(version) = int_at(row, 0)? else {
+        return Ok(None);
+    };
+    let Some(number) = number_at(row, 1)? else {
+        return Ok(None);
+    };
+    let Some(bytes) = blob_at(row, 2)? else {
+        return Ok(None);
+    };
+    if bytes.is_empty() || bytes.len() > PIECE_SIZE {
+        return Ok(None);
+    }
+    Ok(Some(LastPiece {
+        version,
+        number,
+        is_full: bytes.len() == PIECE_SIZE,
+    }))
+}
+
+/// Whether a piece may come after the last one.
+fn may_go_on(last: Option<LastPiece>, piece: LastPiece) -> bool
+    ensures { Decides result (MayGoOn last piece) }
+{
+    let Some(last) = last else {
+        return piece.number == 0;
+    };
+    if last.version != piece.version {
+        return piece.number == 0;
+    }
+    last.is_full && piece.number > 0 && last.number == piece.number - 1
+}
+
+/// Whether the rows are zips in pieces.
+pub(crate) fn has_pieces<S: Alter>(conn: &mut Connection<S>) -> Result<bool, Error>
+    ensures tests { Tests (state S.Store conn.old) (state S.Store conn.new) result
+        (λ db. ArePiecesFit (map piece_shown (db 8))) }
+    ensures cause { FailsWithReason (state S.Store conn.old) (state S.Store conn.new) result }
+{
+    let mut rows = PieceRows { last: None };
+    rows_pass(
+        conn,
+        "SELECT version, number, bytes FROM piece ORDER BY version, number",
+        &mut rows,
+    )
+}

@@ -26,12 +26,13 @@ use Rattle.sqlite_schema.specs.Rules.{equal}
 use Rattle.sqlite_rules.proofs.ListLemmas.{has_filtered, has_kept}
 use Rattle.tables.specs.Schema.{store_schema}
 use Rattle.tables.specs.Pieces.{piece_size, begin, HasPiece, piece}
+use Rattle.tables.proofs.PieceLemmas.{piece_full}
 use Rattle.tables.proofs.ValueLemmas.{int_itself}
 use Rattle.tables.proofs.SoundLemmas.{ints_equal}
 use Rattle.store.specs.Calls.{Selects}
 use Rattle.store.specs.Lookup.{lookup, passes, FirstFound}
 use Rattle.store.specs.Reading.{ShowsPiece}
-use Rattle.store.proofs.Texts.{piece_text}
+use Rattle.store.proofs.Texts.{piece_text, last_piece_text}
 use Rattle.store.proofs.LookupLemmas.{selected_found}
 
 -- ---- the query
@@ -50,6 +51,14 @@ piece_plain = (refl, refl)
 pub piece_tables : reads_listing store_schema piece_text ≡ false
 unfolding understood everything
 piece_tables = refl
+
+pub last_piece_plain : IsPlain (understood store_schema last_piece_text)
+unfolding understood everything
+last_piece_plain = (refl, refl)
+
+pub last_piece_tables : reads_listing store_schema last_piece_text ≡ false
+unfolding understood everything
+last_piece_tables = refl
 
 nat_of : {a b : ℕ} → pos a ≡ pos b → a ≡ b
 nat_of e = cc
@@ -92,6 +101,10 @@ no_more zip n none = take_all (begin n) zip (not_below (begin n) (length zip) no
   where
     not_below : (a b : ℕ) → ¬ (a < b) → b ≤ a
     not_below a b none = omega (arith, none)
+
+-- where the piece of this number is not full, it and those before it are the zip
+pub last_piece : (zip : List ℕ) (n : ℕ) → length (piece zip n) < piece_size → take (begin (n + 1)) zip ≡ zip
+last_piece zip n short = no_more zip (n + 1) (λ has. let full = piece_full zip n has in omega (arith, short, full))
 
 -- bytes that begin as the zip does, up to this piece, and go on with it
 pub goes_on : (there given rest later : List ℕ) (n : ℕ) → given ≡ take (begin n) there ++ rest → rest ≡ piece there n ++ later → given ≡ take (begin (n + 1)) there ++ later

@@ -19,6 +19,9 @@ row_text = codes "SELECT id, shelf, time, mod FROM version WHERE shelf = ?1 AND 
 abbrev pub piece_text : List ℕ
 piece_text = codes "SELECT bytes FROM piece WHERE version = ?1 AND number = ?2"
 
+abbrev pub last_piece_text : List ℕ
+last_piece_text = codes "SELECT number FROM piece WHERE version = ?1 ORDER BY number DESC"
+
 abbrev pub count_text : List ℕ
 count_text = codes "SELECT count(*) FROM version WHERE shelf = ?1 AND path = ?2"
 

@@ -17,6 +17,7 @@ use sqlite::{Alter, Connection, Error, ErrorCode, Row, Transaction, params};
 use std::alloc::Global;
 use tables::pieces::PIECE_SIZE;
 use world::bytes::Bytes;
+use world::entry::MAX_ZIP;
 
 /// The row of one piece of the zip of the version that has this number.
 fn find_piece<S: Alter>(
@@ -47,7 +48,27 @@ pub(crate) fn lent_bytes(row: &Row, at: usize) -> Result<&[u8], Error>
     }
 }
 
-/// The zip of the version that has this number, each piece behind the one before it.
+/// How many bytes to make room for before the zip of the version that has this number is read, by the number of its last piece.
+/// Nothing rests on it: a zip that has more finds its own room.
+fn find_room<S: Alter>(conn: &mut Connection<S>, id: i64) -> Result<usize, Error>
+    ensures spares { Spares (state S.Store conn.old) (state S.Store conn.new) }
+    ensures same { InEachWorld (state S.Store conn.old) (state S.Store conn.new) (λ old new _.
+        OnOk result (new.now ≡ old.now)) }
+{
+    match find_row(
+        conn,
+        "SELECT number FROM piece WHERE version = ?1 ORDER BY number DESC",
+        params![id],
+    )? {
+        Some(row) => {
+            let last: u32 = row.get(0)?;
+            Ok(((last as usize + 1) * PIECE_SIZE).min(MAX_ZIP))
+        }
+        None => Ok(0),
+    }
+}
+
+/// The zip of the version that has this number, each piece behind the one before it. A piece that is not full is the last.
 pub(crate) fn find_zip<S: Alter>(
     alloc: Global,
     conn: &mut Connection<S>,
@@ -57,12 +78,17 @@ pub(crate) fn find_zip<S: Alter>(
     ensures answer { InEachWorld (state S.Store conn.old) (state S.Store conn.new) (λ old new _.
         IfOk result (λ found. IsTrue new.is_open × ((zip : _) → IsZip old.now.trees id zip → found ≡ zip))) }
 {
-    let mut zip = Vec::new(alloc);
+    let room = find_room(conn, id)?;
+    let mut zip = Vec::with_capacity(alloc, room)?;
     for number in 0..u32::MAX {
         let Some(row) = find_piece(conn, id, number)? else {
             return Ok(Bytes::new(zip));
         };
-        zip.extend_from_slice(lent_bytes(&row, 0)?)?;
+        let piece = lent_bytes(&row, 0)?;
+        zip.extend_from_slice(piece)?;
+        if piece.len() < PIECE_SIZE {
+            return Ok(Bytes::new(zip));
+        }
     }
     Err(Error::SqliteFailure(ErrorCode::TooBig))
 }

@@ -36,6 +36,8 @@ GET A example.com/p/@v/v1.0.2.zip;; & GET A example.com/p/@v/v1.0.3.zip;; | zip 
 GET A example.com/p/@v/v1.0.4.zip;; | zip <65536*a><65536*b>c
 the same again, and others: another byte in each piece, a byte less and one more, no byte and one
 PUT A example.com/p/@v/v1.0.0 ~ module example.com/p$ & PUT A example.com/p/@v/v1.0.4 ~ module example.com/p$ ~ <65536*a><65536*b>c | 200 already published$ & 200 already published$
+PUT A example.com/p/@v/v1.0.1 ~ module example.com/p$ ~ Z & PUT A example.com/p/@v/v1.0.2 ~ module example.com/p$ ~ <65536*a> & PUT A example.com/p/@v/v1.0.3 ~ module example.com/p$ ~ <65536*a>b | 200 already published$ & 200 already published$ & 200 already published$
+PUT A example.com/p/@v/v1.0.1 ~ module example.com/p$ ~ Y & PUT A example.com/p/@v/v1.0.2 ~ module example.com/p$ ~ <65535*a>x & PUT A example.com/p/@v/v1.0.3 ~ module example.com/p$ ~ <65536*a>x | 409 conflict$ & 409 conflict$ & 409 conflict$
 PUT A example.com/p/@v/v1.0.4 ~ module example.com/p$ ~ <65535*a>x<65536*b>c & PUT A example.com/p/@v/v1.0.4 ~ module example.com/p$ ~ <65536*a>x<65535*b>c | 409 conflict$ & 409 conflict$
 PUT A example.com/p/@v/v1.0.4 ~ module example.com/p$ ~ <65536*a><65536*b>x & PUT A example.com/p/@v/v1.0.4 ~ module example.com/p$ ~ <65536*b><65536*a>c | 409 conflict$ & 409 conflict$
 PUT A example.com/p/@v/v1.0.4 ~ module example.com/p$ ~ <65536*a><65536*b> & PUT A example.com/p/@v/v1.0.4 ~ module example.com/p$ ~ <65536*a><65536*b>cc | 409 conflict$ & 409 conflict$

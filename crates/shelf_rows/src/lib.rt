@@ -1,5 +1,5 @@
-//! The worked rows of shelves: the calls of each store, the decisions of a publish, runs of the machine, and the bytes that answer a
-//! stream.
+//! The worked rows of shelves: the calls of each store, the decisions of a publish, runs of the machine, and the bytes that answer
+//! requests.
 //!
 //! Each table is a text whose lines are rows, and each public function of the crates below is run on one at least. A script of calls
 //! is run on each store in turn.
@@ -8,21 +8,13 @@
 #[cfg(test)]
 mod adopted_tables;
 #[cfg(test)]
-mod answers;
-#[cfg(test)]
 mod calls;
 #[cfg(test)]
-mod connections;
-#[cfg(test)]
 mod decisions;
-#[cfg(test)]
-mod doubles;
 #[cfg(test)]
 mod entries;
 #[cfg(test)]
 mod extracts;
-#[cfg(test)]
-mod in_time;
 #[cfg(test)]
 mod kept_counts;
 #[cfg(test)]
@@ -36,8 +28,4 @@ mod store_files;
 #[cfg(test)]
 mod stores;
 #[cfg(test)]
-mod stream;
-#[cfg(test)]
 mod version_sets;
-#[cfg(test)]
-mod zip_sizes;

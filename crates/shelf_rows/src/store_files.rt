@@ -2,7 +2,8 @@
 use crate::adopted_tables::SCHEMA_1;
 use crate::calls::wrong_row;
 use crate::requests::REQUESTS;
-use sqlite::{Connection, Error};
+use sqlite::{Alter, Connection, Error, params};
+use std::alloc::Global;
 use std::fs;
 use std::test::Fail;
 use store::refusal::Refusal;
@@ -59,6 +60,79 @@ fn a_file_answers_requests(rt: HostRuntime) -> Result<(), Fail> {
         ""
     );
     fs::remove_dir_all(&rt, "store_requests_test")?;
+    Ok(())
+}
+
+/// Publishes of zips of no byte, of one, of a full piece of 65,536 bytes and of a byte more, where `MOST` stands for the byte `a` 65,535
+/// times. The largest zip, which takes a while, is in tests/largest.py.
+const ZIPS: &str = "\
+team-add|alpha = Done
+key-add|alpha|alphakey00000001 = Done
+PUT A example.com/z/@v/v1.0.0 | 201 Created | plain | published; | module example.com/z; |
+PUT A example.com/z/@v/v1.0.1 | 201 Created | plain | published; | module example.com/z; | Z
+PUT A example.com/z/@v/v1.0.2 | 201 Created | plain | published; | module example.com/z; | MOSTa
+PUT A example.com/z/@v/v1.0.3 | 201 Created | plain | published; | module example.com/z; | MOSTab
+";
+
+/// What is then answered: each is the same once more, and another one with its last byte turned.
+const KEPT_ZIPS: &str = "\
+GET A example.com/z/@v/v1.0.0.zip | 200 OK | zip |
+GET A example.com/z/@v/v1.0.1.zip | 200 OK | zip | Z
+GET A example.com/z/@v/v1.0.2.zip | 200 OK | zip | MOSTa
+GET A example.com/z/@v/v1.0.3.zip | 200 OK | zip | MOSTab
+PUT A example.com/z/@v/v1.0.0 | 200 OK | plain | already published; | module example.com/z; |
+PUT A example.com/z/@v/v1.0.1 | 200 OK | plain | already published; | module example.com/z; | Z
+PUT A example.com/z/@v/v1.0.2 | 200 OK | plain | already published; | module example.com/z; | MOSTa
+PUT A example.com/z/@v/v1.0.3 | 200 OK | plain | already published; | module example.com/z; | MOSTab
+PUT A example.com/z/@v/v1.0.1 | 409 Conflict | plain | conflict; | module example.com/z; | Y
+PUT A example.com/z/@v/v1.0.2 | 409 Conflict | plain | conflict; | module example.com/z; | MOSTx
+PUT A example.com/z/@v/v1.0.3 | 409 Conflict | plain | conflict; | module example.com/z; | MOSTax
+failures = 0
+";
+
+/// How many rows each of the zips has, and how many bytes the last of them.
+const PIECES: &str = "\
+0 0
+1 1
+1 65536
+2 1
+";
+
+/// The same of the versions of a file.
+fn pieces<S: Alter>(alloc: Global, conn: &mut Connection<S>) -> Result<String, Fail> {
+    let mut told = String::new(alloc);
+    for patch in 0..4_i64 {
+        let row = conn.query_row(
+            "SELECT count(*), coalesce(min(length(p.bytes)), 0) FROM version AS v JOIN piece AS p ON p.version = v.id WHERE v.version = 'v1.0.' || ?1",
+            params![patch],
+        )?;
+        let (rows, last): (i64, i64) = (row.get(0)?, row.get(1)?);
+        write!(told, "{rows} {last}\n")?;
+    }
+    Ok(told)
+}
+
+fn pieces_of_file(rt: &HostRuntime, file: &str) -> Result<String, Fail> {
+    let mut conn = Connection::open(rt, file)?;
+    let told = pieces(rt.alloc(), &mut conn);
+    let closed = conn.close();
+    let told = told?;
+    closed?;
+    Ok(told)
+}
+
+#[test]
+fn a_file_keeps_zips_in_pieces(rt: HostRuntime) -> Result<(), Fail> {
+    let _ = fs::remove_dir_all(&rt, "store_sizes_test");
+    fs::create_dir(&rt, "store_sizes_test")?;
+    let most = "a".repeat(rt.alloc(), 65_535)?;
+    for script in [ZIPS, KEPT_ZIPS] {
+        let script = script.replace(rt.alloc(), "MOST", most.as_str())?;
+        let row = wrong_row_of_file(&rt, "store_sizes_test/a.db", script.as_str())?;
+        assert_eq!(rt; row, "");
+    }
+    assert!(rt; pieces_of_file(&rt, "store_sizes_test/a.db")?.as_str() == PIECES);
+    fs::remove_dir_all(&rt, "store_sizes_test")?;
     Ok(())
 }
 

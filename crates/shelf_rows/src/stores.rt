@@ -1,12 +1,12 @@
 //! Scripts, each on a new store in memory: of maps and of tables.
-use crate::calls::wrong_row_of;
-use crate::doubles::shelves;
+use crate::calls::{wrong_row, wrong_row_of};
 use crate::requests::{REQUESTS, in_one_stream};
 use engine::answer_all;
 use std::alloc::Global;
 use std::test::Fail;
 use store::store::SqlShelves;
 use world::map_shelves::MapShelves;
+use world::shelves::Shelves;
 
 /// Scripts of calls, with `====` between them.
 const SCRIPTS: &str = "\
@@ -154,18 +154,30 @@ fn tables_in_memory_answer(rt: HostRuntime) -> Result<(), Fail> {
     Ok(())
 }
 
+/// The bytes that shelves answer to a stream, once they have the teams and the keys of a script. The shelves are let go then.
+fn streamed<S: Shelves + Drop>(
+    alloc: Global,
+    mut shelves: S,
+    script: &str,
+    stream: &[u8],
+) -> Result<Vec<u8>, Fail> {
+    let (registry, _) = script.split_once("empty-modules\n").ok_or("no requests")?;
+    if wrong_row(alloc, &mut shelves, registry)? != "" {
+        return Err(Fail::from("the teams and the keys"));
+    }
+    let mut reader = stream;
+    let mut output = Vec::new(alloc);
+    answer_all(alloc, &mut reader, &mut output, &mut shelves)?;
+    Ok(output)
+}
+
 #[test]
 fn requests_are_answered_in_one_stream(rt: HostRuntime) -> Result<(), Fail> {
+    let alloc = rt.alloc();
     let script = REQUESTS.split("====\n").next().unwrap_or("");
-    let (stream, wanted) = in_one_stream(rt.alloc(), script)?;
-    let mut reader = stream.as_bytes();
-    let mut output = Vec::new(rt.alloc());
-    answer_all(
-        rt.alloc(),
-        &mut reader,
-        &mut output,
-        &mut shelves(rt.alloc())?,
-    )?;
+    let (stream, wanted) = in_one_stream(alloc, script)?;
+    let maps = MapShelves::new(alloc)?;
+    let output = streamed(alloc, maps, script, stream.as_bytes())?;
     assert!(rt; output.as_slice() == wanted.as_bytes());
     Ok(())
 }

@@ -3,9 +3,9 @@ use crate::connections::{PUBLISHED, PUT};
 use crate::doubles::shelves;
 use engine::Io;
 use socket::answer_in_time;
+use std::alloc::Global;
 use std::cell::Cell;
 use std::io::{self, Read};
-use std::rt::HostRuntime;
 use std::test::Fail;
 use std::time::{Clock, Duration};
 
@@ -36,33 +36,34 @@ fn clock(step: u64) -> Steps {
     }
 }
 
+/// What is told of a message whose bytes come in two reads or more, by a clock with this step, and what is written for it.
+type Told = (Result<Option<u16>, Io>, Vec<u8>);
+
+fn told(alloc: Global, step: u64, first: &[u8], last: &[u8]) -> Result<Told, Fail> {
+    let mut shelves = shelves(alloc)?;
+    let clock = clock(step);
+    let output = Vec::new(alloc);
+    let answered = answer_in_time(alloc, &clock, first.chain(last), output, &mut shelves);
+    let told = answered.told;
+    let writer = answered.writer;
+    Ok((told, writer))
+}
+
 #[test]
 fn a_request_that_comes_in_time_is_answered(rt: HostRuntime) -> Result<(), Fail> {
     let (first, last) = PUT.split_at(20);
-    let answered = answer_in_time(
-        rt.alloc(),
-        &clock(10_000),
-        first.chain(last),
-        Vec::new(rt.alloc()),
-        &mut shelves(rt.alloc())?,
-    );
-    assert!(rt; answered.told == Ok(Some(201)));
-    assert!(rt; answered.writer.as_slice() == PUBLISHED.as_bytes());
+    let (told, written) = told(rt.alloc(), 10_000, first, last)?;
+    assert!(rt; told == Ok(Some(201)));
+    assert!(rt; written.as_slice() == PUBLISHED.as_bytes());
     Ok(())
 }
 
 #[test]
 fn a_read_that_begins_too_late_fails(rt: HostRuntime) -> Result<(), Fail> {
     let (first, last) = PUT.split_at(20);
-    let answered = answer_in_time(
-        rt.alloc(),
-        &clock(10_001),
-        first.chain(last),
-        Vec::new(rt.alloc()),
-        &mut shelves(rt.alloc())?,
-    );
-    assert!(rt; answered.told == Err(Io::Read));
-    assert!(rt; answered.writer.is_empty());
+    let (told, written) = told(rt.alloc(), 10_001, first, last)?;
+    assert!(rt; told == Err(Io::Read));
+    assert!(rt; written.is_empty());
     Ok(())
 }
 
@@ -70,24 +71,12 @@ fn a_read_that_begins_too_late_fails(rt: HostRuntime) -> Result<(), Fail> {
 const LARGE: &[u8] =
     b"PUT /k/alphakey00000001/example.com/lib/@v/v1.0.0 HTTP/1.1\r\nMod-Length: 23\r\nContent-Length: 524311\r\n\r\nmodule example.com/lib\n";
 
-/// What is told of a publish with a zip of 524,288 bytes by a clock with this step: a read for the head and the go.mod, and eight
-/// of 65,536 bytes.
-fn told_of_large(rt: &HostRuntime, step: u64) -> Result<Result<Option<u16>, Io>, Fail> {
-    let zip = vec![in rt.alloc(); b'z'; 524_288]?;
-    let answered = answer_in_time(
-        rt.alloc(),
-        &clock(step),
-        LARGE.chain(zip.as_slice()),
-        Vec::new(rt.alloc()),
-        &mut shelves(rt.alloc())?,
-    );
-    Ok(answered.told)
-}
-
 #[test]
 fn bytes_that_are_moved_give_more_time(rt: HostRuntime) -> Result<(), Fail> {
-    // The ninth read begins after eight steps, when 458,752 bytes have come: 10 s are allowed, and 1 for the first 262,144.
-    assert!(rt; told_of_large(&rt, 1_375)? == Ok(Some(201)));
-    assert!(rt; told_of_large(&rt, 1_376)? == Err(Io::Read));
+    let zip = vec![in rt.alloc(); b'z'; 524_288]?;
+    // A read for the head and the go.mod, and eight of 65,536 bytes. The ninth read begins after eight steps, when 458,752 bytes have
+    // come: 10 s are allowed, and 1 for the first 262,144.
+    assert!(rt; told(rt.alloc(), 1_375, LARGE, zip.as_slice())?.0 == Ok(Some(201)));
+    assert!(rt; told(rt.alloc(), 1_376, LARGE, zip.as_slice())?.0 == Err(Io::Read));
     Ok(())
 }

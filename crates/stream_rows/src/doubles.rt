@@ -7,22 +7,20 @@ use world::map_shelves::MapShelves;
 use world::registry::StoreFault;
 use world::shelves::Shelves;
 
-/// The shelf `common` and the teams alpha and beta, with their keys.
-pub fn shelves(alloc: Global) -> Result<MapShelves, StoreFault> {
-    let mut shelves = MapShelves::new(alloc)?;
-    register(&mut shelves)?;
-    Ok(shelves)
-}
-
-/// Adds the teams and the keys.
-pub fn register<S: Shelves>(shelves: &mut S) -> Result<(), StoreFault> {
+/// Adds the teams alpha and beta, and their keys.
+fn registered<S: Shelves + Drop>(mut shelves: S) -> Result<S, StoreFault> {
     shelves.team_add("alpha")?;
     shelves.team_add("beta")?;
     shelves.key_add("alpha", "alphakey00000001", Right::Publishes)?;
     shelves.key_add("alpha", "alphareader00001", Right::Reads)?;
     shelves.key_add("beta", "betakey000000001", Right::Publishes)?;
     shelves.key_add("common", "commonkey0000001", Right::Publishes)?;
-    Ok(())
+    Ok(shelves)
+}
+
+/// The shelf `common` and the teams alpha and beta, with their keys.
+pub fn shelves(alloc: Global) -> Result<MapShelves, StoreFault> {
+    registered(MapShelves::new(alloc)?)
 }
 
 /// Gives its bytes in pieces; the read after so many fails.

@@ -1,0 +1,14 @@
+//! The worked rows of streams and connections: answers however a stream is cut, readers and writers that fail, connections of this process
+//! to itself, and a peer's time.
+#![tactic(auto)]
+
+#[cfg(test)]
+mod answers;
+#[cfg(test)]
+mod connections;
+#[cfg(test)]
+mod doubles;
+#[cfg(test)]
+mod in_time;
+#[cfg(test)]
+mod stream;

@@ -1,8 +1,30 @@
 //! A team's part of a store, as a store of its own.
 use crate::calls::wrong_row;
+use sqlite::MemStore;
+use std::alloc::Global;
 use std::test::Fail;
 use store::refusal::Refusal;
 use store::store::SqlShelves;
+use world::shelves::Shelves;
+
+/// A store that a team's part is taken of, or that takes it.
+trait Extracts: Shelves + Drop {
+    /// One with the shelf `common` alone.
+    fn opened(alloc: Global) -> Result<Self, Fail>;
+
+    /// Makes the other the team's part.
+    fn extract_into(&mut self, team: &str, part: &mut Self) -> Result<(), Refusal>;
+}
+
+impl Extracts for SqlShelves<MemStore> {
+    fn opened(alloc: Global) -> Result<SqlShelves<MemStore>, Fail> {
+        Ok(SqlShelves::open_memory(alloc)?)
+    }
+
+    fn extract_into(&mut self, team: &str, part: &mut SqlShelves<MemStore>) -> Result<(), Refusal> {
+        self.extract(team, part)
+    }
+}
 
 /// Two teams with a key each, one more that reads, and a key of `common`; versions of each shelf, those of beta first.
 const WHOLE: &str = "\
@@ -52,14 +74,31 @@ versions|alpha|example.com/lib = v1.0.0;
 failures = 0
 ";
 
+/// A store with all of that.
+fn whole<S: Extracts>(alloc: Global) -> Result<S, Fail> {
+    let mut whole = S::opened(alloc)?;
+    if wrong_row(alloc, &mut whole, WHOLE)? != "" {
+        return Err(Fail::from("the whole"));
+    }
+    Ok(whole)
+}
+
+/// Extracts alpha's part. The first row that the part or the whole then answers otherwise; empty where there is none.
+fn wrong_row_of_part<S: Extracts>(alloc: Global) -> Result<&'static str, Fail> {
+    let mut whole = whole::<S>(alloc)?;
+    let mut part = S::opened(alloc)?;
+    whole.extract_into("alpha", &mut part)?;
+    let row = wrong_row(alloc, &mut part, PART)?;
+    if row != "" {
+        return Ok(row);
+    }
+    wrong_row(alloc, &mut whole, KEPT)
+}
+
 #[test]
 fn a_part_has_its_shelves_alone(rt: HostRuntime) -> Result<(), Fail> {
-    let mut whole = SqlShelves::open_memory(rt.alloc())?;
-    let mut part = SqlShelves::open_memory(rt.alloc())?;
-    assert_eq!(rt; wrong_row(rt.alloc(), &mut whole, WHOLE)?, "");
-    assert_eq!(rt; whole.extract("alpha", &mut part), Ok(()));
-    assert_eq!(rt; wrong_row(rt.alloc(), &mut part, PART)?, "");
-    assert_eq!(rt; wrong_row(rt.alloc(), &mut whole, KEPT)?, "");
+    let row = wrong_row_of_part::<SqlShelves<MemStore>>(rt.alloc())?;
+    assert_eq!(rt; row, "");
     Ok(())
 }
 
@@ -70,29 +109,55 @@ reader-add|common|commonkey0000001 = Done
 insert|common|example.com/x|v1.0.0|module example.com/x; = ()
 ";
 
+/// Whether a store that has more is refused as another's part: as such for a team, and else for want of one.
+fn is_refused<S: Extracts>(alloc: Global, whole: &mut S, more: &str) -> Result<bool, Fail> {
+    let mut other = S::opened(alloc)?;
+    if wrong_row(alloc, &mut other, more)? != "" {
+        return Err(Fail::from("what is more"));
+    }
+    Ok(
+        whole.extract_into("alpha", &mut other) == Err(Refusal::NotEmpty)
+            && whole.extract_into("gamma", &mut other) == Err(Refusal::NoTeam)
+            && whole.extract_into("common", &mut other) == Err(Refusal::NoTeam),
+    )
+}
+
+/// The first of these rows that makes a store which is taken, or which the whole answers otherwise then; empty where there is none.
+fn wrong_row_of_more<S: Extracts>(alloc: Global) -> Result<&'static str, Fail> {
+    let mut whole = whole::<S>(alloc)?;
+    for row in MORE.lines() {
+        if !is_refused(alloc, &mut whole, row)? {
+            return Ok(row);
+        }
+    }
+    wrong_row(alloc, &mut whole, KEPT)
+}
+
 #[test]
 fn a_store_that_has_more_is_refused(rt: HostRuntime) -> Result<(), Fail> {
-    let mut whole = SqlShelves::open_memory(rt.alloc())?;
-    assert_eq!(rt; wrong_row(rt.alloc(), &mut whole, WHOLE)?, "");
-    for row in MORE.lines() {
-        let mut other = SqlShelves::open_memory(rt.alloc())?;
-        assert_eq!(rt; wrong_row(rt.alloc(), &mut other, row)?, "");
-        assert_eq!(rt; whole.extract("alpha", &mut other), Err(Refusal::NotEmpty));
-        assert_eq!(rt; whole.extract("gamma", &mut other), Err(Refusal::NoTeam));
-        assert_eq!(rt; whole.extract("common", &mut other), Err(Refusal::NoTeam));
-    }
-    assert_eq!(rt; wrong_row(rt.alloc(), &mut whole, KEPT)?, "");
+    let row = wrong_row_of_more::<SqlShelves<MemStore>>(rt.alloc())?;
+    assert_eq!(rt; row, "");
     Ok(())
+}
+
+/// Extracts into a store that was refused before, and once more. The first row that the part then answers otherwise; empty where there
+/// is none.
+fn wrong_row_of_refused<S: Extracts>(alloc: Global) -> Result<&'static str, Fail> {
+    let mut whole = whole::<S>(alloc)?;
+    let mut part = S::opened(alloc)?;
+    if whole.extract_into("gamma", &mut part) != Err(Refusal::NoTeam) {
+        return Ok("a team that is not there");
+    }
+    whole.extract_into("alpha", &mut part)?;
+    if whole.extract_into("alpha", &mut part) != Err(Refusal::NotEmpty) {
+        return Ok("a part that is there");
+    }
+    wrong_row(alloc, &mut part, PART)
 }
 
 #[test]
 fn a_store_that_was_refused_is_taken(rt: HostRuntime) -> Result<(), Fail> {
-    let mut whole = SqlShelves::open_memory(rt.alloc())?;
-    let mut part = SqlShelves::open_memory(rt.alloc())?;
-    assert_eq!(rt; wrong_row(rt.alloc(), &mut whole, WHOLE)?, "");
-    assert_eq!(rt; whole.extract("gamma", &mut part), Err(Refusal::NoTeam));
-    assert_eq!(rt; whole.extract("alpha", &mut part), Ok(()));
-    assert_eq!(rt; whole.extract("alpha", &mut part), Err(Refusal::NotEmpty));
-    assert_eq!(rt; wrong_row(rt.alloc(), &mut part, PART)?, "");
+    let row = wrong_row_of_refused::<SqlShelves<MemStore>>(rt.alloc())?;
+    assert_eq!(rt; row, "");
     Ok(())
 }

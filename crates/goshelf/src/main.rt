@@ -1,15 +1,10 @@
 //! `goshelf`: a private Go module proxy with team shelves.
 //!
-//! One run of the program is the call [`command::command`]; `main` hands it the words, the streams and the runtime of the system.
+//! One run of the program is the call [`command::command`] of `command_line`; `main` hands it the words, the streams and the runtime of
+//! the system.
 #![tactic(auto)]
 
-mod arguments;
-mod asked;
-mod command;
-#[cfg(test)]
-mod tests;
-
-use command::{command, words_refused};
+use command_line::command::{command, words_refused};
 use std::env;
 use std::process::ExitCode;
 

@@ -1,6 +1,6 @@
 //! A team's part of a store, in a file of its own.
-use crate::tests::file_runs::foreign;
-use crate::tests::runs::{Ended, NOT_FOUND, new_folder, run, wrong_run};
+use crate::file_runs::foreign;
+use crate::runs::{Ended, NOT_FOUND, new_folder, run, wrong_run};
 use std::alloc::{AllocError, Global};
 use std::fs;
 use std::os::unix::fs::symlink;

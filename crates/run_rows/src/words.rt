@@ -1,5 +1,5 @@
 //! The words of the command line, exit statuses and words on standard error.
-use crate::tests::runs::{column, run, wrong_run};
+use crate::runs::{column, run, wrong_run};
 use std::rt::HostRuntime;
 use std::test::Fail;
 

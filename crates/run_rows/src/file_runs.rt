@@ -1,5 +1,5 @@
 //! Commands on the store in a file, one run after another.
-use crate::tests::runs::{new_folder, write_long, wrong_run};
+use crate::runs::{new_folder, write_long, wrong_run};
 use std::alloc::{AllocError, Global};
 use std::fs;
 use std::rt::HostRuntime;

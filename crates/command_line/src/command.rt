@@ -2,7 +2,7 @@
 ghost use Rattle.std.specs.Prelude.{◌≡◌, ◌⊎◌};
 ghost use Rattle.clap.specs.Values.{kind_of};
 ghost use Rattle.commands.specs.Exit.{status_of, IsSilent};
-ghost use Rattle.goshelf.specs.Run.{EndsShown, Exits, Runs};
+ghost use Rattle.command_line.specs.Run.{EndsShown, Exits, Runs};
 
 use crate::arguments::parser;
 use crate::asked::task_of;

@@ -1,5 +1,5 @@
 //! Lists that are imported.
-use crate::tests::runs::{new_folder, write_long, wrong_run};
+use crate::runs::{new_folder, write_long, wrong_run};
 use std::fs;
 use std::rt::HostRuntime;
 use std::test::Fail;

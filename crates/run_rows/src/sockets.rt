@@ -1,5 +1,5 @@
 //! `serve`, and its port.
-use crate::tests::runs::{new_folder, run, wrong_run};
+use crate::runs::{new_folder, run, wrong_run};
 use std::fs;
 use std::net::TcpListener;
 use std::rt::HostRuntime;

@@ -1,6 +1,6 @@
 use Rattle.std.proofs.Common.{inr, refl}
 use Rattle.clap.specs.declared.error.kind.ErrorKind.TheVariants.{OutOfMemory}
-use Rattle.goshelf.proofs.command.run.Goals as goal
+use Rattle.command_line.proofs.command.run.Goals as goal
 
 pub returns-in_default-clause-runs : goal.returns-in_default-clause-runs
 returns-in_default-clause-runs g c = inr (record { kind = OutOfMemory; ends = refl; input = refl })

@@ -1,5 +1,5 @@
 //! What a shelf sees and what a version requires, printed.
-use crate::tests::runs::{new_folder, wrong_run};
+use crate::runs::{new_folder, wrong_run};
 use std::fs;
 use std::rt::HostRuntime;
 use std::test::Fail;

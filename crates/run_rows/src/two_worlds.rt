@@ -1,6 +1,6 @@
 //! Two stores, of which one has 100 versions more of another team.
-use crate::tests::extracts::{FILES, answers};
-use crate::tests::runs::{new_folder, run, wrong_run};
+use crate::extracts::{FILES, answers};
+use crate::runs::{new_folder, run, wrong_run};
 use std::alloc::{AllocError, Global};
 use std::fs;
 use std::rt::HostRuntime;

@@ -1,5 +1,5 @@
 //! Runs of the program, as a user gives them.
-use crate::command::command;
+use command_line::command::command;
 use std::alloc::{AllocError, Global};
 use std::fs;
 use std::rt::HostRuntime;

@@ -9,10 +9,10 @@ use Rattle.world.proofs.Parts.{part_is_world}
 use Rattle.tables.specs.Means.{Stands, StandsFor}
 use Rattle.tables.proofs.FailureLemmas.{was_clean}
 use Rattle.std.specs.Prelude.{OnOk, OnErr}
-use Rattle.std.specs.FinMap as map
-use Rattle.world.specs.Counts.{Tally, AreCounts}
-use Rattle.world.proofs.Counted.{empty_counts}
 use Rattle.store.specs.Calls.{Spares, ChangesAt, shown_of, shown_with}
+use Rattle.store.specs.declared.kept.Kept.{Kept}
+use Rattle.store.specs.Kept.{AreKept, IsNothing}
+use Rattle.store.proofs.KeptLemmas.{nothing_kept}
 use Rattle.store.specs.Rows.{Writing}
 use Rattle.store.specs.Extract.{IsReady, Copies}
 use Rattle.store.proofs.RowLemmas.{filling_of, writing_of}
@@ -102,7 +102,7 @@ part_written s t a b w team fills ready clean good stands is has writing =
     let it = fills.makes clean good ready w means (filling_of a only_common writing) refl in
     writing_of b (part w team) it.1 (it.0 w means is has writing.trees)
 
--- ---- with the counts that the stores keep
+-- ---- with what the stores keep
 
 on_ok_both : (A : Type 0) {B : Type 0} (r : Result (Unit {0}) Refusal) → B → OnOk r A → OnOk r (A × B)
 on_ok_both A (Ok u) b a = (a, b)
@@ -112,14 +112,14 @@ on_err_both : (A : Type 0) {B : Type 0} (r : Result (Unit {0}) Refusal) → B �
 on_err_both A (Ok u) b a = tt
 on_err_both A (Err e) b a = (a, b)
 
--- the source keeps its counts, and the fresh store none
-pub extracts_counted : (a a_new b b_new : State) (kept kept_new old new : Tally) (team : List ℕ) (r : Result (Unit {0}) Refusal) → kept_new ≡ kept
-    → new ≡ map.empty → Extracts (shown_of a) (shown_of a_new) (shown_of b) (shown_of b_new) team r
+-- the source keeps what it kept, and the fresh store nothing
+pub extracts_kept : (a a_new b b_new : State) (kept kept_new old new : Kept) (team : List ℕ) (r : Result (Unit {0}) Refusal) → kept_new ≡ kept
+    → IsNothing new → Extracts (shown_of a) (shown_of a_new) (shown_of b) (shown_of b_new) team r
     → Extracts (shown_with a kept) (shown_with a_new kept_new) (shown_with b old) (shown_with b_new new) team r
-extracts_counted a a_new b b_new kept kept_new old new team r same none does = record {
+extracts_kept a a_new b b_new kept kept_new old new team r same none does = record {
   reads = record {
     honest = does.reads.honest;
-    stays = λ h w so. (does.reads.stays h w so.0, subst (AreCounts w) (sym same) so.1);
+    stays = λ h w so. (does.reads.stays h w so.0, subst (AreKept w) (sym same) so.1);
     left = λ h w x y so. does.reads.left h w x y so.0;
   };
   honest = does.honest;
@@ -127,8 +127,8 @@ extracts_counted a a_new b b_new kept kept_new old new team r same none does = r
       let it = does.at h good w x sw.0 sx.0 in
       record {
         tells = it.tells;
-        ok = on_ok_both (StandsFor b_new (part w team)) r (empty_counts (part w team) new none) it.ok;
-        err = on_err_both (StandsFor b_new x) r (empty_counts x new none) it.err;
+        ok = on_ok_both (StandsFor b_new (part w team)) r (nothing_kept (part w team) new none) it.ok;
+        err = on_err_both (StandsFor b_new x) r (nothing_kept x new none) it.err;
         left = it.left;
         kept = it.kept;
       };

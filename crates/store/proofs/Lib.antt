@@ -18,6 +18,7 @@ pub mod StandingLemmas
 pub mod CountLemmas
 pub mod VisibleLemmas
 pub mod RevokeLemmas
+pub mod KeptLemmas
 pub mod StoreLemmas
 pub mod OpenLemmas
 pub mod DifferLemmas

@@ -2,7 +2,6 @@
 use Rattle.std.proofs.Common.{◌≡◌, ◌⊎◌, refl, sym, ap, subst, ◌∙◌, inl, inr, IsTrue, true≢false, arith}
 use Rattle.std.specs.Prelude.{IsSome, List, [], ◌∷◌}
 use Rattle.std.specs.List.{AllZip}
-use Rattle.std.specs.FinMap as map
 use Rattle.sqlite.specs.Order.{Row}
 use Rattle.sqlite_wal.specs.Recovery.{Image}
 use Rattle.sqlite.specs.Start.{FindsIn}
@@ -15,8 +14,9 @@ use Rattle.world.specs.World.{World, IsWorld, only_common}
 use Rattle.tables.specs.Schema.{store_schema, no_schema}
 use Rattle.tables.specs.Means.{StandFor, Holds, IsSettled, StandsForSome}
 use Rattle.store.specs.Calls.{shown_of, shown_with, BeginsAt}
-use Rattle.world.specs.Counts.{Tally}
-use Rattle.world.proofs.Counted.{empty_counts}
+use Rattle.store.specs.declared.kept.Kept.{Kept}
+use Rattle.store.specs.Kept.{IsNothing}
+use Rattle.store.proofs.KeptLemmas.{nothing_kept}
 use Rattle.tables.specs.Causes.{IsHindered, IsExcused, IsVast, HasReason}
 use Rattle.store.specs.Opened.{Opens, IsOfOpening}
 use Rattle.store.specs.Restart.{HoldsWorld}
@@ -81,9 +81,9 @@ begins_found old new image live opened settled finds it w held =
       | inr found ↦ subst (BeginsAt (shown_of new)) (stand_for_one old.now.trees it.world w found.means stand.means) it.begins
     ]
 
--- no count is kept where it begins
-pub begins_counted : (s : State) (counts : Tally) (w : World) → counts ≡ map.empty → BeginsAt (shown_of s) w → BeginsAt (shown_with s counts) w
-begins_counted s counts w none it = record { honest = it.honest; stands = (it.stands, empty_counts w counts none); left = it.left }
+-- nothing is kept where it begins
+pub begins_empty : (s : State) (kept : Kept) (w : World) → IsNothing kept → BeginsAt (shown_of s) w → BeginsAt (shown_with s kept) w
+begins_empty s kept w none it = record { honest = it.honest; stands = (it.stands, nothing_kept w kept none); left = it.left }
 
 -- ---- why one is refused
 

@@ -11,8 +11,9 @@ use Rattle.world.specs.World.{World}
 use Rattle.tables.specs.Schema.{store_schema}
 use Rattle.tables.specs.Calls.{Honestly}
 use Rattle.world.specs.Store.{Shown}
-use Rattle.world.specs.Counts.{Tally, AreCounts}
 use Rattle.tables.specs.Means.{Stands, StandsFor, StandFor}
+use Rattle.store.specs.declared.kept.Kept.{Kept}
+use Rattle.store.specs.Kept.{AreKept}
 
 -- so it is in each world that its tables stood for, as far as no answer of the disk was wrong
 abbrev pub InEachWorld : State → State → (State → State → World → Type 0) → Type 0
@@ -55,9 +56,9 @@ LeavesEither s w x = LeavesOnly s (λ y. (y ≡ w) ⊎ (y ≡ x))
 abbrev pub shown_of : State → Shown
 shown_of s = record { stands = StandsFor s; is_honest = HasCleanDisk s; leaves = LeavesEither s }
 
--- The same, and the counts that it keeps are those of each world that it stands for.
-abbrev pub shown_with : State → Tally → Shown
-shown_with s counts = record { stands = λ w. StandsFor s w × AreCounts w counts; is_honest = HasCleanDisk s; leaves = LeavesEither s }
+-- The same, and what it keeps is so in each world that it stands for.
+abbrev pub shown_with : State → Kept → Shown
+shown_with s kept = record { stands = λ w. StandsFor s w × AreKept w kept; is_honest = HasCleanDisk s; leaves = LeavesEither s }
 
 -- each disk below was as told so far, the store stands for the world, and a crash leaves that world alone
 pub record BeginsAt (s : Shown) (w : World) : Type 0 where

@@ -1,5 +1,7 @@
 pub mod Views
 pub mod Lookup
+pub mod KeptLists
+pub mod Kept
 pub mod Calls
 pub mod Reading
 pub mod Rows

@@ -10,10 +10,10 @@ ghost use Rattle.store.specs.Extracted.{IsJudged, is_written, InEachTwo, Extract
 use crate::extract_judge::{Judged, judge};
 use crate::extract_part::write_part;
 use crate::extract_rows::CopyError;
+use crate::kept::Kept;
 use crate::refusal::Refusal;
 use crate::store::{SqlShelves, fault};
 use sqlite::{Alter, Connection};
-use world::counts::Counts;
 use world::registry::StoreFault;
 
 /// Writes the part of a team into a fresh store, where there is such a team and the store has `common` alone.
@@ -61,17 +61,17 @@ impl<S: Alter> SqlShelves<S> {
         team: &str,
         fresh: &mut SqlShelves<F>,
     ) -> Result<(), Refusal>
-        ensures extracts { Extracts (shown_with (state S.Store self.old.conn) self.old.counts)
-            (shown_with (state S.Store self.new.conn) self.new.counts)
-            (shown_with (state F.Store fresh.old.conn) fresh.old.counts)
-            (shown_with (state F.Store fresh.new.conn) fresh.new.counts) team.now result }
+        ensures extracts { Extracts (shown_with (state S.Store self.old.conn) self.old.kept)
+            (shown_with (state S.Store self.new.conn) self.new.kept)
+            (shown_with (state F.Store fresh.old.conn) fresh.old.kept)
+            (shown_with (state F.Store fresh.new.conn) fresh.new.kept) team.now result }
         ensures cause { HasCauseInEither self.old.failures self.new.failures fresh.old.failures fresh.new.failures result }
     {
-        fresh.counts = Counts::new(fresh.alloc);
+        fresh.kept = Kept::new(fresh.alloc);
         self.extract_rows(team, fresh)
     }
 
-    /// Makes the tables of the fresh store those of the part, and leaves the counts that are kept as they are.
+    /// Makes the tables of the fresh store those of the part, and leaves what the stores keep as it is.
     fn extract_rows<F: Alter>(
         &mut self,
         team: &str,
@@ -79,7 +79,7 @@ impl<S: Alter> SqlShelves<S> {
     ) -> Result<(), Refusal>
         ensures extracts { Extracts (shown_of (state S.Store self.old.conn)) (shown_of (state S.Store self.new.conn))
             (shown_of (state F.Store fresh.old.conn)) (shown_of (state F.Store fresh.new.conn)) team.now result }
-        ensures counts { (self.new.counts ≡ self.old.counts) × (fresh.new.counts ≡ fresh.old.counts) }
+        ensures kept { (self.new.kept ≡ self.old.kept) × (fresh.new.kept ≡ fresh.old.kept) }
         ensures cause { HasCauseInEither self.old.failures self.new.failures fresh.old.failures fresh.new.failures result }
     {
         match extract_part(&mut self.conn, team, &mut fresh.conn) {

@@ -14,7 +14,9 @@
 //! | `entry` | the row of `version` on the own shelf, or else on `common`, then its rows of `piece`, one after the other |
 //! | `heading` | the row of `version` on the own shelf, or else on `common`, and no row of `piece` |
 //! | `compare` | those of `entry`, up to the first piece that is another |
-//! | `versions`, `paths` | the rows of `version` on the own shelf, then those on `common` |
+//! | `versions` | the rows of `version` on the own shelf, then those on `common`; asked once, and then kept until the path gets a version |
+//! | `latest` | those of `versions`, and those of `heading` of the highest |
+//! | `paths` | the rows of `version` on the own shelf, then those on `common` |
 //! | `count` | how many rows of `version` the path has on the shelf; asked once, and then kept |
 //! | `insert` | the row of `version` that has the last number, and where there is one, that of the lowest; then in one transaction a row of `version`, with the keys of its version, and a row of `piece` for each piece of the zip |
 //! | `team_add`, `key_add` | a row of `shelf`; a row of `access` |
@@ -32,6 +34,8 @@ mod extract;
 mod extract_judge;
 mod extract_part;
 mod extract_rows;
+mod kept;
+mod kept_lists;
 mod keyed;
 pub mod laws;
 mod numbers;

@@ -24,7 +24,7 @@ impl SqlShelves<MemStore> {
     /// A store in memory, with the shelf `common` alone. It is refused only as `Memory`, where memory
     /// was wanted.
     pub fn open_memory(alloc: Global) -> Result<SqlShelves<MemStore>, Refusal>
-        ensures begins { IfOk result (λ s. BeginsAt (shown_with (state over_memory s.conn) s.counts) only_common) }
+        ensures begins { IfOk result (λ s. BeginsAt (shown_with (state over_memory s.conn) s.kept) only_common) }
         ensures none_failed { IfOk result (λ s. s.failures ≡ 0) }
         ensures refused { IfErr result (λ refusal. refusal ≡ Refusal.Memory) }
     {
@@ -54,9 +54,9 @@ impl<T: Start> SqlShelves<FileStore<FileFrom<T>>> {
     ) -> Result<SqlShelves<FileStore<FileFrom<T>>>, Refusal>
         ensures memory { path.now ≡ codes ":memory:" → result ≡ Err Refusal.Device }
         ensures begins { IfOk result (λ s. HasCleanDisk (file_state s.conn)
-            → (w : _) × BeginsAt (shown_with (file_state s.conn) s.counts) w) }
+            → (w : _) × BeginsAt (shown_with (file_state s.conn) s.kept) w) }
         ensures found { IfOk result (λ s. HasCleanDisk (file_state s.conn) → (w : _)
-            → HoldsWorld (image_at T.Start) w → BeginsAt (shown_with (file_state s.conn) s.counts) w) }
+            → HoldsWorld (image_at T.Start) w → BeginsAt (shown_with (file_state s.conn) s.kept) w) }
         ensures refused { IfErr result IsOfOpening }
         ensures none_failed { IfOk result (λ s. s.failures ≡ 0) }
     {
@@ -77,7 +77,7 @@ impl SqlShelves<FileStore<File>> {
     pub fn open_file(rt: &HostRuntime, path: &str) -> Result<FileShelves, Refusal>
         ensures memory { path.now ≡ codes ":memory:" → result ≡ Err Refusal.Device }
         ensures begins { IfOk result (λ s. HasCleanDisk (file_state s.conn)
-            → (w : _) × BeginsAt (shown_with (file_state s.conn) s.counts) w) }
+            → (w : _) × BeginsAt (shown_with (file_state s.conn) s.kept) w) }
         ensures refused { IfErr result IsOfOpening }
         ensures none_failed { IfOk result (λ s. s.failures ≡ 0) }
     {

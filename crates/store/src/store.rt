@@ -1,11 +1,12 @@
 //! The store that the machine runs over.
 
 ghost use Rattle.std.specs.Prelude.{◌≡◌, ◌≤◌, ◌⊎◌, IfOk, IfErr, IsTrue};
-ghost use Rattle.std.specs.FinMap as map;
 ghost use Rattle.sqlite.specs.Held.{state};
 ghost use Rattle.sqlite_trees.specs.View.{doubt};
-ghost use Rattle.world.specs.Store.{GrewOrFull};
+ghost use Rattle.world.specs.Store.{GrewOrFull, HasCause, Reads};
+ghost use Rattle.world.specs.Versions.{versions_of};
 ghost use Rattle.store.specs.Calls.{shown_with};
+ghost use Rattle.store.specs.Kept.{IsNothing};
 ghost use Rattle.tables.specs.Calls.{Honestly};
 ghost use Rattle.tables.specs.Causes.{IsHindered, IsVast};
 ghost use Rattle.store.specs.Opened.{Opens, IsBad, LeavesFirst, IsOfOpening};
@@ -13,6 +14,7 @@ ghost use Rattle.store.specs.Opened.{Opens, IsBad, LeavesFirst, IsOfOpening};
 use crate::adopt::open_tables;
 use crate::compare::find_standing;
 use crate::entries::{add_entry, count_entries, find_entry, find_heading};
+use crate::kept::Kept;
 use crate::refusal::Refusal;
 use crate::revoke::revoke_key;
 use crate::shelves::{add_key, add_team, find_key};
@@ -21,7 +23,6 @@ use modpath::ModulePath;
 use modver::Version;
 use sqlite::{Alter, Connection, Error, ErrorCode};
 use std::alloc::Global;
-use world::counts::Counts;
 use world::entry::{EntryRef, Heading, Holder, Right, Seen};
 use world::names::{is_key, is_team_name};
 use world::reading::gomod_in;
@@ -36,8 +37,7 @@ use world::versions::{highest, latest_left};
 #[derive(Drop)]
 pub struct SqlShelves<S: Alter> {
     pub(crate) conn: Connection<S>,
-    /// Of the paths that were counted since the store was opened. Nobody else writes, so they stay right.
-    pub(crate) counts: Counts,
+    pub(crate) kept: Kept,
     pub(crate) failures: u64,
     pub(crate) alloc: Global,
 }
@@ -59,7 +59,7 @@ pub(crate) fn fault(failures: &mut u64, error: Error) -> StoreFault
 impl<S: Alter> Shelves for SqlShelves<S> {
     ghost use Rattle.std.proofs.Common.{inl, inr};
 
-    ghost shown = { λ s. shown_with (state S.Store s.conn) s.counts };
+    ghost shown = { λ s. shown_with (state S.Store s.conn) s.kept };
 
     ghost failure_count = { λ s. s.failures };
 
@@ -128,20 +128,25 @@ impl<S: Alter> Shelves for SqlShelves<S> {
     }
 
     fn versions(&mut self, shelf: &str, path: &ModulePath) -> Result<Versions, StoreFault> {
-        match find_versions(self.alloc, &mut self.conn, shelf, path.as_str()) {
-            Ok(versions) => Ok(versions),
-            Err(error) => Err(fault(&mut self.failures, error)),
-        }
+        let found = self.take_versions(shelf, path.as_str())?;
+        self.kept
+            .lists
+            .keep_copy(self.alloc, shelf, path.as_str(), found.as_slice());
+        Ok(found)
     }
 
     fn latest(&mut self, shelf: &str, path: &ModulePath) -> Result<Option<Version>, StoreFault> {
-        let versions = self.versions(shelf, path)?;
+        let versions = self.take_versions(shelf, path.as_str())?;
         let Some(newest) = highest(versions.as_slice()) else {
             return Ok(None);
         };
         let heading = self.heading(shelf, path, newest)?;
         let gomod = gomod_in(self.alloc, heading)?;
-        Ok(latest_left(self.alloc, versions.as_slice(), gomod)?)
+        let latest = latest_left(self.alloc, versions.as_slice(), gomod)?;
+        self.kept
+            .lists
+            .keep(self.alloc, shelf, path.as_str(), versions);
+        Ok(latest)
     }
 
     fn paths(&mut self, shelf: &str) -> Result<TextSet, StoreFault> {
@@ -152,12 +157,14 @@ impl<S: Alter> Shelves for SqlShelves<S> {
     }
 
     fn count(&mut self, shelf: &str, path: &ModulePath) -> Result<u64, StoreFault> {
-        if let Some(count) = self.counts.get(shelf, path.as_str()) {
+        if let Some(count) = self.kept.counts.get(shelf, path.as_str()) {
             return Ok(count);
         }
         match count_entries(&mut self.conn, shelf, path.as_str()) {
             Ok(count) => {
-                self.counts.keep(self.alloc, shelf, path.as_str(), count);
+                self.kept
+                    .counts
+                    .keep(self.alloc, shelf, path.as_str(), count);
                 Ok(count)
             }
             Err(error) => Err(fault(&mut self.failures, error)),
@@ -180,7 +187,8 @@ impl<S: Alter> Shelves for SqlShelves<S> {
             entry,
         ) {
             Ok(()) => {
-                self.counts.raise(self.alloc, shelf, path.as_str());
+                self.kept.counts.raise(self.alloc, shelf, path.as_str());
+                self.kept.lists.forget(path.as_str());
                 Ok(())
             }
             Err(error) => Err(fault(&mut self.failures, error)),
@@ -230,7 +238,7 @@ impl<S: Alter> SqlShelves<S> {
     ) -> Result<SqlShelves<S>, (Refusal, Connection<S>)>
         ensures clean { IfOk result (λ s. doubt (state S.Store conn).is_clean ≤ doubt (state S.Store s.conn).is_clean) }
         ensures opens { IfOk result (λ s. Honestly (state S.Store conn) (state S.Store s.conn) Opens) }
-        ensures none_counted { IfOk result (λ s. s.counts ≡ map.empty) }
+        ensures none_kept { IfOk result (λ s. IsNothing s.kept) }
         ensures refused { IfErr result (λ e. IsOfOpening e.0) }
         ensures none_failed { IfOk result (λ s. s.failures ≡ 0) }
         // Where this is refused, the connection shows what it showed, and a crash leaves what it left before or the made tables.
@@ -246,11 +254,27 @@ impl<S: Alter> SqlShelves<S> {
         match open_tables(alloc, &mut conn) {
             Ok(()) => Ok(SqlShelves {
                 conn,
-                counts: Counts::new(alloc),
+                kept: Kept::new(alloc),
                 failures: 0,
                 alloc,
             }),
             Err(refusal) => Err((refusal, conn)),
+        }
+    }
+
+    /// The versions of a path that a shelf sees, in ascending precedence: those that are kept, which
+    /// are so no longer, or else as they are found.
+    fn take_versions(&mut self, shelf: &str, path: &str) -> Result<Versions, StoreFault>
+        ensures reads { Reads (shown_with (state S.Store self.old.conn) self.old.kept)
+            (shown_with (state S.Store self.new.conn) self.new.kept) result (λ w. versions_of w shelf.now path.now) }
+        ensures cause { HasCause self.old.failures self.new.failures result }
+    {
+        if let Some(versions) = self.kept.lists.take(shelf, path) {
+            return Ok(versions);
+        }
+        match find_versions(self.alloc, &mut self.conn, shelf, path) {
+            Ok(versions) => Ok(versions),
+            Err(error) => Err(fault(&mut self.failures, error)),
         }
     }
 }

@@ -1,12 +1,12 @@
 use Rattle.sqlite.specs.Files.{file_state}
 use Rattle.tables.proofs.FailureLemmas.{was_clean}
-use Rattle.store.proofs.OpenLemmas.{begins_found, begins_counted}
+use Rattle.store.proofs.OpenLemmas.{begins_found, begins_empty}
 use Rattle.store.proofs.open.SqlShelves+FileStore+FileFrom+T.open_from.Goals as goal
 
 pub returns-in-Ok-adopt-clause-begins : goal.returns-in-Ok-adopt-clause-begins
 returns-in-Ok-adopt-clause-begins g c clean =
     let it = c.in-Ok-adopt.ensures.opens clean in
-    (it.world, begins_counted (file_state c.in-Ok-adopt.shelves.conn) c.in-Ok-adopt.shelves.counts it.world c.in-Ok-adopt.ensures.none_counted it.begins)
+    (it.world, begins_empty (file_state c.in-Ok-adopt.shelves.conn) c.in-Ok-adopt.shelves.kept it.world c.in-Ok-adopt.ensures.none_kept it.begins)
 
 pub returns-in-Ok-adopt-clause-found : goal.returns-in-Ok-adopt-clause-found
 returns-in-Ok-adopt-clause-found g c clean w held =
@@ -14,5 +14,5 @@ returns-in-Ok-adopt-clause-found g c clean w held =
     let new = file_state c.in-Ok-adopt.shelves.conn in
     let was = was_clean old new c.in-Ok-adopt.ensures.clean clean in
     let opened = c.in-Ok.ensures.opened was in
-    begins_counted new c.in-Ok-adopt.shelves.counts w c.in-Ok-adopt.ensures.none_counted
+    begins_empty new c.in-Ok-adopt.shelves.kept w c.in-Ok-adopt.ensures.none_kept
     (begins_found old new _ opened.1 opened.0.is_open opened.0.clean (c.in-Ok.ensures.found was) (c.in-Ok-adopt.ensures.opens clean) w held)

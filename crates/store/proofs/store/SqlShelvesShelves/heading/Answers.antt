@@ -6,8 +6,8 @@ use Rattle.store.proofs.store.SqlShelvesShelves.heading.Goals as goal
 pub returns-in-Ok-clause-reads : goal.returns-in-Ok-clause-reads
 returns-in-Ok-clause-reads g c =
     let answer = rw (c.as_str.ensures.value, c.as_str-2.ensures.value) at c.in-Ok.ensures.answer in
-    reads (state g.S.Store c.args.self.now.conn) (state g.S.Store c.find_heading.new.conn) c.args.self.now.counts (Ok c.in-Ok.found) _ c.find_heading.ensures.spares (λ clean w stands. answer clean w stands.0)
+    reads (state g.S.Store c.args.self.now.conn) (state g.S.Store c.find_heading.new.conn) c.args.self.now.kept (Ok c.in-Ok.found) _ c.find_heading.ensures.spares (λ clean w stands. answer clean w stands.0)
 
 pub returns-in-Err-clause-reads : goal.returns-in-Err-clause-reads
 returns-in-Err-clause-reads g c =
-    reads (state g.S.Store c.args.self.now.conn) (state g.S.Store c.find_heading.new.conn) c.args.self.now.counts (Err c.fault.result) _ c.find_heading.ensures.spares (λ _ _ _. tt)
+    reads (state g.S.Store c.args.self.now.conn) (state g.S.Store c.find_heading.new.conn) c.args.self.now.kept (Err c.fault.result) _ c.find_heading.ensures.spares (λ _ _ _. tt)

@@ -9,13 +9,14 @@ pub returns-in-Ok-clause-does : goal.returns-in-Ok-clause-does
 returns-in-Ok-clause-does g c =
     let told = rw c.as_str.ensures.value at c.in-Ok.ensures.changes in
     let raised = rw c.as_str-in-Ok.ensures.value at c.raise.ensures in
-    changes (state g.S.Store c.args.self.now.conn) (state g.S.Store c.add_entry.new.conn) c.args.self.now.counts c.raise.new.self (Ok tt) _ (λ _. tt) _ c.add_entry.ensures.clean
+    let forgot = rw c.as_str-in-Ok-2.ensures.value at c.forget.ensures in
+    changes (state g.S.Store c.args.self.now.conn) (state g.S.Store c.add_entry.new.conn) c.args.self.now.kept (record { counts = c.raise.new.self; lists = c.forget.new.self }) (Ok tt) _ (λ _. tt) _ c.add_entry.ensures.clean
     (λ clean w stands room. (refl, told clean w stands.0 room.free, entry_added w _ _ stands.1 room))
-    (λ w room right. raised w (version_text c.args.version.now) c.args.entry.now room.free right)
+    (λ w room right. (raised w (version_text c.args.version.now) c.args.entry.now room.free right.0, forgot w c.args.shelf.now (version_text c.args.version.now) c.args.entry.now right.1))
 
 pub returns-in-Err-clause-does : goal.returns-in-Err-clause-does
 returns-in-Err-clause-does g c =
     let told = rw c.as_str.ensures.value at c.in-Err.ensures.changes in
-    changes (state g.S.Store c.args.self.now.conn) (state g.S.Store c.add_entry.new.conn) c.args.self.now.counts c.args.self.now.counts (Err c.fault.result) _ (λ _. tt) _ c.add_entry.ensures.clean
+    changes (state g.S.Store c.args.self.now.conn) (state g.S.Store c.add_entry.new.conn) c.args.self.now.kept c.args.self.now.kept (Err c.fault.result) _ (λ _. tt) _ c.add_entry.ensures.clean
     (λ clean w stands room. (tt, told clean w stands.0 room.free, entry_added w _ _ stands.1 room))
     (λ _ _ right. right)

@@ -1,25 +1,29 @@
-use Rattle.std.proofs.Common.{rules, List, ℕ, Some, None, ◌≡◌}
+use Rattle.std.proofs.Common.{rules, List, ℕ, Some, None, Ok, ◌≡◌}
 use Rattle.sqlite.specs.Held.{state}
 use Rattle.world.specs.Latest.{AllOf, highest}
 use Rattle.world.proofs.Newest.{none_read, latest_read}
 use Rattle.store.specs.Calls.{shown_with}
+use Rattle.store.proofs.StoreLemmas.{reads_then}
 use Rattle.store.proofs.store.SqlShelvesShelves.latest.Goals as goal
 
 pub returns-in_default-clause-reads : goal.returns-in_default-clause-reads
 returns-in_default-clause-reads g c =
     let vs = c.in_ok-versions.versions in
     let none : (path : List ℕ) → AllOf path vs → None ≡ highest vs = rw c.as_slice.ensures at c.in_default.ensures in
-    none_read (shown_with (state g.S.Store c.args.self.now.conn) c.args.self.now.counts) _ (λ w stands. stands.0.1) c.args.shelf.now c.args.path.now vs
-    c.in_ok-versions.ensures.reads none
+    let read = rw c.as_str.ensures.value at c.in_ok-versions.ensures.reads in
+    none_read (shown_with (state g.S.Store c.args.self.now.conn) c.args.self.now.kept) _ (λ w stands. stands.0.1) c.args.shelf.now c.args.path.now vs read none
 
 pub returns-clause-reads : goal.returns-clause-reads
 returns-clause-reads g c =
     let vs = c.in_ok-versions.versions in
+    let read = rw c.as_str.ensures.value at c.in_ok-versions.ensures.reads in
     let top : (path : List ℕ) → AllOf path vs → Some c.in-Some.newest.now ≡ highest vs = rw c.as_slice.ensures at c.in-Some.ensures in
-    let left = rw c.as_slice-2.ensures at c.in_ok-latest_left.ensures in
-    latest_read (shown_with (state g.S.Store c.args.self.now.conn) c.args.self.now.counts) _ (λ w stands. stands.0.1) c.args.shelf.now c.args.path.now vs
-    c.in_ok-versions.ensures.reads _ c.in-Some.newest.now c.in_ok-heading.heading c.in_ok-gomod.gomod _ top c.in_ok-heading.ensures.reads c.in_ok-gomod.ensures
-    left
+    let left = rw c.as_slice-2.ensures at c.in_ok-latest.ensures in
+    let kept = rw c.as_str-2.ensures.value at c.keep.ensures in
+    let start = shown_with (state g.S.Store c.args.self.now.conn) c.args.self.now.kept in
+    let all = latest_read start _ (λ w stands. stands.0.1) c.args.shelf.now c.args.path.now vs read _ c.in-Some.newest.now c.in_ok-heading.heading c.in_ok-gomod.gomod _ top c.in_ok-heading.ensures.reads c.in_ok-gomod.ensures left in
+    reads_then start (state g.S.Store c.heading.new.self.conn) c.heading.new.self.kept (record { counts = c.heading.new.self.kept.counts; lists = c.keep.new.self }) (Ok c.in_ok-latest.latest) _ all
+    (λ clean w stands right. (right.0, kept w right.1 (read.at (c.in_ok-heading.ensures.reads.honest clean) w stands).answer))
 
 pub returns-in_err-versions-clause-reads : goal.returns-in_err-versions-clause-reads
 returns-in_err-versions-clause-reads g c =
@@ -53,8 +57,8 @@ returns-in_err-gomod-clause-reads g c =
           record { answer = search rules; stays = seen.stays; left = λ x y was. seen.left x y (told.left x y was) };
     }
 
-pub returns-in_err-latest_left-clause-reads : goal.returns-in_err-latest_left-clause-reads
-returns-in_err-latest_left-clause-reads g c =
+pub returns-in_err-latest-clause-reads : goal.returns-in_err-latest-clause-reads
+returns-in_err-latest-clause-reads g c =
     let read = c.in_ok-versions.ensures.reads in
     let then = c.in_ok-heading.ensures.reads in
     record {

@@ -5,7 +5,7 @@ use Rattle.world.specs.declared.registry.Registered.TheVariants.{Name}
 use Rattle.world.specs.World.{is_team_name}
 use Rattle.world.specs.Registry.{after_team_add}
 use Rattle.world.proofs.Sound.{sound_team}
-use Rattle.store.proofs.StoreLemmas.{changes, counts_after_team, refused}
+use Rattle.store.proofs.StoreLemmas.{changes, kept_after_team, refused}
 use Rattle.store.proofs.AddTeamLemmas.{misnamed_team}
 use Rattle.store.proofs.store.SqlShelvesShelves.team_add.Goals as goal
 
@@ -13,16 +13,16 @@ pub returns-then-not-is_team_name-clause-does : goal.returns-then-not-is_team_na
 returns-then-not-is_team_name-clause-does g c =
     let name = c.args.name.now in
     let wrong : is_team_name name ≡ false = search rules in
-    refused (state g.S.Store c.args.self.now.conn) c.args.self.now.counts Name _ _ (λ w. let named = misnamed_team w name wrong in (named, ap (λ (r : Registered). after_team_add w name r) named))
+    refused (state g.S.Store c.args.self.now.conn) c.args.self.now.kept Name _ _ (λ w. let named = misnamed_team w name wrong in (named, ap (λ (r : Registered). after_team_add w name r) named))
 
 pub returns-in-Ok-clause-does : goal.returns-in-Ok-clause-does
 returns-in-Ok-clause-does g c =
-    changes (state g.S.Store c.args.self.now.conn) (state g.S.Store c.add_team.new.conn) c.args.self.now.counts c.args.self.now.counts (Ok c.in-Ok.registered) _ _ _ c.add_team.ensures.changes.clean
+    changes (state g.S.Store c.args.self.now.conn) (state g.S.Store c.add_team.new.conn) c.args.self.now.kept c.args.self.now.kept (Ok c.in-Ok.registered) _ _ _ c.add_team.ensures.changes.clean
     (λ clean w stands _. (c.in-Ok.ensures.answer clean w stands.0, c.in-Ok.ensures.changes.at w, sound_team w c.args.name.now _ stands.1 refl))
-    (λ w _ right. counts_after_team w _ right c.args.name.now _)
+    (λ w _ right. kept_after_team w _ right c.args.name.now _)
 
 pub returns-in-Err-clause-does : goal.returns-in-Err-clause-does
 returns-in-Err-clause-does g c =
-    changes (state g.S.Store c.args.self.now.conn) (state g.S.Store c.add_team.new.conn) c.args.self.now.counts c.args.self.now.counts (Err c.fault.result) _ _ _ c.add_team.ensures.changes.clean
+    changes (state g.S.Store c.args.self.now.conn) (state g.S.Store c.add_team.new.conn) c.args.self.now.kept c.args.self.now.kept (Err c.fault.result) _ _ _ c.add_team.ensures.changes.clean
     (λ clean w stands _. (tt, c.in-Err.ensures.changes.at w, sound_team w c.args.name.now _ stands.1 refl))
     (λ _ _ right. right)

@@ -1,13 +1,21 @@
-use Rattle.std.proofs.Common.{Ok, Err}
+use Rattle.std.proofs.Common.{Ok, rules}
 use Rattle.sqlite.specs.Held.{state}
-use Rattle.store.proofs.StoreLemmas.{reads}
+use Rattle.store.specs.Calls.{shown_with}
+use Rattle.store.proofs.StoreLemmas.{reads_then}
 use Rattle.store.proofs.store.SqlShelvesShelves.versions.Goals as goal
 
-pub returns-in-Ok-clause-reads : goal.returns-in-Ok-clause-reads
-returns-in-Ok-clause-reads g c =
-    let answer = rw c.as_str.ensures.value at c.in-Ok.ensures.answer in
-    reads (state g.S.Store c.args.self.now.conn) (state g.S.Store c.find_versions.new.conn) c.args.self.now.counts (Ok c.in-Ok.versions) _ c.find_versions.ensures.spares (λ clean w stands. answer clean w stands.0)
+pub returns-clause-reads : goal.returns-clause-reads
+returns-clause-reads g c =
+    let read = rw c.as_str.ensures.value at c.in_ok-found.ensures.reads in
+    let kept = rw (c.as_str-2.ensures.value, c.as_slice.ensures) at c.keep_copy.ensures in
+    reads_then (shown_with (state g.S.Store c.args.self.now.conn) c.args.self.now.kept) (state g.S.Store c.take_versions.new.self.conn) c.take_versions.new.self.kept
+    (record { counts = c.take_versions.new.self.kept.counts; lists = c.keep_copy.new.self }) (Ok c.in_ok-found.found) _ read
+    (λ clean w stands right. (right.0, kept w right.1 (read.at clean w stands).answer))
 
-pub returns-in-Err-clause-reads : goal.returns-in-Err-clause-reads
-returns-in-Err-clause-reads g c =
-    reads (state g.S.Store c.args.self.now.conn) (state g.S.Store c.find_versions.new.conn) c.args.self.now.counts (Err c.fault.result) _ c.find_versions.ensures.spares (λ _ _ _. tt)
+pub returns-in_err-found-clause-reads : goal.returns-in_err-found-clause-reads
+returns-in_err-found-clause-reads g c =
+    let read = c.in_err-found.ensures.reads in
+    record {
+      honest = read.honest;
+      at = λ h w stands. let told = read.at h w stands in record { answer = search rules; stays = told.stays; left = told.left };
+    }

@@ -1,0 +1,14 @@
+-- What a store keeps from call to call.
+use Rattle.std.specs.Prelude.{◌≡◌, []}
+use Rattle.std.specs.FinMap as map
+use Rattle.world.specs.World.{World}
+use Rattle.world.specs.Counts.{AreCounts}
+use Rattle.store.specs.KeptLists.{AreLists}
+use Rattle.store.specs.declared.kept.Kept.{Kept}
+
+-- what is kept is so in a world
+abbrev pub AreKept : World → Kept → Type 0
+AreKept w kept = AreCounts w kept.counts × AreLists w kept.lists
+
+abbrev pub IsNothing : Kept → Type 0
+IsNothing kept = (kept.counts ≡ map.empty) × (kept.lists ≡ [])

@@ -1,0 +1,27 @@
+//! What a store keeps from call to call.
+
+ghost use Rattle.std.specs.Prelude.{◌≡◌};
+ghost use Rattle.store.specs.Kept.{IsNothing};
+
+use crate::kept_lists::KeptLists;
+use std::alloc::Global;
+use world::counts::Counts;
+
+/// What was found since a store was opened. Nobody else writes, so it stays right.
+#[derive(Drop)]
+pub(crate) struct Kept {
+    pub(crate) counts: Counts,
+    pub(crate) lists: KeptLists,
+}
+
+impl Kept {
+    /// Nothing. It takes no memory.
+    pub(crate) fn new(alloc: Global) -> Kept
+        ensures { IsNothing result }
+    {
+        Kept {
+            counts: Counts::new(alloc),
+            lists: KeptLists::new(alloc),
+        }
+    }
+}

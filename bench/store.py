@@ -1,10 +1,11 @@
 #!/usr/bin/env python3
-"""Speed and memory of a store in a file: `goshelf answer --db`, beside Python's sqlite3 that inserts the same rows.
+"""Speed and memory of a store in a file: `goshelf answer --db`, beside Python's sqlite3 that inserts the same rows; lists of a long path.
 
 Build the program first (`./goshelf --version`). Each publish is one transaction that is on the disk before it is
 answered, and so is each of sqlite3's (synchronous=FULL). With --quick the stores are a tenth as large.
 """
 
+import itertools
 import os
 import sqlite3
 import subprocess
@@ -46,11 +47,15 @@ def gomod(path):
     return f"module {path}\n".encode()
 
 
-def publish(n, zip_length):
-    path, version = place(n)
+def publish_of(version, zip_length, path=place(0)[0]):
     length = len(gomod(path)) + zip_length
     head = f"PUT /k/{KEY}/{path}/@v/{version} HTTP/1.1\r\nMod-Length: {len(gomod(path))}\r\nContent-Length: {length}\r\n\r\n"
     return head.encode() + gomod(path) + BLOCK * (zip_length // len(BLOCK))
+
+
+def publish(n, zip_length):
+    path, version = place(n)
+    return publish_of(version, zip_length, path)
 
 
 def get(n):
@@ -162,6 +167,26 @@ def fetches(folder, few, many, gets):
     )
 
 
+def ask(rest):
+    return f"GET /k/{KEY}/{place(0)[0]}/{rest} HTTP/1.1\r\n\r\n".encode()
+
+
+def on_one_path(folder, versions, asks, publishes):
+    """The list and the latest version of a path, asked again and again, and asked once after each of some publishes."""
+    file = filled_file(folder, versions)
+    more = itertools.count()
+    for name, rest in (("list", "@v/list"), ("latest version", "@latest")):
+        opening = min(answered(file, [])[0] for _ in range(ROUNDS))
+        again = min(answered(file, (ask(rest) for _ in range(asks)))[0] for _ in range(ROUNDS)) - opening
+        put = lambda: publish_of(f"v1.1.{next(more)}", 0)
+        plain = answered(file, (put() for _ in range(publishes)))[0]
+        between = answered(file, itertools.chain.from_iterable((put(), ask(rest)) for _ in range(publishes)))[0]
+        print(
+            f"the {name} of {versions:,} versions: {1000 * again / asks:,.2f} ms asked again, the best of {ROUNDS} runs of {asks:,}; "
+            f"{1000 * (between - plain) / publishes:,.2f} ms after a publish to the path"
+        )
+
+
 def main():
     scale = 10 if "--quick" in sys.argv else 1
     if not os.path.exists(PROGRAM):
@@ -170,6 +195,7 @@ def main():
         publishes(folder, 10_000 // scale, 1024, "1 KiB")
         publishes(folder, 200 // scale, 2**20, "1 MiB")
         fetches(folder, 1_000, 100_000 // scale, 1_000_000 // scale)
+        on_one_path(folder, 3_900, 1_000 // scale, 40)
 
 
 if __name__ == "__main__":

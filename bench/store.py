@@ -104,7 +104,7 @@ def answered(file, requests):
         _, status, usage = os.wait4(child.pid, 0)
         seconds = time.monotonic() - started
         target.seek(0)
-        done = sum(line.startswith((b"HTTP/1.1 200 ", b"HTTP/1.1 201 ")) for line in target)
+        done = sum(line.count(b"HTTP/1.1 200 ") + line.count(b"HTTP/1.1 201 ") for line in target)
         if status != 0 or done != count:
             sys.exit(f"wait status {status}, and {done} of {count} requests were answered 200 or 201")
         return seconds, usage.ru_maxrss / 1024

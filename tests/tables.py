@@ -144,7 +144,7 @@ def refused():
         ("a zip of a byte too many", "INSERT INTO piece SELECT id, 256, X'5A' FROM version WHERE version = 'v1.0.6'"),
         ("a piece without its version", "INSERT INTO piece VALUES (99, 0, X'5A')"),
         ("pieces whose version is gone", "DELETE FROM version WHERE version = 'v1.0.5'"),
-        ("pieces of a version taken by another", f"UPDATE piece SET version = {of} WHERE version = (SELECT id FROM version WHERE version = 'v1.0.6')"),
+        ("pieces of a version taken by another", f"UPDATE piece SET version = {of} WHERE number > 2 AND version = (SELECT id FROM version WHERE version = 'v1.0.6')"),
         ("an order_key of another version", f"UPDATE version SET order_key = X'{order_key('v1.0.4').hex()}' WHERE version = 'v1.0.5'"),
         ("a rank_key that is the order_key", "UPDATE version SET rank_key = order_key WHERE version = 'v1.0.5'"),
         ("schema 1 by its number", "UPDATE meta SET value = 1"),

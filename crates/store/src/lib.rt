@@ -34,6 +34,7 @@ mod extract;
 mod extract_judge;
 mod extract_part;
 mod extract_rows;
+mod files;
 mod kept;
 mod kept_lists;
 mod keyed;

@@ -1,5 +1,5 @@
 //! The checks of a publish, row by row.
-use crate::rows::{answer_of, call_of, column, named, with_lines};
+use scripts::rows::{answer_of, call_of, column, named, with_lines};
 use modpath::ModulePath;
 use modver::{Version, read_time};
 use shelf::ask::{Body, GivenTime, Publish};

@@ -1,5 +1,5 @@
 //! Runs of the machine on shelves in memory.
-use crate::rows::{answer_of, call_of, column, with_lines};
+use scripts::rows::{answer_of, call_of, column, with_lines};
 use modpath::ModulePath;
 use modver::Version;
 use shelf::ask::{Ask, Body, Event, GivenTime, Publish, Query};

@@ -54,7 +54,7 @@ pub(crate) fn connect<T: Start>(
 
 /// What it is told as that the system or the name does not let files be opened.
 fn path_refusal(error: OpenError) -> Refusal
-    ensures { (result ≡ Refusal.Memory) ⊎ (result ≡ Refusal.Device) }
+    ensures unopened { (result ≡ Refusal.Memory) ⊎ (result ≡ Refusal.Device) }
     ensures in_use { error ≡ OpenError.Busy → result ≡ Refusal.Device }
 {
     match error {

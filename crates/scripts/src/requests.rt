@@ -189,11 +189,10 @@ fn head_lines(alloc: Global, column: &str) -> Result<String, AllocError> {
     column.replace(alloc, ";", "\r\n")
 }
 
-/// What follows the first line of a PUT.
-fn put_rest(alloc: Global, row: &str) -> Result<String, AllocError> {
-    let lines = head_lines(alloc, part(row, 6))?;
-    let gomod = with_lines(alloc, part(row, 4))?;
-    let zip = part(row, 5);
+/// What follows the first line of a PUT: further lines of its head, its go.mod and its zip.
+fn put_rest(alloc: Global, gomod: &str, zip: &str, lines: &str) -> Result<String, AllocError> {
+    let lines = head_lines(alloc, lines)?;
+    let gomod = with_lines(alloc, gomod)?;
     format!(in alloc;
         "{lines}Mod-Length: {}\r\nContent-Length: {}\r\n\r\n{gomod}{zip}",
         gomod.len(),
@@ -201,19 +200,25 @@ fn put_rest(alloc: Global, row: &str) -> Result<String, AllocError> {
     )
 }
 
-/// The bytes of the request of a row.
-fn request(alloc: Global, row: &str) -> Result<String, AllocError> {
-    let mut words = part(row, 0).split(' ');
+/// The bytes of a request, by words that are its method, the letter of its key and its target; of a PUT also by its go.mod, its
+/// zip and further lines of its head, in which `;` stands for the end of a line.
+pub fn request(
+    alloc: Global,
+    words: &str,
+    gomod: &str,
+    zip: &str,
+    lines: &str,
+) -> Result<String, AllocError> {
+    let mut words = words.split(' ');
     let method = words.next().unwrap_or("");
     let key = key_of(words.next().unwrap_or(""));
     let target = words.next().unwrap_or("");
-    let mut text = format!(in alloc; "{method} /k/{key}/{target} HTTP/1.1\r\n")?;
-    if method == "PUT" {
-        text.push_str(put_rest(alloc, row)?.as_str())?;
+    let rest = if method == "PUT" {
+        put_rest(alloc, gomod, zip, lines)?
     } else {
-        text.push_str("\r\n")?;
-    }
-    Ok(text)
+        String::from_str(alloc, "\r\n")?
+    };
+    format!(in alloc; "{method} /k/{key}/{target} HTTP/1.1\r\n{rest}")
 }
 
 /// The bytes that a row asks with.
@@ -221,7 +226,7 @@ fn asked(alloc: Global, row: &str) -> Result<String, AllocError> {
     if part(row, 0).contains(" HTTP/1.1") {
         head_lines(alloc, part(row, 0))
     } else {
-        request(alloc, row)
+        request(alloc, part(row, 0), part(row, 4), part(row, 5), part(row, 6))
     }
 }
 

@@ -1,7 +1,7 @@
 //! Stores in files. Each test has a folder of its own.
 use crate::adopted_tables::SCHEMA_1;
-use crate::calls::wrong_row;
-use crate::requests::REQUESTS;
+use scripts::calls::wrong_row;
+use scripts::requests::REQUESTS;
 use sqlite::{Alter, Connection, Error, params};
 use std::alloc::Global;
 use std::fs;

@@ -1,5 +1,5 @@
 //! Tables that a connection has before it is adopted.
-use crate::calls::wrong_row_of;
+use scripts::calls::wrong_row_of;
 use sqlite::{Connection, Error, MemStore};
 use std::alloc::Global;
 use std::test::Fail;

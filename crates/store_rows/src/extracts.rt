@@ -1,5 +1,5 @@
 //! A team's part of a store, as a store of its own.
-use crate::calls::wrong_row;
+use scripts::calls::wrong_row;
 use sqlite::MemStore;
 use std::alloc::Global;
 use std::test::Fail;

@@ -9,6 +9,147 @@ use std::test::Fail;
 use world::entry::{EntryRef, Right};
 use world::shelves::Shelves;
 
+/// Scripts of calls, with `====` between them, that each store answers alike.
+pub const CALLS: &str = "\
+team-add|alpha = Done
+team-add|alpha = Taken
+team-add|common = Name
+reader-add|alpha|shortkey1234567 = Name
+reader-add|gamma|alphakey00000001 = NoTeam
+reader-add|alpha|alphakey00000001 = Done
+reader-add|common|alphakey00000001 = Taken
+key-revoke|alphakey00000001 = Done
+key-revoke|alphakey00000001 = NoKey
+reader-add|common|alphakey00000001 = Done
+failures = 0
+====
+key-revoke|alphakey00000001 = NoKey
+team-add|alpha = Done
+key-add|alpha|alphakey00000001 = Done
+key|alphakey00000001 = alpha Publishes
+key-revoke|alphakey00000001 = Done
+key|alphakey00000001 = none
+key-revoke|alphakey00000001 = NoKey
+reader-add|common|alphakey00000001 = Done
+key|alphakey00000001 = common Reads
+failures = 0
+====
+team-add|alpha = Done
+team-add|beta = Done
+insert|alpha|example.com/x|v1.2.0 = ()
+insert|alpha|example.com/x|v1.10.0 = ()
+insert|alpha|example.com/y|v0.1.0 = ()
+insert|beta|example.com/x|v1.9.0 = ()
+insert|beta|example.com/c|v1.0.0 = ()
+insert|common|example.com/x|v1.2.0 = ()
+insert|common|example.com/x|v1.0.0 = ()
+insert|common|example.com/a/v2|v2.0.0 = ()
+insert|common|example.com/B|v1.0.0 = ()
+versions|alpha|example.com/x = v1.0.0;v1.2.0;v1.10.0;
+versions|common|example.com/x = v1.0.0;v1.2.0;
+count|alpha|example.com/x = 2
+paths|alpha = example.com/B;example.com/a/v2;example.com/x;example.com/y;
+====
+team-add|alpha = Done
+count|alpha|example.com/x = 0
+insert|alpha|example.com/x|v1.0.0 = ()
+count|alpha|example.com/x = 1
+insert|common|example.com/x|v1.0.0 = ()
+insert|alpha|example.com/x|v1.1.0 = ()
+count|common|example.com/x = 1
+count|alpha|example.com/y = 0
+team-add|beta = Done
+key-add|alpha|alphakey00000001 = Done
+key-revoke|alphakey00000001 = Done
+insert|alpha|example.com/y|v1.0.0 = ()
+count|alpha|example.com/x = 2
+count|alpha|example.com/y = 1
+count|beta|example.com/x = 0
+====
+team-add|alpha = Done
+team-add|beta = Done
+insert|alpha|example.com/lib|v1.10.0|module example.com/lib; = ()
+insert|alpha|example.com/lib|v1.2.0|module example.com/lib; = ()
+insert|common|example.com/lib|v1.2.0|module example.com/lib; = ()
+insert|common|example.com/lib|v0.1.0|module example.com/lib; = ()
+insert|common|example.com/tool|v1.0.0|module example.com/lib; = ()
+insert|beta|example.com/lib|v1.5.0|module example.com/lib; = ()
+insert|beta|example.com/own|v1.0.0|module example.com/lib; = ()
+versions|alpha|example.com/lib = v0.1.0;v1.2.0;v1.10.0;
+latest|alpha|example.com/lib = v1.10.0
+latest|common|example.com/lib = v1.2.0
+latest|common|example.com/own = none
+insert|alpha|example.com/lib|v1.11.0|module example.com/lib;retract [v1.2.0, v1.11.0]; = ()
+latest|alpha|example.com/lib = v0.1.0
+latest|beta|example.com/lib = v1.5.0
+paths|alpha = example.com/lib;example.com/tool;
+paths|common = example.com/lib;example.com/tool;
+====
+team-add|alpha = Done
+versions|alpha|example.com/lib = 
+latest|alpha|example.com/lib = none
+insert|alpha|example.com/lib|v1.0.0|module example.com/lib; = ()
+insert|common|example.com/tool|v1.0.0|module example.com/tool; = ()
+versions|alpha|example.com/lib = v1.0.0;
+versions|alpha|example.com/lib = v1.0.0;
+versions|beta|example.com/lib = 
+versions|alpha|example.com/tool = v1.0.0;
+versions|common|example.com/tool = v1.0.0;
+latest|alpha|example.com/lib = v1.0.0
+latest|alpha|example.com/lib = v1.0.0
+team-add|beta = Done
+key-add|beta|betakey000000001 = Done
+key-revoke|betakey000000001 = Done
+versions|alpha|example.com/lib = v1.0.0;
+insert|common|example.com/lib|v1.1.0|module example.com/lib; = ()
+versions|alpha|example.com/lib = v1.0.0;v1.1.0;
+versions|beta|example.com/lib = v1.1.0;
+versions|common|example.com/lib = v1.1.0;
+latest|alpha|example.com/lib = v1.1.0
+insert|alpha|example.com/lib|v1.2.0|module example.com/lib;retract [v1.1.0, v1.2.0]; = ()
+latest|alpha|example.com/lib = v1.0.0
+latest|beta|example.com/lib = v1.1.0
+versions|alpha|example.com/lib = v1.0.0;v1.1.0;v1.2.0;
+versions|beta|example.com/lib = v1.1.0;
+versions|beta|example.com/tool = v1.0.0;
+versions|alpha|example.com/tool = v1.0.0;
+failures = 0
+====
+insert|common|example.com/x|v1.0.0|module example.com/x;|zip|2024-02-29T23:59:59Z = ()
+entry|alpha|example.com/x|v1.0.0 = common|module example.com/x;|zip|2024-02-29T23:59:59Z
+insert|common|example.com/lib|v1.0.0|module example.com/lib;||2024-02-29T12:34:56Z = ()
+insert|common|example.com/lib|v1.1.0|module example.com/lib; = ()
+entry|common|example.com/lib|v1.0.0 = common|module example.com/lib;||2024-02-29T12:34:56Z
+entry|common|example.com/lib|v1.1.0 = common|module example.com/lib;||
+====
+team-add|alpha = Done
+insert|common|example.com/x|v1.0.0|module example.com/x;|zip|2024-02-29T23:59:59Z = ()
+insert|alpha|example.com/x|v1.0.0|module \"example.com/x\";|zip|2024-02-29T23:59:59Z = ()
+heading|alpha|example.com/x|v1.0.0 = module \"example.com/x\";|2024-02-29T23:59:59Z
+heading|beta|example.com/x|v1.0.0 = module example.com/x;|2024-02-29T23:59:59Z
+insert|common|example.com/lib|v1.0.0|module example.com/lib; = ()
+heading|alpha|example.com/lib|v1.0.0 = module example.com/lib;|
+insert|alpha|example.com/lib|v1.0.0|module \"example.com/lib\";||2024-02-29T12:34:56Z = ()
+heading|alpha|example.com/lib|v1.0.0 = module \"example.com/lib\";|2024-02-29T12:34:56Z
+heading|common|example.com/lib|v1.0.0 = module example.com/lib;|
+====
+team-add|alpha = Done
+compare|alpha|example.com/x|v1.0.0|module example.com/x;|zip|2024-02-29T23:59:59Z = Absent
+insert|common|example.com/x|v1.0.0|module example.com/x;|zip|2024-02-29T23:59:59Z = ()
+compare|alpha|example.com/x|v1.0.0|module example.com/x;|zip|2024-02-29T23:59:59Z = Same
+compare|alpha|example.com/x|v1.0.0|module \"example.com/x\";|zip|2024-02-29T23:59:59Z = Other
+compare|alpha|example.com/x|v1.0.0|module example.com/x;|zap|2024-02-29T23:59:59Z = Other
+compare|alpha|example.com/x|v1.0.0|module example.com/x;|zip|2024-02-29T23:59:58Z = Other
+compare|alpha|example.com/x|v1.0.0|module example.com/x;|zip = Other
+compare|alpha|example.com/x|v1.1.0|module example.com/x;|zip = Absent
+insert|alpha|example.com/x|v1.0.0|module example.com/x;|own = ()
+compare|alpha|example.com/x|v1.0.0|module example.com/x;|zip|2024-02-29T23:59:59Z = Other
+compare|alpha|example.com/x|v1.0.0|module example.com/x;|own = Same
+compare|common|example.com/x|v1.0.0|module example.com/x;|zip|2024-02-29T23:59:59Z = Same
+compare|common|example.com/x|v1.0.0|module example.com/x;|own = Other
+failures = 0
+";
+
 /// Whether a row has its answer; one without columns is a heading.
 fn holds<S: Shelves>(alloc: Global, shelves: &mut S, row: &str) -> Result<bool, Fail> {
     if row.contains(" = ") {

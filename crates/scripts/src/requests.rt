@@ -226,7 +226,13 @@ fn asked(alloc: Global, row: &str) -> Result<String, AllocError> {
     if part(row, 0).contains(" HTTP/1.1") {
         head_lines(alloc, part(row, 0))
     } else {
-        request(alloc, part(row, 0), part(row, 4), part(row, 5), part(row, 6))
+        request(
+            alloc,
+            part(row, 0),
+            part(row, 4),
+            part(row, 5),
+            part(row, 6),
+        )
     }
 }
 

@@ -29,19 +29,20 @@ use Rattle.world.specs.World.{World, with_key}
 use Rattle.world.proofs.Orders.{texts_total, texts_exact, get_put}
 use Rattle.tables.specs.Schema.{store_schema, access_table}
 use Rattle.tables.specs.Means.{Means, IsAccess, StandFor}
-use Rattle.store.specs.Lookup.{lookup, passes as found_by, AreFound}
+use Rattle.statements.specs.Lookup.{lookup, passes as found_by, AreFound}
 use Rattle.tables.specs.Walks.{Pass}
 use Rattle.tables.specs.Inserted.{Inserted}
-use Rattle.store.specs.Rows.{Filling}
+use Rattle.statements.specs.Rows.{Filling}
 use Rattle.store.specs.Extract.{AllFit, ShowsKey, IsKeyShown, AddsKey, PutsKey, AddsKeys, CopiesKeys}
-use Rattle.store.proofs.Texts.{keys_on_text, add_key_text}
+use Rattle.statements.proofs.Texts.{add_key_text}
+use Rattle.store.proofs.Texts.{keys_on_text}
 use Rattle.tables.proofs.ValueLemmas.{equals_text, equals_itself, fresh_before}
 use Rattle.store.proofs.DifferLemmas.{differ_is}
-use Rattle.store.proofs.LookupLemmas.{all_found, begun_found}
+use Rattle.statements.proofs.LookupLemmas.{all_found, begun_found}
 use Rattle.tables.proofs.FitTests.{at_place}
 use Rattle.tables.proofs.OneWorld.{texts_same, rights_same}
 use Rattle.tables.proofs.Maps.{put_keeps, put_splits}
-use Rattle.store.proofs.AddKeyLemmas.{added, key_params, key_means, add_key_is, add_key_plain}
+use Rattle.statements.proofs.AddKeyLemmas.{added, key_params, key_means, add_key_is, add_key_plain}
 
 -- ---- the query
 

@@ -32,17 +32,18 @@ use Rattle.tables.specs.Means.{IsAt, IsEachPlaceOnce, IsEachPieceOnce, is_of}
 use Rattle.tables.specs.Walks.{Pass}
 use Rattle.tables.proofs.ValueLemmas.{equals_text, equals_itself, equals_own, fresh_before}
 use Rattle.tables.proofs.FitTests.{at_place}
-use Rattle.store.specs.Lookup.{lookup}
+use Rattle.statements.specs.Lookup.{lookup}
 use Rattle.store.specs.Pairs.{pairs}
-use Rattle.store.specs.Rows.{Filling, PutsVersion, PutsPiece, version_of, piece_of, version_read, piece_read, AddsRows, IsElseSame, AreApart}
-use Rattle.store.specs.Extract.{AllFit, ShowsVersion, IsVersionShown, CopiesVersions, CopiesPieces}
-use Rattle.store.proofs.Texts.{versions_on_text, pieces_on_text, add_version_text}
+use Rattle.statements.specs.Rows.{Filling, PutsPiece, piece_of, piece_read, AddsRows, IsElseSame}
+use Rattle.store.specs.Extract.{PutsVersion, version_of, version_read, AreApart, AllFit, ShowsVersion, IsVersionShown, CopiesVersions, CopiesPieces}
+use Rattle.statements.proofs.Texts.{add_version_text}
+use Rattle.store.proofs.Texts.{versions_on_text, pieces_on_text}
 use Rattle.store.proofs.DifferLemmas.{differ_is}
-use Rattle.store.proofs.LookupLemmas.{all_found, begun_found}
+use Rattle.statements.proofs.LookupLemmas.{all_found, begun_found}
 use Rattle.store.proofs.PairLemmas.{all_paired}
-use Rattle.store.proofs.RowLemmas.{adds_one, adds_none, adds_then, adds_as, else_itself, else_then}
-use Rattle.store.proofs.TabulateLemmas.{put_apart}
-use Rattle.store.proofs.AddEntryLemmas.{version_params, version_put}
+use Rattle.statements.proofs.RowLemmas.{adds_one, adds_none, adds_then, adds_as, else_itself, else_then}
+use Rattle.statements.proofs.TabulateLemmas.{put_apart}
+use Rattle.statements.proofs.AddEntryLemmas.{version_params, version_put}
 
 -- ---- the query of versions
 

@@ -1,23 +1,27 @@
 -- Rows that are handed on from one store to another.
-use Rattle.std.proofs.Common.{◌≡◌, ◌≤◌, Bool, true, false, ℕ, List, Result, Ok, Err, inl, refl, sym, subst, ◌∙◌, arith, IsTrue, is_ok, OnOk, true≢false}
+use Rattle.std.proofs.Common.{◌≡◌, ◌≤◌, Bool, true, false, ℕ, List, Result, Ok, Err, inl, refl, sym, subst, arith, IsTrue, is_ok, OnOk, true≢false}
 use Rattle.sqlite_trees.specs.View.{doubt}
+use Rattle.sqlite_catalog.specs.Listing.{IsSound}
 use Rattle.sqlite.specs.Order.{Row}
 use Rattle.sqlite.specs.Tree.{Trees}
 use Rattle.sqlite.specs.Effect.{Database, Reads, ReadsFirst}
 use Rattle.sqlite.specs.Listing.{understood, reads_listing}
-use Rattle.sqlite.specs.State.{State, HasCleanDisk, IsUnchanged, Survives, KeepsCommit, CommitsShowing, Shown, Begins}
-use Rattle.sqlite.proofs.Callers.{IsPlain, never_commits, command_of, reads_as, begins_as, unchanged_then}
-use Rattle.sqlite.proofs.StateLemmas.{survives_then, survives_weaker}
+use Rattle.sqlite.specs.State.{State, HasCleanDisk, IsUnchanged, Survives, KeepsCommit, CommitsShowing, Shown, Begins, ExecutesInside}
+use Rattle.sqlite.proofs.Callers.{IsPlain, never_commits, command_of, reads_as, begins_as, runs_as, unchanged_then}
+use Rattle.sqlite.proofs.StateLemmas.{survives_weaker}
 use Rattle.world.specs.World.{World, with_team}
 use Rattle.tables.specs.Means.{Means, Stands}
 use Rattle.tables.specs.Schema.{store_schema}
 use Rattle.tables.specs.Walks.{Looks}
 use Rattle.tables.proofs.FailureLemmas.{was_clean}
 use Rattle.tables.proofs.WalkLemmas.{unchanged_schema, kept_then}
-use Rattle.store.specs.Calls.{Spares}
-use Rattle.store.specs.Rows.{Filling, GoesOn}
+use Rattle.statements.specs.Calls.{Spares}
+use Rattle.statements.specs.Rows.{Filling, GoesOn}
 use Rattle.store.specs.Extract.{IsReady, IsReadBy, Copies, OfWorlds, PutsShelf, AddsShelf, Then}
-use Rattle.store.proofs.CallLemmas.{kept_stands}
+use Rattle.statements.proofs.AddTeamLemmas.{shelf_params, add_shelf_is, add_shelf_plain, added, shelf_means}
+use Rattle.statements.proofs.CallLemmas.{kept_stands}
+use Rattle.statements.proofs.GoingLemmas.{goes_on_then}
+use Rattle.statements.proofs.Texts.{add_shelf_text}
 
 -- ---- a query with parameters, one row at a time
 
@@ -31,37 +35,6 @@ module _ (sql : List ℕ) (params : Row) (plain : IsPlain (understood store_sche
 
   pub some_shown : (rows : List Row) → Begins sql params mid rows → ReadsFirst (command_of (understood store_schema sql)) old.now params rows
   some_shown rows begins = subst (λ db. ReadsFirst (command_of (understood store_schema sql)) db params rows) same.0.now_is (begins_as sql params mid mid store_schema (unchanged_schema old mid same has) _ refl plain unlisted rows begins)
-
--- ---- a transaction that goes on
-
-survives_itself : (a : State) → Survives a a (λ _. ⊥)
-survives_itself a = record {
-  clean = omega arith;
-  shield = λ s. s;
-  counts = omega arith;
-  limit = refl;
-  closes = λ _ is. inl is;
-  crash = λ _ db may. inl may;
-}
-
-pub goes_on_itself : (a : State) → GoesOn a a true
-goes_on_itself a = record { survives = survives_itself a; kept = λ _ _. record { was_open = λ is. is; committed = λ _. refl }; inside = λ _ is _. is }
-
-pub stays_quiet : (a b c : State) → Survives a b (λ _. ⊥) → Survives b c (λ _. ⊥) → Survives a c (λ _. ⊥)
-stays_quiet a b c p q = survives_then a b c _ _ (λ _. ⊥) (λ _ db none. none) (λ _ db none. none) p q
-
-kept_both : (a b c : State) → KeepsCommit a b → KeepsCommit b c → KeepsCommit a c
-kept_both a b c p q = record { was_open = λ is. p.was_open (q.was_open is); committed = λ is. q.committed is ∙ p.committed (q.was_open is) }
-
-pub commit_kept : (a b c : State) → GoesOn a b true → doubt b.is_clean ≤ doubt c.is_clean → (HasCleanDisk c → IsTrue b.in_transaction → KeepsCommit b c) → HasCleanDisk c → IsTrue a.in_transaction → KeepsCommit a c
-commit_kept a b c p up next clean inside = let was = was_clean b c up clean in kept_both a b c (p.kept was inside) (next clean (p.inside was inside refl))
-
-pub goes_on_then : (a b c : State) (done : Bool) → GoesOn a b true → GoesOn b c done → GoesOn a c done
-goes_on_then a b c done p q = record {
-  survives = stays_quiet a b c p.survives q.survives;
-  kept = commit_kept a b c p q.survives.clean q.kept;
-  inside = λ clean is all. q.inside clean (p.inside (was_clean b c q.survives.clean clean) is refl) all;
-}
 
 -- ---- copies
 
@@ -90,6 +63,16 @@ copied r Makes s t a b looks same goes_on makes =
 
 unchanged_itself : (s : State) → IsTrue s.is_open → IsUnchanged s s
 unchanged_itself s is = (record { was_open = is; is_open = is; now_is = refl; committed_is = refl; mode = refl }, record { changes = refl; last_rowid = refl }, refl)
+
+-- one shelf is written within a transaction
+pub shelf_put : (old new : State) (name : List ℕ) (count : ℕ) → Filling old → ExecutesInside 0 add_shelf_text (shelf_params name) old new (Ok count) → PutsShelf name old.now.trees new.now.trees × Filling new
+shelf_put old new name count filling ran =
+    let wrote = runs_as add_shelf_text (shelf_params name) old new store_schema filling.schema _ add_shelf_is add_shelf_plain count ran.0 in
+    let it = added old.step_limit name old.now [] wrote.tally new.now filling.schema wrote.changed in
+    let sound = subst (λ s. IsSound s new.now.trees) it.0 wrote.sound in (
+      λ x stand. record { sound = sound; means = shelf_means x name old.now.trees new.now.trees it.1 stand.means },
+      record { schema = it.0; sound = sound; is_open = wrote.shown.is_open; inside = ran.1.mode },
+    )
 
 -- a shelf is put in, and the source is not touched
 pub put_copied : {A E : Type 0} (r : Result A E) (name : List ℕ) (s a b : State) → GoesOn a b (is_ok r) → (HasCleanDisk b → Filling a → OnOk r (PutsShelf name a.now.trees b.now.trees × Filling b))

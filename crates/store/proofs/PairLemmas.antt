@@ -16,7 +16,7 @@ use Rattle.sqlite_rules.proofs.ProbeLemmas.{has_mapped, mapped_has}
 use Rattle.tables.specs.Schema.{store_schema}
 use Rattle.store.specs.Pairs.{pairs, passes_both, ArePaired}
 use Rattle.tables.proofs.JoinLemmas.{flat_has, has_flat}
-use Rattle.store.proofs.LookupLemmas.{has_matched, matched_has}
+use Rattle.statements.proofs.LookupLemmas.{has_matched, matched_has}
 use Rattle.tables.proofs.Ascending.{has_permuted}
 
 pub answer_paired : (t u : ℕ) (filter project : List Term) (db : Trees) (params : Row) (out : List Row) → IsAnswer (pairs t u filter project) db params out → ArePaired (db t) (db u) filter project params out

@@ -4,7 +4,8 @@ ghost use Rattle.std.specs.Prelude.{◌≡◌, ◌≢◌, ◌≤◌, IfOk};
 ghost use Rattle.sqlite.specs.Held.{state};
 ghost use Rattle.sqlite_trees.specs.View.{doubt};
 ghost use Rattle.world.specs.Part.{part};
-ghost use Rattle.store.specs.Calls.{Spares, ChangesAt, shown_of, shown_with};
+ghost use Rattle.statements.specs.Calls.{Spares, ChangesAt};
+ghost use Rattle.store.specs.Shown.{shown_of, shown_with};
 ghost use Rattle.store.specs.Extracted.{IsJudged, is_written, InEachTwo, Extracts, HasCauseInEither};
 
 use crate::extract_judge::{Judged, judge};

@@ -8,9 +8,9 @@ ghost use Rattle.sqlite_trees.specs.View.{doubt};
 ghost use Rattle.world.specs.Part.{part};
 ghost use Rattle.world.specs.World.{IsWorld, only_common};
 ghost use Rattle.tables.specs.Means.{Stands};
-ghost use Rattle.store.specs.Calls.{IsOpenIfHonest, Spares, ChangesAt};
+ghost use Rattle.statements.specs.Calls.{IsOpenIfHonest, Spares, ChangesAt};
 ghost use Rattle.tables.specs.Calls.{Honestly};
-ghost use Rattle.store.specs.Rows.{Filling};
+ghost use Rattle.statements.specs.Rows.{Filling};
 ghost use Rattle.store.specs.Extract.{IsReady, Copies, OfWorlds, PutsShelf, CopiesEntries};
 ghost use Rattle.store.specs.Extracted.{MakesRegistry, MakesPart};
 

@@ -14,12 +14,12 @@ ghost use Rattle.tables.specs.Schema.{store_schema};
 ghost use Rattle.tables.specs.Means.{Means};
 ghost use Rattle.tables.specs.Walks.{Looks, Pass};
 ghost use Rattle.tables.specs.Calls.{Honestly};
-ghost use Rattle.store.specs.Rows.{Filling, PutsVersion, PutsPiece};
-ghost use Rattle.store.specs.Extract.{Copies, OfWorlds, AllFit, IsKeyShown, PutsKey, CopiesKeys, IsVersionShown, CopiesVersions, CopiesPieces};
+ghost use Rattle.statements.specs.Rows.{Filling, PutsPiece};
+ghost use Rattle.store.specs.Extract.{PutsVersion, Copies, OfWorlds, AllFit, IsKeyShown, PutsKey, CopiesKeys, IsVersionShown, CopiesVersions, CopiesPieces};
 
-use crate::pieces::{insert_piece, lent_bytes};
 use sqlite::types::ValueRef;
 use sqlite::{Alter, Connection, Error, ErrorCode, Row, Transaction, params};
+use statements::pieces::{insert_piece, lent_bytes};
 
 /// Why rows were not handed on: by the store that they come from, or by the one that they go to.
 #[derive(Debug, Drop)]

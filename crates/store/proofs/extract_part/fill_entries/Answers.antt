@@ -1,7 +1,7 @@
 use Rattle.std.proofs.Common.{true, false, is_ok, sym, subst}
 use Rattle.sqlite.specs.Held.{state}
 use Rattle.store.specs.Extract.{Copies, CopiesEntries}
-use Rattle.store.proofs.ChangeLemmas.{not_ok}
+use Rattle.statements.proofs.ChangeLemmas.{not_ok}
 use Rattle.store.proofs.ExtractLemmas.{copies_then, copies_part}
 use Rattle.store.proofs.extract_part.fill_entries.Goals as goal
 

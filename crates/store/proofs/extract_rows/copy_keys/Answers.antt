@@ -1,6 +1,6 @@
 use Rattle.sqlite.specs.Held.{state}
 use Rattle.store.specs.Extract.{OfWorlds, CopiesKeys}
-use Rattle.store.proofs.ChangeLemmas.{on_weaker}
+use Rattle.statements.proofs.ChangeLemmas.{on_weaker}
 use Rattle.store.proofs.CopyKeyLemmas.{keys_on_plain, keys_on_tables, keys_fit, keys_passed, keys_copied}
 use Rattle.store.proofs.ExtractLemmas.{copied, goes_on_if}
 use Rattle.store.proofs.extract_rows.copy_keys.Goals as goal

@@ -1,6 +1,6 @@
 use Rattle.sqlite.specs.Held.{state}
 use Rattle.store.specs.Extract.{CopiesPieces}
-use Rattle.store.proofs.ChangeLemmas.{on_weaker}
+use Rattle.statements.proofs.ChangeLemmas.{on_weaker}
 use Rattle.store.proofs.CopyRowLemmas.{pieces_on_plain, pieces_on_tables, pieces_copied}
 use Rattle.store.proofs.ExtractLemmas.{copied, goes_on_if}
 use Rattle.store.proofs.extract_rows.copy_pieces.Goals as goal

@@ -1,6 +1,6 @@
 use Rattle.sqlite.specs.Held.{state}
 use Rattle.store.specs.Extract.{CopiesVersions}
-use Rattle.store.proofs.ChangeLemmas.{on_weaker}
+use Rattle.statements.proofs.ChangeLemmas.{on_weaker}
 use Rattle.store.proofs.CopyRowLemmas.{versions_on_plain, versions_on_tables, versions_fit, versions_copied}
 use Rattle.store.proofs.ExtractLemmas.{copied, goes_on_if}
 use Rattle.store.proofs.extract_rows.copy_versions.Goals as goal

@@ -9,7 +9,7 @@ use Rattle.world.specs.World.{World}
 use Rattle.tables.specs.Schema.{store_schema}
 use Rattle.tables.specs.Means.{Means}
 use Rattle.tables.specs.Walks.{Pass}
-use Rattle.store.specs.Rows.{Filling, GoesOn}
+use Rattle.statements.specs.Rows.{Filling, GoesOn}
 use Rattle.store.proofs.extract_rows.hand_on.Given as goal
 
 abbrev pub invariant-rows : goal.invariant-rows

@@ -1,8 +1,8 @@
 use Rattle.std.proofs.Common.{Ok}
 use Rattle.sqlite.specs.Held.{state}
 use Rattle.sqlite.specs.State.{ExecutesInside}
-use Rattle.store.proofs.Texts.{add_key_text}
-use Rattle.store.proofs.AddKeyLemmas.{key_params}
+use Rattle.statements.proofs.Texts.{add_key_text}
+use Rattle.statements.proofs.AddKeyLemmas.{key_params}
 use Rattle.store.proofs.CopyKeyLemmas.{key_put}
 use Rattle.store.proofs.extract_rows.KeysRowSink.put.Goals as goal
 

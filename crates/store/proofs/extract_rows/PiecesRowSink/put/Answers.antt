@@ -1,6 +1,6 @@
 use Rattle.std.proofs.Common.{to_z-of_z, w64, SFits, rules}
 use Rattle.sqlite.specs.Held.{state}
-use Rattle.store.proofs.ChangeLemmas.{on_weaker}
+use Rattle.statements.proofs.ChangeLemmas.{on_weaker}
 use Rattle.store.proofs.CopyRowLemmas.{piece_as_shown}
 use Rattle.store.proofs.extract_rows.PiecesRowSink.put.Goals as goal
 

@@ -1,8 +1,8 @@
 use Rattle.std.proofs.Common.{Ok, Some, [], to_z-of_z, w64, SFits, rules}
 use Rattle.sqlite.specs.Held.{state}
 use Rattle.sqlite.specs.State.{ExecutesInside}
-use Rattle.store.proofs.Texts.{add_version_text}
-use Rattle.store.proofs.AddEntryLemmas.{version_params, time_bound}
+use Rattle.statements.proofs.Texts.{add_version_text}
+use Rattle.statements.proofs.AddEntryLemmas.{version_params, time_bound}
 use Rattle.store.proofs.CopyRowLemmas.{version_copied}
 use Rattle.store.proofs.extract_rows.VersionsRowSink.put.Goals as goal
 

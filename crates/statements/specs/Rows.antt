@@ -1,0 +1,68 @@
+-- Rows that are put into the tables one after the other, within a transaction.
+use Rattle.std.specs.Prelude.{ℤ, ◌≡◌, ◌≢◌, ◌⊎◌, ◌↔◌, Bool, List, [], ◌∷◌, IsTrue}
+use Rattle.std.specs.List.{AllByRecursion}
+use Rattle.sqlite.specs.declared.types.Value.TheVariants.{Int}
+use Rattle.sqlite.specs.Order.{Row, column}
+use Rattle.sqlite.specs.Tree.{Trees}
+use Rattle.sqlite.specs.Table.{Table}
+use Rattle.sqlite.specs.State.{State, HasCleanDisk, Survives, KeepsCommit}
+use Rattle.sqlite_catalog.specs.Listing.{IsSound}
+use Rattle.sqlite_rules.specs.Lists.{Has}
+use Rattle.world.specs.World.{World}
+use Rattle.tables.specs.Inserted.{Inserted}
+use Rattle.tables.specs.Means.{StandFor}
+use Rattle.tables.specs.Schema.{store_schema, piece_table}
+
+-- within a transaction, the tables obey the schema
+pub record Filling (s : State) : Type 0 where
+  pub schema : s.now.schema ≡ store_schema
+  pub sound : IsSound store_schema s.now.trees
+  pub is_open : IsTrue s.is_open
+  pub inside : IsTrue s.in_transaction
+
+-- within a transaction, the tables stand for the world
+pub record Writing (s : State) (x : World) : Type 0 where
+  pub schema : s.now.schema ≡ store_schema
+  pub trees : StandFor s.now.trees x
+  pub is_open : IsTrue s.is_open
+  pub inside : IsTrue s.in_transaction
+
+-- within a transaction, of which nothing is committed, and which goes on where all was done and no answer of the disk was wrong
+pub record GoesOn (old new : State) (done : Bool) : Type 0 where
+  pub survives : Survives old new (λ _. ⊥)
+  pub kept : HasCleanDisk new → IsTrue old.in_transaction → KeepsCommit old new
+  pub inside : HasCleanDisk new → IsTrue old.in_transaction → IsTrue done → IsTrue new.in_transaction
+
+-- ---- one row
+
+-- the row of `piece` that has these values, and this number
+abbrev pub piece_of : ℤ → Row → Row
+piece_of id values = Int id ∷ column values 0 ∷ column values 1 ∷ column values 2 ∷ []
+
+-- a row of `piece` is put in, with these values
+pub record PutsPiece (values : Row) (db after : Trees) : Type 0 where
+  pub id : ℤ
+  pub version : ℤ
+  pub number : ℤ
+  pub of_version : column values 0 ≡ Int version
+  pub numbered : column values 1 ≡ Int number
+  pub put : Inserted db after piece_table (piece_of id values)
+  pub sound : IsSound store_schema after
+
+-- ---- many rows
+
+-- what is read of a row of `piece`
+abbrev pub piece_read : Row → Row
+piece_read row = column row 1 ∷ column row 2 ∷ column row 3 ∷ []
+
+-- the values are read of one of the rows
+abbrev pub IsRead : (Row → Row) → List Row → Row → Type 0
+IsRead read rows values = (row : Row) × Has rows row × (values ≡ read row)
+
+-- of the rows is read what is read of others, and beside it what is so
+abbrev pub AddsRows : (Row → Row) → (Row → Type 0) → List Row → List Row → Type 0
+AddsRows read IsSo rows more = (values : Row) → IsRead read more values ↔ (IsRead read rows values ⊎ IsSo values)
+
+-- each other table is as it was
+abbrev pub IsElseSame : Table → Trees → Trees → Type 0
+IsElseSame table db after = AllByRecursion (λ t. t.tree ≢ table.tree → after t.tree ≡ db t.tree) store_schema.tables

@@ -1,5 +1,5 @@
 -- What the INSERT of a shelf does.
-use Rattle.std.proofs.Common.{◌≡◌, ℕ, false, List, [], ◌∷◌, Option, None, Ok, refl, ap, ◌∙◌, arith}
+use Rattle.std.proofs.Common.{◌≡◌, ℕ, false, List, [], ◌∷◌, Option, None, Ok, refl, ap, subst, ◌∙◌, arith}
 use Rattle.sqlite.specs.declared.types.Value.TheVariants.{Null, Int, Text}
 use Rattle.sqlite.specs.Order.{Row}
 use Rattle.sqlite.specs.Term.{Term, lit, col}
@@ -10,8 +10,9 @@ use Rattle.sqlite.specs.Listing.{understood}
 use Rattle.sqlite.specs.Command.TheVariants.{Insert}
 use Rattle.sqlite.specs.Source.TheVariants.{Values}
 use Rattle.sqlite.specs.Does.{Tally, Does}
-use Rattle.sqlite.specs.State.{State}
-use Rattle.sqlite.proofs.Callers.{IsPlain, command_of}
+use Rattle.sqlite.specs.State.{State, ExecutesInside}
+use Rattle.sqlite.proofs.Callers.{IsPlain, command_of, runs_as}
+use Rattle.sqlite_catalog.specs.Listing.{IsSound}
 use Rattle.sqlite_tied.specs.Compute.{everything}
 use Rattle.world.specs.declared.registry.Registered.{Registered}
 use Rattle.world.specs.declared.registry.Registered.TheVariants.{Done, Name}
@@ -20,6 +21,8 @@ use Rattle.world.specs.Registry.{team_added, after_team_add}
 use Rattle.world.proofs.Sound.{still}
 use Rattle.tables.specs.Schema.{store_schema, shelf_table}
 use Rattle.tables.specs.Means.{Holds, Means, IsShelf}
+use Rattle.statements.specs.Rows.{Filling}
+use Rattle.statements.specs.Extract.{PutsShelf}
 use Rattle.statements.specs.Views.{with_team_added}
 use Rattle.statements.proofs.Texts.{add_shelf_text}
 use Rattle.tables.proofs.InsertLemmas.{Inserted, inserted, enforced, cast_null}
@@ -76,3 +79,13 @@ module _ (w : World) (name : List ℕ) where
 
 pub misnamed_team : (w : World) (name : List ℕ) → is_team_name name ≡ false → Name ≡ team_added w name
 misnamed_team w name wrong = rw wrong refl
+
+-- one shelf is written within a transaction
+pub shelf_put : (old new : State) (name : List ℕ) (count : ℕ) → Filling old → ExecutesInside 0 add_shelf_text (shelf_params name) old new (Ok count) → PutsShelf name old.now.trees new.now.trees × Filling new
+shelf_put old new name count filling ran =
+    let wrote = runs_as add_shelf_text (shelf_params name) old new store_schema filling.schema _ add_shelf_is add_shelf_plain count ran.0 in
+    let it = added old.step_limit name old.now [] wrote.tally new.now filling.schema wrote.changed in
+    let sound = subst (λ s. IsSound s new.now.trees) it.0 wrote.sound in (
+      λ x stand. record { sound = sound; means = shelf_means x name old.now.trees new.now.trees it.1 stand.means },
+      record { schema = it.0; sound = sound; is_open = wrote.shown.is_open; inside = ran.1.mode },
+    )

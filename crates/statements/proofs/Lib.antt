@@ -19,5 +19,10 @@ pub mod StandingLemmas
 pub mod CountLemmas
 pub mod VisibleLemmas
 pub mod RevokeLemmas
+pub mod DifferLemmas
+pub mod PairLemmas
+pub mod ExtractLemmas
+pub mod CopyKeyLemmas
+pub mod CopyRowLemmas
 pub mod TransactionEnds
 pub mod NumberLemmas

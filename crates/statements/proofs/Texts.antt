@@ -45,3 +45,12 @@ paths_text = codes "SELECT path FROM version WHERE shelf = ?1"
 
 abbrev pub revoke_key_text : List ℕ
 revoke_key_text = codes "DELETE FROM access WHERE token = ?1"
+
+abbrev pub keys_on_text : List ℕ
+keys_on_text = codes "SELECT token, shelf, publish FROM access WHERE shelf = ?1"
+
+abbrev pub versions_on_text : List ℕ
+versions_on_text = codes "SELECT id, shelf, path, version, time, mod, order_key, rank_key FROM version WHERE shelf = ?1"
+
+abbrev pub pieces_on_text : List ℕ
+pieces_on_text = codes "SELECT p.version, p.number, p.bytes FROM version AS v JOIN piece AS p ON p.version = v.id WHERE v.shelf = ?1"

@@ -5,4 +5,6 @@ pub mod Reading
 pub mod Rows
 pub mod Added
 pub mod Lists
+pub mod Pairs
+pub mod Extract
 pub mod Numbers

@@ -1,9 +1,9 @@
 -- Rows that are put into the tables one after the other, within a transaction.
 use Rattle.std.specs.Prelude.{ℤ, ◌≡◌, ◌≢◌, ◌⊎◌, ◌↔◌, Bool, List, [], ◌∷◌, IsTrue}
 use Rattle.std.specs.List.{AllByRecursion}
-use Rattle.sqlite.specs.declared.types.Value.TheVariants.{Int}
+use Rattle.sqlite.specs.declared.types.Value.TheVariants.{Null, Int}
 use Rattle.sqlite.specs.Order.{Row, column}
-use Rattle.sqlite.specs.Tree.{Trees}
+use Rattle.sqlite.specs.Tree.{Trees, rowid}
 use Rattle.sqlite.specs.Table.{Table}
 use Rattle.sqlite.specs.State.{State, HasCleanDisk, Survives, KeepsCommit}
 use Rattle.sqlite_catalog.specs.Listing.{IsSound}
@@ -11,7 +11,7 @@ use Rattle.sqlite_rules.specs.Lists.{Has}
 use Rattle.world.specs.World.{World}
 use Rattle.tables.specs.Inserted.{Inserted}
 use Rattle.tables.specs.Means.{StandFor}
-use Rattle.tables.specs.Schema.{store_schema, piece_table}
+use Rattle.tables.specs.Schema.{store_schema, version_table, piece_table}
 
 -- within a transaction, the tables obey the schema
 pub record Filling (s : State) : Type 0 where
@@ -35,6 +35,18 @@ pub record GoesOn (old new : State) (done : Bool) : Type 0 where
 
 -- ---- one row
 
+-- the row of `version` that has these values, the first of which is its number
+abbrev pub version_of : Row → Row
+version_of values =
+    column values 0 ∷ Null ∷ column values 1 ∷ column values 2 ∷ column values 3 ∷ column values 4 ∷ column values 5 ∷ column values 6 ∷ column values 7 ∷ []
+
+-- a row of `version` is put in, with these values
+pub record PutsVersion (values : Row) (db after : Trees) : Type 0 where
+  pub id : ℤ
+  pub number : column values 0 ≡ Int id
+  pub put : Inserted db after version_table (version_of values)
+  pub sound : IsSound store_schema after
+
 -- the row of `piece` that has these values, and this number
 abbrev pub piece_of : ℤ → Row → Row
 piece_of id values = Int id ∷ column values 0 ∷ column values 1 ∷ column values 2 ∷ []
@@ -51,7 +63,10 @@ pub record PutsPiece (values : Row) (db after : Trees) : Type 0 where
 
 -- ---- many rows
 
--- what is read of a row of `piece`
+-- what is read of a row of `version`, and of a row of `piece`
+abbrev pub version_read : Row → Row
+version_read row = column row 0 ∷ column row 2 ∷ column row 3 ∷ column row 4 ∷ column row 5 ∷ column row 6 ∷ column row 7 ∷ column row 8 ∷ []
+
 abbrev pub piece_read : Row → Row
 piece_read row = column row 1 ∷ column row 2 ∷ column row 3 ∷ []
 
@@ -66,3 +81,8 @@ AddsRows read IsSo rows more = (values : Row) → IsRead read more values ↔ (I
 -- each other table is as it was
 abbrev pub IsElseSame : Table → Trees → Trees → Type 0
 IsElseSame table db after = AllByRecursion (λ t. t.tree ≢ table.tree → after t.tree ≡ db t.tree) store_schema.tables
+
+-- each row has a number, and none says again what another says
+pub record AreApart (Once : List Row → Type 0) (rows : List Row) : Type 0 where
+  pub numbers : (row : Row) → Has rows row → (n : ℤ) × (rowid row ≡ Int n)
+  pub once : Once rows

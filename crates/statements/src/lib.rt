@@ -4,7 +4,7 @@
 //! speaks to a `Connection`, or to a `Transaction` of one, and to nothing else: it is told of the world that the tables
 //! stand for, and of what a crash leaves. What a store makes of these calls is told in the crate `store`.
 //!
-//! A change is one transaction. So a crash leaves the world before it or the world after it, and
+//! A change of one store is one transaction. So a crash leaves the world before it or the world after it, and
 //! once the change has answered Ok, the world after it alone.
 //!
 //! | call | its statements |
@@ -20,8 +20,7 @@
 //! | `registry::add_team` | that of `has_shelf`, then a row of `shelf` |
 //! | `registry::add_key` | those of `has_shelf` and of `find_key`, then a row of `access` |
 //! | `revoke::revoke_key` | that of `find_key`, then the row of `access` is taken away |
-//!
-//! `query::find_row` and what `pieces` shows serve an extract too, which is a call on two stores.
+//! | `extract_rows::copy_keys`, `copy_versions`, `copy_pieces` | of one shelf the rows of `access`, of `version`, of `piece`, one at a time, each put into another store within a transaction of it |
 //!
 //! What is said of values holds where each answer of the disk was what had been written. A fault is the
 //! error of `sqlite`.
@@ -29,9 +28,10 @@
 
 pub mod compare;
 pub mod entries;
+pub mod extract_rows;
 mod keyed;
 mod numbers;
-pub mod pieces;
+mod pieces;
 pub mod query;
 pub mod registry;
 pub mod revoke;

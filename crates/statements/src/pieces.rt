@@ -39,7 +39,7 @@ fn find_piece<S: Alter>(
 }
 
 /// The bytes that a row has at a place.
-pub fn lent_bytes(row: &Row, at: usize) -> Result<&[u8], Error>
+pub(crate) fn lent_bytes(row: &Row, at: usize) -> Result<&[u8], Error>
     ensures { IfOk result (λ bytes. column row.now at ≡ Blob bytes.now) }
 {
     match row.get_ref(at)? {
@@ -118,7 +118,7 @@ pub(crate) fn has_zip<S: Alter>(
 }
 
 /// Writes the row of one piece.
-pub fn insert_piece<S: Alter>(
+pub(crate) fn insert_piece<S: Alter>(
     tx: &mut Transaction<'_, S>,
     id: i64,
     number: i64,

@@ -27,7 +27,7 @@ use Rattle.tables.proofs.ValueLemmas.{equals_itself, texts_equal}
 use Rattle.statements.specs.Calls.{Selects}
 use Rattle.store.specs.Extracted.{HasOtherShelf, HasKey, HasEntry}
 use Rattle.statements.specs.Lookup.{lookup, FirstFound}
-use Rattle.store.proofs.DifferLemmas.{differ_is}
+use Rattle.statements.proofs.DifferLemmas.{differ_is}
 use Rattle.statements.proofs.LookupLemmas.{selected_found}
 use Rattle.store.proofs.Texts.{other_shelf_text, tokens_text, all_paths_text}
 

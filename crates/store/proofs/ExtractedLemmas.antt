@@ -15,12 +15,12 @@ use Rattle.store.specs.declared.kept.Kept.{Kept}
 use Rattle.store.specs.Kept.{AreKept, IsNothing}
 use Rattle.store.proofs.KeptLemmas.{nothing_kept}
 use Rattle.statements.specs.Rows.{Writing}
-use Rattle.store.specs.Extract.{IsReady, Copies}
+use Rattle.statements.specs.Extract.{IsReady, Copies}
 use Rattle.statements.proofs.RowLemmas.{filling_of, writing_of}
 use Rattle.store.specs.Extracted.{MakesPart, is_written, IsRead, Tells, ExtractsAt, Extracts}
 use Rattle.store.specs.declared.extract_judge.Judged.{Judged}
 use Rattle.store.specs.declared.extract_judge.Judged.TheVariants as judged
-use Rattle.store.specs.declared.extract_rows.CopyError.{CopyError}
+use Rattle.statements.specs.declared.extract_rows.CopyError.{CopyError}
 use Rattle.store.specs.declared.refusal.Refusal.{Refusal}
 use Rattle.store.specs.declared.refusal.Refusal.TheVariants as refusal
 use Rattle.store.proofs.StoreLemmas.{narrow}

@@ -2,11 +2,6 @@ pub mod Texts
 pub mod KeptLemmas
 pub mod StoreLemmas
 pub mod OpenLemmas
-pub mod DifferLemmas
-pub mod PairLemmas
-pub mod ExtractLemmas
-pub mod CopyKeyLemmas
-pub mod CopyRowLemmas
 pub mod FilledLemmas
 pub mod BlankLemmas
 pub mod ExtractedLemmas

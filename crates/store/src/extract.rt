@@ -10,11 +10,11 @@ ghost use Rattle.store.specs.Extracted.{IsJudged, is_written, InEachTwo, Extract
 
 use crate::extract_judge::{Judged, judge};
 use crate::extract_part::write_part;
-use crate::extract_rows::CopyError;
 use crate::kept::Kept;
 use crate::refusal::Refusal;
 use crate::store::{SqlShelves, fault};
 use sqlite::{Alter, Connection};
+use statements::extract_rows::CopyError;
 use world::registry::StoreFault;
 
 /// Writes the part of a team into a fresh store, where there is such a team and the store has `common` alone.

@@ -8,8 +8,8 @@ ghost use Rattle.tables.specs.Means.{Stands, StandsFor};
 ghost use Rattle.statements.specs.Calls.{InEachWorld, Spares};
 ghost use Rattle.store.specs.Extracted.{HasOtherShelf, HasKey, HasEntry, IsJudged};
 
-use crate::extract_rows::CopyError;
 use sqlite::{Alter, Connection, Error, params};
+use statements::extract_rows::CopyError;
 use statements::query::find_row;
 use statements::registry::has_shelf;
 use world::names::COMMON;

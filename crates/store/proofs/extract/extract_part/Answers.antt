@@ -8,7 +8,7 @@ use Rattle.store.specs.Extracted.{IsJudged, is_written}
 use Rattle.store.specs.declared.extract_judge.Judged.{Judged}
 use Rattle.store.specs.declared.extract_judge.Judged.TheVariants.{Fit}
 use Rattle.statements.proofs.ChangeLemmas.{spares_at}
-use Rattle.store.proofs.ExtractLemmas.{stands_ready}
+use Rattle.statements.proofs.ExtractLemmas.{stands_ready}
 use Rattle.store.proofs.ExtractedLemmas.{spares_when, spared_at, not_written, else_written}
 use Rattle.store.proofs.extract.extract_part.Goals as goal
 

@@ -7,7 +7,7 @@ use Rattle.tables.specs.Means.{Stands}
 use Rattle.tables.proofs.FailureLemmas.{was_clean}
 use Rattle.statements.specs.Calls.{ChangesAt}
 use Rattle.statements.proofs.ChangeLemmas.{not_ok}
-use Rattle.store.proofs.ExtractLemmas.{read_spares}
+use Rattle.statements.proofs.ExtractLemmas.{read_spares}
 use Rattle.store.proofs.ExtractedLemmas.{part_written}
 use Rattle.statements.proofs.TransactionEnds.{begins_writing, committed_to, undone_to, commit_failed}
 use Rattle.store.proofs.extract_part.write_part.Goals as goal

@@ -14,17 +14,19 @@ ghost use Rattle.tables.specs.Schema.{store_schema};
 ghost use Rattle.tables.specs.Means.{Means};
 ghost use Rattle.tables.specs.Walks.{Looks, Pass};
 ghost use Rattle.tables.specs.Calls.{Honestly};
-ghost use Rattle.statements.specs.Rows.{Filling, PutsPiece};
-ghost use Rattle.store.specs.Extract.{PutsVersion, Copies, OfWorlds, AllFit, IsKeyShown, PutsKey, CopiesKeys, IsVersionShown, CopiesVersions, CopiesPieces};
+ghost use Rattle.statements.specs.Rows.{Filling, PutsPiece, PutsVersion};
+ghost use Rattle.statements.specs.Extract.{Copies, OfWorlds, AllFit, IsKeyShown, PutsKey, CopiesKeys, IsVersionShown, CopiesVersions, CopiesPieces};
 
+use crate::pieces::{insert_piece, lent_bytes};
 use sqlite::types::ValueRef;
 use sqlite::{Alter, Connection, Error, ErrorCode, Row, Transaction, params};
-use statements::pieces::{insert_piece, lent_bytes};
 
 /// Why rows were not handed on: by the store that they come from, or by the one that they go to.
 #[derive(Debug, Drop)]
-pub(crate) enum CopyError {
+pub enum CopyError {
+    /// The store that they come from.
     Source(Error),
+    /// The store that they go to.
     Fresh(Error),
 }
 
@@ -111,7 +113,7 @@ impl RowSink for Keys {
 }
 
 /// Copies the keys of one shelf.
-pub(crate) fn copy_keys<S: Alter, F: Alter>(
+pub fn copy_keys<S: Alter, F: Alter>(
     source: &mut Connection<S>,
     tx: &mut Transaction<'_, F>,
     shelf: &str,
@@ -158,7 +160,7 @@ impl RowSink for Versions {
 }
 
 /// Copies the rows of the versions on one shelf.
-pub(crate) fn copy_versions<S: Alter, F: Alter>(
+pub fn copy_versions<S: Alter, F: Alter>(
     source: &mut Connection<S>,
     tx: &mut Transaction<'_, F>,
     shelf: &str,
@@ -192,7 +194,7 @@ impl RowSink for Pieces {
 }
 
 /// Copies the rows of the zips of the versions on one shelf.
-pub(crate) fn copy_pieces<S: Alter, F: Alter>(
+pub fn copy_pieces<S: Alter, F: Alter>(
     source: &mut Connection<S>,
     tx: &mut Transaction<'_, F>,
     shelf: &str,

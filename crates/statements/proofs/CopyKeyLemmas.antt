@@ -33,11 +33,10 @@ use Rattle.statements.specs.Lookup.{lookup, passes as found_by, AreFound}
 use Rattle.tables.specs.Walks.{Pass}
 use Rattle.tables.specs.Inserted.{Inserted}
 use Rattle.statements.specs.Rows.{Filling}
-use Rattle.store.specs.Extract.{AllFit, ShowsKey, IsKeyShown, AddsKey, PutsKey, AddsKeys, CopiesKeys}
-use Rattle.statements.proofs.Texts.{add_key_text}
-use Rattle.store.proofs.Texts.{keys_on_text}
+use Rattle.statements.specs.Extract.{AllFit, ShowsKey, IsKeyShown, AddsKey, PutsKey, AddsKeys, CopiesKeys}
+use Rattle.statements.proofs.Texts.{add_key_text, keys_on_text}
 use Rattle.tables.proofs.ValueLemmas.{equals_text, equals_itself, fresh_before}
-use Rattle.store.proofs.DifferLemmas.{differ_is}
+use Rattle.statements.proofs.DifferLemmas.{differ_is}
 use Rattle.statements.proofs.LookupLemmas.{all_found, begun_found}
 use Rattle.tables.proofs.FitTests.{at_place}
 use Rattle.tables.proofs.OneWorld.{texts_same, rights_same}

@@ -33,14 +33,13 @@ use Rattle.tables.specs.Walks.{Pass}
 use Rattle.tables.proofs.ValueLemmas.{equals_text, equals_itself, equals_own, fresh_before}
 use Rattle.tables.proofs.FitTests.{at_place}
 use Rattle.statements.specs.Lookup.{lookup}
-use Rattle.store.specs.Pairs.{pairs}
-use Rattle.statements.specs.Rows.{Filling, PutsPiece, piece_of, piece_read, AddsRows, IsElseSame}
-use Rattle.store.specs.Extract.{PutsVersion, version_of, version_read, AreApart, AllFit, ShowsVersion, IsVersionShown, CopiesVersions, CopiesPieces}
-use Rattle.statements.proofs.Texts.{add_version_text}
-use Rattle.store.proofs.Texts.{versions_on_text, pieces_on_text}
-use Rattle.store.proofs.DifferLemmas.{differ_is}
+use Rattle.statements.specs.Pairs.{pairs}
+use Rattle.statements.specs.Rows.{Filling, PutsPiece, piece_of, piece_read, AddsRows, IsElseSame, PutsVersion, version_of, version_read, AreApart}
+use Rattle.statements.specs.Extract.{AllFit, ShowsVersion, IsVersionShown, CopiesVersions, CopiesPieces}
+use Rattle.statements.proofs.Texts.{add_version_text, versions_on_text, pieces_on_text}
+use Rattle.statements.proofs.DifferLemmas.{differ_is}
 use Rattle.statements.proofs.LookupLemmas.{all_found, begun_found}
-use Rattle.store.proofs.PairLemmas.{all_paired}
+use Rattle.statements.proofs.PairLemmas.{all_paired}
 use Rattle.statements.proofs.RowLemmas.{adds_one, adds_none, adds_then, adds_as, else_itself, else_then}
 use Rattle.statements.proofs.TabulateLemmas.{put_apart}
 use Rattle.statements.proofs.AddEntryLemmas.{version_params, version_put}

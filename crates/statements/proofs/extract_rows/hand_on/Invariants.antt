@@ -10,7 +10,7 @@ use Rattle.tables.specs.Schema.{store_schema}
 use Rattle.tables.specs.Means.{Means}
 use Rattle.tables.specs.Walks.{Pass}
 use Rattle.statements.specs.Rows.{Filling, GoesOn}
-use Rattle.store.proofs.extract_rows.hand_on.Given as goal
+use Rattle.statements.proofs.extract_rows.hand_on.Given as goal
 
 abbrev pub invariant-rows : goal.invariant-rows
 invariant-rows g l =

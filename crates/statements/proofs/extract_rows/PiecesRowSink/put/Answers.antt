@@ -1,8 +1,8 @@
 use Rattle.std.proofs.Common.{to_z-of_z, w64, SFits, rules}
 use Rattle.sqlite.specs.Held.{state}
 use Rattle.statements.proofs.ChangeLemmas.{on_weaker}
-use Rattle.store.proofs.CopyRowLemmas.{piece_as_shown}
-use Rattle.store.proofs.extract_rows.PiecesRowSink.put.Goals as goal
+use Rattle.statements.proofs.CopyRowLemmas.{piece_as_shown}
+use Rattle.statements.proofs.extract_rows.PiecesRowSink.put.Goals as goal
 
 pub returns-clause-puts : goal.returns-clause-puts
 returns-clause-puts g c clean fits filling =

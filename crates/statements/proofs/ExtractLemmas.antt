@@ -1,13 +1,12 @@
 -- Rows that are handed on from one store to another.
 use Rattle.std.proofs.Common.{◌≡◌, ◌≤◌, Bool, true, false, ℕ, List, Result, Ok, Err, inl, refl, sym, subst, arith, IsTrue, is_ok, OnOk, true≢false}
 use Rattle.sqlite_trees.specs.View.{doubt}
-use Rattle.sqlite_catalog.specs.Listing.{IsSound}
 use Rattle.sqlite.specs.Order.{Row}
 use Rattle.sqlite.specs.Tree.{Trees}
 use Rattle.sqlite.specs.Effect.{Database, Reads, ReadsFirst}
 use Rattle.sqlite.specs.Listing.{understood, reads_listing}
-use Rattle.sqlite.specs.State.{State, HasCleanDisk, IsUnchanged, Survives, KeepsCommit, CommitsShowing, Shown, Begins, ExecutesInside}
-use Rattle.sqlite.proofs.Callers.{IsPlain, never_commits, command_of, reads_as, begins_as, runs_as, unchanged_then}
+use Rattle.sqlite.specs.State.{State, HasCleanDisk, IsUnchanged, Survives, KeepsCommit, CommitsShowing, Shown, Begins}
+use Rattle.sqlite.proofs.Callers.{IsPlain, never_commits, command_of, reads_as, begins_as, unchanged_then}
 use Rattle.sqlite.proofs.StateLemmas.{survives_weaker}
 use Rattle.world.specs.World.{World, with_team}
 use Rattle.tables.specs.Means.{Means, Stands}
@@ -17,11 +16,9 @@ use Rattle.tables.proofs.FailureLemmas.{was_clean}
 use Rattle.tables.proofs.WalkLemmas.{unchanged_schema, kept_then}
 use Rattle.statements.specs.Calls.{Spares}
 use Rattle.statements.specs.Rows.{Filling, GoesOn}
-use Rattle.store.specs.Extract.{IsReady, IsReadBy, Copies, OfWorlds, PutsShelf, AddsShelf, Then}
-use Rattle.statements.proofs.AddTeamLemmas.{shelf_params, add_shelf_is, add_shelf_plain, added, shelf_means}
+use Rattle.statements.specs.Extract.{IsReady, IsReadBy, Copies, OfWorlds, PutsShelf, AddsShelf, Then}
 use Rattle.statements.proofs.CallLemmas.{kept_stands}
 use Rattle.statements.proofs.GoingLemmas.{goes_on_then}
-use Rattle.statements.proofs.Texts.{add_shelf_text}
 
 -- ---- a query with parameters, one row at a time
 
@@ -63,16 +60,6 @@ copied r Makes s t a b looks same goes_on makes =
 
 unchanged_itself : (s : State) → IsTrue s.is_open → IsUnchanged s s
 unchanged_itself s is = (record { was_open = is; is_open = is; now_is = refl; committed_is = refl; mode = refl }, record { changes = refl; last_rowid = refl }, refl)
-
--- one shelf is written within a transaction
-pub shelf_put : (old new : State) (name : List ℕ) (count : ℕ) → Filling old → ExecutesInside 0 add_shelf_text (shelf_params name) old new (Ok count) → PutsShelf name old.now.trees new.now.trees × Filling new
-shelf_put old new name count filling ran =
-    let wrote = runs_as add_shelf_text (shelf_params name) old new store_schema filling.schema _ add_shelf_is add_shelf_plain count ran.0 in
-    let it = added old.step_limit name old.now [] wrote.tally new.now filling.schema wrote.changed in
-    let sound = subst (λ s. IsSound s new.now.trees) it.0 wrote.sound in (
-      λ x stand. record { sound = sound; means = shelf_means x name old.now.trees new.now.trees it.1 stand.means },
-      record { schema = it.0; sound = sound; is_open = wrote.shown.is_open; inside = ran.1.mode },
-    )
 
 -- a shelf is put in, and the source is not touched
 pub put_copied : {A E : Type 0} (r : Result A E) (name : List ℕ) (s a b : State) → GoesOn a b (is_ok r) → (HasCleanDisk b → Filling a → OnOk r (PutsShelf name a.now.trees b.now.trees × Filling b))

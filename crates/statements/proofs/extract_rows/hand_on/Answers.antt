@@ -7,9 +7,9 @@ use Rattle.sqlite.proofs.Callers.{IsPlain, given_begin, begun_plain, unchanged_t
 use Rattle.tables.specs.Walks.{Looks}
 use Rattle.tables.proofs.FailureLemmas.{was_clean, failed_query}
 use Rattle.tables.proofs.WalkLemmas.{quiet_looks, moved_looks, then_survives, failed_or_same, one_more}
-use Rattle.store.proofs.ExtractLemmas.{commits_nothing, all_shown, some_shown}
+use Rattle.statements.proofs.ExtractLemmas.{commits_nothing, all_shown, some_shown}
 use Rattle.statements.proofs.GoingLemmas.{goes_on_itself, goes_on_then, stays_quiet, commit_kept}
-use Rattle.store.proofs.extract_rows.hand_on.Goals as goal
+use Rattle.statements.proofs.extract_rows.hand_on.Goals as goal
 
 pub returns-in_err-rows-clause-looks : goal.returns-in_err-rows-clause-looks
 returns-in_err-rows-clause-looks g c =

@@ -14,7 +14,7 @@ use Rattle.sqlite.proofs.Callers.{command_of}
 use Rattle.sqlite_rules.specs.Lists.{Has}
 use Rattle.sqlite_rules.proofs.ProbeLemmas.{has_mapped, mapped_has}
 use Rattle.tables.specs.Schema.{store_schema}
-use Rattle.store.specs.Pairs.{pairs, passes_both, ArePaired}
+use Rattle.statements.specs.Pairs.{pairs, passes_both, ArePaired}
 use Rattle.tables.proofs.JoinLemmas.{flat_has, has_flat}
 use Rattle.statements.proofs.LookupLemmas.{has_matched, matched_has}
 use Rattle.tables.proofs.Ascending.{has_permuted}

@@ -3,8 +3,8 @@ use Rattle.sqlite.specs.Held.{state}
 use Rattle.sqlite.specs.State.{ExecutesInside}
 use Rattle.statements.proofs.Texts.{add_key_text}
 use Rattle.statements.proofs.AddKeyLemmas.{key_params}
-use Rattle.store.proofs.CopyKeyLemmas.{key_put}
-use Rattle.store.proofs.extract_rows.KeysRowSink.put.Goals as goal
+use Rattle.statements.proofs.CopyKeyLemmas.{key_put}
+use Rattle.statements.proofs.extract_rows.KeysRowSink.put.Goals as goal
 
 pub returns-clause-puts : goal.returns-clause-puts
 returns-clause-puts g c clean fits filling =

@@ -1,9 +1,9 @@
 use Rattle.sqlite.specs.Held.{state}
-use Rattle.store.specs.Extract.{CopiesPieces}
+use Rattle.statements.specs.Extract.{CopiesPieces}
 use Rattle.statements.proofs.ChangeLemmas.{on_weaker}
-use Rattle.store.proofs.CopyRowLemmas.{pieces_on_plain, pieces_on_tables, pieces_copied}
-use Rattle.store.proofs.ExtractLemmas.{copied, goes_on_if}
-use Rattle.store.proofs.extract_rows.copy_pieces.Goals as goal
+use Rattle.statements.proofs.CopyRowLemmas.{pieces_on_plain, pieces_on_tables, pieces_copied}
+use Rattle.statements.proofs.ExtractLemmas.{copied, goes_on_if}
+use Rattle.statements.proofs.extract_rows.copy_pieces.Goals as goal
 
 pub hand_on-requires-clause-plain : goal.hand_on-requires-clause-plain
 hand_on-requires-clause-plain g c = pieces_on_plain

@@ -1,9 +1,9 @@
 use Rattle.sqlite.specs.Held.{state}
-use Rattle.store.specs.Extract.{CopiesVersions}
+use Rattle.statements.specs.Extract.{CopiesVersions}
 use Rattle.statements.proofs.ChangeLemmas.{on_weaker}
-use Rattle.store.proofs.CopyRowLemmas.{versions_on_plain, versions_on_tables, versions_fit, versions_copied}
-use Rattle.store.proofs.ExtractLemmas.{copied, goes_on_if}
-use Rattle.store.proofs.extract_rows.copy_versions.Goals as goal
+use Rattle.statements.proofs.CopyRowLemmas.{versions_on_plain, versions_on_tables, versions_fit, versions_copied}
+use Rattle.statements.proofs.ExtractLemmas.{copied, goes_on_if}
+use Rattle.statements.proofs.extract_rows.copy_versions.Goals as goal
 
 pub hand_on-requires-clause-plain : goal.hand_on-requires-clause-plain
 hand_on-requires-clause-plain g c = versions_on_plain

@@ -1,10 +1,10 @@
 -- Rows of one store that are handed on to another, within a transaction of it.
-use Rattle.std.specs.Prelude.{ℕ, ℤ, ◌≡◌, ◌≤◌, ◌⊎◌, ◌↔◌, List, [], ◌∷◌, ◌++◌, filter, Bool, Some, None, IsTrue, pos, if◌then◌else◌}
+use Rattle.std.specs.Prelude.{ℕ, ◌≡◌, ◌≤◌, ◌⊎◌, ◌↔◌, List, [], ◌∷◌, ◌++◌, filter, Bool, Some, None, IsTrue, pos, if◌then◌else◌}
 use Rattle.std.specs.FinMap as map
-use Rattle.sqlite.specs.declared.types.Value.TheVariants.{Null, Int, Text, Blob}
+use Rattle.sqlite.specs.declared.types.Value.TheVariants.{Int, Text, Blob}
 use Rattle.sqlite.specs.Order.{Row, column}
 use Rattle.sqlite.specs.Values.{or_null}
-use Rattle.sqlite.specs.Tree.{Trees, rowid}
+use Rattle.sqlite.specs.Tree.{Trees}
 use Rattle.sqlite.specs.Effect.{Database, ReadsFirst}
 use Rattle.sqlite.specs.Listing.{understood}
 use Rattle.sqlite.specs.State.{State, HasCleanDisk, IsUnchanged, IsRolledBack}
@@ -15,12 +15,10 @@ use Rattle.world.specs.declared.entry.Place.{Place}
 use Rattle.world.specs.declared.entry.Heading.{Heading}
 use Rattle.world.specs.World.{World, common, with_key, with_team}
 use Rattle.sqlite_rules.specs.Lists.{Has}
-use Rattle.sqlite_catalog.specs.Listing.{IsSound}
-use Rattle.tables.specs.Inserted.{Inserted}
 use Rattle.tables.specs.Means.{may_publish, Means, StandFor, IsEachPlaceOnce, IsEachPieceOnce, is_of}
 use Rattle.tables.specs.Schema.{store_schema, version_table, piece_table}
 use Rattle.tables.specs.VersionKeys.{order_key_at, rank_key_at}
-use Rattle.statements.specs.Rows.{Filling, GoesOn, AddsRows, IsElseSame, IsRead, piece_read}
+use Rattle.statements.specs.Rows.{Filling, GoesOn, AddsRows, IsElseSame, IsRead, AreApart, version_read, piece_read}
 
 -- an open connection over tables of the schema, as far as no answer of the disk was wrong
 abbrev pub IsReady : State → Type 0
@@ -79,27 +77,6 @@ abbrev pub CopiesKeys : List ℕ → World → World → World → Type 0
 CopiesKeys s w = AddsKeys (λ it. (map.get w.keys it.0 ≡ Some it.1) × (it.1.shelf ≡ s))
 
 -- ---- entries, by the rows of their versions and of their zips
-
--- the row of `version` that has these values, the first of which is its number
-abbrev pub version_of : Row → Row
-version_of values =
-    column values 0 ∷ Null ∷ column values 1 ∷ column values 2 ∷ column values 3 ∷ column values 4 ∷ column values 5 ∷ column values 6 ∷ column values 7 ∷ []
-
--- a row of `version` is put in, with these values
-pub record PutsVersion (values : Row) (db after : Trees) : Type 0 where
-  pub id : ℤ
-  pub number : column values 0 ≡ Int id
-  pub put : Inserted db after version_table (version_of values)
-  pub sound : IsSound store_schema after
-
--- what is read of a row of `version`
-abbrev pub version_read : Row → Row
-version_read row = column row 0 ∷ column row 2 ∷ column row 3 ∷ column row 4 ∷ column row 5 ∷ column row 6 ∷ column row 7 ∷ column row 8 ∷ []
-
--- each row has a number, and none says again what another says
-pub record AreApart (Once : List Row → Type 0) (rows : List Row) : Type 0 where
-  pub numbers : (row : Row) → Has rows row → (n : ℤ) × (rowid row ≡ Int n)
-  pub once : Once rows
 
 -- values show a version with its place, and the keys that its version has
 pub record ShowsVersion (values : Row) (p : Place) (h : Heading) : Type 0 where

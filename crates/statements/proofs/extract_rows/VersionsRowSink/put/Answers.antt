@@ -3,8 +3,8 @@ use Rattle.sqlite.specs.Held.{state}
 use Rattle.sqlite.specs.State.{ExecutesInside}
 use Rattle.statements.proofs.Texts.{add_version_text}
 use Rattle.statements.proofs.AddEntryLemmas.{version_params, time_bound}
-use Rattle.store.proofs.CopyRowLemmas.{version_copied}
-use Rattle.store.proofs.extract_rows.VersionsRowSink.put.Goals as goal
+use Rattle.statements.proofs.CopyRowLemmas.{version_copied}
+use Rattle.statements.proofs.extract_rows.VersionsRowSink.put.Goals as goal
 
 pub returns-clause-puts : goal.returns-clause-puts
 returns-clause-puts g c clean fits filling =

@@ -1,9 +1,9 @@
 use Rattle.sqlite.specs.Held.{state}
-use Rattle.store.specs.Extract.{OfWorlds, CopiesKeys}
+use Rattle.statements.specs.Extract.{OfWorlds, CopiesKeys}
 use Rattle.statements.proofs.ChangeLemmas.{on_weaker}
-use Rattle.store.proofs.CopyKeyLemmas.{keys_on_plain, keys_on_tables, keys_fit, keys_passed, keys_copied}
-use Rattle.store.proofs.ExtractLemmas.{copied, goes_on_if}
-use Rattle.store.proofs.extract_rows.copy_keys.Goals as goal
+use Rattle.statements.proofs.CopyKeyLemmas.{keys_on_plain, keys_on_tables, keys_fit, keys_passed, keys_copied}
+use Rattle.statements.proofs.ExtractLemmas.{copied, goes_on_if}
+use Rattle.statements.proofs.extract_rows.copy_keys.Goals as goal
 
 pub hand_on-requires-clause-plain : goal.hand_on-requires-clause-plain
 hand_on-requires-clause-plain g c = keys_on_plain

@@ -7,7 +7,7 @@ ghost use Rattle.sqlite.specs.State.{HasCleanDisk};
 ghost use Rattle.sqlite.specs.Steps.{over_memory};
 ghost use Rattle.sqlite_wal.specs.Files.{image_at};
 ghost use Rattle.world.specs.World.{only_common};
-ghost use Rattle.store.specs.Calls.{shown_with, BeginsAt};
+ghost use Rattle.store.specs.Shown.{shown_with, BeginsAt};
 ghost use Rattle.store.specs.Opened.{IsOfOpening};
 ghost use Rattle.store.specs.Restart.{HoldsWorld};
 

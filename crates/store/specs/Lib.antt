@@ -1,6 +1,5 @@
 pub mod Views
 pub mod Lookup
-pub mod KeptLists
 pub mod Kept
 pub mod Calls
 pub mod Reading

@@ -35,7 +35,6 @@ mod extract_judge;
 mod extract_part;
 mod extract_rows;
 mod kept;
-mod kept_lists;
 mod keyed;
 pub mod laws;
 mod numbers;

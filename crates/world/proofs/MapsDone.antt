@@ -1,9 +1,8 @@
 -- A change of a store in memory, which stands for one world.
-use Rattle.std.proofs.Common.{◌≡◌, ◌⊎◌, ◌∙◌, ℕ, List, true, false, refl, Ok, Err, inl, inr}
+use Rattle.std.proofs.Common.{◌≡◌, ◌⊎◌, ◌∙◌, ℕ, List, true, false, refl, Ok, inl, inr}
 use Rattle.std.specs.FinMap as map
 use Rattle.std.specs.FinSet as set
 use Rattle.world.specs.declared.registry.Registered.TheVariants.{Done}
-use Rattle.world.specs.declared.registry.StoreFault.{StoreFault}
 use Rattle.world.specs.World.{World, IsWorld, is_team_name, is_key}
 use Rattle.world.specs.Registry.{team_added, key_added, key_revoked}
 use Rattle.world.specs.Store.{DoesAt, ReadsAt}
@@ -31,10 +30,6 @@ told m w x value is answer = record { answer = answer; stays = is; left = λ x y
 -- the same where what it keeps beside the world may change
 pub told_of : {T : Type 0} (old new w : World) (x value : T) → new ≡ old → ((old ≡ w) × IsWorld w) → x ≡ value → ReadsAt (in_memory old) (in_memory new) w (Ok x) value
 told_of old new w x value same is answer = record { answer = answer; stays = (same ∙ is.0, is.1); left = λ x y left. still same left }
-
--- a read that fails changes nothing
-pub failed : {T : Type 0} (old new w : World) (fault : StoreFault) (value : T) → new ≡ old → ((old ≡ w) × IsWorld w) → ReadsAt (in_memory old) (in_memory new) w (Err fault) value
-failed old new w fault value same is = record { answer = tt; stays = (same ∙ is.0, is.1); left = λ x y left. still same left }
 
 pub team_done : (w : World) (t : List ℕ) → is_team_name t ≡ true → set.contains w.shelves t ≡ false → team_added w t ≡ Done
 team_done w t named free = rw (named, free) refl

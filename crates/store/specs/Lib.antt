@@ -1,4 +1,3 @@
-pub mod KeptLists
 pub mod Kept
 pub mod Shown
 pub mod Opened

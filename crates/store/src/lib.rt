@@ -32,7 +32,6 @@ mod extract_judge;
 mod extract_part;
 mod files;
 mod kept;
-mod kept_lists;
 pub mod laws;
 pub mod open;
 pub mod refusal;

@@ -3,7 +3,7 @@ use Rattle.std.specs.Prelude.{ℕ, ◌≡◌, ◌&&◌, List, Bool, bytes_eq, le
 use Rattle.std.specs.List.{All, sum_by}
 use Rattle.world.specs.World.{World}
 use Rattle.world.specs.Versions.{versions_of}
-use Rattle.store.specs.declared.kept_lists.KeptList.{KeptList}
+use Rattle.world.specs.declared.kept_lists.KeptList.{KeptList}
 
 -- whether a list is that of a shelf and a path
 abbrev pub is_of : List ℕ → List ℕ → KeptList → Bool

@@ -1,10 +1,10 @@
 use Rattle.std.proofs.Common.{◌≡◌, ◌≤◌, sym, subst, rules, arith, filter}
 use Rattle.std.proofs.lemmas.Fn.{filter_same}
 use Rattle.world.specs.World.{place, with_entry}
-use Rattle.store.specs.KeptLists.{versions_in, AreLists}
-use Rattle.store.specs.declared.kept_lists.TheConstants.{MOST_VERSIONS}
-use Rattle.store.proofs.KeptLemmas.{is_of_another, fewer_left, left_still}
-use Rattle.store.proofs.kept_lists.KeptLists.forget.Goals as goal
+use Rattle.world.specs.KeptLists.{versions_in, AreLists}
+use Rattle.world.specs.declared.kept_lists.TheConstants.{MOST_VERSIONS}
+use Rattle.world.proofs.KeptListLemmas.{is_of_another, fewer_left, left_still}
+use Rattle.world.proofs.kept_lists.KeptLists.forget.Goals as goal
 
 pub invariant_of-self : goal.invariant_of-self
 invariant_of-self c =

@@ -1,7 +1,7 @@
 use Rattle.std.proofs.Common.{◌≡◌, Some, position, rules, sym, subst}
-use Rattle.store.specs.KeptLists.{is_of, AreLists}
-use Rattle.store.proofs.KeptLemmas.{taken_versions}
-use Rattle.store.proofs.kept_lists.KeptLists.take.Goals as goal
+use Rattle.world.specs.KeptLists.{is_of, AreLists}
+use Rattle.world.proofs.KeptListLemmas.{taken_versions}
+use Rattle.world.proofs.kept_lists.KeptLists.take.Goals as goal
 
 pub returns-clause-taken : goal.returns-clause-taken
 returns-clause-taken c w are =

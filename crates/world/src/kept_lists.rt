@@ -4,13 +4,13 @@ ghost use Rattle.std.specs.Prelude.{◌≡◌, ◌+◌, ◌≤◌, [], length, I
 ghost use Rattle.std.specs.List.{position};
 ghost use Rattle.world.specs.World.{World, place, with_entry};
 ghost use Rattle.world.specs.Versions.{versions_of};
-ghost use Rattle.store.specs.KeptLists.{is_of, versions_in, AreLists};
+ghost use Rattle.world.specs.KeptLists.{is_of, versions_in, AreLists};
 
+use crate::version_list::Versions;
 use modver::Version;
 use std::alloc::{AllocError, Global};
 use std::marker::Model;
 use text::Text;
-use world::version_list::Versions;
 
 /// The most versions that are kept, in all lists. One takes some 200 bytes.
 const MOST_VERSIONS: usize = 65_536;
@@ -20,10 +20,10 @@ const MOST_LISTS: usize = 256;
 
 /// The versions of a path that a shelf sees, as they were found.
 #[derive(Drop)]
-pub(crate) struct KeptList {
-    shelf: Text,
-    path: Text,
-    versions: Versions,
+pub struct KeptList {
+    pub shelf: Text,
+    pub path: Text,
+    pub versions: Versions,
 }
 
 impl KeptList {
@@ -37,15 +37,15 @@ impl KeptList {
 
 /// Of some paths the versions that a shelf sees, in ascending precedence. Contracts see the lists.
 #[derive(Drop)]
-pub(crate) struct KeptLists {
+pub struct KeptLists {
     lists: Vec<KeptList>,
 }
 
 impl Model for KeptLists {
     ghost use Rattle.std.specs.Prelude.{◌≤◌, List, length};
-    ghost use Rattle.store.specs.declared.kept_lists.KeptList.{KeptList};
-    ghost use Rattle.store.specs.declared.kept_lists.TheConstants.{MOST_LISTS, MOST_VERSIONS};
-    ghost use Rattle.store.specs.KeptLists.{versions_in};
+    ghost use Rattle.world.specs.declared.kept_lists.KeptList.{KeptList};
+    ghost use Rattle.world.specs.declared.kept_lists.TheConstants.{MOST_LISTS, MOST_VERSIONS};
+    ghost use Rattle.world.specs.KeptLists.{versions_in};
 
     ghost Value = { List KeptList };
 
@@ -56,7 +56,7 @@ impl Model for KeptLists {
 
 impl KeptLists {
     /// No list. It takes no memory.
-    pub(crate) fn new(alloc: Global) -> KeptLists
+    pub fn new(alloc: Global) -> KeptLists
         ensures { result ≡ [] }
     {
         KeptLists {
@@ -65,7 +65,7 @@ impl KeptLists {
     }
 
     /// Takes out the versions of a path that a shelf sees, where their list is kept.
-    pub(crate) fn take(&mut self, shelf: &str, path: &str) -> Option<Versions>
+    pub fn take(&mut self, shelf: &str, path: &str) -> Option<Versions>
         ensures others { (w : World) → AreLists w self.old → AreLists w self.new }
         ensures taken { IfSome result (λ versions. (w : World) → AreLists w self.old
             → versions ≡ versions_of w shelf.now path.now) }
@@ -78,7 +78,7 @@ impl KeptLists {
     /// Keeps the versions of a path that a shelf sees. Where they have no room beside the others all
     /// others are forgotten first, and without memory all are; a list that has no room at all is not kept,
     /// nor is an empty one, which is soon found.
-    pub(crate) fn keep(&mut self, alloc: Global, shelf: &str, path: &str, versions: Versions)
+    pub fn keep(&mut self, alloc: Global, shelf: &str, path: &str, versions: Versions)
         ensures { (w : World) → AreLists w self.old → versions ≡ versions_of w shelf.now path.now → AreLists w self.new }
     {
         let size = versions.as_slice().len();
@@ -94,7 +94,7 @@ impl KeptLists {
     }
 
     /// Keeps a copy of the versions of a path that a shelf sees. Without memory for it all lists are forgotten.
-    pub(crate) fn keep_copy(&mut self, alloc: Global, shelf: &str, path: &str, versions: &[Version])
+    pub fn keep_copy(&mut self, alloc: Global, shelf: &str, path: &str, versions: &[Version])
         ensures { (w : World) → AreLists w self.old → versions.now ≡ versions_of w shelf.now path.now → AreLists w self.new }
     {
         match copied(alloc, versions) {
@@ -104,7 +104,7 @@ impl KeptLists {
     }
 
     /// Forgets the lists of a path, which gets one more version.
-    pub(crate) fn forget(&mut self, path: &str)
+    pub fn forget(&mut self, path: &str)
         ensures { (w : World) (s v : _) (e : _) → AreLists w self.old
             → AreLists (with_entry w (place s path.now v) e) self.new }
     {

@@ -11,9 +11,9 @@
 //! |---|---|
 //! | `adopt` | those of `tables::fit::stand_for_world`, or where there are no tables of `tables::create::create` |
 //! | `key` | the row of `access` that has the key |
-//! | `entry` | the row of `version` on the own shelf, or else on `common`, then its rows of `piece`, one after the other |
+//! | `entry` | the row of `version` on the own shelf, or else on `common`, then the last of its rows of `piece`, and in one walk all of them, one after the other |
 //! | `heading` | the row of `version` on the own shelf, or else on `common`, and no row of `piece` |
-//! | `compare` | those of `entry`, up to the first piece that is another |
+//! | `compare` | those of `heading`, then each row of `piece` by its number, up to the first piece that is another |
 //! | `versions` | the rows of `version` on the own shelf, then those on `common`; asked once, and then kept until the path gets a version |
 //! | `latest` | those of `versions`, and those of `heading` of the highest |
 //! | `paths` | the rows of `version` on the own shelf, then those on `common` |

@@ -14,6 +14,7 @@ pub mod AddZipLemmas
 pub mod AddEntryLemmas
 pub mod TransactionLemmas
 pub mod PieceLemmas
+pub mod ZipLemmas
 pub mod HeadingLemmas
 pub mod StandingLemmas
 pub mod CountLemmas

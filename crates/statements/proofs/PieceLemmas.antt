@@ -26,7 +26,6 @@ use Rattle.sqlite_schema.specs.Rules.{equal}
 use Rattle.sqlite_rules.proofs.ListLemmas.{has_filtered, has_kept}
 use Rattle.tables.specs.Schema.{store_schema}
 use Rattle.tables.specs.Pieces.{piece_size, begin, HasPiece, piece}
-use Rattle.tables.proofs.PieceLemmas.{piece_full}
 use Rattle.tables.proofs.ValueLemmas.{int_itself}
 use Rattle.tables.proofs.SoundLemmas.{ints_equal}
 use Rattle.statements.specs.Calls.{Selects}
@@ -101,10 +100,6 @@ no_more zip n none = take_all (begin n) zip (not_below (begin n) (length zip) no
   where
     not_below : (a b : ℕ) → ¬ (a < b) → b ≤ a
     not_below a b none = omega (arith, none)
-
--- where the piece of this number is not full, it and those before it are the zip
-pub last_piece : (zip : List ℕ) (n : ℕ) → length (piece zip n) < piece_size → take (begin (n + 1)) zip ≡ zip
-last_piece zip n short = no_more zip (n + 1) (λ has. let full = piece_full zip n has in omega (arith, short, full))
 
 -- bytes that begin as the zip does, up to this piece, and go on with it
 pub goes_on : (there given rest later : List ℕ) (n : ℕ) → given ≡ take (begin n) there ++ rest → rest ≡ piece there n ++ later → given ≡ take (begin (n + 1)) there ++ later

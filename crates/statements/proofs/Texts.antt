@@ -19,6 +19,9 @@ row_text = codes "SELECT id, shelf, time, mod FROM version WHERE shelf = ?1 AND 
 abbrev pub piece_text : List ℕ
 piece_text = codes "SELECT bytes FROM piece WHERE version = ?1 AND number = ?2"
 
+abbrev pub zip_text : List ℕ
+zip_text = codes "SELECT number, bytes FROM piece WHERE version = ?1 ORDER BY version, number"
+
 abbrev pub last_piece_text : List ℕ
 last_piece_text = codes "SELECT number FROM piece WHERE version = ?1 ORDER BY number DESC"
 

@@ -68,7 +68,19 @@ fn find_room<S: Alter>(conn: &mut Connection<S>, id: i64) -> Result<usize, Error
     }
 }
 
-/// The zip of the version that has this number, each piece behind the one before it. A piece that is not full is the last.
+/// The bytes that a row shows as the piece of this number.
+fn piece_in(row: &Row, number: u32) -> Result<&[u8], Error>
+    ensures { IfOk result (λ bytes. (column row.now 0 ≡ Int (pos number)) × (column row.now 1 ≡ Blob bytes.now)) }
+{
+    let found: u32 = row.get(0)?;
+    if found != number {
+        return Err(Error::SqliteFailure(ErrorCode::DatabaseCorrupt));
+    }
+    lent_bytes(row, 1)
+}
+
+/// The zip of the version that has this number, each piece behind the one before it, in one walk over their rows.
+/// That the rows come in the order of their numbers is seen of each, and not taken from the statement.
 pub(crate) fn find_zip<S: Alter>(
     alloc: Global,
     conn: &mut Connection<S>,
@@ -80,15 +92,15 @@ pub(crate) fn find_zip<S: Alter>(
 {
     let room = find_room(conn, id)?;
     let mut zip = Vec::with_capacity(alloc, room)?;
+    let sql = "SELECT number, bytes FROM piece WHERE version = ?1 ORDER BY version, number";
+    // A connection that is shut refuses this, so the query finds the tables.
+    conn.prepare(sql)?;
+    let mut rows = conn.query(sql, params![id])?;
     for number in 0..u32::MAX {
-        let Some(row) = find_piece(conn, id, number)? else {
+        let Some(row) = rows.next()? else {
             return Ok(Bytes::new(zip));
         };
-        let piece = lent_bytes(&row, 0)?;
-        zip.extend_from_slice(piece)?;
-        if piece.len() < PIECE_SIZE {
-            return Ok(Bytes::new(zip));
-        }
+        zip.extend_from_slice(piece_in(row, number)?)?;
     }
     Err(Error::SqliteFailure(ErrorCode::TooBig))
 }

@@ -24,20 +24,6 @@ INSERT INTO version VALUES (7, 'common', 'example.com/lib', 'v1.0.0', NULL, X'6d
 INSERT INTO piece VALUES (7, 0, X'5A');
 ";
 
-/// The tables of schema 1, which have no keys of order, with their rows.
-pub const SCHEMA_1: &str = "\
-CREATE TABLE meta (name TEXT PRIMARY KEY, value INTEGER NOT NULL) STRICT;
-CREATE TABLE shelf (name TEXT PRIMARY KEY) STRICT;
-CREATE TABLE access (token TEXT PRIMARY KEY, shelf TEXT NOT NULL REFERENCES shelf (name), publish INTEGER NOT NULL CHECK (publish IN (0, 1))) STRICT;
-CREATE TABLE version (id INTEGER PRIMARY KEY, shelf TEXT NOT NULL REFERENCES shelf (name), path TEXT NOT NULL, version TEXT NOT NULL, time TEXT, mod BLOB NOT NULL, UNIQUE (shelf, path, version)) STRICT;
-CREATE TABLE body (id INTEGER PRIMARY KEY REFERENCES version (id), zip BLOB NOT NULL) STRICT;
-INSERT INTO meta VALUES ('schema', 1);
-INSERT INTO shelf VALUES ('common'), ('alpha');
-INSERT INTO access VALUES ('alphakey00000001', 'alpha', 1);
-INSERT INTO version VALUES (7, 'common', 'example.com/lib', 'v1.0.0', NULL, X'6d6f64756c65206578616d706c652e636f6d2f6c69620a');
-INSERT INTO body VALUES (7, X'5A');
-";
-
 /// What makes tables that are not those of the schema, where there are none.
 const FOREIGN: &str = "\
 CREATE TABLE x (a INTEGER) STRICT
@@ -248,10 +234,6 @@ fn bad_tables_are_refused(rt: HostRuntime) -> Result<(), Fail> {
     let alloc = rt.alloc();
     assert!(rt; are_bad(alloc, "", "", FOREIGN)?);
     assert!(rt; are_bad(alloc, TABLES, "", OTHERS)?);
-    assert_eq!(rt;
-        refusal_after(alloc, SCHEMA_1, "", "")?,
-        Some(Refusal::BadSchema)
-    );
     assert!(rt; are_bad(alloc, TABLES, ROWS, UNFIT)?);
     assert!(rt; are_told(alloc, TABLES, ROWS, FIT, None)?);
     assert_eq!(rt; refusal_after(alloc, TABLES, ROWS, MADE_AGAIN)?, None);

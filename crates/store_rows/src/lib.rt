@@ -1,4 +1,4 @@
-//! The worked rows of stores over tables: tables that are adopted or refused, files, and a team's part as a store of its own.
+//! The worked rows of stores over tables in memory: tables that are adopted or refused, and a team's part as a store of its own.
 //!
 //! Each table is a text whose lines are rows.
 #![tactic(auto)]
@@ -9,5 +9,3 @@ mod adopted_tables;
 mod extracts;
 #[cfg(test)]
 mod in_memory;
-#[cfg(test)]
-mod store_files;

@@ -1,5 +1,4 @@
 //! Stores in files. Each test has a folder of its own.
-use crate::adopted_tables::SCHEMA_1;
 use scripts::calls::wrong_row;
 use scripts::requests::REQUESTS;
 use sqlite::{Alter, Connection, Error, params};
@@ -8,6 +7,20 @@ use std::fs;
 use std::test::Fail;
 use store::refusal::Refusal;
 use store::store::SqlShelves;
+
+/// The tables of schema 1, which have no keys of order, with their rows.
+const SCHEMA_1: &str = "\
+CREATE TABLE meta (name TEXT PRIMARY KEY, value INTEGER NOT NULL) STRICT;
+CREATE TABLE shelf (name TEXT PRIMARY KEY) STRICT;
+CREATE TABLE access (token TEXT PRIMARY KEY, shelf TEXT NOT NULL REFERENCES shelf (name), publish INTEGER NOT NULL CHECK (publish IN (0, 1))) STRICT;
+CREATE TABLE version (id INTEGER PRIMARY KEY, shelf TEXT NOT NULL REFERENCES shelf (name), path TEXT NOT NULL, version TEXT NOT NULL, time TEXT, mod BLOB NOT NULL, UNIQUE (shelf, path, version)) STRICT;
+CREATE TABLE body (id INTEGER PRIMARY KEY REFERENCES version (id), zip BLOB NOT NULL) STRICT;
+INSERT INTO meta VALUES ('schema', 1);
+INSERT INTO shelf VALUES ('common'), ('alpha');
+INSERT INTO access VALUES ('alphakey00000001', 'alpha', 1);
+INSERT INTO version VALUES (7, 'common', 'example.com/lib', 'v1.0.0', NULL, X'6d6f64756c65206578616d706c652e636f6d2f6c69620a');
+INSERT INTO body VALUES (7, X'5A');
+";
 
 /// Puts a team and a version into a store.
 const FILL: &str = "\

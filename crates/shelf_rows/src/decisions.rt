@@ -1,7 +1,7 @@
 //! The checks of a publish, row by row.
-use crate::rows::{answer_of, call_of, column, named, with_lines};
 use modpath::ModulePath;
 use modver::{Version, read_time};
+use scripts::rows::{answer_of, call_of, column, named, with_lines};
 use shelf::ask::{Body, GivenTime, Publish};
 use shelf::decide::decide;
 use shelf::reply::Decision;

@@ -1,8 +1,8 @@
 //! Which entries may stand at a path and a version.
-use crate::calls::time_of;
-use crate::rows::{answer_of, call_of, column, with_lines};
 use modpath::ModulePath;
 use modver::Version;
+use scripts::calls::time_of;
+use scripts::rows::{answer_of, call_of, column, with_lines};
 use std::alloc::Global;
 use std::test::Fail;
 use world::entry::EntryRef;

@@ -1,7 +1,7 @@
 //! Runs of the machine on shelves in memory.
-use crate::rows::{answer_of, call_of, column, with_lines};
 use modpath::ModulePath;
 use modver::Version;
+use scripts::rows::{answer_of, call_of, column, with_lines};
 use shelf::ask::{Ask, Body, Event, GivenTime, Publish, Query};
 use shelf::reply::{Answer, Reply};
 use shelf::run::{run, run_in_memory};

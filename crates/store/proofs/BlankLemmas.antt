@@ -24,11 +24,11 @@ use Rattle.tables.proofs.FitTests.{passed, refused}
 use Rattle.tables.proofs.Maps.{text_put, text_splits, no_text, none_in_empty}
 use Rattle.tables.proofs.OneWorld.{same_got, same_test}
 use Rattle.tables.proofs.ValueLemmas.{equals_itself, texts_equal}
-use Rattle.store.specs.Calls.{Selects}
+use Rattle.statements.specs.Calls.{Selects}
 use Rattle.store.specs.Extracted.{HasOtherShelf, HasKey, HasEntry}
-use Rattle.store.specs.Lookup.{lookup, FirstFound}
-use Rattle.store.proofs.DifferLemmas.{differ_is}
-use Rattle.store.proofs.LookupLemmas.{selected_found}
+use Rattle.statements.specs.Lookup.{lookup, FirstFound}
+use Rattle.statements.proofs.DifferLemmas.{differ_is}
+use Rattle.statements.proofs.LookupLemmas.{selected_found}
 use Rattle.store.proofs.Texts.{other_shelf_text, tokens_text, all_paths_text}
 
 -- ---- the queries

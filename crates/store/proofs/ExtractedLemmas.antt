@@ -9,17 +9,18 @@ use Rattle.world.proofs.Parts.{part_is_world}
 use Rattle.tables.specs.Means.{Stands, StandsFor}
 use Rattle.tables.proofs.FailureLemmas.{was_clean}
 use Rattle.std.specs.Prelude.{OnOk, OnErr}
-use Rattle.store.specs.Calls.{Spares, ChangesAt, shown_of, shown_with}
+use Rattle.statements.specs.Calls.{Spares, ChangesAt}
+use Rattle.store.specs.Shown.{shown_of, shown_with}
 use Rattle.store.specs.declared.kept.Kept.{Kept}
 use Rattle.store.specs.Kept.{AreKept, IsNothing}
 use Rattle.store.proofs.KeptLemmas.{nothing_kept}
-use Rattle.store.specs.Rows.{Writing}
-use Rattle.store.specs.Extract.{IsReady, Copies}
-use Rattle.store.proofs.RowLemmas.{filling_of, writing_of}
+use Rattle.statements.specs.Rows.{Writing}
+use Rattle.statements.specs.Extract.{IsReady, Copies}
+use Rattle.statements.proofs.RowLemmas.{filling_of, writing_of}
 use Rattle.store.specs.Extracted.{MakesPart, is_written, IsRead, Tells, ExtractsAt, Extracts}
 use Rattle.store.specs.declared.extract_judge.Judged.{Judged}
 use Rattle.store.specs.declared.extract_judge.Judged.TheVariants as judged
-use Rattle.store.specs.declared.extract_rows.CopyError.{CopyError}
+use Rattle.statements.specs.declared.extract_rows.CopyError.{CopyError}
 use Rattle.store.specs.declared.refusal.Refusal.{Refusal}
 use Rattle.store.specs.declared.refusal.Refusal.TheVariants as refusal
 use Rattle.store.proofs.StoreLemmas.{narrow}

@@ -23,10 +23,10 @@ use Rattle.tables.specs.Means.{Means, Tabulates, IsVersion, IsShelf, IsAccess, I
 use Rattle.tables.proofs.OneWorld.{same_got, same_test}
 use Rattle.tables.proofs.Maps.{none_in_empty, text_splits, no_text}
 use Rattle.tables.proofs.SoundLemmas.{piece_version}
-use Rattle.store.specs.Rows.{AreApart, IsRead, version_read, piece_read}
-use Rattle.store.specs.Extract.{AddsShelf, CopiesKeys, IsVersionOn, IsPieceOn, CopiesVersions, CopiesPieces, CopiesEntries, OfWorlds, Then}
+use Rattle.statements.specs.Rows.{IsRead, piece_read, AreApart, version_read}
+use Rattle.statements.specs.Extract.{AddsShelf, CopiesKeys, IsVersionOn, IsPieceOn, CopiesVersions, CopiesPieces, CopiesEntries, OfWorlds, Then}
 use Rattle.store.specs.Extracted.{MakesRegistry, MakesPart}
-use Rattle.store.proofs.RowLemmas.{of_as, same_pieces}
+use Rattle.statements.proofs.RowLemmas.{of_as, same_pieces}
 
 -- a shelf that the team sees is one of the two
 sees_two : (w : World) (t u : List ℕ) → sees w t u ≡ true → (u ≡ t) ⊎ (u ≡ common)

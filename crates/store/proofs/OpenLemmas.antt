@@ -13,7 +13,7 @@ use Rattle.sqlite.specs.Schema.{Schema}
 use Rattle.world.specs.World.{World, IsWorld, only_common}
 use Rattle.tables.specs.Schema.{store_schema, no_schema}
 use Rattle.tables.specs.Means.{StandFor, Holds, IsSettled, StandsForSome}
-use Rattle.store.specs.Calls.{shown_of, shown_with, BeginsAt}
+use Rattle.store.specs.Shown.{shown_of, shown_with, BeginsAt}
 use Rattle.store.specs.declared.kept.Kept.{Kept}
 use Rattle.store.specs.Kept.{IsNothing}
 use Rattle.store.proofs.KeptLemmas.{nothing_kept}
@@ -29,7 +29,7 @@ use Rattle.sqlite.specs.declared.error.ErrorCode.TheVariants as code
 use Rattle.sqlite_trees.specs.declared.memory.MemStore.{MemStore}
 use Rattle.sqlite.specs.Held.{Held, state, IsNew}
 use Rattle.sqlite.specs.Steps.{over_memory, IsEmpty}
-use Rattle.store.proofs.WriteLemmas.{open_leaves}
+use Rattle.statements.proofs.WriteLemmas.{open_leaves}
 
 module _ (old new : State) where
   -- a store that holds a world begins at it

@@ -11,7 +11,8 @@ use Rattle.world.specs.declared.registry.Registered.TheVariants.{Done, Name, Tak
 use Rattle.world.specs.declared.entry.Right.{Right}
 use Rattle.world.specs.Registry.{after_team_add, after_key_add, after_key_revoke}
 use Rattle.tables.specs.Means.{StandsFor}
-use Rattle.store.specs.Calls.{Spares, LeavesOnly, LeavesEither, ChangesAt, shown_with}
+use Rattle.statements.specs.Calls.{Spares, LeavesOnly, ChangesAt}
+use Rattle.store.specs.Shown.{LeavesEither, shown_with}
 use Rattle.store.specs.declared.kept.Kept.{Kept}
 use Rattle.store.specs.Kept.{AreKept}
 use Rattle.tables.proofs.FailureLemmas.{was_clean}

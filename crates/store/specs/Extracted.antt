@@ -5,7 +5,7 @@ use Rattle.std.specs.FinSet as set
 use Rattle.sqlite.specs.State.{State, HasCleanDisk}
 use Rattle.sqlite.specs.Tree.{Trees}
 use Rattle.tables.specs.Means.{Means, StandFor, StandsFor}
-use Rattle.store.specs.Extract.{Then, AddsShelf, CopiesKeys}
+use Rattle.statements.specs.Extract.{Then, AddsShelf, CopiesKeys}
 use Rattle.world.specs.declared.entry.Entry.{Entry}
 use Rattle.world.specs.declared.entry.Holder.{Holder}
 use Rattle.world.specs.declared.entry.Place.{Place}
@@ -14,7 +14,7 @@ use Rattle.world.specs.Store.{Shown, GrewOrFull}
 use Rattle.world.specs.World.{World, IsWorld, common, only_common}
 use Rattle.store.specs.declared.extract_judge.Judged.{Judged}
 use Rattle.store.specs.declared.extract_judge.Judged.TheVariants as judged
-use Rattle.store.specs.declared.extract_rows.CopyError.{CopyError}
+use Rattle.statements.specs.declared.extract_rows.CopyError.{CopyError}
 use Rattle.store.specs.declared.refusal.Refusal.{Refusal}
 use Rattle.store.specs.declared.refusal.Refusal.TheVariants as refusal
 

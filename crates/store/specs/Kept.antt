@@ -3,7 +3,7 @@ use Rattle.std.specs.Prelude.{◌≡◌, []}
 use Rattle.std.specs.FinMap as map
 use Rattle.world.specs.World.{World}
 use Rattle.world.specs.Counts.{AreCounts}
-use Rattle.store.specs.KeptLists.{AreLists}
+use Rattle.world.specs.KeptLists.{AreLists}
 use Rattle.store.specs.declared.kept.Kept.{Kept}
 
 -- what is kept is so in a world

@@ -1,15 +1,5 @@
-pub mod Views
-pub mod Lookup
-pub mod KeptLists
 pub mod Kept
-pub mod Calls
-pub mod Reading
-pub mod Rows
-pub mod Added
-pub mod Lists
+pub mod Shown
 pub mod Opened
 pub mod Restart
-pub mod Pairs
-pub mod Extract
 pub mod Extracted
-pub mod Numbers

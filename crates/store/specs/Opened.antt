@@ -6,7 +6,7 @@ use Rattle.sqlite.specs.State.{State}
 use Rattle.world.specs.World.{World, only_common}
 use Rattle.tables.specs.Schema.{store_schema, no_schema}
 use Rattle.tables.specs.Means.{Means, StandFor, StandsForNone}
-use Rattle.store.specs.Calls.{shown_of, BeginsAt}
+use Rattle.store.specs.Shown.{shown_of, BeginsAt}
 use Rattle.store.specs.declared.refusal.Refusal.{Refusal}
 use Rattle.store.specs.declared.refusal.Refusal.TheVariants as refusal
 

@@ -5,7 +5,7 @@ use Rattle.sqlite.specs.Tree.{Trees}
 use Rattle.sqlite.specs.State.{State}
 use Rattle.world.specs.World.{World}
 use Rattle.tables.specs.Means.{StandFor}
-use Rattle.store.specs.Calls.{shown_of}
+use Rattle.store.specs.Shown.{shown_of}
 
 -- the files hold a database that stands for the world
 abbrev pub HoldsWorld : Image → World → Type 0

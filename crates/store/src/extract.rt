@@ -4,16 +4,17 @@ ghost use Rattle.std.specs.Prelude.{◌≡◌, ◌≢◌, ◌≤◌, IfOk};
 ghost use Rattle.sqlite.specs.Held.{state};
 ghost use Rattle.sqlite_trees.specs.View.{doubt};
 ghost use Rattle.world.specs.Part.{part};
-ghost use Rattle.store.specs.Calls.{Spares, ChangesAt, shown_of, shown_with};
+ghost use Rattle.statements.specs.Calls.{Spares, ChangesAt};
+ghost use Rattle.store.specs.Shown.{shown_of, shown_with};
 ghost use Rattle.store.specs.Extracted.{IsJudged, is_written, InEachTwo, Extracts, HasCauseInEither};
 
 use crate::extract_judge::{Judged, judge};
 use crate::extract_part::write_part;
-use crate::extract_rows::CopyError;
 use crate::kept::Kept;
 use crate::refusal::Refusal;
 use crate::store::{SqlShelves, fault};
 use sqlite::{Alter, Connection};
+use statements::extract_rows::CopyError;
 use world::registry::StoreFault;
 
 /// Writes the part of a team into a fresh store, where there is such a team and the store has `common` alone.

@@ -5,12 +5,13 @@ ghost use Rattle.sqlite.specs.Held.{state};
 ghost use Rattle.sqlite.specs.State.{HasCleanDisk};
 ghost use Rattle.world.specs.World.{IsWorld, only_common};
 ghost use Rattle.tables.specs.Means.{Stands, StandsFor};
-ghost use Rattle.store.specs.Calls.{InEachWorld, Spares};
+ghost use Rattle.statements.specs.Calls.{InEachWorld, Spares};
 ghost use Rattle.store.specs.Extracted.{HasOtherShelf, HasKey, HasEntry, IsJudged};
 
-use crate::extract_rows::CopyError;
-use crate::shelves::{find_row, has_shelf};
 use sqlite::{Alter, Connection, Error, params};
+use statements::extract_rows::CopyError;
+use statements::query::find_row;
+use statements::registry::has_shelf;
 use world::names::COMMON;
 
 /// What is to become of an extract.

@@ -8,14 +8,14 @@ ghost use Rattle.sqlite_trees.specs.View.{doubt};
 ghost use Rattle.world.specs.Part.{part};
 ghost use Rattle.world.specs.World.{IsWorld, only_common};
 ghost use Rattle.tables.specs.Means.{Stands};
-ghost use Rattle.store.specs.Calls.{IsOpenIfHonest, Spares, ChangesAt};
+ghost use Rattle.statements.specs.Calls.{IsOpenIfHonest, Spares, ChangesAt};
 ghost use Rattle.tables.specs.Calls.{Honestly};
-ghost use Rattle.store.specs.Rows.{Filling};
-ghost use Rattle.store.specs.Extract.{IsReady, Copies, OfWorlds, PutsShelf, CopiesEntries};
+ghost use Rattle.statements.specs.Rows.{Filling};
+ghost use Rattle.statements.specs.Extract.{IsReady, Copies, OfWorlds, PutsShelf, CopiesEntries};
 ghost use Rattle.store.specs.Extracted.{MakesRegistry, MakesPart};
 
-use crate::extract_rows::{CopyError, copy_keys, copy_pieces, copy_versions};
 use sqlite::{Alter, Connection, Error, ErrorCode, Transaction, params};
+use statements::extract_rows::{CopyError, copy_keys, copy_pieces, copy_versions};
 use world::names::COMMON;
 
 /// Writes the row of a shelf.

@@ -3,9 +3,9 @@
 ghost use Rattle.std.specs.Prelude.{◌≡◌};
 ghost use Rattle.store.specs.Kept.{IsNothing};
 
-use crate::kept_lists::KeptLists;
 use std::alloc::Global;
 use world::counts::Counts;
+use world::kept_lists::KeptLists;
 
 /// What was found since a store was opened. Nobody else writes, so it stays right.
 #[derive(Drop)]

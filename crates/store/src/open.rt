@@ -7,13 +7,14 @@ ghost use Rattle.sqlite.specs.State.{HasCleanDisk};
 ghost use Rattle.sqlite.specs.Steps.{over_memory};
 ghost use Rattle.sqlite_wal.specs.Files.{image_at};
 ghost use Rattle.world.specs.World.{only_common};
-ghost use Rattle.store.specs.Calls.{shown_with, BeginsAt};
+ghost use Rattle.store.specs.Shown.{shown_with, BeginsAt};
 ghost use Rattle.store.specs.Opened.{IsOfOpening};
 ghost use Rattle.store.specs.Restart.{HoldsWorld};
 
+use crate::files::connect;
 use crate::refusal::Refusal;
 use crate::store::SqlShelves;
-use sqlite::{Connection, Error, ErrorCode, File, FileFrom, FileStore, MemStore, Start, Unknown};
+use sqlite::{Connection, File, FileFrom, FileStore, MemStore, Start, Unknown};
 use std::alloc::Global;
 use std::rt::HostRuntime;
 
@@ -60,10 +61,7 @@ impl<T: Start> SqlShelves<FileStore<FileFrom<T>>> {
         ensures refused { IfErr result IsOfOpening }
         ensures none_failed { IfOk result (λ s. s.failures ≡ 0) }
     {
-        let conn = match Connection::open_from(rt, path, false, start) {
-            Ok(conn) => conn,
-            Err((error, _)) => return Err(file_refusal(error)),
-        };
+        let conn = connect(rt, path, start)?;
         match SqlShelves::adopt(rt.alloc(), conn) {
             Ok(shelves) => Ok(shelves),
             Err((refusal, _)) => Err(refusal),
@@ -86,18 +84,4 @@ impl SqlShelves<FileStore<File>> {
 
     /// Lets the store of a file go. What was acknowledged stands in its files already, so that nothing is left to do or to fail.
     pub fn close(self) {}
-}
-
-/// What a failure to open a file is told as.
-fn file_refusal(error: Error) -> Refusal
-    ensures cannot_open { error ≡ Error.SqliteFailure ErrorCode.CannotOpen → result ≡ Refusal.Device }
-    ensures opening { IsOfOpening result }
-{
-    match error {
-        Error::SqliteFailure(ErrorCode::NotADatabase | ErrorCode::DatabaseCorrupt) => {
-            Refusal::BadSchema
-        }
-        Error::SqliteFailure(ErrorCode::OutOfMemory) => Refusal::Memory,
-        _ => Refusal::Device,
-    }
 }

@@ -2,7 +2,7 @@
 use Rattle.std.specs.Prelude.{ℕ, ◌≡◌}
 use Rattle.world.specs.Store.{Shown}
 use Rattle.world.specs.World.{World}
-use Rattle.store.specs.Calls.{BeginsAt}
+use Rattle.store.specs.Shown.{BeginsAt}
 use Rattle.store.specs.declared.refusal.Refusal.{Refusal as Unopened}
 use Rattle.store.specs.declared.refusal.Refusal.TheVariants as store
 use Rattle.commands.specs.declared.refusal.Refusal.{Refusal}

@@ -23,5 +23,6 @@ pub mod Newest
 pub mod MapsLatest
 pub mod Sound
 pub mod Counted
+pub mod KeptListLemmas
 pub mod Sees
 pub mod Parts

@@ -1,5 +1,5 @@
 -- A change of a store in memory, which stands for one world.
-use Rattle.std.proofs.Common.{◌≡◌, ℕ, List, true, false, refl, Ok, inl, inr}
+use Rattle.std.proofs.Common.{◌≡◌, ◌⊎◌, ◌∙◌, ℕ, List, true, false, refl, Ok, inl, inr}
 use Rattle.std.specs.FinMap as map
 use Rattle.std.specs.FinSet as set
 use Rattle.world.specs.declared.registry.Registered.TheVariants.{Done}
@@ -7,6 +7,11 @@ use Rattle.world.specs.World.{World, IsWorld, is_team_name, is_key}
 use Rattle.world.specs.Registry.{team_added, key_added, key_revoked}
 use Rattle.world.specs.Store.{DoesAt, ReadsAt}
 use Rattle.world.specs.InMemory.{in_memory}
+
+-- what a crash leaves is of the same world
+still : {old new x y : World} → new ≡ old → (old ≡ x) ⊎ (old ≡ y) → (new ≡ x) ⊎ (new ≡ y)
+still same (inl e) = inl (same ∙ e)
+still same (inr e) = inr (same ∙ e)
 
 -- the answer is the value, and the store holds the next world
 pub done : {T : Type 0} (old new w : World) (x value : T) (next : World) → x ≡ value → new ≡ next → IsWorld next → DoesAt (in_memory old) (in_memory new) w (Ok x) value next
@@ -21,6 +26,10 @@ done old new w x value next answer same is = record {
 -- the answer is the value, and nothing changes
 pub told : {T : Type 0} (m w : World) (x value : T) → ((m ≡ w) × IsWorld w) → x ≡ value → ReadsAt (in_memory m) (in_memory m) w (Ok x) value
 told m w x value is answer = record { answer = answer; stays = is; left = λ x y left. left }
+
+-- the same where what it keeps beside the world may change
+pub told_of : {T : Type 0} (old new w : World) (x value : T) → new ≡ old → ((old ≡ w) × IsWorld w) → x ≡ value → ReadsAt (in_memory old) (in_memory new) w (Ok x) value
+told_of old new w x value same is answer = record { answer = answer; stays = (same ∙ is.0, is.1); left = λ x y left. still same left }
 
 pub team_done : (w : World) (t : List ℕ) → is_team_name t ≡ true → set.contains w.shelves t ≡ false → team_added w t ≡ Done
 team_done w t named free = rw (named, free) refl

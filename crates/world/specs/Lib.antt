@@ -15,4 +15,5 @@ pub mod Latest
 pub mod Store
 pub mod Kept
 pub mod Counts
+pub mod KeptLists
 pub mod Part

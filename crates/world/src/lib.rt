@@ -26,6 +26,7 @@ pub mod counts;
 pub mod entry;
 pub mod entry_test;
 pub mod forms;
+pub mod kept_lists;
 pub mod laws;
 pub mod map_shelves;
 mod maps;

@@ -2,12 +2,14 @@
 ghost use Rattle.std.specs.Prelude.{◌≡◌, option_copied, option_map, IfOk, IsOk};
 ghost use Rattle.std.specs.FinMap as map;
 ghost use Rattle.modver.specs.SemanticVersion.{version_text};
+ghost use Rattle.world.specs.Latest.{latest_of};
 ghost use Rattle.world.specs.Lines.{in_order};
 ghost use Rattle.world.specs.Standing.{standing};
 ghost use Rattle.world.specs.Versions.{by_precedence, versions_of};
-ghost use Rattle.world.specs.World.{only_common, place, seen_at, heading_of, count};
+ghost use Rattle.world.specs.World.{IsWorld, only_common, place, seen_at, heading_of, heading, count};
 
 use crate::entry::{Entry, EntryRef, Heading, Holder, Right, Seen};
+use crate::kept_lists::KeptLists;
 use crate::maps::entry_map::EntryMap;
 use crate::maps::text_map::TextMap;
 use crate::names::{COMMON, is_key, is_team_name};
@@ -24,24 +26,28 @@ use std::alloc::{AllocError, Global};
 use std::marker::Model;
 use text::Text;
 
-/// Shelves in ordered maps, which contracts see as their world.
+/// Shelves in ordered maps, and the lists of versions that were asked of them. Contracts see their world.
 #[derive(Drop)]
 pub struct MapShelves {
     alloc: Global,
     keys: TextMap<Holder>,
     shelves: TextSet,
     entries: EntryMap,
+    lists: KeptLists,
 }
 
 impl Model for MapShelves {
     ghost use Rattle.world.specs.World.{World};
     ghost use Rattle.world.specs.Code.{world_code};
+    ghost use Rattle.world.specs.KeptLists.{AreLists};
 
     ghost Value = { World };
 
     ghost coded = { world_code };
 
     ghost view = { λ m. record { keys = m.keys; shelves = m.shelves; entries = m.entries } };
+
+    ghost invariant = { λ m. AreLists (record { keys = m.keys; shelves = m.shelves; entries = m.entries }) m.lists };
 }
 
 impl MapShelves {
@@ -56,6 +62,7 @@ impl MapShelves {
             keys: TextMap::new(alloc),
             shelves,
             entries: EntryMap::new(alloc),
+            lists: KeptLists::new(alloc),
         })
     }
 
@@ -76,6 +83,18 @@ impl MapShelves {
         self.entries
             .add_versions(self.alloc, COMMON, path, &mut versions)?;
         Ok(versions)
+    }
+
+    /// The versions of a path that a shelf sees, in ascending precedence: those that are kept, which
+    /// are so no longer, or else as they are found.
+    fn take_versions(&mut self, shelf: &str, path: &str) -> Result<Versions, AllocError>
+        ensures stays { self.new ≡ self.old }
+        ensures found { IfOk result (λ vs. vs ≡ versions_of self.old shelf.now path.now) }
+    {
+        if let Some(versions) = self.lists.take(shelf, path) {
+            return Ok(versions);
+        }
+        sorted(self.alloc, self.versions_seen(shelf, path)?)
     }
 
     /// A copy of what stands on a shelf.
@@ -110,6 +129,40 @@ impl MapShelves {
             None => Ok(None),
             Some(entry) => Ok(Some(entry.heading(self.alloc)?)),
         }
+    }
+
+    /// A copy of what a shelf sees of a version, without its zip.
+    fn heading_seen(
+        &self,
+        shelf: &str,
+        path: &ModulePath,
+        version: &Version,
+    ) -> Result<Option<Heading>, AllocError>
+        ensures { IfOk result (λ h. h ≡ heading self.now shelf.now path.now (version_text version.now)) }
+    {
+        let own = self.heading_on(shelf, path, version)?;
+        if own.is_some() {
+            return Ok(own);
+        }
+        self.heading_on(COMMON, path, version)
+    }
+
+    /// The latest of the versions of a path that a shelf sees, which are given in any order.
+    fn latest_among(
+        &self,
+        shelf: &str,
+        path: &ModulePath,
+        versions: &[Version],
+    ) -> Result<Option<Version>, AllocError>
+        requires { in_order (by_precedence versions.now) ≡ versions_of self.now shelf.now path.now }
+        ensures { IfOk result (λ v. IsWorld self.now → v ≡ latest_of self.now shelf.now path.now) }
+    {
+        let Some(newest) = highest(versions) else {
+            return Ok(None);
+        };
+        let heading = self.heading_seen(shelf, path, newest)?;
+        let gomod = gomod_in(self.alloc, heading)?;
+        latest_left(self.alloc, versions, gomod)
     }
 }
 
@@ -157,11 +210,7 @@ impl Shelves for MapShelves {
         path: &ModulePath,
         version: &Version,
     ) -> Result<Option<Heading>, StoreFault> {
-        let own = self.heading_on(shelf, path, version)?;
-        if own.is_some() {
-            return Ok(own);
-        }
-        Ok(self.heading_on(COMMON, path, version)?)
+        Ok(self.heading_seen(shelf, path, version)?)
     }
 
     /// How an entry that is handed in stands to what the shelf sees of the version. It takes no memory.
@@ -187,18 +236,20 @@ impl Shelves for MapShelves {
     }
 
     fn versions(&mut self, shelf: &str, path: &ModulePath) -> Result<Versions, StoreFault> {
-        let versions = self.versions_seen(shelf, path.as_str())?;
-        Ok(sorted(self.alloc, versions)?)
+        let found = self.take_versions(shelf, path.as_str())?;
+        self.lists
+            .keep_copy(self.alloc, shelf, path.as_str(), found.as_slice());
+        Ok(found)
     }
 
     fn latest(&mut self, shelf: &str, path: &ModulePath) -> Result<Option<Version>, StoreFault> {
-        let versions = self.versions_seen(shelf, path.as_str())?;
-        let Some(newest) = highest(versions.as_slice()) else {
-            return Ok(None);
+        let Some(list) = self.lists.take(shelf, path.as_str()) else {
+            let versions = self.versions_seen(shelf, path.as_str())?;
+            return Ok(self.latest_among(shelf, path, versions.as_slice())?);
         };
-        let heading = self.heading(shelf, path, newest)?;
-        let gomod = gomod_in(self.alloc, heading)?;
-        Ok(latest_left(self.alloc, versions.as_slice(), gomod)?)
+        let latest = self.latest_among(shelf, path, list.as_slice())?;
+        self.lists.keep(self.alloc, shelf, path.as_str(), list);
+        Ok(latest)
     }
 
     fn paths(&mut self, shelf: &str) -> Result<TextSet, StoreFault> {
@@ -228,6 +279,7 @@ impl Shelves for MapShelves {
         let (path, version) = (path.as_str(), version.as_str());
         self.entries
             .insert(self.alloc, shelf, path, version, entry)?;
+        self.lists.forget(path);
         Ok(())
     }
 

@@ -3,12 +3,12 @@ use Rattle.sqlite.specs.Held.{state}
 use Rattle.world.specs.Part.{part}
 use Rattle.world.specs.World.{World}
 use Rattle.tables.proofs.FailureLemmas.{was_clean}
-use Rattle.store.specs.Calls.{ChangesAt}
+use Rattle.statements.specs.Calls.{ChangesAt}
 use Rattle.store.specs.Extracted.{IsJudged, is_written}
 use Rattle.store.specs.declared.extract_judge.Judged.{Judged}
 use Rattle.store.specs.declared.extract_judge.Judged.TheVariants.{Fit}
-use Rattle.store.proofs.ChangeLemmas.{spares_at}
-use Rattle.store.proofs.ExtractLemmas.{stands_ready}
+use Rattle.statements.proofs.ChangeLemmas.{spares_at}
+use Rattle.statements.proofs.ExtractLemmas.{stands_ready}
 use Rattle.store.proofs.ExtractedLemmas.{spares_when, spared_at, not_written, else_written}
 use Rattle.store.proofs.extract.extract_part.Goals as goal
 

@@ -3,7 +3,7 @@ use Rattle.sqlite.specs.Held.{state}
 use Rattle.tables.proofs.FailureLemmas.{was_clean}
 use Rattle.tables.proofs.FitTests.{refused}
 use Rattle.store.proofs.BlankLemmas.{more_shelves, more_keys, blank_told}
-use Rattle.store.proofs.CallLemmas.{spares_then}
+use Rattle.statements.proofs.CallLemmas.{spares_then}
 use Rattle.store.proofs.extract_judge.is_blank.Goals as goal
 
 pub returns-then-branch-clause-answer : goal.returns-then-branch-clause-answer

@@ -1,6 +1,6 @@
 use Rattle.std.proofs.Common.{◌≡◌, sym, ◌∙◌, true≢false, rules}
 use Rattle.world.specs.World.{common}
-use Rattle.store.proofs.ExtractLemmas.{spares_itself}
+use Rattle.statements.proofs.ExtractLemmas.{spares_itself}
 use Rattle.store.proofs.ExtractedLemmas.{common_is_none, err_is_not_ok, no_team_is_not_fit, not_empty_is_not_fit}
 use Rattle.store.proofs.extract_judge.judge.Goals as goal
 

@@ -1,9 +1,9 @@
 use Rattle.std.proofs.Common.{is_ok, sym, subst}
 use Rattle.sqlite.specs.Held.{state}
-use Rattle.store.specs.Extract.{Copies}
+use Rattle.statements.specs.Extract.{Copies}
 use Rattle.store.specs.Extracted.{MakesPart}
-use Rattle.store.proofs.ChangeLemmas.{not_ok}
-use Rattle.store.proofs.ExtractLemmas.{copies_then, copies_weaker, copies_part}
+use Rattle.statements.proofs.ChangeLemmas.{not_ok}
+use Rattle.statements.proofs.ExtractLemmas.{copies_then, copies_weaker, copies_part}
 use Rattle.store.proofs.FilledLemmas.{makes_part}
 use Rattle.store.proofs.extract_part.fill.Goals as goal
 

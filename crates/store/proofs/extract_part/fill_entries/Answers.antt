@@ -1,8 +1,8 @@
 use Rattle.std.proofs.Common.{true, false, is_ok, sym, subst}
 use Rattle.sqlite.specs.Held.{state}
-use Rattle.store.specs.Extract.{Copies, CopiesEntries}
-use Rattle.store.proofs.ChangeLemmas.{not_ok}
-use Rattle.store.proofs.ExtractLemmas.{copies_then, copies_part}
+use Rattle.statements.specs.Extract.{Copies, CopiesEntries}
+use Rattle.statements.proofs.ChangeLemmas.{not_ok}
+use Rattle.statements.proofs.ExtractLemmas.{copies_then, copies_part}
 use Rattle.store.proofs.extract_part.fill_entries.Goals as goal
 
 pub returns-in_err-copy_versions-clause-fills : goal.returns-in_err-copy_versions-clause-fills

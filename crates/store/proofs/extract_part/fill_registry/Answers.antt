@@ -1,10 +1,10 @@
 use Rattle.std.proofs.Common.{true, false, Ok, Err, is_ok, sym, subst}
 use Rattle.sqlite.specs.Held.{state}
 use Rattle.sqlite.specs.declared.error.Error.{Error}
-use Rattle.store.specs.Extract.{Copies, OfWorlds, AddsShelf}
+use Rattle.statements.specs.Extract.{Copies, OfWorlds, AddsShelf}
 use Rattle.store.specs.Extracted.{MakesRegistry}
-use Rattle.store.proofs.ChangeLemmas.{not_ok}
-use Rattle.store.proofs.ExtractLemmas.{goes_on_if, put_copied, copies_then, copies_weaker, copies_part}
+use Rattle.statements.proofs.ChangeLemmas.{not_ok}
+use Rattle.statements.proofs.ExtractLemmas.{goes_on_if, put_copied, copies_then, copies_weaker, copies_part}
 use Rattle.store.proofs.FilledLemmas.{makes_registry}
 use Rattle.store.proofs.extract_part.fill_registry.Goals as goal
 

@@ -1,8 +1,8 @@
 use Rattle.std.proofs.Common.{Ok}
 use Rattle.sqlite.specs.Held.{state}
 use Rattle.sqlite.specs.State.{ExecutesInside}
-use Rattle.store.proofs.Texts.{add_shelf_text}
-use Rattle.store.proofs.AddTeamLemmas.{shelf_params, shelf_put}
+use Rattle.statements.proofs.Texts.{add_shelf_text}
+use Rattle.statements.proofs.AddTeamLemmas.{shelf_params, shelf_put}
 use Rattle.store.proofs.extract_part.put_shelf.Goals as goal
 
 pub returns-clause-puts : goal.returns-clause-puts

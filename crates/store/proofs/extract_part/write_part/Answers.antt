@@ -5,11 +5,11 @@ use Rattle.world.specs.Part.{part}
 use Rattle.world.specs.World.{only_common}
 use Rattle.tables.specs.Means.{Stands}
 use Rattle.tables.proofs.FailureLemmas.{was_clean}
-use Rattle.store.specs.Calls.{ChangesAt}
-use Rattle.store.proofs.ChangeLemmas.{not_ok}
-use Rattle.store.proofs.ExtractLemmas.{read_spares}
+use Rattle.statements.specs.Calls.{ChangesAt}
+use Rattle.statements.proofs.ChangeLemmas.{not_ok}
+use Rattle.statements.proofs.ExtractLemmas.{read_spares}
 use Rattle.store.proofs.ExtractedLemmas.{part_written}
-use Rattle.store.proofs.TransactionEnds.{begins_writing, committed_to, undone_to, commit_failed}
+use Rattle.statements.proofs.TransactionEnds.{begins_writing, committed_to, undone_to, commit_failed}
 use Rattle.store.proofs.extract_part.write_part.Goals as goal
 
 pub returns-in_err-fill-clause-reads : goal.returns-in_err-fill-clause-reads

@@ -2,7 +2,7 @@ use Rattle.std.proofs.Common.{Ok, Err, subst}
 use Rattle.sqlite.specs.Held.{state}
 use Rattle.world.specs.Part.{part}
 use Rattle.tables.proofs.FailureLemmas.{was_clean}
-use Rattle.store.specs.Calls.{ChangesAt}
+use Rattle.statements.specs.Calls.{ChangesAt}
 use Rattle.store.specs.Extracted.{IsJudged, is_written}
 use Rattle.store.specs.declared.extract_judge.Judged.{Judged}
 use Rattle.store.specs.declared.refusal.Refusal.TheVariants as refusal

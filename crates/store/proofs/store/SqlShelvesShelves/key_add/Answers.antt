@@ -6,7 +6,7 @@ use Rattle.world.specs.World.{is_key}
 use Rattle.world.specs.Registry.{after_key_add}
 use Rattle.world.proofs.Sound.{sound_key}
 use Rattle.store.proofs.StoreLemmas.{changes, kept_after_key, refused}
-use Rattle.store.proofs.AddKeyLemmas.{misnamed}
+use Rattle.statements.proofs.AddKeyLemmas.{misnamed}
 use Rattle.store.proofs.store.SqlShelvesShelves.key_add.Goals as goal
 
 pub returns-then-not-is_key-clause-does : goal.returns-then-not-is_key-clause-does

@@ -2,7 +2,7 @@ use Rattle.std.proofs.Common.{rules, List, ℕ, Some, None, Ok, ◌≡◌}
 use Rattle.sqlite.specs.Held.{state}
 use Rattle.world.specs.Latest.{AllOf, highest}
 use Rattle.world.proofs.Newest.{none_read, latest_read}
-use Rattle.store.specs.Calls.{shown_with}
+use Rattle.store.specs.Shown.{shown_with}
 use Rattle.store.proofs.StoreLemmas.{reads_then}
 use Rattle.store.proofs.store.SqlShelvesShelves.latest.Goals as goal
 

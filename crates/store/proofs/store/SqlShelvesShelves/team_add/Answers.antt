@@ -6,7 +6,7 @@ use Rattle.world.specs.World.{is_team_name}
 use Rattle.world.specs.Registry.{after_team_add}
 use Rattle.world.proofs.Sound.{sound_team}
 use Rattle.store.proofs.StoreLemmas.{changes, kept_after_team, refused}
-use Rattle.store.proofs.AddTeamLemmas.{misnamed_team}
+use Rattle.statements.proofs.AddTeamLemmas.{misnamed_team}
 use Rattle.store.proofs.store.SqlShelvesShelves.team_add.Goals as goal
 
 pub returns-then-not-is_team_name-clause-does : goal.returns-then-not-is_team_name-clause-does

@@ -1,6 +1,6 @@
 use Rattle.std.proofs.Common.{Ok, rules}
 use Rattle.sqlite.specs.Held.{state}
-use Rattle.store.specs.Calls.{shown_with}
+use Rattle.store.specs.Shown.{shown_with}
 use Rattle.store.proofs.StoreLemmas.{reads_then}
 use Rattle.store.proofs.store.SqlShelvesShelves.versions.Goals as goal
 

@@ -1,6 +1,5 @@
-use Rattle.std.proofs.Common.{◌∙◌, ◌++◌, ap, List}
+use Rattle.std.proofs.Common.{◌∙◌, ◌++◌, ap}
 use Rattle.std.specs.FinMap as map
-use Rattle.modver.specs.SemanticVersion.{SemanticVersion}
 use Rattle.world.specs.Lines.{in_order}
 use Rattle.world.specs.Versions.{by_precedence, named, versions_of}
 use Rattle.world.specs.Visible.{versions_among}

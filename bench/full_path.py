@@ -1,0 +1,58 @@
+#!/usr/bin/env python3
+"""Memory and time of `list` and `@latest` on a path with as many versions as there may be on each of two shelves, with large go.mod files.
+
+Build the program first (`./goshelf --version`). The store is made by sqlite3, with the tables of bench/store.py. With numbers: how many
+versions on each shelf (4,096), and how many bytes a go.mod has (1,048,576); the disk needs room for all of them.
+"""
+
+import os
+import sys
+import tempfile
+
+from store import KEY, answered, keys, made
+
+PATH = "example.com/lib"
+MIB = 1_048_576
+
+
+def gomod(length):
+    """A go.mod of so many bytes, most of which are a comment."""
+    head = f"module {PATH}\n//".encode()
+    return head + b"a" * (length - len(head) - 1) + b"\n"
+
+
+def filled(file, count, length):
+    """A store with so many versions on `alpha`, and as many others on `common`, without zips."""
+    conn = made(file)
+    conn.execute("PRAGMA synchronous = OFF")
+    text = gomod(length)
+    conn.execute("BEGIN")
+    for shelf, minor in (("common", 0), ("alpha", 1)):
+        for n in range(count):
+            version = f"v1.{minor}.{n}"
+            row = (shelf, PATH, version, text, *keys(version))
+            conn.execute("INSERT INTO version (shelf, path, version, mod, order_key, rank_key) VALUES (?, ?, ?, ?, ?, ?)", row)
+    conn.execute("COMMIT")
+    conn.close()
+
+
+def ask(rest):
+    return f"GET /k/{KEY}/{PATH}/{rest} HTTP/1.1\r\n\r\n".encode()
+
+
+def main():
+    numbers = [int(word) for word in sys.argv[1:]]
+    count = numbers[0] if numbers else 4096
+    length = numbers[1] if len(numbers) > 1 else MIB
+    with tempfile.TemporaryDirectory(prefix="goshelf-full-", dir=os.environ.get("STORES")) as folder:
+        file = os.path.join(folder, "shelves.db")
+        filled(file, count, length)
+        seconds, opened = answered(file, [])
+        print(f"{count:,} versions on each of two shelves, go.mod files of {length:,} bytes: {os.path.getsize(file) / MIB:,.0f} MiB, opened in {seconds:.2f} s with {opened:,.1f} MiB")
+        for name, rest in (("list", "@v/list"), ("latest version", "@latest")):
+            took, peak = answered(file, [ask(rest)])
+            print(f"the {name}: {took - seconds:.3f} s more, {peak:,.1f} MiB, {(peak - opened) * MIB / length:+.1f} go.mod files beside the opened store")
+
+
+if __name__ == "__main__":
+    main()

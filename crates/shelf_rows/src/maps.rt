@@ -1,0 +1,48 @@
+//! Scripts, each on new shelves in memory.
+use engine::answer_all;
+use scripts::calls::{CALLS, wrong_row, wrong_row_of};
+use scripts::requests::{REQUESTS, in_one_stream};
+use std::alloc::Global;
+use std::test::Fail;
+use world::map_shelves::MapShelves;
+use world::shelves::Shelves;
+
+fn wrong_row_of_maps<'a>(alloc: Global, script: &'a str) -> Result<&'a str, Fail> {
+    wrong_row_of(alloc, MapShelves::new(alloc)?, script)
+}
+
+#[test]
+fn maps_answer(rt: HostRuntime) -> Result<(), Fail> {
+    for script in CALLS.split("====\n").chain(REQUESTS.split("====\n")) {
+        assert_eq!(rt; wrong_row_of_maps(rt.alloc(), script)?, "");
+    }
+    Ok(())
+}
+
+/// The bytes that shelves answer to a stream, once they have the teams and the keys of a script. The shelves are let go then.
+fn streamed<S: Shelves + Drop>(
+    alloc: Global,
+    mut shelves: S,
+    script: &str,
+    stream: &[u8],
+) -> Result<Vec<u8>, Fail> {
+    let (registry, _) = script.split_once("empty-modules\n").ok_or("no requests")?;
+    if wrong_row(alloc, &mut shelves, registry)? != "" {
+        return Err(Fail::from("the teams and the keys"));
+    }
+    let mut reader = stream;
+    let mut output = Vec::new(alloc);
+    answer_all(alloc, &mut reader, &mut output, &mut shelves)?;
+    Ok(output)
+}
+
+#[test]
+fn requests_are_answered_in_one_stream(rt: HostRuntime) -> Result<(), Fail> {
+    let alloc = rt.alloc();
+    let script = REQUESTS.split("====\n").next().unwrap_or("");
+    let (stream, wanted) = in_one_stream(alloc, script)?;
+    let maps = MapShelves::new(alloc)?;
+    let output = streamed(alloc, maps, script, stream.as_bytes())?;
+    assert!(rt; output.as_slice() == wanted.as_bytes());
+    Ok(())
+}

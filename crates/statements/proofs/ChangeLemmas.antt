@@ -1,0 +1,66 @@
+-- Calls one after another.
+use Rattle.std.proofs.Common.{◌≡◌, ◌≤◌, Bool, true, false, inl, refl, sym, subst, arith, IsTrue, true≢false, Result, Ok, Err, IsErr, is_ok, IfOk, OnOk, Option, Some, None, is_some, option_map}
+use Rattle.sqlite_trees.specs.View.{doubt}
+use Rattle.sqlite.specs.Tree.{Trees}
+use Rattle.sqlite.specs.State.{State, HasCleanDisk}
+use Rattle.world.specs.World.{World}
+use Rattle.tables.specs.Means.{Holds, Stands}
+use Rattle.statements.specs.Calls.{Spares, LeavesOnly, ChangesAt, Changes}
+use Rattle.tables.proofs.FailureLemmas.{was_clean}
+use Rattle.statements.proofs.WriteLemmas.{open_leaves}
+
+-- nothing was written, and the call failed
+pub spared : (old new : State) (next : World → World) → Spares old new → Changes old new false next
+spared old new next s = record {
+  clean = s.clean;
+  at = λ w. record {
+    world = s.stays w;
+    left = λ clean stands only db may. let it = only db (s.left clean w stands db may) in (it.0, it.1, inl it.2);
+    kept = λ done. absurd (true≢false (sym done));
+  };
+}
+
+-- nothing was written, since the next world is this one
+pub refused : (old new : State) (next : World → World) → ((db : Trees) → IsTrue new.is_open → new.may_leave db → db ≡ new.committed.trees) → Spares old new
+    → (HasCleanDisk new → (w : World) → Stands old w → IsTrue new.is_open × (next w ≡ w)) → Changes old new true next
+refused old new next law s same = record {
+  clean = s.clean;
+  at = λ w. record {
+    world = λ stands clean shown. subst (Holds new) (sym (same clean w stands).1) (s.stays w stands clean shown);
+    left = λ clean stands only db may. let it = only db (s.left clean w stands db may) in (it.0, it.1, inl it.2);
+    kept = λ _ clean stands. let it = same clean w stands in subst (λ x. LeavesOnly new (λ y. y ≡ x)) (sym it.1) (open_leaves new w (λ db. law db it.0) (s.stays w stands clean it.0));
+  };
+}
+
+pub spares_changes : (a b c : State) (done : Bool) (next : World → World) → Spares a b → doubt b.is_clean ≤ doubt c.is_clean → ((w : World) → (HasCleanDisk c → Stands a w → ChangesAt b c done w (next w))) → Changes a c done next
+spares_changes a b c done next s up then = record {
+  clean = omega (arith, s.clean, up);
+  at = λ w. record {
+    world = λ stands clean. (then w clean stands).world (s.stays w stands) clean;
+    left = λ clean stands only. (then w clean stands).left clean (s.stays w stands) (λ db may. only db (s.left (was_clean b c up clean) w stands db may));
+    kept = λ done clean stands. (then w clean stands).kept done clean (s.stays w stands);
+  };
+}
+
+pub spares_at : (a b c : State) (done : Bool) (w next : World) → Spares a b → doubt b.is_clean ≤ doubt c.is_clean → ChangesAt b c done w next → ChangesAt a c done w next
+spares_at a b c done w next s up then = record {
+  world = λ stands. then.world (s.stays w stands);
+  left = λ clean stands only. then.left clean (s.stays w stands) (λ db may. only db (s.left (was_clean b c up clean) w stands db may));
+  kept = λ done clean stands. then.kept done clean (s.stays w stands);
+}
+
+pub not_ok : {A E : Type 0} (r : Result A E) → IsErr r → is_ok r ≡ false
+not_ok (Ok x) h = absurd (true≢false (sym h))
+not_ok (Err e) h = refl
+
+pub some_mapped : {A B : Type 0} (f : A → B) (o : Option A) → is_some o ≡ is_some (option_map f o)
+some_mapped f None = refl
+some_mapped f (Some x) = refl
+
+pub on_weaker : {A E : Type 0} {P Q : Type 0} (r : Result A E) → (P → Q) → OnOk r P → OnOk r Q
+on_weaker (Ok x) then h = then h
+on_weaker (Err e) then h = tt
+
+pub weaker : {A E : Type 0} {P Q : A → Type 0} (r : Result A E) → ((x : A) → P x → Q x) → IfOk r P → IfOk r Q
+weaker (Ok x) then h = then x h
+weaker (Err e) then h = tt

@@ -1,0 +1,137 @@
+-- What the query of a piece answers, and zips that are put together or compared piece by piece.
+use Rattle.std.proofs.Common.{◌≡◌, ◌≢◌, ◌≤◌, nat_eq, MatchOption, ◌<◌, ◌+◌, ◌==◌, ◌++◌, ℕ, ℤ, pos, Bool, true, false, List, [], ◌∷◌, length, length-append, append-nil, take, drop, Option, Some, None, refl, sym, ap, subst, ◌∙◌, codes, arith, true≢false}
+use lib.Dec.{eqb-suc-zero}
+use Rattle.std.specs.Prelude.{bytes_eq}
+use Rattle.std.specs.Cmp.{unsigned_Decides}
+use Rattle.std.specs.Cmp.Lexicographic.{pointwise}
+use Rattle.std.proofs.lemmas.Slice.Eq.{strip_prefix_is}
+use denote.Ref.{Bor}
+use Rattle.std.proofs.Math.Seq.{take-add}
+use Rattle.std.proofs.lemmas.List.{append_assoc, append_cancel_left, take-append-drop, take_all}
+use Rattle.world.proofs.Orders.{text_same, text_self}
+use Rattle.std.proofs.lemmas.Bool.{and_parts, and_from, false_from_ne_true}
+use Rattle.sqlite.specs.declared.types.Value.{Value}
+use Rattle.sqlite.specs.declared.types.Value.TheVariants.{Int, Blob}
+use Rattle.sqlite.specs.Collation.TheVariants.{Binary}
+use Rattle.sqlite_sql.specs.declared.ops.BinaryOp.TheVariants.{Compare}
+use Rattle.sqlite_sql.specs.declared.ops.CompareOp.TheVariants.{Eq}
+use Rattle.sqlite.specs.Order.{Row, column}
+use Rattle.sqlite.specs.Term.{Term, col, op2}
+use Rattle.sqlite.specs.Effect.{Database}
+use Rattle.sqlite.specs.Listing.{understood, reads_listing}
+use Rattle.sqlite.specs.Command.TheVariants.{Select}
+use Rattle.sqlite.proofs.Callers.{IsPlain, command_of}
+use Rattle.sqlite_tied.specs.Compute.{everything}
+use Rattle.sqlite_schema.specs.Rules.{equal}
+use Rattle.sqlite_rules.proofs.ListLemmas.{has_filtered, has_kept}
+use Rattle.tables.specs.Schema.{store_schema}
+use Rattle.tables.specs.Pieces.{piece_size, begin, HasPiece, piece}
+use Rattle.tables.proofs.ValueLemmas.{int_itself}
+use Rattle.tables.proofs.SoundLemmas.{ints_equal}
+use Rattle.statements.specs.Calls.{Selects}
+use Rattle.statements.specs.Lookup.{lookup, passes, FirstFound}
+use Rattle.statements.specs.Reading.{ShowsPiece}
+use Rattle.statements.proofs.Texts.{piece_text, last_piece_text}
+use Rattle.statements.proofs.LookupLemmas.{selected_found}
+
+-- ---- the query
+
+abbrev by_number : List Term
+by_number = op2 (Compare Eq Binary) (col 1 1) (col 0 0) ∷ op2 (Compare Eq Binary) (col 1 2) (col 0 1) ∷ []
+
+piece_is : command_of (understood store_schema piece_text) ≡ Select (record { lets = []; body = lookup 8 by_number (col 1 3 ∷ []) }) (codes "bytes" ∷ [])
+unfolding understood everything
+piece_is = refl
+
+pub piece_plain : IsPlain (understood store_schema piece_text)
+unfolding understood everything
+piece_plain = (refl, refl)
+
+pub piece_tables : reads_listing store_schema piece_text ≡ false
+unfolding understood everything
+piece_tables = refl
+
+pub last_piece_plain : IsPlain (understood store_schema last_piece_text)
+unfolding understood everything
+last_piece_plain = (refl, refl)
+
+pub last_piece_tables : reads_listing store_schema last_piece_text ≡ false
+unfolding understood everything
+last_piece_tables = refl
+
+nat_of : {a b : ℕ} → pos a ≡ pos b → a ≡ b
+nat_of e = cc
+
+abbrev is_of_number : ℤ → Row → Bool
+is_of_number id row = equal Binary (column row 1) (Int id)
+
+module _ (id : ℤ) (n : ℕ) (db : Database) where
+  abbrev pub piece_params : Row
+  piece_params = Int id ∷ Int (pos n) ∷ []
+
+  found : (row : Option Row) → Selects piece_text piece_params db row → FirstFound (db.trees 8) by_number (col 1 3 ∷ []) piece_params row
+  found row picked = selected_found piece_text piece_params db 8 by_number (col 1 3 ∷ []) _ piece_is (λ _. refl) row picked
+
+  passes_number : (row : Row) → is_of_number id row ≡ true → column row 2 ≡ Int (pos n) → passes by_number piece_params row ≡ true
+  passes_number row of_version is = and_from _ _ of_version (and_from _ _ (ap (λ v. equal Binary v (Int (pos n))) is ∙ int_itself (pos n)) refl)
+
+  pub piece_shown : (row : Option Row) → Selects piece_text piece_params db row → ShowsPiece db.trees id n row
+  piece_shown (Some row) picked = λ zip is.
+      let it = found (Some row) picked in
+      let parts = and_parts _ _ it.2 in
+      let tie : equal Binary (column it.0 2) (Int (pos n)) ≡ true = (and_parts _ _ parts.1).0 in
+      let own = is.each it.0 (has_kept (is_of_number id) (db.trees 8) it.0 it.1 parts.0) in
+      let same : own.0 ≡ n = nat_of (ints_equal (pos own.0) (pos n) (ap (λ v. equal Binary v (Int (pos n))) (sym own.1.number) ∙ tie)) in
+      (subst (HasPiece zip) same own.2, ap (λ (r : Row). column r 0) it.3 ∙ (own.1.bytes ∙ ap (λ m. Blob (piece zip m)) same))
+  piece_shown None picked = λ zip is has.
+      let from = is.found n has in
+      let kept = has_filtered (is_of_number id) (db.trees 8) from.0 from.1 in
+      true≢false (sym (passes_number from.0 kept.1 from.2.number) ∙ found None picked from.0 kept.0)
+
+-- ---- a zip, piece by piece
+
+-- the pieces before this one, and it
+pub next_piece : (zip : List ℕ) (n : ℕ) → take (begin n) zip ++ piece zip n ≡ take (begin (n + 1)) zip
+next_piece zip n = sym (take-add (begin n) piece_size zip) ∙ ap (λ k. take k zip) (omega arith)
+
+-- where there is no piece of this number, those before it are the zip
+pub no_more : (zip : List ℕ) (n : ℕ) → ¬ HasPiece zip n → take (begin n) zip ≡ zip
+no_more zip n none = take_all (begin n) zip (not_below (begin n) (length zip) none)
+  where
+    not_below : (a b : ℕ) → ¬ (a < b) → b ≤ a
+    not_below a b none = omega (arith, none)
+
+-- bytes that begin as the zip does, up to this piece, and go on with it
+pub goes_on : (there given rest later : List ℕ) (n : ℕ) → given ≡ take (begin n) there ++ rest → rest ≡ piece there n ++ later → given ≡ take (begin (n + 1)) there ++ later
+goes_on there given rest later n is split =
+    is ∙ (ap (λ l. take (begin n) there ++ l) split ∙ (sym (append_assoc (take (begin n) there) (piece there n) later) ∙ ap (λ l. l ++ later) (next_piece there n)))
+
+-- or go on otherwise
+pub goes_off : (there given rest : List ℕ) (n : ℕ) → given ≡ take (begin n) there ++ rest → ((later : List ℕ) → rest ≡ piece there n ++ later → ⊥) → false ≡ bytes_eq there given
+goes_off there given rest n is other = sym (false_from_ne_true (bytes_eq there given) (λ same.
+    let whole : there ≡ given = text_same there given same in
+    let after : rest ≡ drop (begin n) there = append_cancel_left (take (begin n) there) rest (drop (begin n) there) (sym is ∙ (sym whole ∙ sym (take-append-drop (begin n) there))) in
+    other (drop piece_size (drop (begin n) there)) (after ∙ sym (take-append-drop piece_size (drop (begin n) there)))))
+
+-- once each piece is there, they are the zip where nothing is left
+pub all_there : (there given rest : List ℕ) (n : ℕ) → given ≡ take (begin n) there ++ rest → ¬ HasPiece there n → (length rest == 0) ≡ bytes_eq there given
+all_there there given rest n is none = go rest (is ∙ ap (λ l. l ++ rest) (no_more there n none))
+  where
+    go : (rest : List ℕ) → given ≡ there ++ rest → (length rest == 0) ≡ bytes_eq there given
+    go [] same = sym (ap (bytes_eq there) (same ∙ append-nil there) ∙ text_self there)
+    go (x ∷ rest) same = eqb-suc-zero (length rest) ∙ sym (false_from_ne_true (bytes_eq there given) (λ h. let long = ap length (text_same there given h ∙ same) in let sum = length-append there (x ∷ rest) in omega (arith, long, sum)))
+
+-- ---- bytes that are lent
+
+pub bytes_same : {a b : List ℕ} → ◌≡◌ {A = Value} (Blob a) (Blob b) → a ≡ b
+bytes_same e = cc
+
+-- what `strip_prefix` leaves, or that it does not
+abbrev Stripped : List ℕ → List ℕ → Option (Bor (List ℕ)) → Type 0
+Stripped s p r = MatchOption r (pointwise nat_eq (take (length p) s) p ≡ false) (λ x. (pointwise nat_eq (take (length p) s) p ≡ true) × (x.now ≡ drop (length p) s) × (length x.now + length p ≡ length s))
+
+pub cut_off : (s p : List ℕ) (r : Option (Bor (List ℕ))) (x : Bor (List ℕ)) → r ≡ Some x → Stripped s p r → s ≡ p ++ x.now
+cut_off s p r x is cases = subst (λ o. MatchOption o ((rest : List ℕ) → s ≢ p ++ rest) (λ y. s ≡ p ++ y.now)) is (strip_prefix_is unsigned_Decides s p r cases)
+
+pub not_cut : (s p : List ℕ) (r : Option (Bor (List ℕ))) → r ≡ None → Stripped s p r → (rest : List ℕ) → s ≡ p ++ rest → ⊥
+not_cut s p r is cases = subst (λ o. MatchOption o ((rest : List ℕ) → s ≢ p ++ rest) (λ y. s ≡ p ++ y.now)) is (strip_prefix_is unsigned_Decides s p r cases)

@@ -1,0 +1,99 @@
+-- How a transaction ends in which the tables came to stand for another world.
+use Rattle.std.proofs.Common.{◌≡◌, ◌≤◌, ◌⊎◌, true, false, None, inl, inr, refl, sym, ap, subst, ◌∙◌, IsTrue, true≢false}
+use Rattle.sqlite_trees.specs.View.{doubt}
+use Rattle.sqlite_trees.specs.declared.store.Store.{Ghosts}
+use Rattle.sqlite.specs.Tree.{Trees}
+use Rattle.sqlite.specs.Effect.{Database}
+use Rattle.sqlite.specs.State.{State, HasCleanDisk, Shows, IsRolledBack, KeepsCommit, Survives}
+use Rattle.sqlite.specs.Held.{Held, state}
+use Rattle.sqlite.specs.Steps.{FailsToCommit}
+use Rattle.sqlite.specs.declared.error.Error.{Error}
+use Rattle.std.specs.FinMap as map
+use Rattle.world.specs.declared.entry.Place.{Place}
+use Rattle.world.specs.declared.entry.Entry.{Entry}
+use Rattle.world.specs.World.{World, with_entry}
+use Rattle.tables.specs.Means.{Holds, Stands, StandFor}
+use Rattle.statements.specs.Calls.{ChangesAt}
+use Rattle.statements.specs.Rows.{Writing, Filling}
+use Rattle.statements.specs.Added.{HasAdded}
+use Rattle.tables.proofs.FailureLemmas.{was_clean}
+use Rattle.statements.proofs.RowLemmas.{filling_of, writing_of}
+use Rattle.statements.proofs.TransactionLemmas.{entry_means}
+use Rattle.statements.proofs.WriteLemmas.{open_leaves}
+
+module _ {S : Type 0} (g : Ghosts S) (h : Held S) (last exit : State) (w next : World) (opened : HasCleanDisk (state g h) → IsTrue (state g h).is_open) where
+  abbrev old : State
+  old = state g h
+
+  -- `transaction` does nothing to the tables
+  abbrev begun : State
+  begun = state g (record h { in_transaction = true })
+
+  pub begins_writing : HasCleanDisk old → Stands old w → Writing begun w
+  begins_writing clean stands =
+      let holds = stands clean (opened clean) in
+      record { schema = holds.schema; trees = holds.trees; is_open = opened clean; inside = refl }
+
+  module _ (quiet : Survives begun last (λ _. ⊥)) where
+    -- a crash leaves what it left before the transaction, or what the end of it writes
+    left_by : (P : Trees → Type 0) → Survives last exit P → HasCleanDisk exit → (db : Trees) → exit.may_leave db → old.may_leave db ⊎ P db
+    left_by P ends clean db may = elim (ends.crash clean db may) [
+      | inl was ↦ elim (quiet.crash (was_clean last exit ends.clean clean) db was) [ inl first ↦ inl first | inr none ↦ absurd none ]
+      | inr it ↦ inr it
+    ]
+
+    pub committed_to : ((db : Trees) → IsTrue exit.is_open → exit.may_leave db → db ≡ exit.committed.trees) → (HasCleanDisk last → Stands old w → Writing last next)
+        → Survives last exit (λ db. db ≡ last.now.trees) → (HasCleanDisk exit → Shows last exit last.now last.now false) → ChangesAt old exit true w next
+    committed_to law made ends shown =
+        let late = was_clean last exit ends.clean in
+        let holds = λ (clean : HasCleanDisk exit) (stands : Stands old w).
+        let it = made (late clean) stands in
+        let end = shown clean in
+        let kept : Holds exit next = record {
+          schema = ap (λ (d : Database). d.schema) end.now_is ∙ it.schema;
+          settled = end.now_is ∙ sym end.committed_is;
+          autocommit = end.mode;
+          trees = subst (λ (d : Database). StandFor d.trees next) (sym end.now_is) it.trees;
+        } in kept in
+        record {
+          world = λ stands clean _. holds clean stands;
+          left = λ clean stands only db may. elim (left_by (λ t. t ≡ last.now.trees) ends clean db may) [
+            | inl first ↦ (let it = only db first in (it.0, it.1, inl it.2))
+            | inr made_so ↦ (next, subst (λ t. StandFor t next) (sym made_so) (made (late clean) stands).trees, inr refl)
+          ];
+          kept = λ _ clean stands. open_leaves exit next (λ db. law db (shown clean).is_open) (holds clean stands);
+        }
+
+    pub undone_to : (HasCleanDisk last → KeepsCommit begun last) → doubt last.is_clean ≤ doubt exit.is_clean → (HasCleanDisk exit → Stands old w → IsRolledBack last exit)
+        → (P : Trees → Type 0) → (HasCleanDisk exit → Stands old w → (db : Trees) → P db → StandFor db next) → Survives last exit P → ChangesAt old exit false w next
+    undone_to keeps up back P made ends = record {
+      world = λ stands clean shown.
+          let late = was_clean last exit up clean in
+          let b = back clean stands in
+          let k = keeps late in
+          let was = was_clean begun last quiet.clean late in
+          let holds = stands was (opened was) in
+          let now : exit.now ≡ old.now = (b.undone shown).0 ∙ (k.committed (b.was_open shown) ∙ sym holds.settled) in
+          record {
+            schema = ap (λ (d : Database). d.schema) now ∙ holds.schema;
+            settled = (b.undone shown).0 ∙ sym (b.undone shown).1;
+            autocommit = b.autocommit;
+            trees = subst (λ (d : Database). StandFor d.trees w) (sym now) holds.trees;
+          };
+      left = λ clean stands only db may. elim (left_by P ends clean db may) [
+        | inl first ↦ (let it = only db first in (it.0, it.1, inl it.2))
+        | inr it ↦ (next, made clean stands db it, inr refl)
+      ];
+      kept = λ done. absurd (true≢false (sym done));
+    }
+
+-- a commit that failed inside a transaction undid it
+pub commit_failed : (last exit : State) (x : Error) → IsTrue last.in_transaction → FailsToCommit last exit x → IsRolledBack last exit
+commit_failed last exit x inside (inl fails) = fails.3
+commit_failed last exit x inside (inr late) = absurd (true≢false (sym inside ∙ late.1))
+
+-- an entry that is written within a transaction
+pub entry_written : (begun last : State) (w : World) (p : Place) (e : Entry) → map.get w.entries p ≡ None → Writing begun w → (Filling begun → HasAdded begun.now.trees last.now.trees p e × Filling last) → Writing last (with_entry w p e)
+entry_written begun last w p e unused writing add =
+    let it = add (filling_of begun w writing) in
+    writing_of last (with_entry w p e) it.1 (entry_means w p e unused begun.now.trees last.now.trees writing.trees.sound it.0 writing.trees.means)

@@ -1,0 +1,196 @@
+-- What the queries of versions and of paths answer.
+use Rattle.std.proofs.Common.{◌≡◌, ◌⊎◌, ◌↔◌, ◌∙◌, ℕ, Bool, true, false, List, [], ◌∷◌, ◌++◌, Option, Some, None, is_some, ◌+◌, ◌<◌, length, take, get_or, inl, inr, refl, sym, ap, subst, codes, true≢false}
+use Rattle.std.specs.Option.{option_or}
+use Rattle.std.specs.FinMap as map
+use Rattle.std.specs.FinSet as set
+use Rattle.std.specs.FinSet.{same_set}
+use Rattle.std.proofs.lemmas.Bool.{and_parts}
+use Rattle.std.proofs.lemmas.List.{take_more}
+use Rattle.sqlite.specs.declared.types.Value.TheVariants.{Text}
+use Rattle.sqlite.specs.Collation.TheVariants.{Binary}
+use Rattle.sqlite_sql.specs.declared.ops.BinaryOp.TheVariants.{Compare}
+use Rattle.sqlite_sql.specs.declared.ops.CompareOp.TheVariants.{Eq}
+use Rattle.sqlite.specs.Order.{Row, column}
+use Rattle.sqlite.specs.Term.{Term, col, op2, eval_all}
+use Rattle.sqlite.specs.Effect.{Database, Reads}
+use Rattle.sqlite.specs.Listing.{understood, reads_listing}
+use Rattle.sqlite.specs.Command.TheVariants.{Select}
+use Rattle.sqlite.proofs.Callers.{IsPlain, command_of}
+use Rattle.sqlite_rules.proofs.ListLemmas.{has_left, has_right, has_either}
+use Rattle.sqlite_tied.specs.Compute.{everything}
+use Rattle.world.specs.declared.entry.Entry.{Entry}
+use Rattle.world.specs.World.{World, common, place, text_cmp, seen_at, view}
+use Rattle.world.specs.Visible.{versions_seen, paths_seen}
+use Rattle.world.proofs.Orders.{texts_total, texts_exact}
+use Rattle.world.proofs.Sound.{still}
+use Rattle.world.proofs.Seen.{contains_versions, contains_paths}
+use Rattle.tables.specs.Schema.{store_schema}
+use Rattle.tables.specs.Means.{Means, IsAt}
+use Rattle.statements.specs.Lookup.{lookup, AreFound}
+use Rattle.statements.specs.Lists.{Adds, AddsTexts, AddsVersions, AddsPaths, IsShown}
+use Rattle.tables.proofs.Maps.{text_put, text_splits}
+use Rattle.statements.proofs.Texts.{versions_text, paths_text}
+use Rattle.tables.proofs.ValueLemmas.{equals_text, equals_itself}
+use Rattle.statements.proofs.LookupLemmas.{all_found}
+use Rattle.tables.proofs.CountedRows.{same_place}
+
+-- ---- the versions of a path on a shelf
+
+abbrev by_path : List Term
+by_path = op2 (Compare Eq Binary) (col 1 2) (col 0 0) ∷ op2 (Compare Eq Binary) (col 1 3) (col 0 1) ∷ []
+
+versions_is : command_of (understood store_schema versions_text) ≡ Select (record { lets = []; body = lookup 6 by_path (col 1 4 ∷ []) }) (codes "version" ∷ [])
+unfolding understood everything
+versions_is = refl
+
+pub versions_plain : IsPlain (understood store_schema versions_text)
+unfolding understood everything
+versions_plain = (refl, refl)
+
+pub versions_tables : reads_listing store_schema versions_text ≡ false
+unfolding understood everything
+versions_tables = refl
+
+-- what is added to a set that had none of it
+exchanged : (P Q : List ℕ → Type 0) (old new : set.FinSet text_cmp) → ((t : List ℕ) → P t → Q t) → ((t : List ℕ) → Q t → P t) → Adds P old new → Adds Q old new
+exchanged P Q old new to from adds t = (
+  λ h. elim ((adds t).0 h) [ inl was ↦ inl was | inr is ↦ inr (to t is) ],
+  λ h. (adds t).1 (elim h [ inl was ↦ inl was | inr is ↦ inr (from t is) ]),
+)
+
+module _ (shelf path : List ℕ) (db : Database) (w : World) (means : Means db.trees w) (out : List Row) where
+  abbrev params : Row
+  params = Text shelf ∷ Text path ∷ []
+
+  found : Reads (command_of (understood store_schema versions_text)) db params out → AreFound (db.trees 6) by_path (col 1 4 ∷ []) params out
+  found read = all_found versions_text params db 6 by_path (col 1 4 ∷ []) _ versions_is (λ _. refl) out read
+
+  versions_sound : AreFound (db.trees 6) by_path (col 1 4 ∷ []) params out → (v : List ℕ) → IsShown out v → (e : Entry) × (map.get w.entries (place shelf path v) ≡ Some e)
+  versions_sound found v shown =
+      let row = found.sound shown.0 shown.1 in
+      let it = means.entries.each row.0 row.1 in
+      let one = and_parts _ _ row.2 in
+      let two = and_parts _ _ one.1 in
+      let is : column row.0 4 ≡ Text v = sym (ap (λ (r : Row). column r 0) row.3) ∙ shown.2 in
+      let at : IsAt row.0 (place shelf path v) = (equals_text (column row.0 2) shelf one.0, equals_text (column row.0 3) path two.0, is) in
+      (it.0.1, ap (map.get w.entries) (sym (same_place row.0 it.0.0 (place shelf path v) it.1.place at)) ∙ it.2)
+
+  versions_complete : AreFound (db.trees 6) by_path (col 1 4 ∷ []) params out → (v : List ℕ) → (e : Entry) × (map.get w.entries (place shelf path v) ≡ Some e) → IsShown out v
+  versions_complete found v holds =
+      let it = means.entries.found (place shelf path v, holds.0) holds.1 in
+      let at = it.2.place in
+      (eval_all (col 1 4 ∷ []) (params ∷ it.0 ∷ []), found.complete it.0 it.1 (rw (at.0, at.1, equals_itself shelf, equals_itself path) refl), at.2)
+
+  pub versions_added : (old new : set.FinSet text_cmp) → Reads (command_of (understood store_schema versions_text)) db params out → AddsTexts out old new → AddsVersions w shelf path old new
+  versions_added old new read adds = exchanged _ _ old new (versions_sound (found read)) (versions_complete (found read)) adds
+
+-- ---- the paths on a shelf
+
+abbrev by_shelf : List Term
+by_shelf = op2 (Compare Eq Binary) (col 1 2) (col 0 0) ∷ []
+
+paths_is : command_of (understood store_schema paths_text) ≡ Select (record { lets = []; body = lookup 6 by_shelf (col 1 3 ∷ []) }) (codes "path" ∷ [])
+unfolding understood everything
+paths_is = refl
+
+pub paths_plain : IsPlain (understood store_schema paths_text)
+unfolding understood everything
+paths_plain = (refl, refl)
+
+pub paths_tables : reads_listing store_schema paths_text ≡ false
+unfolding understood everything
+paths_tables = refl
+
+module _ (shelf : List ℕ) (db : Database) (w : World) (means : Means db.trees w) (out : List Row) where
+  found_paths : Reads (command_of (understood store_schema paths_text)) db (Text shelf ∷ []) out → AreFound (db.trees 6) by_shelf (col 1 3 ∷ []) (Text shelf ∷ []) out
+  found_paths read = all_found paths_text (Text shelf ∷ []) db 6 by_shelf (col 1 3 ∷ []) _ paths_is (λ _. refl) out read
+
+  paths_sound : AreFound (db.trees 6) by_shelf (col 1 3 ∷ []) (Text shelf ∷ []) out → (p : List ℕ) → IsShown out p → (v : List ℕ) × (e : Entry) × (map.get w.entries (place shelf p v) ≡ Some e)
+  paths_sound found p shown =
+      let row = found.sound shown.0 shown.1 in
+      let it = means.entries.each row.0 row.1 in
+      let one = and_parts _ _ row.2 in
+      let is : column row.0 3 ≡ Text p = sym (ap (λ (r : Row). column r 0) row.3) ∙ shown.2 in
+      let at : IsAt row.0 (place shelf p it.0.0.version) = (equals_text (column row.0 2) shelf one.0, is, it.1.place.2) in
+      (it.0.0.version, it.0.1, ap (map.get w.entries) (sym (same_place row.0 it.0.0 (place shelf p it.0.0.version) it.1.place at)) ∙ it.2)
+
+  paths_complete : AreFound (db.trees 6) by_shelf (col 1 3 ∷ []) (Text shelf ∷ []) out → (p : List ℕ) → (v : List ℕ) × (e : Entry) × (map.get w.entries (place shelf p v) ≡ Some e) → IsShown out p
+  paths_complete found p holds =
+      let it = means.entries.found (place shelf p holds.0, holds.1) holds.2 in
+      let at = it.2.place in
+      (eval_all (col 1 3 ∷ []) ((Text shelf ∷ []) ∷ it.0 ∷ []), found.complete it.0 it.1 (rw (at.0, equals_itself shelf) refl), at.1)
+
+  pub paths_added : (old new : set.FinSet text_cmp) → Reads (command_of (understood store_schema paths_text)) db (Text shelf ∷ []) out → AddsTexts out old new → AddsPaths w shelf old new
+  paths_added old new read adds = exchanged _ _ old new (paths_sound (found_paths read)) (paths_complete (found_paths read)) adds
+
+-- ---- row by row
+
+pub one_more : (rows : List Row) (at : ℕ) (row : Row) (text : List ℕ) (old mid new : set.FinSet text_cmp) → at < length rows → row ≡ get_or rows at row → column row 0 ≡ Text text → new ≡ set.insert mid text
+    → AddsTexts (take at rows) old mid → AddsTexts (take (at + 1) rows) old new
+one_more rows at row text old mid new within is shows made adds = subst (λ l. AddsTexts l old new) (sym (take_more rows at row within ∙ ap (λ r. take at rows ++ r ∷ []) (sym is))) (λ t. (to t, from t))
+  where
+    to : (t : List ℕ) → set.contains new t ≡ true → (set.contains old t ≡ true) ⊎ IsShown (take at rows ++ row ∷ []) t
+    to t h = elim (text_splits mid text t (subst (λ s. set.contains s t ≡ true) made h)) [
+      | inl same ↦ inr (row, has_right (take at rows) (row ∷ []) row (inl refl), shows ∙ ap Text (sym same))
+      | inr was ↦ elim ((adds t).0 was) [
+        | inl before ↦ inl before
+        | inr shown ↦ inr (shown.0, has_left (take at rows) (row ∷ []) shown.0 shown.1, shown.2)
+      ]
+    ]
+
+    kept : (t : List ℕ) → set.contains mid t ≡ true → set.contains new t ≡ true
+    kept t h = subst (λ s. set.contains s t ≡ true) (sym made) (still mid text t h)
+
+    from : (t : List ℕ) → (set.contains old t ≡ true) ⊎ IsShown (take at rows ++ row ∷ []) t → set.contains new t ≡ true
+    from t (inl before) = kept t ((adds t).1 (inl before))
+    from t (inr shown) = elim (has_either (take at rows) (row ∷ []) shown.0 shown.1) [
+      | inl was ↦ kept t ((adds t).1 (inr (shown.0, was, shown.2)))
+      | inr (inl last) ↦ (let same : text ≡ t = let e = sym shows ∙ (ap (λ (r : Row). column r 0) (sym last) ∙ shown.2) in cc in subst (λ s. set.contains s t ≡ true) (sym made) (subst (λ x. set.contains (set.insert mid text) x ≡ true) same (text_put mid text)))
+      | inr (inr none) ↦ absurd none
+    ]
+
+-- ---- the own shelf and `common`
+
+same_truth : (a b : Bool) → ((a ≡ true) ↔ (b ≡ true)) → a ≡ b
+same_truth true true h = refl
+same_truth true false h = sym (h.0 refl)
+same_truth false true h = h.1 refl
+same_truth false false h = refl
+
+-- what is added to the empty set, and then to that
+twice : (P Q : List ℕ → Type 0) (mid new : set.FinSet text_cmp) → Adds P set.empty mid → Adds Q mid new → (t : List ℕ) → (set.contains new t ≡ true) ↔ (P t ⊎ Q t)
+twice P Q mid new first next t = (
+  λ h. elim ((next t).0 h) [
+    | inl was ↦ elim ((first t).0 was) [ inl none ↦ absurd (true≢false (sym none ∙ set.contains-empty text_cmp t)) | inr is ↦ inl is ]
+    | inr is ↦ inr is
+  ],
+  λ h. (next t).1 (elim h [ inl is ↦ inl ((first t).1 (inr is)) | inr is ↦ inr is ]),
+)
+
+some_seen : (a b : Option Entry) (s t : List ℕ) → (is_some (option_or (seen_at a s) (option_or (seen_at b t) None)) ≡ true) ↔ (((e : Entry) × (a ≡ Some e)) ⊎ ((e : Entry) × (b ≡ Some e)))
+some_seen (Some e) b s t = (λ _. inl (e, refl), λ _. refl)
+some_seen None (Some e) s t = (λ _. inr (e, refl), λ _. refl)
+some_seen None None s t = (λ h. absurd (true≢false (sym h)), λ h. elim h [ inl it ↦ absurd (let e = it.1 in cc) | inr it ↦ absurd (let e = it.1 in cc) ])
+
+module _ (w : World) (s : List ℕ) (mid new : set.FinSet text_cmp) where
+  pub versions_whole : (p : List ℕ) → AddsVersions w s p set.empty mid → AddsVersions w common p mid new → new ≡ versions_seen w s p
+  versions_whole p first next = same_set texts_total texts_exact new (versions_seen w s p) (λ v. each v)
+    where
+      each : (v : List ℕ) → set.contains new v ≡ set.contains (versions_seen w s p) v
+      each v =
+          let both = twice _ _ mid new first next v in
+          let seen = some_seen (map.get w.entries (place s p v)) (map.get w.entries (place common p v)) s common in
+          same_truth (set.contains new v) (is_some (view w s p v)) (λ h. seen.1 (both.0 h), λ h. both.1 (seen.0 h)) ∙ sym (contains_versions w s p v)
+
+  pub paths_whole : AddsPaths w s set.empty mid → AddsPaths w common mid new → new ≡ paths_seen w s
+  paths_whole first next = same_set texts_total texts_exact new (paths_seen w s) (λ p. each p)
+    where
+      each : (p : List ℕ) → set.contains new p ≡ set.contains (paths_seen w s) p
+      each p =
+          let both = twice _ _ mid new first next p in
+          let seen = λ (v : List ℕ). some_seen (map.get w.entries (place s p v)) (map.get w.entries (place common p v)) s common in
+          let is = contains_paths w s p in
+          same_truth (set.contains new p) (set.contains (paths_seen w s) p) (
+            λ h. is.1 (elim (both.0 h) [ inl it ↦ (it.0, (seen it.0).1 (inl (it.1, it.2))) | inr it ↦ (it.0, (seen it.0).1 (inr (it.1, it.2))) ]),
+            λ h. let it = is.0 h in both.1 (elim ((seen it.0).0 it.1) [ inl e ↦ inl (it.0, e.0, e.1) | inr e ↦ inr (it.0, e.0, e.1) ]),
+          )

@@ -1,0 +1,18 @@
+use Rattle.std.proofs.Common.{to_z-of_z, w64, SFits, rules}
+use Rattle.sqlite.specs.Held.{state}
+use Rattle.statements.proofs.PieceLemmas.{piece_plain, piece_tables, piece_shown}
+use Rattle.statements.proofs.ChangeLemmas.{weaker}
+use Rattle.statements.proofs.pieces.find_piece.Goals as goal
+
+pub find_row-requires-clause-plain : goal.find_row-requires-clause-plain
+find_row-requires-clause-plain g c = piece_plain
+
+pub find_row-requires-clause-tables : goal.find_row-requires-clause-tables
+find_row-requires-clause-tables g c = piece_tables
+
+pub returns-clause-answer : goal.returns-clause-answer
+returns-clause-answer g c clean w stands =
+    let old = state g.S.Store c.args.conn.now in
+    let range : SFits w64 c.args.id = search rules in
+    let h = rw (c.params-to_sql.ensures, to_z-of_z {w = w64} {z = c.args.id} range, c.params-to_sql-2.ensures) at (c.find_row.ensures.row clean w stands) in
+    weaker c.find_row.result (λ found it. (it.1, piece_shown c.args.id c.args.number old.now found it.2)) h

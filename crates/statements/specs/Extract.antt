@@ -1,0 +1,131 @@
+-- Rows of one store that are handed on to another, within a transaction of it.
+use Rattle.std.specs.Prelude.{ℕ, ◌≡◌, ◌≤◌, ◌⊎◌, ◌↔◌, List, [], ◌∷◌, ◌++◌, filter, Bool, Some, None, IsTrue, pos, if◌then◌else◌}
+use Rattle.std.specs.FinMap as map
+use Rattle.sqlite.specs.declared.types.Value.TheVariants.{Int, Text, Blob}
+use Rattle.sqlite.specs.Order.{Row, column}
+use Rattle.sqlite.specs.Values.{or_null}
+use Rattle.sqlite.specs.Tree.{Trees}
+use Rattle.sqlite.specs.Effect.{Database, ReadsFirst}
+use Rattle.sqlite.specs.Listing.{understood}
+use Rattle.sqlite.specs.State.{State, HasCleanDisk, IsUnchanged, IsRolledBack}
+use Rattle.sqlite.proofs.Callers.{command_of}
+use Rattle.sqlite_trees.specs.View.{doubt}
+use Rattle.world.specs.declared.entry.Holder.{Holder}
+use Rattle.world.specs.declared.entry.Place.{Place}
+use Rattle.world.specs.declared.entry.Heading.{Heading}
+use Rattle.world.specs.World.{World, common, with_key, with_team}
+use Rattle.sqlite_rules.specs.Lists.{Has}
+use Rattle.tables.specs.Means.{may_publish, Means, StandFor, IsEachPlaceOnce, IsEachPieceOnce, is_of}
+use Rattle.tables.specs.Schema.{store_schema, version_table, piece_table}
+use Rattle.tables.specs.VersionKeys.{order_key_at, rank_key_at}
+use Rattle.statements.specs.Rows.{Filling, GoesOn, AddsRows, IsElseSame, IsRead, AreApart, version_read, piece_read}
+
+-- an open connection over tables of the schema, as far as no answer of the disk was wrong
+abbrev pub IsReady : State → Type 0
+IsReady s = HasCleanDisk s → IsTrue s.is_open × (s.now.schema ≡ store_schema)
+
+-- it is only read: the tables are as they were, a crash leaves nothing that it did not leave before, and where all was done nothing is changed
+pub record IsReadBy (old new : State) (done : Bool) : Type 0 where
+  pub left : HasCleanDisk new → (db : Trees) → new.may_leave db → old.may_leave db
+  pub kept : HasCleanDisk new → IsUnchanged old new ⊎ IsRolledBack old new
+  pub same : HasCleanDisk new → IsTrue done → IsUnchanged old new
+
+-- Rows of a source are put into a fresh store, within a transaction of it, which makes of its tables others.
+pub record Copies (Makes : Trees → Trees → Trees → Type 0) (source source_new fresh fresh_new : State) (done : Bool) : Type 0 where
+  pub clean : doubt source.is_clean ≤ doubt source_new.is_clean
+  pub reads : IsReady source → IsReadBy source source_new done
+  pub goes_on : GoesOn fresh fresh_new done
+  pub makes :
+      HasCleanDisk source_new → HasCleanDisk fresh_new → IsReady source → (w : World) → Means source.now.trees w → Filling fresh → IsTrue done
+      → Makes source.now.trees fresh.now.trees fresh_new.now.trees × Filling fresh_new
+
+-- of tables that stand for a world it makes those that stand for another
+abbrev pub OfWorlds : (World → World → World → Type 0) → Trees → Trees → Trees → Type 0
+OfWorlds Makes source db after = (w x : World) → Means source w → StandFor db x → (y : World) × Makes w x y × StandFor after y
+
+-- each row that the query shows of tables that stand for a world is so
+abbrev pub AllFit : (Row → Type 0) → List ℕ → Row → Type 0
+AllFit Fits sql params =
+    (db : Database) (w : World) (rows : List Row) (row : Row) → Means db.trees w
+    → ReadsFirst (command_of (understood store_schema sql)) db params (rows ++ row ∷ []) → Fits row
+
+-- ---- keys
+
+-- a row shows a key, its shelf and its right
+abbrev pub ShowsKey : Row → List ℕ × Holder → Type 0
+ShowsKey row it = (column row 0 ≡ Text it.0) × (column row 1 ≡ Text it.1.shelf) × (column row 2 ≡ Int (if may_publish it.1.right then pos 1 else pos 0))
+
+abbrev pub IsKeyShown : Row → Type 0
+IsKeyShown row = (it : List ℕ × Holder) × ShowsKey row it
+
+-- the key was not there, and is
+abbrev pub AddsKey : Row → World → World → Type 0
+AddsKey row x y = (it : List ℕ × Holder) × ShowsKey row it × (map.get x.keys it.0 ≡ None) × (y ≡ with_key x it.0 it.1)
+
+-- so it is of the worlds that the tables stand for
+abbrev pub PutsKey : Row → Trees → Trees → Type 0
+PutsKey row db after = (x : World) → StandFor db x → (y : World) × AddsKey row x y × StandFor after y
+
+-- a world has the keys of another and those that are so, and is else the same
+pub record AddsKeys (IsSo : List ℕ × Holder → Type 0) (x y : World) : Type 0 where
+  pub shelves : y.shelves ≡ x.shelves
+  pub entries : y.entries ≡ x.entries
+  pub keys : (it : List ℕ × Holder) → (map.get y.keys it.0 ≡ Some it.1) ↔ ((map.get x.keys it.0 ≡ Some it.1) ⊎ IsSo it)
+
+-- it has the keys of one shelf of w beside its own
+abbrev pub CopiesKeys : List ℕ → World → World → World → Type 0
+CopiesKeys s w = AddsKeys (λ it. (map.get w.keys it.0 ≡ Some it.1) × (it.1.shelf ≡ s))
+
+-- ---- entries, by the rows of their versions and of their zips
+
+-- values show a version with its place, and the keys that its version has
+pub record ShowsVersion (values : Row) (p : Place) (h : Heading) : Type 0 where
+  pub shelf : column values 1 ≡ Text p.shelf
+  pub path : column values 2 ≡ Text p.path
+  pub version : column values 3 ≡ Text p.version
+  pub time : column values 4 ≡ or_null Text h.time
+  pub gomod : column values 5 ≡ Blob h.gomod
+  pub order : column values 6 ≡ Blob (order_key_at p.version)
+  pub rank : column values 7 ≡ Blob (rank_key_at p.version)
+
+abbrev pub IsVersionShown : Row → Type 0
+IsVersionShown values = (p : Place) × (h : Heading) × ShowsVersion values p h
+
+-- the values are those of a version on the shelf
+abbrev pub IsVersionOn : List ℕ → Trees → Row → Type 0
+IsVersionOn shelf db values = IsRead version_read (db version_table.tree) values × (column values 1 ≡ Text shelf)
+
+-- the values are those of a piece of a version on the shelf
+abbrev pub IsPieceOn : List ℕ → Trees → Row → Type 0
+IsPieceOn shelf db values =
+    (version : Row) × Has (db version_table.tree) version × (column version 2 ≡ Text shelf) × IsRead piece_read (filter (is_of version) (db piece_table.tree)) values
+
+-- the versions of one shelf are put in, beside those that were there
+pub record CopiesVersions (shelf : List ℕ) (source db after : Trees) : Type 0 where
+  pub rows : AddsRows version_read (IsVersionOn shelf source) (db version_table.tree) (after version_table.tree)
+  pub apart : AreApart IsEachPlaceOnce (db version_table.tree) → AreApart IsEachPlaceOnce (after version_table.tree)
+  pub tables : IsElseSame version_table db after
+
+-- the pieces of its zips are put in, beside those that were there
+pub record CopiesPieces (shelf : List ℕ) (source db after : Trees) : Type 0 where
+  pub rows : AddsRows piece_read (IsPieceOn shelf source) (db piece_table.tree) (after piece_table.tree)
+  pub apart : AreApart IsEachPieceOnce (db piece_table.tree) → AreApart IsEachPieceOnce (after piece_table.tree)
+  pub tables : IsElseSame piece_table db after
+
+-- ---- one after another
+
+-- a shelf is put in
+abbrev pub PutsShelf : List ℕ → Trees → Trees → Type 0
+PutsShelf name db after = (x : World) → StandFor db x → StandFor after (with_team x name)
+
+-- so it is of whatever world the source stands for
+abbrev pub AddsShelf : List ℕ → World → World → World → Type 0
+AddsShelf name w x y = y ≡ with_team x name
+
+-- the one, and then the other
+abbrev pub Then : {X : Type 0} → (X → X → X → Type 0) → (X → X → X → Type 0) → X → X → X → Type 0
+Then {X} P Q w x z = (y : X) × P w x y × Q w y z
+
+-- the versions of a team and of `common`, and then the pieces of both
+abbrev pub CopiesEntries : List ℕ → Trees → Trees → Trees → Type 0
+CopiesEntries team = Then (Then (Then (CopiesVersions team) (CopiesVersions common)) (CopiesPieces team)) (CopiesPieces common)

@@ -1,0 +1,321 @@
+//! Entries over SQL tables.
+
+ghost use Rattle.std.specs.Prelude.{◌≡◌, ◌≤◌, pos, true, string_bytes, option_map, IfOk, OnOk, is_ok, IsTrue};
+ghost use Rattle.std.specs.FinMap as map;
+ghost use Rattle.sqlite.specs.declared.types.Value.TheVariants.{Int, Text as StoredText, Blob};
+ghost use Rattle.sqlite.specs.Order.{column};
+ghost use Rattle.sqlite.specs.Values.{or_null};
+ghost use Rattle.sqlite.specs.Held.{state};
+ghost use Rattle.sqlite.specs.State.{KeepsCommit, Survives};
+ghost use Rattle.sqlite_trees.specs.View.{doubt};
+ghost use Rattle.modver.specs.SemanticVersion.{version_text};
+ghost use Rattle.world.specs.World.{place, seen_at, view, heading_of, heading, count, with_entry};
+ghost use Rattle.tables.specs.Schema.{version_table};
+ghost use Rattle.tables.specs.Means.{StandsFor};
+ghost use Rattle.tables.specs.Inserted.{Inserted};
+ghost use Rattle.statements.specs.Calls.{InEachWorld, IsOpenIfHonest, Spares, ChangesAt};
+ghost use Rattle.tables.specs.Calls.{Honestly};
+ghost use Rattle.statements.specs.Reading.{HasRow};
+ghost use Rattle.statements.specs.Rows.{Filling, GoesOn};
+ghost use Rattle.statements.specs.Added.{HasAdded, version_row};
+
+use crate::keyed::KeyedVersion;
+use crate::numbers::chosen_number;
+use crate::pieces::{find_zip, insert_zip};
+use crate::query::find_row;
+use modver::{TimeText, Version, read_time};
+use sqlite::{Alter, Connection, Error, ErrorCode, Row, Transaction, params};
+use std::alloc::Global;
+use text::Text;
+use world::bytes::Bytes;
+use world::entry::{Entry, EntryRef, Heading, Seen};
+use world::names::COMMON;
+
+/// What the row of a version shows, with its number.
+#[derive(Drop)]
+pub(crate) struct VersionRow {
+    pub(crate) id: i64,
+    pub(crate) shelf: Text,
+    pub(crate) heading: Heading,
+}
+
+/// The time that a text writes. A text that writes none is a corrupt row.
+fn time_of(text: Option<String>) -> Result<Option<TimeText>, Error>
+    ensures { IfOk result (λ time. time ≡ option_map string_bytes text) }
+{
+    let Some(text) = text else {
+        return Ok(None);
+    };
+    match read_time(text.as_str()) {
+        Ok(time) => Ok(Some(time)),
+        Err(_) => Err(Error::SqliteFailure(ErrorCode::DatabaseCorrupt)),
+    }
+}
+
+fn read_stamp(row: &Row) -> Result<Option<TimeText>, Error>
+    ensures { IfOk result (λ time. column row.now 2 ≡ or_null StoredText time) }
+{
+    let time: Option<String> = row.get(2)?;
+    time_of(time)
+}
+
+fn read_version(row: &Row) -> Result<VersionRow, Error>
+    ensures { IfOk result (λ v. (column row.now 0 ≡ Int v.id) × (column row.now 1 ≡ StoredText v.shelf)
+        × (column row.now 2 ≡ or_null StoredText v.heading.time) × (column row.now 3 ≡ Blob v.heading.gomod)) }
+{
+    let id: i64 = row.get(0)?;
+    let shelf: String = row.get(1)?;
+    let time = read_stamp(row)?;
+    let gomod: Vec<u8> = row.get(3)?;
+    Ok(VersionRow {
+        id,
+        shelf: Text::new(shelf),
+        heading: Heading {
+            gomod: Bytes::new(gomod),
+            time,
+        },
+    })
+}
+
+/// The row of a version on a shelf.
+pub(crate) fn row_at<S: Alter>(
+    conn: &mut Connection<S>,
+    shelf: &str,
+    path: &str,
+    version: &str,
+) -> Result<Option<VersionRow>, Error>
+    ensures spares { Spares (state S.Store conn.old) (state S.Store conn.new) }
+    ensures same { InEachWorld (state S.Store conn.old) (state S.Store conn.new) (λ old new _.
+        OnOk result (new.now ≡ old.now)) }
+    ensures answer { InEachWorld (state S.Store conn.old) (state S.Store conn.new) (λ old new w.
+        IfOk result (λ found. IsTrue old.is_open × IsTrue new.is_open
+        × HasRow old.now.trees w (place shelf.now path.now version.now) found)) }
+{
+    match find_row(
+        conn,
+        "SELECT id, shelf, time, mod FROM version WHERE shelf = ?1 AND path = ?2 AND version = ?3",
+        params![shelf, path, version],
+    )? {
+        Some(row) => Ok(Some(read_version(&row)?)),
+        None => Ok(None),
+    }
+}
+
+/// The entry of a version on a shelf, with the shelf.
+fn entry_at<S: Alter>(
+    alloc: Global,
+    conn: &mut Connection<S>,
+    shelf: &str,
+    path: &str,
+    version: &str,
+) -> Result<Option<Seen>, Error>
+    ensures spares { Spares (state S.Store conn.old) (state S.Store conn.new) }
+    ensures answer { InEachWorld (state S.Store conn.old) (state S.Store conn.new) (λ old new w.
+        IfOk result (λ found. IsTrue old.is_open × IsTrue new.is_open
+        × (found ≡ seen_at (map.get w.entries (place shelf.now path.now version.now)) shelf.now))) }
+{
+    let Some(row) = row_at(conn, shelf, path, version)? else {
+        return Ok(None);
+    };
+    let zip = find_zip(alloc, conn, row.id)?;
+    Ok(Some(Seen {
+        shelf: row.shelf,
+        entry: Entry {
+            gomod: row.heading.gomod,
+            zip,
+            time: row.heading.time,
+        },
+    }))
+}
+
+/// The entry that a shelf sees: its own, or else that of `common`.
+pub fn find_entry<S: Alter>(
+    alloc: Global,
+    conn: &mut Connection<S>,
+    shelf: &str,
+    path: &str,
+    version: &str,
+) -> Result<Option<Seen>, Error>
+    ensures spares { Spares (state S.Store conn.old) (state S.Store conn.new) }
+    ensures answer { InEachWorld (state S.Store conn.old) (state S.Store conn.new) (λ _ _ w.
+        IfOk result (λ found. found ≡ view w shelf.now path.now version.now)) }
+{
+    match entry_at(alloc, conn, shelf, path, version)? {
+        Some(seen) => Ok(Some(seen)),
+        None => entry_at(alloc, conn, COMMON, path, version),
+    }
+}
+
+/// What a version on a shelf shows without its zip, which is not read.
+fn heading_at<S: Alter>(
+    conn: &mut Connection<S>,
+    shelf: &str,
+    path: &str,
+    version: &str,
+) -> Result<Option<Heading>, Error>
+    ensures spares { Spares (state S.Store conn.old) (state S.Store conn.new) }
+    ensures answer { InEachWorld (state S.Store conn.old) (state S.Store conn.new) (λ old new w.
+        IfOk result (λ found. IsTrue old.is_open × IsTrue new.is_open
+        × (found ≡ option_map heading_of (map.get w.entries (place shelf.now path.now version.now))))) }
+{
+    match row_at(conn, shelf, path, version)? {
+        Some(row) => Ok(Some(row.heading)),
+        None => Ok(None),
+    }
+}
+
+/// What a shelf sees of a version without its zip: of its own, or else of that of `common`.
+pub fn find_heading<S: Alter>(
+    conn: &mut Connection<S>,
+    shelf: &str,
+    path: &str,
+    version: &str,
+) -> Result<Option<Heading>, Error>
+    ensures spares { Spares (state S.Store conn.old) (state S.Store conn.new) }
+    ensures answer { InEachWorld (state S.Store conn.old) (state S.Store conn.new) (λ _ _ w.
+        IfOk result (λ found. found ≡ heading w shelf.now path.now version.now)) }
+{
+    match heading_at(conn, shelf, path, version)? {
+        Some(heading) => Ok(Some(heading)),
+        None => heading_at(conn, COMMON, path, version),
+    }
+}
+
+fn read_count(row: &Row) -> Result<u64, Error>
+    ensures { IfOk result (λ n. column row.now 0 ≡ Int (pos n)) }
+{
+    let count: i64 = row.get(0)?;
+    match u64::try_from(count) {
+        Ok(count) => Ok(count),
+        Err(_) => Err(Error::SqliteFailure(ErrorCode::DatabaseCorrupt)),
+    }
+}
+
+/// How many versions of a path stand on a shelf.
+pub fn count_entries<S: Alter>(
+    conn: &mut Connection<S>,
+    shelf: &str,
+    path: &str,
+) -> Result<u64, Error>
+    ensures spares { Spares (state S.Store conn.old) (state S.Store conn.new) }
+    ensures answer { Honestly (state S.Store conn.old) (state S.Store conn.new) (λ old _.
+        (w : _) → StandsFor old w → IfOk result (λ n. n ≡ count w shelf.now path.now)) }
+{
+    match find_row(
+        conn,
+        "SELECT count(*) FROM version WHERE shelf = ?1 AND path = ?2",
+        params![shelf, path],
+    )? {
+        Some(row) => read_count(&row),
+        None => Err(Error::SqliteFailure(ErrorCode::DatabaseCorrupt)),
+    }
+}
+
+/// The text of a time, if there is one.
+fn time_text(time: &Option<TimeText>) -> Option<&str>
+    ensures { or_null (λ text. StoredText text.now) result ≡ or_null StoredText time.now }
+{
+    match time {
+        Some(time) => Some(time.as_str()),
+        None => None,
+    }
+}
+
+/// Writes the row of a version, with this number or with one that sqlite chooses, and tells its number.
+fn insert_version<'p, S: Alter>(
+    tx: &mut Transaction<'_, S>,
+    number: Option<i64>,
+    shelf: &'p str,
+    path: &'p str,
+    version: &'p KeyedVersion<'p>,
+    entry: &'p EntryRef<'p>,
+) -> Result<i64, Error>
+    ensures same_reference { tx.new.conn.ghost_name ≡ tx.old.conn.ghost_name }
+    ensures survives { Survives (state S.Store tx.old.conn.now) (state S.Store tx.new.conn.now) (λ _. ⊥) }
+    ensures kept { Honestly (state S.Store tx.old.conn.now) (state S.Store tx.new.conn.now) (λ old new.
+        IsTrue old.in_transaction → KeepsCommit old new) }
+    ensures inside { Honestly (state S.Store tx.old.conn.now) (state S.Store tx.new.conn.now) (λ old new.
+        IsTrue old.in_transaction → OnOk result (IsTrue new.in_transaction)) }
+    ensures puts { Honestly (state S.Store tx.old.conn.now) (state S.Store tx.new.conn.now) (λ old new.
+        Filling old → IfOk result (λ id. Inserted old.now.trees new.now.trees version_table
+        (version_row id (place shelf.now path.now version.now) entry.now) × Filling new)) }
+{
+    let time = time_text(&entry.time);
+    tx.execute(
+        "INSERT INTO version (id, shelf, path, version, time, mod, order_key, rank_key) VALUES (?1, ?2, ?3, ?4, ?5, ?6, ?7, ?8)",
+        params![
+            number,
+            shelf,
+            path,
+            version.as_str(),
+            time,
+            entry.gomod,
+            version.order(),
+            version.rank()
+        ],
+    )?;
+    Ok(tx.last_insert_rowid())
+}
+
+/// Writes the rows of an entry: that of its version, and then those of its zip.
+fn insert_rows<'p, S: Alter>(
+    tx: &mut Transaction<'_, S>,
+    number: Option<i64>,
+    shelf: &'p str,
+    path: &'p str,
+    version: &'p KeyedVersion<'p>,
+    entry: &'p EntryRef<'p>,
+) -> Result<(), Error>
+    ensures same_reference { tx.new.conn.ghost_name ≡ tx.old.conn.ghost_name }
+    ensures goes_on { GoesOn (state S.Store tx.old.conn.now) (state S.Store tx.new.conn.now) (is_ok result) }
+    ensures added { Honestly (state S.Store tx.old.conn.now) (state S.Store tx.new.conn.now) (λ old new.
+        Filling old → OnOk result (HasAdded old.now.trees new.now.trees (place shelf.now path.now version.now) entry.now
+        × Filling new)) }
+{
+    let id = insert_version(tx, number, shelf, path, version, entry)?;
+    insert_zip(tx, id, entry.zip)
+}
+
+/// Stores an entry where there is none, with all its rows or with none of them.
+fn insert_entry<S: Alter>(
+    conn: &mut Connection<S>,
+    number: Option<i64>,
+    shelf: &str,
+    path: &str,
+    version: &KeyedVersion,
+    entry: &EntryRef,
+) -> Result<(), Error>
+    ensures clean { doubt (state S.Store conn.old).is_clean ≤ doubt (state S.Store conn.new).is_clean }
+    ensures changes { IsOpenIfHonest (state S.Store conn.old) → (w : _)
+        → map.get w.entries (place shelf.now path.now version.now) ≡ None
+        → ChangesAt (state S.Store conn.old) (state S.Store conn.new) (is_ok result) w
+        (with_entry w (place shelf.now path.now version.now) entry.now) }
+{
+    if !conn.is_autocommit() {
+        return Err(Error::SqliteFailure(ErrorCode::TransactionState));
+    }
+    let mut tx = conn.transaction();
+    insert_rows(&mut tx, number, shelf, path, version, entry)?;
+    tx.commit()?;
+    Ok(())
+}
+
+/// Stores an entry where there is none, unless the connection is shut. The keys of the version are made first.
+pub fn add_entry<S: Alter>(
+    alloc: Global,
+    conn: &mut Connection<S>,
+    shelf: &str,
+    path: &str,
+    version: &Version,
+    entry: &EntryRef,
+) -> Result<(), Error>
+    ensures clean { doubt (state S.Store conn.old).is_clean ≤ doubt (state S.Store conn.new).is_clean }
+    ensures changes { InEachWorld (state S.Store conn.old) (state S.Store conn.new) (λ old new w.
+        map.get w.entries (place shelf.now path.now (version_text version.now)) ≡ None
+        → ChangesAt old new (is_ok result) w (with_entry w (place shelf.now path.now (version_text version.now)) entry.now)) }
+{
+    let keyed = KeyedVersion::of(alloc, version)?;
+    // A connection that is shut refuses this, so the next line finds the tables.
+    let number = chosen_number(conn)?;
+    insert_entry(conn, number, shelf, path, &keyed, entry)
+}

@@ -1,0 +1,213 @@
+//! Rows of one store that are handed on to another, one at a time, within a transaction of it.
+
+ghost use Rattle.std.specs.Prelude.{◌≡◌, ⊤, false, OnOk, is_ok, IsTrue};
+ghost use Rattle.sqlite.specs.Effect.{Reads};
+ghost use Rattle.sqlite.specs.Given.{IsPlain};
+ghost use Rattle.sqlite.specs.Held.{state};
+ghost use Rattle.sqlite.specs.Listing.{understood, reads_listing};
+ghost use Rattle.sqlite.specs.Order.{Row as Shown};
+ghost use Rattle.sqlite.specs.State.{HasCleanDisk, IsUnchanged, KeepsCommit, Survives};
+ghost use Rattle.sqlite.specs.Values.{bound};
+ghost use Rattle.sqlite.proofs.Callers.{command_of};
+ghost use Rattle.sqlite.specs.Tree.{Trees};
+ghost use Rattle.tables.specs.Schema.{store_schema};
+ghost use Rattle.tables.specs.Means.{Means};
+ghost use Rattle.tables.specs.Walks.{Looks, Pass};
+ghost use Rattle.tables.specs.Calls.{Honestly};
+ghost use Rattle.statements.specs.Rows.{Filling, PutsPiece, PutsVersion};
+ghost use Rattle.statements.specs.Extract.{Copies, OfWorlds, AllFit, IsKeyShown, PutsKey, CopiesKeys, IsVersionShown, CopiesVersions, CopiesPieces};
+
+use crate::pieces::{insert_piece, lent_bytes};
+use sqlite::types::ValueRef;
+use sqlite::{Alter, Connection, Error, ErrorCode, Row, Transaction, params};
+
+/// Why rows were not handed on: by the store that they come from, or by the one that they go to.
+#[derive(Debug, Drop)]
+pub enum CopyError {
+    /// The store that they come from.
+    Source(Error),
+    /// The store that they go to.
+    Fresh(Error),
+}
+
+impl From<Error> for CopyError {
+    fn from(error: Error) -> CopyError {
+        CopyError::Source(error)
+    }
+}
+
+/// Where rows go that a query shows.
+pub(crate) trait RowSink {
+    /// What a row has to be.
+    ghost Fits: { Shown → Type 0 };
+
+    /// What a row makes of the tables.
+    ghost Puts: { Shown → Trees → Trees → Type 0 };
+
+    fn put<F: Alter>(&self, tx: &mut Transaction<'_, F>, row: &Row) -> Result<(), Error>
+        ensures same_reference { tx.new.conn.ghost_name ≡ tx.old.conn.ghost_name }
+        ensures survives { Survives (state F.Store tx.old.conn.now) (state F.Store tx.new.conn.now) (λ _. ⊥) }
+        ensures kept { Honestly (state F.Store tx.old.conn.now) (state F.Store tx.new.conn.now) (λ old new.
+            IsTrue old.in_transaction → KeepsCommit old new) }
+        ensures inside { Honestly (state F.Store tx.old.conn.now) (state F.Store tx.new.conn.now) (λ old new.
+            IsTrue old.in_transaction → OnOk result (IsTrue new.in_transaction)) }
+        ensures puts { Honestly (state F.Store tx.old.conn.now) (state F.Store tx.new.conn.now) (λ old new.
+            Fits row.now → Filling old → OnOk result (Puts row.now old.now.trees new.now.trees × Filling new)) };
+}
+
+/// Hands on each row that a query shows, while the query is read. No more than one row is in memory.
+pub(crate) fn hand_on<S: Alter, F: Alter, T: RowSink>(
+    source: &mut Connection<S>,
+    sql: &str,
+    params: &[ValueRef<'_>],
+    tx: &mut Transaction<'_, F>,
+    sink: &T,
+) -> Result<(), CopyError>
+    requires plain { IsPlain (understood store_schema sql.now) }
+    requires tables { reads_listing store_schema sql.now ≡ false }
+    requires fits { AllFit T.Fits sql.now (bound params.now) }
+    ensures looks { Looks (state S.Store source.old) (state S.Store source.new) }
+    ensures same { Honestly (state S.Store source.old) (state S.Store source.new) (λ old new.
+        old.now.schema ≡ store_schema → OnOk result (IsUnchanged old new)) }
+    ensures same_reference { tx.new.conn.ghost_name ≡ tx.old.conn.ghost_name }
+    ensures survives { Survives (state F.Store tx.old.conn.now) (state F.Store tx.new.conn.now) (λ _. ⊥) }
+    ensures kept { Honestly (state F.Store tx.old.conn.now) (state F.Store tx.new.conn.now) (λ old new.
+        IsTrue old.in_transaction → KeepsCommit old new) }
+    ensures inside { Honestly (state F.Store tx.old.conn.now) (state F.Store tx.new.conn.now) (λ old new.
+        IsTrue old.in_transaction → OnOk result (IsTrue new.in_transaction)) }
+    ensures puts { HasCleanDisk (state S.Store source.new) → HasCleanDisk (state F.Store tx.new.conn.now) → (state S.Store source.old).now.schema ≡ store_schema
+        → (w : _) → Means (state S.Store source.old).now.trees w → Filling (state F.Store tx.old.conn.now)
+        → OnOk result (Filling (state F.Store tx.new.conn.now) × ((rows : _) × Reads (command_of (understood store_schema sql.now)) (state S.Store source.old).now (bound params.now) rows
+        × Pass (λ _ row. T.Fits row) (λ db row after. T.Puts row db after) (state F.Store tx.old.conn.now).now.trees rows (state F.Store tx.new.conn.now).now.trees)) }
+{
+    let mut rows = source.query(sql, params)?;
+    'rows: for _turn in 0..u128::MAX {
+        let Some(row) = rows.next()? else {
+            return Ok(());
+        };
+        match sink.put(tx, row) {
+            Ok(()) => {}
+            Err(error) => return Err(CopyError::Fresh(error)),
+        }
+    }
+    // So many rows come only where a table has one for each rowid.
+    Err(CopyError::Source(Error::SqliteFailure(ErrorCode::TooBig)))
+}
+
+/// Keys, whose rows go into `access` as they stand.
+struct Keys;
+
+impl RowSink for Keys {
+    ghost Fits = { IsKeyShown };
+
+    ghost Puts = { PutsKey };
+
+    fn put<F: Alter>(&self, tx: &mut Transaction<'_, F>, row: &Row) -> Result<(), Error> {
+        let values = [row.get_ref(0)?, row.get_ref(1)?, row.get_ref(2)?];
+        tx.execute(
+            "INSERT INTO access (token, shelf, publish) VALUES (?1, ?2, ?3)",
+            &values,
+        )?;
+        Ok(())
+    }
+}
+
+/// Copies the keys of one shelf.
+pub fn copy_keys<S: Alter, F: Alter>(
+    source: &mut Connection<S>,
+    tx: &mut Transaction<'_, F>,
+    shelf: &str,
+) -> Result<(), CopyError>
+    ensures same_reference { tx.new.conn.ghost_name ≡ tx.old.conn.ghost_name }
+    ensures copies { Copies (OfWorlds (CopiesKeys shelf.now)) (state S.Store source.old) (state S.Store source.new)
+        (state F.Store tx.old.conn.now) (state F.Store tx.new.conn.now) (is_ok result) }
+{
+    hand_on(
+        source,
+        "SELECT token, shelf, publish FROM access WHERE shelf = ?1",
+        params![shelf],
+        tx,
+        &Keys,
+    )
+}
+
+/// Versions, whose rows go into `version` as they stand, with their numbers and their keys of order.
+struct Versions;
+
+impl RowSink for Versions {
+    ghost Fits = { IsVersionShown };
+
+    ghost Puts = { PutsVersion };
+
+    fn put<F: Alter>(&self, tx: &mut Transaction<'_, F>, row: &Row) -> Result<(), Error> {
+        let id: i64 = row.get(0)?;
+        let values = [
+            ValueRef::Int(id),
+            row.get_ref(1)?,
+            row.get_ref(2)?,
+            row.get_ref(3)?,
+            row.get_ref(4)?,
+            row.get_ref(5)?,
+            row.get_ref(6)?,
+            row.get_ref(7)?,
+        ];
+        tx.execute(
+            "INSERT INTO version (id, shelf, path, version, time, mod, order_key, rank_key) VALUES (?1, ?2, ?3, ?4, ?5, ?6, ?7, ?8)",
+            &values,
+        )?;
+        Ok(())
+    }
+}
+
+/// Copies the rows of the versions on one shelf.
+pub fn copy_versions<S: Alter, F: Alter>(
+    source: &mut Connection<S>,
+    tx: &mut Transaction<'_, F>,
+    shelf: &str,
+) -> Result<(), CopyError>
+    ensures same_reference { tx.new.conn.ghost_name ≡ tx.old.conn.ghost_name }
+    ensures copies { Copies (CopiesVersions shelf.now) (state S.Store source.old) (state S.Store source.new)
+        (state F.Store tx.old.conn.now) (state F.Store tx.new.conn.now) (is_ok result) }
+{
+    hand_on(
+        source,
+        "SELECT id, shelf, path, version, time, mod, order_key, rank_key FROM version WHERE shelf = ?1",
+        params![shelf],
+        tx,
+        &Versions,
+    )
+}
+
+/// Pieces of zips, whose rows go into `piece` as they stand.
+struct Pieces;
+
+impl RowSink for Pieces {
+    ghost Fits = { λ _. ⊤ };
+
+    ghost Puts = { PutsPiece };
+
+    fn put<F: Alter>(&self, tx: &mut Transaction<'_, F>, row: &Row) -> Result<(), Error> {
+        let version: i64 = row.get(0)?;
+        let number: i64 = row.get(1)?;
+        insert_piece(tx, version, number, lent_bytes(row, 2)?)
+    }
+}
+
+/// Copies the rows of the zips of the versions on one shelf.
+pub fn copy_pieces<S: Alter, F: Alter>(
+    source: &mut Connection<S>,
+    tx: &mut Transaction<'_, F>,
+    shelf: &str,
+) -> Result<(), CopyError>
+    ensures same_reference { tx.new.conn.ghost_name ≡ tx.old.conn.ghost_name }
+    ensures copies { Copies (CopiesPieces shelf.now) (state S.Store source.old) (state S.Store source.new)
+        (state F.Store tx.old.conn.now) (state F.Store tx.new.conn.now) (is_ok result) }
+{
+    hand_on(
+        source,
+        "SELECT p.version, p.number, p.bytes FROM version AS v JOIN piece AS p ON p.version = v.id WHERE v.shelf = ?1",
+        params![shelf],
+        tx,
+        &Pieces,
+    )
+}

@@ -1,0 +1,177 @@
+//! The zip of a version in pieces of one size, of which the last may be shorter: a row of `piece` for each.
+
+ghost use Rattle.std.specs.Prelude.{◌≡◌, ◌≤◌, [], ◌∷◌, pos, bytes_eq, IfOk, OnOk, is_ok, IsTrue};
+ghost use Rattle.sqlite.specs.declared.types.Value.TheVariants.{Int, Blob};
+ghost use Rattle.sqlite.specs.Order.{column};
+ghost use Rattle.sqlite.specs.Held.{state};
+ghost use Rattle.sqlite.specs.State.{KeepsCommit, Survives};
+ghost use Rattle.statements.specs.Calls.{InEachWorld, Spares};
+ghost use Rattle.tables.specs.Calls.{Honestly};
+ghost use Rattle.statements.specs.Reading.{IsZip, ShowsPiece};
+ghost use Rattle.statements.specs.Rows.{Filling, GoesOn, PutsPiece};
+ghost use Rattle.statements.specs.Added.{AddsZip};
+
+use crate::query::find_row;
+use sqlite::types::ValueRef;
+use sqlite::{Alter, Connection, Error, ErrorCode, Row, Transaction, params};
+use std::alloc::Global;
+use tables::pieces::PIECE_SIZE;
+use world::bytes::Bytes;
+use world::entry::MAX_ZIP;
+
+/// The row of one piece of the zip of the version that has this number.
+fn find_piece<S: Alter>(
+    conn: &mut Connection<S>,
+    id: i64,
+    number: u32,
+) -> Result<Option<Row>, Error>
+    ensures spares { Spares (state S.Store conn.old) (state S.Store conn.new) }
+    ensures answer { InEachWorld (state S.Store conn.old) (state S.Store conn.new) (λ old new _.
+        IfOk result (λ found. IsTrue new.is_open × ShowsPiece old.now.trees id number found)) }
+    ensures same { InEachWorld (state S.Store conn.old) (state S.Store conn.new) (λ old new _.
+        OnOk result (new.now ≡ old.now)) }
+{
+    find_row(
+        conn,
+        "SELECT bytes FROM piece WHERE version = ?1 AND number = ?2",
+        params![id, number],
+    )
+}
+
+/// The bytes that a row has at a place.
+pub(crate) fn lent_bytes(row: &Row, at: usize) -> Result<&[u8], Error>
+    ensures { IfOk result (λ bytes. column row.now at ≡ Blob bytes.now) }
+{
+    match row.get_ref(at)? {
+        ValueRef::Blob(bytes) => Ok(bytes),
+        _ => Err(Error::SqliteFailure(ErrorCode::DatabaseCorrupt)),
+    }
+}
+
+/// How many bytes to make room for before the zip of the version that has this number is read, by the number of its last piece.
+/// Nothing rests on it: a zip that has more finds its own room.
+fn find_room<S: Alter>(conn: &mut Connection<S>, id: i64) -> Result<usize, Error>
+    ensures spares { Spares (state S.Store conn.old) (state S.Store conn.new) }
+    ensures same { InEachWorld (state S.Store conn.old) (state S.Store conn.new) (λ old new _.
+        OnOk result (new.now ≡ old.now)) }
+{
+    match find_row(
+        conn,
+        "SELECT number FROM piece WHERE version = ?1 ORDER BY number DESC",
+        params![id],
+    )? {
+        Some(row) => {
+            let last: u32 = row.get(0)?;
+            Ok(((last as usize + 1) * PIECE_SIZE).min(MAX_ZIP))
+        }
+        None => Ok(0),
+    }
+}
+
+/// The bytes that a row shows as the piece of this number.
+fn piece_in(row: &Row, number: u32) -> Result<&[u8], Error>
+    ensures { IfOk result (λ bytes. (column row.now 0 ≡ Int (pos number)) × (column row.now 1 ≡ Blob bytes.now)) }
+{
+    let found: u32 = row.get(0)?;
+    if found != number {
+        return Err(Error::SqliteFailure(ErrorCode::DatabaseCorrupt));
+    }
+    lent_bytes(row, 1)
+}
+
+/// The zip of the version that has this number, each piece behind the one before it, in one walk over their rows.
+/// That the rows come in the order of their numbers is seen of each, and not taken from the statement.
+pub(crate) fn find_zip<S: Alter>(
+    alloc: Global,
+    conn: &mut Connection<S>,
+    id: i64,
+) -> Result<Bytes, Error>
+    ensures spares { Spares (state S.Store conn.old) (state S.Store conn.new) }
+    ensures answer { InEachWorld (state S.Store conn.old) (state S.Store conn.new) (λ old new _.
+        IfOk result (λ found. IsTrue new.is_open × ((zip : _) → IsZip old.now.trees id zip → found ≡ zip))) }
+{
+    let room = find_room(conn, id)?;
+    let mut zip = Vec::with_capacity(alloc, room)?;
+    let sql = "SELECT number, bytes FROM piece WHERE version = ?1 ORDER BY version, number";
+    // A connection that is shut refuses this, so the query finds the tables.
+    conn.prepare(sql)?;
+    let mut rows = conn.query(sql, params![id])?;
+    for number in 0..u32::MAX {
+        let Some(row) = rows.next()? else {
+            return Ok(Bytes::new(zip));
+        };
+        zip.extend_from_slice(piece_in(row, number)?)?;
+    }
+    Err(Error::SqliteFailure(ErrorCode::TooBig))
+}
+
+/// Whether these bytes are the zip of the version that has this number. Each piece is compared where its row has it.
+pub(crate) fn has_zip<S: Alter>(
+    conn: &mut Connection<S>,
+    id: i64,
+    zip: &[u8],
+) -> Result<bool, Error>
+    ensures spares { Spares (state S.Store conn.old) (state S.Store conn.new) }
+    ensures answer { InEachWorld (state S.Store conn.old) (state S.Store conn.new) (λ old new _.
+        IfOk result (λ same. IsTrue new.is_open
+        × ((there : _) → IsZip old.now.trees id there → same ≡ bytes_eq there zip.now))) }
+{
+    let mut rest = zip;
+    for number in 0..u32::MAX {
+        let Some(row) = find_piece(conn, id, number)? else {
+            return Ok(rest.is_empty());
+        };
+        match rest.strip_prefix(lent_bytes(&row, 0)?) {
+            Some(later) => rest = later,
+            None => return Ok(false),
+        }
+    }
+    Err(Error::SqliteFailure(ErrorCode::TooBig))
+}
+
+/// Writes the row of one piece.
+pub(crate) fn insert_piece<S: Alter>(
+    tx: &mut Transaction<'_, S>,
+    id: i64,
+    number: i64,
+    bytes: &[u8],
+) -> Result<(), Error>
+    ensures same_reference { tx.new.conn.ghost_name ≡ tx.old.conn.ghost_name }
+    ensures survives { Survives (state S.Store tx.old.conn.now) (state S.Store tx.new.conn.now) (λ _. ⊥) }
+    ensures kept { Honestly (state S.Store tx.old.conn.now) (state S.Store tx.new.conn.now) (λ old new.
+        IsTrue old.in_transaction → KeepsCommit old new) }
+    ensures inside { Honestly (state S.Store tx.old.conn.now) (state S.Store tx.new.conn.now) (λ old new.
+        IsTrue old.in_transaction → OnOk result (IsTrue new.in_transaction)) }
+    ensures puts { Honestly (state S.Store tx.old.conn.now) (state S.Store tx.new.conn.now) (λ old new.
+        Filling old → OnOk result (PutsPiece (Int id ∷ Int number ∷ Blob bytes.now ∷ [])
+        old.now.trees new.now.trees × Filling new)) }
+{
+    tx.execute(
+        "INSERT INTO piece (version, number, bytes) VALUES (?1, ?2, ?3)",
+        params![id, number, bytes],
+    )?;
+    Ok(())
+}
+
+/// Writes the rows of a zip, a row for each piece.
+pub(crate) fn insert_zip<S: Alter>(
+    tx: &mut Transaction<'_, S>,
+    id: i64,
+    zip: &[u8],
+) -> Result<(), Error>
+    ensures same_reference { tx.new.conn.ghost_name ≡ tx.old.conn.ghost_name }
+    ensures goes_on { GoesOn (state S.Store tx.old.conn.now) (state S.Store tx.new.conn.now) (is_ok result) }
+    ensures adds { Honestly (state S.Store tx.old.conn.now) (state S.Store tx.new.conn.now) (λ old new.
+        Filling old → OnOk result (AddsZip id zip.now old.now.trees new.now.trees × Filling new)) }
+{
+    let mut rest = zip;
+    for number in 0..u32::MAX {
+        if rest.is_empty() {
+            return Ok(());
+        }
+        let (piece, later) = rest.split_at(rest.len().min(PIECE_SIZE));
+        insert_piece(tx, id, i64::from(number), piece)?;
+        rest = later;
+    }
+    Err(Error::SqliteFailure(ErrorCode::TooBig))
+}

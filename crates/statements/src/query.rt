@@ -1,0 +1,56 @@
+//! The rows that a query shows.
+
+ghost use Rattle.std.specs.Prelude.{◌≡◌, false, IfOk, OnOk, IsTrue};
+ghost use Rattle.sqlite.specs.Effect.{Reads};
+ghost use Rattle.sqlite.specs.Given.{IsPlain};
+ghost use Rattle.sqlite.specs.Held.{state};
+ghost use Rattle.sqlite.specs.Listing.{understood, reads_listing};
+ghost use Rattle.sqlite.specs.Values.{bound};
+ghost use Rattle.sqlite.proofs.Callers.{command_of};
+ghost use Rattle.tables.specs.Schema.{store_schema};
+ghost use Rattle.statements.specs.Calls.{InEachWorld, Spares, Selects};
+
+use sqlite::types::ValueRef;
+use sqlite::{Alter, Connection, Error, Row};
+
+/// The first row of the answer to a query, if there is one.
+pub fn find_row<S: Alter>(
+    conn: &mut Connection<S>,
+    sql: &str,
+    params: &[ValueRef<'_>],
+) -> Result<Option<Row>, Error>
+    requires plain { IsPlain (understood store_schema sql.now) }
+    requires tables { reads_listing store_schema sql.now ≡ false }
+    ensures spares { Spares (state S.Store conn.old) (state S.Store conn.new) }
+    ensures row { InEachWorld (state S.Store conn.old) (state S.Store conn.new) (λ old new w.
+        IfOk result (λ found. IsTrue old.is_open × IsTrue new.is_open
+        × Selects sql.now (bound params.now) old.now found)) }
+    ensures same { InEachWorld (state S.Store conn.old) (state S.Store conn.new) (λ old new _.
+        OnOk result (new.now ≡ old.now)) }
+{
+    // A connection that is shut refuses this, so the next line finds the tables.
+    conn.prepare(sql)?;
+    match conn.query_row(sql, params) {
+        Ok(row) => Ok(Some(row)),
+        Err(Error::QueryReturnedNoRows) => Ok(None),
+        Err(error) => Err(error),
+    }
+}
+
+/// The rows of the answer to a query.
+pub(crate) fn find_rows<S: Alter>(
+    conn: &mut Connection<S>,
+    sql: &str,
+    params: &[ValueRef<'_>],
+) -> Result<Vec<Row>, Error>
+    requires plain { IsPlain (understood store_schema sql.now) }
+    requires tables { reads_listing store_schema sql.now ≡ false }
+    ensures spares { Spares (state S.Store conn.old) (state S.Store conn.new) }
+    ensures rows { InEachWorld (state S.Store conn.old) (state S.Store conn.new) (λ old _ w.
+        IfOk result (λ rows. IsTrue old.is_open
+        × Reads (command_of (understood store_schema sql.now)) old.now (bound params.now) rows.items)) }
+{
+    // A connection that is shut refuses this, so the next line finds the tables.
+    conn.prepare(sql)?;
+    conn.query_all(sql, params)
+}

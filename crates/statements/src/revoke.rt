@@ -1,0 +1,39 @@
+//! Keys that are taken away, over SQL tables.
+
+ghost use Rattle.std.specs.Prelude.{◌≡◌, ◌≤◌, IfOk, is_ok};
+ghost use Rattle.sqlite.specs.Held.{state};
+ghost use Rattle.sqlite_trees.specs.View.{doubt};
+ghost use Rattle.world.specs.World.{without_key};
+ghost use Rattle.world.specs.Registry.{key_revoked};
+ghost use Rattle.statements.specs.Calls.{InEachWorld, IsOpenIfHonest, ChangesAt, Changes};
+ghost use Rattle.statements.specs.Views.{with_key_revoked};
+
+use crate::registry::find_key;
+use sqlite::{Alter, Connection, Error, params};
+use world::registry::Registered;
+
+/// Takes the row of a key away.
+fn delete_key<S: Alter>(conn: &mut Connection<S>, token: &str) -> Result<(), Error>
+    ensures clean { doubt (state S.Store conn.old).is_clean ≤ doubt (state S.Store conn.new).is_clean }
+    ensures changes { IsOpenIfHonest (state S.Store conn.old) → (w : _)
+        → ChangesAt (state S.Store conn.old) (state S.Store conn.new) (is_ok result) w (without_key w token.now) }
+{
+    match conn.execute("DELETE FROM access WHERE token = ?1", params![token]) {
+        Ok(_) => Ok(()),
+        Err(error) => Err(error),
+    }
+}
+
+/// Takes a key away, if it is there.
+pub fn revoke_key<S: Alter>(conn: &mut Connection<S>, token: &str) -> Result<Registered, Error>
+    ensures changes { Changes (state S.Store conn.old) (state S.Store conn.new) (is_ok result)
+        (with_key_revoked token.now) }
+    ensures answer { InEachWorld (state S.Store conn.old) (state S.Store conn.new) (λ _ _ w.
+        IfOk result (λ r. r ≡ key_revoked w token.now)) }
+{
+    if find_key(conn, token)?.is_none() {
+        return Ok(Registered::NoKey);
+    }
+    delete_key(conn, token)?;
+    Ok(Registered::Done)
+}

@@ -1,0 +1,97 @@
+//! Which versions of a path, and which paths, a shelf sees, over SQL tables.
+
+ghost use Rattle.std.specs.Prelude.{◌≡◌, IfOk, OnOk};
+ghost use Rattle.sqlite.specs.Held.{state};
+ghost use Rattle.world.specs.Versions.{versions_of};
+ghost use Rattle.world.specs.Visible.{paths_seen};
+ghost use Rattle.statements.specs.Calls.{InEachWorld, Spares};
+ghost use Rattle.statements.specs.Lists.{AddsTexts, AddsVersions, AddsPaths};
+
+use crate::query::find_rows;
+use sqlite::{Alter, Connection, Error, Row, params};
+use std::alloc::Global;
+use world::names::COMMON;
+use world::text_set::TextSet;
+use world::version_list::Versions;
+use world::versions::ascending;
+
+/// Puts the first value of each row into a set of texts.
+fn add_texts(texts: &mut TextSet, rows: &[Row]) -> Result<(), Error>
+    ensures { OnOk result (AddsTexts rows.now texts.old texts.new) }
+{
+    for row in rows {
+        let text: String = row.get(0)?;
+        texts.insert(text)?;
+    }
+    Ok(())
+}
+
+/// Puts the versions of a path that stand on one shelf into a set.
+fn add_versions<S: Alter>(
+    conn: &mut Connection<S>,
+    shelf: &str,
+    path: &str,
+    texts: &mut TextSet,
+) -> Result<(), Error>
+    ensures spares { Spares (state S.Store conn.old) (state S.Store conn.new) }
+    ensures adds { InEachWorld (state S.Store conn.old) (state S.Store conn.new) (λ _ _ w.
+        OnOk result (AddsVersions w shelf.now path.now texts.old texts.new)) }
+{
+    let rows = find_rows(
+        conn,
+        "SELECT version FROM version WHERE shelf = ?1 AND path = ?2",
+        params![shelf, path],
+    )?;
+    add_texts(texts, rows.as_slice())
+}
+
+/// Puts the paths that stand on one shelf into a set.
+fn add_paths<S: Alter>(
+    conn: &mut Connection<S>,
+    shelf: &str,
+    texts: &mut TextSet,
+) -> Result<(), Error>
+    ensures spares { Spares (state S.Store conn.old) (state S.Store conn.new) }
+    ensures adds { InEachWorld (state S.Store conn.old) (state S.Store conn.new) (λ _ _ w.
+        OnOk result (AddsPaths w shelf.now texts.old texts.new)) }
+{
+    let rows = find_rows(
+        conn,
+        "SELECT path FROM version WHERE shelf = ?1",
+        params![shelf],
+    )?;
+    add_texts(texts, rows.as_slice())
+}
+
+/// The versions of a path that a shelf sees, its own and those of `common`, in ascending precedence.
+pub fn find_versions<S: Alter>(
+    alloc: Global,
+    conn: &mut Connection<S>,
+    shelf: &str,
+    path: &str,
+) -> Result<Versions, Error>
+    ensures spares { Spares (state S.Store conn.old) (state S.Store conn.new) }
+    ensures answer { InEachWorld (state S.Store conn.old) (state S.Store conn.new) (λ _ _ w.
+        IfOk result (λ versions. versions ≡ versions_of w shelf.now path.now)) }
+{
+    let mut texts = TextSet::new(alloc);
+    add_versions(conn, shelf, path, &mut texts)?;
+    add_versions(conn, COMMON, path, &mut texts)?;
+    Ok(ascending(alloc, &texts)?)
+}
+
+/// The paths that a shelf sees: its own and those of `common`.
+pub fn find_paths<S: Alter>(
+    alloc: Global,
+    conn: &mut Connection<S>,
+    shelf: &str,
+) -> Result<TextSet, Error>
+    ensures spares { Spares (state S.Store conn.old) (state S.Store conn.new) }
+    ensures answer { InEachWorld (state S.Store conn.old) (state S.Store conn.new) (λ _ _ w.
+        IfOk result (λ texts. texts ≡ paths_seen w shelf.now)) }
+{
+    let mut texts = TextSet::new(alloc);
+    add_paths(conn, shelf, &mut texts)?;
+    add_paths(conn, COMMON, &mut texts)?;
+    Ok(texts)
+}

@@ -1,0 +1,79 @@
+//! The files of a store that are opened, with room in memory for the pages of a zip.
+
+ghost use Rattle.std.specs.Prelude.{◌≡◌, ◌⊎◌, Err, codes, IfOk, IfErr};
+ghost use Rattle.sqlite.specs.Files.{file_state, IsOpened};
+ghost use Rattle.sqlite.specs.Start.{FindsIn};
+ghost use Rattle.sqlite.specs.State.{HasCleanDisk};
+ghost use Rattle.sqlite_wal.specs.Files.{image_at};
+ghost use Rattle.store.specs.Opened.{IsOfOpening};
+
+use crate::refusal::Refusal;
+use sqlite::{Connection, Error, ErrorCode, FileFrom, FileStore, Start};
+use sqlite_pager::Options;
+use sqlite_std_file::OpenError;
+use std::hash::{BuildHasher, RandomState};
+use std::io::ErrorKind;
+
+/// How many pages that were read stay in memory, each of 4,096 bytes. The largest zip has some 4,200, so that one
+/// that is asked for again is not read again, nor are the pages that lead to it.
+const KEPT_PAGES: usize = 8_192;
+
+/// A connection to the files at a path, which are made where there are none. `:memory:` and a URI name none.
+///
+/// It is refused as `BadSchema` where the files hold no database, as `Memory` where memory was wanted, and as `Device`
+/// where the disk failed, another process has them open, or the system or the name does not let them be opened.
+pub(crate) fn connect<T: Start>(
+    rt: &HostRuntime,
+    path: &str,
+    start: T,
+) -> Result<Connection<FileStore<FileFrom<T>>>, Refusal>
+    ensures memory { path.now ≡ codes ":memory:" → result ≡ Err Refusal.Device }
+    ensures opened { IfOk result (λ c. HasCleanDisk (file_state c) → IsOpened c) }
+    ensures found { IfOk result (λ c. HasCleanDisk (file_state c) → FindsIn (image_at T.Start) (file_state c)) }
+    ensures refused { IfErr result IsOfOpening }
+{
+    if path == ":memory:" || path.starts_with("file:") {
+        return Err(Refusal::Device);
+    }
+    let files = match sqlite_std_file::open(rt, path, start) {
+        Ok(files) => files,
+        Err(error) => return Err(path_refusal(error)),
+    };
+    let Ok(state) = RandomState::new(rt) else {
+        return Err(Refusal::Device);
+    };
+    let options = Options {
+        cache_pages: KEPT_PAGES,
+        ..Options::new(state.hash_one(&0u8))
+    };
+    match Connection::open_files_with(rt.alloc(), files, options, false) {
+        Ok(conn) => Ok(conn),
+        Err((error, _)) => Err(file_refusal(error)),
+    }
+}
+
+/// What it is told as that the system or the name does not let files be opened.
+fn path_refusal(error: OpenError) -> Refusal
+    ensures unopened { (result ≡ Refusal.Memory) ⊎ (result ≡ Refusal.Device) }
+    ensures in_use { error ≡ OpenError.Busy → result ≡ Refusal.Device }
+{
+    match error {
+        OpenError::OutOfMemory => Refusal::Memory,
+        OpenError::Io(error) if error.kind() == ErrorKind::OutOfMemory => Refusal::Memory,
+        OpenError::Io(_) | OpenError::Busy | OpenError::HotJournal => Refusal::Device,
+    }
+}
+
+/// What a failure to read files that were opened is told as.
+fn file_refusal(error: Error) -> Refusal
+    ensures cannot_open { error ≡ Error.SqliteFailure ErrorCode.CannotOpen → result ≡ Refusal.Device }
+    ensures opening { IsOfOpening result }
+{
+    match error {
+        Error::SqliteFailure(ErrorCode::NotADatabase | ErrorCode::DatabaseCorrupt) => {
+            Refusal::BadSchema
+        }
+        Error::SqliteFailure(ErrorCode::OutOfMemory) => Refusal::Memory,
+        _ => Refusal::Device,
+    }
+}

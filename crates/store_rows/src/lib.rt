@@ -1,0 +1,11 @@
+//! The worked rows of stores over tables in memory: tables that are adopted or refused, and a team's part as a store of its own.
+//!
+//! Each table is a text whose lines are rows.
+#![tactic(auto)]
+
+#[cfg(test)]
+mod adopted_tables;
+#[cfg(test)]
+mod extracts;
+#[cfg(test)]
+mod in_memory;

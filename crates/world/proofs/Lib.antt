@@ -20,7 +20,6 @@ pub mod SeenVersions
 pub mod Highest
 pub mod Tops
 pub mod Newest
-pub mod MapsLatest
 pub mod Sound
 pub mod Counted
 pub mod KeptListLemmas

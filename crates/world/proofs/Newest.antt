@@ -1,4 +1,4 @@
--- The latest version of a path, by what was read of a store.
+-- The latest version of a path, by its versions and the go.mod of the highest.
 use Rattle.std.proofs.Common.{◌≡◌, ℕ, List, sym, ap, subst, ◌∙◌, Option, Some, None, Ok}
 use Rattle.gomod.specs.Module.{GoModule}
 use Rattle.modver.specs.SemanticVersion.{SemanticVersion, version_text}
@@ -9,19 +9,31 @@ use Rattle.world.specs.Versions.{versions_of}
 use Rattle.world.specs.World.{World, IsWorld, heading}
 use Rattle.world.proofs.SeenVersions.{versions_fit}
 
--- the versions of a path were read
-module _ (old mid : Shown) (sound : (w : World) → old.stands w → IsWorld w) (s p : List ℕ) (vs : List SemanticVersion) (read : Reads old mid (Ok vs) (λ w. versions_of w s p)) where
-  -- in a world they fit the path
-  all_fit : (w : World) → old.stands w → vs ≡ versions_of w s p → AllOf p vs
-  all_fit w stands are = subst (AllOf p) (sym are) (versions_fit w (sound w stands) s p)
+-- in a world
+module _ (w : World) (is : IsWorld w) (s p : List ℕ) (vs : List SemanticVersion) (are : vs ≡ versions_of w s p) where
+  all_fit : AllOf p vs
+  all_fit = subst (AllOf p) (sym are) (versions_fit w is s p)
 
+  pub none_latest : ((path : List ℕ) → AllOf path vs → None ≡ highest vs) → None ≡ latest_of w s p
+  none_latest none = ap (latest_by w s p) (none p all_fit ∙ ap highest are)
+
+  pub some_latest : (top : SemanticVersion) (shown : Option Heading) (m : Option GoModule) (v : Option SemanticVersion)
+      → ((path : List ℕ) → AllOf path vs → Some top ≡ highest vs) → shown ≡ heading w s p (version_text top)
+      → m ≡ module_of shown → ((path : List ℕ) → AllOf path vs → v ≡ highest_left m vs) → v ≡ latest_of w s p
+  some_latest top shown m v is_top is_shown is_read is_latest =
+      is_latest p all_fit ∙ ap (highest_left m) are
+      ∙ ap (λ o. highest_left o (versions_of w s p)) (is_read ∙ ap module_of is_shown)
+      ∙ ap (latest_by w s p) (is_top p all_fit ∙ ap highest are)
+
+-- by what was read of a store: the versions of the path
+module _ (old mid : Shown) (sound : (w : World) → old.stands w → IsWorld w) (s p : List ℕ) (vs : List SemanticVersion) (read : Reads old mid (Ok vs) (λ w. versions_of w s p)) where
   pub none_read : ((path : List ℕ) → AllOf path vs → None ≡ highest vs) → Reads old mid (Ok None) (λ w. latest_of w s p)
   none_read none = record {
     honest = read.honest;
     at = λ h w stands.
         let told = read.at h w stands in
         record {
-          answer = ap (latest_by w s p) (none p (all_fit w stands told.answer) ∙ ap highest told.answer);
+          answer = none_latest w (sound w stands) s p vs told.answer none;
           stays = told.stays;
           left = told.left;
         };
@@ -36,12 +48,8 @@ module _ (old mid : Shown) (sound : (w : World) → old.stands w → IsWorld w) 
     at = λ h w stands.
         let told = read.at (then.honest h) w stands in
         let seen = then.at h w told.stays in
-        let all = all_fit w stands told.answer in
         record {
-          answer =
-              is_latest p all ∙ ap (highest_left m) told.answer
-              ∙ ap (λ o. highest_left o (versions_of w s p)) (is_read ∙ ap module_of seen.answer)
-              ∙ ap (latest_by w s p) (is_top p all ∙ ap highest told.answer);
+          answer = some_latest w (sound w stands) s p vs told.answer top shown m v is_top seen.answer is_read is_latest;
           stays = seen.stays;
           left = λ x y was. seen.left x y (told.left x y was);
         };

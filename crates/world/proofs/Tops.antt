@@ -1,6 +1,6 @@
 -- The place of the top of a set of versions is that of the highest of a list.
-use Rattle.std.proofs.Common.{◌≡◌, ℕ, List, [], ◌∷◌, refl, sym, ap, subst, ◌∙◌, Option, Some, None, slice_get, length, Bor, option_copied}
-use Rattle.std.specs.Prelude.{◌↔◌, Contains}
+use Rattle.std.proofs.Common.{◌≡◌, ℕ, List, [], ◌∷◌, refl, sym, ap, ◌∙◌, Option, Some, None, slice_get, length, Bor, option_copied}
+use Rattle.std.specs.Prelude.{Contains}
 use Rattle.std.specs.Slice.{IsItemAt}
 use Rattle.std.proofs.lemmas.Option.{slice_get_past, slice_get_read}
 use Rattle.gomod.specs.Module.{GoModule}
@@ -8,8 +8,8 @@ use Rattle.latest.specs.Latest as latest
 use Rattle.latest.specs.Latest.{IsTop, NamesTop, Versions, among}
 use Rattle.latest.proofs.Scans.{top_one}
 use Rattle.modver.specs.SemanticVersion.{SemanticVersion}
-use Rattle.world.specs.Latest.{AllOf, higher, highest, highest_left, unretracted}
-use Rattle.world.proofs.Highest.{highest_top, none_highest, left}
+use Rattle.world.specs.Latest.{AllOf, higher, highest, unretracted}
+use Rattle.world.proofs.Highest.{highest_top, left}
 use Rattle.world.proofs.Members.{no_member, first_member}
 
 -- what is lent at a place stands there
@@ -48,28 +48,3 @@ pub names_highest_left : (m : GoModule) (path : List ℕ) (vs : List SemanticVer
     → NamesTop vs (latest.unretracted vs m) answer → version_at vs answer ≡ highest (unretracted m vs)
 names_highest_left m path vs all =
     named_highest path vs (unretracted m vs) (latest.unretracted vs m) (λ v at. all v ((left m v vs).0 at).0) (λ v. (left m v vs).0) (λ v. (left m v vs).1)
-
--- ---- lists of the same versions
-
--- the highest is the same, of versions of one path
-same_highest : (path : List ℕ) (vs us : List SemanticVersion) → AllOf path us → ((v : SemanticVersion) → Contains vs v ↔ Contains us v) → highest vs ≡ highest us
-same_highest path vs us all same =
-    elim (highest vs) as (λ o. highest vs ≡ o → o ≡ highest us) [
-      | None ↦ λ none. none_there us (λ v at. no_member v (subst (λ xs. Contains xs v) (none_highest vs none) ((same v).1 at)))
-      | Some h ↦ λ some.
-          let top = highest_top vs h some in
-          let there = some_there us h ((same h).0 top.member) in
-          let mine : IsTop (among us) h = record { member = (same h).0 top.member; highest = λ u at. top.highest u ((same u).1 at) } in
-          ap Some ((top_one path us all h there.0).0 mine (highest_top us there.0 there.1)) ∙ sym there.1
-    ] refl
-
-module _ (path : List ℕ) (vs us : List SemanticVersion) (all : AllOf path us) (same : (v : SemanticVersion) → Contains vs v ↔ Contains us v) where
-  pub highest_same : highest vs ≡ highest us
-  highest_same = same_highest path vs us all same
-
-  pub highest_left_same : (m : Option GoModule) → highest_left m vs ≡ highest_left m us
-  highest_left_same None = refl
-  highest_left_same (Some m) = same_highest path (unretracted m vs) (unretracted m us) (λ v at. all v ((left m v us).0 at).0) (λ v. (
-    λ at. let of = (left m v vs).0 at in (left m v us).1 ((same v).0 of.0, of.1),
-    λ at. let of = (left m v us).0 at in (left m v vs).1 ((same v).1 of.0, of.1),
-  ))

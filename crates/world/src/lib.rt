@@ -18,7 +18,8 @@
 //! on a shelf and what a key holds, [`names`] the rules of team names and keys, [`forms`] the path and the version
 //! that a text is, [`reading`] what a go.mod says, [`standing`] how an entry that is handed in stands to what is
 //! there, [`versions`] the order of versions and the choice of the latest, and [`registry`] what a command of the registry
-//! comes to and why a store fails; contracts see the types of [`bytes`], [`version_list`] and [`text_set`] as lists and sets.
+//! comes to and why a store fails. [`counts`] and [`kept_lists`] are what a store keeps of its answers to give them again.
+//! Contracts see the types of [`bytes`], [`version_list`] and [`text_set`] as lists and sets.
 #![tactic(auto)]
 
 pub mod bytes;

@@ -147,14 +147,14 @@ impl MapShelves {
         self.heading_on(COMMON, path, version)
     }
 
-    /// The latest of the versions of a path that a shelf sees, which are given in any order.
+    /// The latest of the versions of a path that a shelf sees, which are given.
     fn latest_among(
         &self,
         shelf: &str,
         path: &ModulePath,
         versions: &[Version],
     ) -> Result<Option<Version>, AllocError>
-        requires { in_order (by_precedence versions.now) ≡ versions_of self.now shelf.now path.now }
+        requires { versions.now ≡ versions_of self.now shelf.now path.now }
         ensures { IfOk result (λ v. IsWorld self.now → v ≡ latest_of self.now shelf.now path.now) }
     {
         let Some(newest) = highest(versions) else {
@@ -243,10 +243,7 @@ impl Shelves for MapShelves {
     }
 
     fn latest(&mut self, shelf: &str, path: &ModulePath) -> Result<Option<Version>, StoreFault> {
-        let Some(list) = self.lists.take(shelf, path.as_str()) else {
-            let versions = self.versions_seen(shelf, path.as_str())?;
-            return Ok(self.latest_among(shelf, path, versions.as_slice())?);
-        };
+        let list = self.take_versions(shelf, path.as_str())?;
         let latest = self.latest_among(shelf, path, list.as_slice())?;
         self.lists.keep(self.alloc, shelf, path.as_str(), list);
         Ok(latest)

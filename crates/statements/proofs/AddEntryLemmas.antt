@@ -9,13 +9,13 @@ use Rattle.sqlite.specs.Term.{Term, lit, col}
 use Rattle.sqlite.specs.Effect.{Database}
 use Rattle.sqlite.specs.Edit.{next_rowid}
 use Rattle.sqlite.specs.Listing.{understood}
+use Rattle.sqlite.specs.Command.{Command}
 use Rattle.sqlite.specs.Command.TheVariants.{Insert}
 use Rattle.sqlite.specs.Source.TheVariants.{Values}
 use Rattle.sqlite.specs.Does.{Tally, Does}
 use Rattle.sqlite.specs.State.{State, ExecutesInside}
 use Rattle.sqlite.proofs.Callers.{IsPlain, command_of, runs_as}
 use Rattle.sqlite_catalog.specs.Listing.{IsSound}
-use Rattle.sqlite_tied.specs.Compute.{everything}
 use Rattle.tables.specs.Schema.{store_schema, version_table, piece_table}
 use Rattle.world.specs.declared.entry.Place.{Place}
 use Rattle.world.specs.declared.entry.Entry.{Entry}
@@ -23,7 +23,6 @@ use Rattle.tables.specs.Inserted.{Inserted}
 use Rattle.tables.proofs.InsertLemmas.{inserted, enforced, cast_null, cast_int}
 use Rattle.statements.specs.Rows.{Filling, PutsPiece}
 use Rattle.statements.specs.Added.{version_row, version_values}
-use Rattle.statements.proofs.Texts.{add_version_text, add_piece_text}
 
 -- ---- a version, with a number that is given, or else sqlite's choice
 
@@ -34,13 +33,8 @@ version_width = 9
 abbrev version_terms : List Term
 version_terms = col 0 0 ∷ lit Null ∷ col 0 1 ∷ col 0 2 ∷ col 0 3 ∷ col 0 4 ∷ col 0 5 ∷ col 0 6 ∷ col 0 7 ∷ []
 
-version_is : command_of (understood store_schema add_version_text) ≡ Insert 3 (Values version_terms version_width)
-unfolding understood everything
-version_is = refl
-
-version_plain : IsPlain (understood store_schema add_version_text)
-unfolding understood everything
-version_plain = (refl, refl)
+abbrev pub version_insert : Command
+version_insert = Insert 3 (Values version_terms version_width)
 
 -- a time is bound as it is, and a column of texts takes it as it is
 pub time_bound : (time : Option (List ℕ)) → bound_value (or_null Text time) ≡ or_null Text time
@@ -65,7 +59,7 @@ number_of None rows = next_rowid rows
 number_of (Some n) rows = n
 
 module _ (limit : Option ℕ) (p : Place) (e : Entry) where
-  version_added : (number : Option ℤ) (db : Database) (tally : Tally) (after : Database) → db.schema ≡ store_schema → Does limit enforced (version_params number p e) db [] None (Insert 3 (Values version_terms version_width)) (Ok (tally, after))
+  version_added : (number : Option ℤ) (db : Database) (tally : Tally) (after : Database) → db.schema ≡ store_schema → Does limit enforced (version_params number p e) db [] None version_insert (Ok (tally, after))
       → (after.schema ≡ store_schema) × Inserted db.trees after.trees version_table (version_row (number_of number (db.trees 6)) p e) × (tally.last ≡ Some (number_of number (db.trees 6)))
   version_added None db tally after has h =
       let it = inserted limit version_table refl (version_params None p e) version_terms version_width (Null ∷ Null ∷ version_values p e) refl (λ _. refl) 3 refl db [] tally after has h in
@@ -74,10 +68,11 @@ module _ (limit : Option ℕ) (p : Place) (e : Entry) where
       let it = inserted limit version_table refl (version_params (Some n) p e) version_terms version_width (Int n ∷ Null ∷ version_values p e) refl (λ _. refl) 3 refl db [] tally after has h in
       (it.0, rw (cast_null, cast_int n, cast_time e.time) at it.1, rw (cast_int n) at it.2)
 
-pub version_put : (number : Option ℤ) (p : Place) (e : Entry) (old new : State) (count : ℕ) → Filling old → ExecutesInside 0 add_version_text (version_params number p e) old new (Ok count)
+pub version_put : (sql : List ℕ) → command_of (understood store_schema sql) ≡ version_insert → IsPlain (understood store_schema sql)
+    → (number : Option ℤ) (p : Place) (e : Entry) (old new : State) (count : ℕ) → Filling old → ExecutesInside 0 sql (version_params number p e) old new (Ok count)
     → Inserted old.now.trees new.now.trees version_table (version_row (number_of number (old.now.trees 6)) p e) × (new.last_rowid ≡ number_of number (old.now.trees 6)) × Filling new
-version_put number p e old new count filling ran =
-    let wrote = runs_as add_version_text (version_params number p e) old new store_schema filling.schema _ version_is version_plain count ran.0 in
+version_put sql is plain number p e old new count filling ran =
+    let wrote = runs_as sql (version_params number p e) old new store_schema filling.schema _ is plain count ran.0 in
     let it = version_added old.step_limit p e number old.now wrote.tally new.now filling.schema wrote.changed in (
       it.1,
       wrote.last_rowid ∙ ap (λ o. unwrap_or o old.last_rowid) it.2,
@@ -89,27 +84,23 @@ version_put number p e old new count filling ran =
 abbrev piece_terms : List Term
 piece_terms = lit Null ∷ col 0 0 ∷ col 0 1 ∷ col 0 2 ∷ []
 
-piece_is : command_of (understood store_schema add_piece_text) ≡ Insert 4 (Values piece_terms 4)
-unfolding understood everything
-piece_is = refl
-
-piece_plain : IsPlain (understood store_schema add_piece_text)
-unfolding understood everything
-piece_plain = (refl, refl)
+abbrev pub piece_insert : Command
+piece_insert = Insert 4 (Values piece_terms 4)
 
 module _ (id number : ℤ) (bytes : List ℕ) where
   abbrev pub piece_params : Row
   piece_params = Int id ∷ Int number ∷ Blob bytes ∷ []
 
-  piece_added : (limit : Option ℕ) (db : Database) (tally : Tally) (after : Database) → db.schema ≡ store_schema → Does limit enforced piece_params db [] None (Insert 4 (Values piece_terms 4)) (Ok (tally, after))
+  piece_added : (limit : Option ℕ) (db : Database) (tally : Tally) (after : Database) → db.schema ≡ store_schema → Does limit enforced piece_params db [] None piece_insert (Ok (tally, after))
       → (after.schema ≡ store_schema) × Inserted db.trees after.trees piece_table (Int (next_rowid (db.trees 8)) ∷ piece_params)
   piece_added limit db tally after has h =
       let it = inserted limit piece_table refl piece_params piece_terms 4 (Null ∷ piece_params) refl (λ _. refl) 4 refl db [] tally after has h in
       (it.0, rw (cast_null, cast_int id, cast_int number) at it.1)
 
-  pub piece_put : (old new : State) (count : ℕ) → Filling old → ExecutesInside 0 add_piece_text piece_params old new (Ok count) → PutsPiece piece_params old.now.trees new.now.trees × Filling new
-  piece_put old new count filling ran =
-      let wrote = runs_as add_piece_text piece_params old new store_schema filling.schema _ piece_is piece_plain count ran.0 in
+  pub piece_put : (sql : List ℕ) → command_of (understood store_schema sql) ≡ piece_insert → IsPlain (understood store_schema sql)
+      → (old new : State) (count : ℕ) → Filling old → ExecutesInside 0 sql piece_params old new (Ok count) → PutsPiece piece_params old.now.trees new.now.trees × Filling new
+  piece_put sql is plain old new count filling ran =
+      let wrote = runs_as sql piece_params old new store_schema filling.schema _ is plain count ran.0 in
       let it = piece_added old.step_limit old.now wrote.tally new.now filling.schema wrote.changed in
       let sound = subst (λ s. IsSound s new.now.trees) it.0 wrote.sound in (
         record { id = next_rowid (old.now.trees 8); version = id; number = number; of_version = refl; numbered = refl; put = it.1; sound = sound },

@@ -7,13 +7,10 @@ use Rattle.sqlite.specs.Term.{Term, lit, col}
 use Rattle.sqlite.specs.Effect.{Database}
 use Rattle.sqlite.specs.Edit.{next_rowid}
 use Rattle.sqlite.specs.Tree.{Trees}
-use Rattle.sqlite.specs.Listing.{understood}
 use Rattle.sqlite.specs.Command.TheVariants.{Insert}
 use Rattle.sqlite.specs.Source.TheVariants.{Values}
 use Rattle.sqlite.specs.Does.{Tally, Does}
 use Rattle.sqlite.specs.State.{State}
-use Rattle.sqlite.proofs.Callers.{IsPlain, command_of}
-use Rattle.sqlite_tied.specs.Compute.{everything}
 use Rattle.tables.specs.Schema.{store_schema, access_table}
 use Rattle.std.specs.FinMap as map
 use Rattle.std.specs.FinSet as set
@@ -25,10 +22,9 @@ use Rattle.world.specs.World.{World, with_key, is_key}
 use Rattle.world.specs.Registry.{key_added, after_key_add}
 use Rattle.world.proofs.Orders.{texts_total, texts_exact, get_put}
 use Rattle.tables.specs.Means.{may_publish, Holds, Means, IsAccess, Tabulates}
-use Rattle.statements.proofs.Texts.{add_key_text}
 use Rattle.statements.specs.Views.{with_key_added}
 use Rattle.tables.proofs.InsertLemmas.{Inserted, inserted, cast_null, cast_int}
-use Rattle.statements.proofs.WriteLemmas.{Rewrites, inserting}
+use Rattle.statements.proofs.WriteLemmas.{Rewrites}
 use Rattle.statements.proofs.TabulateLemmas.{tabulates_put, numbered_put, put_apart}
 use Rattle.sqlite_rules.specs.Lists.{Has}
 use Rattle.sqlite_rules.proofs.ListLemmas.{all_from}
@@ -36,14 +32,6 @@ use Rattle.tables.proofs.Maps.{put_keeps, put_splits}
 
 abbrev pub terms : List Term
 terms = lit Null ∷ col 0 0 ∷ col 0 1 ∷ col 0 2 ∷ []
-
-pub add_key_is : command_of (understood store_schema add_key_text) ≡ Insert 2 (Values terms 4)
-unfolding understood everything
-add_key_is = refl
-
-pub add_key_plain : IsPlain (understood store_schema add_key_text)
-unfolding understood everything
-add_key_plain = (refl, refl)
 
 abbrev pub key_params : List ℕ → Holder → Row
 key_params token g = Text token ∷ Text g.shelf ∷ Int (cond (may_publish g.right) (pos 1) (pos 0)) ∷ []
@@ -79,8 +67,8 @@ module _ (w : World) (token : List ℕ) (g : Holder) (unused : map.get w.keys to
     pieces = rw (it.tables.1.1.1.1.0 (λ e. omega (arith, e))) means.pieces;
   }
 
-  pub add_key_turns : (old : State) → Holds old w → Rewrites add_key_text (key_params token g) (Insert 2 (Values terms 4)) add_key_is add_key_plain (inserting 2 (Values terms 4)) old old w (with_key w token g)
-  add_key_turns old h tally after does = let it = added old.step_limit token g old.now [] tally after h.schema does in (it.0, key_means old.now.trees after.trees it.1 h.trees.means)
+  pub add_key_turns : (old : State) → Holds old w → Rewrites (key_params token g) (Insert 2 (Values terms 4)) old (with_key w token g)
+  add_key_turns old h text tally after does = let it = added old.step_limit token g old.now text tally after h.schema does in (it.0, key_means old.now.trees after.trees it.1 h.trees.means)
 
 is_done : Registered → Bool
 is_done Done = true

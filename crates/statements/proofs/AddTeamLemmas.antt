@@ -13,7 +13,6 @@ use Rattle.sqlite.specs.Does.{Tally, Does}
 use Rattle.sqlite.specs.State.{State, ExecutesInside}
 use Rattle.sqlite.proofs.Callers.{IsPlain, command_of, runs_as}
 use Rattle.sqlite_catalog.specs.Listing.{IsSound}
-use Rattle.sqlite_tied.specs.Compute.{everything}
 use Rattle.world.specs.declared.registry.Registered.{Registered}
 use Rattle.world.specs.declared.registry.Registered.TheVariants.{Done, Name}
 use Rattle.world.specs.World.{World, with_team, is_team_name}
@@ -24,22 +23,13 @@ use Rattle.tables.specs.Means.{Holds, Means, IsShelf}
 use Rattle.statements.specs.Rows.{Filling}
 use Rattle.statements.specs.Extract.{PutsShelf}
 use Rattle.statements.specs.Views.{with_team_added}
-use Rattle.statements.proofs.Texts.{add_shelf_text}
 use Rattle.tables.proofs.InsertLemmas.{Inserted, inserted, enforced, cast_null}
-use Rattle.statements.proofs.WriteLemmas.{Rewrites, inserting}
+use Rattle.statements.proofs.WriteLemmas.{Rewrites}
 use Rattle.statements.proofs.TabulateLemmas.{tabulates_put}
 use Rattle.tables.proofs.Maps.{text_put, text_splits}
 
 abbrev pub terms : List Term
 terms = lit Null ∷ col 0 0 ∷ []
-
-pub add_shelf_is : command_of (understood store_schema add_shelf_text) ≡ Insert 1 (Values terms 2)
-unfolding understood everything
-add_shelf_is = refl
-
-pub add_shelf_plain : IsPlain (understood store_schema add_shelf_text)
-unfolding understood everything
-add_shelf_plain = (refl, refl)
 
 abbrev pub shelf_params : List ℕ → Row
 shelf_params name = Text name ∷ []
@@ -64,8 +54,8 @@ module _ (w : World) (name : List ℕ) where
     pieces = rw (it.tables.1.1.1.1.0 (λ e. omega (arith, e))) means.pieces;
   }
 
-  pub add_shelf_turns : (old : State) → Holds old w → Rewrites add_shelf_text (shelf_params name) (Insert 1 (Values terms 2)) add_shelf_is add_shelf_plain (inserting 1 (Values terms 2)) old old w (with_team w name)
-  add_shelf_turns old h tally after does = let it = added old.step_limit name old.now [] tally after h.schema does in (it.0, shelf_means old.now.trees after.trees it.1 h.trees.means)
+  pub add_shelf_turns : (old : State) → Holds old w → Rewrites (shelf_params name) (Insert 1 (Values terms 2)) old (with_team w name)
+  add_shelf_turns old h text tally after does = let it = added old.step_limit name old.now text tally after h.schema does in (it.0, shelf_means old.now.trees after.trees it.1 h.trees.means)
 
   pub team_same : (r : Registered) → r ≡ team_added w name → (r ≡ Done → ⊥) → with_team_added name w ≡ w
   team_same r is other = go (team_added w name) (λ e. other (is ∙ e))
@@ -81,9 +71,10 @@ pub misnamed_team : (w : World) (name : List ℕ) → is_team_name name ≡ fals
 misnamed_team w name wrong = rw wrong refl
 
 -- one shelf is written within a transaction
-pub shelf_put : (old new : State) (name : List ℕ) (count : ℕ) → Filling old → ExecutesInside 0 add_shelf_text (shelf_params name) old new (Ok count) → PutsShelf name old.now.trees new.now.trees × Filling new
-shelf_put old new name count filling ran =
-    let wrote = runs_as add_shelf_text (shelf_params name) old new store_schema filling.schema _ add_shelf_is add_shelf_plain count ran.0 in
+pub shelf_put : (sql : List ℕ) → command_of (understood store_schema sql) ≡ Insert 1 (Values terms 2) → IsPlain (understood store_schema sql)
+    → (old new : State) (name : List ℕ) (count : ℕ) → Filling old → ExecutesInside 0 sql (shelf_params name) old new (Ok count) → PutsShelf name old.now.trees new.now.trees × Filling new
+shelf_put sql is plain old new name count filling ran =
+    let wrote = runs_as sql (shelf_params name) old new store_schema filling.schema _ is plain count ran.0 in
     let it = added old.step_limit name old.now [] wrote.tally new.now filling.schema wrote.changed in
     let sound = subst (λ s. IsSound s new.now.trees) it.0 wrote.sound in (
       λ x stand. record { sound = sound; means = shelf_means x name old.now.trees new.now.trees it.1 stand.means },

@@ -1,5 +1,5 @@
 -- Keys that are copied from one store to another.
-use Rattle.std.proofs.Common.{◌≡◌, ◌++◌, ℕ, ℤ, true, false, not, List, [], ◌∷◌, Option, Some, None, Ok, inl, inr, refl, sym, ap, subst, ◌∙◌, codes, true≢false}
+use Rattle.std.proofs.Common.{◌≡◌, ◌++◌, ℕ, ℤ, true, false, not, List, [], ◌∷◌, Option, Some, None, Ok, inl, inr, refl, sym, ap, subst, ◌∙◌, true≢false}
 use Rattle.std.specs.FinMap as map
 use Rattle.std.proofs.lemmas.Bool.{and_parts, and_from}
 use Rattle.sqlite.specs.declared.types.Value.TheVariants.{Int, Text}
@@ -11,12 +11,13 @@ use Rattle.sqlite.specs.Order.{Row, column}
 use Rattle.sqlite.specs.Term.{Term, col, op2, eval_all}
 use Rattle.sqlite.specs.Tree.{Trees, rowid}
 use Rattle.sqlite.specs.Edit.{next_rowid}
-use Rattle.sqlite.specs.Effect.{Database, Reads}
-use Rattle.sqlite.specs.Listing.{understood, reads_listing}
-use Rattle.sqlite.specs.Command.TheVariants.{Select}
+use Rattle.sqlite.specs.Query.{Query}
+use Rattle.sqlite.specs.Effect.{Database, Reads, ReadsFirst}
+use Rattle.sqlite.specs.Listing.{understood}
+use Rattle.sqlite.specs.Command.TheVariants.{Insert}
+use Rattle.sqlite.specs.Source.TheVariants.{Values}
 use Rattle.sqlite.specs.State.{State, ExecutesInside}
 use Rattle.sqlite.proofs.Callers.{IsPlain, command_of, runs_as}
-use Rattle.sqlite_tied.specs.Compute.{everything}
 use Rattle.sqlite_schema.specs.Rules.{equal, differ, clashes}
 use Rattle.sqlite_schema.specs.declared.schema.Constraint.TheVariants.{Unique}
 use Rattle.sqlite_catalog.specs.Listing.{IsSound}
@@ -33,15 +34,14 @@ use Rattle.statements.specs.Lookup.{lookup, passes as found_by, AreFound}
 use Rattle.tables.specs.Walks.{Pass}
 use Rattle.tables.specs.Inserted.{Inserted}
 use Rattle.statements.specs.Rows.{Filling}
-use Rattle.statements.specs.Extract.{AllFit, ShowsKey, IsKeyShown, AddsKey, PutsKey, AddsKeys, CopiesKeys}
-use Rattle.statements.proofs.Texts.{add_key_text, keys_on_text}
+use Rattle.statements.specs.Extract.{ShowsKey, IsKeyShown, AddsKey, PutsKey, AddsKeys, CopiesKeys}
 use Rattle.tables.proofs.ValueLemmas.{equals_text, equals_itself, fresh_before}
 use Rattle.statements.proofs.DifferLemmas.{differ_is}
-use Rattle.statements.proofs.LookupLemmas.{all_found, begun_found}
+use Rattle.statements.proofs.LookupLemmas.{asks, all_found, begun_found}
 use Rattle.tables.proofs.FitTests.{at_place}
 use Rattle.tables.proofs.OneWorld.{texts_same, rights_same}
 use Rattle.tables.proofs.Maps.{put_keeps, put_splits}
-use Rattle.statements.proofs.AddKeyLemmas.{added, key_params, key_means, add_key_is, add_key_plain}
+use Rattle.statements.proofs.AddKeyLemmas.{terms, added, key_params, key_means}
 
 -- ---- the query
 
@@ -51,17 +51,8 @@ by_shelf = op2 (Compare Eq Binary) (col 1 2) (col 0 0) ∷ []
 abbrev shown : List Term
 shown = col 1 1 ∷ col 1 2 ∷ col 1 3 ∷ []
 
-keys_on_is : command_of (understood store_schema keys_on_text) ≡ Select (record { lets = []; body = lookup 4 by_shelf shown }) (codes "token" ∷ codes "shelf" ∷ codes "publish" ∷ [])
-unfolding understood everything
-keys_on_is = refl
-
-pub keys_on_plain : IsPlain (understood store_schema keys_on_text)
-unfolding understood everything
-keys_on_plain = (refl, refl)
-
-pub keys_on_tables : reads_listing store_schema keys_on_text ≡ false
-unfolding understood everything
-keys_on_tables = refl
+abbrev pub keys_on_query : Query
+keys_on_query = lookup 4 by_shelf shown
 
 -- a row of `access` as it is shown
 shown_key : (shelf : List ℕ) (r : Row) (it : List ℕ × Holder) → IsAccess r it → ShowsKey (eval_all shown ((Text shelf ∷ []) ∷ r ∷ [])) it
@@ -86,12 +77,12 @@ module _ (shelf : List ℕ) (db : Database) (w : World) (means : Means db.trees 
       let passed : found_by by_shelf (Text shelf ∷ []) from.0 ≡ true = rw (at, equals_itself shelf) refl in
       (eval_all shown ((Text shelf ∷ []) ∷ from.0 ∷ []), found.complete from.0 from.1 passed, shown_key shelf from.0 it from.2)
 
-  pub all_on : (rows : List Row) → Reads (command_of (understood store_schema keys_on_text)) db (Text shelf ∷ []) rows → AreFound (db.trees 4) by_shelf shown (Text shelf ∷ []) rows
-  all_on rows read = all_found keys_on_text (Text shelf ∷ []) db 4 by_shelf shown _ keys_on_is (λ _. refl) rows read
+  pub all_on : (rows : List Row) → Reads (asks keys_on_query) db (Text shelf ∷ []) rows → AreFound (db.trees 4) by_shelf shown (Text shelf ∷ []) rows
+  all_on rows read = all_found (Text shelf ∷ []) db 4 by_shelf shown [] (λ _. refl) rows read
 
-pub keys_fit : (shelf : List ℕ) → AllFit IsKeyShown keys_on_text (Text shelf ∷ [])
+pub keys_fit : (shelf : List ℕ) (db : Database) (w : World) (rows : List Row) (row : Row) → Means db.trees w → ReadsFirst (asks keys_on_query) db (Text shelf ∷ []) (rows ++ row ∷ []) → IsKeyShown row
 keys_fit shelf db w rows row means first =
-    let begun = begun_found keys_on_text (Text shelf ∷ []) db 4 by_shelf shown _ keys_on_is (λ _. refl) (rows ++ row ∷ []) first in
+    let begun = begun_found (Text shelf ∷ []) db 4 by_shelf shown [] (λ _. refl) (rows ++ row ∷ []) first in
     let it = key_found shelf db w means _ begun.1 row (at_place rows begun.0 row) in
     (it.0, it.1)
 
@@ -144,7 +135,7 @@ put_all x y (row ∷ rows) passed =
     }
 
 -- the keys of a shelf
-pub keys_copied : (shelf : List ℕ) (db : Database) (w x y : World) (rows : List Row) → Means db.trees w → Reads (command_of (understood store_schema keys_on_text)) db (Text shelf ∷ []) rows
+pub keys_copied : (shelf : List ℕ) (db : Database) (w x y : World) (rows : List Row) → Means db.trees w → Reads (asks keys_on_query) db (Text shelf ∷ []) rows
     → Pass (λ _ row. IsKeyShown row) (λ u row v. AddsKey row u v) x rows y → CopiesKeys shelf w x y
 keys_copied shelf db w x y rows means read passed =
     let adds = put_all x y rows passed in
@@ -196,10 +187,11 @@ key_new db after x token g sound means it = go (map.get x.keys token) refl
         absurd (token_alone after sound new from.0 token number.0 (next_rowid (db 4)) here there refl from.2.0 number.1 refl apart)
 
 -- one key is written within a transaction
-pub key_put : (old new : State) (row : Row) (token : List ℕ) (g : Holder) (count : ℕ) → ShowsKey row (token, g) → Filling old → ExecutesInside 0 add_key_text (key_params token g) old new (Ok count)
+pub key_put : (sql : List ℕ) → command_of (understood store_schema sql) ≡ Insert 2 (Values terms 4) → IsPlain (understood store_schema sql)
+    → (old new : State) (row : Row) (token : List ℕ) (g : Holder) (count : ℕ) → ShowsKey row (token, g) → Filling old → ExecutesInside 0 sql (key_params token g) old new (Ok count)
     → PutsKey row old.now.trees new.now.trees × Filling new
-key_put old new row token g count shows filling ran =
-    let wrote = runs_as add_key_text (key_params token g) old new store_schema filling.schema _ add_key_is add_key_plain count ran.0 in
+key_put sql is bare old new row token g count shows filling ran =
+    let wrote = runs_as sql (key_params token g) old new store_schema filling.schema _ is bare count ran.0 in
     let it = added old.step_limit token g old.now [] wrote.tally new.now filling.schema wrote.changed in
     let sound : IsSound store_schema new.now.trees = subst (λ s. IsSound s new.now.trees) it.0 wrote.sound in (
       λ x stand.

@@ -1,5 +1,5 @@
 -- Copies of the rows of versions, and of the pieces of their zips.
-use Rattle.std.proofs.Common.{◌≡◌, ◌⊎◌, ◌&&◌, ◌++◌, ℕ, ℤ, Bool, true, false, not, List, [], ◌∷◌, filter, Option, Ok, inl, inr, refl, sym, ap, ap₂, subst, ◌∙◌, codes, arith, true≢false}
+use Rattle.std.proofs.Common.{◌≡◌, ◌⊎◌, ◌++◌, ℕ, ℤ, true, not, List, [], ◌∷◌, Ok, inl, inr, refl, sym, ap, subst, ◌∙◌, true≢false}
 use Rattle.std.proofs.lemmas.Bool.{and_parts, and_from}
 use Rattle.sqlite.specs.declared.types.Value.TheVariants.{Int, Text, Blob}
 use Rattle.sqlite.specs.Collation.TheVariants.{Binary}
@@ -10,9 +10,9 @@ use Rattle.sqlite.specs.Order.{Row, column}
 use Rattle.sqlite.specs.Tree.{Trees, rowid}
 use Rattle.sqlite.specs.Term.{Term, col, op2}
 use Rattle.sqlite.specs.Edit.{put_all, are_fresh}
-use Rattle.sqlite.specs.Effect.{Database, Reads}
-use Rattle.sqlite.specs.Listing.{understood, reads_listing}
-use Rattle.sqlite.specs.Command.TheVariants.{Select}
+use Rattle.sqlite.specs.Query.{Query}
+use Rattle.sqlite.specs.Effect.{Database, Reads, ReadsFirst}
+use Rattle.sqlite.specs.Listing.{understood}
 use Rattle.sqlite.specs.State.{State, ExecutesInside}
 use Rattle.sqlite.proofs.Callers.{IsPlain, command_of}
 use Rattle.sqlite_value.specs.Keys.{plain, first_key}
@@ -23,26 +23,24 @@ use Rattle.sqlite_rules.specs.Lists.{Has}
 use Rattle.sqlite_rules.proofs.ListLemmas.{all_from, some_from, has_filtered, has_kept}
 use Rattle.sqlite_rules.proofs.RuleLemmas.{keeps_at}
 use Rattle.sqlite_rules.proofs.TableLemmas.{put_all_has, put_all_keeps, put_all_adds}
-use Rattle.sqlite_tied.specs.Compute.{everything}
 use Rattle.world.specs.declared.entry.Place.{Place}
 use Rattle.world.specs.declared.entry.Heading.{Heading}
-use Rattle.world.specs.World.{heading_of}
+use Rattle.world.specs.World.{World, heading_of}
 use Rattle.tables.specs.Schema.{store_schema, version_table, piece_table}
-use Rattle.tables.specs.Means.{IsAt, IsEachPlaceOnce, IsEachPieceOnce, is_of}
+use Rattle.tables.specs.Means.{Means, IsAt, IsEachPlaceOnce, IsEachPieceOnce, is_of}
 use Rattle.tables.specs.Walks.{Pass}
 use Rattle.tables.proofs.ValueLemmas.{equals_text, equals_itself, equals_own, fresh_before}
 use Rattle.tables.proofs.FitTests.{at_place}
 use Rattle.statements.specs.Lookup.{lookup}
 use Rattle.statements.specs.Pairs.{pairs}
 use Rattle.statements.specs.Rows.{Filling, PutsPiece, piece_of, piece_read, AddsRows, IsElseSame, PutsVersion, version_of, version_read, AreApart}
-use Rattle.statements.specs.Extract.{AllFit, ShowsVersion, IsVersionShown, CopiesVersions, CopiesPieces}
-use Rattle.statements.proofs.Texts.{add_version_text, versions_on_text, pieces_on_text}
+use Rattle.statements.specs.Extract.{ShowsVersion, IsVersionShown, CopiesVersions, CopiesPieces}
 use Rattle.statements.proofs.DifferLemmas.{differ_is}
-use Rattle.statements.proofs.LookupLemmas.{all_found, begun_found}
+use Rattle.statements.proofs.LookupLemmas.{asks, all_found, begun_found}
 use Rattle.statements.proofs.PairLemmas.{all_paired}
 use Rattle.statements.proofs.RowLemmas.{adds_one, adds_none, adds_then, adds_as, else_itself, else_then}
 use Rattle.statements.proofs.TabulateLemmas.{put_apart}
-use Rattle.statements.proofs.AddEntryLemmas.{version_params, version_put}
+use Rattle.statements.proofs.AddEntryLemmas.{version_insert, version_params, version_put}
 
 -- ---- the query of versions
 
@@ -52,25 +50,13 @@ by_shelf = op2 (Compare Eq Binary) (col 1 2) (col 0 0) ∷ []
 abbrev version_shown : List Term
 version_shown = col 1 0 ∷ col 1 2 ∷ col 1 3 ∷ col 1 4 ∷ col 1 5 ∷ col 1 6 ∷ col 1 7 ∷ col 1 8 ∷ []
 
-abbrev version_names : List (List ℕ)
-version_names = codes "id" ∷ codes "shelf" ∷ codes "path" ∷ codes "version" ∷ codes "time" ∷ codes "mod" ∷ codes "order_key" ∷ codes "rank_key" ∷ []
-
-versions_on_is : command_of (understood store_schema versions_on_text) ≡ Select (record { lets = []; body = lookup 6 by_shelf version_shown }) version_names
-unfolding understood everything
-versions_on_is = refl
-
-pub versions_on_plain : IsPlain (understood store_schema versions_on_text)
-unfolding understood everything
-versions_on_plain = (refl, refl)
-
-pub versions_on_tables : reads_listing store_schema versions_on_text ≡ false
-unfolding understood everything
-versions_on_tables = refl
+abbrev pub versions_on_query : Query
+versions_on_query = lookup 6 by_shelf version_shown
 
 -- each row that it shows shows a version
-pub versions_fit : (shelf : List ℕ) → AllFit IsVersionShown versions_on_text (Text shelf ∷ [])
+pub versions_fit : (shelf : List ℕ) (db : Database) (w : World) (rows : List Row) (row : Row) → Means db.trees w → ReadsFirst (asks versions_on_query) db (Text shelf ∷ []) (rows ++ row ∷ []) → IsVersionShown row
 versions_fit shelf db w rows row means first =
-    let begun = begun_found versions_on_text (Text shelf ∷ []) db 6 by_shelf version_shown _ versions_on_is (λ _. refl) (rows ++ row ∷ []) first in
+    let begun = begun_found (Text shelf ∷ []) db 6 by_shelf version_shown [] (λ _. refl) (rows ++ row ∷ []) first in
     let from = begun.1.sound row (at_place rows begun.0 row) in
     let it = means.entries.each from.0 from.1 in
     let shows : ShowsVersion (version_read from.0) it.0.0 (heading_of it.0.1) = record {
@@ -92,28 +78,20 @@ on_shelf = op2 (Compare Eq Binary) (col 2 1) (col 1 0) ∷ op2 (Compare Eq Binar
 abbrev piece_shown : List Term
 piece_shown = col 2 1 ∷ col 2 2 ∷ col 2 3 ∷ []
 
-pieces_on_is : command_of (understood store_schema pieces_on_text) ≡ Select (record { lets = []; body = pairs 6 8 on_shelf piece_shown }) (codes "version" ∷ codes "number" ∷ codes "bytes" ∷ [])
-unfolding understood everything
-pieces_on_is = refl
-
-pub pieces_on_plain : IsPlain (understood store_schema pieces_on_text)
-unfolding understood everything
-pieces_on_plain = (refl, refl)
-
-pub pieces_on_tables : reads_listing store_schema pieces_on_text ≡ false
-unfolding understood everything
-pieces_on_tables = refl
+abbrev pub pieces_on_query : Query
+pieces_on_query = pairs 6 8 on_shelf piece_shown
 
 -- ---- a row of a version that was put in
 
-pub version_copied : (old new : State) (values : Row) (id : ℤ) (p : Place) (h : Heading) (count : ℕ) → column values 0 ≡ Int id → ShowsVersion values p h → Filling old
-    → ExecutesInside 0 add_version_text (version_params (Rattle.std.proofs.Common.Some id) p (record { gomod = h.gomod; zip = []; time = h.time })) old new (Ok count) → PutsVersion values old.now.trees new.now.trees × Filling new
-version_copied old new values id p h count is shows filling ran =
-    let it = version_put (Rattle.std.proofs.Common.Some id) p (record { gomod = h.gomod; zip = []; time = h.time }) old new count filling ran in (
+pub version_copied : (sql : List ℕ) → command_of (understood store_schema sql) ≡ version_insert → IsPlain (understood store_schema sql)
+    → (old new : State) (values : Row) (id : ℤ) (p : Place) (h : Heading) (count : ℕ) → column values 0 ≡ Int id → ShowsVersion values p h → Filling old
+    → ExecutesInside 0 sql (version_params (Rattle.std.proofs.Common.Some id) p (record { gomod = h.gomod; zip = []; time = h.time })) old new (Ok count) → PutsVersion values old.now.trees new.now.trees × Filling new
+version_copied sql is bare old new values id p h count first shows filling ran =
+    let it = version_put sql is bare (Rattle.std.proofs.Common.Some id) p (record { gomod = h.gomod; zip = []; time = h.time }) old new count filling ran in (
       record {
         id = id;
-        number = is;
-        put = rw (is, shows.shelf, shows.path, shows.version, shows.time, shows.gomod, shows.order, shows.rank) it.0;
+        number = first;
+        put = rw (first, shows.shelf, shows.path, shows.version, shows.time, shows.gomod, shows.order, shows.rank) it.0;
         sound = it.2.sound;
       },
       it.2,
@@ -245,10 +223,10 @@ pieces_passed Fits db after (row ∷ rows) passed =
 
 -- ---- the copies
 
-pub versions_copied : (shelf : List ℕ) (db : Database) (fresh after : Trees) (rows : List Row) → Reads (command_of (understood store_schema versions_on_text)) db (Text shelf ∷ []) rows
+pub versions_copied : (shelf : List ℕ) (db : Database) (fresh after : Trees) (rows : List Row) → Reads (asks versions_on_query) db (Text shelf ∷ []) rows
     → Pass (λ _ row. IsVersionShown row) (λ t row u. PutsVersion row t u) fresh rows after → CopiesVersions shelf db.trees fresh after
 versions_copied shelf db fresh after rows read passed =
-    let found = all_found versions_on_text (Text shelf ∷ []) db 6 by_shelf version_shown _ versions_on_is (λ _. refl) rows read in
+    let found = all_found (Text shelf ∷ []) db 6 by_shelf version_shown [] (λ _. refl) rows read in
     let puts = versions_passed fresh after rows passed in
     record {
       rows = adds_as version_read _ _ (fresh 6) (after 6)
@@ -265,10 +243,10 @@ versions_copied shelf db fresh after rows read passed =
       tables = puts.tables;
     }
 
-pub pieces_copied : (Fits : Trees → Row → Type 0) (shelf : List ℕ) (db : Database) (fresh after : Trees) (rows : List Row) → Reads (command_of (understood store_schema pieces_on_text)) db (Text shelf ∷ []) rows
+pub pieces_copied : (Fits : Trees → Row → Type 0) (shelf : List ℕ) (db : Database) (fresh after : Trees) (rows : List Row) → Reads (asks pieces_on_query) db (Text shelf ∷ []) rows
     → Pass Fits (λ t row u. PutsPiece row t u) fresh rows after → CopiesPieces shelf db.trees fresh after
 pieces_copied Fits shelf db fresh after rows read passed =
-    let found = all_paired pieces_on_text (Text shelf ∷ []) db 6 8 on_shelf piece_shown _ pieces_on_is (λ _. refl) (λ _. refl) rows read in
+    let found = all_paired (Text shelf ∷ []) db 6 8 on_shelf piece_shown (λ _. refl) (λ _. refl) rows read in
     let puts = pieces_passed Fits fresh after rows passed in
     record {
       rows = adds_as piece_read _ _ (fresh 8) (after 8)

@@ -1,5 +1,5 @@
 -- What the query of a count answers.
-use Rattle.std.proofs.Common.{◌≡◌, ◌≤◌, ◌++◌, ℕ, suc, pos, negsuc, Bool, true, false, cond, List, [], ◌∷◌, length, min, map as mapped, flat_map, filter, Some, inl, inr, refl, sym, ap, subst, ◌∙◌, codes, arith}
+use Rattle.std.proofs.Common.{◌≡◌, ◌≤◌, ◌++◌, ℕ, suc, pos, negsuc, Bool, true, false, cond, List, [], ◌∷◌, length, min, map as mapped, flat_map, filter, Some, inl, inr, refl, sym, ap, subst, ◌∙◌, arith}
 use Rattle.std.specs.List.{AllZip, list_all}
 use Rattle.std.proofs.lemmas.Bool.{and_parts}
 use Rattle.std.proofs.lemmas.List.Sorted.{length_permutation}
@@ -14,23 +14,17 @@ use Rattle.sqlite.specs.Term.{Term, Env, lit, col, op2, eval, holds}
 use Rattle.sqlite.specs.Tree.{Trees}
 use Rattle.sqlite.specs.Query.{Query, inner, end, IsAnswer, Output, output, matches}
 use Rattle.sqlite.specs.Program.{overlay}
-use Rattle.sqlite.specs.Command.TheVariants.{Select}
-use Rattle.sqlite.specs.Effect.{Database, ReadsFirst}
-use Rattle.sqlite.specs.Listing.{understood, reads_listing}
-use Rattle.sqlite.proofs.Callers.{IsPlain, command_of}
-use Rattle.sqlite_tied.specs.Compute.{everything}
+use Rattle.sqlite.specs.Effect.{Database}
 use Rattle.sqlite_rules.specs.Lists.{Has}
 use Rattle.sqlite_rules.proofs.ListLemmas.{has_filtered}
 use Rattle.sqlite_rules.proofs.ProbeLemmas.{has_mapped}
 use Rattle.world.specs.declared.entry.Place.{Place}
 use Rattle.world.specs.World.{World, IsWorld, count, version_limit}
 use Rattle.world.proofs.Orders.{text_self, text_same}
-use Rattle.tables.specs.Schema.{store_schema}
 use Rattle.statements.specs.Lookup.{passes}
-use Rattle.statements.specs.Calls.{Selects}
+use Rattle.statements.proofs.LookupLemmas.{Picks}
 use Rattle.tables.specs.Means.{Means, IsAt}
 use Rattle.tables.specs.Fit.{is_on}
-use Rattle.statements.proofs.Texts.{count_text}
 use Rattle.tables.proofs.ValueLemmas.{equals_text, equals_itself}
 use Rattle.tables.proofs.Ascending.{has_permuted}
 use Rattle.tables.proofs.CountedRows.{all_counted}
@@ -110,17 +104,8 @@ by_path = op2 (Compare Eq Binary) (col 1 2) (col 0 0) ∷ op2 (Compare Eq Binary
 abbrev pub path_params : List ℕ → List ℕ → Row
 path_params s p = Text s ∷ Text p ∷ []
 
-count_is : command_of (understood store_schema count_text) ≡ Select (record { lets = []; body = counting 6 by_path }) (codes "count(*)" ∷ [])
-unfolding understood everything
-count_is = refl
-
-pub count_plain : IsPlain (understood store_schema count_text)
-unfolding understood everything
-count_plain = (refl, refl)
-
-pub count_tables : reads_listing store_schema count_text ≡ false
-unfolding understood everything
-count_tables = refl
+abbrev pub count_query : Query
+count_query = counting 6 by_path
 
 small : (n : ℕ) → n ≤ version_limit → min n most ≡ n
 small n few = omega (arith, few)
@@ -144,9 +129,9 @@ module _ (s p : List ℕ) (w : World) (db : Trees) (means : Means db w) where
       let parts = and_parts _ _ h in
       rw (at.0, at.1, text_same q.shelf s parts.0, text_same q.path p parts.1, equals_itself s, equals_itself p) refl
 
-  pub count_read : (base : Database) → base.trees ≡ db → IsWorld w → (row : Row) (n : ℕ) → Selects count_text (path_params s p) base (Some row) → column row 0 ≡ Int (pos n) → n ≡ count w s p
+  pub count_read : (base : Database) → base.trees ≡ db → IsWorld w → (row : Row) (n : ℕ) → Picks count_query (path_params s p) base (Some row) → column row 0 ≡ Int (pos n) → n ≡ count w s p
   count_read base has_db is row n picked shown =
-      let got = (subst (λ k. ReadsFirst k base (path_params s p) (row ∷ [])) count_is picked).1 in
+      let got = picked.1 in
       let answer = got.1 Null in
       let counted = row_counted 6 by_path (overlay base.trees []) (path_params s p) row got.0 answer in
       let value : pos n ≡ pos (min (length (filter (passes by_path (path_params s p)) (base.trees 6))) most) = let e = sym shown ∙ counted in cc in

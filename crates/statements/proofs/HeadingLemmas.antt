@@ -1,5 +1,5 @@
 -- What the queries of an entry and of its heading answer.
-use Rattle.std.proofs.Common.{◌≡◌, ℕ, true, false, List, [], ◌∷◌, filter, Option, Some, None, refl, sym, ap, subst, ◌∙◌, option_map, codes, true≢false}
+use Rattle.std.proofs.Common.{◌≡◌, ℕ, true, false, List, [], ◌∷◌, filter, Option, Some, None, refl, sym, ap, subst, ◌∙◌, option_map, true≢false}
 use Rattle.std.specs.Option.{option_or}
 use Rattle.std.proofs.lemmas.Bool.{and_parts}
 use Rattle.std.specs.FinMap as map
@@ -11,45 +11,30 @@ use Rattle.sqlite.specs.Order.{Row, column}
 use Rattle.sqlite.specs.Values.{or_null}
 use Rattle.sqlite.specs.Tree.{Trees}
 use Rattle.sqlite.specs.Term.{Term, col, op2}
+use Rattle.sqlite.specs.Query.{Query}
 use Rattle.sqlite.specs.Effect.{Database}
-use Rattle.sqlite.specs.Listing.{understood, reads_listing}
-use Rattle.sqlite.specs.Command.TheVariants.{Select}
-use Rattle.sqlite.proofs.Callers.{IsPlain, command_of}
-use Rattle.sqlite_tied.specs.Compute.{everything}
 use Rattle.sqlite_schema.specs.Rules.{equal}
 use Rattle.world.specs.declared.entry.Place.{Place}
 use Rattle.world.specs.declared.entry.Entry.{Entry}
 use Rattle.world.specs.declared.entry.Seen.{Seen}
 use Rattle.world.specs.declared.entry.Heading.{Heading}
 use Rattle.world.specs.World.{World, common, place, seen_at, view, first_on, heading_of, without_zip, heading}
-use Rattle.tables.specs.Schema.{store_schema}
 use Rattle.statements.specs.declared.entries.VersionRow.{VersionRow}
 use Rattle.tables.specs.Means.{Means, IsVersion, IsAt, ArePieces}
 use Rattle.statements.specs.Reading.{IsRowOf, IsZip, entry_with}
 use Rattle.statements.specs.Lookup.{lookup, passes, FirstFound}
-use Rattle.statements.specs.Calls.{Selects}
-use Rattle.statements.proofs.Texts.{row_text}
 use Rattle.tables.proofs.ValueLemmas.{equals_text, equals_itself}
-use Rattle.statements.proofs.LookupLemmas.{selected_found}
+use Rattle.statements.proofs.LookupLemmas.{Picks, picked_found}
 use Rattle.tables.proofs.CountedRows.{same_place}
 
-abbrev pub by_place : List Term
+abbrev by_place : List Term
 by_place = op2 (Compare Eq Binary) (col 1 2) (col 0 0) ∷ op2 (Compare Eq Binary) (col 1 3) (col 0 1) ∷ op2 (Compare Eq Binary) (col 1 4) (col 0 2) ∷ []
 
-abbrev pub row_shown : List Term
+abbrev row_shown : List Term
 row_shown = col 1 0 ∷ col 1 2 ∷ col 1 5 ∷ col 1 6 ∷ []
 
-row_is : command_of (understood store_schema row_text) ≡ Select (record { lets = []; body = lookup 6 by_place row_shown }) (codes "id" ∷ codes "shelf" ∷ codes "time" ∷ codes "mod" ∷ [])
-unfolding understood everything
-row_is = refl
-
-pub row_plain : IsPlain (understood store_schema row_text)
-unfolding understood everything
-row_plain = (refl, refl)
-
-pub row_tables : reads_listing store_schema row_text ≡ false
-unfolding understood everything
-row_tables = refl
+abbrev pub row_query : Query
+row_query = lookup 6 by_place row_shown
 
 -- a value is of one time
 same_time : (a b : Option (List ℕ)) → or_null Text a ≡ or_null Text b → a ≡ b
@@ -98,12 +83,12 @@ module _ (p : Place) (db : Database) (w : World) (means : Means db.trees w) wher
       go None is = is
       go (Some e) is = absurd (let it = means.entries.found (p, e) is in true≢false (sym (passes_own it.0 it.2.place) ∙ h it.0 it.1))
 
-  pub row_read : (row : Row) (v : VersionRow) → Selects row_text (place_params p) db (Some row)
+  pub row_read : (row : Row) (v : VersionRow) → Picks row_query (place_params p) db (Some row)
       → column row 0 ≡ Int v.id → column row 1 ≡ Text v.shelf → column row 2 ≡ or_null Text v.heading.time → column row 3 ≡ Blob v.heading.gomod → IsRowOf db.trees w p v
-  row_read row v picked = row_some row v (selected_found row_text (place_params p) db 6 by_place row_shown _ row_is (λ _. refl) (Some row) picked)
+  row_read row v picked = row_some row v (picked_found (place_params p) db 6 by_place row_shown [] (λ _. refl) (Some row) picked)
 
-  pub row_lacks : Selects row_text (place_params p) db None → map.get w.entries p ≡ None
-  row_lacks picked = row_none (selected_found row_text (place_params p) db 6 by_place row_shown _ row_is (λ _. refl) None picked)
+  pub row_lacks : Picks row_query (place_params p) db None → map.get w.entries p ≡ None
+  row_lacks picked = row_none (picked_found (place_params p) db 6 by_place row_shown [] (λ _. refl) None picked)
 
 -- the rows of the version's pieces are those of the entry's zip
 pub zip_of : (db : Trees) (w : World) (p : Place) (v : VersionRow) → (it : IsRowOf db w p v) → IsZip db v.id it.entry.zip

@@ -1,5 +1,5 @@
 -- What the query of a key answers.
-use Rattle.std.proofs.Common.{◌≡◌, ℕ, ℤ, pos, Bool, true, false, not, cond, List, [], ◌∷◌, Option, Some, None, refl, sym, ap, ◌∙◌, codes, true≢false}
+use Rattle.std.proofs.Common.{◌≡◌, ℕ, ℤ, pos, Bool, true, false, not, cond, List, [], ◌∷◌, Option, Some, None, refl, sym, ap, ◌∙◌, true≢false}
 use Rattle.std.specs.Ordering.{int_eq}
 use Rattle.std.proofs.lemmas.Bool.{and_parts}
 use Rattle.sqlite.specs.declared.types.Value.TheVariants.{Int, Text}
@@ -8,12 +8,8 @@ use Rattle.sqlite_sql.specs.declared.ops.BinaryOp.TheVariants.{Compare}
 use Rattle.sqlite_sql.specs.declared.ops.CompareOp.TheVariants.{Eq}
 use Rattle.sqlite.specs.Order.{Row, column}
 use Rattle.sqlite.specs.Term.{Term, col, op2}
+use Rattle.sqlite.specs.Query.{Query}
 use Rattle.sqlite.specs.Effect.{Database}
-use Rattle.sqlite.specs.Listing.{understood, reads_listing}
-use Rattle.sqlite.specs.Command.TheVariants.{Select}
-use Rattle.sqlite.proofs.Callers.{IsPlain, command_of}
-use Rattle.sqlite_tied.specs.Compute.{everything}
-use Rattle.tables.specs.Schema.{store_schema}
 use Rattle.std.specs.FinMap as map
 use Rattle.world.specs.declared.entry.Holder.{Holder}
 use Rattle.world.specs.declared.entry.Right.{Right}
@@ -21,10 +17,8 @@ use Rattle.world.specs.declared.entry.Right.TheVariants.{Reads, Publishes}
 use Rattle.world.specs.World.{World}
 use Rattle.tables.specs.Means.{may_publish, Means}
 use Rattle.statements.specs.Lookup.{lookup, passes, FirstFound}
-use Rattle.statements.specs.Calls.{Selects}
-use Rattle.statements.proofs.Texts.{key_text}
 use Rattle.tables.proofs.ValueLemmas.{equals_text, equals_itself}
-use Rattle.statements.proofs.LookupLemmas.{selected_found}
+use Rattle.statements.proofs.LookupLemmas.{Picks, picked_found}
 
 abbrev pub by_token : List Term
 by_token = op2 (Compare Eq Binary) (col 1 1) (col 0 0) ∷ []
@@ -32,20 +26,11 @@ by_token = op2 (Compare Eq Binary) (col 1 1) (col 0 0) ∷ []
 abbrev pub shown : List Term
 shown = col 1 2 ∷ col 1 3 ∷ []
 
-key_is : command_of (understood store_schema key_text) ≡ Select (record { lets = []; body = lookup 4 by_token shown }) (codes "shelf" ∷ codes "publish" ∷ [])
-unfolding understood everything
-key_is = refl
+abbrev pub key_query : Query
+key_query = lookup 4 by_token shown
 
-pub key_plain : IsPlain (understood store_schema key_text)
-unfolding understood everything
-key_plain = (refl, refl)
-
-pub key_tables : reads_listing store_schema key_text ≡ false
-unfolding understood everything
-key_tables = refl
-
-pub key_found : (token : List ℕ) (db : Database) (found : Option Row) → Selects key_text (Text token ∷ []) db found → FirstFound (db.trees 4) by_token shown (Text token ∷ []) found
-key_found token db found h = selected_found key_text (Text token ∷ []) db 4 by_token shown _ key_is (λ _. refl) found h
+pub key_found : (token : List ℕ) (db : Database) (found : Option Row) → Picks key_query (Text token ∷ []) db found → FirstFound (db.trees 4) by_token shown (Text token ∷ []) found
+key_found token db found h = picked_found (Text token ∷ []) db 4 by_token shown [] (λ _. refl) found h
 
 module _ (token : List ℕ) (db : Database) (w : World) (means : Means db.trees w) where
   params : Row

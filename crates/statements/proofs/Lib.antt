@@ -1,4 +1,3 @@
-pub mod Texts
 pub mod LookupLemmas
 pub mod CallLemmas
 pub mod WriteLemmas

@@ -3,14 +3,16 @@ use Rattle.std.proofs.Common.{◌≡◌, ℕ, Bool, true, false, cond, List, [],
 use Rattle.std.proofs.lemmas.List.Sorted.{IsPermutation-sym}
 use Rattle.std.proofs.lemmas.Bool.{cases_Bool}
 use Rattle.sqlite.specs.declared.types.Value.TheVariants.{Null}
+use Rattle.sqlite_value.specs.declared.keys.Key.{Key}
 use Rattle.sqlite.specs.Order.{Row}
 use Rattle.sqlite.specs.Term.{Term}
 use Rattle.sqlite.specs.Tree.{Trees}
-use Rattle.sqlite.specs.Query.{inner, end, IsAnswer, Output, output, matches}
+use Rattle.sqlite.specs.Query.{Query, inner, end, IsAnswer, Output, output, matches}
 use Rattle.sqlite.specs.Program.{overlay}
+use Rattle.sqlite.specs.Command.{Command}
 use Rattle.sqlite.specs.Command.TheVariants.{Select}
 use Rattle.sqlite.specs.Listing.{understood}
-use Rattle.sqlite.specs.Effect.{Database, Answers, Reads, ReadsFirst}
+use Rattle.sqlite.specs.Effect.{Database, Reads, ReadsFirst}
 use Rattle.sqlite.proofs.Callers.{command_of}
 use Rattle.tables.specs.Schema.{store_schema}
 use Rattle.statements.specs.Calls.{Selects}
@@ -35,10 +37,15 @@ matched_has p f [] x h passes = absurd h
 matched_has p f (z ∷ xs) x (inl same) passes = rw (← same, passes) (inl refl)
 matched_has p f (z ∷ xs) x (inr later) passes = has_right (cond (p z) (f z ∷ []) []) (flat_map (λ w. cond (p w) (f w ∷ []) []) xs) (f x) (matched_has p f xs x later passes)
 
--- an answer has the rows that pass, as they are shown
-pub answer_found : (tree : ℕ) (filter project : List Term) (db : Trees) (params : Row) (out : List Row) → IsAnswer (lookup tree filter project) db params out → AreFound (db tree) filter project params out
-answer_found tree filter project db params out answer =
-    let q = lookup tree filter project in
+-- a query over one table, in an order; with none it is a lookup
+abbrev pub ordered : ℕ → List Term → List Term → List (Term × Key) → Query
+ordered tree filter project order = record (lookup tree filter project) { order = order }
+
+-- an answer has the rows that pass, as they are shown, in whatever order
+pub answer_found : (tree : ℕ) (filter project : List Term) (order : List (Term × Key)) (db : Trees) (params : Row) (out : List Row)
+    → IsAnswer (ordered tree filter project order) db params out → AreFound (db tree) filter project params out
+answer_found tree filter project order db params out answer =
+    let q = ordered tree filter project order in
     let test = passes filter params in
     let env = λ (r : Row). params ∷ r ∷ [] in
     let all = matches db filter (inner tree end) (params ∷ []) in
@@ -55,30 +62,38 @@ answer_found tree filter project db params out answer =
           subst (λ l. Has l o.1) (sym answer.shown) (mapped_has (λ (k : Output). k.1) answer.ordered o (has_permuted answer.ordered answer.kept o (IsPermutation-sym _ _ answer.same) there));
     }
 
--- the same of a query on its own
-pub answers_found : (db : Database) (tree : ℕ) (filter project : List Term) (own : (trees : Trees) → overlay trees [] tree ≡ trees tree) (params : Row) (out : List Row)
-    → Answers db (record { lets = []; body = lookup tree filter project }) params out → AreFound (db.trees tree) filter project params out
-answers_found db tree filter project own params out read =
-    subst (λ rows. AreFound rows filter project params out) (own db.trees) (answer_found tree filter project (overlay db.trees []) params out (read.answer Null))
+-- ---- a query on its own, however it is written
 
-module _ (sql : List ℕ) (params : Row) (db : Database) (tree : ℕ) (filter project : List Term) (names : List (List ℕ))
-    (is : command_of (understood store_schema sql) ≡ Select (record { lets = []; body = lookup tree filter project }) names) (own : (trees : Trees) → overlay trees [] tree ≡ trees tree) where
-  answered : (out : List Row) → IsAnswer (lookup tree filter project) (overlay db.trees []) params out → AreFound (db.trees tree) filter project params out
-  answered out answer = subst (λ rows. AreFound rows filter project params out) (own db.trees) (answer_found tree filter project (overlay db.trees []) params out answer)
+-- what its columns are called is of no account
+abbrev pub asks : Query → Command
+asks q = Select (record { lets = []; body = q }) []
 
-  pub all_found : (out : List Row) → Reads (command_of (understood store_schema sql)) db params out → AreFound (db.trees tree) filter project params out
-  all_found out h = answers_found db tree filter project own params out (subst (λ k. Reads k db params out) is h)
+-- the row begins an answer of the query, or its answer is empty
+abbrev pub Picks : Query → Row → Database → Option Row → Type 0
+Picks q params db (Some row) = ReadsFirst (asks q) db params (row ∷ [])
+Picks q params db None = Reads (asks q) db params []
 
-  pub begun_found : (rows : List Row) → ReadsFirst (command_of (understood store_schema sql)) db params rows → (tail : List Row) × AreFound (db.trees tree) filter project params (rows ++ tail)
-  begun_found rows h = let got = (subst (λ k. ReadsFirst k db params rows) is h).1 in (got.0, answered (rows ++ got.0) (got.1 Null))
+module _ (params : Row) (db : Database) (tree : ℕ) (filter project : List Term) (order : List (Term × Key)) (own : (trees : Trees) → overlay trees [] tree ≡ trees tree) where
+  answered : (out : List Row) → IsAnswer (ordered tree filter project order) (overlay db.trees []) params out → AreFound (db.trees tree) filter project params out
+  answered out answer = subst (λ rows. AreFound rows filter project params out) (own db.trees) (answer_found tree filter project order (overlay db.trees []) params out answer)
 
-  pub selected_found : (found : Option Row) → Selects sql params db found → FirstFound (db.trees tree) filter project params found
-  selected_found (Some row) h =
-      let got = (subst (λ k. ReadsFirst k db params (row ∷ [])) is h).1 in
-      (answered (row ∷ got.0) (got.1 Null)).sound row (inl refl)
-  selected_found None h = λ row there.
-      let read = subst (λ k. Reads k db params []) is h in
+  pub all_found : (out : List Row) → Reads (asks (ordered tree filter project order)) db params out → AreFound (db.trees tree) filter project params out
+  all_found out read = answered out (read.answer Null)
+
+  pub begun_found : (rows : List Row) → ReadsFirst (asks (ordered tree filter project order)) db params rows → (tail : List Row) × AreFound (db.trees tree) filter project params (rows ++ tail)
+  begun_found rows h = let got = h.1 in (got.0, answered (rows ++ got.0) (got.1 Null))
+
+  pub picked_found : (found : Option Row) → Picks (ordered tree filter project order) params db found → FirstFound (db.trees tree) filter project params found
+  picked_found (Some row) h = (begun_found (row ∷ []) h).1.sound row (inl refl)
+  picked_found None h = λ row there.
       elim (cases_Bool (passes filter params row)) [
-        | inl passed ↦ absurd ((answered [] (read.answer Null)).complete row there passed)
+        | inl passed ↦ absurd ((all_found [] h).complete row there passed)
         | inr failed ↦ failed
       ]
+
+-- the same of a text that is understood as a lookup
+pub selected_found : (sql : List ℕ) (params : Row) (db : Database) (tree : ℕ) (filter project : List Term) (names : List (List ℕ))
+    → command_of (understood store_schema sql) ≡ Select (record { lets = []; body = lookup tree filter project }) names → ((trees : Trees) → overlay trees [] tree ≡ trees tree)
+    → (found : Option Row) → Selects sql params db found → FirstFound (db.trees tree) filter project params found
+selected_found sql params db tree filter project names is own (Some row) h = picked_found params db tree filter project [] own (Some row) (subst (λ k. ReadsFirst k db params (row ∷ [])) is h)
+selected_found sql params db tree filter project names is own None h = picked_found params db tree filter project [] own None (subst (λ k. Reads k db params []) is h)

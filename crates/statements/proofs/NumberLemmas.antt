@@ -1,5 +1,5 @@
 -- What the queries of a number answer.
-use Rattle.std.proofs.Common.{◌≡◌, ◌<ℤ◌, ◌-ℤ◌, ℤ, pos, true, false, List, [], ◌∷◌, map as mapped, Option, Some, None, is_some, inl, inr, refl, sym, ap, subst, ◌∙◌, codes, true≢false, Decides, SomeIff, FitsSigned, w64, IsPermutation, arith, MatchOption}
+use Rattle.std.proofs.Common.{◌≡◌, ◌<ℤ◌, ◌-ℤ◌, ℤ, pos, true, false, List, [], ◌∷◌, ◌++◌, map as mapped, Option, Some, None, is_some, inl, inr, refl, sym, ap, subst, ◌∙◌, true≢false, Decides, SomeIff, FitsSigned, w64, IsPermutation, arith, MatchOption}
 use Rattle.std.specs.Ordering.{is_lt, is_gt, ordering_reverse, int_cmp}
 use Rattle.std.specs.declared.cmp.Ordering.{Ordering}
 use Rattle.std.specs.declared.cmp.Ordering.TheVariants.{Less, Equal, Greater}
@@ -8,7 +8,7 @@ use Rattle.std.specs.FinMap.{int_cmp-IsAntisymmetric}
 use Rattle.std.proofs.lemmas.Int.{by_lt_z, ints}
 use Rattle.std.proofs.lemmas.Bool.{and_parts}
 use Rattle.std.proofs.lemmas.List.Sorted.{IsPermutation-sym}
-use Rattle.sqlite.specs.declared.types.Value.TheVariants.{Int}
+use Rattle.sqlite.specs.declared.types.Value.TheVariants.{Null, Int}
 use Rattle.sqlite.specs.Collation.TheVariants.{Binary}
 use Rattle.sqlite_sql.specs.declared.ops.BinaryOp.TheVariants.{Compare}
 use Rattle.sqlite_sql.specs.declared.ops.CompareOp.TheVariants.{Eq}
@@ -17,67 +17,48 @@ use Rattle.sqlite_value.proofs.OrderLemmas.{value_cmp-Int, value_cmp_total, then
 use Rattle.sqlite.specs.Order.{Row, column}
 use Rattle.sqlite.specs.Term.{Term, col, op2}
 use Rattle.sqlite.specs.Tree.{Trees, rowid}
-use Rattle.sqlite.specs.Query.{inner, end}
+use Rattle.sqlite.specs.Query.{Query, inner, end}
 use Rattle.sqlite.specs.Program.{overlay}
-use Rattle.sqlite.specs.Effect.{Database}
-use Rattle.sqlite.specs.Listing.{understood, reads_listing}
-use Rattle.sqlite.specs.Command.TheVariants.{Select}
-use Rattle.sqlite.proofs.Callers.{IsPlain, command_of}
-use Rattle.sqlite_tied.specs.Compute.{everything}
+use Rattle.sqlite.specs.Effect.{Database, Reads, ReadsFirst}
 use Rattle.sqlite_schema.specs.Rules.{equal}
 use Rattle.sqlite_rules.specs.Lists.{Has}
 use Rattle.sqlite_rules.proofs.ListLemmas.{all_has}
 use Rattle.sqlite_rules.proofs.ProbeLemmas.{mapped_has, has_mapped}
-use Rattle.tables.specs.Schema.{store_schema}
 use Rattle.tables.specs.Fit.{number_shown}
 use Rattle.tables.proofs.Ascending.{Adjacent, ascends, adjacent_among, has_permuted}
-use Rattle.tables.proofs.ListingLemmas.{listing, IsListing, by_number, all_listed, first_listed, listed_rows, of_table, listed_in_order}
+use Rattle.tables.proofs.ListingLemmas.{listing, IsListing, is_listing, by_number, listed_rows, of_table, listed_in_order}
 use Rattle.tables.proofs.ValueLemmas.{equal_parts, int_itself, tied}
 use Rattle.statements.specs.Lookup.{lookup}
-use Rattle.statements.specs.Numbers.{last, first, HasNumber, IsBelowEach, LacksOrHasFirst, IsChosen, ShowsNumber}
-use Rattle.statements.proofs.LookupLemmas.{selected_found}
-use Rattle.statements.proofs.Texts.{last_number_text, numbers_text}
+use Rattle.statements.specs.Numbers.{last, first, HasNumber, IsBelowEach, LacksOrHasFirst, IsChosen}
+use Rattle.statements.proofs.LookupLemmas.{asks, Picks, picked_found}
 
 abbrev by_id : List Term
 by_id = op2 (Compare Eq Binary) (col 1 0) (col 0 0) ∷ []
 
-last_is : command_of (understood store_schema last_number_text) ≡ Select (record { lets = []; body = lookup 6 by_id (col 1 0 ∷ []) }) (codes "id" ∷ [])
-unfolding understood everything
-last_is = refl
+abbrev pub last_query : Query
+last_query = lookup 6 by_id (col 1 0 ∷ [])
 
-pub last_plain : IsPlain (understood store_schema last_number_text)
-unfolding understood everything
-last_plain = (refl, refl)
+abbrev pub numbers_query : Query
+numbers_query = listing (inner 6 end) (col 1 0 ∷ []) by_number
 
-pub last_tables : reads_listing store_schema last_number_text ≡ false
-unfolding understood everything
-last_tables = refl
-
-numbers_is : command_of (understood store_schema numbers_text) ≡ Select (record { lets = []; body = listing (inner 6 end) (col 1 0 ∷ []) by_number }) (codes "id" ∷ [])
-unfolding understood everything
-numbers_is = refl
-
-pub numbers_plain : IsPlain (understood store_schema numbers_text)
-unfolding understood everything
-numbers_plain = (refl, refl)
-
-pub numbers_tables : reads_listing store_schema numbers_text ≡ false
-unfolding understood everything
-numbers_tables = refl
+-- the row that begins an answer of the query shows the number, or the answer is empty
+abbrev pub PicksNumber : Query → Row → Database → Option ℤ → Type 0
+PicksNumber q params db (Some n) = (row : Row) × Picks q params db (Some row) × (column row 0 ≡ Int n)
+PicksNumber q params db None = Picks q params db None
 
 -- ---- the last number
 
 same_int : (m n : ℤ) → equal Binary (Int m) (Int n) ≡ true → m ≡ n
 same_int m n h = int_cmp-IsAntisymmetric m n (sym (value_cmp-Int m n) ∙ tied _ (equal_parts (Int m) (Int n) h).2)
 
-pub last_found : (db : Database) (found : Option ℤ) → ShowsNumber last_number_text (Int last ∷ []) db found → Decides (is_some found) (HasNumber (db.trees 6) last)
+pub last_found : (db : Database) (found : Option ℤ) → PicksNumber last_query (Int last ∷ []) db found → Decides (is_some found) (HasNumber (db.trees 6) last)
 last_found db (Some n) shows =
-    let it = selected_found last_number_text (Int last ∷ []) db 6 by_id (col 1 0 ∷ []) _ last_is (λ _. refl) (Some shows.0) shows.1 in
+    let it = picked_found (Int last ∷ []) db 6 by_id (col 1 0 ∷ []) [] (λ _. refl) (Some shows.0) shows.1 in
     let id : rowid it.0 ≡ Int n = sym (ap (λ (r : Row). column r 0) it.3) ∙ shows.2 in
     let same : n ≡ last = same_int n last (sym (ap (λ v. equal Binary v (Int last)) id) ∙ (and_parts _ _ it.2).0) in
     (λ _. (it.0, it.1, id ∙ ap Int same), λ _. refl)
 last_found db None shows =
-    let none = selected_found last_number_text (Int last ∷ []) db 6 by_id (col 1 0 ∷ []) _ last_is (λ _. refl) None shows in
+    let none = picked_found (Int last ∷ []) db 6 by_id (col 1 0 ∷ []) [] (λ _. refl) None shows in
     (λ e. absurd (true≢false (sym e)), λ has. absurd (true≢false (sym (rw (has.2, int_itself last) refl) ∙ none has.0 has.1)))
 
 -- ---- the lowest number
@@ -99,11 +80,11 @@ upto_then a b c one two =
 below_less : (m n : ℤ) → m <ℤ n → is_lt (int_cmp m n) ≡ true
 below_less m n h = ap is_lt (sym (int_cmp_is m n Less h))
 
-module _ (db : Trees) (n : ℤ) (row : Row) (tail : List Row) (it : IsListing (listing (inner 6 end) (col 1 0 ∷ []) by_number) (overlay db []) (row ∷ tail)) (shown : column row 0 ≡ Int n) where
+module _ (db : Trees) (n : ℤ) (row : Row) (tail : List Row) (it : IsListing numbers_query (overlay db []) (row ∷ tail)) (shown : column row 0 ≡ Int n) where
   in_order : Adjacent Upto (row ∷ tail)
   in_order =
       adjacent_among _ Upto (row ∷ tail) (λ a b here there h. sym (ap is_lt (then-Equal _)) ∙ h)
-      (listed_in_order (listing (inner 6 end) (col 1 0 ∷ []) by_number) (overlay db []) (row ∷ tail) it (λ row. column row 0 ∷ []) (λ env. refl))
+      (listed_in_order numbers_query (overlay db []) (row ∷ tail) it (λ row. column row 0 ∷ []) (λ env. refl))
 
   none_lower : (r : Row) → Has (db 6) r → (m : ℤ) → rowid r ≡ Int m → m <ℤ n → ⊥
   none_lower r there m is below =
@@ -115,7 +96,13 @@ module _ (db : Trees) (n : ℤ) (row : Row) (tail : List Row) (it : IsListing (l
       ]
 
 abbrev listed : Trees → List Row → Type 0
-listed db out = IsListing (listing (inner 6 end) (col 1 0 ∷ []) by_number) (overlay db []) out
+listed db out = IsListing numbers_query (overlay db []) out
+
+all_listed : (db : Database) (out : List Row) → Reads (asks numbers_query) db [] out → listed db.trees out
+all_listed db out read = is_listing (inner 6 end) (col 1 0 ∷ []) by_number (overlay db.trees []) out (read.answer Null)
+
+begun_listed : (db : Database) (rows : List Row) → ReadsFirst (asks numbers_query) db [] rows → (tail : List Row) × listed db.trees (rows ++ tail)
+begun_listed db rows h = let got = h.1 in (got.0, is_listing (inner 6 end) (col 1 0 ∷ []) by_number (overlay db.trees []) (rows ++ got.0) (got.1 Null))
 
 none_listed : (db : Trees) → listed db [] → (row : Row) → Has (db 6) row → ⊥
 none_listed db it row there =
@@ -130,27 +117,27 @@ shown_has db n row tail it shown =
     (of.0, of.1, sym (ap (λ (x : Row). column x 0) of.2) ∙ shown)
 
 -- one less than the lowest
-below_found : (db : Database) (n k : ℤ) → ShowsNumber numbers_text [] db (Some n) → k ≡ n -ℤ pos 1 → IsBelowEach (db.trees 6) k
+below_found : (db : Database) (n k : ℤ) → PicksNumber numbers_query [] db (Some n) → k ≡ n -ℤ pos 1 → IsBelowEach (db.trees 6) k
 below_found db n k shows is row there m has =
-    let got = first_listed numbers_text _ _ _ _ numbers_is db (shows.0 ∷ []) shows.1 in
+    let got = begun_listed db (shows.0 ∷ []) shows.1 in
     by_lt_z m n (λ below. absurd (none_lower db.trees n shows.0 got.0 got.1 shows.2 row there m has below)) (λ upto. omega (arith, ints, is, upto))
 
 -- the lowest is the first, as none is less
-first_found : (db : Database) (n : ℤ) → ShowsNumber numbers_text [] db (Some n) → n ≡ first → LacksOrHasFirst (db.trees 6)
+first_found : (db : Database) (n : ℤ) → PicksNumber numbers_query [] db (Some n) → n ≡ first → LacksOrHasFirst (db.trees 6)
 first_found db n shows is m has =
-    let got = first_listed numbers_text _ _ _ _ numbers_is db (shows.0 ∷ []) shows.1 in
+    let got = begun_listed db (shows.0 ∷ []) shows.1 in
     subst (HasNumber (db.trees 6)) is (shown_has db.trees n shows.0 got.0 got.1 shows.2)
 
 first_alone : (n : ℤ) → FitsSigned w64 n → (FitsSigned w64 (n -ℤ pos 1) → ⊥) → n ≡ first
 first_alone n fits out = by_lt_z first n (λ above. absurd (out (omega (arith, ints, fits, above)))) (λ upto. omega (arith, ints, fits, upto))
 
-pub one_less : (db : Database) (n : ℤ) (less : Option ℤ) → FitsSigned w64 n → ShowsNumber numbers_text [] db (Some n) → SomeIff less (FitsSigned w64 (n -ℤ pos 1)) (n -ℤ pos 1)
+pub one_less : (db : Database) (n : ℤ) (less : Option ℤ) → FitsSigned w64 n → PicksNumber numbers_query [] db (Some n) → SomeIff less (FitsSigned w64 (n -ℤ pos 1)) (n -ℤ pos 1)
     → MatchOption less (LacksOrHasFirst (db.trees 6)) (IsBelowEach (db.trees 6))
 one_less db n None fits shows out = first_found db n shows (first_alone n fits out)
 one_less db n (Some k) fits shows is = below_found db n k shows is.1
 
-pub lacks_found : (db : Database) → ShowsNumber numbers_text [] db None → LacksOrHasFirst (db.trees 6)
-lacks_found db shows m has = absurd (none_listed db.trees (all_listed numbers_text _ _ _ _ numbers_is db [] shows) has.0 has.1)
+pub lacks_found : (db : Database) → PicksNumber numbers_query [] db None → LacksOrHasFirst (db.trees 6)
+lacks_found db shows m has = absurd (none_listed db.trees (all_listed db [] shows) has.0 has.1)
 
 -- ---- the number that is chosen
 

@@ -1,5 +1,5 @@
 -- What a query over two tables answers.
-use Rattle.std.proofs.Common.{◌≡◌, ℕ, cond, List, [], ◌∷◌, ◌++◌, map, flat_map, sym, ap, subst, ◌∙◌}
+use Rattle.std.proofs.Common.{◌≡◌, ℕ, cond, List, [], ◌∷◌, map, flat_map, sym, ap, subst, ◌∙◌}
 use Rattle.std.proofs.lemmas.List.Sorted.{IsPermutation-sym}
 use Rattle.sqlite.specs.declared.types.Value.TheVariants.{Null}
 use Rattle.sqlite.specs.Order.{Row}
@@ -7,16 +7,12 @@ use Rattle.sqlite.specs.Term.{Term}
 use Rattle.sqlite.specs.Tree.{Trees}
 use Rattle.sqlite.specs.Query.{inner, end, IsAnswer, Output, output, matches}
 use Rattle.sqlite.specs.Program.{overlay}
-use Rattle.sqlite.specs.Command.TheVariants.{Select}
-use Rattle.sqlite.specs.Listing.{understood}
-use Rattle.sqlite.specs.Effect.{Database, Reads, ReadsFirst}
-use Rattle.sqlite.proofs.Callers.{command_of}
+use Rattle.sqlite.specs.Effect.{Database, Reads}
 use Rattle.sqlite_rules.specs.Lists.{Has}
 use Rattle.sqlite_rules.proofs.ProbeLemmas.{has_mapped, mapped_has}
-use Rattle.tables.specs.Schema.{store_schema}
 use Rattle.statements.specs.Pairs.{pairs, passes_both, ArePaired}
 use Rattle.tables.proofs.JoinLemmas.{flat_has, has_flat}
-use Rattle.statements.proofs.LookupLemmas.{has_matched, matched_has}
+use Rattle.statements.proofs.LookupLemmas.{has_matched, matched_has, asks}
 use Rattle.tables.proofs.Ascending.{has_permuted}
 
 pub answer_paired : (t u : ℕ) (filter project : List Term) (db : Trees) (params : Row) (out : List Row) → IsAnswer (pairs t u filter project) db params out → ArePaired (db t) (db u) filter project params out
@@ -41,14 +37,10 @@ answer_paired t u filter project db params out answer =
           subst (λ l. Has l o.1) (sym answer.shown) (mapped_has (λ (k : Output). k.1) answer.ordered o (has_permuted answer.ordered answer.kept o (IsPermutation-sym _ _ answer.same) at));
     }
 
-module _ (sql : List ℕ) (params : Row) (db : Database) (t u : ℕ) (filter project : List Term) (names : List (List ℕ))
-    (is : command_of (understood store_schema sql) ≡ Select (record { lets = []; body = pairs t u filter project }) names)
+module _ (params : Row) (db : Database) (t u : ℕ) (filter project : List Term)
     (one : (trees : Trees) → overlay trees [] t ≡ trees t) (two : (trees : Trees) → overlay trees [] u ≡ trees u) where
   answered : (out : List Row) → IsAnswer (pairs t u filter project) (overlay db.trees []) params out → ArePaired (db.trees t) (db.trees u) filter project params out
   answered out answer = subst (λ l. ArePaired l (db.trees u) filter project params out) (one db.trees) (subst (λ l. ArePaired (overlay db.trees [] t) l filter project params out) (two db.trees) (answer_paired t u filter project (overlay db.trees []) params out answer))
 
-  pub all_paired : (out : List Row) → Reads (command_of (understood store_schema sql)) db params out → ArePaired (db.trees t) (db.trees u) filter project params out
-  all_paired out h = let read = subst (λ k. Reads k db params out) is h in answered out (read.answer Null)
-
-  pub begun_paired : (rows : List Row) → ReadsFirst (command_of (understood store_schema sql)) db params rows → (tail : List Row) × ArePaired (db.trees t) (db.trees u) filter project params (rows ++ tail)
-  begun_paired rows h = let got = (subst (λ k. ReadsFirst k db params rows) is h).1 in (got.0, answered (rows ++ got.0) (got.1 Null))
+  pub all_paired : (out : List Row) → Reads (asks (pairs t u filter project)) db params out → ArePaired (db.trees t) (db.trees u) filter project params out
+  all_paired out read = answered out (read.answer Null)

@@ -1,5 +1,5 @@
 -- What the query of a piece answers, and zips that are put together or compared piece by piece.
-use Rattle.std.proofs.Common.{◌≡◌, ◌≢◌, ◌≤◌, nat_eq, MatchOption, ◌<◌, ◌+◌, ◌==◌, ◌++◌, ℕ, ℤ, pos, Bool, true, false, List, [], ◌∷◌, length, length-append, append-nil, take, drop, Option, Some, None, refl, sym, ap, subst, ◌∙◌, codes, arith, true≢false}
+use Rattle.std.proofs.Common.{◌≡◌, ◌≢◌, ◌≤◌, nat_eq, MatchOption, ◌<◌, ◌+◌, ◌==◌, ◌++◌, ℕ, ℤ, pos, Bool, true, false, List, [], ◌∷◌, length, length-append, append-nil, take, drop, Option, Some, None, refl, sym, ap, subst, ◌∙◌, arith, true≢false}
 use lib.Dec.{eqb-suc-zero}
 use Rattle.std.specs.Prelude.{bytes_eq}
 use Rattle.std.specs.Cmp.{unsigned_Decides}
@@ -17,47 +17,24 @@ use Rattle.sqlite_sql.specs.declared.ops.BinaryOp.TheVariants.{Compare}
 use Rattle.sqlite_sql.specs.declared.ops.CompareOp.TheVariants.{Eq}
 use Rattle.sqlite.specs.Order.{Row, column}
 use Rattle.sqlite.specs.Term.{Term, col, op2}
+use Rattle.sqlite.specs.Query.{Query}
 use Rattle.sqlite.specs.Effect.{Database}
-use Rattle.sqlite.specs.Listing.{understood, reads_listing}
-use Rattle.sqlite.specs.Command.TheVariants.{Select}
-use Rattle.sqlite.proofs.Callers.{IsPlain, command_of}
-use Rattle.sqlite_tied.specs.Compute.{everything}
 use Rattle.sqlite_schema.specs.Rules.{equal}
 use Rattle.sqlite_rules.proofs.ListLemmas.{has_filtered, has_kept}
-use Rattle.tables.specs.Schema.{store_schema}
 use Rattle.tables.specs.Pieces.{piece_size, begin, HasPiece, piece}
 use Rattle.tables.proofs.ValueLemmas.{int_itself}
 use Rattle.tables.proofs.SoundLemmas.{ints_equal}
-use Rattle.statements.specs.Calls.{Selects}
 use Rattle.statements.specs.Lookup.{lookup, passes, FirstFound}
 use Rattle.statements.specs.Reading.{ShowsPiece}
-use Rattle.statements.proofs.Texts.{piece_text, last_piece_text}
-use Rattle.statements.proofs.LookupLemmas.{selected_found}
+use Rattle.statements.proofs.LookupLemmas.{Picks, picked_found}
 
 -- ---- the query
 
 abbrev by_number : List Term
 by_number = op2 (Compare Eq Binary) (col 1 1) (col 0 0) ∷ op2 (Compare Eq Binary) (col 1 2) (col 0 1) ∷ []
 
-piece_is : command_of (understood store_schema piece_text) ≡ Select (record { lets = []; body = lookup 8 by_number (col 1 3 ∷ []) }) (codes "bytes" ∷ [])
-unfolding understood everything
-piece_is = refl
-
-pub piece_plain : IsPlain (understood store_schema piece_text)
-unfolding understood everything
-piece_plain = (refl, refl)
-
-pub piece_tables : reads_listing store_schema piece_text ≡ false
-unfolding understood everything
-piece_tables = refl
-
-pub last_piece_plain : IsPlain (understood store_schema last_piece_text)
-unfolding understood everything
-last_piece_plain = (refl, refl)
-
-pub last_piece_tables : reads_listing store_schema last_piece_text ≡ false
-unfolding understood everything
-last_piece_tables = refl
+abbrev pub piece_query : Query
+piece_query = lookup 8 by_number (col 1 3 ∷ [])
 
 nat_of : {a b : ℕ} → pos a ≡ pos b → a ≡ b
 nat_of e = cc
@@ -69,13 +46,13 @@ module _ (id : ℤ) (n : ℕ) (db : Database) where
   abbrev pub piece_params : Row
   piece_params = Int id ∷ Int (pos n) ∷ []
 
-  found : (row : Option Row) → Selects piece_text piece_params db row → FirstFound (db.trees 8) by_number (col 1 3 ∷ []) piece_params row
-  found row picked = selected_found piece_text piece_params db 8 by_number (col 1 3 ∷ []) _ piece_is (λ _. refl) row picked
+  found : (row : Option Row) → Picks piece_query piece_params db row → FirstFound (db.trees 8) by_number (col 1 3 ∷ []) piece_params row
+  found row picked = picked_found piece_params db 8 by_number (col 1 3 ∷ []) [] (λ _. refl) row picked
 
   passes_number : (row : Row) → is_of_number id row ≡ true → column row 2 ≡ Int (pos n) → passes by_number piece_params row ≡ true
   passes_number row of_version is = and_from _ _ of_version (and_from _ _ (ap (λ v. equal Binary v (Int (pos n))) is ∙ int_itself (pos n)) refl)
 
-  pub piece_shown : (row : Option Row) → Selects piece_text piece_params db row → ShowsPiece db.trees id n row
+  pub piece_shown : (row : Option Row) → Picks piece_query piece_params db row → ShowsPiece db.trees id n row
   piece_shown (Some row) picked = λ zip is.
       let it = found (Some row) picked in
       let parts = and_parts _ _ it.2 in

@@ -14,12 +14,11 @@ use Rattle.sqlite.specs.Term.{col}
 use Rattle.sqlite.specs.Tree.{Trees, rowid}
 use Rattle.sqlite.specs.Effect.{Database}
 use Rattle.sqlite.specs.Edit.{edit_of, without_all}
-use Rattle.sqlite.specs.Listing.{understood}
 use Rattle.sqlite.specs.Command.TheVariants.{Delete}
 use Rattle.sqlite.specs.Does.{Tally, Does, OnRows}
 use Rattle.sqlite.specs.Rows.{Written, Task}
 use Rattle.sqlite.specs.State.{State}
-use Rattle.sqlite.proofs.Callers.{IsPlain, command_of, one_step}
+use Rattle.sqlite.proofs.Callers.{one_step}
 use Rattle.sqlite_trees.specs.Tree.{IsAscending, has_rowid, without_rowid}
 use Rattle.sqlite_trees.proofs.ListLemmas.{ascending-filter}
 use Rattle.sqlite_rules.specs.declared.error.Rowids.TheVariants.{Given}
@@ -33,7 +32,6 @@ use Rattle.sqlite_schema.specs.declared.program.Program.{Program}
 use Rattle.sqlite_schema.specs.declared.schema.Keys.TheVariants.{Enforced}
 use Rattle.sqlite_value.proofs.OrderLemmas.{value_cmp-Int, value_cmp_total}
 use Rattle.sqlite_value.specs.Order.{value_cmp}
-use Rattle.sqlite_tied.specs.Compute.{everything}
 use Rattle.world.specs.declared.registry.Registered.TheVariants.{Done, NoKey}
 use Rattle.world.specs.World.{World, text_cmp, without_key}
 use Rattle.world.specs.Registry.{after_key_revoke}
@@ -42,23 +40,14 @@ use Rattle.tables.specs.Schema.{store_schema, access_table}
 use Rattle.tables.specs.Means.{Holds, IsAccess, IsNumbered, Tabulates}
 use Rattle.statements.specs.Views.{with_key_revoked}
 use Rattle.statements.specs.Lookup.{lookup, AreFound}
-use Rattle.statements.proofs.Texts.{revoke_key_text}
 use Rattle.tables.proofs.ValueLemmas.{tied, equals_text, equals_itself}
-use Rattle.statements.proofs.LookupLemmas.{answers_found}
+use Rattle.statements.proofs.LookupLemmas.{all_found}
 use Rattle.statements.proofs.KeyLemmas.{by_token}
 use Rattle.tables.proofs.InsertLemmas.{went, same_value, enforced}
-use Rattle.statements.proofs.WriteLemmas.{Rewrites, deleting}
+use Rattle.statements.proofs.WriteLemmas.{Rewrites}
 
 abbrev pub keys_of : Program
 keys_of = record { lets = []; body = lookup 4 by_token (col 1 0 ∷ []) }
-
-pub revoke_is : command_of (understood store_schema revoke_key_text) ≡ Delete 2 keys_of
-unfolding understood everything
-revoke_is = refl
-
-pub revoke_plain : IsPlain (understood store_schema revoke_key_text)
-unfolding understood everything
-revoke_plain = (refl, refl)
 
 abbrev pub revoke_params : List ℕ → Row
 revoke_params token = Text token ∷ []
@@ -86,7 +75,7 @@ module _ (limit : Option ℕ) (token : List ℕ) where
         ap (λ (d : Database). d.schema) now,
         subst (λ t. Removed db t token) (sym same) (record {
           out = read.0;
-          found = answers_found (record { schema = store_schema; trees = db }) 4 by_token (col 1 0 ∷ []) (λ _. refl) (revoke_params token) read.0 read.1;
+          found = all_found (revoke_params token) (record { schema = store_schema; trees = db }) 4 by_token (col 1 0 ∷ []) [] (λ _. refl) read.0 read.1;
           rows = applies.rows;
           tables = applies.tables;
         }),
@@ -170,9 +159,9 @@ module _ (w : World) (token : List ℕ) where
       own = λ a b ha hb. numbered.own a b (without_all_has (ids_of out) rows a ha) (without_all_has (ids_of out) rows b hb);
     }
 
-  pub revoke_turns : (old : State) → Holds old w → Rewrites revoke_key_text (revoke_params token) (Delete 2 keys_of) revoke_is revoke_plain (deleting 2 keys_of) old old w (without_key w token)
-  revoke_turns old h tally after does =
-      let it = removed old.step_limit token old.now [] tally after h.schema does in
+  pub revoke_turns : (old : State) → Holds old w → Rewrites (revoke_params token) (Delete 2 keys_of) old (without_key w token)
+  revoke_turns old h text tally after does =
+      let it = removed old.step_limit token old.now text tally after h.schema does in
       let r = it.1 in
       let means = h.trees.means in (
         it.0,

@@ -1,5 +1,5 @@
 -- What the query of a shelf answers.
-use Rattle.std.proofs.Common.{◌≡◌, ℕ, Bool, true, false, List, [], ◌∷◌, Option, Some, None, is_some, refl, sym, subst, ◌∙◌, codes, true≢false, IsTrue}
+use Rattle.std.proofs.Common.{◌≡◌, ℕ, Bool, true, false, List, [], ◌∷◌, Option, Some, None, is_some, refl, sym, subst, ◌∙◌, true≢false, IsTrue}
 use Rattle.std.proofs.lemmas.Bool.{and_parts}
 use Rattle.sqlite.specs.declared.types.Value.TheVariants.{Text}
 use Rattle.sqlite.specs.Collation.TheVariants.{Binary}
@@ -7,35 +7,20 @@ use Rattle.sqlite_sql.specs.declared.ops.BinaryOp.TheVariants.{Compare}
 use Rattle.sqlite_sql.specs.declared.ops.CompareOp.TheVariants.{Eq}
 use Rattle.sqlite.specs.Order.{Row, column}
 use Rattle.sqlite.specs.Term.{Term, col, op2}
+use Rattle.sqlite.specs.Query.{Query}
 use Rattle.sqlite.specs.Effect.{Database}
-use Rattle.sqlite.specs.Listing.{understood, reads_listing}
-use Rattle.sqlite.specs.Command.TheVariants.{Select}
-use Rattle.sqlite.proofs.Callers.{IsPlain, command_of}
-use Rattle.sqlite_tied.specs.Compute.{everything}
-use Rattle.tables.specs.Schema.{store_schema}
 use Rattle.std.specs.FinSet as set
 use Rattle.world.specs.World.{World}
 use Rattle.tables.specs.Means.{Means}
 use Rattle.statements.specs.Lookup.{lookup, FirstFound}
-use Rattle.statements.specs.Calls.{Selects}
-use Rattle.statements.proofs.Texts.{shelf_text}
 use Rattle.tables.proofs.ValueLemmas.{equals_text, equals_itself}
-use Rattle.statements.proofs.LookupLemmas.{selected_found}
+use Rattle.statements.proofs.LookupLemmas.{Picks, picked_found}
 
 abbrev by_name : List Term
 by_name = op2 (Compare Eq Binary) (col 1 1) (col 0 0) ∷ []
 
-shelf_is : command_of (understood store_schema shelf_text) ≡ Select (record { lets = []; body = lookup 2 by_name (col 1 1 ∷ []) }) (codes "name" ∷ [])
-unfolding understood everything
-shelf_is = refl
-
-pub shelf_plain : IsPlain (understood store_schema shelf_text)
-unfolding understood everything
-shelf_plain = (refl, refl)
-
-pub shelf_tables : reads_listing store_schema shelf_text ≡ false
-unfolding understood everything
-shelf_tables = refl
+abbrev pub shelf_query : Query
+shelf_query = lookup 2 by_name (col 1 1 ∷ [])
 
 module _ (name : List ℕ) (db : Database) (w : World) (means : Means db.trees w) where
   found_is : (found : Option Row) → FirstFound (db.trees 2) by_name (col 1 1 ∷ []) (Text name ∷ []) found → is_some found ≡ set.contains w.shelves name
@@ -49,5 +34,5 @@ module _ (name : List ℕ) (db : Database) (w : World) (means : Means db.trees w
       go false is = refl
       go true is = absurd (let it = means.shelves.found name is in true≢false (sym (rw (it.2, equals_itself name) refl) ∙ h it.0 it.1))
 
-  pub shelf_found : (found : Option Row) → Selects shelf_text (Text name ∷ []) db found → is_some found ≡ set.contains w.shelves name
-  shelf_found found h = found_is found (selected_found shelf_text (Text name ∷ []) db 2 by_name (col 1 1 ∷ []) _ shelf_is (λ _. refl) found h)
+  pub shelf_found : (found : Option Row) → Picks shelf_query (Text name ∷ []) db found → is_some found ≡ set.contains w.shelves name
+  shelf_found found h = found_is found (picked_found (Text name ∷ []) db 2 by_name (col 1 1 ∷ []) [] (λ _. refl) found h)

@@ -1,5 +1,5 @@
 -- What the queries of versions and of paths answer.
-use Rattle.std.proofs.Common.{◌≡◌, ◌⊎◌, ◌↔◌, ◌∙◌, ℕ, Bool, true, false, List, [], ◌∷◌, ◌++◌, Option, Some, None, is_some, ◌+◌, ◌<◌, length, take, get_or, inl, inr, refl, sym, ap, subst, codes, true≢false}
+use Rattle.std.proofs.Common.{◌≡◌, ◌⊎◌, ◌↔◌, ◌∙◌, ℕ, Bool, true, false, List, [], ◌∷◌, ◌++◌, Option, Some, None, is_some, ◌+◌, ◌<◌, length, take, get_or, inl, inr, refl, sym, ap, subst, true≢false}
 use Rattle.std.specs.Option.{option_or}
 use Rattle.std.specs.FinMap as map
 use Rattle.std.specs.FinSet as set
@@ -12,26 +12,21 @@ use Rattle.sqlite_sql.specs.declared.ops.BinaryOp.TheVariants.{Compare}
 use Rattle.sqlite_sql.specs.declared.ops.CompareOp.TheVariants.{Eq}
 use Rattle.sqlite.specs.Order.{Row, column}
 use Rattle.sqlite.specs.Term.{Term, col, op2, eval_all}
+use Rattle.sqlite.specs.Query.{Query}
 use Rattle.sqlite.specs.Effect.{Database, Reads}
-use Rattle.sqlite.specs.Listing.{understood, reads_listing}
-use Rattle.sqlite.specs.Command.TheVariants.{Select}
-use Rattle.sqlite.proofs.Callers.{IsPlain, command_of}
 use Rattle.sqlite_rules.proofs.ListLemmas.{has_left, has_right, has_either}
-use Rattle.sqlite_tied.specs.Compute.{everything}
 use Rattle.world.specs.declared.entry.Entry.{Entry}
 use Rattle.world.specs.World.{World, common, place, text_cmp, seen_at, view}
 use Rattle.world.specs.Visible.{versions_seen, paths_seen}
 use Rattle.world.proofs.Orders.{texts_total, texts_exact}
 use Rattle.world.proofs.Sound.{still}
 use Rattle.world.proofs.Seen.{contains_versions, contains_paths}
-use Rattle.tables.specs.Schema.{store_schema}
 use Rattle.tables.specs.Means.{Means, IsAt}
 use Rattle.statements.specs.Lookup.{lookup, AreFound}
 use Rattle.statements.specs.Lists.{Adds, AddsTexts, AddsVersions, AddsPaths, IsShown}
 use Rattle.tables.proofs.Maps.{text_put, text_splits}
-use Rattle.statements.proofs.Texts.{versions_text, paths_text}
 use Rattle.tables.proofs.ValueLemmas.{equals_text, equals_itself}
-use Rattle.statements.proofs.LookupLemmas.{all_found}
+use Rattle.statements.proofs.LookupLemmas.{asks, all_found}
 use Rattle.tables.proofs.CountedRows.{same_place}
 
 -- ---- the versions of a path on a shelf
@@ -39,17 +34,8 @@ use Rattle.tables.proofs.CountedRows.{same_place}
 abbrev by_path : List Term
 by_path = op2 (Compare Eq Binary) (col 1 2) (col 0 0) ∷ op2 (Compare Eq Binary) (col 1 3) (col 0 1) ∷ []
 
-versions_is : command_of (understood store_schema versions_text) ≡ Select (record { lets = []; body = lookup 6 by_path (col 1 4 ∷ []) }) (codes "version" ∷ [])
-unfolding understood everything
-versions_is = refl
-
-pub versions_plain : IsPlain (understood store_schema versions_text)
-unfolding understood everything
-versions_plain = (refl, refl)
-
-pub versions_tables : reads_listing store_schema versions_text ≡ false
-unfolding understood everything
-versions_tables = refl
+abbrev pub versions_query : Query
+versions_query = lookup 6 by_path (col 1 4 ∷ [])
 
 -- what is added to a set that had none of it
 exchanged : (P Q : List ℕ → Type 0) (old new : set.FinSet text_cmp) → ((t : List ℕ) → P t → Q t) → ((t : List ℕ) → Q t → P t) → Adds P old new → Adds Q old new
@@ -62,8 +48,8 @@ module _ (shelf path : List ℕ) (db : Database) (w : World) (means : Means db.t
   abbrev params : Row
   params = Text shelf ∷ Text path ∷ []
 
-  found : Reads (command_of (understood store_schema versions_text)) db params out → AreFound (db.trees 6) by_path (col 1 4 ∷ []) params out
-  found read = all_found versions_text params db 6 by_path (col 1 4 ∷ []) _ versions_is (λ _. refl) out read
+  found : Reads (asks versions_query) db params out → AreFound (db.trees 6) by_path (col 1 4 ∷ []) params out
+  found read = all_found params db 6 by_path (col 1 4 ∷ []) [] (λ _. refl) out read
 
   versions_sound : AreFound (db.trees 6) by_path (col 1 4 ∷ []) params out → (v : List ℕ) → IsShown out v → (e : Entry) × (map.get w.entries (place shelf path v) ≡ Some e)
   versions_sound found v shown =
@@ -81,7 +67,7 @@ module _ (shelf path : List ℕ) (db : Database) (w : World) (means : Means db.t
       let at = it.2.place in
       (eval_all (col 1 4 ∷ []) (params ∷ it.0 ∷ []), found.complete it.0 it.1 (rw (at.0, at.1, equals_itself shelf, equals_itself path) refl), at.2)
 
-  pub versions_added : (old new : set.FinSet text_cmp) → Reads (command_of (understood store_schema versions_text)) db params out → AddsTexts out old new → AddsVersions w shelf path old new
+  pub versions_added : (old new : set.FinSet text_cmp) → Reads (asks versions_query) db params out → AddsTexts out old new → AddsVersions w shelf path old new
   versions_added old new read adds = exchanged _ _ old new (versions_sound (found read)) (versions_complete (found read)) adds
 
 -- ---- the paths on a shelf
@@ -89,21 +75,12 @@ module _ (shelf path : List ℕ) (db : Database) (w : World) (means : Means db.t
 abbrev by_shelf : List Term
 by_shelf = op2 (Compare Eq Binary) (col 1 2) (col 0 0) ∷ []
 
-paths_is : command_of (understood store_schema paths_text) ≡ Select (record { lets = []; body = lookup 6 by_shelf (col 1 3 ∷ []) }) (codes "path" ∷ [])
-unfolding understood everything
-paths_is = refl
-
-pub paths_plain : IsPlain (understood store_schema paths_text)
-unfolding understood everything
-paths_plain = (refl, refl)
-
-pub paths_tables : reads_listing store_schema paths_text ≡ false
-unfolding understood everything
-paths_tables = refl
+abbrev pub paths_query : Query
+paths_query = lookup 6 by_shelf (col 1 3 ∷ [])
 
 module _ (shelf : List ℕ) (db : Database) (w : World) (means : Means db.trees w) (out : List Row) where
-  found_paths : Reads (command_of (understood store_schema paths_text)) db (Text shelf ∷ []) out → AreFound (db.trees 6) by_shelf (col 1 3 ∷ []) (Text shelf ∷ []) out
-  found_paths read = all_found paths_text (Text shelf ∷ []) db 6 by_shelf (col 1 3 ∷ []) _ paths_is (λ _. refl) out read
+  found_paths : Reads (asks paths_query) db (Text shelf ∷ []) out → AreFound (db.trees 6) by_shelf (col 1 3 ∷ []) (Text shelf ∷ []) out
+  found_paths read = all_found (Text shelf ∷ []) db 6 by_shelf (col 1 3 ∷ []) [] (λ _. refl) out read
 
   paths_sound : AreFound (db.trees 6) by_shelf (col 1 3 ∷ []) (Text shelf ∷ []) out → (p : List ℕ) → IsShown out p → (v : List ℕ) × (e : Entry) × (map.get w.entries (place shelf p v) ≡ Some e)
   paths_sound found p shown =
@@ -120,7 +97,7 @@ module _ (shelf : List ℕ) (db : Database) (w : World) (means : Means db.trees 
       let at = it.2.place in
       (eval_all (col 1 3 ∷ []) ((Text shelf ∷ []) ∷ it.0 ∷ []), found.complete it.0 it.1 (rw (at.0, equals_itself shelf) refl), at.1)
 
-  pub paths_added : (old new : set.FinSet text_cmp) → Reads (command_of (understood store_schema paths_text)) db (Text shelf ∷ []) out → AddsTexts out old new → AddsPaths w shelf old new
+  pub paths_added : (old new : set.FinSet text_cmp) → Reads (asks paths_query) db (Text shelf ∷ []) out → AddsTexts out old new → AddsPaths w shelf old new
   paths_added old new read adds = exchanged _ _ old new (paths_sound (found_paths read)) (paths_complete (found_paths read)) adds
 
 -- ---- row by row

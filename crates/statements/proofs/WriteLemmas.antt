@@ -52,23 +52,22 @@ inserting at from = record { commits = λ e. cc; releases = λ name e. cc; write
 pub deleting : (at : ℕ) (q : Program) → IsEdit (Delete at q)
 deleting at q = record { commits = λ e. cc; releases = λ name e. cc; writes = λ old new text params count ran. ran }
 
+-- the tables that the command makes of these stand for the next world, however it is written
+abbrev pub Rewrites : Row → Command → State → World → Type 0
+Rewrites params command old next =
+    (text : List ℕ) (tally : Tally) (after : Database) → Does old.step_limit (mode_of old) params old.now text None command (Ok (tally, after)) → (after.schema ≡ store_schema) × Means after.trees next
+
 module _ (sql : List ℕ) (params : Row) (command : Command) (is : command_of (understood store_schema sql) ≡ command) (plain : IsPlain (understood store_schema sql)) (edit : IsEdit command) (old new : State) where
-  text : List ℕ
+  abbrev text : List ℕ
   text = statement_of sql (understood store_schema sql)
 
-  -- the tables that the statement makes of these stand for another world
-  abbrev pub Rewrites : World → World → Type 0
-  Rewrites w next =
-      (tally : Tally) (after : Database) → Does old.step_limit (mode_of old) params old.now (statement_of sql (understood store_schema sql)) None command (Ok (tally, after))
-      → (after.schema ≡ store_schema) × Means after.trees next
-
-  wrote_as : (w : World) → Holds old w → (count : ℕ) → Executes sql params old new (Ok count) → Writes old new None command (statement_of sql (understood store_schema sql)) params count
+  wrote_as : (w : World) → Holds old w → (count : ℕ) → Executes sql params old new (Ok count) → Writes old new None command text params count
   wrote_as w h count ran = edit.writes old new _ params count (runs_as sql params old new store_schema h.schema command is plain count ran)
 
-  pub written_holds : (w next : World) → Holds old w → Rewrites w next → (count : ℕ) → Executes sql params old new (Ok count) → Holds new next
+  pub written_holds : (w next : World) → Holds old w → Rewrites params command old next → (count : ℕ) → Executes sql params old new (Ok count) → Holds new next
   written_holds w next h turns count ran =
       let wrote = wrote_as w h count ran in
-      let it = turns wrote.tally new.now wrote.changed in
+      let it = turns text wrote.tally new.now wrote.changed in
       record {
         schema = it.0;
         settled = sym (rw h.autocommit at wrote.shown.committed_is);
@@ -79,28 +78,28 @@ module _ (sql : List ℕ) (params : Row) (command : Command) (is : command_of (u
   pub written_open : (w : World) → Holds old w → (count : ℕ) → Executes sql params old new (Ok count) → IsTrue new.is_open
   written_open w h count ran = (wrote_as w h count ran).shown.is_open
 
-  committed : (w next : World) → Holds old w → Rewrites w next → (c : Compiled) → understood old.now.schema sql ≡ Ok c → (full : Row) → full ≡ params → (db : Trees) → MayCommit old c.returning c.command (text_of sql c) full db → StandFor db next
+  committed : (w next : World) → Holds old w → Rewrites params command old next → (c : Compiled) → understood old.now.schema sql ≡ Ok c → (full : Row) → full ≡ params → (db : Trees) → MayCommit old c.returning c.command (text_of sql c) full db → StandFor db next
   committed w next h turns c found full given db may =
       let known : Ok c ≡ understood store_schema sql = sym found ∙ ap (λ s. understood s sql) h.schema in
       let bare = (subst IsPlain (sym known) plain).0 in
       let same : c.command ≡ command = ap command_of known ∙ is in
       go (rw (same, bare, given, ap (statement_of sql) known) at may)
     where
-      go : MayCommit old None command (statement_of sql (understood store_schema sql)) params db → StandFor db next
+      go : MayCommit old None command text params db → StandFor db next
       go (inl (inl it, same)) = absurd (edit.commits it)
       go (inl (inr it, same)) = absurd (edit.releases it.0 it.2)
       go (inr it) =
-          let done = turns it.1 it.2 it.3 in
+          let done = turns text it.1 it.2 it.3 in
           subst (λ t. StandFor t next) (sym it.5) (record { sound = subst (λ s. IsSound s it.2.trees) done.0 it.4; means = done.1 })
 
-  pub written_leaves : (w next : World) → Holds old w → Rewrites w next → Survives old new (CommitsBy sql params old) → HasCleanDisk new → LeavesOnly old (λ x. x ≡ w) → LeavesOnly new (λ x. (x ≡ w) ⊎ (x ≡ next))
+  pub written_leaves : (w next : World) → Holds old w → Rewrites params command old next → Survives old new (CommitsBy sql params old) → HasCleanDisk new → LeavesOnly old (λ x. x ≡ w) → LeavesOnly new (λ x. (x ≡ w) ⊎ (x ≡ next))
   unfolding CommitsBy
   written_leaves w next h turns survives clean only db may = elim (survives.crash clean db may) [
     | inl was ↦ (let it = only db was in (it.0, it.1, inl it.2))
     | inr commits ↦ (let bare = (subst IsPlain (sym (sym commits.1.is ∙ ap (λ s. understood s sql) h.schema)) plain).1 in let full : timed params commits.0.formats commits.1.now ≡ params = rw bare (append-nil params) in (next, committed w next h turns commits.0 commits.1.is _ full db commits.2, inr refl))
   ]
 
-  pub done_changes : (law : (db : Trees) → IsTrue new.is_open → new.may_leave db → db ≡ new.committed.trees) → (HasCleanDisk old → IsTrue old.is_open) → (w next : World) → ((h : Holds old w) → Rewrites w next)
+  pub done_changes : (law : (db : Trees) → IsTrue new.is_open → new.may_leave db → db ≡ new.committed.trees) → (HasCleanDisk old → IsTrue old.is_open) → (w next : World) → ((h : Holds old w) → Rewrites params command old next)
       → Survives old new (CommitsBy sql params old) → (count : ℕ) → (HasCleanDisk new → Executes sql params old new (Ok count)) → ChangesAt old new true w next
   done_changes law opened w next turns survives count ran =
       let held = λ (clean : HasCleanDisk new) (stands : Stands old w). let was = was_clean old new survives.clean clean in stands was (opened was) in
@@ -110,7 +109,7 @@ module _ (sql : List ℕ) (params : Row) (command : Command) (is : command_of (u
         kept = λ _ clean stands. open_leaves new next (λ db. law db (written_open w (held clean stands) count (ran clean))) (written_holds w next (held clean stands) (turns (held clean stands)) count (ran clean));
       }
 
-  pub failed_changes : (HasCleanDisk old → IsTrue old.is_open) → (w next : World) → ((h : Holds old w) → Rewrites w next)
+  pub failed_changes : (HasCleanDisk old → IsTrue old.is_open) → (w next : World) → ((h : Holds old w) → Rewrites params command old next)
       → Survives old new (CommitsBy sql params old) → (e : Error) → (HasCleanDisk new → Executes sql params old new (Err e)) → ChangesAt old new false w next
   failed_changes opened w next turns survives e ran =
       let held = λ (clean : HasCleanDisk new) (stands : Stands old w). let was = was_clean old new survives.clean clean in stands was (opened was) in

@@ -1,16 +1,21 @@
-use Rattle.std.proofs.Common.{to_z-of_z, w64, SFits, rules}
+use Rattle.std.proofs.Common.{to_z-of_z, w64, SFits, rules, refl}
 use Rattle.sqlite.specs.Held.{state}
-use Rattle.statements.proofs.PieceLemmas.{piece_plain, piece_tables, piece_shown}
+use Rattle.sqlite.specs.Listing.{understood}
+use Rattle.sqlite_tied.specs.Compute.{everything}
+use Rattle.statements.proofs.PieceLemmas.{piece_shown}
 use Rattle.statements.proofs.ChangeLemmas.{weaker}
 use Rattle.statements.proofs.pieces.find_piece.Goals as goal
 
 pub find_row-requires-clause-plain : goal.find_row-requires-clause-plain
-find_row-requires-clause-plain g c = piece_plain
+unfolding understood everything
+find_row-requires-clause-plain g c = (refl, refl)
 
 pub find_row-requires-clause-tables : goal.find_row-requires-clause-tables
-find_row-requires-clause-tables g c = piece_tables
+unfolding understood everything
+find_row-requires-clause-tables g c = refl
 
 pub returns-clause-answer : goal.returns-clause-answer
+unfolding understood everything
 returns-clause-answer g c clean w stands =
     let old = state g.S.Store c.args.conn.now in
     let range : SFits w64 c.args.id = search rules in

@@ -7,8 +7,7 @@ use Rattle.tables.proofs.FailureLemmas.{was_clean, not_run, failed_query}
 use Rattle.tables.proofs.WalkLemmas.{failed_or_same}
 use Rattle.statements.specs.Calls.{Spares}
 use Rattle.statements.proofs.CallLemmas.{spares_then, quiet_spares}
-use Rattle.statements.proofs.Texts.{zip_text}
-use Rattle.statements.proofs.ZipLemmas.{zip_plain, zip_params, below_more, one_more_piece, whole_zip, plain_then, asked_spares}
+use Rattle.statements.proofs.ZipLemmas.{zip_text, zip_plain, zip_params, below_more, one_more_piece, whole_zip, plain_then, asked_spares}
 use Rattle.statements.proofs.pieces.find_zip.Goals as goal
 
 pub returns-in_err-prepare-clause-spares : goal.returns-in_err-prepare-clause-spares

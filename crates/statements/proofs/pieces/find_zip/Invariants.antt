@@ -8,8 +8,7 @@ use Rattle.tables.specs.Means.{Stands}
 use Rattle.tables.specs.Pieces.{begin}
 use Rattle.statements.specs.Calls.{Spares}
 use Rattle.statements.specs.Reading.{IsZip}
-use Rattle.statements.proofs.Texts.{zip_text}
-use Rattle.statements.proofs.ZipLemmas.{zip_params, AreBelow}
+use Rattle.statements.proofs.ZipLemmas.{zip_text, zip_params, AreBelow}
 use Rattle.statements.proofs.pieces.find_zip.Given as goal
 
 abbrev pub invariant-loop-number : goal.invariant-loop-number

@@ -1,24 +1,28 @@
+use Rattle.std.proofs.Common.{refl}
 use Rattle.sqlite.specs.Command.TheVariants.{Delete}
 use Rattle.sqlite.specs.Held.{state}
+use Rattle.sqlite.specs.Listing.{understood}
+use Rattle.sqlite_tied.specs.Compute.{everything}
 use Rattle.world.specs.World.{without_key}
-use Rattle.statements.proofs.Texts.{revoke_key_text}
 use Rattle.statements.proofs.WriteLemmas.{deleting, done_changes, failed_changes}
-use Rattle.statements.proofs.RevokeLemmas.{keys_of, revoke_is, revoke_plain, revoke_params, revoke_turns}
+use Rattle.statements.proofs.RevokeLemmas.{keys_of, revoke_params, revoke_turns}
 use Rattle.statements.proofs.revoke.delete_key.Goals as goal
 
 pub returns-in-Err-clause-changes : goal.returns-in-Err-clause-changes
+unfolding understood everything
 returns-in-Err-clause-changes g c opened w =
     let old = state g.S.Store c.args.conn.now in
     let new = state g.S.Store c.execute.new.self in
     let token = c.args.token.now in
     let told = rw c.params-to_sql.ensures at c.in-Err.ensures in
-    failed_changes revoke_key_text (revoke_params token) (Delete 2 keys_of) revoke_is revoke_plain (deleting 2 keys_of) old new opened w (without_key w token) (revoke_turns w token old) told.survives c.in-Err.error told.runs
+    failed_changes _ (revoke_params token) (Delete 2 keys_of) refl (refl, refl) (deleting 2 keys_of) old new opened w (without_key w token) (revoke_turns w token old) told.survives c.in-Err.error told.runs
 
 pub returns-in-Ok-clause-changes : goal.returns-in-Ok-clause-changes
+unfolding understood everything
 returns-in-Ok-clause-changes g c opened w =
     let old = state g.S.Store c.args.conn.now in
     let new = state g.S.Store c.execute.new.self in
     let token = c.args.token.now in
     let told = rw c.params-to_sql.ensures at c.in-Ok.ensures in
-    done_changes revoke_key_text (revoke_params token) (Delete 2 keys_of) revoke_is revoke_plain (deleting 2 keys_of) old new (g.met.S.Store.settled c.execute.new.self.store) opened w (without_key w token) (revoke_turns w token old)
+    done_changes _ (revoke_params token) (Delete 2 keys_of) refl (refl, refl) (deleting 2 keys_of) old new (g.met.S.Store.settled c.execute.new.self.store) opened w (without_key w token) (revoke_turns w token old)
     told.survives c.in-Ok.field-0 told.runs

@@ -14,7 +14,7 @@ use sqlite_std_file::OpenError;
 use std::hash::{BuildHasher, RandomState};
 use std::io::ErrorKind;
 
-/// How many pages that were read stay in memory, each of 4,096 bytes. The largest zip has some 4,200, so that one
+/// How many pages that were read stay in memory, each of 4,096 bytes. The largest zip has 4,100, so that one
 /// that is asked for again is not read again, nor are the pages that lead to it.
 const KEPT_PAGES: usize = 8_192;
 
@@ -55,6 +55,7 @@ pub(crate) fn connect<T: Start>(
 /// What it is told as that the system or the name does not let files be opened.
 fn path_refusal(error: OpenError) -> Refusal
     ensures unopened { (result ≡ Refusal.Memory) ⊎ (result ≡ Refusal.Device) }
+    ensures memory { error ≡ OpenError.OutOfMemory → result ≡ Refusal.Memory }
     ensures in_use { error ≡ OpenError.Busy → result ≡ Refusal.Device }
 {
     match error {
@@ -66,7 +67,9 @@ fn path_refusal(error: OpenError) -> Refusal
 
 /// What a failure to read files that were opened is told as.
 fn file_refusal(error: Error) -> Refusal
-    ensures cannot_open { error ≡ Error.SqliteFailure ErrorCode.CannotOpen → result ≡ Refusal.Device }
+    ensures no_database { error ≡ Error.SqliteFailure ErrorCode.NotADatabase → result ≡ Refusal.BadSchema }
+    ensures damaged { error ≡ Error.SqliteFailure ErrorCode.DatabaseCorrupt → result ≡ Refusal.BadSchema }
+    ensures memory { error ≡ Error.SqliteFailure ErrorCode.OutOfMemory → result ≡ Refusal.Memory }
     ensures opening { IsOfOpening result }
 {
     match error {

@@ -21,13 +21,14 @@ class Function:
 
     def is_at(self, names):
         """Returns whether rattle's name, without the crate's, is of this function or of a closure in it."""
-        module = [it for it in self.path[len("src/") : -len(".rt")].split("/") if it not in ("lib", "main", "mod")]
-        around, rest = names[: len(module)], names[len(module) :]
-        if self.holder and rest and rest[0].partition("+")[0] == self.holder:
-            rest = rest[1:]
-        elif self.holder:
-            return False
-        return around == module and (rest == [self.name] or rest[:2] == ["fn", self.name])
+        if self.holder:
+            # (a method is named by the module of its type, which may be another than that of its source)
+            before = next((at for at, it in enumerate(names) if it.partition("+")[0] == self.holder), len(names))
+            rest = names[before + 1 :]
+        else:
+            module = [it for it in self.path[len("src/") : -len(".rt")].split("/") if it not in ("lib", "main", "mod")]
+            rest = names[len(module) :] if names[: len(module)] == module else []
+        return rest == [self.name] or rest[:2] == ["fn", self.name]
 
     def holds(self, path, line):
         return path == self.path and self.first <= line <= self.last

@@ -61,6 +61,10 @@ pub on_weaker : {A E : Type 0} {P Q : Type 0} (r : Result A E) → (P → Q) →
 on_weaker (Ok x) then h = then h
 on_weaker (Err e) then h = tt
 
+pub when_ok : {A E : Type 0} {P : Type 0} (r : Result A E) → IsTrue (is_ok r) → OnOk r P → P
+when_ok (Ok x) done h = h
+when_ok (Err e) done h = absurd (true≢false (sym done))
+
 pub weaker : {A E : Type 0} {P Q : A → Type 0} (r : Result A E) → ((x : A) → P x → Q x) → IfOk r P → IfOk r Q
 weaker (Ok x) then h = then x h
 weaker (Err e) then h = tt

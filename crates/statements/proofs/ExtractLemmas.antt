@@ -1,5 +1,5 @@
 -- Rows that are handed on from one store to another.
-use Rattle.std.proofs.Common.{◌≡◌, ◌≤◌, Bool, true, false, ℕ, List, Result, Ok, Err, inl, refl, sym, subst, arith, IsTrue, is_ok, OnOk, true≢false}
+use Rattle.std.proofs.Common.{◌≡◌, ◌≤◌, Bool, true, false, ℕ, List, Result, inl, refl, sym, subst, arith, IsTrue, is_ok, OnOk, true≢false}
 use Rattle.sqlite_trees.specs.View.{doubt}
 use Rattle.sqlite.specs.Order.{Row}
 use Rattle.sqlite.specs.Tree.{Trees}
@@ -18,6 +18,7 @@ use Rattle.statements.specs.Calls.{Spares}
 use Rattle.statements.specs.Rows.{Filling, GoesOn}
 use Rattle.statements.specs.Extract.{IsReady, IsReadBy, Copies, OfWorlds, PutsShelf, AddsShelf, Then}
 use Rattle.statements.proofs.CallLemmas.{kept_stands}
+use Rattle.statements.proofs.ChangeLemmas.{when_ok}
 use Rattle.statements.proofs.GoingLemmas.{goes_on_then}
 
 -- ---- a query with parameters, one row at a time
@@ -34,10 +35,6 @@ module _ (sql : List ℕ) (params : Row) (plain : IsPlain (understood store_sche
   some_shown rows begins = subst (λ db. ReadsFirst (command_of (understood store_schema sql)) db params rows) same.0.now_is (begins_as sql params mid mid store_schema (unchanged_schema old mid same has) _ refl plain unlisted rows begins)
 
 -- ---- copies
-
-when_ok : {A E : Type 0} {P : Type 0} (r : Result A E) → IsTrue (is_ok r) → OnOk r P → P
-when_ok (Ok x) done h = h
-when_ok (Err e) done h = absurd (true≢false (sym done))
 
 -- what is said of a call's result, by whether it is Ok
 pub goes_on_if : {A E : Type 0} (r : Result A E) (a b : State) → Survives a b (λ _. ⊥) → (HasCleanDisk b → IsTrue a.in_transaction → KeepsCommit a b) → (HasCleanDisk b → IsTrue a.in_transaction → OnOk r (IsTrue b.in_transaction)) → GoesOn a b (is_ok r)

@@ -1,5 +1,5 @@
 -- How a transaction ends in which the tables came to stand for another world.
-use Rattle.std.proofs.Common.{◌≡◌, ◌≤◌, ◌⊎◌, true, false, None, inl, inr, refl, sym, ap, subst, ◌∙◌, IsTrue, true≢false}
+use Rattle.std.proofs.Common.{◌≡◌, ◌≤◌, ◌⊎◌, Bool, true, false, None, inl, inr, refl, sym, ap, subst, ◌∙◌, IsTrue, true≢false}
 use Rattle.sqlite_trees.specs.View.{doubt}
 use Rattle.sqlite_trees.specs.declared.store.Store.{Ghosts}
 use Rattle.sqlite.specs.Tree.{Trees}
@@ -20,6 +20,15 @@ use Rattle.tables.proofs.FailureLemmas.{was_clean}
 use Rattle.statements.proofs.RowLemmas.{filling_of, writing_of}
 use Rattle.statements.proofs.TransactionLemmas.{entry_means}
 use Rattle.statements.proofs.WriteLemmas.{open_leaves}
+
+true_or_false : (b : Bool) → IsTrue b ⊎ (b ≡ false)
+true_or_false true = inl refl
+true_or_false false = inr refl
+
+-- a commit that failed inside a transaction undid it
+commit_failed : (last exit : State) (x : Error) → IsTrue last.in_transaction → FailsToCommit last exit x → IsRolledBack last exit
+commit_failed last exit x inside (inl fails) = fails.3
+commit_failed last exit x inside (inr late) = absurd (true≢false (sym inside ∙ late.1))
 
 module _ {S : Type 0} (g : Ghosts S) (h : Held S) (last exit : State) (w next : World) (opened : HasCleanDisk (state g h) → IsTrue (state g h).is_open) where
   abbrev old : State
@@ -42,7 +51,7 @@ module _ {S : Type 0} (g : Ghosts S) (h : Held S) (last exit : State) (w next : 
       | inr it ↦ inr it
     ]
 
-    pub committed_to : ((db : Trees) → IsTrue exit.is_open → exit.may_leave db → db ≡ exit.committed.trees) → (HasCleanDisk last → Stands old w → Writing last next)
+    committed_to : ((db : Trees) → IsTrue exit.is_open → exit.may_leave db → db ≡ exit.committed.trees) → (HasCleanDisk last → Stands old w → Writing last next)
         → Survives last exit (λ db. db ≡ last.now.trees) → (HasCleanDisk exit → Shows last exit last.now last.now false) → ChangesAt old exit true w next
     committed_to law made ends shown =
         let late = was_clean last exit ends.clean in
@@ -64,7 +73,7 @@ module _ {S : Type 0} (g : Ghosts S) (h : Held S) (last exit : State) (w next : 
           kept = λ _ clean stands. open_leaves exit next (λ db. law db (shown clean).is_open) (holds clean stands);
         }
 
-    pub undone_to : (HasCleanDisk last → KeepsCommit begun last) → doubt last.is_clean ≤ doubt exit.is_clean → (HasCleanDisk exit → Stands old w → IsRolledBack last exit)
+    undone_to : (HasCleanDisk last → KeepsCommit begun last) → doubt last.is_clean ≤ doubt exit.is_clean → (HasCleanDisk exit → Stands old w → IsRolledBack last exit)
         → (P : Trees → Type 0) → (HasCleanDisk exit → Stands old w → (db : Trees) → P db → StandFor db next) → Survives last exit P → ChangesAt old exit false w next
     undone_to keeps up back P made ends = record {
       world = λ stands clean shown.
@@ -87,10 +96,28 @@ module _ {S : Type 0} (g : Ghosts S) (h : Held S) (last exit : State) (w next : 
       kept = λ done. absurd (true≢false (sym done));
     }
 
--- a commit that failed inside a transaction undid it
-pub commit_failed : (last exit : State) (x : Error) → IsTrue last.in_transaction → FailsToCommit last exit x → IsRolledBack last exit
-commit_failed last exit x inside (inl fails) = fails.3
-commit_failed last exit x inside (inr late) = absurd (true≢false (sym inside ∙ late.1))
+    module _ (is_whole : Bool) (undone : HasCleanDisk exit → is_whole ≡ false → IsRolledBack last exit) (ends : IsTrue is_whole → Survives last exit (λ db. db ≡ last.now.trees))
+        (lost : is_whole ≡ false → Survives last exit (λ _. ⊥)) (keeps : HasCleanDisk last → KeepsCommit begun last) (made : HasCleanDisk last → Stands old w → IsTrue is_whole → Writing last next) where
+      not_whole : is_whole ≡ false → ChangesAt old exit false w next
+      not_whole part = undone_to keeps (lost part).clean (λ clean _. undone clean part) (λ _. ⊥) (λ _ _ _ none. absurd none) (lost part)
+
+      -- `commit_if` ended it
+      pub ended_by : (HasCleanDisk exit → IsTrue is_whole → Shows last exit last.now last.now false)
+          → ((db : Trees) → IsTrue exit.is_open → exit.may_leave db → db ≡ exit.committed.trees) → ChangesAt old exit is_whole w next
+      ended_by shown law = elim (true_or_false is_whole) [
+        | inl all ↦ subst (λ b. ChangesAt old exit b w next) (sym all) (committed_to law (λ late stands. made late stands all) (ends all) (λ clean. shown clean all))
+        | inr part ↦ subst (λ b. ChangesAt old exit b w next) (sym part) (not_whole part)
+      ]
+
+      -- `commit_if` failed
+      pub failed_by : (x : Error) → (HasCleanDisk exit → IsTrue is_whole → FailsToCommit last exit x) → ChangesAt old exit false w next
+      failed_by x fails = elim (true_or_false is_whole) [
+        | inl all ↦ (
+            let late = was_clean last exit (ends all).clean in
+            undone_to keeps (ends all).clean (λ clean stands. commit_failed last exit x (made (late clean) stands all).inside (fails clean all))
+            (λ db. db ≡ last.now.trees) (λ clean stands db at. subst (λ t. StandFor t next) (sym at) (made (late clean) stands all).trees) (ends all))
+        | inr part ↦ not_whole part
+      ]
 
 -- an entry that is written within a transaction
 pub entry_written : (begun last : State) (w : World) (p : Place) (e : Entry) → map.get w.entries p ≡ None → Writing begun w → (Filling begun → HasAdded begun.now.trees last.now.trees p e × Filling last) → Writing last (with_entry w p e)

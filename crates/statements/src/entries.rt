@@ -23,6 +23,7 @@ use crate::keyed::KeyedVersion;
 use crate::numbers::chosen_number;
 use crate::pieces::{find_zip, insert_zip};
 use crate::query::find_row;
+use crate::transaction::commit_if;
 use modver::{TimeText, Version, read_time};
 use sqlite::{Alter, Connection, Error, ErrorCode, Row, Transaction, params};
 use std::alloc::Global;
@@ -295,9 +296,9 @@ fn insert_entry<S: Alter>(
         return Err(Error::SqliteFailure(ErrorCode::TransactionState));
     }
     let mut tx = conn.transaction();
-    insert_rows(&mut tx, number, shelf, path, version, entry)?;
-    tx.commit()?;
-    Ok(())
+    let written = insert_rows(&mut tx, number, shelf, path, version, entry);
+    commit_if(tx, written.is_ok())?;
+    written
 }
 
 /// Stores an entry where there is none, unless the connection is shut. The keys of the version are made first.

@@ -20,6 +20,7 @@
 //! | `registry::add_team` | that of `has_shelf`, then a row of `shelf` |
 //! | `registry::add_key` | those of `has_shelf` and of `find_key`, then a row of `access` |
 //! | `revoke::revoke_key` | that of `find_key`, then the row of `access` is taken away |
+//! | `transaction::commit_if` | the end of a transaction |
 //! | `extract_rows::copy_keys`, `copy_versions`, `copy_pieces` | of one shelf the rows of `access`, of `version`, of `piece`, one at a time, each put into another store within a transaction of it |
 //!
 //! What is said of values holds where each answer of the disk was what had been written. A fault is the
@@ -35,4 +36,5 @@ mod pieces;
 pub mod query;
 pub mod registry;
 pub mod revoke;
+pub mod transaction;
 pub mod visible;

@@ -1,5 +1,5 @@
 -- The part of a team, written whole or not at all, as a call of a store.
-use Rattle.std.proofs.Common.{◌≡◌, ◌≢◌, ◌≤◌, ℕ, List, true, false, Result, Ok, Err, IsErr, is_ok, inl, refl, sym, subst, arith, true≢false}
+use Rattle.std.proofs.Common.{◌≡◌, ◌≢◌, ◌≤◌, ℕ, List, Bool, true, false, IsTrue, Result, Ok, Err, IsErr, is_ok, inl, refl, sym, subst, arith, true≢false}
 use Rattle.sqlite_trees.specs.View.{doubt}
 use Rattle.sqlite.specs.State.{State, HasCleanDisk}
 use Rattle.world.specs.Part.{part, IsTeam}
@@ -95,12 +95,12 @@ extracts_at old new w x team (Err e) clean stands is change tells = record {
 }
 
 -- within the transaction the part is written
-pub part_written : (s t a b : State) (w : World) (team : List ℕ) → Copies (MakesPart team) s t a b true → IsReady s → HasCleanDisk t → HasCleanDisk b → Stands s w → IsWorld w → set.contains w.shelves team ≡ true
-    → Writing a only_common → Writing b (part w team)
-part_written s t a b w team fills ready clean good stands is has writing =
+pub part_written : (s t a b : State) (done : Bool) (w : World) (team : List ℕ) → Copies (MakesPart team) s t a b done → IsReady s → HasCleanDisk t → HasCleanDisk b → Stands s w → IsWorld w → set.contains w.shelves team ≡ true
+    → IsTrue done → Writing a only_common → Writing b (part w team)
+part_written s t a b done w team fills ready clean good stands is has all writing =
     let was = was_clean s t fills.clean clean in
     let means = (stands was (ready was).0).trees.means in
-    let it = fills.makes clean good ready w means (filling_of a only_common writing) refl in
+    let it = fills.makes clean good ready w means (filling_of a only_common writing) all in
     writing_of b (part w team) it.1 (it.0 w means is has writing.trees)
 
 -- ---- with what the stores keep

@@ -16,6 +16,7 @@ ghost use Rattle.store.specs.Extracted.{MakesRegistry, MakesPart};
 
 use sqlite::{Alter, Connection, Error, ErrorCode, Transaction, params};
 use statements::extract_rows::{CopyError, copy_keys, copy_pieces, copy_versions};
+use statements::transaction::commit_if;
 use world::names::COMMON;
 
 /// Writes the row of a shelf.
@@ -98,9 +99,9 @@ pub(crate) fn write_part<S: Alter, F: Alter>(
         return Err(CopyError::Fresh(Error::SqliteFailure(ErrorCode::TransactionState)));
     }
     let mut tx = fresh.transaction();
-    fill(source, team, &mut tx)?;
-    match tx.commit() {
-        Ok(()) => Ok(()),
+    let written = fill(source, team, &mut tx);
+    match commit_if(tx, written.is_ok()) {
+        Ok(()) => written,
         Err(error) => Err(CopyError::Fresh(error)),
     }
 }

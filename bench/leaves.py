@@ -1,7 +1,7 @@
 #!/usr/bin/env python3
 """Speed of the calls that need no store: checks of paths, the order of versions, and the reading of go.mod files.
 
-Build the program first (`cd crates/measure && rt run -- gomod 0 </dev/null`). It does the same work in rounds, and each
+Build the program first (`cd crates/bench_leaves && rt run -- gomod 0 </dev/null`). It does the same work in rounds, and each
 line tells what a round costs in processor time, beside a run with no rounds, which only makes the input ready. Of a
 go.mod it also tells how many times dearer the text is than one half as long, and the status is 1 where that is more
 than 2.5 times. With --quick the inputs are a tenth as long.
@@ -14,7 +14,7 @@ import sys
 import tempfile
 
 ROOT = os.path.dirname(os.path.dirname(os.path.abspath(__file__)))
-PROGRAM = os.path.join(ROOT, "crates", "measure", "out", "measure")
+PROGRAM = os.path.join(ROOT, "crates", "bench_leaves", "out", "bench_leaves")
 HOSTS = ["github.com", "github.com", "github.com", "golang.org/x", "google.golang.org", "gitlab.com", "k8s.io"]
 WORDS = "api auth cloud client config core data event go grpc http kit log metrics net proto sdk Store test tools".split()
 TWICE_COSTS_AT_MOST = 2.5
@@ -130,7 +130,7 @@ def measure_gomod(name, size, make):
 def main():
     scale = 10 if "--quick" in sys.argv else 1
     if not os.path.exists(PROGRAM):
-        sys.exit("build the program first: cd crates/measure && rt run -- gomod 0 </dev/null")
+        sys.exit("build the program first: cd crates/bench_leaves && rt run -- gomod 0 </dev/null")
     measure_paths(1_000_000 // scale)
     measure_versions(4_096 // scale)
     linear = [

@@ -1,9 +1,9 @@
 //! Stores in files. Each test has a folder of its own.
-use scripts::calls::wrong_row;
-use scripts::requests::REQUESTS;
 use std::fs;
 use std::test::Fail;
 use store::store::SqlShelves;
+use test_support::calls::wrong_row;
+use test_support::requests::REQUESTS;
 
 /// Puts a team and a version into a store.
 const FILL: &str = "\

@@ -2,7 +2,7 @@
 //! answer requests.
 //!
 //! Each table is a text whose lines are rows, and each public function of the crates below is run on one at least. The scripts
-//! are those of `scripts`, which `store_rows` runs on tables too.
+//! are those of `test_support`, which `test_stores` runs on tables too.
 #![tactic(auto)]
 
 #[cfg(test)]

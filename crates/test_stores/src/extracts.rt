@@ -1,10 +1,10 @@
 //! A team's part of a store, as a store of its own.
-use scripts::calls::wrong_row;
 use sqlite::MemStore;
 use std::alloc::Global;
 use std::test::Fail;
 use store::refusal::Refusal;
 use store::store::SqlShelves;
+use test_support::calls::wrong_row;
 use world::shelves::Shelves;
 
 /// A store that a team's part is taken of, or that takes it.

@@ -1,10 +1,10 @@
 //! Tables that a connection has before it is adopted.
-use scripts::calls::wrong_row_of;
 use sqlite::{Connection, Error, MemStore};
 use std::alloc::Global;
 use std::test::Fail;
 use store::refusal::Refusal;
 use store::store::SqlShelves;
+use test_support::calls::wrong_row_of;
 
 /// The tables of the schema.
 const TABLES: &str = "\

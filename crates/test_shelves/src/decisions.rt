@@ -1,12 +1,12 @@
 //! The checks of a publish, row by row.
 use modpath::ModulePath;
 use modver::{Version, read_time};
-use scripts::rows::{answer_of, call_of, column, named, with_lines};
 use shelf::ask::{Body, GivenTime, Publish};
 use shelf::decide::decide;
 use shelf::reply::Decision;
 use std::alloc::{AllocError, Global};
 use std::test::Fail;
+use test_support::rows::{answer_of, call_of, column, named, with_lines};
 use world::bytes::Bytes;
 use world::entry::{Entry, Right};
 use world::reading::Reading;

@@ -1,8 +1,8 @@
 //! Requests and their replies.
 use engine::answer_all;
-use scripts::requests::request;
 use std::alloc::Global;
 use std::test::Fail;
+use test_support::requests::request;
 use world::shelves::Shelves;
 
 /// A column of a row; one that is not there is empty.

@@ -1,4 +1,4 @@
-//! `measure WHAT ROUNDS`: does the same work on its standard input again and again, for bench/leaves.py to time.
+//! `bench_leaves WHAT ROUNDS`: does the same work on its standard input again and again, for bench/leaves.py to time.
 //!
 //! | what | input | a round | printed, the sum over the rounds |
 //! |---|---|---|---|

@@ -1,9 +1,9 @@
 //! Scripts, each on new shelves in memory.
 use engine::answer_all;
-use scripts::calls::{CALLS, wrong_row, wrong_row_of};
-use scripts::requests::{REQUESTS, in_one_stream};
 use std::alloc::Global;
 use std::test::Fail;
+use test_support::calls::{CALLS, wrong_row, wrong_row_of};
+use test_support::requests::{REQUESTS, in_one_stream};
 use world::map_shelves::MapShelves;
 use world::shelves::Shelves;
 

@@ -1,9 +1,9 @@
 //! Scripts, each on new tables in memory.
-use scripts::calls::{CALLS, wrong_row_of};
-use scripts::requests::REQUESTS;
 use std::alloc::Global;
 use std::test::Fail;
 use store::store::SqlShelves;
+use test_support::calls::{CALLS, wrong_row_of};
+use test_support::requests::REQUESTS;
 
 /// The tables keep a second row of one version out, and that is a failure of the store.
 const SECOND_ROW: &str = "\

@@ -1,7 +1,6 @@
 //! Runs of the machine on shelves in memory.
 use modpath::ModulePath;
 use modver::Version;
-use scripts::rows::{answer_of, call_of, column, with_lines};
 use shelf::ask::{Ask, Body, Event, GivenTime, Publish, Query};
 use shelf::reply::{Answer, Reply};
 use shelf::run::{run, run_in_memory};
@@ -9,6 +8,7 @@ use std::alloc::{AllocError, Global};
 use std::process::Abort;
 use std::str::from_utf8;
 use std::test::Fail;
+use test_support::rows::{answer_of, call_of, column, with_lines};
 use text::Text;
 use world::bytes::Bytes;
 use world::entry::Right;

@@ -1,10 +1,10 @@
 //! Which entries may stand at a path and a version.
 use modpath::ModulePath;
 use modver::Version;
-use scripts::calls::time_of;
-use scripts::rows::{answer_of, call_of, column, with_lines};
 use std::alloc::Global;
 use std::test::Fail;
+use test_support::calls::time_of;
+use test_support::rows::{answer_of, call_of, column, with_lines};
 use world::entry::EntryRef;
 use world::entry_test::{Misfit, fitting_version, module_misfit, own_misfit};
 use world::reading::Reading;

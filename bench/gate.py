@@ -1,0 +1,112 @@
+#!/usr/bin/env python3
+"""What the gate costs: runs `rt ci` on a fresh clone of a commit, from nothing, and prints processor time by kind and crate, and peaks.
+
+usage: python3 bench/gate.py [COMMIT] [--kept]
+
+COMMIT is HEAD if it is left out. With --kept, proofs of earlier runs on this machine count, as they do at a landing. The total is what
+the system counted for all processes of the run. The rest is a sample of the prover's processes, twice a second: it misses the end of
+each. A peak is the most memory that one process held. The output of the run goes to gate.log in the folder that is printed first.
+"""
+
+import argparse
+import collections
+import os
+import re
+import resource
+import subprocess
+import sys
+import tempfile
+import threading
+import time
+
+ROOT = os.path.dirname(os.path.dirname(os.path.abspath(__file__)))
+TICKS = os.sysconf("SC_CLK_TCK")
+KINDS = ("proofs", "proofs of tests", "first bodies", "wrong bodies", "compilers")
+
+
+def read(path):
+    with open(path, encoding="utf-8", errors="replace") as it:
+        return it.read()
+
+
+def kind_of(words, folder):
+    """What a process of the prover is for: the work that it does, by its words and the folder that it works in."""
+    if "--crate-checked" in words:
+        return "compilers"
+    if "/rt-edit-" in folder:
+        over = words[words.index("--incremental") + 1] if "--incremental" in words else ""
+        return "first bodies" if over.endswith("/seed") or not over else "wrong bodies"
+    return "proofs of tests" if "--test" in words else "proofs"
+
+
+def looked_at(number):
+    """One process as (its start, crate, kind, processor seconds, peak in GiB); None where it is no check, or has ended."""
+    try:
+        words = read(f"/proc/{number}/cmdline").split("\0")
+        if not words[0].endswith("/rattle") or "--crate-name" not in words:
+            return None
+        told = read(f"/proc/{number}/stat").rpartition(")")[2].split()
+        peak = re.search(r"VmHWM:\s+(\d+)", read(f"/proc/{number}/status"))
+        kind = kind_of(words, os.readlink(f"/proc/{number}/cwd"))
+        seconds = (int(told[11]) + int(told[12])) / TICKS
+        return told[19], words[words.index("--crate-name") + 1], kind, seconds, int(peak[1]) / 2**20 if peak else 0
+    except (OSError, ValueError, IndexError):
+        return None
+
+
+class Sampler(threading.Thread):
+    """Looks at all processes twice a second until it is stopped. It keeps the last that it saw of each."""
+
+    def __init__(self):
+        super().__init__(daemon=True)
+        self.seen, self.used, self.ends = {}, 0, threading.Event()
+
+    def run(self):
+        while not self.ends.wait(0.5):
+            for number in filter(str.isdigit, os.listdir("/proc")):
+                found = looked_at(number)
+                if found:
+                    self.seen[number, found[0]] = found[1:]
+            memory = dict(re.findall(r"(\w+):\s+(\d+)", read("/proc/meminfo")))
+            self.used = max(self.used, (int(memory["MemTotal"]) - int(memory["MemAvailable"])) / 2**20)
+
+
+def table(seen):
+    """Prints a row for each crate: seconds by kind and the peak."""
+    rows, peaks = collections.defaultdict(collections.Counter), collections.Counter()
+    for crate, kind, seconds, peak in seen:
+        rows[crate][kind] += seconds
+        peaks[crate] = max(peaks[crate], peak)
+    print(f"| crate | {', s | '.join(KINDS)}, s | peak, GiB |")
+    print(f"|---|{'---|' * (len(KINDS) + 1)}")
+    for crate, row in sorted(rows.items(), key=lambda it: -sum(it[1].values())):
+        print(f"| `{crate}` | {' | '.join(f'{row[it]:,.0f}' if row[it] else '' for it in KINDS)} | {peaks[crate]:.1f} |")
+    return collections.Counter({it: sum(row[it] for row in rows.values()) for it in KINDS})
+
+
+def main():
+    words = argparse.ArgumentParser(description=__doc__, formatter_class=argparse.RawDescriptionHelpFormatter)
+    words.add_argument("commit", nargs="?", default="HEAD", metavar="COMMIT")
+    words.add_argument("--kept", action="store_true")
+    said = words.parse_args()
+    commit = subprocess.run(["git", "-C", ROOT, "rev-parse", "--short", said.commit], capture_output=True, text=True, check=True).stdout.strip()
+    folder = tempfile.mkdtemp(prefix="gate-")
+    print(f"{commit} in {folder}", flush=True)
+    subprocess.run(["git", "clone", "-q", ROOT, f"{folder}/goshelf"], check=True)
+    subprocess.run(["git", "-C", f"{folder}/goshelf", "checkout", "-q", commit], check=True)
+    sampler, start = Sampler(), time.monotonic()
+    sampler.start()
+    with open(f"{folder}/gate.log", "w", encoding="utf-8") as log:
+        gate = ["rt", "ci", *([] if said.kept else ["--anew"])]
+        status = subprocess.run(gate, cwd=f"{folder}/goshelf", stdin=subprocess.DEVNULL, stdout=log, stderr=log).returncode
+    sampler.ends.set()
+    wall, took = (time.monotonic() - start) / 60, resource.getrusage(resource.RUSAGE_CHILDREN)
+    sums = table(sampler.seen.values())
+    print(f"{', '.join(f'{it} {sums[it] / 60:.0f}' for it in KINDS)} minutes by the sample")
+    print(f"{(took.ru_utime + took.ru_stime) / 60:.0f} minutes of processor time in all, {wall:.0f} of the clock, {sampler.used:.1f} GiB of the machine in use at the most")
+    print(read(f"{folder}/gate.log").rstrip("\n").rpartition("\n")[2])
+    return status
+
+
+if __name__ == "__main__":
+    sys.exit(main())

@@ -25,6 +25,8 @@ struct OptionRow {
 }
 
 /// What an option takes, by what help calls it.
+/// A value is taken as it is, even an empty one; one that begins with a dash needs `=`. The parser refuses a number
+/// that is too large, in its own words.
 #[derive(Clone, Copy, Drop)]
 enum Value {
     /// Nothing: it is a flag.
@@ -130,6 +132,7 @@ static COMMANDS: [CommandRow; 11] = [
 ];
 
 /// The two forms of `answer`.
+/// They are written by hand, because the parser would list `--db`, `--mem`, `--team` and `--key` as all required.
 const ANSWER_FORMS: &str =
     "goshelf answer --db <F>\n       goshelf answer --mem --team <T> --key <K>";
 
@@ -354,6 +357,7 @@ const SERVE: [OptionRow; 3] = [
 ];
 
 /// The parser of the whole command line.
+/// It loops over a table, because a chain of parser calls for each command takes several times as long to prove.
 pub fn parser<'a>(alloc: Global) -> Result<Command<'a>, AllocError> {
     let mut parser = program(alloc)?;
     for row in COMMANDS.as_slice() {

@@ -73,6 +73,7 @@ fn perform_matched<I: Read, O: Write>(
 }
 
 /// Shows the parser's text: help and the version on the output, what is wrong with the words on `errors`.
+/// If the output fails, the run ends with `goshelf: io`.
 fn show<O: Write, E: Write>(error: clap::Error, output: &mut O, errors: &mut E) -> Ending
     ensures ends { EndsShown (kind_of error) result }
     ensures silent { IsSilent (E.contents errors.old) (E.contents errors.new) result }
@@ -91,6 +92,7 @@ fn show<O: Write, E: Write>(error: clap::Error, output: &mut O, errors: &mut E) 
 }
 
 /// Tells that the words could not be had: one of them is not text, or memory was refused. It answers the exit status.
+/// Words that are not text are bad usage; without memory the run ends with `goshelf: memory`.
 pub fn words_refused<E: Write>(error: io::Error, errors: &mut E) -> u8
     ensures { (result ≡ status_of (Ending.Refused Refusal.Memory)) ⊎ (result ≡ status_of Ending.BadUsage) }
 {

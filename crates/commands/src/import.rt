@@ -57,6 +57,8 @@ pub enum Step {
 /// row. A header that is wrong or absent, a row that is no text, and one that has not five fields end the import with the line
 /// `bad row`; where the list can't be read on the line `503 unavailable` ends it. `Io` where a line could not be printed: its row
 /// has been done.
+/// A list of the header alone ends as all accepted. A list with more rows than a `u64` counts ends as one that
+/// can't be read on.
 pub fn import<S: Shelves, L: Read + Drop, F: Sources, O: Write>(
     alloc: Global,
     shelves: &mut S,

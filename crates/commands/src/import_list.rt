@@ -34,6 +34,7 @@ pub struct Row<'a> {
 }
 
 /// A reader at the beginning of a list.
+/// The reader takes records of any length and no header, so a bad row reaches our checks and the line names it.
 pub fn open<R: Read>(alloc: Global, list: R) -> Reader<R>
     ensures { spec.HasRead R.remaining (R.remaining list) [] result }
 {

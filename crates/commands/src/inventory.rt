@@ -141,6 +141,7 @@ fn add_path<S: Shelves>(
 }
 
 /// Adds a version, where the shelf sees it.
+/// It reads the whole entry, because no other call of a store says how long a zip is.
 fn add_version<S: Shelves>(
     alloc: Global,
     shelves: &mut S,

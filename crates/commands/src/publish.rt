@@ -76,6 +76,7 @@ fn publish_had<S: Shelves, O: Write>(
 }
 
 /// The go.mod and the zip.
+/// It stops at the first failure: if memory runs out for the go.mod, nobody looks for the zip.
 fn read_files(rt: &HostRuntime, files: &Files) -> Result<Body, FileFault> {
     let gomod = read_file(rt, files.gomod, MAX_GOMOD as u64)?;
     let zip = read_file(rt, files.zip, MAX_ZIP as u64)?;

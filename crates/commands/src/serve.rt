@@ -30,6 +30,7 @@ pub fn serve<S: Shelves, O: Write>(
 }
 
 /// Binds a port of 127.0.0.1, and prints it; the system chooses one in the place of 0.
+/// A named port is printed as it was named, and only a chosen one is asked of the system.
 fn listen<O: Write>(rt: &HostRuntime, port: u16, output: &mut O) -> io::Result<TcpListener>
     ensures { OnOk result (Announces port (O.contents output.old) (O.contents output.new)) }
 {

@@ -92,7 +92,7 @@ fn answer_first<W: Write, S: Shelves>(
     Ok(Some(status.as_u16()))
 }
 
-/// Serves the first message of a stream.
+/// Answers the first message of the stream and returns its status, or None if the stream is empty.
 fn serve_first<R: Read, W: Write, S: Shelves>(
     alloc: Global,
     reader: &mut R,

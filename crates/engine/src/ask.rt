@@ -10,6 +10,8 @@ use wire::{Memory, Message, Query as Wanted, RouteTable, Target, length_value, t
 use world::bytes::Bytes;
 
 /// What a message asks of the machine.
+/// The machine answers with the go.mod, so its replies and its laws know nothing of sums. The line borrows its
+/// path and version from the ask.
 #[derive(Drop)]
 pub(crate) struct Asking {
     pub(crate) ask: Ask,
@@ -103,6 +105,7 @@ fn given_time(values: &[Vec<u8>]) -> GivenTime
 }
 
 /// The time that a value writes.
+/// A value that is not text is no time.
 fn time_in(text: &[u8]) -> GivenTime
     ensures { result ≡ spec.time_in text.now }
 {

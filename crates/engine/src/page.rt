@@ -39,6 +39,7 @@ fn refusal_of(refusal: Refusal) -> Fixed
 }
 
 /// The fixed reply of a decision on a publish.
+/// An unknown key writes the same 404 as an unreadable request.
 pub fn fixed_of(decision: Decision) -> Fixed
     ensures { result ≡ spec.fixed_of decision }
 {
@@ -88,6 +89,7 @@ fn gomod_body(alloc: Global, asking: &Asking, gomod: Bytes) -> Result<Bytes, Mem
 
 /// A reply of the machine to what was asked as it is written. `Memory` only for a body that is composed; a file is moved, as it was
 /// received.
+/// A reply whose body is composed changed nothing, so a 503 in its place loses nothing.
 pub(crate) fn page_of(alloc: Global, asking: &Asking, reply: Reply) -> Result<Page, Memory>
     ensures page { IfOk result (λ page. page ≡ spec.reply_page (sum_by asking.now) reply) }
     ensures memory { OnErr result (IsComposed (sum_by asking.now) reply) }

@@ -12,6 +12,7 @@ use wire::Framer;
 use wire::reply::Fixed;
 
 /// How often a call that was interrupted is made anew.
+/// The bound ends a stream that is interrupted without end.
 pub(crate) const TRIES: u32 = 1_000;
 
 /// The most bytes that are read behind a message, and of a read where little or nothing is known to be missing.

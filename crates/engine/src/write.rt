@@ -16,6 +16,7 @@ use wire::reply::{Fixed, Kind, StatusCode};
 use wire::{fixed, put_head};
 
 /// The most bytes of a body that is written with its head.
+/// One write keeps a socket from sending the head alone and waiting. Without memory for the copy there are two.
 const JOINED_LIMIT: usize = 65_536;
 
 /// Writes some of the bytes; a call that is interrupted is made anew.

@@ -21,6 +21,7 @@ pub struct Requirement {
 }
 
 /// Versions that a module takes back, on a line. (Go Modules Reference, "retract directive".)
+/// `GoMod` publishes the versions without the line, which only faults need.
 #[derive(Drop)]
 pub(crate) struct Retraction {
     pub(crate) line: usize,
@@ -151,6 +152,7 @@ pub(crate) fn go_entry(alloc: Global, line: usize, tokens: &[Token]) -> Result<(
 }
 
 /// `toolchain`, `tool`, `godebug` and `ignore`: one word, which may be any word.
+/// The word may be empty, a string, or one that the go command refuses.
 #[tactic(auto, unfolding(crate::specs::Reading::word_entry))]
 pub(crate) fn word_entry(line: usize, tokens: &[Token]) -> Result<(), GoModFault>
     ensures { result ≡ word_entry line (symbols tokens.now) }

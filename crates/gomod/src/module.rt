@@ -63,6 +63,7 @@ impl GoMod {
     }
 
     /// What the module requires, in the file's order.
+    /// The name is not `requires`, which is a keyword of the language.
     pub fn required(&self) -> &[Requirement]
         ensures { result.now ≡ self.now.required }
     {
@@ -78,6 +79,7 @@ impl GoMod {
     }
 
     /// Whether the module directive is the only directive.
+    /// A block counts as a directive even if it is empty.
     pub fn is_bare(&self) -> bool
         ensures { result ≡ self.now.bare }
     {
@@ -107,6 +109,7 @@ fn first_unfit(path: &ModulePath, retractions: &[Retraction]) -> Option<usize>
 }
 
 /// What all lines say, of which the last has a number.
+/// An open block comes before a missing module directive.
 #[tactic(auto, unfolding(crate::specs::Reading::file_says))]
 fn finish(alloc: Global, reader: Reader, last: usize) -> Result<GoMod, GoModFault>
     ensures { Gives (λ m. m) result (file_says last (state_of reader)) }

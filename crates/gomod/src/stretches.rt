@@ -15,6 +15,8 @@ use std::alloc::{AllocError, Global};
 use std::marker::Model;
 
 /// Stretches that are in order and apart.
+/// A legal file can hold nearly 150,000 retractions, and `@latest` asks about every version of a path.
+/// So the file is sorted once, when it is read, by a sort that is never quadratic, and `has` takes no memory.
 #[derive(Drop)]
 pub(crate) struct Stretches {
     items: Vec<Stretch>,

@@ -53,6 +53,7 @@ fn told(misfit: Misfit) -> Decision
 }
 
 /// The answer of the first check of the publish alone that fails. It takes no memory.
+/// None of these checks looks at a store, so a publish by a reader reads no entry and no count.
 pub fn refusal(publish: &Publish, right: Option<Right>) -> Option<Decision>
     ensures { result ≡ spec.first_failing (spec.request_checks publish.now right) }
 {
@@ -85,6 +86,7 @@ fn entry_refusal(publish: &Publish) -> Option<Decision>
 }
 
 /// The type of a time holds only a time.
+/// The definition checks it all the same, so that the laws over raw events need no premise.
 fn is_bad_time(given: GivenTime) -> bool
     ensures exact { result ≡ spec.is_bad_time given }
     ensures malformed { result ≡ true → given ≡ GivenTime.Malformed }
@@ -100,6 +102,7 @@ fn is_bad_time(given: GivenTime) -> bool
 }
 
 /// The types of the path and of the version hold only well formed ones.
+/// The definition checks them all the same, so that the laws over raw events need no premise.
 #[tactic(auto, unfolding(modver::specs::SemanticVersion::has_text))]
 fn well_formed(publish: &Publish)
     ensures { spec.is_readable publish.now ≡ true }

@@ -16,6 +16,7 @@ use world::standing::Standing;
 
 /// The outcome of the checks of a publish by a key of a shelf. One that is refused for itself looks
 /// at no entry.
+/// The two halves are two functions, so the prover refuses a wrong half by itself.
 pub fn judge<S: Shelves>(
     alloc: Global,
     shelves: &mut S,
@@ -73,6 +74,7 @@ fn judge_by_shelf<S: Shelves>(
 }
 
 /// How a publish stands to what the shelf sees of its path and version. None of its files is copied.
+/// So repeating a publish takes no more memory than the first one did.
 fn compare<S: Shelves>(
     shelves: &mut S,
     shelf: &str,

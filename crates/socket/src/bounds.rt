@@ -1,4 +1,8 @@
 //! What a peer may take: it holds up all others, since connections are served one after another.
+//!
+//! A bound on each wait is not enough, because a peer can send a byte just before each one ends. A bound on the number
+//! of reads is not, because a large body needs thousands. A fixed end would cut off a large publish on a slow line. So
+//! a peer buys time with bytes: at just this rate the largest body holds its connection for 78 seconds.
 
 /// The seconds of one wait: for bytes of the request, or for room for bytes of the reply.
 pub(crate) const LONGEST_WAIT: u64 = 10;

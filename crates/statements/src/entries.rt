@@ -166,6 +166,7 @@ fn heading_at<S: Alter>(
 }
 
 /// What a shelf sees of a version without its zip: of its own, or else of that of `common`.
+/// A zip may have 16 MiB, whose rows would push out the pages that the database keeps in memory.
 pub fn find_heading<S: Alter>(
     conn: &mut Connection<S>,
     shelf: &str,
@@ -259,6 +260,8 @@ fn insert_version<'p, S: Alter>(
 }
 
 /// Writes the rows of an entry: that of its version, and then those of its zip.
+/// Contracts say which rows came, not what the tables mean before the commit. The foreign key and the free number
+/// show that no row of `piece` had this version before.
 fn insert_rows<'p, S: Alter>(
     tx: &mut Transaction<'_, S>,
     number: Option<i64>,

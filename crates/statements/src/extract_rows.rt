@@ -56,6 +56,8 @@ pub(crate) trait RowSink {
 }
 
 /// Hands on each row that a query shows, while the query is read. No more than one row is in memory.
+/// The rows come in no order, because sorting would gather them all. A second row for a key or a place fails in the
+/// fresh tables.
 pub(crate) fn hand_on<S: Alter, F: Alter, T: RowSink>(
     source: &mut Connection<S>,
     sql: &str,
@@ -194,6 +196,7 @@ impl RowSink for Pieces {
 }
 
 /// Copies the rows of the zips of the versions on one shelf.
+/// It joins `version`, whose index finds the shelf, with `piece`, whose index finds the pieces of a version.
 pub fn copy_pieces<S: Alter, F: Alter>(
     source: &mut Connection<S>,
     tx: &mut Transaction<'_, F>,

@@ -9,6 +9,7 @@ use std::alloc::{AllocError, Global};
 use std::marker::Model;
 
 /// The text of a version, and the version's keys. A contract sees the text.
+/// The row has the keys so that the database can order by precedence and by rank.
 #[derive(Drop)]
 pub(crate) struct KeyedVersion<'v> {
     text: &'v str,

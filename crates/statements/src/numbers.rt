@@ -55,6 +55,8 @@ fn has_last<S: Alter>(conn: &mut Connection<S>) -> Result<bool, Error>
 }
 
 /// A number that is less than each row's, unless a row has the first.
+/// Taking the first gap would make each publish cost more than the one before. Tables with both the first and the
+/// last number, which only another program makes, answer each publish with 503.
 fn number_below_all<S: Alter>(conn: &mut Connection<S>) -> Result<Option<i64>, Error>
     ensures spares { Spares (state S.Store conn.old) (state S.Store conn.new) }
     ensures answer { InEachWorld (state S.Store conn.old) (state S.Store conn.new) (λ old new _.

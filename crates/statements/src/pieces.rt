@@ -81,6 +81,7 @@ fn piece_in(row: &Row, number: u32) -> Result<&[u8], Error>
 
 /// The zip of the version that has this number, each piece behind the one before it, in one walk over their rows.
 /// That the rows come in the order of their numbers is seen of each, and not taken from the statement.
+/// The index has this order, so the database sorts nothing. A row out of order fails the call.
 pub(crate) fn find_zip<S: Alter>(
     alloc: Global,
     conn: &mut Connection<S>,
@@ -106,6 +107,7 @@ pub(crate) fn find_zip<S: Alter>(
 }
 
 /// Whether these bytes are the zip of the version that has this number. Each piece is compared where its row has it.
+/// It stops at the first piece that differs. The connection keeps the compiled look-up.
 pub(crate) fn has_zip<S: Alter>(
     conn: &mut Connection<S>,
     id: i64,

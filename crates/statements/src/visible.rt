@@ -64,6 +64,7 @@ fn add_paths<S: Alter>(
 }
 
 /// The versions of a path that a shelf sees, its own and those of `common`, in ascending precedence.
+/// It reads texts from the index alone. Ordering by `rank_key` would read whole rows, and so every go.mod of the path.
 pub fn find_versions<S: Alter>(
     alloc: Global,
     conn: &mut Connection<S>,

@@ -37,7 +37,7 @@ fn extract_part<S: Alter, F: Alter>(
     Ok(judged)
 }
 
-/// What a fault of a store is told as.
+/// The refusal for a fault of a store.
 fn told_as(fault: StoreFault) -> Refusal
     ensures device { result ≡ Refusal.Device → fault ≡ StoreFault.Device }
     ensures named { (result ≢ Refusal.BadSchema) × (result ≢ Refusal.NotEmpty) × (result ≢ Refusal.NoTeam) }
@@ -73,6 +73,7 @@ impl<S: Alter> SqlShelves<S> {
     }
 
     /// Makes the tables of the fresh store those of the part, and leaves what the stores keep as it is.
+    /// The fresh store forgets what it kept before the first row is written.
     fn extract_rows<F: Alter>(
         &mut self,
         team: &str,

@@ -16,12 +16,15 @@ use std::io::ErrorKind;
 
 /// How many pages that were read stay in memory, each of 4,096 bytes. The largest zip has 4,100, so that one
 /// that is asked for again is not read again, nor are the pages that lead to it.
+/// The kit keeps 2,000, with which each `.zip` reads all its pages from the system and digests them again.
 const KEPT_PAGES: usize = 8_192;
 
 /// A connection to the files at a path, which are made where there are none. `:memory:` and a URI name none.
 ///
 /// It is refused as `BadSchema` where the files hold no database, as `Memory` where memory was wanted, and as `Device`
 /// where the disk failed, another process has them open, or the system or the name does not let them be opened.
+/// It opens both files itself, because the kit's call for a path takes no number of pages. No statement asks for the
+/// time, so it passes no clock.
 pub(crate) fn connect<T: Start>(
     rt: &HostRuntime,
     path: &str,
@@ -52,7 +55,7 @@ pub(crate) fn connect<T: Start>(
     }
 }
 
-/// What it is told as that the system or the name does not let files be opened.
+/// The refusal for a file that cannot be opened: no permission, no such folder, or a name that is no file's.
 fn path_refusal(error: OpenError) -> Refusal
     ensures unopened { (result ≡ Refusal.Memory) ⊎ (result ≡ Refusal.Device) }
     ensures memory { error ≡ OpenError.OutOfMemory → result ≡ Refusal.Memory }
@@ -65,7 +68,8 @@ fn path_refusal(error: OpenError) -> Refusal
     }
 }
 
-/// What a failure to read files that were opened is told as.
+/// The refusal for opened files that cannot be read: `BadSchema` if they hold no database or a damaged one, `Memory`
+/// without memory, and otherwise `Device`.
 fn file_refusal(error: Error) -> Refusal
     ensures no_database { error ≡ Error.SqliteFailure ErrorCode.NotADatabase → result ≡ Refusal.BadSchema }
     ensures damaged { error ≡ Error.SqliteFailure ErrorCode.DatabaseCorrupt → result ≡ Refusal.BadSchema }

@@ -8,6 +8,7 @@ use world::counts::Counts;
 use world::kept_lists::KeptLists;
 
 /// What was found since a store was opened. Nobody else writes, so it stays right.
+/// The counts are of the paths that were published to since then. No table has a column for them.
 #[derive(Drop)]
 pub(crate) struct Kept {
     pub(crate) counts: Counts,

@@ -72,6 +72,8 @@ impl<T: Start> SqlShelves<FileStore<FileFrom<T>>> {
 impl SqlShelves<FileStore<File>> {
     /// The store of a file, as `open_from` opens it where nothing is known of what the file holds. It
     /// is supposed that a write that was torn by a crash leaves each byte old or new.
+    /// As with SQLite's `synchronous=FULL`, most commits then sync once. No clause of `sqlite` ties a path to the bytes of
+    /// a file, so no contract says that this path was opened: tests do.
     pub fn open_file(rt: &HostRuntime, path: &str) -> Result<FileShelves, Refusal>
         ensures memory { path.now ≡ codes ":memory:" → result ≡ Err Refusal.Device }
         ensures begins { IfOk result (λ s. HasCleanDisk (file_state s.conn)
@@ -83,5 +85,6 @@ impl SqlShelves<FileStore<File>> {
     }
 
     /// Lets the store of a file go. What was acknowledged stands in its files already, so that nothing is left to do or to fail.
+    /// A crate that drops a store has to prove the dropping of all its parts, so callers call this.
     pub fn close(self) {}
 }

@@ -21,7 +21,7 @@ pub enum Refusal {
     NoTeam,
 }
 
-/// What a failure to read or to make the tables is told as.
+/// The refusal for tables that cannot be read or made.
 pub(crate) fn open_refusal(error: Error) -> Refusal
     ensures named { result ≢ Refusal.BadSchema }
     ensures opening { IsOfOpening result }

@@ -34,6 +34,8 @@ use world::version_list::Versions;
 use world::versions::{highest, latest_left};
 
 /// Shelves whose entries and keys are rows of SQL tables.
+/// Once a fault has shut the connection, the store stands for every world that agrees with what it keeps, and answers
+/// errors, kept counts and kept lists alone.
 #[derive(Drop)]
 pub struct SqlShelves<S: Alter> {
     pub(crate) conn: Connection<S>,
@@ -262,8 +264,8 @@ impl<S: Alter> SqlShelves<S> {
         }
     }
 
-    /// The versions of a path that a shelf sees, in ascending precedence: those that are kept, which
-    /// are so no longer, or else as they are found.
+    /// The versions of a path that a shelf sees, in ascending precedence. Takes the cached list if there is one, and
+    /// queries the tables otherwise.
     fn take_versions(&mut self, shelf: &str, path: &str) -> Result<Versions, StoreFault>
         ensures reads { Reads (shown_with (state S.Store self.old.conn) self.old.kept)
             (shown_with (state S.Store self.new.conn) self.new.kept) result (λ w. versions_of w shelf.now path.now) }

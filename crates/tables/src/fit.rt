@@ -146,6 +146,7 @@ fn is_last(last: &Option<Text>, text: &str) -> bool
 }
 
 /// The rows of `access` in the order of their numbers: each has one, and no other has it.
+/// `key-revoke` deletes by number, and no clause of `sqlite` says that numbers differ.
 #[derive(Drop)]
 struct NumberRows {
     last: Option<i64>,
@@ -222,6 +223,7 @@ fn entry_place(alloc: Global, row: &Row) -> Result<Option<Place>, Error>
 }
 
 /// Whether the last columns of a row show the keys of a version.
+/// It makes both keys again and compares them. Opening a store changes no row.
 fn shows_keys(alloc: Global, row: &Row, version: &Version) -> Result<bool, Error>
     ensures verdict { IfOk result (λ shows. Decides shows
         ((column row.now 5 ≡ Blob (order_key_of version.now)) × (column row.now 6 ≡ Blob (rank_key_of version.now)))) }

@@ -17,6 +17,7 @@ use sqlite::{Alter, Connection, Error, Row};
 pub const PIECE_SIZE: usize = 65_536;
 
 /// The most pieces of a zip.
+/// They hold exactly the longest zip, so an entry is tested without its zip.
 const MAX_PIECES: u64 = 256;
 
 /// What is kept of the last row of `piece`.
@@ -29,6 +30,7 @@ struct LastPiece {
 
 /// The rows of `piece` in the order of their versions and numbers: the pieces of a version are numbered
 /// from 0 without gaps, and each but the last is full.
+/// It keeps no bytes, so opening a store puts no zip together. The foreign key says that each piece has a version.
 #[derive(Drop)]
 struct PieceRows {
     last: Option<LastPiece>,

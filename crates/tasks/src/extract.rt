@@ -14,6 +14,8 @@ use world::shelves::Shelves;
 
 /// Makes the store of one file that of a team's part of the store of another. Where both paths lead to one file it is `NotEmpty`,
 /// and an empty one stays so.
+/// It compares the files after it opened the first and before it opens the second, whose lock would be `Device`.
+/// A hard link to the first file is `Device`, because sqlite refuses the first one itself.
 pub(crate) fn extract_file(rt: &HostRuntime, db: &str, team: &str, to: &str) -> Result<(), Refusal>
     ensures { ExtractsFile ⟦<FileShelves as Shelves>⟧.shown ⟦<FileShelves as Shelves>⟧.failure_count team.now result }
 {
@@ -31,6 +33,7 @@ pub(crate) fn extract_file(rt: &HostRuntime, db: &str, team: &str, to: &str) -> 
 
 /// Opens the store of a file and puts a team's part of an open store into it. The file of the open one, which is at `db`, is no
 /// empty store, and is not opened again.
+/// It is generic over the first store, because the checker runs out of steps with two file stores in one function.
 fn extract_to<S: Alter>(
     rt: &HostRuntime,
     db: &str,

@@ -84,6 +84,7 @@ fn acceptance(ended: Result<(), Refusal>) -> Result<bool, Refusal>
 }
 
 /// Makes a store with the shelf `common` alone. A file that has bytes is `NotEmpty`.
+/// It reads one byte. If the file can't be read, opening the store says what is wrong.
 fn init<I: Read, O: Write>(
     rt: &HostRuntime,
     path: &str,

@@ -100,6 +100,7 @@ impl Framer {
     }
 
     /// Makes room for all that is missing of the message that has begun.
+    /// A peer that announces a long body gets address space for it, and uses as much memory as it sends.
     fn make_room(&mut self) -> Result<(), Memory>
         ensures { self.new ≡ self.old }
     {
@@ -166,6 +167,8 @@ impl Framer {
     }
 
     /// Whether what came since plainly only goes on with a head that is not whole. Nothing before it is looked at again.
+    /// So a head that comes byte by byte is parsed about once a line. Parsing only when the bytes have doubled would
+    /// delay the 400 of a head that cannot go on.
     fn stays_open(&mut self) -> bool
         ensures same { self.new ≡ self.old }
         ensures open { IsTrue result → IsUnfinished self.old.held }
@@ -238,6 +241,7 @@ impl Framer {
     }
 
     /// No byte is left after the messages that were handed out.
+    /// A lone CR LF that is left at the end of a stream is a rest like any other, and gets a 400.
     pub fn is_empty(&self) -> bool
         ensures { IsTrue result ↔ (self.now.held ≡ []) }
     {

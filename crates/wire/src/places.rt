@@ -27,6 +27,7 @@ fn split_at_byte(text: &[u8], byte: u8) -> Option<(&[u8], &[u8])>
 }
 
 /// What stands before and behind `/@`.
+/// It cuts at the first `@`, because no module path contains one.
 #[tactic(auto, unfolding(crate::specs::Place::cut_of))]
 pub(crate) fn cut(text: &[u8]) -> Option<(&[u8], &[u8])>
     ensures { MatchOption result (cut_of text.now ≡ None) (λ parts. cut_of text.now ≡ Some (parts.0.now, parts.1.now)) }

@@ -45,7 +45,7 @@ fn both_routes(alloc: Global) -> Result<Router<Area>, InsertError>
 }
 
 impl RouteTable {
-    /// RouteTable that are still to be made. They take no memory yet.
+    /// A table whose router is still to be made. It takes no memory yet.
     pub fn new(alloc: Global) -> RouteTable {
         RouteTable {
             alloc,
@@ -59,6 +59,7 @@ impl RouteTable {
     }
 
     /// A target by its route, if it has one.
+    /// The key is all up to the next slash, as it is. A malformed key is in no world, so it is an unknown one.
     pub(crate) fn route_of<'t>(&mut self, target: &'t str) -> Result<Option<Routed<'t>>, Memory>
         ensures { IfOk result (λ found. MatchOption found (spec.routed_of target.now ≡ None)
             (λ r. spec.routed_of target.now ≡ Some (r.area, r.key.now, r.rest.now))) }

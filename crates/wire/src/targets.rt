@@ -33,6 +33,7 @@ fn read_target(table: &mut RouteTable, method: &[u8], target: &[u8]) -> Result<T
 }
 
 /// What a request with this method asks for by a target that is text.
+/// Methods are compared as text: `http::Method` allocates for more than 15 bytes, so a 404 could become a 503.
 fn read_text(table: &mut RouteTable, method: &[u8], text: &str) -> Result<Target, Memory>
     ensures { IfOk result (λ asked. asked ≡ asked_or method.now (routed_of text.now)) }
 {

@@ -11,6 +11,7 @@ use std::marker::Model;
 
 /// How many versions of some paths stand on some shelves, by shelf and path, so that a store need not
 /// count them again. Contracts see the map of them.
+/// With a kept count a publish costs the same however many versions its path has.
 #[derive(Drop)]
 pub struct Counts {
     shelves: TextMap<TextMap<u64>>,

@@ -13,6 +13,7 @@ use std::marker::Model;
 use text::Text;
 
 /// The most versions that are kept, in all lists. One takes some 200 bytes.
+/// The figure bounds the memory, not the answers: a longer list is found again each time.
 const MOST_VERSIONS: usize = 65_536;
 
 /// The most lists that are kept. One is found by going over them.
@@ -65,6 +66,7 @@ impl KeptLists {
     }
 
     /// Takes out the versions of a path that a shelf sees, where their list is kept.
+    /// `latest` takes the list and puts it back, so it copies nothing.
     pub fn take(&mut self, shelf: &str, path: &str) -> Option<Versions>
         ensures others { (w : World) → AreLists w self.old → AreLists w self.new }
         ensures taken { IfSome result (λ versions. (w : World) → AreLists w self.old
@@ -104,6 +106,7 @@ impl KeptLists {
     }
 
     /// Forgets the lists of a path, which gets one more version.
+    /// The lists of all shelves, because every shelf sees what is stored on `common`.
     pub fn forget(&mut self, path: &str)
         ensures { (w : World) (s v : _) (e : _) → AreLists w self.old
             → AreLists (with_entry w (place s path.now v) e) self.new }

@@ -16,6 +16,7 @@ use std::alloc::{AllocError, Global};
 use std::marker::Model;
 
 /// Entries by shelf, then by path, then by version, which contracts see as a finite map from their places.
+/// The maps are nested, so a lookup needs no owned text and a count is a length.
 #[derive(Drop)]
 pub struct EntryMap {
     shelves: TextMap<TextMap<TextMap<Entry>>>,

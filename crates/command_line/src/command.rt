@@ -91,8 +91,8 @@ fn show<O: Write, E: Write>(error: clap::Error, output: &mut O, errors: &mut E) 
     }
 }
 
-/// Tells that the words could not be had: one of them is not text, or memory was refused. It answers the exit status.
-/// Words that are not text are bad usage; without memory the run ends with `goshelf: memory`.
+/// Reports that the words could not be read, and returns the exit status. Words that are not text are bad usage; without
+/// memory the run ends with `goshelf: memory`.
 pub fn words_refused<E: Write>(error: io::Error, errors: &mut E) -> u8
     ensures { (result ≡ status_of (Ending.Refused Refusal.Memory)) ⊎ (result ≡ status_of Ending.BadUsage) }
 {

@@ -10,6 +10,7 @@ use Rattle.commands.specs.declared.refusal.Refusal.TheVariants.{Io}
 abbrev pub port_text : ℕ → List ℕ
 port_text port = codes "listening on 127.0.0.1:" ++ decimal port
 
+-- The line that reports a port.
 abbrev pub port_line : ℕ → List ℕ
 port_line port = port_text port ++ codes "\n"
 

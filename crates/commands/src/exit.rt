@@ -20,7 +20,7 @@ pub enum Ending {
 }
 
 impl Ending {
-    /// By what a task told.
+    /// The ending for what a task returned.
     pub fn of_task(told: Result<bool, Refusal>) -> Ending
         ensures { result ≡ spec.ending_of told }
     {
@@ -42,8 +42,8 @@ impl Ending {
         }
     }
 
-    /// Tells on a line why the command was refused, if it was. A line that can't be written is given up: the exit status
-    /// tells the same.
+    /// Writes the line that says why the command was refused, if it was. It gives up a line that can't be written: the exit
+    /// status says the same.
     pub fn tell<E: Write>(self, errors: &mut E)
         ensures { spec.Says (E.contents errors.old) (E.contents errors.new) self }
     {

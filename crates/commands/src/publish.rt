@@ -40,9 +40,9 @@ pub struct Files<'a> {
     pub zip: &'a str,
 }
 
-/// Reads the two files and publishes them. It prints the outcome, and tells whether the version stands now with these
-/// files. Where memory runs out while they are read, nothing is done on the store, and the outcome is the 503. `Io` where
-/// a file can't be read, and then nothing is done, or where the output failed.
+/// Reads two files, publishes them and prints the outcome. It returns whether the version now stands with these files. If
+/// memory runs out while it reads, it does nothing on the store and the outcome is the 503. `Io` if a file can't be read,
+/// and then it does nothing, or if the output fails.
 pub fn publish<S: Shelves, O: Write>(
     rt: &HostRuntime,
     shelves: &mut S,
@@ -83,7 +83,7 @@ fn read_files(rt: &HostRuntime, files: &Files) -> Result<Body, FileFault> {
     Ok(Body { gomod, zip })
 }
 
-/// Publishes files as the machine does, and prints the outcome; tells whether the version stands now with these files.
+/// Publishes files as the machine does and prints the outcome. It returns whether the version now stands with these files.
 pub fn publish_files<S: Shelves, O: Write>(
     alloc: Global,
     shelves: &mut S,

@@ -11,8 +11,9 @@ use std::net::{Ipv4Addr, TcpListener};
 use std::rt::HostRuntime;
 use world::shelves::Shelves;
 
-/// Binds a port of 127.0.0.1, prints it, and answers one request on each of so many connections. `Io` where the port can't be
-/// had, or the output fails; a connection that fails only counts.
+/// Prints the line of the port, the named one unless that is 0, and serves connections to it: the store goes through at most
+/// as many requests as there are connections. `Io` if the port can't be bound or the output fails; a connection that
+/// fails only counts.
 pub fn serve<S: Shelves, O: Write>(
     rt: &HostRuntime,
     shelves: &mut S,

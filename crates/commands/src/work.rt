@@ -59,7 +59,7 @@ pub enum Work<'a> {
     },
 }
 
-/// Does a work on a store, and tells whether it was accepted: only a publish and an import may be told so and not be.
+/// Does one work on a store and returns whether it was accepted; only a publish and an import can be done and not accepted.
 pub fn work_on<S: Shelves, I: Read, O: Write>(
     rt: &HostRuntime,
     shelves: &mut S,

@@ -88,6 +88,7 @@ abbrev pub sum_at : Target → Option (List ℕ × SemanticVersion)
 sum_at (target.Get key wanted) = sum_in wanted
 sum_at other = None
 
+-- The version whose go.sum line a message asks for, if it asks for one.
 abbrev pub sum_of : Request → Option (List ℕ × SemanticVersion)
 sum_of m = sum_at (target_in m)
 

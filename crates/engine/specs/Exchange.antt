@@ -9,6 +9,7 @@ use Rattle.world.specs.declared.registry.StoreFault.{StoreFault}
 use Rattle.world.specs.declared.registry.StoreFault.TheVariants.{Memory}
 use Rattle.engine.specs.Ask as spec
 
+-- What became of a message.
 pub data Outcome : Type 0 where
   -- there was no memory outside the store: to read what the message asks, or for the body of the reply
   Unserved : Outcome

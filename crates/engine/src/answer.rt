@@ -41,8 +41,8 @@ fn answer_held<W: Write, S: Shelves>(
     }
 }
 
-/// Answers all messages of a stream, one after another, and closes it: by nothing at a good end, by 413 at a front that is too
-/// large, by 400 at any other rest; or by one 503 where memory is refused, in the place of all that is left.
+/// Answers all messages of a stream, one after another, and closes it: with nothing at a good end, a 413 for a body that
+/// is too large, a 400 for any other rest, or one 503 in place of all that is left when memory runs out.
 ///
 /// `Io::Read`: each message that was read whole has been answered. `Io::Write`: all texts but the last were written, and a
 /// beginning of the last, or the flush alone failed; the shelves are as after the last message.
@@ -118,8 +118,8 @@ fn serve_first<R: Read, W: Write, S: Shelves>(
     Err(Io::Read)
 }
 
-/// Answers the first message of a stream, and tells the number of the status that it wrote: `None` exactly at an empty input.
-/// No more is read than is needed: before the last read no message was whole.
+/// Answers the first message of a stream and returns the status that it wrote, or None exactly for an empty input. It reads
+/// no more than it needs: before the last read no message was whole.
 ///
 /// `Io::Read`: nothing was done, and nothing written. `Io::Write`: a beginning of the text was written, or the flush alone
 /// failed; the shelves are as after the message.

@@ -32,6 +32,7 @@ keyword_named (k ∷ ks) name = if bytes_eq name (spelling k) then Some k else k
 abbrev pub profile_1 : Keywords
 profile_1 = Module ∷ Go ∷ Require ∷ Exclude ∷ Replace ∷ Retract ∷ []
 
+-- The second profile has four keywords more.
 abbrev pub profile_2 : Keywords
 profile_2 = profile_1 ++ Toolchain ∷ Tool ∷ Godebug ∷ Ignore ∷ []
 

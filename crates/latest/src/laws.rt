@@ -1,7 +1,7 @@
 //! Laws of the definitions. Nothing runs here: what holds is the contract.
 ghost use Rattle.latest.specs.Latest.{TopIsOne};
 
-/// Of versions that fit one path, one at most is the top.
+/// Among versions that fit one path, at most one is the top.
 pub fn top_is_one()
     ensures { TopIsOne }
 {}

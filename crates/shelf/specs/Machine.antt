@@ -257,6 +257,7 @@ keyed_reply w (Some h) q = query_reply w h.shelf q
 
 -- ---- a request
 
+-- What the machine replies to a request, and the world after it.
 abbrev pub ask_reply : World → Ask → Reply
 ask_reply w Unreadable = reply.NotFound
 ask_reply w (Get k q) = keyed_reply w (map.get w.keys k) q
@@ -269,6 +270,7 @@ after_ask w (Put k p) = after_put w k p
 
 -- ---- an event
 
+-- What the machine replies to an event, and the world after it.
 abbrev pub reply_to : World → Event → Reply
 reply_to w (Asked a) = ask_reply w a
 reply_to w (TeamAdd t) = reply.Registry (team_added w t)

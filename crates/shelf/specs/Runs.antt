@@ -13,6 +13,7 @@ pub record RunsAt (old new : Shown) (w : World) (events : List Event) (answers :
   pub ends : new.stands (world_after w events answers)
   pub left : AnsweredOrIdle w events answers → old.leaves w w → new.leaves (world_after w events answers) (world_after w events answers)
 
+-- In each world that the store stood for, these answers to the events are those of a run.
 pub record Runs (old new : Shown) (events : List Event) (answers : List Answer) : Type 0 where
   pub honest : new.is_honest → old.is_honest
   pub at : new.is_honest → (w : World) → old.stands w → RunsAt old new w events answers

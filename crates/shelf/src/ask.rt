@@ -85,7 +85,7 @@ pub enum Event {
 }
 
 impl Publish {
-    /// The entry that is handed in, if the files are told apart.
+    /// The entry that the publish hands in, or None if no length splits its bytes into two files.
     pub fn entry(&self) -> Option<EntryRef>
         ensures { result ≡ offered self.now }
     {
@@ -99,7 +99,7 @@ impl Publish {
         }
     }
 
-    /// The time of the entry: the given one; where none is, of a pseudo-version that of its stamp.
+    /// The time of the entry: the given one, or the stamp's of a pseudo-version without one.
     pub fn entry_time(&self) -> Option<TimeText>
         ensures { result ≡ entry_time (class_of self.now.version) self.now.time }
     {

@@ -9,9 +9,9 @@ use world::entry_test::{Misfit, module_misfit, own_misfit};
 use world::reading::Reading;
 use world::standing::Standing;
 
-/// The outcome of the checks of a publish by a key with this right (none: an unknown key), whose
-/// go.mod was read so (none: a check before fails), where it stands so to what is visible and so many
-/// versions of the path stand on the shelf. It takes no memory.
+/// The outcome of the twelve checks of a publish, in their order. They take the right of the key (none: an unknown key),
+/// the go.mod as it was read (none: an earlier check fails), how the entry stands to what the shelf sees, and the count
+/// of the path. It takes no memory.
 pub fn decide(
     publish: &Publish,
     right: Option<Right>,

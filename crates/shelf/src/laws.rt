@@ -16,13 +16,14 @@ pub fn isolation()
     ensures { IsIsolated }
 {}
 
-/// So runs over the whole list and over the purged one tell it the same, whatever others met.
+/// A run over all events and a run over the purged list answer the kept events alike, unless one of these met a fault.
 pub fn runs_agree()
     ensures purged { PurgedRunsAgree }
     ensures faulty { FaultyRunsAgree }
 {}
 
-/// What is purged are the requests of other shelves, each by what its key holds at its moment.
+/// A purge removes exactly the requests whose key belongs, at their moment, to a shelf that the caller's shelf does not
+/// see.
 pub fn purge()
     ensures length { MarksAreAsLong }
     ensures moment { MarksAreAtTheirMoment }
@@ -30,12 +31,13 @@ pub fn purge()
     ensures same { PurgeIsTheSame }
 {}
 
-/// A key is answered alike in all worlds that its shelf cannot tell apart.
+/// A key is answered alike in all worlds that are the same to its shelf.
 pub fn blindness()
     ensures { IsBlind }
 {}
 
-/// A key is answered alike by the whole of a world and by what its shelf sees of it, and each other key is not found there.
+/// Keys of a team and of `common` get the same answers from a world and from the team's part of it, through whole runs.
+/// A key of another team is not found in the part.
 pub fn parts()
     ensures low { PartIsLow }
     ensures throughout { IsBlindThroughout }
@@ -43,22 +45,25 @@ pub fn parts()
     ensures others { OthersAreNotFound }
 {}
 
-/// What was once served is served for good.
+/// A GET of one version that found it is answered the same for good, by any key that then belongs to the shelf, or meets
+/// a fault.
 pub fn immutability()
     ensures { StaysServed }
 {}
 
-/// What was once accepted is served for good.
+/// The go.mod, the zip and the time of an accepted publish are served for good to each key of the shelf, unless a
+/// request meets a fault.
 pub fn acceptance()
     ensures { AcceptedIsServed }
 {}
 
-/// A list of publishes that was accepted changes nothing when it comes again.
+/// A list of publishes that was accepted changes nothing when it comes again by a key that may then publish to the
+/// shelf.
 pub fn repetition()
     ensures { RepeatedListChangesNothing }
 {}
 
-/// Only a publish that is stored and a command of the registry that is done change the world.
+/// Only a stored publish and a registry command that is done change the world.
 pub fn changes()
     ensures others { OnlyChangesChange }
     ensures bodies { BodiesChangeNothing }
@@ -77,7 +82,7 @@ pub fn sight()
     ensures told { PathsAreTold }
 {}
 
-/// A shelf is told the releases and pre-releases of a path that it sees, each below the next.
+/// The list of a path holds the releases and pre-releases that the shelf sees, each below the next.
 pub fn listing()
     ensures told { ListIsTold }
     ensures not_found { ListIsNotFound }

@@ -43,7 +43,7 @@ fn answer<S: Shelves>(alloc: Global, shelves: &mut S, event: &Event) -> Answer
     }
 }
 
-/// Does one event after the other. Where there is no room for the answers, nothing is done.
+/// Does one event after the other and returns their answers. It does nothing if there is no room for the answers.
 pub fn run<S: Shelves>(
     alloc: Global,
     shelves: &mut S,
@@ -63,8 +63,8 @@ pub fn run<S: Shelves>(
     Ok(answers)
 }
 
-/// Does a list of events on shelves in memory that begin with `common` alone. Where there is no
-/// room for the shelves or for the answers, nothing is done.
+/// Does a list of events on shelves in memory that begin with `common` alone. It does nothing if there is no room for the
+/// shelves or the answers.
 pub fn run_in_memory(
     alloc: Global,
     events: &[Event],

@@ -4,11 +4,11 @@ use Rattle.world.specs.Store.{Shown}
 use Rattle.engine.specs.Exchange.{Exchange}
 use Rattle.engine.specs.Store.{GoesThrough}
 
--- what stood first on a connection was answered: a message, or none
+-- at most one message was answered, in a run of the machine
 abbrev pub GoesThroughOne : Shown → Shown → ℕ → ℕ → Type 0
 GoesThroughOne old new before now = (exchanges : List Exchange) × (length exchanges ≤ 1) × GoesThrough old new before now exchanges
 
--- In one run of the machine the messages of the connections were answered, in the order of the connections: on each one at most.
+-- In one run of the machine messages were answered, no more than there are connections.
 pub record GoesThroughMost (old new : Shown) (before now connections : ℕ) : Type 0 where
   pub exchanges : List Exchange
   pub few : length exchanges ≤ connections

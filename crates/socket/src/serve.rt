@@ -7,10 +7,11 @@ use std::net::TcpListener;
 use std::time::Clock;
 use world::shelves::Shelves;
 
-/// Takes so many connections of a listener, one after another, and answers one request on each; it returns after the last of
-/// them, and waits for each as long as it takes. An accept that fails counts, and so does a connection that fails: where its
-/// request was not read whole the shelves are as before it, and what a failed reply is about stays done. Nobody is told.
-/// An accept that fails counts so that a server without descriptors ends.
+/// Takes connections from a listener, one after another, and answers at most one request on each. It returns after the last
+/// of them, and waits for each as long as it takes.
+///
+/// A connection that fails counts and is reported to nobody. If its request was not read whole, it changed nothing; if its
+/// reply failed, what the request did stays. An accept that fails counts too, so a server without descriptors ends.
 pub fn serve_on<C: Clock, S: Shelves>(
     alloc: Global,
     clock: &C,

@@ -41,6 +41,7 @@ pub record ChangesAt (old new : State) (done : Bool) (w next : World) : Type 0 w
   pub left : HasCleanDisk new → Stands old w → LeavesOnly old (λ x. x ≡ w) → LeavesOnly new (λ x. (x ≡ w) ⊎ (x ≡ next))
   pub kept : IsTrue done → HasCleanDisk new → Stands old w → LeavesOnly new (λ x. x ≡ next)
 
+-- A change made the next world in each world that the tables stood for, or left it.
 pub record Changes (old new : State) (done : Bool) (next : World → World) : Type 0 where
   pub clean : doubt old.is_clean ≤ doubt new.is_clean
   pub at : (w : World) → ChangesAt old new done w (next w)

@@ -7,6 +7,7 @@ use Rattle.sqlite.specs.Term.{Term, lit, holds, eval_all}
 use Rattle.sqlite.specs.Query.{Query, inner, end}
 use Rattle.sqlite_rules.specs.Lists.{Has}
 
+-- A query over two tables: the pairs of rows that pass the filter, projected.
 abbrev pub pairs : ℕ → ℕ → List Term → List Term → Query
 pairs t u filter project = record {
   from = inner t (inner u end);

@@ -304,7 +304,8 @@ fn insert_entry<S: Alter>(
     written
 }
 
-/// Stores an entry where there is none, unless the connection is shut. The keys of the version are made first.
+/// Stores an entry at a place that has none. It makes the keys of the version before its first statement, so a lack of
+/// memory for them begins nothing.
 pub fn add_entry<S: Alter>(
     alloc: Global,
     conn: &mut Connection<S>,

@@ -114,7 +114,7 @@ impl RowSink for Keys {
     }
 }
 
-/// Copies the keys of one shelf.
+/// Copies the keys of one shelf into another store, within a transaction.
 pub fn copy_keys<S: Alter, F: Alter>(
     source: &mut Connection<S>,
     tx: &mut Transaction<'_, F>,
@@ -161,7 +161,7 @@ impl RowSink for Versions {
     }
 }
 
-/// Copies the rows of the versions on one shelf.
+/// Copies the rows of the versions on one shelf into another store, within a transaction.
 pub fn copy_versions<S: Alter, F: Alter>(
     source: &mut Connection<S>,
     tx: &mut Transaction<'_, F>,
@@ -195,8 +195,8 @@ impl RowSink for Pieces {
     }
 }
 
-/// Copies the rows of the zips of the versions on one shelf.
-/// It joins `version`, whose index finds the shelf, with `piece`, whose index finds the pieces of a version.
+/// Copies the rows of the zips on one shelf into another store, within a transaction. It joins `version`, whose index finds
+/// the shelf, with `piece`, whose index finds the pieces of a version.
 pub fn copy_pieces<S: Alter, F: Alter>(
     source: &mut Connection<S>,
     tx: &mut Transaction<'_, F>,

@@ -5,9 +5,9 @@ ghost use Rattle.store.specs.Restart.{IsThereAfterRestart};
 
 use sqlite::Alter;
 
-/// What was accepted is there after a restart. Once a change has answered Ok, a crash leaves the world
-/// after it alone (the clauses of `Shelves`), so files that a crash leaves hold that world, and a store
-/// that is opened over them begins at it (`SqlShelves::open_from`).
+/// A change that answered Ok is there after a restart: a crash then leaves the world after it alone (the clauses of
+/// `Shelves`), so the files that the crash leaves hold that world, and a store opened over them begins at it
+/// (`SqlShelves::open_from`).
 pub fn restart<S: Alter>()
     ensures { (conn : _) → IsThereAfterRestart (state S.Store conn) }
 {}

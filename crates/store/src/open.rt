@@ -70,10 +70,9 @@ impl<T: Start> SqlShelves<FileStore<FileFrom<T>>> {
 }
 
 impl SqlShelves<FileStore<File>> {
-    /// The store of a file, as `open_from` opens it where nothing is known of what the file holds. It
-    /// is supposed that a write that was torn by a crash leaves each byte old or new.
-    /// As with SQLite's `synchronous=FULL`, most commits then sync once. No clause of `sqlite` ties a path to the bytes of
-    /// a file, so no contract says that this path was opened: tests do.
+    /// Opens the store of a file, as `open_from` does when nothing is known of what the file holds. It supposes that a write
+    /// which a crash tore leaves each byte old or new. As with SQLite's `synchronous=FULL`, most commits then sync once. No
+    /// clause of `sqlite` ties a path to the bytes of a file, so no contract says that this path was opened: tests do.
     pub fn open_file(rt: &HostRuntime, path: &str) -> Result<FileShelves, Refusal>
         ensures memory { path.now ≡ codes ":memory:" → result ≡ Err Refusal.Device }
         ensures begins { IfOk result (λ s. HasCleanDisk (file_state s.conn)

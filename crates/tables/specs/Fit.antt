@@ -187,6 +187,7 @@ pub record ArePiecesFit (rows : List Row) : Type 0 where
   pub before : (row : Row) (n : ℕ) → Has rows row → nat_in (column row 1) ≡ n + 1
       → (other : Row) × Has rows other × (piece_in other ≡ full_piece (int_in (column row 0)) n)
 
+-- What the rows of all tables have to be to stand for a world.
 pub record AreFit (db : Trees) : Type 0 where
   pub named : IsMetaFit (map meta_shown (db meta_table.tree))
   pub shelves : AreShelvesFit (map name_shown (db shelf_table.tree))

@@ -96,6 +96,7 @@ pub record IsVersion (pieces : List Row) (row : Row) (it : Place × Entry) : Typ
   pub keys : HasKeys row it.0.version
   pub zip : ArePieces (filter (is_of row) pieces) it.1.zip
 
+-- The tables mean the world: each row is one fact of it, and each fact has a row.
 pub record Means (db : Trees) (w : World) : Type 0 where
   pub named : Tabulates IsMeta (db meta_table.tree) (λ it. it ≡ schema_named)
   pub shelves : Tabulates IsShelf (db shelf_table.tree) (λ name. IsTrue (set.contains w.shelves name))
@@ -138,5 +139,6 @@ pub record Holds (s : State) (w : World) : Type 0 where
 abbrev pub Stands : State → World → Type 0
 Stands s w = HasCleanDisk s → IsTrue s.is_open → Holds s w
 
+-- An open connection on an honest disk shows tables that mean the world.
 abbrev pub StandsFor : State → World → Type 0
 StandsFor s w = Stands s w × IsWorld w

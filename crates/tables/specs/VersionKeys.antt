@@ -9,6 +9,7 @@ abbrev pub key_if : (SemanticVersion → List ℕ) → Option SemanticVersion �
 key_if key None = []
 key_if key (Some v) = key v
 
+-- The keys of the version that a text is; no byte for any other text.
 unfoldable pub order_key_at : List ℕ → List ℕ
 order_key_at text = key_if order_key_of (version_of text)
 

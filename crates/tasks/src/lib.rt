@@ -54,7 +54,7 @@ pub enum Task<'a> {
     },
 }
 
-/// Does a task, and tells whether it was accepted: only a publish and an import may be told so and not be.
+/// Does a task and returns whether it was accepted; only a publish and an import can be done and not accepted.
 pub fn perform<I: Read, O: Write>(
     rt: &HostRuntime,
     task: &Task,

@@ -109,8 +109,8 @@ impl Framer {
         Ok(())
     }
 
-    /// How many bytes are still to come of the message that has begun, or 0 where none has a whole head: as long as fewer
-    /// come, it is not whole.
+    /// How many bytes are still to come of the message that has begun, or 0 if no head is whole. While fewer come, the message
+    /// is not whole.
     pub fn missing(&self) -> usize
         ensures { (bytes : List ℕ) → length bytes < result → IsUnfinished (self.now.held ++ bytes) }
     {
@@ -240,8 +240,8 @@ impl Framer {
         Next::Bad(bad)
     }
 
-    /// No byte is left after the messages that were handed out.
-    /// A lone CR LF that is left at the end of a stream is a rest like any other, and gets a 400.
+    /// Whether no byte is left after the messages that were handed out. A lone CR LF that is left at the end of a stream is
+    /// a rest like any other, and gets a 400.
     pub fn is_empty(&self) -> bool
         ensures { IsTrue result ↔ (self.now.held ≡ []) }
     {

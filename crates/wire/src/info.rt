@@ -22,8 +22,8 @@ fn info(alloc: Global, version: &Version, time: Option<TimeText>) -> Result<Valu
     }
 }
 
-/// The body that tells a version and its time, where it has one, as `{"Version":"v1.0.0"}`. `Memory` where there is no
-/// room for it.
+/// The JSON body with a version and its time, if it has one, as `{"Version":"v1.0.0"}`. `Memory` if there is no room for
+/// it.
 pub fn info_body(
     alloc: Global,
     version: &Version,

@@ -11,33 +11,32 @@ pub fn no_message_begins_another()
     ensures { (bytes more : List ℕ) (a b : Request) → ReadsMessage bytes a [] → ReadsMessage (bytes ++ more) b [] → more ≡ [] }
 {}
 
-/// A stream is one list of messages, and has one end.
+/// A stream splits into messages in one way, and has one end.
 pub fn one_stream()
     ensures { (bytes : List ℕ) (a b : List Request) (x y : End) → IsStream bytes a x → IsStream bytes b y → (a ≡ b) × (x ≡ y) }
 {}
 
-/// The bytes of some messages behind one another, and then a rest, are the stream of these messages with the end that the rest is.
+/// Messages one after another and then a rest are the stream of these messages, with the end of the rest.
 pub fn messages_make_a_stream()
     ensures { (pieces : List (List ℕ)) (messages : List Request) (rest : List ℕ) (end : End) → AreMessages pieces messages → Ends rest end
         → IsStream (concat pieces ++ rest) messages end }
 {}
 
-/// Each stream is so. So the bytes of any of its messages may be taken out: what is left is the stream of the other messages, with
-/// the same end.
+/// Each stream is messages one after another and then a rest, so the bytes of any of them can be removed: what is left is
+/// the stream of the others, with the same end.
 pub fn a_stream_is_made_of_messages()
     ensures { (bytes : List ℕ) (messages : List Request) (end : End) → IsStream bytes messages end
         → (pieces : List (List ℕ)) × (rest : List ℕ) × (bytes ≡ concat pieces ++ rest) × AreMessages pieces messages × Ends rest end }
 {}
 
-/// The bytes of a message may be taken out of a stream, wherever it stands: what is left is the stream of the other messages, with
-/// the same end.
+/// Removing the bytes of one message from a stream leaves the stream of the others, with the same end.
 pub fn a_message_may_be_taken_out()
     ensures { (front bytes back : List ℕ) (before after : List Request) (message : Request) (end : End)
         → ReadsMessages front before [] → IsMessage bytes message
         → IsStream (front ++ (bytes ++ back)) (before ++ message ∷ after) end → IsStream (front ++ back) (before ++ after) end }
 {}
 
-/// What is computed of a request is what it asks for.
+/// The reading that is computed of a request is the one that the rules relate to it.
 pub fn a_target_is_read_as_it_is()
     ensures { (method text : List ℕ) → ReadsTarget method text (target_of method text) }
 {}

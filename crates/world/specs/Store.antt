@@ -31,6 +31,7 @@ pub record DoesWhere {T : Type 0} (fits : World → Type 0) (old new : Shown) (r
   pub honest : new.is_honest → old.is_honest
   pub at : new.is_honest → (w : World) → old.stands w → fits w → DoesAt old new w result (value w) (next w)
 
+-- In each world that the store stood for, the call answers this value and makes this next world, or fails and leaves the world.
 abbrev pub Does : {T : Type 0} → Shown → Shown → Result T StoreFault → (World → T) → (World → World) → Type 0
 Does old new result value next = DoesWhere (λ _. Unit {0}) old new result value next
 

@@ -138,6 +138,7 @@ pub record IsEntry (q : Place) (e : Entry) : Type 0 where
   pub time : IsTimeOf (class_of version.0) e.time
   pub reads : IsGoModOf q.path version.0.marked e.gomod
 
+-- What every world keeps.
 pub record IsWorld (w : World) : Type 0 where
   -- common is there, and each other shelf has the name of a team
   pub has_common : set.contains w.shelves common ≡ true

@@ -16,7 +16,7 @@ use store::open::FileShelves;
 use tasks::perform;
 use world::shelves::Shelves;
 
-/// One whole run of the program, by the words after its name. It answers the exit status:
+/// Runs the program by the words after its name, and returns the exit status:
 /// 0 done, 1 refused with one line `goshelf: <word>` on `errors` (or, of a publish, with its outcome on `output`),
 /// 2 bad usage with the parser's text on `errors`.
 pub fn command<I: Read, O: Write, E: Write>(

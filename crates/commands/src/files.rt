@@ -58,7 +58,7 @@ fn has_bytes<R: Read>(reader: &mut R) -> io::Result<bool>
     Ok(reader.read(&mut byte)? > 0)
 }
 
-/// The bytes of a file, at most one more than this many.
+/// The bytes of a file, up to one more than `most`.
 pub fn read_file(rt: &HostRuntime, path: &str, most: u64) -> Result<Bytes, FileFault>
     requires { most < 2 ^ 63 }
 {
@@ -66,7 +66,7 @@ pub fn read_file(rt: &HostRuntime, path: &str, most: u64) -> Result<Bytes, FileF
     read_at_most(rt.alloc(), file, most)
 }
 
-/// The bytes of a reader, at most one more than this many: so a text that is too long shows it.
+/// The bytes of a reader, up to one more than `most`, so that a text that is too long shows it.
 pub fn read_at_most<R: Read + Drop>(alloc: Global, reader: R, most: u64) -> Result<Bytes, FileFault>
     requires { most < 2 ^ 63 }
     ensures { IfOk result (λ bytes. IfSome (R.remaining reader) (λ all. bytes ≡ take (most + 1) all)) }

@@ -11,7 +11,7 @@ use std::io::Write;
 use std::rt::HostRuntime;
 use world::shelves::Shelves;
 
-/// Publishes each row of the list in a file, with the files of the system, and tells whether all were accepted. `BadRow` after a
+/// Publishes each row of the list in a file, with the system's files, and returns whether all were accepted. `BadRow` after a
 /// bad row, `Io` where the list can't be opened, and then nothing is done, or where a line could not be printed.
 pub fn import_file<S: Shelves, O: Write>(
     rt: &HostRuntime,

@@ -33,7 +33,7 @@ pub enum Refusal {
 }
 
 impl Refusal {
-    /// The word that tells it.
+    /// The word of the refusal on standard error.
     pub fn word(self) -> &'static str
         ensures { result.now ≡ spec.word self }
     {
@@ -59,7 +59,7 @@ impl From<AllocError> for Refusal {
     }
 }
 
-/// How a command of the registry ends, by what the store told.
+/// How a registry command ends, by the store's answer.
 pub fn ending(told: Result<Registered, StoreFault>) -> Result<(), Refusal>
     ensures { result ≡ spec.ending told }
 {

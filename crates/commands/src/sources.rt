@@ -35,7 +35,7 @@ pub trait Sources {
     /// Which bytes a name has, where that is told: of a name that has none it may be told too.
     ghost told: { Self → List ℕ → Option (Option (List ℕ)) };
 
-    /// The bytes of a name, at most one more than this many: so a text that is too long shows it.
+    /// The bytes of a name, up to one more than `most`, so that a text that is too long shows it.
     fn bytes(&self, name: &str, most: u64) -> Result<Bytes, SourceFault>
         requires { most < 2 ^ 63 }
         ensures { IsTold most (told self.now name.now) result };

@@ -54,7 +54,7 @@ fn page_for<S: Shelves>(
     page_told(alloc, &asking, told)
 }
 
-/// Answers one message, and tells the status that was written.
+/// Answers one message and returns the status that was written.
 pub(crate) fn answer_message<W: Write, S: Shelves>(
     alloc: Global,
     routes: &mut RouteTable,
@@ -72,7 +72,7 @@ pub(crate) fn answer_message<W: Write, S: Shelves>(
     write_page(alloc, writer, &page)
 }
 
-/// The same of a message that stands alone, for which the routes are made anew.
+/// Answers one message that stands alone, with a new router, and returns the status that was written.
 pub(crate) fn answer_alone<W: Write, S: Shelves>(
     alloc: Global,
     writer: &mut W,

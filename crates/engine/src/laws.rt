@@ -46,9 +46,9 @@ pub fn isolation_of_one_request<S: Shelves, T: Shelves>()
         → TwoAnswersAreAlike (S.shown old) (S.shown new) (T.shown old_too) (T.shown new_too) }
 {}
 
-/// A store and a store of a team's part write the same text for each message that both answered, if all of these have
-/// keys of the team or of `common`. For a key of another team, or for an unknown one, the second writes the 404 or the
-/// 503.
+/// Two runs, one from a world and one from a team's part of it, write the same texts if they answered the same messages,
+/// all with keys of the team or of `common`; faults are left out. For a key of another team, or for an unknown one, the
+/// second writes the 404 or the 503.
 pub fn parts()
     ensures own { PartWritesTheSame }
     ensures others { OthersAreWrittenNotFound }

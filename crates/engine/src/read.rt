@@ -58,7 +58,7 @@ fn feed_some<R: Read>(reader: &mut R, framer: &mut Framer, chunk: &mut [u8]) -> 
     }
 }
 
-/// The same of a message of which more is missing than one read takes: of what follows it no byte is read.
+/// Reads once for a message that lacks more than one read takes, and reads no byte behind it.
 #[inline(never)]
 fn read_body<R: Read>(reader: &mut R, framer: &mut Framer, missing: usize) -> Result<Turn, Io>
     requires waits { IsUnfinished framer.old.held }

@@ -31,8 +31,8 @@ impl<'a> Token<'a> {
         matches!(self.kind, Kind::Arrow)
     }
 
-    /// What it stands for: a string for its content, without marks and backslashes, all else for its
-    /// text. It is a part of the text, unless a backslash stands in a string between quotation marks. The
+    /// The value of the token: of a string its content without marks and backslashes, of any other token
+    /// its text. It is a part of the text, unless a backslash stands in a string between quotation marks. The
     /// error is that the system is out of memory, for such a string alone.
     #[tactic(auto, unfolding(crate::specs::Words::value_of))]
     pub fn value(&self, alloc: Global) -> Result<CowStr<'a>, AllocError>

@@ -40,7 +40,7 @@ impl SqlShelves<MemStore> {
 }
 
 impl<T: Start> SqlShelves<FileStore<FileFrom<T>>> {
-    /// The store of the files at a path, where `T` stands for what they hold: the database file, which
+    /// Opens the store of the files at a path, where `T` says what they hold: the database file, which
     /// is made if it is not there, and its log. Files whose tables are those of the schema are opened
     /// with the world that they stand for, and empty ones with the shelf `common` alone.
     ///

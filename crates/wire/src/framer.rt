@@ -197,7 +197,7 @@ impl Framer {
         self.give_body(head, body)
     }
 
-    /// The same in a copy.
+    /// Takes a head and a body off, and gives a copy of the body.
     fn copy_body(&mut self, head: usize, body: usize) -> Result<Vec<u8>, Memory>
         requires whole { head + body ≤ length self.old.held }
         requires sound { self.old.failure ≡ None }
@@ -212,7 +212,7 @@ impl Framer {
         Ok(copy)
     }
 
-    /// The same in the buffer; what follows the body is copied.
+    /// Takes a head and a body off, and gives the body in the buffer; what follows it is copied.
     fn give_body(&mut self, head: usize, body: usize) -> Result<Vec<u8>, Memory>
         requires whole { head + body ≤ length self.old.held }
         requires sound { self.old.failure ≡ None }

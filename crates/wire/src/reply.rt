@@ -60,7 +60,7 @@ impl Kind {
 }
 
 impl Fixed {
-    /// Its status.
+    /// The status of the reply.
     #[tactic(auto, unfolding(crate::specs::Reply::phrase))]
     pub fn status(self) -> StatusCode
         ensures status { result ≡ fixed_status self }

@@ -84,7 +84,7 @@ fn made_router(alloc: Global) -> Result<Router<Area>, Memory>
     }
 }
 
-/// The same by the router.
+/// The area, the key and the rest of a target, by the router.
 fn split<'t>(routes: &Router<Area>, target: &'t str) -> Option<Routed<'t>>
     requires { routes.now ≡ spec.routes }
     ensures { MatchOption result (spec.routed_of target.now ≡ None)

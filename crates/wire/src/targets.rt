@@ -22,7 +22,7 @@ pub fn target(table: &mut RouteTable, method: &[u8], target: &[u8]) -> Result<Ta
     read_target(table, method, target)
 }
 
-/// The same, as it is computed.
+/// Computes what a request asks for.
 fn read_target(table: &mut RouteTable, method: &[u8], target: &[u8]) -> Result<Target, Memory>
     ensures { IfOk result (λ asked. asked ≡ target_of method.now target.now) }
 {

@@ -109,7 +109,7 @@ impl Entry {
         })
     }
 
-    /// A copy of what it shows without its zip.
+    /// A copy of the entry without its zip.
     pub fn heading(&self, alloc: Global) -> Result<Heading, AllocError>
         ensures { IfOk result (λ h. h ≡ heading_of self.now) }
     {
@@ -120,7 +120,7 @@ impl Entry {
         })
     }
 
-    /// Its files.
+    /// The files of the entry, borrowed.
     pub fn as_ref(&self) -> EntryRef
         ensures { result ≡ self.now }
     {

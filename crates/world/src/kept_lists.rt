@@ -155,7 +155,7 @@ impl KeptLists {
     }
 }
 
-/// The same versions once more.
+/// A copy of the versions.
 fn copied(alloc: Global, versions: &[Version]) -> Result<Versions, AllocError>
     ensures { IfOk result (λ copy. copy ≡ versions.now) }
 {

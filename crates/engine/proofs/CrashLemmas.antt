@@ -2,8 +2,8 @@
 use Rattle.std.proofs.Common.{◌≡◌, List, [], ◌∷◌, ◌++◌, refl, sym, subst}
 use Rattle.world.specs.World.{World}
 use Rattle.world.specs.Store.{Shown}
-use Rattle.engine.specs.Exchange.{Exchange, Outcome, Unserved, Met, Told, AllUnmet}
-use Rattle.engine.specs.Store.{LeavesTwo, world_at}
+use Rattle.engine.specs.Exchange.{Exchange, Outcome, Unserved, Met, Told}
+use Rattle.engine.specs.Store.{LeavesTwo, AllCalm, world_at}
 
 -- what holds of the store's worlds before holds of its worlds now
 pub leaves_kept : (mid new : Shown) → ((w x : World) → mid.leaves w x → new.leaves w x) → (w : World) (xs : List Exchange)
@@ -12,7 +12,7 @@ leaves_kept mid new kept w [] leaves = kept w w leaves
 leaves_kept mid new kept w (x ∷ []) leaves = kept w _ leaves
 leaves_kept mid new kept w (x ∷ y ∷ more) leaves = λ unmet. leaves_kept mid new kept (world_at w (x ∷ [])) (y ∷ more) (leaves unmet)
 
-world_step : (w : World) (x : Exchange) (xs : List Exchange) → world_at (world_at w (x ∷ [])) xs ≡ world_at w (x ∷ xs)
+pub world_step : (w : World) (x : Exchange) (xs : List Exchange) → world_at (world_at w (x ∷ [])) xs ≡ world_at w (x ∷ xs)
 world_step w x xs = by_outcome x.outcome
   where
     by_outcome : (o : Outcome)
@@ -23,7 +23,7 @@ world_step w x xs = by_outcome x.outcome
 
 -- after messages that met no fault, more messages
 pub leaves_more : (new : Shown) (w : World) (xs : List Exchange) (y : Exchange) (ys : List Exchange)
-    → (AllUnmet xs → LeavesTwo new (world_at w xs) (y ∷ ys)) → LeavesTwo new w (xs ++ y ∷ ys)
+    → (AllCalm w xs → LeavesTwo new (world_at w xs) (y ∷ ys)) → LeavesTwo new w (xs ++ y ∷ ys)
 leaves_more new w [] y ys next = next tt
 leaves_more new w (x ∷ []) y ys next = λ unmet. next (unmet, tt)
 leaves_more new w (x ∷ x' ∷ more) y ys next =

@@ -12,15 +12,16 @@ use Rattle.shelf.specs.Machine.{ask_reply, after_ask, HasBody}
 use Rattle.world.specs.Store.{Shown, Does, HasCause, GrewOrFull}
 use Rattle.shelf.proofs.Changes.{bodies_change_nothing}
 use Rattle.engine.specs.Ask.{ask_of, sum_of}
-use Rattle.engine.specs.Exchange.{Exchange, Outcome, Unserved, Met, Told, event_of, answer_of, AllUnmet}
+use Rattle.engine.specs.Exchange.{Exchange, Outcome, Unserved, Met, Told, event_of, answer_of}
 use Rattle.engine.specs.Reply.{IsComposed, IsOutcome}
-use Rattle.engine.specs.Store.{GoesThrough, LeavesTwo, world_at}
-use Rattle.engine.proofs.CrashLemmas.{leaves_kept, leaves_more}
+use Rattle.engine.specs.Store.{GoesThrough, LeavesTwo, AllCalm, world_at}
+use Rattle.engine.proofs.CrashLemmas.{leaves_kept, leaves_more, world_step}
 use Rattle.engine.proofs.RunLemmas.{runs_more, world_more, met_either}
 
-unmet_parts : (xs ys : List Exchange) → AllUnmet (xs ++ ys) → AllUnmet xs × AllUnmet ys
-unmet_parts [] ys all = (tt, all)
-unmet_parts (x ∷ xs) ys all = let parts = unmet_parts xs ys all.1 in ((all.0, parts.0), parts.1)
+calm_parts : (w : World) (xs ys : List Exchange) → AllCalm w (xs ++ ys) → AllCalm w xs × AllCalm (world_at w xs) ys
+calm_parts w [] ys all = (tt, all)
+calm_parts w (x ∷ xs) ys all =
+    let parts = calm_parts (world_at w (x ∷ [])) xs ys all.1 in ((all.0, parts.0), subst (λ v. AllCalm v ys) (world_step w x xs) parts.1)
 
 -- the count of failures only grows
 grown_first : (before mid now : ℕ) → GrewOrFull before mid → mid ≤ now → GrewOrFull before now
@@ -48,7 +49,7 @@ through_none shown count = record {
     at = λ h w stands. record { run = refl; ends = stands; left = λ idle was. was };
   };
   left = λ h w stands was. was;
-  settled = λ unmet h w stands was. was;
+  settled = λ h w stands calm was. was;
   untouched = λ none h w x was. was;
   no_fewer = omega arith;
   device = λ met. absurd met;
@@ -65,7 +66,7 @@ through_unasked shown count m wider = record {
     at = λ h w stands. record { run = refl; ends = stands; left = λ idle was. was };
   };
   left = λ h w stands was. wider w _ was;
-  settled = λ unmet h w stands was. was;
+  settled = λ h w stands calm was. was;
   untouched = λ none. cc;
   no_fewer = omega arith;
   device = λ met. elim met [ inl is ↦ cc | inr never ↦ absurd never ];
@@ -85,7 +86,10 @@ module _ (old new : Shown) (before now : ℕ) (m : Request) (ask : Ask) (is : as
       };
     };
     left = λ h w stands was. subst (λ x. new.leaves w x) (ap (after_ask w) is) ((does.at h w stands tt).left was);
-    settled = λ unmet. absurd unmet.0;
+    settled = λ h w stands calm was. elim calm.0 [
+      | inl never ↦ absurd never
+      | inr idle ↦ subst (λ x. new.leaves w x) (ap (after_ask w) is ∙ idle) ((does.at h w stands tt).left was)
+    ];
     untouched = λ none. cc;
     no_fewer = cause.no_fewer;
     device = λ met. elim met [ inl same ↦ cause.device cc | inr never ↦ absurd never ];
@@ -104,7 +108,7 @@ module _ (old new : Shown) (before now : ℕ) (m : Request) (ask : Ask) (is : as
       };
     };
     left = λ h w stands was. subst (λ x. new.leaves w x) (ap (after_ask w) is) ((does.at h w stands tt).left was);
-    settled = λ unmet h w stands was. kept w ((does.at h w stands tt).kept was);
+    settled = λ h w stands calm was. kept w ((does.at h w stands tt).kept was);
     untouched = λ none. cc;
     no_fewer = cause.no_fewer;
     device = λ met. elim met [ inl same ↦ cc | inr never ↦ absurd never ];
@@ -126,7 +130,7 @@ module _ (old new : Shown) (before now : ℕ) (m : Request) (ask : Ask) (is : as
       };
     };
     left = λ h w stands was. subst (λ x. new.leaves w x) (ap (after_ask w) is) ((does.at h w stands tt).left was);
-    settled = λ unmet h w stands was. kept h w stands was;
+    settled = λ h w stands calm was. kept h w stands was;
     untouched = λ none. cc;
     no_fewer = cause.no_fewer;
     device = λ met. elim met [ inl other ↦ cc | inr never ↦ absurd never ];
@@ -164,7 +168,7 @@ module _ (old mid new : Shown) (before between now : ℕ) (xs : List Exchange) (
       (leaves_kept mid new (next.untouched refl h) w xs (first.left (next.runs.honest h) w stands was))
   leaves_after (y ∷ ys) next h w stands was =
       let honest = next.runs.honest h in
-      leaves_more new w xs y ys (λ all. next.left h _ (first.runs.at honest w stands).ends (first.settled all honest w stands was))
+      leaves_more new w xs y ys (λ all. next.left h _ (first.runs.at honest w stands).ends (first.settled honest w stands all was))
 
   module _ (ys : List Exchange) where
     same_world : mid.is_honest → (w : World) → old.stands w → world_at (world_at w xs) ys ≡ world_at w (xs ++ ys)
@@ -177,12 +181,12 @@ module _ (old mid new : Shown) (before between now : ℕ) (xs : List Exchange) (
       runs = rw (map-append event_of xs ys, map-append answer_of xs ys)
           (runs_more old mid new (map event_of xs) (map event_of ys) (map answer_of xs) (map answer_of ys) first.runs next.runs);
       left = leaves_after ys next;
-      settled = λ unmet h w stands was.
-          let parts = unmet_parts xs ys unmet in
+      settled = λ h w stands calm was.
+          let parts = calm_parts w xs ys calm in
           let honest = next.runs.honest h in
           let there = (first.runs.at honest w stands).ends in
           subst (λ x. new.leaves x x) (same_world honest w stands)
-          (next.settled parts.1 h _ there (first.settled parts.0 honest w stands was));
+          (next.settled h _ there parts.1 (first.settled honest w stands parts.0 was));
       untouched = λ none h w x was.
           let parts = none_of xs ys none in
           next.untouched parts.1 h w x (first.untouched parts.0 (next.runs.honest h) w x was);

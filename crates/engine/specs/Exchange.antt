@@ -43,7 +43,3 @@ abbrev pub IsUnmet : Outcome → Type 0
 IsUnmet Unserved = Unit {0}
 IsUnmet (Met fault) = ⊥
 IsUnmet (Told reply) = Unit {0}
-
-abbrev pub AllUnmet : List Exchange → Type 0
-AllUnmet [] = Unit {0}
-AllUnmet (x ∷ xs) = IsUnmet x.outcome × AllUnmet xs

@@ -1,20 +1,29 @@
 -- What a store goes through while messages are answered.
-use Rattle.std.specs.Prelude.{◌≡◌, ℕ, ◌≤◌, List, [], ◌∷◌, map}
+use Rattle.std.specs.Prelude.{◌≡◌, ℕ, ◌≤◌, ◌⊎◌, List, [], ◌∷◌, map}
 use Rattle.shelf.specs.Machine.{after, world_after, MetDevice}
 use Rattle.world.specs.World.{World}
 use Rattle.world.specs.Store.{Shown, GrewOrFull}
 use Rattle.shelf.specs.Runs.{Runs}
-use Rattle.engine.specs.Exchange.{Exchange, event_of, answer_of, IsUnmet, AllUnmet}
+use Rattle.engine.specs.Exchange.{Exchange, event_of, answer_of, IsUnmet}
 
 -- where the machine is after the exchanges
 abbrev pub world_at : World → List Exchange → World
 world_at w exchanges = world_after w (map event_of exchanges) (map answer_of exchanges)
 
+-- the store met no fault at the message, or the message changes nothing
+abbrev pub IsCalm : World → Exchange → Type 0
+IsCalm w x = IsUnmet x.outcome ⊎ (after w (event_of x) ≡ w)
+
+-- so it is of each, at its moment
+abbrev pub AllCalm : World → List Exchange → Type 0
+AllCalm w [] = Unit {0}
+AllCalm w (x ∷ xs) = IsCalm w x × AllCalm (world_at w (x ∷ [])) xs
+
 -- As long as no message but the last met a fault, a crash leaves the world before the last or the world after it.
 abbrev pub LeavesTwo : Shown → World → List Exchange → Type 0
 LeavesTwo shown w [] = shown.leaves w w
 LeavesTwo shown w (x ∷ []) = shown.leaves w (after w (event_of x))
-LeavesTwo shown w (x ∷ y ∷ more) = IsUnmet x.outcome → LeavesTwo shown (world_at w (x ∷ [])) (y ∷ more)
+LeavesTwo shown w (x ∷ y ∷ more) = IsCalm w x → LeavesTwo shown (world_at w (x ∷ [])) (y ∷ more)
 
 -- From old to new the store went through the exchanges, with these counts of device failures before and now.
 pub record GoesThrough (old new : Shown) (before now : ℕ) (exchanges : List Exchange) : Type 0 where
@@ -22,7 +31,7 @@ pub record GoesThrough (old new : Shown) (before now : ℕ) (exchanges : List Ex
   pub runs : Runs old new (map event_of exchanges) (map answer_of exchanges)
   -- where a crash left the world of the begin alone: two worlds at most, and that of the end alone if no message met a fault
   pub left : new.is_honest → (w : World) → old.stands w → old.leaves w w → LeavesTwo new w exchanges
-  pub settled : AllUnmet exchanges → new.is_honest → (w : World) → old.stands w → old.leaves w w
+  pub settled : new.is_honest → (w : World) → old.stands w → AllCalm w exchanges → old.leaves w w
       → new.leaves (world_at w exchanges) (world_at w exchanges)
   -- without messages nothing changes
   pub untouched : exchanges ≡ [] → new.is_honest → (w x : World) → old.leaves w x → new.leaves w x

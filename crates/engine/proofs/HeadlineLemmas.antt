@@ -124,7 +124,7 @@ found_bytes m n (reply.Zip b) same is = refl
 found_bytes m n (reply.Info v time) same is = refl
 found_bytes m n r same is = absurd is
 
-failed_text : (m : Request) (a : Answer) → IsFailed a → bytes_of m a ≡ unavailable
+pub failed_text : (m : Request) (a : Answer) → IsFailed a → bytes_of m a ≡ unavailable
 failed_text m (Replied r) never = absurd never
 failed_text m (Failed fault) failed = refl
 

@@ -1,3 +1,4 @@
+pub mod AcceptedLemmas
 pub mod AskLemmas
 pub mod CallLemmas
 pub mod CrashLemmas
@@ -11,4 +12,5 @@ pub mod ReadLemmas
 pub mod RunLemmas
 pub mod ServedLemmas
 pub mod StoreLemmas
+pub mod ThroughoutLemmas
 pub mod TurnLemmas

@@ -1,3 +1,4 @@
+pub mod Accepted
 pub mod Ask
 pub mod Calls
 pub mod Exchange
@@ -8,6 +9,7 @@ pub mod Parts
 pub mod Reply
 pub mod Served
 pub mod Store
+pub mod Throughout
 pub mod Turn
 pub mod TwoStores
 pub mod Written

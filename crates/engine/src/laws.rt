@@ -2,9 +2,11 @@
 ghost use Rattle.std.specs.Prelude.{◌≡◌, ◌+◌};
 ghost use Rattle.wire.specs.Message.{body_limit};
 ghost use Rattle.world.specs.World.{gomod_limit, zip_limit};
+ghost use Rattle.engine.specs.Accepted.{AcceptedIsWritten};
 ghost use Rattle.engine.specs.Calls.{CallsTellAlike, CallsTellAlikeAsFar};
 ghost use Rattle.engine.specs.Headline.{CallersAreToldAlike, BytesStayServed, LatestIsWritten};
 ghost use Rattle.engine.specs.Parts.{PartWritesTheSame, OthersAreWrittenNotFound};
+ghost use Rattle.engine.specs.Throughout.{CallersAreToldAlikeThroughout};
 ghost use Rattle.engine.specs.TwoStores.{TwoAnswersAreAlike};
 
 use world::shelves::Shelves;
@@ -15,9 +17,21 @@ pub fn isolation()
     ensures { CallersAreToldAlike }
 {}
 
+/// Isolation throughout: with registry commands among the messages, so that keys come and go, and with every message that was
+/// answered 503 left out of both runs, a caller is written the same bytes whether or not other teams send requests.
+pub fn isolation_throughout()
+    ensures { CallersAreToldAlikeThroughout }
+{}
+
 /// What was once written with 200 for a version is written for good, to any key that then belongs to the shelf, or the 503.
 pub fn immutability()
     ensures { BytesStayServed }
+{}
+
+/// Once a publish by a key of a shelf is written 201 or 200, every later GET of that version's `.mod`, `.zip` or `.info` by a key that then
+/// belongs to the shelf is written the files and the time of the publish, or the 503, whatever comes in between.
+pub fn acceptance()
+    ensures { AcceptedIsWritten }
 {}
 
 /// A GET of `@latest` is written the name and the time of the highest version that the key's shelf sees and that the

@@ -1,0 +1,78 @@
+-- What was accepted is written for good: the law of runs, in bytes.
+use Rattle.std.proofs.Common.{◌≡◌, ◌⊎◌, ◌≤◌, ℕ, List, [], ◌∷◌, Some, refl, ◌∙◌, sym, ap, subst, inl, inr, arith}
+use Rattle.wire.specs.Message.{Request}
+use Rattle.wire.specs.declared.request.Query.{Query as Wanted}
+use Rattle.wire.specs.declared.request.Target.TheVariants as target
+use Rattle.world.specs.World.{World}
+use Rattle.shelf.specs.declared.ask.Ask.TheVariants.{Get, Put}
+use Rattle.shelf.specs.declared.ask.Event.{Event}
+use Rattle.shelf.specs.declared.ask.Event.TheVariants.{Asked}
+use Rattle.shelf.specs.declared.ask.Publish.{Publish}
+use Rattle.shelf.specs.declared.reply.Answer.{Answer}
+use Rattle.shelf.specs.declared.reply.Answer.TheVariants.{Replied, Failed}
+use Rattle.shelf.specs.declared.reply.Decision.{Decision}
+use Rattle.shelf.specs.declared.reply.Decision.TheVariants as decision
+use Rattle.shelf.specs.declared.reply.Refusal.{Refusal}
+use Rattle.shelf.specs.declared.reply.Refusal.TheVariants as refusal
+use Rattle.shelf.specs.declared.reply.Reply.{Reply}
+use Rattle.shelf.specs.declared.reply.Reply.TheVariants as reply
+use Rattle.shelf.specs.Immutability.{IsAccepted}
+use Rattle.shelf.specs.Machine.{Run, put_decision}
+use Rattle.shelf.proofs.Served.{accepted_is_served}
+use Rattle.engine.specs.Ask as spec
+use Rattle.engine.specs.Exchange.{Exchange, event_of, answer_of}
+use Rattle.engine.specs.Reply.{page_for, page_status, fixed_of, bytes_of, status_of, text_of}
+use Rattle.wire.specs.Reply.{fixed_status}
+use Rattle.engine.specs.Accepted.{AcceptedIsWritten}
+use Rattle.engine.specs.Headline.{unavailable}
+use Rattle.engine.proofs.HeadlineLemmas.{failed_text}
+
+abbrev IsGood : ℕ → Type 0
+IsGood n = (n ≡ 201) ⊎ (n ≡ 200)
+
+above : (n : ℕ) → 202 ≤ n → ¬ IsGood n
+above n more (inl is) = omega arith
+above n more (inr is) = omega arith
+
+accepted : (d : Decision) → IsGood (fixed_status (fixed_of d)) → IsAccepted d
+accepted decision.Published good = tt
+accepted decision.Same good = tt
+accepted decision.NotFound good = absurd (above 404 (omega arith) good)
+accepted decision.Forbidden good = absurd (above 403 (omega arith) good)
+accepted decision.BadLength good = absurd (above 400 (omega arith) good)
+accepted decision.TooLarge good = absurd (above 413 (omega arith) good)
+accepted (decision.Refused refusal.MajorMismatch) good = absurd (above 422 (omega arith) good)
+accepted (decision.Refused refusal.BadTime) good = absurd (above 422 (omega arith) good)
+accepted (decision.Refused refusal.TimeMismatch) good = absurd (above 422 (omega arith) good)
+accepted (decision.Refused (refusal.BadGoMod line)) good = absurd (above 422 (omega arith) good)
+accepted (decision.Refused refusal.ModulePath) good = absurd (above 422 (omega arith) good)
+accepted (decision.Refused refusal.IncompatibleGoMod) good = absurd (above 422 (omega arith) good)
+accepted decision.Conflict good = absurd (above 409 (omega arith) good)
+accepted decision.Full good = absurd (above 507 (omega arith) good)
+
+pub accepted_is_written : AcceptedIsWritten
+accepted_is_written old mid new s k later p b wanted r put get events answers is own asks body good run later_own targets back again =
+    by_answer (answer_of put) refl
+  where
+    asks_again : spec.ask_of get.message ≡ Get later (spec.query_of wanted)
+    asks_again = ap (spec.ask_at get.message) targets
+
+    after : Run mid (Asked (Get later (spec.query_of wanted)) ∷ []) (answer_of get ∷ []) new
+    after = subst (λ e. Run mid (e ∷ []) (answer_of get ∷ []) new) (ap Asked asks_again) again
+
+    -- the status of a PUT that was replied to is that of its decision
+    by_answer : (a : Answer) → answer_of put ≡ a → (text_of get ≡ bytes_of get.message (Replied r)) ⊎ (text_of get ≡ unavailable)
+    by_answer (Failed fault) told =
+        absurd (above 503 (omega arith) (subst IsGood (ap (λ a. page_status (page_for put.message a)) told) good))
+    by_answer (Replied heard) told =
+        let before : Run old (Asked (Put k p) ∷ events) (Replied heard ∷ answers) mid =
+        subst (λ e. Run old (e ∷ events) (Replied heard ∷ answers) mid) (ap Asked asks)
+        (subst (λ a. Run old (event_of put ∷ events) (a ∷ answers) mid) told run) in
+        let d : Decision = put_decision old k p in
+        let status : IsGood (fixed_status (fixed_of d)) = subst IsGood (ap (λ a. page_status (page_for put.message a)) (told ∙ ap Replied before.0)) good in
+        let decided : Run old (Asked (Put k p) ∷ events) (Replied (reply.Decided d) ∷ answers) mid =
+        subst (λ x. Run old (Asked (Put k p) ∷ events) (Replied x ∷ answers) mid) before.0 before in
+        elim (accepted_is_served old mid new s k later p b d (spec.query_of wanted) r events answers (answer_of get) is own body (accepted d status) decided later_own back after) [
+          | inl same ↦ inl (ap (bytes_of get.message) same)
+          | inr failed ↦ inr (failed_text get.message (answer_of get) failed)
+        ]

@@ -7,8 +7,8 @@ use std::net::TcpListener;
 use std::time::Clock;
 use world::shelves::Shelves;
 
-/// Takes connections from a listener, one after another, and answers at most one request on each. It returns after the last
-/// of them, and waits for each as long as it takes.
+/// Takes connections from a listener, one after another; the store goes through at most as many requests as there are
+/// connections. It returns after the last of them, and waits for each as long as it takes.
 ///
 /// A connection that fails counts and is reported to nobody. If its request was not read whole, it changed nothing; if its
 /// reply failed, what the request did stays. An accept that fails counts too, so a server without descriptors ends.

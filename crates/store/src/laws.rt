@@ -5,9 +5,8 @@ ghost use Rattle.store.specs.Restart.{IsThereAfterRestart};
 
 use sqlite::Alter;
 
-/// A change that answered Ok is there after a restart: a crash then leaves the world after it alone (the clauses of
-/// `Shelves`), so the files that the crash leaves hold that world, and a store opened over them begins at it
-/// (`SqlShelves::open_from`).
+/// If a crash leaves one world alone, as it does once a change has answered Ok (the clauses of `Shelves`), the files that
+/// it leaves hold that world, and a store opened over them begins at it (`SqlShelves::open_from`).
 pub fn restart<S: Alter>()
     ensures { (conn : _) → IsThereAfterRestart (state S.Store conn) }
 {}

@@ -1,9 +1,8 @@
 #!/usr/bin/env python3
-"""nginx before `goshelf serve`, by the configuration of docs/OPERATING.md: TLS, what is cached and what is not, clients that are slow with
-a head, with a body or with what they are sent, keys.
+"""nginx before `goshelf serve`, as docs/OPERATING.md configures it: TLS, its cache, slow clients, keys.
 
-Build the program first (`./goshelf --version`); nginx and openssl are on the path (Debian: nginx, openssl). The configuration and the
-command that takes a revoked key out of the cache are read from the page; only ports and places are put in.
+The configuration and the command that takes a revoked key out of the cache are read from the page; only ports and places are put in.
+Clients are slow with a head, with a body or with what they are sent.
 """
 
 import http.client
@@ -17,9 +16,10 @@ import sys
 import tempfile
 import time
 
-ROOT = os.path.dirname(os.path.dirname(os.path.abspath(__file__)))
-PROGRAM = os.path.join(ROOT, "crates", "goshelf", "out", "goshelf")
-KEY, READER = "alphakey00000001", "alphareader00001"
+from harness import KEY, PROGRAM, ROOT, Suite, done, new_store
+
+NEEDS = ["nginx", "openssl"]
+READER = "alphareader00001"
 AT = "example.com/lib/@v"
 GOMOD, ZIP = b"module example.com/lib\n", os.urandom(3_000_000)
 # more than all buffers of sockets on the way hold
@@ -74,10 +74,6 @@ def wait_for(port):
     sys.exit(f"nobody listens on {port}")
 
 
-def command(store, *words):
-    subprocess.run([PROGRAM, *words, "--db", store], check=True)
-
-
 def start_goshelf(store, port):
     child = subprocess.Popen([PROGRAM, "serve", "--db", store, "--port", str(port)], stdout=subprocess.PIPE)
     assert child.stdout.readline() == f"listening on 127.0.0.1:{port}\n".encode()
@@ -105,6 +101,9 @@ class Front:
 
     def get(self, rest, key=READER):
         return self.ask("GET", f"/k/{key}/{rest}")
+
+    def publish(self, version, body):
+        return self.ask("PUT", f"/k/{KEY}/{AT}/{version}", body, {"Mod-Length": str(len(GOMOD))})
 
     def begin(self, sent, room=None):
         """A connection on which this is sent; with room for so many bytes of what is answered."""
@@ -139,29 +138,27 @@ def rest_of(held):
     return told
 
 
-def hold(front, name, clients):
+def hold(suite, front, name, clients):
     """While these clients stand still, another is answered at once."""
     time.sleep(1)
     begun = time.time()
-    assert front.get(f"{AT}/list")[0] == 200 and time.time() - begun < 5, (name, time.time() - begun)
-    print(f"{len(clients)} clients that {name} hold nobody")
+    status = front.get(f"{AT}/list")[0]
+    suite.holds(f"{len(clients)} clients that {name} hold nobody", status == 200 and time.time() - begun < 5, (status, time.time() - begun))
 
 
-def slow_clients(front):
+def slow_clients(suite, front):
     """Some that are slow with a head, with a body, and with what they are sent."""
-    told = front.ask("PUT", f"/k/{KEY}/{AT}/v1.2.0", GOMOD + LARGEST_ZIP, {"Mod-Length": str(len(GOMOD))})
-    assert told[0] == 201, told
+    suite.equal("a publish of the largest zip", front.publish("v1.2.0", GOMOD + LARGEST_ZIP)[0], 201)
     heads = [front.half_a_head() for _ in range(4)]
-    hold(front, "send half of a head", heads)
+    hold(suite, front, "send half of a head", heads)
     bodies = [front.half_a_body() for _ in range(4)]
-    hold(front, "send half of a body", bodies)
+    hold(suite, front, "send half of a body", bodies)
     readers = [front.reads_nothing(key) for key in (KEY, READER) for _ in range(2)]
-    hold(front, "read nothing of a zip", readers)
-    for it in readers:
-        assert rest_of(it).endswith(b"\r\n\r\n" + LARGEST_ZIP)
+    hold(suite, front, "read nothing of a zip", readers)
+    suite.holds("a late reader gets the whole zip", all(rest_of(it).endswith(b"\r\n\r\n" + LARGEST_ZIP) for it in readers))
     for it in (*heads, *bodies, *readers):
         it.close()
-    assert front.get(f"{AT}/v9.0.0.mod")[0] == 404
+    suite.equal("half of a publish leaves nothing", front.get(f"{AT}/v9.0.0.mod")[0], 404)
 
 
 def keys_in(log):
@@ -171,7 +168,7 @@ def keys_in(log):
     return KEY.encode() in text or READER.encode() in text
 
 
-def unwritable_cache(front, folder):
+def unwritable_cache(suite, front, folder):
     """Where the cache can't be written nginx tells so by a line that has the key, whatever the format of the log is."""
     os.chmod(f"{folder}/cache", 0o500)
     try:
@@ -181,50 +178,56 @@ def unwritable_cache(front, folder):
         pass
     finally:
         os.chmod(f"{folder}/cache", 0o700)
-    assert keys_in(f"{folder}/goshelf-errors.log")
-    print("a line of crit holds a key")
+    suite.holds("a line of crit holds a key", keys_in(f"{folder}/goshelf-errors.log"))
+
+
+def cached(suite, front, program, store, behind):
+    """Answers while goshelf runs, while it is stopped, and after a key was revoked. Returns the goshelf that runs at the end."""
+    suite.equal("TLS: a publish", front.publish("v1.0.0", GOMOD + ZIP)[0], 201)
+    for file, body in (("v1.0.0.zip", ZIP), ("v1.0.0.mod", GOMOD), ("list", b"v1.0.0\n")):
+        suite.holds(f"TLS: {file}", front.get(f"{AT}/{file}") == (200, body))
+    suite.equal("versions that do not exist", [front.get(f"{AT}/{it}.mod")[0] for it in ("v1.1.0", "v1.2.0")], [404, 404])
+    slow_clients(suite, front)
+    suite.equal("a publish behind a 404", front.publish("v1.1.0", GOMOD)[0], 201)
+    suite.equal("a 404 is not kept", front.get(f"{AT}/v1.1.0.mod"), (200, GOMOD))
+    suite.equal("a list is not kept", front.get(f"{AT}/list"), (200, b"v1.0.0\nv1.1.0\nv1.2.0\n"))
+    stop(program)
+    suite.holds("a zip is there while goshelf is stopped", front.get(f"{AT}/v1.0.0.zip") == (200, ZIP))
+    suite.equal("a list is not", front.get(f"{AT}/list")[0], 502)
+    done("key-revoke", "--db", store, "--key", READER)
+    program = start_goshelf(store, behind)
+    suite.equal("a revoked key gets no list", front.get(f"{AT}/list")[0], 404)
+    suite.holds("a revoked key gets what it has cached", front.get(f"{AT}/v1.0.0.zip") == (200, ZIP))
+    return program
+
+
+def purged(suite, front, folder):
+    """The page's command takes what a revoked key has cached out of the cache."""
+    purge = block("sh", "xargs -r rm").replace("/var/cache/nginx/goshelf", f"{folder}/cache")
+    subprocess.run(["sh", "-c", purge], check=True, env={**os.environ, "KEY": READER})
+    suite.equal("a revoked key gets nothing once that is taken out", front.get(f"{AT}/v1.0.0.zip")[0], 404)
+    suite.holds("another key still gets it", front.get(f"{AT}/v1.0.0.zip", KEY) == (200, ZIP))
 
 
 def main():
-    port, behind = free_port(), free_port()
+    suite, port, behind = Suite(), free_port(), free_port()
     with tempfile.TemporaryDirectory(prefix="goshelf-front-") as folder:
         store = os.path.join(folder, "shelves.db")
-        command(store, "team-add", "--team", "alpha")
-        command(store, "key-add", "--shelf", "alpha", "--key", KEY)
-        command(store, "key-add", "--shelf", "alpha", "--key", READER, "--read-only")
+        new_store(store, ("alpha", KEY, READER))
         program = start_goshelf(store, behind)
         nginx, pem = start_nginx(folder, port, behind)
         front = Front(port, pem)
         try:
-            told = front.ask("PUT", f"/k/{KEY}/{AT}/v1.0.0", GOMOD + ZIP, {"Mod-Length": str(len(GOMOD))})
-            assert told[0] == 201, told
-            assert front.get(f"{AT}/v1.0.0.zip") == (200, ZIP)
-            assert front.get(f"{AT}/v1.0.0.mod") == (200, GOMOD)
-            assert front.get(f"{AT}/list") == (200, b"v1.0.0\n")
-            assert front.get(f"{AT}/v1.1.0.mod")[0] == 404 and front.get(f"{AT}/v1.2.0.mod")[0] == 404
-            print("TLS: a publish and its fetches")
-            slow_clients(front)
-            told = front.ask("PUT", f"/k/{KEY}/{AT}/v1.1.0", GOMOD, {"Mod-Length": str(len(GOMOD))})
-            assert told[0] == 201 and front.get(f"{AT}/v1.1.0.mod") == (200, GOMOD) and front.get(f"{AT}/list") == (200, b"v1.0.0\nv1.1.0\nv1.2.0\n")
-            print("a 404 and a list are not kept")
-            stop(program)
-            assert front.get(f"{AT}/v1.0.0.zip") == (200, ZIP) and front.get(f"{AT}/list")[0] == 502
-            print("a zip is there while the program is stopped, a list is not")
-            command(store, "key-revoke", "--key", READER)
-            program = start_goshelf(store, behind)
-            assert front.get(f"{AT}/list")[0] == 404 and front.get(f"{AT}/v1.0.0.zip") == (200, ZIP)
-            purge = block("sh", "xargs -r rm").replace("/var/cache/nginx/goshelf", f"{folder}/cache")
-            subprocess.run(["sh", "-c", purge], check=True, env={**os.environ, "KEY": READER})
-            assert front.get(f"{AT}/v1.0.0.zip")[0] == 404 and front.get(f"{AT}/v1.0.0.zip", KEY) == (200, ZIP)
-            print("a revoked key is answered what it has cached, and nothing once that is taken out")
-            assert not any(keys_in(f"{folder}/{name}") for name in ("goshelf.log", "goshelf-errors.log"))
-            print("no key is in a log")
-            unwritable_cache(front, folder)
+            program = cached(suite, front, program, store, behind)
+            purged(suite, front, folder)
+            suite.holds("no key is in a log", not any(keys_in(f"{folder}/{name}") for name in ("goshelf.log", "goshelf-errors.log")))
+            unwritable_cache(suite, front, folder)
         finally:
             stop(program)
             nginx.terminate()
             nginx.wait()
+    return suite.end()
 
 
 if __name__ == "__main__":
-    main()
+    sys.exit(main())

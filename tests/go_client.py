@@ -1,8 +1,7 @@
 #!/usr/bin/env python3
 """The go command against `goshelf serve`: what it downloads, lists, gets and builds from a store of two teams.
 
-Build the program first (`./goshelf --version`); `go` is on the path (Debian: golang-go). Versions are published by PUT. Expected
-values are Go's own rules (Go Modules Reference) and sums that are made here from the zips; the last line counts the checks.
+Versions are published by PUT. Expected values are Go's own rules (Go Modules Reference) and sums that are made here from the zips.
 """
 
 import base64
@@ -16,12 +15,13 @@ import sys
 import tempfile
 import zipfile
 
-ROOT = os.path.dirname(os.path.dirname(os.path.abspath(__file__)))
-PROGRAM = os.path.join(ROOT, "crates", "goshelf", "out", "goshelf")
+from harness import PROGRAM, Suite, done, new_store, run
+
+NEEDS = ["go"]
 ALPHA, READER, BETA, COMMON = "alphakey00000001", "alphareader00001", "betakey000000001", "commonkey0000001"
 PSEUDO = "v0.0.0-20240131120000-abcdefabcdef"
-FAILED = []
-COUNT = 0
+SUITE = Suite()
+check = SUITE.holds
 
 
 def module(path, version, requires=(), more="", code=None):
@@ -52,19 +52,6 @@ ON_ALPHA = [
 ]
 ON_COMMON = [module("example.com/base", it) for it in ("v1.0.0", "v1.1.0")]
 ON_BETA = [module("example.com/secret", "v1.0.0"), module("example.com/words", "v0.9.0")]
-
-
-def check(name, right, told=""):
-    """Counts a check, and tells of one that failed."""
-    global COUNT
-    COUNT += 1
-    if not right:
-        FAILED.append(name)
-        print(f"FAILED {name}: {told}")
-
-
-def goshelf(store, command, *words):
-    subprocess.run([PROGRAM, command, "--db", store, *words], check=True, stdout=subprocess.DEVNULL)
 
 
 def h1(files):
@@ -269,12 +256,7 @@ def publishes(server):
 def filled(folder):
     """A store with two teams and their keys."""
     store = os.path.join(folder, "shelves.db")
-    goshelf(store, "init")
-    for team in ("alpha", "beta"):
-        goshelf(store, "team-add", "--team", team)
-    for shelf, key in (("alpha", ALPHA), ("beta", BETA), ("common", COMMON)):
-        goshelf(store, "key-add", "--shelf", shelf, "--key", key)
-    goshelf(store, "key-add", "--shelf", "alpha", "--key", READER, "--read-only")
+    new_store(store, ("alpha", ALPHA, READER), ("beta", BETA), ("common", COMMON))
     return store
 
 
@@ -283,8 +265,8 @@ def session(folder):
     store = filled(folder)
     server = Server(store)
     publishes(server)
-    held = subprocess.run([PROGRAM, "key-revoke", "--db", store, "--key", READER], capture_output=True)
-    check("the store is held", (held.returncode, held.stderr) == (1, b"goshelf: device\n"), held.stderr)
+    status, _, told = run(["key-revoke", "--db", store, "--key", READER])
+    check("the store is held", (status, told) == (1, "goshelf: device\n"), told)
     alpha = Client(server, os.path.join(folder, "alpha"), READER)
     beta = Client(server, os.path.join(folder, "beta"), BETA)
     downloads(alpha, [*ON_ALPHA, *ON_COMMON])
@@ -293,7 +275,7 @@ def session(folder):
     builds(alpha)
     teams(alpha, beta)
     server.stop()
-    goshelf(store, "key-revoke", "--key", READER)
+    done("key-revoke", "--db", store, "--key", READER)
     server = Server(store)
     is_not_found(Client(server, os.path.join(folder, "late"), READER), "example.com/greet@v1.0.0")
     downloads(Client(server, os.path.join(folder, "anew"), ALPHA), [*ON_ALPHA, *ON_COMMON])
@@ -301,13 +283,10 @@ def session(folder):
 
 
 def main():
-    if not os.path.exists(PROGRAM):
-        sys.exit("build the program first: ./goshelf --version")
     with tempfile.TemporaryDirectory() as folder:
         session(folder)
-    print(f"{COUNT - len(FAILED)} passed, {len(FAILED)} failed")
-    sys.exit(1 if FAILED else 0)
+    return SUITE.end()
 
 
 if __name__ == "__main__":
-    main()
+    sys.exit(main())

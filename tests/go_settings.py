@@ -1,8 +1,7 @@
 #!/usr/bin/env python3
 """What the go settings of docs/OPERATING.md tell the proxy behind the shelf: nothing of a module that the shelf sees, else the names.
 
-Build the program first (`./goshelf --version`); `go` is on the path (Debian: golang-go). The proxy behind is one that has no module and notes
-what it is asked; nothing else is reached.
+The proxy behind is one that has no module and notes what it is asked; nothing else is reached.
 """
 
 import http.server
@@ -14,9 +13,10 @@ import tempfile
 import threading
 import zipfile
 
-ROOT = os.path.dirname(os.path.dirname(os.path.abspath(__file__)))
-PROGRAM = os.path.join(ROOT, "crates", "goshelf", "out", "goshelf")
-KEY, READER = "alphakey00000001", "alphareader00001"
+from harness import KEY, PROGRAM, Suite, done, new_store
+
+NEEDS = ["go"]
+READER = "alphareader00001"
 AT = "example.com/greet@v1.0.0"
 FILES = {"go.mod": "module example.com/greet\n", "greet.go": "package greet\n\nconst Text = 1\n", "sub/sub.go": "package sub\n\nconst Text = 1\n"}
 ASKED = []
@@ -33,15 +33,9 @@ class Behind(http.server.BaseHTTPRequestHandler):
         pass
 
 
-def goshelf(store, command, *words):
-    subprocess.run([PROGRAM, command, "--db", store, *words], check=True, stdout=subprocess.DEVNULL)
-
-
-def new_store(folder):
+def filled(folder):
     store = os.path.join(folder, "shelves.db")
-    goshelf(store, "team-add", "--team", "alpha")
-    goshelf(store, "key-add", "--shelf", "alpha", "--key", KEY)
-    goshelf(store, "key-add", "--shelf", "alpha", "--key", READER, "--read-only")
+    new_store(store, ("alpha", KEY, READER))
     gomod, zipped, held = os.path.join(folder, "go.mod"), os.path.join(folder, "greet.zip"), io.BytesIO()
     with zipfile.ZipFile(held, "w") as file:
         for name, text in FILES.items():
@@ -49,7 +43,7 @@ def new_store(folder):
     for name, text in ((gomod, FILES["go.mod"].encode()), (zipped, held.getvalue())):
         with open(name, "wb") as file:
             file.write(text)
-    goshelf(store, "publish", "--key", KEY, "--module", "example.com/greet", "--version", "v1.0.0", "--mod", gomod, "--zip", zipped)
+    done("publish", "--db", store, "--key", KEY, "--module", "example.com/greet", "--version", "v1.0.0", "--mod", gomod, "--zip", zipped)
     return store
 
 
@@ -71,7 +65,7 @@ def main():
     behind = http.server.ThreadingHTTPServer(("127.0.0.1", 0), Behind)
     threading.Thread(target=behind.serve_forever, daemon=True).start()
     with tempfile.TemporaryDirectory(prefix="goshelf-settings-") as folder:
-        words = [PROGRAM, "serve", "--db", new_store(folder), "--port", "0"]
+        words = [PROGRAM, "serve", "--db", filled(folder), "--port", "0"]
         child = subprocess.Popen(words, stdout=subprocess.PIPE, text=True)
         shelf = f"http://127.0.0.1:{child.stdout.readline().rsplit(':', 1)[1].strip()}/k/{READER}"
         proxies = f"{shelf},http://127.0.0.1:{behind.server_port}"
@@ -87,12 +81,11 @@ def main():
         ]
         child.terminate()
         child.wait()
-    wrong = [(name, told, want) for name, told, want in rows if told != want]
-    for name, told, want in wrong:
-        print(f"FAILED {name}: {told}, and not {want}")
-    print(f"{len(rows) - len(wrong)} passed, {len(wrong)} failed")
-    sys.exit(1 if wrong else 0)
+    suite = Suite()
+    for name, told, wanted in rows:
+        suite.equal(name, told, wanted)
+    return suite.end()
 
 
 if __name__ == "__main__":
-    main()
+    sys.exit(main())

@@ -5,11 +5,12 @@ its last line `N passed, N failed`, with `, N skipped` behind where the machine 
 """
 
 import os
+import shutil
 import subprocess
 
 ROOT = os.path.dirname(os.path.dirname(os.path.abspath(__file__)))
 # GOSHELF names another program to test
-PROGRAM = os.environ.get("GOSHELF") or os.path.join(ROOT, "crates", "goshelf", "out", "goshelf")
+PROGRAM = os.path.abspath(os.environ.get("GOSHELF") or os.path.join(ROOT, "crates", "goshelf", "out", "goshelf"))
 KEY = "alphakey00000001"
 MEMORY = ["--mem", "--team", "alpha", "--key", KEY]
 
@@ -27,7 +28,7 @@ class Suite:
     def holds(self, name, is_right, why=""):
         """Adds a row that passes if is_right. Returns whether it passed."""
         self.passed, self.failed = self.passed + bool(is_right), self.failed + (not is_right)
-        print(f"ok    {name}" if is_right else f"WRONG {name}{': ' + why if why else ''}", flush=True)
+        print(f"ok    {name}" if is_right else f"WRONG {name}{f': {why}' if why else ''}", flush=True)
         return bool(is_right)
 
     def skip(self, name, why):
@@ -41,6 +42,13 @@ class Suite:
         print(f"{self.passed} passed, {self.failed} failed{skipped}", flush=True)
         return 1 if self.failed else 0
 
+    def counts(self, name, wrong):
+        """Adds a row that passes if wrong is None, and prints it only where it failed, for rows by the thousand."""
+        if wrong is None:
+            self.passed += 1
+        else:
+            self.holds(name, False, wrong)
+
 
 def shown(value, most=400):
     """The value as Python writes it, cut to a length."""
@@ -48,9 +56,10 @@ def shown(value, most=400):
     return text if len(text) <= most else f"{text[:most]}.. ({len(text)} characters)"
 
 
-def run(words, stdin=b"", timeout=120, **how):
-    """Runs goshelf with these words, and returns its exit status, standard output and standard error, the last as text."""
-    ran = subprocess.run([PROGRAM, *words], input=stdin, capture_output=True, timeout=timeout, **how)
+def run(words, stdin=b"", timeout=120, before=(), **how):
+    """Runs goshelf with these words, and returns its exit status, standard output and standard error, the last as text. The words before
+    are those of a command that runs it, as `NOBODY`."""
+    ran = subprocess.run([*before, PROGRAM, *words], input=stdin, capture_output=True, timeout=timeout, **how)
     return ran.returncode, ran.stdout, ran.stderr.decode()
 
 
@@ -84,9 +93,39 @@ def answered(words, requests, timeout=600):
     return replies(written)
 
 
-def new_store(file, *teams):
-    """Makes a store with these teams, each a name and its key."""
-    rows = [["init"], *[row for team, key in teams for row in (["team-add", "--team", team], ["key-add", "--shelf", team, "--key", key])]]
-    for command, *words in rows:
-        status, _, told = run([command, "--db", file, *words])
-        assert (status, told) == (0, ""), (command, told)
+def new_store(file, *shelves):
+    """Makes a store with these shelves, each as `add_shelf` takes it."""
+    done("init", "--db", file)
+    for shelf in shelves:
+        add_shelf(file, *shelf)
+
+
+def add_shelf(file, shelf, key, reader=""):
+    """Adds a team, unless the shelf is `common`, its key that publishes and, if there is one, its key that only reads."""
+    if shelf != "common":
+        done("team-add", "--db", file, "--team", shelf)
+    done("key-add", "--db", file, "--shelf", shelf, "--key", key)
+    if reader:
+        done("key-add", "--db", file, "--shelf", shelf, "--key", reader, "--read-only")
+
+
+def done(*words):
+    """Runs a command that has to end well."""
+    status, _, told = run(words)
+    assert (status, told) == (0, ""), (words, told)
+
+
+# what runs a command as nobody, whom rights of files bind, which root's do not
+NOBODY = ["setpriv", "--reuid=65534", "--regid=65534", "--clear-groups", "--no-new-privs"]
+
+
+def can_be_nobody():
+    """Whether a process can become nobody here."""
+    words = [*NOBODY, "true"]
+    return os.geteuid() == 0 and bool(shutil.which("setpriv")) and subprocess.run(words, capture_output=True).returncode == 0
+
+
+def mounted(at, size):
+    """Mounts a tmpfs of a size at a folder, and returns whether this machine could. `umount` takes it away."""
+    options = (f"size={size},noswap", f"size={size}")
+    return any(subprocess.run(["mount", "-t", "tmpfs", "-o", it, "tmpfs", at], capture_output=True).returncode == 0 for it in options)

@@ -1,11 +1,10 @@
 #!/usr/bin/env python3
 """What was acknowledged is there after the program is killed, and no store is refused after a kill.
 
-Build the program first (`./goshelf --version`). It is killed (SIGKILL) at random moments while it answers publishes, by turns as
-`answer` on a pipe and as `serve` on a port, over one file that goes on from kill to kill. After each kill the store is opened
-again: each version whose 201 was read has its go.mod and its zip, byte for byte, and of the version that was on its way there
-is all or nothing. Then a disk that is full (a small tmpfs, where the machine lets one be mounted), a file and a folder that only
-can be read. With a number, so many kills (1,000); with --seed N, those of an earlier run.
+The program is killed (SIGKILL) at random moments while it answers publishes, by turns as `answer` on a pipe and as `serve` on a port,
+over one file that goes on from kill to kill. After each kill the store is opened again: each version whose 201 was read has its go.mod
+and its zip, byte for byte, and of the version that was on its way there is all or nothing. Then a disk that is full (a small tmpfs), a
+file and a folder that can only be read. The short form has 100 kills, --long 1,000, and a number as many; --seed N repeats a run.
 """
 
 import http.client
@@ -17,25 +16,19 @@ import tempfile
 import threading
 import time
 
-ROOT = os.path.dirname(os.path.dirname(os.path.abspath(__file__)))
-PROGRAM = os.path.join(ROOT, "crates", "goshelf", "out", "goshelf")
-KEY = "alphakey00000001"
+import harness
+from harness import KEY, NOBODY, PROGRAM, Suite, can_be_nobody, get, mounted, put, replies, run
+
 MODULE = "example.com/kills"
-NOBODY = ["setpriv", "--reuid=65534", "--regid=65534", "--clear-groups", "--no-new-privs"]
 SIZES = [0, 1, 300, 5_000, 30_000, 150_000]
 # versions on one store: each opening reads all of it
 MOST = 150
-
-
-def run(words, given=b"", before=()):
-    return subprocess.run([*before, PROGRAM, *words], input=given, capture_output=True, timeout=120)
+SHORT, LONG = 100, 1_000
 
 
 def new_store(folder, name):
     store = os.path.join(folder, name)
-    for words in (["init"], ["team-add", "--team", "alpha"], ["key-add", "--shelf", "alpha", "--key", KEY]):
-        told = run([*words, "--db", store])
-        assert told.returncode == 0, told
+    harness.new_store(store, ("alpha", KEY))
     return store
 
 
@@ -45,29 +38,12 @@ def files_of(number):
     return gomod, random.Random(number).randbytes(SIZES[number % len(SIZES)])
 
 
-def publish(number):
-    gomod, zip_bytes = files_of(number)
-    head = (
-        f"PUT /k/{KEY}/{MODULE}/@v/v1.{number}.0 HTTP/1.1\r\n"
-        f"Mod-Length: {len(gomod)}\r\nContent-Length: {len(gomod) + len(zip_bytes)}\r\n\r\n"
-    )
-    return head.encode() + gomod + zip_bytes
+def publish(number, key=KEY):
+    return put(MODULE, f"v1.{number}.0", *files_of(number), key)
 
 
-def fetch(number, kind):
-    return f"GET /k/{KEY}/{MODULE}/@v/v1.{number}.0.{kind} HTTP/1.1\r\n\r\n".encode()
-
-
-def replies(stream):
-    """The statuses and bodies of a stream of replies that ended whole."""
-    told = []
-    while stream:
-        head, _, rest = stream.partition(b"\r\n\r\n")
-        lines = head.split(b"\r\n")
-        length = next(int(line.split(b":")[1]) for line in lines if line.lower().startswith(b"content-length:"))
-        told.append((int(lines[0].split()[1]), rest[:length]))
-        stream = rest[length:]
-    return told
+def fetch(number, kind, key=KEY):
+    return get(f"{MODULE}/@v/v1.{number}.0.{kind}", key)
 
 
 def kill_after(child, wait):
@@ -77,7 +53,8 @@ def kill_after(child, wait):
 
 
 def killed(start, store, numbers, wait, is_early):
-    """Publishes until the kill, some time after the start, or after the program is ready: the numbers that were acknowledged."""
+    """Publishes until the kill, some time after the start, or after the program is ready. Returns the numbers that were acknowledged,
+    and what another status than 201 says, or None."""
     child, send = start(store)
     timers, done = [kill_after(child, wait)] if is_early else [], []
     try:
@@ -88,7 +65,8 @@ def killed(start, store, numbers, wait, is_early):
             status = send(number)
             if status is None:
                 break
-            assert status == 201, (number, status)
+            if status != 201:
+                return done, f"the publish of version {number} was answered {status}"
             done.append(number)
     except (OSError, http.client.HTTPException):
         pass
@@ -98,7 +76,7 @@ def killed(start, store, numbers, wait, is_early):
         child.kill()
         child.wait()
         child.stdout.close()
-    return done
+    return done, None
 
 
 def read_reply(pipe):
@@ -144,25 +122,26 @@ def start_serve(store):
     return child, ready
 
 
-def check(store, acknowledged, underway):
-    """Opens the store again; answers whether the version underway is there."""
+def is_kept(store, acknowledged, underway):
+    """Opens the store again. Returns whether the version underway is there, and what is wrong, or None."""
     asked = [*acknowledged, *underway]
-    told = run(["answer", "--db", store], b"".join(fetch(number, kind) for number in asked for kind in ("mod", "zip")))
-    assert told.returncode == 0, (told.returncode, told.stderr)
-    got = replies(told.stdout)
-    assert len(got) == 2 * len(asked)
+    status, written, told = run(["answer", "--db", store], b"".join(fetch(number, kind) for number in asked for kind in ("mod", "zip")))
+    got = replies(written) if status == 0 else []
+    if len(got) != 2 * len(asked):
+        return False, f"{len(got)} replies to {2 * len(asked)} requests, status {status}, {told}"
     pairs = dict(zip(asked, zip(got[::2], got[1::2])))
+    whole = {number: tuple((200, part) for part in files_of(number)) for number in asked}
     for number in acknowledged:
-        assert pairs[number] == tuple((200, part) for part in files_of(number)), f"version {number} is lost or changed"
+        if pairs[number] != whole[number]:
+            return False, f"version {number} is lost or changed"
     for number in underway:
-        whole = tuple((200, part) for part in files_of(number))
-        assert pairs[number] == whole or [status for status, _ in pairs[number]] == [404, 404], f"version {number} is there in part"
-        return pairs[number] == whole
-    return False
+        if pairs[number] != whole[number] and [status for status, _ in pairs[number]] != [404, 404]:
+            return False, f"version {number} is there in part"
+    return any(pairs[number] == whole[number] for number in underway), None
 
 
-def kills(folder, count):
-    """Kills the program so many times; prints what was counted."""
+def kills(suite, folder, count):
+    """Kills the program so many times, a row for each kill; prints what was counted."""
     begun, acknowledged, next_number, stores = time.time(), [], 0, 0
     store, whole, idle, publishes = None, 0, 0, 0
     for turn in range(count):
@@ -170,75 +149,81 @@ def kills(folder, count):
             store, stores, acknowledged, next_number = new_store(folder, f"kills{stores}.db"), stores + 1, [], 0
         start = (start_answer, start_serve)[turn % 2]
         numbers = range(next_number, next_number + 50)
-        done = killed(start, store, numbers, random.choice((0.005, 0.02, 0.06)) * random.random(), turn % 5 == 4)
+        done, refused = killed(start, store, numbers, random.choice((0.005, 0.02, 0.06)) * random.random(), turn % 5 == 4)
         next_number += len(done)
         acknowledged += done
         publishes += len(done)
         idle += not done
         # what is acknowledged of late, and some of what is older
         looked = sorted({*acknowledged[-12:], *random.sample(acknowledged, min(8, len(acknowledged)))})
-        if check(store, looked, [next_number]):
+        is_there, wrong = is_kept(store, looked, [next_number])
+        if is_there:
             whole, next_number = whole + 1, next_number + 1
             acknowledged.append(next_number - 1)
-    check(store, acknowledged, [])
+        suite.counts(f"kill {turn} of {store}", refused or wrong)
+        if refused or wrong:
+            store = None
+    if store:
+        suite.equal("all that the last store acknowledged", is_kept(store, acknowledged, []), (False, None))
     print(
-        f"{count} kills over {stores} stores in {time.time() - begun:.0f} s: {publishes} publishes acknowledged, none lost; "
-        f"{whole} that were not acknowledged were there whole, none in part; {idle} kills met no publish; no store was refused"
+        f"{count} kills over {stores} stores in {time.time() - begun:.0f} s: {publishes} publishes acknowledged; "
+        f"{whole} that were not acknowledged were there whole; {idle} kills met no publish"
     )
 
 
-def full_disk(folder):
+def full_disk(suite, folder):
     """Publishes into a tmpfs of 1 MiB until it is full, and opens the store again with more room."""
     at = os.path.join(folder, "small")
     os.mkdir(at)
-    if subprocess.run(["mount", "-t", "tmpfs", "-o", "size=1m", "tmpfs", at], capture_output=True).returncode:
-        print("full disk: not tried, no tmpfs can be mounted")
+    if not mounted(at, "1m"):
+        suite.skip("full disk", "no tmpfs can be mounted")
         return
     try:
-        store = new_store(at, "full.db")
-        told = run(["answer", "--db", store], b"".join(publish(number) for number in range(60)))
-        statuses = [status for status, _ in replies(told.stdout)]
-        assert told.returncode == 0 and len(statuses) == 60 and {*statuses} <= {201, 503} and 503 in statuses, statuses
+        store, requests = new_store(at, "full.db"), b"".join(publish(number) for number in range(60))
+        status, written, _ = run(["answer", "--db", store], requests)
+        statuses = [status for status, _ in replies(written)]
+        suite.equal("full disk: it ends well, with a reply to each", (status, len(statuses)), (0, 60))
+        suite.equal("full disk: what is not acknowledged is 503", {*statuses}, {201, 503})
         subprocess.run(["mount", "-o", "remount,size=64m", at], check=True)
         done = [number for number, status in enumerate(statuses) if status == 201]
-        check(store, done, [])
-        again = run(["answer", "--db", store], b"".join(publish(number) for number in range(60)))
-        assert {status for status, _ in replies(again.stdout)} <= {200, 201}, "a repeated publish is refused"
-        check(store, [*range(60)], [])
-        print(f"full disk: {len(done)} of 60 publishes acknowledged and kept, the others 503; with more room all 60 are taken")
+        suite.equal(f"full disk: the {len(done)} acknowledged are kept", is_kept(store, done, []), (False, None))
+        again = {status for status, _ in replies(run(["answer", "--db", store], requests)[1])}
+        suite.holds("with more room all are taken", again <= {200, 201}, again)
+        suite.equal("and all 60 are there", is_kept(store, [*range(60)], []), (False, None))
     finally:
         subprocess.run(["umount", at], check=False)
 
 
-def only_read(folder):
+def only_read(suite, folder):
     """A file, and a folder, that may not be written: as nobody, since root may write all."""
-    if os.geteuid() != 0:
-        print("read-only file and folder: not tried, this needs root to become nobody")
+    if not can_be_nobody():
+        suite.skip("read-only file and folder", "this needs root to become nobody")
         return
     at = os.path.join(folder, "fixed")
     os.mkdir(at)
     store = new_store(at, "fixed.db")
-    assert [status for status, _ in replies(run(["answer", "--db", store], publish(0)).stdout)] == [201]
+    suite.equal("a publish before", [status for status, _ in replies(run(["answer", "--db", store], publish(0))[1])], [201])
     os.chmod(folder, 0o755)
-    for place, mode in ((store, 0o444), (at, 0o555)):
+    for name, place, mode in (("file", store, 0o444), ("folder", at, 0o555)):
         os.chmod(place, mode)
-        told = run(["answer", "--db", store], fetch(0, "mod"), NOBODY)
-        assert (told.returncode, told.stderr) == (1, b"goshelf: device\n"), told
+        status, _, told = run(["answer", "--db", store], fetch(0, "mod"), before=NOBODY)
+        suite.equal(f"a read-only {name}", (status, told), (1, "goshelf: device\n"))
     os.chmod(at, 0o755)
-    check(store, [0], [])
-    print("read-only file, read-only folder: `goshelf: device`, and the store is as it was")
+    suite.equal("and the store is as it was", is_kept(store, [0], []), (False, None))
 
 
 def main(words):
     seed = int(words[words.index("--seed") + 1]) if "--seed" in words else time.time_ns() % 10**9
-    count = next((int(word) for word in words if word.isdigit() and int(word) != seed), 1_000)
+    count = next((int(word) for word in words if word.isdigit() and int(word) != seed), LONG if "--long" in words else SHORT)
     random.seed(seed)
     print(f"seed {seed}")
+    suite = Suite()
     with tempfile.TemporaryDirectory(prefix="goshelf-kills-") as folder:
-        kills(folder, count)
-        full_disk(folder)
-        only_read(folder)
+        kills(suite, folder, count)
+        full_disk(suite, folder)
+        only_read(suite, folder)
+    return suite.end()
 
 
 if __name__ == "__main__":
-    main(sys.argv[1:])
+    sys.exit(main(sys.argv[1:]))

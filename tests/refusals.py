@@ -1,7 +1,7 @@
 #!/usr/bin/env python3
 """Each cause that docs/OPERATING.md names for a word on standard error, and what it says to do about it.
 
-Build the program first (`./goshelf --version`). Every row makes the cause, runs a command, and looks at its exit status and its word; where
+Every row makes the cause, runs a command, and looks at its exit status and its word; where
 the page names a remedy, the command is run again after it. Rights are tried as nobody, where the machine lets a process become that; a
 full disk on a small tmpfs, where it lets one be mounted; sqlite3 by Python's own.
 """
@@ -14,15 +14,11 @@ import subprocess
 import sys
 import tempfile
 
-ROOT = os.path.dirname(os.path.dirname(os.path.abspath(__file__)))
-PROGRAM = os.path.join(ROOT, "crates", "goshelf", "out", "goshelf")
-KEY = "alphakey00000001"
-NOBODY = ["setpriv", "--reuid=65534", "--regid=65534", "--clear-groups", "--no-new-privs"]
+import harness
+from harness import KEY, NOBODY, PROGRAM, Suite, can_be_nobody, mounted, run
+
 ROW = f"--key {KEY} --module example.com/lib --version v1.0.0"
 HEADER = "path,version,time,mod,zip\n"
-
-tried = []
-
 
 def word(line, *more, before=(), output=subprocess.PIPE):
     """The word that a command ends with; nothing where it ends with 0."""
@@ -34,9 +30,11 @@ def word(line, *more, before=(), output=subprocess.PIPE):
     return told[len("goshelf: ") : -1]
 
 
-def wants(cause, wanted, told):
-    tried.append(told == wanted)
-    print(f"{'ok   ' if told == wanted else 'WRONG'} {wanted or 'done':10} {cause}" + ("" if told == wanted else f": {told!r}"))
+class Refusals(Suite):
+    """Rows of a cause and the word that it is wanted to end with; an empty one where the command is to end well."""
+
+    def wants(self, cause, wanted, told):
+        self.equal(f"{wanted or 'done'}: {cause}", told, wanted)
 
 
 def keys(version):
@@ -46,8 +44,7 @@ def keys(version):
 
 
 def new_store(name):
-    for line in ("init", "team-add --team alpha", f"key-add --shelf alpha --key {KEY}"):
-        assert word(f"{line} --db {name}") == ""
+    harness.new_store(name, ("alpha", KEY))
 
 
 def change(name, *statements):
@@ -83,51 +80,51 @@ def reordered(name, other):
     conn.close()
 
 
-def device():
+def device(suite):
     new_store("d.db")
     serve = subprocess.Popen([PROGRAM, *"serve --db d.db --port 0".split()], stdout=subprocess.PIPE)
     serve.stdout.readline()
-    wants("serve has the store open", "device", word("team-add --db d.db --team beta"))
+    suite.wants("serve has the store open", "device", word("team-add --db d.db --team beta"))
     serve.terminate()
     serve.wait()
-    wants("serve was stopped", "", word("team-add --db d.db --team beta"))
+    suite.wants("serve was stopped", "", word("team-add --db d.db --team beta"))
     other = sqlite3.connect("d.db", isolation_level=None)
     other.execute("BEGIN IMMEDIATE")
-    wants("an sqlite3 with a transaction", "device", word("team-add --db d.db --team gamma"))
+    suite.wants("an sqlite3 with a transaction", "device", word("team-add --db d.db --team gamma"))
     other.execute("ROLLBACK")
     other.close()
-    wants("the transaction was rolled back", "", word("team-add --db d.db --team gamma"))
+    suite.wants("the transaction was rolled back", "", word("team-add --db d.db --team gamma"))
     os.link("d.db", "second.db")
-    wants("a second name by a hard link", "device", word("team-add --db d.db --team delta"))
+    suite.wants("a second name by a hard link", "device", word("team-add --db d.db --team delta"))
     os.remove("second.db")
-    wants("the link was removed", "", word("team-add --db d.db --team delta"))
+    suite.wants("the link was removed", "", word("team-add --db d.db --team delta"))
     os.mkdir("folder")
-    wants("a folder in the place of the file", "device", word("init --db folder"))
-    wants("no such folder", "device", word("init --db none/d.db"))
-    wants("the name :memory:", "device", word("init --db :memory:"))
-    wants("an empty name", "device", word("init --db="))
+    suite.wants("a folder in the place of the file", "device", word("init --db folder"))
+    suite.wants("no such folder", "device", word("init --db none/d.db"))
+    suite.wants("the name :memory:", "device", word("init --db :memory:"))
+    suite.wants("an empty name", "device", word("init --db="))
 
 
-def rights():
-    if os.geteuid() != 0 or subprocess.run([*NOBODY, "true"], capture_output=True).returncode:
-        print("      a process can't become nobody here: rights are not tried")
+def rights(suite):
+    if not can_be_nobody():
+        suite.skip("rights", "a process can't become nobody here")
         return
     os.chmod(".", 0o755)
     os.mkdir("theirs")
     new_store("theirs/r.db")
     os.chown("theirs", 65534, 65534)
-    wants("a file that may not be written", "device", word("team-add --db theirs/r.db --team beta", before=NOBODY))
+    suite.wants("a file that may not be written", "device", word("team-add --db theirs/r.db --team beta", before=NOBODY))
     for name in os.listdir("theirs"):
         os.chown(f"theirs/{name}", 65534, 65534)
-    wants("it may be written", "", word("team-add --db theirs/r.db --team beta", before=NOBODY))
+    suite.wants("it may be written", "", word("team-add --db theirs/r.db --team beta", before=NOBODY))
     os.mkdir("closed")
-    wants("a folder that may not be written", "device", word("init --db closed/r.db", before=NOBODY))
+    suite.wants("a folder that may not be written", "device", word("init --db closed/r.db", before=NOBODY))
 
 
-def full_disk():
+def full_disk(suite):
     os.mkdir("small")
-    if subprocess.run(["mount", "-t", "tmpfs", "-o", "size=1m", "tmpfs", "small"], capture_output=True).returncode:
-        print("      no tmpfs can be mounted here: a full disk is not tried")
+    if not mounted("small", "1m"):
+        suite.skip("a full disk", "no tmpfs can be mounted here")
         return
     try:
         new_store("source.db")
@@ -141,40 +138,40 @@ def full_disk():
             except OSError:
                 pass
         told = word("team-add --db small/f.db --team beta")
-        wants("a full disk", "device", told)
+        suite.wants("a full disk", "device", told)
         os.remove("small/filler")
-        wants("the disk has room again", "", word("team-add --db small/f.db --team gamma"))
-        wants("nothing was lost", "taken", word("team-add --db small/f.db --team alpha"))
+        suite.wants("the disk has room again", "", word("team-add --db small/f.db --team gamma"))
+        suite.wants("nothing was lost", "taken", word("team-add --db small/f.db --team alpha"))
     finally:
         subprocess.run(["umount", "small"], check=True)
 
 
-def bad_schema():
+def bad_schema(suite):
     new_store("b.db")
     change("b.db")
     shutil.copy("b.db", "damaged.db")
     with open("damaged.db", "r+b") as file:
         file.write(b"\xff" * 16)
-    wants("no database", "bad-schema", word("team-add --db damaged.db --team beta"))
+    suite.wants("no database", "bad-schema", word("team-add --db damaged.db --team beta"))
     cut = open("b.db", "rb").read()[:5000]
     open("cut.db", "wb").write(cut)
-    wants("a damaged file", "bad-schema", word("team-add --db cut.db --team beta"))
+    suite.wants("a damaged file", "bad-schema", word("team-add --db cut.db --team beta"))
     change("tables.db", ["CREATE TABLE x (a INTEGER) STRICT"])
-    wants("other tables", "bad-schema", word("team-add --db tables.db --team beta"))
+    suite.wants("other tables", "bad-schema", word("team-add --db tables.db --team beta"))
     for cause, statement in (("a row that means no shelf", "INSERT INTO shelf VALUES ('No Team')"), ("ANALYZE", "ANALYZE")):
         shutil.copy("b.db", "rows.db")
         change("rows.db", [statement])
-        wants(cause, "bad-schema", word("team-add --db rows.db --team beta"))
+        suite.wants(cause, "bad-schema", word("team-add --db rows.db --team beta"))
     change("rows.db", ["DROP TABLE sqlite_stat1"])
-    wants("sqlite_stat1 was dropped", "", word("team-add --db rows.db --team beta"))
+    suite.wants("sqlite_stat1 was dropped", "", word("team-add --db rows.db --team beta"))
     reordered("order.db", "b.db")
-    wants("the tables in another order", "bad-schema", word("team-add --db order.db --team beta"))
+    suite.wants("the tables in another order", "bad-schema", word("team-add --db order.db --team beta"))
     assert word("init --db taken.db") == ""
     change("taken.db", ["ATTACH 'order.db' AS f"], *([statement] for statement in TAKE_OVER))
-    wants("a new store took the rows over", "taken", word("team-add --db taken.db --team alpha"))
+    suite.wants("a new store took the rows over", "taken", word("team-add --db taken.db --team alpha"))
 
 
-def numbers():
+def numbers(suite):
     new_store("v.db")
     mod, last, first = b"module example.com/n\n", 2**63 - 1, -(2**63)
     open("n.mod", "wb").write(mod)
@@ -185,75 +182,78 @@ def numbers():
 
     def published(version):
         line = f"publish --db v.db --key {KEY} --module example.com/n --mod n.mod --zip n.mod --version {version}"
-        return subprocess.run([PROGRAM, *line.split()], capture_output=True, timeout=60).stdout.decode().strip()
+        return run(line.split())[1].decode().strip()
 
     add(last, "v1.0.0")
-    wants("a row has the last number", "201 published", published("v1.1.0"))
+    suite.wants("a row has the last number", "201 published", published("v1.1.0"))
     add(first, "v1.2.0")
-    wants("one has the first number too", "503 unavailable", published("v1.3.0"))
+    suite.wants("one has the first number too", "503 unavailable", published("v1.3.0"))
     change("v.db", *([f"UPDATE {table} SET {column} = 0 WHERE {column} = ?", last] for table, column in (("version", "id"), ("piece", "version"))))
-    wants("the last number was changed to 0", "201 published", published("v1.3.0"))
+    suite.wants("the last number was changed to 0", "201 published", published("v1.3.0"))
 
 
-def files():
+def files(suite):
     new_store("f.db")
     open("go.mod", "w").write("module example.com/lib\n")
     open("lib.zip", "w").write("zip")
-    wants("init on a file that has bytes", "not-empty", word("init --db go.mod"))
-    wants("a go.mod that can't be read", "io", word(f"publish --db f.db {ROW} --mod none --zip lib.zip"))
-    wants("a zip that can't be read", "io", word(f"publish --db f.db {ROW} --mod go.mod --zip none"))
-    wants("a list that can't be read", "io", word(f"import --db f.db --key {KEY} --list none"))
+    suite.wants("init on a file that has bytes", "not-empty", word("init --db go.mod"))
+    suite.wants("a go.mod that can't be read", "io", word(f"publish --db f.db {ROW} --mod none --zip lib.zip"))
+    suite.wants("a zip that can't be read", "io", word(f"publish --db f.db {ROW} --mod go.mod --zip none"))
+    suite.wants("a list that can't be read", "io", word(f"import --db f.db --key {KEY} --list none"))
     with open("/dev/full", "wb") as full:
-        wants("an output that fails", "io", word(f"publish --db f.db {ROW} --mod go.mod --zip lib.zip", output=full))
+        suite.wants("an output that fails", "io", word(f"publish --db f.db {ROW} --mod go.mod --zip lib.zip", output=full))
     taken = socket.socket()
     taken.bind(("127.0.0.1", 0))
     taken.listen()
-    wants("a port that is taken", "io", word(f"serve --db f.db --port {taken.getsockname()[1]} --connections 0"))
+    suite.wants("a port that is taken", "io", word(f"serve --db f.db --port {taken.getsockname()[1]} --connections 0"))
     taken.close()
     for cause, text in (
         ("another header", "path,version\n"),
         ("a row of four fields", HEADER + "example.com/lib,v1.0.1,,go.mod\n"),
     ):
         open("list.csv", "w").write(text)
-        wants(cause, "bad-row", word(f"import --db f.db --key {KEY} --list list.csv"))
+        suite.wants(cause, "bad-row", word(f"import --db f.db --key {KEY} --list list.csv"))
     open("list.csv", "wb").write(HEADER.encode() + b"example.com/lib,v1.0.1,,go.mod,\xff\n")
-    wants("a row that is no text", "bad-row", word(f"import --db f.db --key {KEY} --list list.csv"))
+    suite.wants("a row that is no text", "bad-row", word(f"import --db f.db --key {KEY} --list list.csv"))
     open("list.csv", "w").write(HEADER + "example.com/lib,v1.0.0,,go.mod,lib.zip\nexample.com/lib,v1.0.1,,go.mod,lib.zip\n")
-    ran = subprocess.run([PROGRAM, *f"import --db f.db --key {KEY} --list list.csv".split()], capture_output=True, timeout=60)
-    wants("the list was mended", "", "" if ran.stdout == b"1 200 already published\n2 201 published\n" else ran.stdout)
+    told = run(f"import --db f.db --key {KEY} --list list.csv".split())[1]
+    suite.equal("the list was mended", told, b"1 200 already published\n2 201 published\n")
 
 
-def extracts():
+def extracts(suite):
     new_store("whole.db")
     open("text", "w").write("no store")
-    wants("extract: no such team", "no-team", word("extract --db whole.db --team beta --to part.db"))
-    wants("extract: G is no store", "not-empty", word("extract --db whole.db --team alpha --to text"))
-    wants("extract: G is F", "not-empty", word("extract --db whole.db --team alpha --to whole.db"))
-    wants("extract: another file", "", word("extract --db whole.db --team alpha --to part.db"))
-    wants("extract: G has a team", "not-empty", word("extract --db whole.db --team alpha --to part.db"))
+    suite.wants("extract: no such team", "no-team", word("extract --db whole.db --team beta --to part.db"))
+    suite.wants("extract: G is no store", "not-empty", word("extract --db whole.db --team alpha --to text"))
+    suite.wants("extract: G is F", "not-empty", word("extract --db whole.db --team alpha --to whole.db"))
+    suite.wants("extract: another file", "", word("extract --db whole.db --team alpha --to part.db"))
+    suite.wants("extract: G has a team", "not-empty", word("extract --db whole.db --team alpha --to part.db"))
 
 
-def names():
+def names(suite):
     new_store("n.db")
     for cause, team in (("an upper-case letter", "Alpha"), ("a digit first", "1team"), ("33 bytes", "a" * 33), ("common", "common")):
-        wants(f"a team: {cause}", "name", word(f"team-add --db n.db --team {team}"))
+        suite.wants(f"a team: {cause}", "name", word(f"team-add --db n.db --team {team}"))
     for cause, key in (("15 bytes", "a" * 15), ("65 bytes", "a" * 65), ("a dash", "alpha-key-000000001")):
-        wants(f"a key: {cause}", "name", word(f"key-add --db n.db --shelf alpha --key {key}"))
-    wants("a team that is there", "taken", word("team-add --db n.db --team alpha"))
-    wants("a key that is there", "taken", word(f"key-add --db n.db --shelf common --key {KEY}"))
-    wants("no such team", "no-team", word("key-add --db n.db --shelf beta --key betakey000000001"))
-    wants("no such key, key-revoke", "no-key", word("key-revoke --db n.db --key betakey000000001"))
-    wants("no such key, inventory", "no-key", word("inventory --db n.db --key betakey000000001"))
+        suite.wants(f"a key: {cause}", "name", word(f"key-add --db n.db --shelf alpha --key {key}"))
+    suite.wants("a team that is there", "taken", word("team-add --db n.db --team alpha"))
+    suite.wants("a key that is there", "taken", word(f"key-add --db n.db --shelf common --key {KEY}"))
+    suite.wants("no such team", "no-team", word("key-add --db n.db --shelf beta --key betakey000000001"))
+    suite.wants("no such key, key-revoke", "no-key", word("key-revoke --db n.db --key betakey000000001"))
+    suite.wants("no such key, inventory", "no-key", word("inventory --db n.db --key betakey000000001"))
     for cause, words in (
         ("a path that does not read", f"--key {KEY} --module Example --version v1.0.0"),
         ("a version that does not read", f"--key {KEY} --module example.com/lib --version 1"),
         ("no such key", "--key betakey000000001 --module example.com/lib --version v1.0.0"),
         ("a version that is not seen", ROW),
     ):
-        wants(f"requires: {cause}", "not-found", word(f"requires --db n.db {words}"))
+        suite.wants(f"requires: {cause}", "not-found", word(f"requires --db n.db {words}"))
 
 
-def memory():
+def memory(suite):
+    if not shutil.which("prlimit"):
+        suite.skip("memory", "there is no prlimit here")
+        return
     limit = ["prlimit", "--as=8388608"]
     new_store("m.db")
     change(
@@ -261,19 +261,19 @@ def memory():
         ["INSERT INTO version VALUES (1, 'alpha', 'example.com/big', 'v1.0.0', NULL, ?, ?, ?)", b"module example.com/big\n", *keys("v1.0.0")],
         *(["INSERT INTO piece VALUES (1, ?, ?)", number, os.urandom(PIECE)] for number in range(244)),
     )
-    wants("the system gave no memory", "memory", word("team-add --db m.db --team beta", before=limit))
-    wants("with more memory", "", word("team-add --db m.db --team beta"))
+    suite.wants("the system gave no memory", "memory", word("team-add --db m.db --team beta", before=limit))
+    suite.wants("with more memory", "", word("team-add --db m.db --team beta"))
 
 
 def main():
+    suite = Refusals()
     with tempfile.TemporaryDirectory() as folder:
         os.chdir(folder)
         for part in (device, rights, full_disk, bad_schema, numbers, files, extracts, names, memory):
-            part()
+            part(suite)
         os.chdir("/")
-    print(f"{sum(tried)} of {len(tried)} are as docs/OPERATING.md says")
-    sys.exit(0 if all(tried) else 1)
+    return suite.end()
 
 
 if __name__ == "__main__":
-    main()
+    sys.exit(main())

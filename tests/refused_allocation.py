@@ -1,24 +1,27 @@
 #!/usr/bin/env python3
 """One refused allocation gives at most one 503, and changes nothing but that one answer.
 
-Runs the built program (`./goshelf --version` builds it) on a stream of publishes and fetches, over shelves in memory and
-over a file, once for each N, with the Nth allocation refused by a small library that stands before the C library's (made
-with `cc`). Each run has to end as a run of the machine: the replies are those to the requests that were not answered 503;
-where the 503 closes the stream, it is the last. A run whose memory ends before the first request says `goshelf: memory`.
-A file is opened again after it: what was answered 201 is there, and is answered 200 when it comes again.
+Runs the program on a stream of publishes and fetches, over shelves in memory and over a file, once for each N, with the Nth allocation
+refused by a small library that stands before the C library's (made with `cc`). Each run has to end as a run of the machine: the replies
+are those to the requests that were not answered 503; where the 503 closes the stream, it is the last. A run whose memory ends before the
+first request says `goshelf: memory`. A file is opened again after it: what was answered 201 is there, and is answered 200 when it comes
+again. The short form refuses each tenth allocation over the file, from a random one of the first ten; --long each.
 """
 
 import functools
 import os
+import random
 import shutil
 import subprocess
 import sys
 import tempfile
 
-ROOT = os.path.dirname(os.path.dirname(os.path.abspath(__file__)))
-PROGRAM = os.path.join(ROOT, "crates", "goshelf", "out", "goshelf")
-KEY = "alphakey00000001"
-IN_MEMORY = ["--mem", "--team", "alpha", "--key", KEY]
+import harness
+from harness import KEY, MEMORY, PROGRAM, Suite, new_store, put
+
+NEEDS = ["cc"]
+# in the short form, one of so many allocations over a file
+SHARE = 10
 
 LIBRARY = """
 #include <stdlib.h>
@@ -40,30 +43,25 @@ __attribute__((destructor)) static void tell(void) {
 """
 
 
-def put(path, version, zip_bytes=b""):
-    gomod = f"module {path}\n".encode()
-    head = (
-        f"PUT /k/{KEY}/{path}/@v/{version} HTTP/1.1\r\n"
-        f"Mod-Length: {len(gomod)}\r\nContent-Length: {len(gomod) + len(zip_bytes)}\r\n\r\n"
-    )
-    return head.encode() + gomod + zip_bytes
+def publish(path, version, zip_bytes=b""):
+    return put(path, version, f"module {path}\n".encode(), zip_bytes)
 
 
 def get(path, file, key=KEY):
-    return f"GET /k/{key}/{path}/@v/{file} HTTP/1.1\r\n\r\n".encode()
+    return harness.get(f"{path}/@v/{file}", key)
 
 
 REQUESTS = [
-    put("example.com/lib", "v1.0.0"),
+    publish("example.com/lib", "v1.0.0"),
     get("example.com/lib", "v1.0.0.zip"),
     get("example.com/lib", "v1.0.0.mod"),
-    put("example.com/lib", "v1.0.0"),
-    put("example.com/lib", "v1.0.0", b"Z"),
+    publish("example.com/lib", "v1.0.0"),
+    publish("example.com/lib", "v1.0.0", b"Z"),
     get("example.com/lib", "v1.0.0.zip", "nosuchkey0000001"),
     get("example.com/lib", "v9.0.0.zip"),
-    put("example.com/!lib", "v1.0.0-rc.1", b"zip" * 3000),
+    publish("example.com/!lib", "v1.0.0-rc.1", b"zip" * 3000),
     get("example.com%2F%21lib", "v1.0.0-rc.1.zip"),
-    put("example.com//lib", "v1.0.0"),
+    publish("example.com//lib", "v1.0.0"),
 ]
 
 
@@ -74,12 +72,11 @@ class Runs:
         self.folder, self.library, self.has_file = folder, library, has_file
         self.file, self.fresh = os.path.join(folder, "run.db"), os.path.join(folder, "fresh.db")
         if has_file and not os.path.exists(self.fresh):
-            for words in (["init"], ["team-add", "--team", "alpha"], ["key-add", "--shelf", "alpha", "--key", KEY]):
-                subprocess.run([PROGRAM, words[0], "--db", self.fresh] + words[1:], check=True)
+            new_store(self.fresh, ("alpha", KEY))
 
     def again(self, requests, **more):
         """Runs on the store as the last run left it."""
-        words = ["answer"] + (["--db", self.file] if self.has_file else IN_MEMORY)
+        words = ["answer"] + (["--db", self.file] if self.has_file else MEMORY)
         env = {**os.environ, "LD_PRELOAD": self.library, **more}
         done = subprocess.run([PROGRAM] + words, input=b"".join(requests), capture_output=True, env=env)
         return done.returncode, done.stdout, done.stderr
@@ -99,14 +96,13 @@ class Runs:
         return replies(self.run([it for i, it in enumerate(REQUESTS) if i not in left_out])[1])
 
 
-def replies(text):
+def replies(stream):
     """The statuses and the whole texts of the replies written one behind another."""
-    found = []
-    while text:
-        head, _, rest = text.partition(b"\r\n\r\n")
-        length = next(int(line.split(b": ")[1]) for line in head.split(b"\r\n") if line.startswith(b"Content-Length"))
-        found.append((int(head.split(b" ")[1]), head + b"\r\n\r\n" + rest[:length]))
-        text = rest[length:]
+    found, at = [], 0
+    for status, body in harness.replies(stream):
+        end = stream.index(b"\r\n\r\n", at) + 4 + len(body)
+        found.append((status, stream[at:end]))
+        at = end
     return found
 
 
@@ -135,32 +131,28 @@ def judge(n, runs):
     return None if same else f"{n}: the other replies differ"
 
 
-def sweep(runs):
-    """How many allocations there are, and what is wrong where one of them is refused."""
+def sweep(suite, name, runs, share):
+    """Adds a row for each allocation that is refused: one of so many."""
     status, output, errors = runs.run(REQUESTS, COUNT="1")
-    if status != 0 or any(number == 503 for number, _ in replies(output)):
-        sys.exit("a 503 with ample memory")
-    wrong = [judge(n, runs) for n in range(1, int(errors) + 1)]
-    return len(wrong), [it for it in wrong if it]
+    if not suite.holds(f"{name}: no 503 with ample memory", status == 0 and not any(number == 503 for number, _ in replies(output)), errors):
+        return
+    refused = range(random.randint(1, share), int(errors) + 1, share)
+    for n in refused:
+        suite.counts(f"{name}: an allocation refused", judge(n, runs))
+    print(f"{name}: {len(refused)} of {int(errors)} allocations were refused")
 
 
-def main():
-    if not os.path.exists(PROGRAM):
-        sys.exit("build the program first: ./goshelf --version")
+def main(words):
+    suite = Suite()
     with tempfile.TemporaryDirectory() as folder:
         source, library = os.path.join(folder, "refuse.c"), os.path.join(folder, "refuse.so")
-        with open(source, "w") as file:
+        with open(source, "w", encoding="utf-8") as file:
             file.write(LIBRARY)
         subprocess.run(["cc", "-shared", "-fPIC", "-O1", "-o", library, source], check=True)
-        count, wrong = sweep(Runs(folder, library, False))
-        more, others = sweep(Runs(folder, library, True))
-    for line in wrong + others:
-        print(line)
-    failed = len(wrong) + len(others)
-    print(f"in memory {count} allocations, over a file {more}")
-    print(f"{count + more - failed} passed, {failed} failed")
-    sys.exit(1 if failed else 0)
+        sweep(suite, "in memory", Runs(folder, library, False), 1)
+        sweep(suite, "over a file", Runs(folder, library, True), 1 if "--long" in words else SHARE)
+    return suite.end()
 
 
 if __name__ == "__main__":
-    main()
+    sys.exit(main(sys.argv[1:]))

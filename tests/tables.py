@@ -1,7 +1,7 @@
 #!/usr/bin/env python3
 """The tables of a store as sqlite3 reads and writes them: keys of order, and zips in pieces.
 
-Build the program first (`./goshelf --version`). The program publishes, and Python's sqlite3 finds the tables whole, the pieces of each zip
+The program publishes, and Python's sqlite3 finds the tables whole, the pieces of each zip
 and the keys of each version, which are made here by their own rules. Then sqlite3 changes rows, also such as break a reference, and the
 program refuses each file as `bad-schema` and leaves its bytes as they were. At last sqlite3 makes the rows, and the program serves them.
 """
@@ -10,12 +10,12 @@ import os
 import re
 import shutil
 import sqlite3
-import subprocess
+import sys
 import tempfile
 
-ROOT = os.path.dirname(os.path.dirname(os.path.abspath(__file__)))
-PROGRAM = os.path.join(ROOT, "crates", "goshelf", "out", "goshelf")
-KEY = "alphakey00000001"
+import harness
+from harness import KEY, Suite, answered, get, run
+
 PATH = "example.com/m"
 GOMOD = f"module {PATH}\n".encode()
 # bytes of a piece of a zip but for its last
@@ -34,14 +34,6 @@ VERSIONS = {
     "v1.1.0-2": 3,
     "v0.0.0-20240131120000-0123456789ab": 4,
 }
-
-tried = []
-
-
-def wants(what, wanted, told):
-    tried.append(told == wanted)
-    print(f"{'ok   ' if told == wanted else 'WRONG'} {what}" + ("" if told == wanted else f": {told!r} and not {wanted!r}"[:300]))
-
 
 def zip_of(version):
     """Bytes that differ from piece to piece and from version to version."""
@@ -66,17 +58,8 @@ def rank_key(version):
     return rank + order_key(version)
 
 
-def answered(file, requests):
-    """What the program writes to a stream of requests."""
-    ran = subprocess.run([PROGRAM, "answer", "--db", file], input=requests, capture_output=True, timeout=300)
-    return ran.stdout, ran.stderr.decode()
-
-
 def put(version):
-    body = GOMOD + zip_of(version)
-    time = f"Version-Time: {stamp_time(version)}\r\n" if PSEUDO.match(version) else ""
-    head = f"PUT /k/{KEY}/{PATH}/@v/{version} HTTP/1.1\r\nMod-Length: {len(GOMOD)}\r\n{time}Content-Length: {len(body)}\r\n\r\n"
-    return head.encode() + body
+    return harness.put(PATH, version, GOMOD, zip_of(version), time=stamp_time(version) if PSEUDO.match(version) else "")
 
 
 def stamp_time(version):
@@ -86,19 +69,12 @@ def stamp_time(version):
 
 def served(file):
     """The zips that the program serves, by version; none of one that it does not."""
-    stream, _ = answered(file, b"".join(f"GET /k/{KEY}/{PATH}/@v/{version}.zip HTTP/1.1\r\n\r\n".encode() for version in VERSIONS))
-    zips = {}
-    for version in VERSIONS:
-        head, _, stream = stream.partition(b"\r\n\r\n")
-        length = int(re.search(rb"Content-Length: (\d+)", head)[1])
-        zips[version], stream = stream[:length] if b" 200 OK" in head else None, stream[length:]
-    return zips
+    told = answered(["--db", file], [get(f"{PATH}/@v/{version}.zip") for version in VERSIONS])
+    return {version: body if status == 200 else None for version, (status, body) in zip(VERSIONS, told)}
 
 
 def new_store(file):
-    for line in ("init", "team-add --team alpha", f"key-add --shelf alpha --key {KEY}"):
-        ran = subprocess.run([PROGRAM, *line.split(), "--db", file], capture_output=True, timeout=60)
-        assert ran.returncode == 0, (line, ran.stderr)
+    harness.new_store(file, ("alpha", KEY))
 
 
 def opened(file):
@@ -107,31 +83,31 @@ def opened(file):
     return conn
 
 
-def read_by_sqlite():
+def read_by_sqlite(suite):
     new_store("f.db")
-    replies, _ = answered("f.db", b"".join(map(put, VERSIONS)))
-    wants("each version is published", len(VERSIONS), replies.count(b" 201 Created\r\n"))
+    told = answered(["--db", "f.db"], map(put, VERSIONS))
+    suite.equal("each version is published", [status for status, _ in told], [201] * len(VERSIONS))
     conn = opened("f.db")
-    wants("integrity_check", [("ok",)], conn.execute("PRAGMA integrity_check").fetchall())
-    wants("foreign_key_check", [], conn.execute("PRAGMA foreign_key_check").fetchall())
-    wants("schema 2", [("schema", 2)], conn.execute("SELECT name, value FROM meta").fetchall())
+    suite.equal("integrity_check", conn.execute("PRAGMA integrity_check").fetchall(), [("ok",)])
+    suite.equal("foreign_key_check", conn.execute("PRAGMA foreign_key_check").fetchall(), [])
+    suite.equal("schema 2", conn.execute("SELECT name, value FROM meta").fetchall(), [("schema", 2)])
     for version, length in VERSIONS.items():
         rows = conn.execute("SELECT id, order_key, rank_key FROM version WHERE path = ? AND version = ?", (PATH, version)).fetchall()
-        wants(f"the keys of {version}", [(order_key(version), rank_key(version))], [row[1:] for row in rows])
+        suite.equal(f"the keys of {version}", [row[1:] for row in rows], [(order_key(version), rank_key(version))])
         pieces = conn.execute("SELECT number, bytes FROM piece WHERE version = ? ORDER BY number", rows[0][:1]).fetchall()
-        wants(f"the numbers of its pieces, of {length} bytes", list(range((length + PIECE - 1) // PIECE)), [number for number, _ in pieces])
-        wants("each but the last is full", [], [number for number, piece in pieces[:-1] if len(piece) != PIECE])
-        wants("joined they are the zip", True, b"".join(piece for _, piece in pieces) == zip_of(version))
+        suite.equal(f"the numbers of its pieces, of {length} bytes", [number for number, _ in pieces], list(range((length + PIECE - 1) // PIECE)))
+        suite.equal("each but the last is full", [number for number, piece in pieces[:-1] if len(piece) != PIECE], [])
+        suite.holds("joined they are the zip", b"".join(piece for _, piece in pieces) == zip_of(version))
     by_order = [version for (version,) in conn.execute("SELECT version FROM version ORDER BY order_key")]
     by_rank = [version for (version,) in conn.execute("SELECT version FROM version ORDER BY rank_key")]
     conn.execute("PRAGMA wal_checkpoint(TRUNCATE)")
     conn.close()
     releases = [f"v1.0.{n}" for n in range(7)]
-    wants("order_key goes by precedence", ["v0.0.0-20240131120000-0123456789ab", *releases, "v1.1.0-2", "v1.1.0-rc.10"], by_order)
-    wants("rank_key goes by rank", ["v0.0.0-20240131120000-0123456789ab", "v1.1.0-2", "v1.1.0-rc.10", *releases], by_rank)
+    suite.equal("order_key goes by precedence", by_order, ["v0.0.0-20240131120000-0123456789ab", *releases, "v1.1.0-2", "v1.1.0-rc.10"])
+    suite.equal("rank_key goes by rank", by_rank, ["v0.0.0-20240131120000-0123456789ab", "v1.1.0-2", "v1.1.0-rc.10", *releases])
 
 
-def refused():
+def refused(suite):
     of = "(SELECT id FROM version WHERE version = 'v1.0.5')"
     for cause, statement in (
         ("a gap in the numbers", f"UPDATE piece SET number = 2 WHERE number = 1 AND version = {of}"),
@@ -154,17 +130,17 @@ def refused():
         try:
             conn.execute(statement)
         except sqlite3.IntegrityError as error:
-            wants(cause, "", f"sqlite3 does not make it: {error}")
+            suite.holds(cause, False, f"sqlite3 does not make it: {error}")
             continue
         conn.execute("PRAGMA wal_checkpoint(TRUNCATE)")
         conn.close()
         before = open("bad.db", "rb").read()
-        ran = subprocess.run([PROGRAM, "team-add", "--db", "bad.db", "--team", "beta"], capture_output=True, timeout=300)
-        wants(cause, (1, b"goshelf: bad-schema\n"), (ran.returncode, ran.stderr))
-        wants("  and nothing was changed", True, open("bad.db", "rb").read() == before)
+        status, _, told = run(["team-add", "--db", "bad.db", "--team", "beta"], timeout=300)
+        suite.equal(cause, (status, told), (1, "goshelf: bad-schema\n"))
+        suite.holds(f"{cause}: nothing was changed", open("bad.db", "rb").read() == before)
 
 
-def made_by_sqlite():
+def made_by_sqlite(suite):
     new_store("made.db")
     conn = opened("made.db")
     conn.execute("BEGIN")
@@ -181,17 +157,18 @@ def made_by_sqlite():
     conn.close()
     zips = served("made.db")
     for version in VERSIONS:
-        wants(f"the zip of {version}, whose rows sqlite3 made, is served", True, zips[version] == zip_of(version))
+        suite.holds(f"the zip of {version}, whose rows sqlite3 made, is served", zips[version] == zip_of(version))
 
 
 def main():
+    suite = Suite()
     with tempfile.TemporaryDirectory() as folder:
         os.chdir(folder)
         for part in (read_by_sqlite, refused, made_by_sqlite):
-            part()
-    print(f"{sum(tried)} of {len(tried)} are so")
-    return 0 if all(tried) else 1
+            part(suite)
+        os.chdir("/")
+    return suite.end()
 
 
 if __name__ == "__main__":
-    raise SystemExit(main())
+    sys.exit(main())

@@ -1,19 +1,19 @@
 #!/usr/bin/env python3
-"""Where this profile is not Go's: what golang.org/x/mod says of each row, and what a publish of it is answered here.
+"""Compares the table of docs/DIFFERENCES-FROM-GO.md with what golang.org/x/mod and goshelf answer to each input.
 
-Run it beside the gate, where Debian's golang-go and golang-golang-x-mod-dev are at hand and the program is built
-(`cd crates/goshelf && rt run -- --version`), or with the program's path as its argument. It prints the table of
-docs/DEPARTURES.md.
+It needs Debian's golang-go and golang-golang-x-mod-dev. With --print it prints the table in place of comparing it.
 """
 
 import os
+import shutil
 import subprocess
 import sys
 import tempfile
 
-ROOT = os.path.dirname(os.path.dirname(os.path.abspath(__file__)))
-PROGRAM = os.path.join(ROOT, "crates", "goshelf", "out", "goshelf")
-KEY = "alphakey00000001"
+from harness import KEY, MEMORY, ROOT, Suite, answered
+
+PAGE = os.path.join(ROOT, "docs", "DIFFERENCES-FROM-GO.md")
+PACKAGES = "/usr/share/gocode/src/golang.org/x/mod"
 LONG_PATH = "example.com/" + "a" * 244
 LONG_VERSION = "v1.0.0-" + "a" * 122
 
@@ -21,9 +21,9 @@ LONG_VERSION = "v1.0.0-" + "a" * 122
 ROWS = [
     ("`gopkg.in` with `-unstable`", "path", "gopkg.in/yaml.v2-unstable"),
     ("a path of 256 bytes", "path", LONG_PATH),
-    ("the mark at a suffix", "version", "example.com/x/v2", "v2.0.0+incompatible"),
-    ("the mark on major 1", "version", "example.com/x", "v1.0.0+incompatible"),
-    ("the mark on major 0", "version", "example.com/x", "v0.1.0+incompatible"),
+    ("`+incompatible` at a suffix", "version", "example.com/x/v2", "v2.0.0+incompatible"),
+    ("`+incompatible` on major 1", "version", "example.com/x", "v1.0.0+incompatible"),
+    ("`+incompatible` on major 0", "version", "example.com/x", "v0.1.0+incompatible"),
     ("another build part", "version", "example.com/x", "v1.0.0+meta"),
     ("a version of 129 bytes", "version", "example.com/x", LONG_VERSION),
     ("a revision in upper case", "version", "example.com/x", "v0.0.0-20240131120000-ABCDEFABCDEF"),
@@ -80,25 +80,34 @@ def put(row):
     return head.encode() + body
 
 
-def answer(program, row):
-    """The status and the body that a publish of the row is answered."""
-    ran = subprocess.run([program, "answer", "--mem", "--team", "alpha", "--key", KEY], input=put(row), capture_output=True, check=True)
-    head, _, body = ran.stdout.partition(b"\r\n\r\n")
-    return f"{head.split()[1].decode()} `{body.decode().strip()}`"
+def answer(row):
+    """The status and the body that goshelf answers to a publish of the row."""
+    [(status, body)] = answered(MEMORY, [put(row)])
+    return f"{status} `{body.decode().strip()}`"
 
 
 def shown(row):
-    """The input of a row, for the table."""
+    """The input of a row as code of the table. Two grave accents enclose a text that has one."""
     text = " ".join(row[2:]) or "(nothing)"
     text = text if len(text) <= 80 else text[:24] + ".." + text[-4:]
-    return "`" + text.replace("`", "'").replace("|", "\\|") + "`"
+    fence = "``" if "`" in text else "`"
+    return fence + text.replace("|", "\\|") + fence
 
 
 def main():
-    program = sys.argv[1] if len(sys.argv) > 1 else PROGRAM
-    print("| what | input | `golang.org/x/mod` | a publish here |\n|---|---|---|---|")
-    for row, said in zip(ROWS, go_says(ROWS)):
-        print(f"| {row[0]} | {shown(row)} | {said} | {answer(program, row)} |")
+    suite = Suite()
+    if not shutil.which("go") or not os.path.isdir(PACKAGES):
+        suite.skip("the table", "golang-go and golang-golang-x-mod-dev are not installed")
+        sys.exit(suite.end())
+    lines = [f"| {row[0]} | {shown(row)} | {said} | {answer(row)} |" for row, said in zip(ROWS, go_says(ROWS))]
+    if "--print" in sys.argv[1:]:
+        print("| what | input | `golang.org/x/mod` | goshelf |", "|---|---|---|---|", *lines, sep="\n")
+        return
+    with open(PAGE, encoding="utf-8") as page:
+        table = page.read().splitlines()
+    for row, line in zip(ROWS, lines):
+        suite.holds(row[0], line in table, f"the page has no line {line}")
+    sys.exit(suite.end())
 
 
 if __name__ == "__main__":

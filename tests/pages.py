@@ -1,0 +1,213 @@
+#!/usr/bin/env python3
+"""Checks the pages of the repository, each *.md file that git knows or would add.
+
+Of each page: links lead to files and headings that exist; commits, files, crates and items that it cites in backticks exist; a table cell
+has at most 120 characters, and the README at most 150 lines. The blocks marked `sh run` of a page run one after another in one shell, in a
+folder of their own with the built program on the path. A block marked `output` is what the last block before it that runs has to print.
+With names of pages, only those are checked. tools/pages calls it too.
+"""
+
+import os
+import re
+import shutil
+import signal
+import socket
+import subprocess
+import sys
+import tempfile
+
+from harness import PROGRAM, ROOT, Suite, shown
+
+LONGEST_README = 150
+LONGEST_CELL = 120
+# folders and files at the top whose names pages cite in backticks
+PLACES = re.compile(r"(?:\.ci|bench|crates|docs|examples|tests|tools)/[\w./*-]+|[\w-]+\.(?:md|txt)")
+COMMIT = re.compile(r"(?=.*\d)(?=.*[a-f])[0-9a-f]{7,12}")
+ITEM = re.compile(r"\w+(?:::\w+)+")
+FENCE = re.compile(r"^```([^\n]*)\n(.*?)^```$", re.M | re.S)
+MARK = "---- the end of a block ----"
+
+
+def read(name):
+    with open(os.path.join(ROOT, name), encoding="utf-8") as file:
+        return file.read()
+
+
+def lines_of(*words):
+    """What a command prints at the top of the repository, line by line."""
+    return subprocess.run(words, cwd=ROOT, capture_output=True, text=True, check=True).stdout.splitlines()
+
+
+def prose(text):
+    """A page without its fenced blocks."""
+    return FENCE.sub("", text)
+
+
+def codes(text):
+    """What stands in backticks in the prose of a page."""
+    return set(re.findall(r"(?<!`)`([^`]+)`(?!`)", prose(text)))
+
+
+def anchors(text):
+    """The anchor of each heading, as GitHub makes it."""
+    heads = re.findall(r"^#+ (.*)$", prose(text), re.M)
+    return {re.sub(r"[^\w\- ]", "", head.lower()).replace(" ", "-") for head in heads}
+
+
+def bad_links(page, text):
+    """The links of a page that lead nowhere. Links to other hosts are not tried."""
+    bad = []
+    for target in re.findall(r"\]\(([^)\s]+)\)", prose(text)):
+        if re.match(r"\w+:", target):
+            continue
+        name, _, anchor = target.partition("#")
+        there = os.path.normpath(os.path.join(os.path.dirname(page), name)) if name else page
+        if not os.path.exists(os.path.join(ROOT, there)):
+            bad.append(target)
+        elif anchor and anchor not in anchors(read(there)):
+            bad.append(target)
+    return bad
+
+
+def bad_commits(text):
+    """The commits that a page cites and git does not have."""
+    cited = [code for code in codes(text) if COMMIT.fullmatch(code)]
+    return [it for it in cited if subprocess.run(["git", "cat-file", "-e", it + "^{commit}"], cwd=ROOT, capture_output=True).returncode]
+
+
+def is_there(name):
+    """Whether a file or a folder exists, at the top or in a folder of pages; a star stands for any name."""
+    names = [name, os.path.join("docs", name)] if "/" not in name else [name]
+    if "*" in name:
+        pattern = re.compile(re.escape(name).replace(r"\*", "[^/]*"))
+        return any(pattern.fullmatch(it) for it in lines_of("git", "ls-files", "-co", "--exclude-standard"))
+    return any(os.path.exists(os.path.join(ROOT, it)) for it in names)
+
+
+def bad_files(text):
+    """The files that a page cites and that do not exist."""
+    cited = {word for code in codes(text) for word in code.split() if PLACES.fullmatch(word)}
+    return sorted(it for it in cited if "/out/" not in it and not is_there(it))
+
+
+def crates():
+    """The crates of the repository, and the libraries that they use."""
+    rows = [line.partition(":") for line in read("crates.txt").splitlines() if re.match(r"\w+:", line)]
+    return {name for name, _, _ in rows}, {word for _, _, used in rows for word in used.split()}
+
+
+def words_of(crate):
+    """Each word of the code and the definitions of a crate, or of all crates by the name `*`."""
+    found = set()
+    for name in lines_of("git", "ls-files", f":(glob)crates/{crate}/src/**", f":(glob)crates/{crate}/specs/**"):
+        found.update(re.findall(r"\w+", read(name)))
+    return found
+
+
+def bad_names(text, own, used, known):
+    """The crates and the items that a page cites and that do not exist."""
+    cited = codes(text)
+    bad = [it for it in cited if re.fullmatch(r"(?:test|bench)_\w+", it) and it not in own]
+    bad += [it for it in re.findall(r"\bcrate `(\w+)`", prose(text)) if it not in own | used]
+    for item in sorted(it for it in cited if ITEM.fullmatch(it)):
+        first, *_, last = item.split("::")
+        if first in own:
+            known.setdefault(first, words_of(first))
+        if first not in used - own and first != "std" and last not in known[first if first in own else "*"]:
+            bad.append(item)
+    return bad
+
+
+def bad_cells(text):
+    """The cells of tables that are too long."""
+    rows = [line for line in prose(text).splitlines() if line.startswith("|")]
+    return [cell.strip() for row in rows for cell in re.split(r"(?<!\\)\|", row) if len(cell.strip()) > LONGEST_CELL]
+
+
+def blocks(text):
+    """The blocks of a page that run, each with what it has to print, or None."""
+    found = []
+    for kind, body in FENCE.findall(text):
+        if kind == "sh run":
+            found.append([body, None])
+        elif kind == "output":
+            found[-1][1] = body
+    return found
+
+
+def free_port():
+    with socket.socket() as held:
+        held.bind(("127.0.0.1", 0))
+        return held.getsockname()[1]
+
+
+def ran(script):
+    """Runs a script in a folder of its own, and returns its exit status and what it printed."""
+    with tempfile.TemporaryDirectory(prefix="goshelf-pages-") as room:
+        os.mkdir(f"{room}/bin")
+        os.symlink(os.path.abspath(PROGRAM), f"{room}/bin/goshelf")
+        settings = dict(os.environ, HOME=room, PATH=f"{room}/bin:{os.environ['PATH']}", goshelf="goshelf")
+        settings.update(GOPATH=f"{room}/go", GOCACHE=f"{room}/cache", GOFLAGS="-modcacherw", GOTOOLCHAIN="local")
+        child = subprocess.Popen(["bash", "-euc", script], cwd=room, env=settings, start_new_session=True,
+                                 stdin=subprocess.DEVNULL, stdout=subprocess.PIPE, stderr=subprocess.PIPE, text=True)
+        try:
+            told = child.communicate(timeout=300)
+        except subprocess.TimeoutExpired:
+            told = ("", "300 seconds were not enough")
+        finally:
+            try:
+                os.killpg(child.pid, signal.SIGKILL)
+            except ProcessLookupError:
+                pass
+        return child.wait(), *told
+
+
+def run_blocks(suite, page, found):
+    """Adds a row for each block of a page that runs."""
+    script = "".join(f"{body}printf '%s\\n' '{MARK}'\n" for body, _ in found)
+    missing = [it for it in ("curl", "go", "python3") if re.search(rf"^{it} ", script, re.M) and not shutil.which(it)]
+    if missing:
+        suite.skip(f"{page}: blocks", f"{missing[0]} is not installed")
+        return
+    status, printed, errors = ran(script.replace("8080", str(free_port())))
+    parts = printed.split(MARK + "\n")
+    for at, (body, wanted) in enumerate(found):
+        name = f"{page}: {body.strip().splitlines()[0]}"
+        if at >= len(parts) - 1:
+            suite.holds(name, False, f"status {status}: {errors[-300:]!r}")
+            break
+        if wanted is None:
+            suite.holds(name, True)
+        else:
+            suite.equal(name, parts[at], wanted)
+
+
+def check(suite, page, known):
+    """Adds the rows of one page."""
+    text = read(page)
+    own, used = crates()
+    for what, bad in (
+        ("links", bad_links(page, text)),
+        ("commits", bad_commits(text)),
+        ("files", bad_files(text)),
+        ("crates and items", bad_names(text, own, used, known)),
+        ("table cells", bad_cells(text)),
+    ):
+        suite.holds(f"{page}: {what}", not bad, shown(bad))
+    if page == "README.md":
+        suite.holds(f"{page}: length", text.count("\n") <= LONGEST_README, f"{text.count(chr(10))} lines")
+    if found := blocks(text):
+        run_blocks(suite, page, found)
+
+
+def main():
+    suite = Suite()
+    known = {"*": words_of("*")}
+    for page in sys.argv[1:] or lines_of("git", "ls-files", "-co", "--exclude-standard", "*.md"):
+        if not page.startswith("-"):
+            check(suite, page, known)
+    sys.exit(suite.end())
+
+
+if __name__ == "__main__":
+    main()

@@ -1,8 +1,8 @@
 #!/usr/bin/env python3
 """Checks the pages of the repository, each *.md file that git knows or would add.
 
-Of each page: links lead to files and headings that exist; commits, files, crates and items that it cites in backticks exist; a table cell
-has at most 120 characters, and the README at most 150 lines. The blocks marked `sh run` of a page run one after another in one shell, in a
+Of each page: links lead to files and headings that exist; commits, files, crates and items that it cites in backticks exist; a line has at
+most 100 characters, a table cell 120, and the README 150 lines. The blocks marked `sh run` of a page run one after another in one shell, in a
 folder of their own with the built program on the path. A block marked `output` is what the last block before it that runs has to print.
 With names of pages, only those are checked. tools/pages calls it too.
 """
@@ -20,6 +20,7 @@ from harness import PROGRAM, ROOT, Suite, shown
 
 LONGEST_README = 150
 LONGEST_CELL = 120
+LONGEST_LINE = 100
 # folders and files at the top whose names pages cite in backticks
 PLACES = re.compile(r"(?:\.ci|bench|crates|docs|examples|tests|tools)/[\w./*-]+|[\w-]+\.(?:md|txt)")
 COMMIT = re.compile(r"(?=.*\d)(?=.*[a-f])[0-9a-f]{7,12}")
@@ -124,6 +125,12 @@ def bad_cells(text):
     return [cell.strip() for row in rows for cell in re.split(r"(?<!\\)\|", row) if len(cell.strip()) > LONGEST_CELL]
 
 
+def bad_lines(text):
+    """The lines of prose that are too long. A line of one word, as a link, can't be wrapped."""
+    lines = [line for line in prose(text).splitlines() if not line.startswith(("|", "#"))]
+    return [line for line in lines if len(line) > LONGEST_LINE and len(line.split()) > 1]
+
+
 def blocks(text):
     """The blocks of a page that run, each with what it has to print, or None."""
     found = []
@@ -192,6 +199,7 @@ def check(suite, page, known):
         ("files", bad_files(text)),
         ("crates and items", bad_names(text, own, used, known)),
         ("table cells", bad_cells(text)),
+        ("lines", bad_lines(text)),
     ):
         suite.holds(f"{page}: {what}", not bad, shown(bad))
     if page == "README.md":

@@ -148,25 +148,33 @@ def free_port():
         return held.getsockname()[1]
 
 
+def ended(child, seconds=300):
+    """Waits for a script, ends whatever it left running, and returns its exit status."""
+    try:
+        child.wait(seconds)
+    except subprocess.TimeoutExpired:
+        print(f"the script did not end in {seconds} seconds", flush=True)
+    try:
+        os.killpg(child.pid, signal.SIGKILL)
+    except ProcessLookupError:
+        pass
+    return child.wait()
+
+
 def ran(script):
-    """Runs a script in a folder of its own, and returns its exit status and what it printed."""
+    """Runs a script in a folder of its own, and returns its exit status, standard output and standard error."""
     with tempfile.TemporaryDirectory(prefix="goshelf-pages-") as room:
-        os.mkdir(f"{room}/bin")
+        for name in ("bin", "work"):
+            os.mkdir(f"{room}/{name}")
         os.symlink(os.path.abspath(PROGRAM), f"{room}/bin/goshelf")
         settings = dict(os.environ, HOME=room, PATH=f"{room}/bin:{os.environ['PATH']}", goshelf="goshelf")
         settings.update(GOPATH=f"{room}/go", GOCACHE=f"{room}/cache", GOFLAGS="-modcacherw", GOTOOLCHAIN="local")
-        child = subprocess.Popen(["bash", "-euc", script], cwd=room, env=settings, start_new_session=True,
-                                 stdin=subprocess.DEVNULL, stdout=subprocess.PIPE, stderr=subprocess.PIPE, text=True)
-        try:
-            told = child.communicate(timeout=300)
-        except subprocess.TimeoutExpired:
-            told = ("", "300 seconds were not enough")
-        finally:
-            try:
-                os.killpg(child.pid, signal.SIGKILL)
-            except ProcessLookupError:
-                pass
-        return child.wait(), *told
+        told = f"{room}/printed", f"{room}/errors"
+        with open(told[0], "wb") as printed, open(told[1], "wb") as errors:
+            words = ["bash", "-euc", script]
+            status = ended(subprocess.Popen(words, cwd=f"{room}/work", env=settings, start_new_session=True,
+                                            stdin=subprocess.DEVNULL, stdout=printed, stderr=errors))
+        return status, *map(read, told)
 
 
 def run_blocks(suite, page, found):

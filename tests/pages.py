@@ -194,7 +194,7 @@ def run_blocks(suite, page, found):
         if wanted is None:
             suite.holds(name, True)
         else:
-            suite.equal(name, parts[at], wanted)
+            suite.equal(name, parts[at].rstrip("\n"), wanted.rstrip("\n"))
 
 
 def check(suite, page, known):

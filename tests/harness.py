@@ -7,11 +7,15 @@ its last line `N passed, N failed`, with `, N skipped` behind where the machine 
 import os
 import shutil
 import subprocess
+import tempfile
 
 ROOT = os.path.dirname(os.path.dirname(os.path.abspath(__file__)))
 # GOSHELF names another program to test
 PROGRAM = os.path.abspath(os.environ.get("GOSHELF") or os.path.join(ROOT, "crates", "goshelf", "out", "goshelf"))
 KEY = "alphakey00000001"
+# the keys of the worked rows: alpha's, one that only reads there, beta's, that of `common`, and one that is nobody's
+KEYS = {"A": KEY, "R": "alphareader00001", "B": "betakey000000001", "C": "commonkey0000001", "N": "nosuchkey0000001"}
+SHELVES = (("beta", KEYS["B"]), ("alpha", KEYS["A"], KEYS["R"]), ("common", KEYS["C"]))
 MEMORY = ["--mem", "--team", "alpha", "--key", KEY]
 
 
@@ -30,6 +34,11 @@ class Suite:
         self.passed, self.failed = self.passed + bool(is_right), self.failed + (not is_right)
         print(f"ok    {name}" if is_right else f"WRONG {name}{f': {why}' if why else ''}", flush=True)
         return bool(is_right)
+
+    def runs(self, about, table):
+        """Makes the runs of a table, as `runs_of` reads them, in order. Each is a row: its status, what it prints, and its word."""
+        for line, words, requests, wanted in runs_of(table):
+            self.equal(f"{about}: {line}", run(words, requests), wanted)
 
     def skip(self, name, why):
         """Counts a row that this machine can't run."""
@@ -74,16 +83,35 @@ def put(path, version, gomod, zip_bytes=b"", key=KEY, time=""):
     return head.encode() + (f"Version-Time: {time}\r\n" if time else "").encode() + b"\r\n" + gomod + zip_bytes
 
 
-def replies(stream):
-    """The replies of a stream, each as its status and its body."""
+def raw_replies(stream):
+    """The replies of a stream, each as its bytes."""
     told, at = [], 0
     while at < len(stream):
-        end = stream.index(b"\r\n\r\n", at)
+        end = stream.index(b"\r\n\r\n", at) + 4
         lines = stream[at:end].split(b"\r\n")
         length = next(int(line.split(b":")[1]) for line in lines if line.lower().startswith(b"content-length:"))
-        told.append((int(lines[0].split()[1]), stream[end + 4 : end + 4 + length]))
-        at = end + 4 + length
+        told.append(stream[at : end + length])
+        at = end + length
     return told
+
+
+def replies(stream):
+    """The replies of a stream, each as its status and its body."""
+    return [(int(raw.split()[1]), raw.partition(b"\r\n\r\n")[2]) for raw in raw_replies(stream)]
+
+
+PHRASES = {
+    200: "OK", 201: "Created", 400: "Bad Request", 403: "Forbidden", 404: "Not Found", 409: "Conflict", 413: "Payload Too Large",
+    422: "Unprocessable Entity", 503: "Service Unavailable", 507: "Insufficient Storage",
+}  # fmt: skip
+KINDS = {".zip": "application/zip", ".info": "application/json", "@latest": "application/json"}
+
+
+def reply(status, body, target=""):
+    """The bytes of a reply. The target of a GET tells the kind of the body that a 200 has."""
+    kinds = [kind for end, kind in KINDS.items() if status == 200 and target.endswith(end)]
+    head = f"HTTP/1.1 {status} {PHRASES[status]}\r\nContent-Type: {(kinds or ['text/plain; charset=utf-8'])[0]}\r\n"
+    return head.encode() + f"Content-Length: {len(body)}\r\nConnection: close\r\n\r\n".encode() + body
 
 
 def answered(words, requests, timeout=600):
@@ -129,3 +157,66 @@ def mounted(at, size):
     """Mounts a tmpfs of a size at a folder, and returns whether this machine could. `umount` takes it away."""
     options = (f"size={size},noswap", f"size={size}")
     return any(subprocess.run(["mount", "-t", "tmpfs", "-o", it, "tmpfs", at], capture_output=True).returncode == 0 for it in options)
+
+
+def in_new_folders(suite, *parts):
+    """Calls each part with the suite, in a new folder of its own, and ends the suite."""
+    for part in parts:
+        with tempfile.TemporaryDirectory(prefix="goshelf-") as folder:
+            os.chdir(folder)
+            part(suite)
+            os.chdir("/")
+    return suite.end()
+
+
+def write(files):
+    """Writes files, by their names. A text is written as UTF-8."""
+    for name, content in files.items():
+        with open(name, "wb") as file:
+            file.write(content if isinstance(content, bytes) else content.encode())
+
+
+def read(name):
+    """The bytes of a file."""
+    with open(name, "rb") as file:
+        return file.read()
+
+
+def columns(row, count):
+    """The columns of a row of a table, which `|` parts. Those that it lacks are empty."""
+    found = [it.strip() for it in row.split("|")]
+    return found + [""] * (count - len(found))
+
+
+def words_of(line):
+    """The words of a command line, in which a letter behind `--key` stands for its key."""
+    words = line.split()
+    return [KEYS.get(word, word) if before == "--key" else word for before, word in zip(["", *words], words)]
+
+
+def runs_of(table):
+    """The runs of a table, each as its line, its words, its input, and the triple that `run` is to return.
+
+    A line has the words; behind `<` the letter of a key and the target that the input asks for; behind `|` the exit status, and the
+    word on standard error where there is one. Indented below it stand the lines that are printed. Of a run that is asked for a
+    target these are one reply: its status and its body."""
+    rows = []
+    for line in filter(str.strip, table.split("\n")):
+        if line.startswith("    "):
+            rows[-1][1].append(line[4:] + "\n")
+        else:
+            rows.append((line, []))
+    return [run_of(line, "".join(printed)) for line, printed in rows]
+
+
+def run_of(line, printed):
+    """A run of a table, as `runs_of` returns it."""
+    command, ending = columns(line, 2)
+    command, _, asked = command.partition(" < ")
+    status, _, word = ending.partition(" ")
+    requests, output = b"", printed.encode()
+    if asked:
+        letter, target = asked.split()
+        code, _, body = output.partition(b" ")
+        requests, output = get(target, KEYS[letter]), reply(int(code), body, target) if code else b""
+    return line, words_of(command), requests, (int(status), output, f"goshelf: {word}\n" if word else "")

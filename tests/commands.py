@@ -1,0 +1,298 @@
+#!/usr/bin/env python3
+"""What each command prints and how it ends: words, names, help, runs on one store, imports, inventories, and the port of `serve`.
+
+A table holds runs, which are made in order, as `harness.runs_of` reads them. Each run is to end with its status, print its lines, byte
+for byte, and say its word or nothing on standard error.
+"""
+
+import os
+import re
+import socket
+import sys
+
+from harness import Suite, in_new_folders, run, words_of, write
+
+NAMES = """
+answer --mem --team alpha --key A | 0
+answer --mem --team common --key A | 1 name
+answer --mem --team Alpha --key A | 1 name
+answer --mem --team= --key A | 1 name
+answer --mem --team alpha --key shortkey1234567 | 1 name
+answer --mem --team alpha --key Alphakey00000001 | 1 name
+answer --mem --team Alpha --key A < A example.com/lib/@v/list | 1 name
+"""
+
+# the first line has no words
+BAD_USAGE = """
+serv
+serve
+init
+team-add --db none.db
+key-add --db none.db --shelf alpha
+publish --db none.db
+import --db none.db --key A
+inventory --db none.db
+requires --db none.db --key A --module example.com/lib
+extract --db none.db --team alpha
+extract --db none.db --to other.db
+extract --team alpha --to other.db
+answer
+answer --mem --team alpha
+answer --team alpha --key A
+answer --mem --team alpha --key A --db none.db
+answer --db none.db --team alpha
+answer --db none.db --db none.db
+serve --port 0
+serve --db none.db --connections 1
+serve --db none.db --port 65536 --connections 0
+serve --db none.db --port 0 --connections 4294967296
+serve --db none.db --port x --connections 0
+serve --db none.db --port=-1 --connections 0
+serve --db none.db --port 0 --connections
+serve --db none.db --port 0 --connections x"""
+
+# each command with all of its options
+OPTIONS = """
+init --db
+team-add --db --team
+key-add --db --shelf --key --read-only
+key-revoke --db --key
+publish --db --key --module --version --mod --zip --time
+import --db --key --list
+inventory --db --key
+requires --db --key --module --version
+extract --db --team --to
+answer --db --mem --team --key
+serve --db --port --connections
+"""
+
+LIB_FILES = {"go.mod": "module example.com/lib\n", "zip": "", "long.mod": b" " * 1_048_577}
+LIB = """
+init --db store.db | 0
+init --db store.db | 1 not-empty
+team-add --db store.db --team common | 1 name
+team-add --db store.db --team alpha | 0
+team-add --db store.db --team alpha | 1 taken
+key-add --db store.db --shelf alpha --key shortkey1234567 | 1 name
+key-add --db store.db --shelf alpha --key A | 0
+key-add --db store.db --shelf alpha --key A | 1 taken
+key-add --db store.db --shelf nosuch --key A | 1 no-team
+key-add --db store.db --shelf alpha --key R --read-only | 0
+key-revoke --db store.db --key B | 1 no-key
+answer --db store.db | 0
+answer --db store.db < A example.com/lib/@v/v1.0.0.mod | 0
+    404 not found
+publish --db store.db --key A --module example.com/lib --version v1.0.0 --mod go.mod --zip zip | 0
+    201 published
+publish --db store.db --key A --module example.com/lib --version v1.0.0 --mod go.mod --zip zip | 0
+    200 already published
+publish --db store.db --key R --module example.com/lib --version v1.0.0 --mod go.mod --zip zip | 1
+    403 forbidden
+publish --db store.db --key B --module example.com/lib --version v1.0.0 --mod go.mod --zip zip | 1
+    404 not found
+publish --db store.db --key A --module example.com/!lib --version v1.0.0 --mod go.mod --zip zip | 1
+    404 not found
+publish --db store.db --key A --module example.com/lib --version v1 --mod go.mod --zip zip | 1
+    404 not found
+publish --db store.db --key A --module example.com/lib --version v1.1.0 --mod go.mod --zip zip --time= | 1
+    422 bad-time
+publish --db store.db --key A --module example.com/Lib --version v1.0.0 --mod go.mod --zip zip | 1
+    422 module-path
+publish --db store.db --key A --module example.com/lib --version v1.1.0 --mod long.mod --zip zip | 1
+    413 too large
+publish --db store.db --key A --module example.com/lib --version v1.0.0 --mod go.mod --zip none | 1 io
+publish --db store.db --key N --module none --version none --mod . --zip zip | 1 io
+answer --db store.db < A example.com/lib/@v/v1.0.0.mod | 0
+    200 module example.com/lib
+key-revoke --db store.db --key A | 0
+answer --db store.db < A example.com/lib/@v/v1.0.0.mod | 0
+    404 not found
+team-add --db store.db --team beta | 0
+key-add --db store.db --shelf beta --key A | 0
+answer --db store.db < A example.com/lib/@v/v1.0.0.mod | 0
+    404 not found
+init --db store.db | 1 not-empty
+"""
+
+HEADER = "path,version,time,mod,zip\n"
+LISTS = {
+    "two.csv": HEADER + "example.com/i,v1.0.0,,i.mod,i.zip\nexample.com/i,v1.1.0,2024-01-01T00:00:00Z,i.mod,i.zip\n",
+    "one.csv": HEADER + "example.com/i,v1.0.0,,i.mod,i.zip\n",
+    "no-mod.csv": HEADER + "example.com/i,v1.2.0,,none,i.zip\n",
+    "four.csv": HEADER + "example.com/i,v1.2.0,,i.mod,none\nexample.com//i,v1.2.0,,none,none\n"
+    "example.com/i,1.2.0,,none,none\nexample.com/i,v1.2.0,2024-01-01,i.mod,i.zip\n",
+    # the empty line is no row
+    "three.csv": HEADER + "example.com/i,v1.3.0,,bad.mod,i.zip\nexample.com/i,v1.3.0,,long.mod,i.zip\n\n"
+    "example.com/i,v1.0.0,,i.mod,one.zip\n",
+    "header.csv": HEADER,
+    "empty.csv": "",
+    "short-header.csv": "path,version,time,mod\n",
+    "other-header.csv": "path,version,time,zip,mod\nexample.com/i,v1.4.0,,i.mod,i.zip\n",
+    "row-of-four.csv": HEADER + "example.com/i,v1.4.0,,i.mod,i.zip\nexample.com/i,v1.5.0,,i.mod\n",
+    "row-of-six.csv": HEADER + "example.com/i,v1.5.0,,i.mod,i.zip,more\n",
+    "no-text.csv": HEADER.encode() + b"\xff,v1.0.0,,m,z\n",
+}
+LISTED = {"i.mod": "module example.com/i\n", "bad.mod": "modul example.com/i\n", "long.mod": b" " * 1_048_577, "i.zip": "", "one.zip": "X"}
+IMPORTS = """
+team-add --db store.db --team alpha | 0
+key-add --db store.db --shelf alpha --key A | 0
+key-add --db store.db --shelf alpha --key R --read-only | 0
+import --db store.db --key A --list two.csv | 0
+    1 201 published
+    2 201 published
+import --db store.db --key A --list two.csv | 0
+    1 200 already published
+    2 200 already published
+import --db store.db --key N --list two.csv | 1
+    1 404 not found
+    2 404 not found
+import --db store.db --key R --list one.csv | 1
+    1 403 forbidden
+import --db store.db --key N --list no-mod.csv | 1
+    1 no file
+import --db store.db --key A --list four.csv | 1
+    1 no file
+    2 404 not found
+    3 404 not found
+    4 422 bad-time
+import --db store.db --key A --list three.csv | 1
+    1 422 bad-gomod 1
+    2 413 too large
+    3 409 conflict
+import --db store.db --key A --list header.csv | 0
+import --db store.db --key A --list empty.csv | 1 bad-row
+    0 bad row
+import --db store.db --key A --list short-header.csv | 1 bad-row
+    0 bad row
+import --db store.db --key A --list other-header.csv | 1 bad-row
+    0 bad row
+import --db store.db --key A --list row-of-four.csv | 1 bad-row
+    1 201 published
+    2 bad row
+import --db store.db --key A --list row-of-six.csv | 1 bad-row
+    1 bad row
+import --db store.db --key A --list no-text.csv | 1 bad-row
+    1 bad row
+import --db store.db --key A --list none.csv | 1 io
+inventory --db store.db --key A | 0
+    path,version,shelf,class,time,mod_bytes,zip_bytes
+    example.com/i,v1.0.0,alpha,release,,21,0
+    example.com/i,v1.1.0,alpha,release,2024-01-01T00:00:00Z,21,0
+    example.com/i,v1.4.0,alpha,release,,21,0
+import --db new.db --key A --list no-text.csv | 1 bad-row
+    1 bad row
+import --db new.db --key A --list none.csv | 1 io
+"""
+
+SEEN_FILES = {
+    "x.mod": "module example.com/x\n",
+    "y.mod": "module example.com/y\n",
+    "requires.mod": "module example.com/y\nrequire (\nexample.com/z v0.2.0\nexample.com/x v1.0.0\n)\nrequire mymod v0.0.0\n",
+    "one": "X",
+    "none": "",
+}
+SEEN = """
+team-add --db store.db --team alpha | 0
+team-add --db store.db --team beta | 0
+key-add --db store.db --shelf common --key C | 0
+key-add --db store.db --shelf alpha --key A | 0
+key-add --db store.db --shelf alpha --key R --read-only | 0
+key-add --db store.db --shelf beta --key B | 0
+inventory --db store.db --key B | 0
+    path,version,shelf,class,time,mod_bytes,zip_bytes
+publish --db store.db --key C --module example.com/x --version v1.0.0 --mod x.mod --zip one | 0
+    201 published
+publish --db store.db --key A --module example.com/y --version v1.0.0 --mod y.mod --zip one | 0
+    201 published
+publish --db store.db --key C --module example.com/y --version v1.0.0 --mod y.mod --zip one | 0
+    201 published
+inventory --db store.db --key B | 0
+    path,version,shelf,class,time,mod_bytes,zip_bytes
+    example.com/x,v1.0.0,common,release,,21,1
+    example.com/y,v1.0.0,common,release,,21,1
+publish --db store.db --key A --module example.com/y --version v1.10.0 --mod y.mod --zip none --time 2024-01-31T23:59:59Z | 0
+    201 published
+publish --db store.db --key A --module example.com/y --version v1.9.0 --mod requires.mod --zip none | 0
+    201 published
+publish --db store.db --key A --module example.com/y --version v1.10.0-rc.1 --mod y.mod --zip none | 0
+    201 published
+publish --db store.db --key A --module example.com/y --version v1.9.1-0.20240102030405-aaaaaaaaaaaa --mod y.mod --zip none | 0
+    201 published
+inventory --db store.db --key R | 0
+    path,version,shelf,class,time,mod_bytes,zip_bytes
+    example.com/x,v1.0.0,common,release,,21,1
+    example.com/y,v1.0.0,alpha,release,,21,1
+    example.com/y,v1.9.0,alpha,release,,96,0
+    example.com/y,v1.9.1-0.20240102030405-aaaaaaaaaaaa,alpha,pseudo,2024-01-02T03:04:05Z,21,0
+    example.com/y,v1.10.0-rc.1,alpha,pre,,21,0
+    example.com/y,v1.10.0,alpha,release,2024-01-31T23:59:59Z,21,0
+inventory --db store.db --key N | 1 no-key
+requires --db store.db --key R --module example.com/y --version v1.9.0 | 0
+    example.com/z v0.2.0
+    example.com/x v1.0.0
+    mymod v0.0.0
+requires --db store.db --key R --module example.com/y --version v1.10.0 | 0
+requires --db store.db --key B --module example.com/y --version v1.9.0 | 1 not-found
+requires --db store.db --key N --module example.com/y --version v1.9.0 | 1 not-found
+requires --db store.db --key R --module example.com//y --version v1.9.0 | 1 not-found
+requires --db store.db --key R --module example.com/y --version 1.9.0 | 1 not-found
+"""
+
+
+def names(suite):
+    suite.runs("names before answers", NAMES)
+
+
+def bad_usage(suite):
+    for line in BAD_USAGE.split("\n"):
+        status, output, told = run(words_of(line))
+        suite.equal(f"bad usage: {line or 'no words'}", (status, output, told != ""), (2, b"", True))
+    suite.equal("bad usage makes no file", os.listdir("."), [])
+    told = run(["answer"])[2]
+    for form in ("goshelf answer --db <F>", "goshelf answer --mem --team <T> --key <K>"):
+        suite.holds(f"`answer` alone shows the form `{form}`", form in told, told)
+
+
+def helped(suite):
+    def shown(name, words):
+        status, output, told = run(words)
+        suite.equal(f"{name} ends well", (status, told), (0, ""))
+        return output.decode()
+
+    commands = dict(line.split(" ", 1) for line in OPTIONS.strip().split("\n"))
+    for command, options in commands.items():
+        named = set(re.findall(r"(?<![\w-])--[a-z][a-z-]*", shown(f"{command} --help", [command, "--help"])))
+        suite.equal(f"{command} --help names its options", sorted(named - {"--help"}), sorted(options.split()))
+    listed = shown("--help", ["--help"])
+    suite.equal("--help lists each command", [it for it in commands if not re.search(rf"^  {it} ", listed, re.M)], [])
+    suite.holds("--version names the program", re.fullmatch(r"goshelf \S+\n", shown("--version", ["--version"])))
+
+
+def one_store(suite):
+    write(LIB_FILES)
+    suite.runs("runs on one store", LIB)
+
+
+def imports(suite):
+    write(LISTS | LISTED)
+    suite.runs("imports", IMPORTS)
+
+
+def seen(suite):
+    write(SEEN_FILES)
+    suite.runs("what a shelf sees", SEEN)
+
+
+def serve(suite):
+    suite.runs("a new store", "init --db store.db | 0")
+    status, output, told = run("serve --db store.db --port 0 --connections 0".split())
+    suite.equal("serve of no connections ends well", (status, told), (0, ""))
+    line = re.fullmatch(rb"listening on 127\.0\.0\.1:(\d+)\n", output)
+    suite.holds("serve of no connections prints its port", line and 0 < int(line[1]) < 65_536, output)
+    with socket.create_server(("127.0.0.1", 0)) as taken:
+        words = f"serve --db store.db --port {taken.getsockname()[1]} --connections 0"
+        suite.equal("serve on a port that is taken", run(words.split()), (1, b"", "goshelf: io\n"))
+
+
+if __name__ == "__main__":
+    sys.exit(in_new_folders(Suite(), names, bad_usage, helped, one_store, imports, seen, serve))

@@ -1,0 +1,180 @@
+#!/usr/bin/env python3
+"""What a file keeps from run to run, zips about the length of a piece, and which files are refused: with which word, and unchanged.
+
+Python's sqlite3 makes the files that are no stores. Each command with --db is tried on each of them.
+"""
+
+import os
+import sqlite3
+import sys
+
+from harness import KEY, KEYS, MEMORY, Suite, get, in_new_folders, new_store, put, raw_replies, read, reply, run, words_of, write
+
+KEPT_FILES = {"go.mod": "module example.com/lib\n", "Z": "Z\n"}
+KEPT = """
+team-add --db a.db --team alpha | 0
+key-add --db a.db --shelf alpha --key A | 0
+publish --db a.db --key A --module example.com/lib --version v1.0.0 --mod go.mod --zip Z | 0
+    201 published
+inventory --db a.db --key A | 0
+    path,version,shelf,class,time,mod_bytes,zip_bytes
+    example.com/lib,v1.0.0,alpha,release,,23,2
+answer --db a.db < A example.com/lib/@v/v1.0.0.mod | 0
+    200 module example.com/lib
+answer --db a.db < A example.com/lib/@v/v1.0.0.zip | 0
+    200 Z
+team-add --db a.db --team alpha | 1 taken
+"""
+
+# bytes of a piece of a zip but for its last; the largest zip, of 256 of them, is in tables.py and largest.py
+PIECE = 65_536
+SIZES = {"v1.0.0": 0, "v1.0.1": 1, "v1.0.2": PIECE, "v1.0.3": PIECE + 1}
+PATH, GOMOD = "example.com/z", b"module example.com/z\n"
+
+# the commands that open a store F, and the word of each where F is none; the last makes F of a store
+COMMANDS = """
+team-add --db F --team beta | bad-schema
+key-add --db F --shelf common --key C | bad-schema
+key-revoke --db F --key A | bad-schema
+publish --db F --key A --module example.com/lib --version v1.0.0 --mod none --zip none | bad-schema
+import --db F --key A --list none | bad-schema
+inventory --db F --key A | bad-schema
+requires --db F --key A --module example.com/lib --version v1.0.0 | bad-schema
+extract --db F --team alpha --to part.db | bad-schema
+answer --db F | bad-schema
+serve --db F --port 0 --connections 0 | bad-schema
+init --db F | not-empty
+extract --db good.db --team alpha --to F | not-empty
+"""
+
+# the tables of schema 1, which have no keys of order, with their rows
+SCHEMA_1 = """
+CREATE TABLE meta (name TEXT PRIMARY KEY, value INTEGER NOT NULL) STRICT;
+CREATE TABLE shelf (name TEXT PRIMARY KEY) STRICT;
+CREATE TABLE access (token TEXT PRIMARY KEY, shelf TEXT NOT NULL REFERENCES shelf (name), publish INTEGER NOT NULL CHECK (publish IN (0, 1))) STRICT;
+CREATE TABLE version (id INTEGER PRIMARY KEY, shelf TEXT NOT NULL REFERENCES shelf (name), path TEXT NOT NULL, version TEXT NOT NULL, time TEXT, mod BLOB NOT NULL, UNIQUE (shelf, path, version)) STRICT;
+CREATE TABLE body (id INTEGER PRIMARY KEY REFERENCES version (id), zip BLOB NOT NULL) STRICT;
+INSERT INTO meta VALUES ('schema', 1);
+INSERT INTO shelf VALUES ('common'), ('alpha');
+INSERT INTO access VALUES ('alphakey00000001', 'alpha', 1);
+INSERT INTO version VALUES (7, 'common', 'example.com/lib', 'v1.0.0', NULL, X'6d6f64756c65206578616d706c652e636f6d2f6c69620a');
+INSERT INTO body VALUES (7, X'5A');
+"""
+
+# a team and a version in a store, with the keys of v1.0.0
+ORDER_KEY = "00000000000000010000000000000000000000000000000003"
+RANK_KEY = "03" + ORDER_KEY
+FILL = f"""
+INSERT INTO shelf VALUES ('alpha');
+INSERT INTO access VALUES ('alphakey00000001', 'alpha', 1);
+INSERT INTO version VALUES (7, 'alpha', 'example.com/lib', 'v1.0.0', NULL, X'6d6f64756c65206578616d706c652e636f6d2f6c69620a', X'{ORDER_KEY}', X'{RANK_KEY}');
+INSERT INTO piece VALUES (7, 0, X'5A');
+"""
+WRONG_KEYS = {
+    "the order_key of v1.0.1": "UPDATE version SET order_key = X'00000000000000010000000000000000000000000000000103'",
+    "the rank_key of a pre-release": f"UPDATE version SET rank_key = X'02{ORDER_KEY}'",
+    "empty keys": "UPDATE version SET order_key = X'', rank_key = X''",
+}
+
+# names that are not opened as files: of a folder, and those that sqlite takes for something else
+NO_FILES = ("folder", ":memory:", "", "file:a.db")
+
+
+def changed(name, sql):
+    """Runs statements on a file by sqlite3, which copies the log into it, and returns its bytes."""
+    conn = sqlite3.connect(name)
+    conn.executescript(sql)
+    conn.execute("PRAGMA wal_checkpoint(TRUNCATE)")
+    conn.close()
+    return read(name)
+
+
+def flipped(content, *places):
+    """The bytes, with every bit of those at the places turned."""
+    return bytes(byte ^ 255 if at in places else byte for at, byte in enumerate(content))
+
+
+def keeps(suite):
+    write(KEPT_FILES)
+    suite.runs("a file keeps its shelves", KEPT)
+
+
+def zip_of(version, is_other=False):
+    """Bytes of the version's size; another zip ends with another byte."""
+    size = SIZES[version]
+    return (b"a" * PIECE + b"b")[: size - is_other] + b"x" * is_other
+
+
+def kept_zips():
+    """Requests for what was published, each with its name and its reply: the zip, the same once more, and another one."""
+    for version, size in SIZES.items():
+        zip_bytes, about = zip_of(version), f"a zip of {size} bytes"
+        yield f"{about} is read back", get(f"{PATH}/@v/{version}.zip"), reply(200, zip_bytes, ".zip")
+        yield f"{about} is published again", put(PATH, version, GOMOD, zip_bytes), reply(200, b"already published\n")
+        if size:
+            yield f"{about}, but for its last byte", put(PATH, version, GOMOD, zip_of(version, True)), reply(409, b"conflict\n")
+
+
+def answers(suite, where, words, rows):
+    """Asks for the rows in one run, and compares each reply."""
+    status, output, told = run(["answer", *words], b"".join(request for _, request, _ in rows))
+    found = raw_replies(output)
+    suite.equal(f"{where}: the run ends well, with a reply to each request", (status, told, len(found)), (0, "", len(rows)))
+    for (name, _, wanted), raw in zip(rows, found):
+        suite.equal(f"{where}: {name}", raw, wanted)
+
+
+def zips(suite):
+    published = reply(201, b"published\n")
+    publishes = [(f"a zip of {size} bytes is published", put(PATH, it, GOMOD, zip_of(it)), published) for it, size in SIZES.items()]
+    new_store("a.db", ("alpha", KEY))
+    answers(suite, "a file", ["--db", "a.db"], publishes)
+    answers(suite, "the file in a later run", ["--db", "a.db"], list(kept_zips()))
+    answers(suite, "--mem", MEMORY, [*publishes, *kept_zips()])
+
+
+def refused(suite):
+    new_store("good.db")
+    good = changed("good.db", FILL)
+    foreign, old = changed("foreign.db", "CREATE TABLE x (a INTEGER) STRICT"), changed("old.db", SCHEMA_1)
+    for cause, content in (
+        ("a file that is cut off", good[:5000]),
+        ("a file with a damaged page", flipped(good, 4096)),
+        ("a file with a damaged head", flipped(good, 0)),
+        ("a file with a damaged head and page", flipped(good, 0, 4096)),
+        ("a file of schema 1", old),
+        ("a file with another table", foreign),
+        ("a text", b"This is a text and no database."),
+    ):
+        for number, row in enumerate(COMMANDS.strip().split("\n")):
+            # a file of its own, since a command may leave a log beside the file that it refuses
+            name = f"{cause.replace(' ', '-')}-{number}.db"
+            write({name: content})
+            line, word = row.replace(" F", f" {name}").split(" | ")
+            suite.equal(f"{cause}: {row}", (run(words_of(line)), read(name) == content), ((1, b"", f"goshelf: {word}\n"), True))
+    suite.equal("the file that was damaged in copies is opened", run("team-add --db good.db --team beta".split()), (0, b"", ""))
+
+
+def keys(suite):
+    new_store("a.db")
+    right = changed("a.db", FILL)
+    for cause, sql in WRONG_KEYS.items():
+        write({"bad.db": right})
+        told = run("answer --db bad.db".split(), get("example.com/lib/@v/v1.0.0.zip"))
+        suite.equal(f"the right keys before {cause}", told, (0, reply(200, b"Z", ".zip"), ""))
+        content = changed("bad.db", sql)
+        told = run("team-add --db bad.db --team beta".split())
+        suite.equal(cause, (told, read("bad.db") == content), ((1, b"", "goshelf: bad-schema\n"), True))
+
+
+def no_files(suite):
+    os.mkdir("folder")
+    for name in NO_FILES:
+        for command in (["team-add", "--team", "beta"], ["init"], ["answer"]):
+            suite.equal(f"{command[0]} on the name `{name}`", run([*command, f"--db={name}"]), (1, b"", "goshelf: device\n"))
+    suite.equal("no file was made", os.listdir("."), ["folder"])
+    suite.runs("a name that is not there is a store with common alone", f"key-revoke --db new.db --key {KEYS['A']} | 1 no-key")
+
+
+if __name__ == "__main__":
+    sys.exit(in_new_folders(Suite(), keeps, zips, refused, keys, no_files))

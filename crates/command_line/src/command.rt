@@ -16,9 +16,10 @@ use store::open::FileShelves;
 use tasks::perform;
 use world::shelves::Shelves;
 
-/// Runs the program by the words after its name, and returns the exit status:
-/// 0 done, 1 refused with one line `goshelf: <word>` on `errors` (or, of a publish, with its outcome on `output`),
-/// 2 bad usage with the parser's text on `errors`.
+/// Runs the program by the words after its name and returns the exit status: 0 done, 1 refused, 2 bad usage.
+///
+/// A refusal prints one line `goshelf: <word>` on `errors`; `publish` prints its outcome on `output` instead, and `import` a line
+/// for each row. Bad usage prints the parser's text on `errors`. The texts are tested and not proved.
 pub fn command<I: Read, O: Write, E: Write>(
     rt: &HostRuntime,
     words: &[String],

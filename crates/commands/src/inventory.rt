@@ -40,10 +40,10 @@ pub enum InventoryFault {
     Memory,
 }
 
-/// The inventory of a key: CSV of the versions that its shelf sees, the paths by their bytes, the versions of each by
-/// precedence, pseudo-versions among the others. (RFC 4180; SemVer 2.0.0, section 11.)
+/// The inventory of a key: CSV of the versions that its shelf sees and whose paths read, the paths by their bytes, the
+/// versions of each by precedence, pseudo-versions among the others. (RFC 4180; SemVer 2.0.0, section 11.)
 ///
-/// `NoKey` where there is no such key, `Device` where a disk failed, `Memory` where a growth was refused.
+/// Fails with `NoKey` if there is no such key, `Device` if a disk failed, and `Memory` if memory ran out.
 pub fn inventory<S: Shelves>(
     alloc: Global,
     shelves: &mut S,

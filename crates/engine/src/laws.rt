@@ -17,8 +17,9 @@ pub fn isolation()
     ensures { CallersAreToldAlike }
 {}
 
-/// Isolation throughout: with registry commands among the messages, so that keys come and go, and with every message that was
-/// answered 503 left out of both runs, a caller is written the same bytes whether or not other teams send requests.
+/// Isolation throughout: with registry commands among the messages, so that keys come and go, a caller is written the
+/// same bytes whether or not other teams send requests. Both runs leave out each message that was answered 503 and each
+/// command that met a fault.
 pub fn isolation_throughout()
     ensures { CallersAreToldAlikeThroughout }
 {}
@@ -28,8 +29,9 @@ pub fn immutability()
     ensures { BytesStayServed }
 {}
 
-/// Once a publish by a key of a shelf is written 201 or 200, every later GET of that version's `.mod`, `.zip` or `.info` by a key that then
-/// belongs to the shelf is written the files and the time of the publish, or the 503, whatever comes in between.
+/// Once a publish by a key of a shelf is written 201 or 200, every later GET of that version's `.mod`, `.zip`, `.info` or
+/// `-/gosum` by a key that then belongs to the shelf is written what the publish handed in, or the 503, whatever comes in
+/// between.
 pub fn acceptance()
     ensures { AcceptedIsWritten }
 {}
@@ -40,10 +42,11 @@ pub fn latest_version()
     ensures { LatestIsWritten }
 {}
 
-/// Isolation also holds between two calls of [`answer_all`](crate::answer_all) over any two stores that stand for one world:
-/// if the second stream lacks the bytes of other teams' messages, the second call writes what the first writes without
-/// the texts for them. This takes that both end well and write no 503, neither for a kept message nor in place of what
-/// is left. However they end, the kept messages are written the same as far as both go and none of them is the 503.
+/// Isolation also holds between two calls of [`answer_all`](crate::answer_all) over any two stores that stand for one world,
+/// on honest disks and with known bytes: if the second stream lacks the bytes of other teams' messages, the second call
+/// writes what the first writes without the texts for them. Both have to end well and write no 503, neither for a kept
+/// message nor in place of what is left. However they end, the kept messages are written the same as far as both go and
+/// none of them is the 503.
 pub fn isolation_of_calls<S: Shelves, T: Shelves>()
     ensures whole { (old new : S) (old_too new_too : T)
         → CallsTellAlike (S.shown old) (S.shown new) (T.shown old_too) (T.shown new_too) }
@@ -51,10 +54,10 @@ pub fn isolation_of_calls<S: Shelves, T: Shelves>()
         → CallsTellAlikeAsFar (S.shown old) (S.shown new) (T.shown old_too) (T.shown new_too) }
 {}
 
-/// Two calls of [`answer_one`](crate::answer_one) that read the same request, over any two stores whose worlds are the same
-/// to a shelf, with a key that the shelf sees, write the same bytes and the same status, and leave worlds that are the
-/// same to the shelf, if both end well and neither writes the 503. So two databases whose rows of other teams differ in
-/// number and in order answer alike.
+/// Two calls of [`answer_one`](crate::answer_one) that read the same known request, over any two stores whose worlds are the
+/// same to a shelf, with a key that the shelf sees, write the same bytes and the same status, and leave worlds that are
+/// the same to the shelf, if both disks are honest, both calls end well and neither writes the 503. So two databases
+/// whose rows of other teams differ in number and in order answer alike.
 pub fn isolation_of_one_request<S: Shelves, T: Shelves>()
     ensures { (old new : S) (old_too new_too : T)
         → TwoAnswersAreAlike (S.shown old) (S.shown new) (T.shown old_too) (T.shown new_too) }

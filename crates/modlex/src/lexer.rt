@@ -204,9 +204,9 @@ fn lexeme_at(bytes: &[u8]) -> Option<(Kind, usize)>
     }
 }
 
-/// Puts the first tokens of a line in the place of what `out` held, `most` of them at most. The line has
-/// a number and begins at a place of the text. It is read to its end, and the fault of one that has no
-/// tokens bears its number.
+/// Replaces what `out` holds by the first tokens of a line, at most `most` of them. The line has a number
+/// and begins at a place of the text. It is read to its end. A line that has no tokens is a fault with that
+/// number.
 pub fn first_tokens<'a>(
     out: &mut Vec<Token<'a>>,
     most: usize,

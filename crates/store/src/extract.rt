@@ -53,10 +53,9 @@ impl<S: Alter> SqlShelves<S> {
     /// entries, and the keys of both with their rights. The rows are read one at a time, and all are
     /// written in one transaction.
     ///
-    /// It is refused as `NoTeam` where the name is none of a team, as `common` is none, else as
-    /// `NotEmpty` where the fresh store has more than `common`: another shelf, a key or an entry; as
-    /// `Device` where a disk failed, and as `Memory` where memory was wanted. Both stores then are as
-    /// they were; the source is in any case.
+    /// Fails with `NoTeam` if no team has the name (`common` is no team), otherwise with `NotEmpty` if
+    /// the fresh store has another shelf, a key or an entry; with `Device` if a disk failed and with
+    /// `Memory` if memory ran out. Then both stores are as they were; the source always is.
     pub fn extract<F: Alter>(
         &mut self,
         team: &str,

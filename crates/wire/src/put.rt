@@ -28,7 +28,7 @@ pub fn reply_head(
     Ok(text.into_bytes())
 }
 
-/// Puts the head of a 200 whose body has that many bytes at the front of the buffer, and answers the head's length.
+/// Puts the head of a 200 whose body has that many bytes at the front of the buffer, and returns the head's length.
 #[tactic(auto, unfolding(crate::specs::Reply::phrase))]
 pub fn put_head(kind: Kind, len: usize, buf: &mut [u8; 160]) -> usize
     ensures text { take result buf.new ≡ head_bytes 200 kind len }
@@ -38,7 +38,7 @@ pub fn put_head(kind: Kind, len: usize, buf: &mut [u8; 160]) -> usize
     put_head_with(StatusCode::OK, kind, digits.format(len).as_bytes(), buf)
 }
 
-/// Puts the whole reply at the front of the buffer, and answers its length.
+/// Puts the whole reply at the front of the buffer, and returns its length.
 pub fn fixed(answer: Fixed, buf: &mut [u8; 160]) -> usize
     ensures text { take result buf.new ≡ fixed_bytes answer }
     ensures short { result ≤ 160 }
@@ -57,7 +57,7 @@ pub fn fixed(answer: Fixed, buf: &mut [u8; 160]) -> usize
 }
 
 /// Puts the number of the status, a space and the fixed body without its newline at the front of the buffer, as
-/// `422 bad-time`, and answers their length.
+/// `422 bad-time`, and returns their length.
 pub fn fixed_line(answer: Fixed, buf: &mut [u8; 40]) -> usize
     ensures text { take result buf.new ≡ line_bytes answer }
     ensures short { result ≤ 40 }

@@ -28,7 +28,7 @@ pub enum Misfit {
     NotBare,
 }
 
-/// The first check of an entry that fails, beside those of its go.mod. It takes no memory.
+/// The first check of an entry that fails, apart from those of its go.mod. It takes no memory.
 pub fn own_misfit(path: &ModulePath, version: &Version, entry: &EntryRef) -> Option<Misfit>
     ensures { result ≡ spec.own_misfit path.now version.now entry.now }
 {

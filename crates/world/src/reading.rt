@@ -17,7 +17,7 @@ pub enum Reading {
 }
 
 impl Reading {
-    /// What reading these bytes gives. (Go Modules Reference, "go.mod files".)
+    /// Reads a go.mod, or gives the line of its fault. Fails only if memory ran out. (Go Modules Reference, "go.mod files".)
     pub fn of(alloc: Global, bytes: &[u8]) -> Result<Reading, AllocError>
         ensures { IfOk result (λ r. r ≡ reading_of bytes.now) }
     {

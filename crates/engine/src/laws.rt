@@ -18,8 +18,8 @@ pub fn isolation()
 {}
 
 /// Isolation throughout: with registry commands among the messages, so that keys come and go, a caller is written the
-/// same bytes whether or not other teams send requests. Both runs leave out each message that was answered 503 and each
-/// command that met a fault.
+/// same bytes whether or not other teams send requests, if both runs leave out each message that was answered 503 and
+/// each command that met a fault.
 pub fn isolation_throughout()
     ensures { CallersAreToldAlikeThroughout }
 {}

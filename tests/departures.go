@@ -37,7 +37,7 @@ func main() {
 			text := []byte(strings.ReplaceAll(row[1], `\n`, "\n"))
 			_, own := modfile.Parse("go.mod", text, nil)
 			_, other := modfile.ParseLax("go.mod", text, nil)
-			fmt.Printf("%s; of another module %s\n", word(own), word(other))
+			fmt.Printf("%s; in another module %s\n", word(own), word(other))
 		}
 	}
 }

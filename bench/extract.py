@@ -124,8 +124,13 @@ def copied(whole, part):
 def rows(file):
     """What a store has, without the numbers of its rows."""
     conn = sqlite3.connect(file)
-    versions = "SELECT shelf, path, version, time, mod, order_key, rank_key, zip FROM version JOIN body USING (id) ORDER BY shelf, path, version"
-    found = [conn.execute(query).fetchall() for query in ("SELECT * FROM shelf ORDER BY name", "SELECT * FROM access ORDER BY token", versions)]
+    queries = (
+        "SELECT * FROM shelf ORDER BY name",
+        "SELECT * FROM access ORDER BY token",
+        "SELECT shelf, path, version, time, mod, order_key, rank_key FROM version ORDER BY shelf, path, version",
+        "SELECT shelf, path, v.version, number, bytes FROM piece JOIN version v ON v.id = piece.version ORDER BY shelf, path, v.version, number",
+    )
+    found = [conn.execute(query).fetchall() for query in queries]
     conn.close()
     return found
 

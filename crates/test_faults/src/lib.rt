@@ -1,9 +1,23 @@
 //! The worked rows of stops and faults: stores over files in memory whose calls fail, what they answer meanwhile, and what the files
 //! then hold.
+//!
+//! | module | what it holds |
+//! |---|---|
+//! | `stops` | the changes that a stop breaks off, and the worlds that the files may hold then |
+//! | `sweep` | the requests that a store answers while a file fails |
+//! | `jobs` | what is done with a store: one type for all of it |
+//! | `open`, `files` | the store of two files that stop at some call, opened, passed and let go at one place |
+//! | `steps`, `import`, `requests`, `worlds` | what a job does, over any shelves |
+//!
+//! One place and one type of file keep the check short: each further one is proved again, in a minute and with 2 GiB.
 #![tactic(auto)]
 
 #[cfg(test)]
 mod files;
+#[cfg(test)]
+mod import;
+#[cfg(test)]
+mod jobs;
 #[cfg(test)]
 mod open;
 #[cfg(test)]

@@ -1,5 +1,8 @@
-//! Stores over files in memory, whose machine stops at some call.
+//! Stores over two files in memory, whose machine stops at some call.
+//!
+//! Every store is opened, passed on and let go at one place, [`use_files`]: to pass the store of a file is dear to prove.
 use crate::files::{Calls, Lent};
+use crate::jobs::{Job, do_job};
 use sqlite::{Alter, Connection, Files, Options};
 use sqlite_disk::{Crash, Disk, Fuse, Memory};
 use std::alloc::Global;
@@ -7,23 +10,27 @@ use std::test::Fail;
 use store::refusal::Refusal;
 use store::store::SqlShelves;
 
-/// What is done with a store: steps, each of which has a bit.
-pub trait Deed {
-    /// Does the steps of these bits, and tells which of them were acknowledged.
-    fn run<S: Alter + Drop>(
-        &mut self,
-        alloc: Global,
-        shelves: SqlShelves<S>,
-        chosen: u8,
-    ) -> Result<u8, Fail>;
+/// Opens the tables of a connection and does a job with their store; nothing is acknowledged where the device keeps it from being
+/// opened.
+fn on_tables<S: Alter + Drop>(
+    alloc: Global,
+    conn: Connection<S>,
+    job: &mut Job,
+    chosen: u8,
+) -> Result<u8, Fail> {
+    match SqlShelves::adopt(alloc, conn) {
+        Ok(shelves) => do_job(alloc, shelves, job, chosen),
+        Err((Refusal::Device, _)) => Ok(0),
+        Err(_) => Err(Fail::new("the tables are refused")),
+    }
 }
 
-/// Opens the store of two files and does a deed with it; nothing is acknowledged where the device keeps it from being opened. The log
+/// Opens the store of two files and does a job with it; nothing is acknowledged where the device keeps it from being opened. The log
 /// is copied into the database once it has a few pages, so that both files are written.
-pub fn with_store<D: Disk + Drop, W: Deed>(
+fn on_files<D: Disk + Drop>(
     alloc: Global,
     files: Files<D>,
-    deed: &mut W,
+    job: &mut Job,
     chosen: u8,
 ) -> Result<u8, Fail> {
     if !files.may_be_used() {
@@ -33,11 +40,7 @@ pub fn with_store<D: Disk + Drop, W: Deed>(
     options.cache_pages = 40;
     options.checkpoint_frames = 6;
     match Connection::open_files(alloc, files, options) {
-        Ok(conn) => match SqlShelves::adopt(alloc, conn) {
-            Ok(shelves) => deed.run(alloc, shelves, chosen),
-            Err((Refusal::Device, _)) => Ok(0),
-            Err(_) => Err(Fail::new("the tables are refused")),
-        },
+        Ok(conn) => on_tables(alloc, conn, job, chosen),
         Err(_) => Ok(0),
     }
 }
@@ -66,6 +69,51 @@ pub fn stop_at(calls: u64, of_log: bool) -> Stops {
     stops
 }
 
+/// A file whose machine stops, and the calls that were made of it.
+#[derive(Drop)]
+struct Stopping {
+    file: Fuse<Memory>,
+    calls: Calls,
+}
+
+impl Stopping {
+    fn new(alloc: Global, file: Memory, calls: u64) -> Stopping {
+        Stopping {
+            file: Fuse::new(file, calls),
+            calls: Calls::new(alloc),
+        }
+    }
+
+    fn lend(&mut self) -> Lent<'_, Fuse<Memory>> {
+        Lent {
+            file: &mut self.file,
+            calls: &mut self.calls,
+        }
+    }
+}
+
+/// Does a job with the store of two files.
+fn use_files(
+    alloc: Global,
+    log: &mut Stopping,
+    db: &mut Stopping,
+    job: &mut Job,
+    chosen: u8,
+) -> Result<u8, Fail> {
+    let lent = Files {
+        log: log.lend(),
+        db: db.lend(),
+    };
+    on_files(alloc, lent, job, chosen)
+}
+
+/// Does a job with the store of two files whose machine does not stop.
+pub fn on_whole_files(alloc: Global, files: Files<Memory>, job: &mut Job) -> Result<u8, Fail> {
+    let mut log = Stopping::new(alloc, files.log, u64::MAX);
+    let mut db = Stopping::new(alloc, files.db, u64::MAX);
+    use_files(alloc, &mut log, &mut db, job, 0)
+}
+
 /// What a file may hold once the machine has stopped.
 #[derive(Drop)]
 pub struct Halted {
@@ -73,22 +121,28 @@ pub struct Halted {
     pub written: Memory,
     /// What was synced.
     pub synced: Memory,
+    /// The calls that were made of it.
+    pub calls: Calls,
 }
 
-fn stopped(alloc: Global, mut file: Fuse<Memory>) -> Result<Halted, Fail> {
+fn stopped(alloc: Global, stopping: Stopping) -> Result<Halted, Fail> {
+    let mut file = stopping.file;
+    let calls = stopping.calls;
     let written = copy_of(alloc, file.inner())?;
     file.crash();
     let synced = copy_of(alloc, file.inner())?;
-    Ok(Halted { written, synced })
+    Ok(Halted {
+        written,
+        synced,
+        calls,
+    })
 }
 
-/// What a deed leaves.
+/// What a job leaves.
 #[derive(Drop)]
 pub struct Left {
     pub log: Halted,
     pub db: Halted,
-    pub log_calls: Calls,
-    pub db_calls: Calls,
     pub acknowledged: u8,
     /// Whether a call came after the stop.
     pub is_stopped: bool,
@@ -102,35 +156,21 @@ pub fn copy_of(alloc: Global, file: &Memory) -> Result<Memory, Fail> {
     Ok(copy)
 }
 
-/// Does a deed with the store of copies of two files, whose machine stops.
-pub fn left_by<W: Deed>(
+/// Does a job with the store of copies of two files, whose machine stops.
+pub fn left_by(
     alloc: Global,
     before: &Files<Memory>,
-    deed: &mut W,
+    job: &mut Job,
     chosen: u8,
     stops: Stops,
 ) -> Result<Left, Fail> {
-    let mut log = Fuse::new(copy_of(alloc, &before.log)?, stops.log);
-    let mut db = Fuse::new(copy_of(alloc, &before.db)?, stops.db);
-    let mut log_calls = Calls::new(alloc);
-    let mut db_calls = Calls::new(alloc);
-    let lent = Files {
-        log: Lent {
-            file: &mut log,
-            calls: &mut log_calls,
-        },
-        db: Lent {
-            file: &mut db,
-            calls: &mut db_calls,
-        },
-    };
-    let acknowledged = with_store(alloc, lent, deed, chosen)?;
-    let is_stopped = log_calls.count > stops.log || db_calls.count > stops.db;
+    let mut log = Stopping::new(alloc, copy_of(alloc, &before.log)?, stops.log);
+    let mut db = Stopping::new(alloc, copy_of(alloc, &before.db)?, stops.db);
+    let acknowledged = use_files(alloc, &mut log, &mut db, job, chosen)?;
+    let is_stopped = log.calls.count > stops.log || db.calls.count > stops.db;
     Ok(Left {
         log: stopped(alloc, log)?,
         db: stopped(alloc, db)?,
-        log_calls,
-        db_calls,
         acknowledged,
         is_stopped,
     })

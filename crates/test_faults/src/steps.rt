@@ -1,13 +1,24 @@
 //! Steps: publishes and commands of the registry.
-use crate::open::Deed;
 use crate::requests::{column, reply};
-use sqlite::Alter;
 use std::alloc::Global;
 use std::test::Fail;
-use store::store::SqlShelves;
 use world::entry::Right;
 use world::registry::Registered;
 use world::shelves::Shelves;
+
+/// What the files hold before: two teams and three keys, a version of alpha and one of `common`.
+pub const SETUP: &str = "\
+team-add|alpha
+team-add|beta
+key-add|alpha|alphakey00000001
+key-add|beta|betakey000000001
+key-add|common|commonkey0000001
+PUT A example.com/lib/@v/v1.0.0|module example.com/lib;|Z
+PUT C example.com/x/@v/v1.0.0|module example.com/x;|X
+";
+
+/// The bits of seven steps.
+pub const ALL: u8 = 127;
 
 /// Whether a step is done: a command of the registry, or the request of a publish that is answered 201.
 fn is_done<S: Shelves>(alloc: Global, shelves: &mut S, step: &str) -> Result<bool, Fail> {
@@ -44,31 +55,4 @@ pub fn done<S: Shelves>(
         bit = bit.wrapping_mul(2);
     }
     Ok(done)
-}
-
-/// The same with a store that is let go then.
-fn done_by<S: Shelves + Drop>(
-    alloc: Global,
-    mut shelves: S,
-    steps: &str,
-    chosen: u8,
-) -> Result<u8, Fail> {
-    done(alloc, &mut shelves, steps, chosen)
-}
-
-/// Steps, one a line.
-#[derive(Drop)]
-pub struct Script<'a> {
-    pub steps: &'a str,
-}
-
-impl<'a> Deed for Script<'a> {
-    fn run<S: Alter + Drop>(
-        &mut self,
-        alloc: Global,
-        shelves: SqlShelves<S>,
-        chosen: u8,
-    ) -> Result<u8, Fail> {
-        done_by(alloc, shelves, self.steps, chosen)
-    }
 }

@@ -1,30 +1,12 @@
 //! Changes that a stop breaks off at each call of a file, and the worlds that the files then hold.
-use crate::open::{Deed, Halted, Left, NO_STOP, copy_of, left_by, stop_at};
-use crate::steps::{Script, done};
+use crate::jobs::{Job, Kind};
+use crate::open::{Halted, Left, NO_STOP, copy_of, left_by, stop_at};
+use crate::steps::{ALL, SETUP};
 use crate::worlds::world_of;
-use commands::import::import;
-use commands::sources::FilesInMemory;
-use sqlite::{Alter, Files, MemStore};
+use sqlite::Files;
 use sqlite_disk::Memory;
 use std::alloc::Global;
-use std::str::from_utf8;
 use std::test::Fail;
-use store::store::SqlShelves;
-use world::shelves::Shelves;
-
-/// What the files hold before: two teams and three keys, a version of alpha and one of `common`.
-pub const SETUP: &str = "\
-team-add|alpha
-team-add|beta
-key-add|alpha|alphakey00000001
-key-add|beta|betakey000000001
-key-add|common|commonkey0000001
-PUT A example.com/lib/@v/v1.0.0|module example.com/lib;|Z
-PUT C example.com/x/@v/v1.0.0|module example.com/x;|X
-";
-
-/// The bits of seven steps.
-pub const ALL: u8 = 127;
 
 /// Files that hold nothing.
 fn empty(alloc: Global) -> Files<Memory> {
@@ -36,7 +18,7 @@ fn empty(alloc: Global) -> Files<Memory> {
 
 /// Files that hold what steps make.
 pub fn prepared(alloc: Global) -> Result<Files<Memory>, Fail> {
-    let mut setup = Script { steps: SETUP };
+    let mut setup = Job::new(alloc, Kind::Steps, SETUP);
     let left = left_by(alloc, &empty(alloc), &mut setup, ALL, NO_STOP)?;
     if left.acknowledged != ALL {
         return Err(Fail::new("the steps before are not done"));
@@ -44,7 +26,7 @@ pub fn prepared(alloc: Global) -> Result<Files<Memory>, Fail> {
     Ok(written(left))
 }
 
-/// The files that a deed wrote.
+/// The files that a job wrote.
 fn written(left: Left) -> Files<Memory> {
     let log = left.log;
     let db = left.db;
@@ -54,16 +36,16 @@ fn written(left: Left) -> Files<Memory> {
     }
 }
 
-/// The world that each choice of the steps of a deed makes.
-fn worlds_of<W: Deed>(
+/// The world that each choice of the steps of a job makes.
+fn worlds_of(
     alloc: Global,
     before: &Files<Memory>,
-    deed: &mut W,
+    job: &mut Job,
     all: u8,
 ) -> Result<Vec<String>, Fail> {
     let mut worlds = Vec::new(alloc);
     for chosen in 0..all.saturating_add(1) {
-        let left = left_by(alloc, before, deed, chosen, NO_STOP)?;
+        let left = left_by(alloc, before, job, chosen, NO_STOP)?;
         worlds.push(world_of(alloc, written(left))?)?;
     }
     Ok(worlds)
@@ -98,7 +80,7 @@ fn loses_nothing(file: &Halted, is_lost: bool) -> bool {
 /// Whether the log or the database file has lost what was not synced.
 const LOSSES: [(bool, bool); 4] = [(false, false), (true, true), (true, false), (false, true)];
 
-/// Whether the files that a deed leaves hold a world that they may hold.
+/// Whether the files that a job leaves hold a world that they may hold.
 fn is_right(alloc: Global, left: &Left, worlds: &[String]) -> Result<bool, Fail> {
     for (log_lost, db_lost) in LOSSES {
         if loses_nothing(&left.log, log_lost) || loses_nothing(&left.db, db_lost) {
@@ -124,19 +106,19 @@ fn are_apart(worlds: &[String]) -> bool {
     }
 }
 
-/// Stops a deed at each of these calls of the log, or of the database file. What came out: nothing, where each stop left a world that
+/// Stops a job at each of these calls of the log, or of the database file. What came out: nothing, where each stop left a world that
 /// it may leave.
-fn wrong_stop<W: Deed>(
+fn wrong_stop(
     alloc: Global,
     before: &Files<Memory>,
-    deed: &mut W,
+    job: &mut Job,
     all: u8,
     worlds: &[String],
     calls: &[u64],
     of_log: bool,
 ) -> Result<&'static str, Fail> {
     for calls in calls.iter() {
-        let left = left_by(alloc, before, deed, all, stop_at(*calls, of_log))?;
+        let left = left_by(alloc, before, job, all, stop_at(*calls, of_log))?;
         if !is_right(alloc, &left, worlds)? {
             return Ok("a stop left another world");
         }
@@ -144,169 +126,70 @@ fn wrong_stop<W: Deed>(
     Ok("")
 }
 
-/// Stops a deed at each call that changes or syncs the log, and at each of the database file; a stop at a call that reads leaves the
+/// Stops a job at each call that changes or syncs the log, and at each of the database file; a stop at a call that reads leaves the
 /// same as one at the next of these. What came out: nothing, where each stop left a world that it may leave, and the run without one
 /// did all and changed the world.
-fn wrong_stops<W: Deed>(
+fn wrong_stops(
     alloc: Global,
     before: &Files<Memory>,
-    deed: &mut W,
+    job: &mut Job,
     all: u8,
 ) -> Result<&'static str, Fail> {
-    let worlds = worlds_of(alloc, before, deed, all)?;
+    let worlds = worlds_of(alloc, before, job, all)?;
     if !are_apart(worlds.as_slice()) {
         return Ok("the world stays as it was");
     }
-    let whole = left_by(alloc, before, deed, all, NO_STOP)?;
+    let whole = left_by(alloc, before, job, all, NO_STOP)?;
     if whole.acknowledged != all || !is_right(alloc, &whole, worlds.as_slice())? {
         return Ok("not all was done");
     }
-    let of_log = whole.log_calls.writes.as_slice();
-    let told = wrong_stop(alloc, before, deed, all, worlds.as_slice(), of_log, true)?;
+    let of_log = whole.log.calls.writes.as_slice();
+    let told = wrong_stop(alloc, before, job, all, worlds.as_slice(), of_log, true)?;
     if told != "" {
         return Ok(told);
     }
-    let of_db = whole.db_calls.writes.as_slice();
-    wrong_stop(alloc, before, deed, all, worlds.as_slice(), of_db, false)
+    let of_db = whole.db.calls.writes.as_slice();
+    wrong_stop(alloc, before, job, all, worlds.as_slice(), of_db, false)
+}
+
+/// Stops a job of files that hold what the steps of [`SETUP`] make.
+fn wrong_job(alloc: Global, kind: Kind, steps: &str, all: u8) -> Result<&'static str, Fail> {
+    let before = prepared(alloc)?;
+    let mut job = Job::new(alloc, kind, steps);
+    wrong_stops(alloc, &before, &mut job, all)
 }
 
 #[test]
 fn a_stopped_publish_leaves_all_or_nothing(rt: HostRuntime) -> Result<(), Fail> {
-    let before = prepared(rt.alloc())?;
-    let mut deed = Script {
-        steps: "PUT A example.com/lib/@v/v1.1.0|module example.com/lib;|zip",
-    };
-    assert_eq!(rt; wrong_stops(rt.alloc(), &before, &mut deed, 1)?, "");
+    let steps = "PUT A example.com/lib/@v/v1.1.0|module example.com/lib;|zip";
+    assert_eq!(rt; wrong_job(rt.alloc(), Kind::Steps, steps, 1)?, "");
     Ok(())
 }
 
 #[test]
 fn a_stopped_command_leaves_all_or_nothing(rt: HostRuntime) -> Result<(), Fail> {
-    let before = prepared(rt.alloc())?;
-    let mut deed = Script {
-        steps: "team-add|gamma\nkey-add|beta|gammakey00000001",
-    };
-    assert_eq!(rt; wrong_stops(rt.alloc(), &before, &mut deed, 3)?, "");
+    let steps = "team-add|gamma\nkey-add|beta|gammakey00000001";
+    assert_eq!(rt; wrong_job(rt.alloc(), Kind::Steps, steps, 3)?, "");
     Ok(())
 }
 
 #[test]
 fn a_stopped_revocation_leaves_all_or_nothing(rt: HostRuntime) -> Result<(), Fail> {
-    let before = prepared(rt.alloc())?;
-    let mut deed = Script {
-        steps: "key-revoke|alphakey00000001",
-    };
-    assert_eq!(rt; wrong_stops(rt.alloc(), &before, &mut deed, 1)?, "");
+    let steps = "key-revoke|alphakey00000001";
+    assert_eq!(rt; wrong_job(rt.alloc(), Kind::Steps, steps, 1)?, "");
     Ok(())
-}
-
-/// The rows of a list with their bits.
-const LIST: &str = "\
-example.com/new,v1.0.0,,n.mod,n.zip
-example.com/new,v1.1.0,,n.mod,n.zip
-";
-
-/// The list of the rows of these bits.
-fn list_of(alloc: Global, chosen: u8) -> Result<String, Fail> {
-    let mut list = String::from_str(alloc, "path,version,time,mod,zip\n")?;
-    let mut bit = 1u8;
-    for row in LIST.lines() {
-        if chosen & bit != 0 {
-            list.push_str(row)?;
-            list.push_str("\n")?;
-        }
-        bit = bit.wrapping_mul(2);
-    }
-    Ok(list)
-}
-
-/// The bits of the lines that tell of a row that is published.
-fn published(lines: &str) -> u8 {
-    let mut published = 0;
-    let mut bit = 1u8;
-    for line in lines.lines() {
-        if line.contains(" 201 ") {
-            published |= bit;
-        }
-        bit = bit.wrapping_mul(2);
-    }
-    published
-}
-
-/// Imports the rows of these bits, and tells which of them a line says to be published. The store is let go then.
-fn imported<S: Shelves + Drop>(
-    alloc: Global,
-    mut shelves: S,
-    files: &FilesInMemory,
-    chosen: u8,
-) -> Result<u8, Fail> {
-    let list = list_of(alloc, chosen)?;
-    let mut output = Vec::new(alloc);
-    import(
-        alloc,
-        &mut shelves,
-        "alphakey00000001",
-        list.as_bytes(),
-        files,
-        &mut output,
-    )?;
-    Ok(published(from_utf8(output.as_slice())?))
-}
-
-/// The import of a list.
-#[derive(Drop)]
-struct Import {
-    files: FilesInMemory,
-}
-
-impl Deed for Import {
-    fn run<S: Alter + Drop>(
-        &mut self,
-        alloc: Global,
-        shelves: SqlShelves<S>,
-        chosen: u8,
-    ) -> Result<u8, Fail> {
-        imported(alloc, shelves, &self.files, chosen)
-    }
 }
 
 #[test]
 fn a_stopped_import_keeps_the_rows_that_were_told(rt: HostRuntime) -> Result<(), Fail> {
-    let before = prepared(rt.alloc())?;
-    let mut files = FilesInMemory::new(rt.alloc());
-    files.insert("n.mod", b"module example.com/new\n")?;
-    files.insert("n.zip", b"zip")?;
-    let mut deed = Import { files };
-    assert_eq!(rt; wrong_stops(rt.alloc(), &before, &mut deed, 3)?, "");
+    assert_eq!(rt; wrong_job(rt.alloc(), Kind::Import, "", 3)?, "");
     Ok(())
-}
-
-/// The extract of alpha's part of a store.
-#[derive(Drop)]
-struct Extract<'a, T: Alter> {
-    whole: &'a mut SqlShelves<T>,
-}
-
-impl<'a, T: Alter> Deed for Extract<'a, T> {
-    fn run<S: Alter + Drop>(
-        &mut self,
-        _alloc: Global,
-        mut shelves: SqlShelves<S>,
-        chosen: u8,
-    ) -> Result<u8, Fail> {
-        if chosen != 0 && self.whole.extract("alpha", &mut shelves).is_ok() {
-            return Ok(1);
-        }
-        Ok(0)
-    }
 }
 
 #[test]
 fn a_stopped_extract_leaves_all_or_nothing(rt: HostRuntime) -> Result<(), Fail> {
-    let mut whole: SqlShelves<MemStore> = SqlShelves::open_memory(rt.alloc())?;
-    assert_eq!(rt; done(rt.alloc(), &mut whole, SETUP, ALL)?, ALL);
-    let mut deed = Extract { whole: &mut whole };
     let before = empty(rt.alloc());
-    assert_eq!(rt; wrong_stops(rt.alloc(), &before, &mut deed, 1)?, "");
+    let mut job = Job::new(rt.alloc(), Kind::Extract, "");
+    assert_eq!(rt; wrong_stops(rt.alloc(), &before, &mut job, 1)?, "");
     Ok(())
 }

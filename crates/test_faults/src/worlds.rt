@@ -1,13 +1,13 @@
 //! What a store tells of its world.
-use crate::open::{Deed, with_store};
+use crate::jobs::{Job, Kind};
+use crate::open::on_whole_files;
 use modpath::ModulePath;
 use modver::Version;
-use sqlite::{Alter, Files};
+use sqlite::Files;
 use sqlite_disk::Memory;
 use std::alloc::Global;
 use std::str::from_utf8;
 use std::test::Fail;
-use store::store::SqlShelves;
 use world::shelves::Shelves;
 
 /// The names that the rows know.
@@ -88,42 +88,21 @@ fn tell_teams<S: Shelves>(shelves: &mut S, told: &mut String) -> Result<(), Fail
     Ok(())
 }
 
-/// What a store tells of the names that the rows know. The store goes on then, and is let go.
-fn told_by<S: Shelves + Drop>(alloc: Global, mut shelves: S) -> Result<String, Fail> {
-    let mut told = String::new(alloc);
+/// Tells the names that the rows know. The store goes on then. Nothing of it is acknowledged.
+pub fn told_by<S: Shelves>(alloc: Global, shelves: &mut S, told: &mut String) -> Result<u8, Fail> {
     for key in KEYS.split(' ') {
-        tell_key(&mut shelves, key, &mut told)?;
+        tell_key(shelves, key, told)?;
     }
     for shelf in SHELVES.split(' ') {
-        tell_shelf(alloc, &mut shelves, shelf, &mut told)?;
+        tell_shelf(alloc, shelves, shelf, told)?;
     }
-    tell_teams(&mut shelves, &mut told)?;
-    Ok(told)
-}
-
-/// Has a store tell.
-#[derive(Drop)]
-struct Look {
-    told: String,
-}
-
-impl Deed for Look {
-    fn run<S: Alter + Drop>(
-        &mut self,
-        alloc: Global,
-        shelves: SqlShelves<S>,
-        _chosen: u8,
-    ) -> Result<u8, Fail> {
-        self.told = told_by(alloc, shelves)?;
-        Ok(0)
-    }
+    tell_teams(shelves, told)?;
+    Ok(0)
 }
 
 /// What the store of two files tells; nothing where it can't be opened.
 pub fn world_of(alloc: Global, files: Files<Memory>) -> Result<String, Fail> {
-    let mut look = Look {
-        told: String::new(alloc),
-    };
-    with_store(alloc, files, &mut look, 0)?;
+    let mut look = Job::new(alloc, Kind::Look, "");
+    on_whole_files(alloc, files, &mut look)?;
     Ok(look.told)
 }

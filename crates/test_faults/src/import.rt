@@ -1,0 +1,64 @@
+//! The import of a list.
+use commands::import::import;
+use commands::sources::FilesInMemory;
+use std::alloc::Global;
+use std::str::from_utf8;
+use std::test::Fail;
+use world::shelves::Shelves;
+
+/// The rows of a list with their bits.
+const LIST: &str = "\
+example.com/new,v1.0.0,,n.mod,n.zip
+example.com/new,v1.1.0,,n.mod,n.zip
+";
+
+/// The list of the rows of these bits.
+fn list_of(alloc: Global, chosen: u8) -> Result<String, Fail> {
+    let mut list = String::from_str(alloc, "path,version,time,mod,zip\n")?;
+    let mut bit = 1u8;
+    for row in LIST.lines() {
+        if chosen & bit != 0 {
+            list.push_str(row)?;
+            list.push_str("\n")?;
+        }
+        bit = bit.wrapping_mul(2);
+    }
+    Ok(list)
+}
+
+/// The bits of the lines that tell of a row that is published.
+fn published(lines: &str) -> u8 {
+    let mut published = 0;
+    let mut bit = 1u8;
+    for line in lines.lines() {
+        if line.contains(" 201 ") {
+            published |= bit;
+        }
+        bit = bit.wrapping_mul(2);
+    }
+    published
+}
+
+/// The files that the rows name.
+fn named_files(alloc: Global) -> Result<FilesInMemory, Fail> {
+    let mut files = FilesInMemory::new(alloc);
+    files.insert("n.mod", b"module example.com/new\n")?;
+    files.insert("n.zip", b"zip")?;
+    Ok(files)
+}
+
+/// Imports the rows of these bits, and tells which of them a line says to be published.
+pub fn imported<S: Shelves>(alloc: Global, shelves: &mut S, chosen: u8) -> Result<u8, Fail> {
+    let list = list_of(alloc, chosen)?;
+    let files = named_files(alloc)?;
+    let mut output = Vec::new(alloc);
+    import(
+        alloc,
+        shelves,
+        "alphakey00000001",
+        list.as_bytes(),
+        &files,
+        &mut output,
+    )?;
+    Ok(published(from_utf8(output.as_slice())?))
+}

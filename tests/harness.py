@@ -27,7 +27,8 @@ class Suite:
 
     def equal(self, name, found, wanted):
         """Adds a row that passes if found equals wanted. Returns whether it passed."""
-        return self.holds(name, found == wanted, f"found {shown(found)}, wanted {shown(wanted)}")
+        is_right = found == wanted
+        return self.holds(name, is_right, "" if is_right else difference(found, wanted))
 
     def holds(self, name, is_right, why=""):
         """Adds a row that passes if is_right. Returns whether it passed."""
@@ -57,6 +58,17 @@ class Suite:
             self.passed += 1
         else:
             self.holds(name, False, wrong)
+
+
+def difference(found, wanted):
+    """What was found and what was wanted; of long bytes, from a little before they differ."""
+    at = 0
+    if isinstance(found, bytes) and isinstance(wanted, bytes):
+        unlike = (at for at, (one, other) in enumerate(zip(found, wanted)) if one != other)
+        at = max(0, next(unlike, min(len(found), len(wanted))) - 100)
+    if at == 0:
+        return f"found {shown(found)}, wanted {shown(wanted)}"
+    return f"from byte {at} on: found {shown(found[at : at + 300])}, wanted {shown(wanted[at : at + 300])}"
 
 
 def shown(value, most=400):

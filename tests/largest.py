@@ -1,118 +1,156 @@
 #!/usr/bin/env python3
-"""Nothing is refused without a cause: what has the largest size is taken, and one byte more is refused.
+"""Nothing is refused without a cause: what has the largest size is taken, and one more is refused.
 
-Build the program first (`./goshelf --version`). Over shelves in memory and over a file: a go.mod of 1,048,576 bytes with a zip of
-16,777,216, published and fetched back, and each a byte longer; go.mod files of 20,000 requirements, of 40,000 retractions, and of a
-line of 100,000 tokens; a stream of more than 100 MiB and one of 100,000 messages; the 4,096th version of a path and the one after it;
-a publish by each key of four teams.
+Build the program first (`./goshelf --version`). Over shelves in memory and over a file, each reply byte for byte: a go.mod of 1,048,576
+bytes with a zip of 16,777,216, fetched back, and each a byte longer; go.mod files of very many lines and words; a stream of more than
+100 MiB; 4,096 versions of a path, and what a full shelf still does. tests/hostile.py has 100,000 messages and what each key may do.
 """
 
-import os
-import subprocess
-import tempfile
+import sys
 
-ROOT = os.path.dirname(os.path.dirname(os.path.abspath(__file__)))
-PROGRAM = os.path.join(ROOT, "crates", "goshelf", "out", "goshelf")
-KEY = "alphakey00000001"
+from harness import KEY, KEYS, SHELVES, Suite, get, in_new_folders, put, reply
+from stores import AGAIN, CONFLICT, FULL, NO_MODULE, NOT_FOUND, PUBLISHED, TOO_LARGE
+from stores import File, Memory, answer_rows, gomod_sum, info, zipped
+
 GOMOD, ZIP = 1_048_576, 16_777_216
-FULL = (507, b"full\n")
+READER, BETA, COMMON = KEYS["R"], KEYS["B"], KEYS["C"]
 
 
-def put(path, version, gomod, zip_bytes=b"", key=KEY):
-    length = len(gomod) + len(zip_bytes)
-    head = f"PUT /k/{key}/{path}/@v/{version} HTTP/1.1\r\nMod-Length: {len(gomod)}\r\nContent-Length: {length}\r\n\r\n"
-    return head.encode() + gomod + zip_bytes
+def filled(path, size):
+    """A go.mod of this many bytes, by a comment."""
+    text = f"module {path}\n//".encode()
+    return (text + b"comment " * (size // 8))[: size - 1] + b"\n"
 
 
-def get(path, file, key=KEY):
-    return f"GET /k/{key}/{path}/@v/{file} HTTP/1.1\r\n\r\n".encode()
+def zip_of(size):
+    """A zip whose text repeats each 67 bytes, so that it is no place where a page ends."""
+    unit = b"a piece of 67 bytes, so that it ends at no place where a page ends "
+    return (unit * (size // len(unit) + 1))[:size]
 
 
-def gomod_of(path, size=0, behind=b""):
-    """A go.mod of the path, filled by a comment up to a size."""
-    text = f"module {path}\n".encode() + behind
-    return text + (b"//" + b"x" * (size - len(text) - 2) if size else b"")
+def sizes(reader):
+    """The largest files, and each with a byte more."""
+    path, gomod, zip_bytes = "example.com/m", filled("example.com/m", GOMOD), zip_of(ZIP)
+    other = zip_bytes[:-1] + b"!"
+    mod, modules = get(f"{path}/@v/v1.0.0.mod"), get("-/modules")
+    small = f"module {path}\n".encode()
+    return [
+        ("a go.mod of one byte too many", [put(path, "v1.0.0", filled(path, GOMOD + 1)), mod, modules], [TOO_LARGE, NOT_FOUND, NO_MODULE]),
+        (
+            "a go.mod of one byte too many and a zip of one less than the most",
+            [put(path, "v1.0.0", filled(path, GOMOD + 1), zip_of(ZIP - 1)), modules],
+            [TOO_LARGE, NO_MODULE],
+        ),
+        (
+            "a go.mod of one byte less than the most and a zip of one too many",
+            [put(path, "v1.0.0", filled(path, GOMOD - 1), zip_of(ZIP + 1)), modules],
+            [TOO_LARGE, NO_MODULE],
+        ),
+        ("both, and one byte too many, which ends the stream", [put(path, "v1.0.0", gomod, zip_of(ZIP + 1)), modules], [TOO_LARGE]),
+        ("after all these nothing stands", [modules, mod], [NO_MODULE, NOT_FOUND]),
+        ("the largest go.mod and the largest zip", [put(path, "v1.0.0", gomod, zip_bytes), modules], [PUBLISHED, reply(200, f"{path}\n".encode())]),
+        ("the go.mod comes back", [mod], [reply(200, gomod)]),
+        ("the zip comes back", [get(f"{path}/@v/v1.0.0.zip", reader)], [zipped(zip_bytes)]),
+        ("they are the same again", [put(path, "v1.0.0", gomod, zip_bytes)], [AGAIN]),
+        ("another last byte conflicts", [put(path, "v1.0.0", gomod, other)], [CONFLICT]),
+        ("the sum", [get(f"-/gosum/{path}/@v/v1.0.0")], [reply(200, gomod_sum(path, "v1.0.0", gomod))]),
+        ("the latest", [get(f"{path}/@latest")], [info("v1.0.0")]),
+        (
+            "a small go.mod and a zip of one byte too many",
+            [put(path, "v1.1.0", small, zip_of(ZIP + 1)), get(f"{path}/@v/v1.1.0.zip"), get(f"{path}/@v/list")],
+            [TOO_LARGE, NOT_FOUND, reply(200, b"v1.0.0\n")],
+        ),
+    ]
 
 
-def replies(stream):
-    told, at = [], 0
-    while at < len(stream):
-        end = stream.index(b"\r\n\r\n", at)
-        lines = stream[at:end].split(b"\r\n")
-        length = next(int(line.split(b":")[1]) for line in lines if line.lower().startswith(b"content-length:"))
-        told.append((int(lines[0].split()[1]), stream[end + 4 : end + 4 + length]))
-        at = end + 4 + length
-    return told
+def block(path, word, lines):
+    """A go.mod with a block of these lines."""
+    return f"module {path}\n{word} (\n".encode() + b"".join(lines) + b")\n"
 
 
-def answered(words, requests):
-    """The replies of one run of `answer`."""
-    ran = subprocess.run([PROGRAM, "answer", *words], input=b"".join(requests), capture_output=True, timeout=600)
-    assert ran.returncode == 0, ran.stderr
-    return replies(ran.stdout)
+def bad(line):
+    return reply(422, f"bad-gomod {line}\n".encode())
 
 
-def sizes(words):
-    path, zip_bytes = "example.com/large", os.urandom(ZIP)
-    gomod = gomod_of(path, GOMOD)
-    assert len(gomod) == GOMOD
-    requests = [put(path, "v1.0.0", gomod, zip_bytes), get(path, "v1.0.0.mod"), get(path, "v1.0.0.zip"), put(path, "v1.0.0", gomod, zip_bytes)]
-    told = answered(words, requests)
-    assert [status for status, _ in told] == [201, 200, 200, 200] and told[1][1] == gomod and told[2][1] == zip_bytes
-    longer = [put(path, "v1.1.0", gomod_of(path, GOMOD + 1), b""), put(path, "v1.1.0", gomod_of(path), zip_bytes + b"x"), get(path, "v1.1.0.mod")]
-    assert [status for status, _ in answered(words, longer)] == [413, 413, 404]
+def bad_row(name, text, line):
+    """A publish whose go.mod does not read. Nothing stands then."""
+    path = "example.com/t"
+    gomod = f"module {path}\n".encode() + text
+    return name, [put(path, "v1.0.0", gomod), get(f"{path}/@v/v1.0.0.mod"), get(f"{path}/@v/list")], [bad(line), NOT_FOUND, NOT_FOUND]
 
 
-def lists(words):
-    path = "example.com/lists"
-    required = b"require (\n" + b"".join(b"\texample.com/r%05d v1.0.0\n" % n for n in range(20_000)) + b")\n"
-    retracted = b"retract (\n" + b"".join(b"\t[v1.%d.0, v1.%d.9]\n" % (n, n) for n in range(40_000)) + b")\n"
-    tokens = b"require " + b"( " * 100_000 + b"\n"
-    texts = [gomod_of(path, behind=required), gomod_of(path, behind=retracted)]
-    assert all(len(text) <= GOMOD for text in texts)
-    texts.append(gomod_of(path, behind=tokens))
-    told = answered(words, [put(path, f"v1.{n}.0", text) for n, text in enumerate(texts)])
-    assert [status for status, _ in told] == [201, 201, 422] and told[2][1] == b"bad-gomod 2\n", told
+R, S = "example.com/r", "example.com/s"
+SAME = block(R, "require", [b"example.com/x v1.0.0\n"] * 20_000)
+WRONG = block(R, "require", [b"example.com/x v1.0.0\n"] * 19_999 + [b"example.com/x v1.0\n"])
+EACH = block(R, "require", [b"\texample.com/r%05d v1.0.0\n" % n for n in range(20_000)])
+RETRACTED = block(S, "retract", [b"v1.0.0\nv1.0.1\nv1.0.2\nv1.0.3\nv1.1.0\n"] * 20_000)
+RANGES = block(S, "retract", [b"\t[v1.%d.0, v1.%d.9]\n" % (n + 2, n + 2) for n in range(40_000)])
+# go.mod files of very many lines and words
+LONG = [
+    ("20,000 requirements", [put(R, "v1.0.0", SAME)], [PUBLISHED]),
+    ("20,000 requirements come back", [get(f"{R}/@v/v1.0.0.mod"), get(f"{R}/@latest")], [reply(200, SAME), info("v1.0.0")]),
+    ("the last of 20,000 is wrong", [put(R, "v1.1.0", WRONG), get(f"{R}/@v/v1.1.0.mod")], [bad(20_002), NOT_FOUND]),
+    ("20,000 requirements of as many paths", [put(R, "v1.2.0", EACH)], [PUBLISHED]),
+    ("a version that is retracted later", [put(S, "v1.0.9", f"module {S}\n".encode())], [PUBLISHED]),
+    ("100,000 retractions, its own too", [put(S, "v1.1.0", RETRACTED)], [PUBLISHED]),
+    ("100,000 retractions come back", [get(f"{S}/@v/v1.1.0.mod"), get(f"{S}/@latest")], [reply(200, RETRACTED), info("v1.0.9")]),
+    ("40,000 retracted ranges", [put(S, "v1.1.1", RANGES)], [PUBLISHED]),
+    bad_row("a line of 100,000 words", b"require " + b"a " * 100_000 + b"\n", 2),
+    bad_row("a line of 100,000 brackets", b"require " + b"(" * 100_000 + b"\n", 2),
+    bad_row("a line of 100,000 brackets with spaces", b"require " + b"( " * 100_000 + b"\n", 2),
+    bad_row("a line of 100,000 words behind one that reads, in a block", b"require (\nexample.com/x v1.0.0\n" + b"a " * 100_000 + b"\n", 4),
+    bad_row("80,000 nested blocks", b"require (\n" * 80_000, 3),
+    bad_row("a quotation of 1,000,000 bytes that stays open", b'"' + b"a" * 1_000_000 + b"\n", 2),
+    ("what was refused stands nowhere", [get("-/modules")], [reply(200, f"{R}\n{S}\n".encode())]),
+]
+
+B = "example.com/b"
+BIG = [put(B, f"v1.{n}.0", f"module {B}\n".encode(), bytes(1_000_000)) for n in range(105)]
+STREAM = [
+    ("a stream of more than 100 MiB", BIG, [PUBLISHED] * 105),
+    ("its last zip comes back", [get(f"{B}/@v/v1.104.0.zip")], [zipped(bytes(1_000_000))]),
+]
+
+F = "example.com/f"
 
 
-def streams(words):
-    path, zip_bytes = "example.com/stream", bytes(1_000_000)
-    told = answered(words, [put(path, f"v1.{n}.0", gomod_of(path), zip_bytes) for n in range(105)])
-    assert [status for status, _ in told] == [201] * 105
-    told = answered(words, [put(path, "v2.0.0-none", b""), put(path, "v1.0.0", gomod_of(path), zip_bytes), *[get(path, "v1.0.0.mod")] * 99_998])
-    assert len(told) == 100_000 and {status for status, _ in told[2:]} == {200}
+def f(patch, zip_bytes=b"", key=KEY, path=F):
+    return put(path, f"v1.0.{patch}", f"module {path}\n".encode(), zip_bytes, key)
 
 
-def versions(words):
-    path = "example.com/many"
-    told = answered(words, [put(path, f"v1.{n}.0", gomod_of(path)) for n in range(4_097)])
-    assert [status for status, _ in told[:-1]] == [201] * 4_096
-    assert told[-1] == FULL, told[-1]
+def file_of(name, key=KEY):
+    return get(f"{F}/@v/{name}", key)
 
 
-def teams(store):
-    keys = {f"team{n}": f"key0of0team{n}00000" for n in range(4)}
-    for team, key in keys.items():
-        subprocess.run([PROGRAM, "team-add", "--db", store, "--team", team], check=True)
-        subprocess.run([PROGRAM, "key-add", "--db", store, "--shelf", team, "--key", key], check=True)
-    told = answered(["--db", store], [put("example.com/own", "v1.0.0", gomod_of("example.com/own"), key=key) for key in keys.values()])
-    assert [status for status, _ in told] == [201] * 4
+SHELF = [
+    ("4,096 versions of a path", [f(patch) for patch in range(4096)], [PUBLISHED] * 4096),
+    ("the next is refused", [f(4096), file_of("v1.0.4096.mod")], [FULL, NOT_FOUND]),
+    ("the last stands", [get(f"{F}/@latest"), file_of("v1.0.4095.mod")], [info("v1.0.4095"), reply(200, f"module {F}\n".encode())]),
+    ("another path has room", [f(4096, path="example.com/g")], [PUBLISHED]),
+    ("one of them again", [f(0)], [AGAIN]),
+    ("one of them with another zip", [f(0, b"a")], [CONFLICT]),
+]
+# over a file alone, since shelves in memory have one team with one key
+SHELF_AMONG_OTHERS = [
+    ("beta has room", [f(4096, b"b", BETA)], [PUBLISHED]),
+    ("common has room, and alpha sees it", [f(4096, b"c", COMMON), file_of("v1.0.4096.zip")], [PUBLISHED, zipped(b"c")]),
+    ("full, with another zip than common", [f(4096, b"a")], [CONFLICT]),
+    ("full, with the zip of common", [f(4096, b"c")], [AGAIN]),
+    ("each sees its own", [file_of("v1.0.4096.zip"), file_of("v1.0.4096.zip", BETA)], [zipped(b"c"), zipped(b"b")]),
+    ("the latest is that of common", [get(f"{F}/@latest")], [info("v1.0.4096")]),
+    ("full, with one that nobody has", [f(4097), file_of("v1.0.4097.mod")], [FULL, NOT_FOUND]),
+]
 
 
-def main():
-    with tempfile.TemporaryDirectory(prefix="goshelf-largest-") as folder:
-        store = os.path.join(folder, "shelves.db")
-        subprocess.run([PROGRAM, "team-add", "--db", store, "--team", "alpha"], check=True)
-        subprocess.run([PROGRAM, "key-add", "--db", store, "--shelf", "alpha", "--key", KEY], check=True)
-        for words in (["--mem", "--team", "alpha", "--key", KEY], ["--db", store]):
-            sizes(words)
-            lists(words)
-            streams(words)
-            versions(words)
-            print(f"{words[0]}: the largest is taken, and one more is refused")
-        teams(store)
-        print("each of four teams publishes")
+def over_both(suite):
+    """The rows over each store, of which each table has a new one. The last is over a file that has a full shelf then."""
+    assert [len(filled("example.com/m", size)) for size in (GOMOD - 1, GOMOD, GOMOD + 1)] == [GOMOD - 1, GOMOD, GOMOD + 1]
+    alpha, others = ("alpha", KEY, READER), [shelf for shelf in SHELVES if shelf[0] != "alpha"]
+    for number, rows in enumerate((sizes, LONG, STREAM, SHELF)):
+        for store in (Memory(), File(f"{number}.db", alpha, *others)):
+            answer_rows(suite, store, rows(store.reader) if callable(rows) else rows)
+    answer_rows(suite, store, SHELF_AMONG_OTHERS)
 
 
 if __name__ == "__main__":
-    main()
+    sys.exit(in_new_folders(Suite(), over_both))

@@ -1,0 +1,213 @@
+#!/usr/bin/env python3
+"""What hostile callers send, and the bytes that answer them: over shelves in memory and over a file.
+
+Build the program first (`./goshelf --version`). A publish that is cut at each byte; heads and lengths at their limits and beyond; what
+each key may do on each of seven shelves, and what it sees; zips that end where a piece ends; 100,000 messages, each in a read of its own.
+Memory has one team with one key, so rows of other keys run over the file alone. tests/largest.py has the largest files and full shelves.
+"""
+
+import sys
+
+from harness import KEY, KEYS, Suite, add_shelf, get, in_new_folders, put, reply
+from stores import AGAIN, BAD, CONFLICT, FORBIDDEN, NO_MODULE, NOT_FOUND, PUBLISHED, TOO_LARGE
+from stores import File, Memory, answer_rows, gomod_sum, info, run_in_reads, zipped
+
+READER, NOBODY = KEYS["R"], KEYS["N"]
+GOMOD = b"module example.com/lib\n"
+
+# a publish, and what shows that it stands nowhere
+PUT = put("example.com/lib", "v1.0.0", GOMOD)
+SEEN = [get("example.com/lib/@v/v1.0.0.mod"), get("example.com/lib/@v/list"), get("-/modules")]
+NOTHING = NOT_FOUND + NOT_FOUND + NO_MODULE
+
+
+def cuts(suite, store):
+    """A publish that is cut at each of its bytes is bad. Over a file nothing stands then; memory is lost when a run ends."""
+    wrong = [end for end in range(1, len(PUT)) if store.answer([PUT[:end]]) != BAD]
+    suite.equal(f"{store.name} a publish of 121 bytes, cut at each", (len(PUT), wrong), (121, []))
+    if isinstance(store, File):
+        suite.equal(f"{store.name} after all these nothing stands", store.answer(SEEN), NOTHING)
+
+
+def front(*lines):
+    """A publish with these lines in its head. Behind it stands a GET, which is answered if the stream goes on."""
+    head = "\r\n".join([f"PUT /k/{KEY}/example.com/lib/@v/v1.0.0 HTTP/1.1", *lines, "", ""])
+    return [head.encode() + GOMOD, get("-/modules", NOBODY)]
+
+
+def head_of(*lines):
+    """A GET by an unknown key with these lines in its head, and another behind it."""
+    head = "\r\n".join([f"GET /k/{NOBODY}/-/modules HTTP/1.1", *lines, "", ""])
+    return [head.encode(), get("-/modules", NOBODY)]
+
+
+def head_of_size(size):
+    """The same with a line that makes the first head this long."""
+    return head_of("a: " + "x" * (size - len(head_of("a: ")[0])))
+
+
+MOD = "Mod-Length: 23"
+# a 400 or 413 of a front ends the stream: its own publish and what stands behind it are not read
+FRONTS = [
+    ("a length with a plus", front(MOD, "Content-Length: +23"), [BAD]),
+    ("a length with a leading zero", front(MOD, "Content-Length: 023"), [BAD]),
+    ("a length in base 16", front(MOD, "Content-Length: 0x17"), [BAD]),
+    ("a length of 11 digits", front(MOD, "Content-Length: 99999999999"), [BAD]),
+    ("a length with a minus", front(MOD, "Content-Length: -23"), [BAD]),
+    ("a list of lengths", front(MOD, "Content-Length: 23,23"), [BAD]),
+    ("a length with a space inside", front(MOD, "Content-Length: 2 3"), [BAD]),
+    ("an empty length", front(MOD, "Content-Length:"), [BAD]),
+    ("two lengths, the second is right", front(MOD, "Content-Length: 0", "Content-Length: 23"), [BAD]),
+    ("two lengths, the first is right", front(MOD, "Content-Length: 23", "Content-Length: 0"), [BAD]),
+    ("two lengths, both are right", front(MOD, "Content-Length: 23", "content-length: 23"), [BAD]),
+    ("a length of 10 digits", front(MOD, "Content-Length: 9999999999"), [TOO_LARGE]),
+    ("a length of one byte too many", front(MOD, "Content-Length: 17825793"), [TOO_LARGE]),
+    ("a transfer encoding and a length", front(MOD, "Transfer-Encoding: identity", "Content-Length: 23"), [BAD]),
+    ("a transfer encoding", front(MOD, "Transfer-Encoding: identity"), [BAD]),
+    ("a head of 16,384 bytes", head_of_size(16_384), [NOT_FOUND, NOT_FOUND]),
+    ("a head of 16,385 bytes", head_of_size(16_385), [BAD]),
+    ("64 headers", head_of(*["a: b"] * 64), [NOT_FOUND, NOT_FOUND]),
+    ("65 headers", head_of(*["a: b"] * 65), [BAD]),
+    ("after all these nothing stands", SEEN, [NOTHING]),
+    ("and the right publish is taken", front(MOD, "Content-Length: 23")[:1] + [get("-/modules")], [PUBLISHED, reply(200, b"example.com/lib\n")]),
+]
+
+PATH = "example.com/p"
+PIECE = 65_536
+# the zip of each version, which ends where a piece ends or beside it
+ZIPS = {
+    "v1.0.0": b"",
+    "v1.0.1": b"Z",
+    "v1.0.2": b"a" * PIECE,
+    "v1.0.3": b"a" * PIECE + b"b",
+    "v1.0.4": b"a" * PIECE + b"b" * PIECE + b"c",
+}
+OTHER_ZIPS = [
+    ("one byte, not none", "v1.0.0", b"Z"),
+    ("another byte", "v1.0.1", b"Y"),
+    ("no byte, not one", "v1.0.1", b""),
+    ("another last byte of a full piece", "v1.0.2", b"a" * (PIECE - 1) + b"x"),
+    ("another byte behind a full piece", "v1.0.3", b"a" * PIECE + b"x"),
+    ("another last byte of the first piece", "v1.0.4", b"a" * (PIECE - 1) + b"x" + b"b" * PIECE + b"c"),
+    ("another first byte of the second piece", "v1.0.4", b"a" * PIECE + b"x" + b"b" * (PIECE - 1) + b"c"),
+    ("another last piece", "v1.0.4", b"a" * PIECE + b"b" * PIECE + b"x"),
+    ("the pieces in another order", "v1.0.4", b"b" * PIECE + b"a" * PIECE + b"c"),
+    ("a byte less", "v1.0.4", b"a" * PIECE + b"b" * PIECE),
+    ("a byte more", "v1.0.4", b"a" * PIECE + b"b" * PIECE + b"cc"),
+]
+
+
+def publish(version, zip_bytes):
+    return put(PATH, version, f"module {PATH}\n".encode(), zip_bytes)
+
+
+PIECES = [
+    *[(f"a zip of {len(zip_bytes)} bytes", [publish(version, zip_bytes)], [PUBLISHED]) for version, zip_bytes in ZIPS.items()],
+    *[(f"comes back, {len(zip_bytes)} bytes", [get(f"{PATH}/@v/{version}.zip")], [zipped(zip_bytes)]) for version, zip_bytes in ZIPS.items()],
+    *[(f"is the same again, {len(zip_bytes)} bytes", [publish(version, zip_bytes)], [AGAIN]) for version, zip_bytes in ZIPS.items()],
+    *[(f"conflicts: {what}", [publish(version, zip_bytes)], [CONFLICT]) for what, version, zip_bytes in OTHER_ZIPS],
+]
+
+# each shelf, its key that publishes, and its key that reads; common is the last
+SHELVES = [
+    ("alpha", KEY, READER),
+    ("beta", "betakey000000001", "betareader000001"),
+    ("gamma", "gammakey00000001", "gammareader00001"),
+    ("delta", "deltakey00000001", "deltareader00001"),
+    ("a", "0000000000000000", "0000000000000001"),
+    ("z-345678901234567890123456789012", "zzzzzzzzzzzzzzzz", "zzzzzzzzzzzzzzz0"),
+    ("common", "commonkey0000001", "commonreader0001"),
+]
+OWN = "example.com/own"
+OWN_GOMOD = f"module {OWN}\n".encode()
+LIST = reply(200, b"v1.0.0\nv1.1.0-rc.1\nv3.0.0+incompatible\n")
+LATEST = info("v3.0.0+incompatible")
+MODULES = reply(200, f"{OWN}\n".encode())
+
+
+def own(version, key, zip_bytes=b"", time=""):
+    """A publish on the shelf of the key."""
+    return put(OWN, version, OWN_GOMOD, zip_bytes, key, time)
+
+
+def by_both(name, target, keys, wanted):
+    """A row whose GET is answered the same to each of the keys."""
+    return name, [get(target, key) for key in keys], [wanted] * len(keys)
+
+
+def rights(shelf, key, reader):
+    """What the keys of a shelf are answered. The zip is the key that publishes it."""
+    zip_bytes, keys = key.encode(), (key, reader)
+    time = "2024-02-29T23:59:59Z"
+    rows = [
+        by_both("sees no go.mod", f"{OWN}/@v/v1.0.0.mod", keys, NOT_FOUND),
+        by_both("sees no zip", f"{OWN}/@v/v1.0.0.zip", keys, NOT_FOUND),
+        by_both("sees no list", f"{OWN}/@v/list", keys, NOT_FOUND),
+        by_both("sees no module", "-/modules", keys, NO_MODULE),
+        ("the reader publishes nothing", [own("v1.0.0", reader, zip_bytes), get(f"{OWN}/@v/v1.0.0.mod", key)], [FORBIDDEN, NOT_FOUND]),
+        ("publishes a release", [own("v1.0.0", key, zip_bytes)], [PUBLISHED]),
+        ("publishes it again", [own("v1.0.0", key, zip_bytes)], [AGAIN]),
+        ("publishes another zip", [own("v1.0.0", key, b"another zip")], [CONFLICT]),
+        ("publishes a pre-release", [own("v1.1.0-rc.1", key, b"T", time)], [PUBLISHED]),
+        ("publishes a pseudo-version", [own("v0.0.0-20240101000000-aaaaaaaaaaaa", key)], [PUBLISHED]),
+        ("publishes an incompatible version", [own("v3.0.0+incompatible", key)], [PUBLISHED]),
+        ("the reader publishes nothing that stands", [own("v1.0.0", reader, zip_bytes)], [FORBIDDEN]),
+        by_both("sees the go.mod", f"{OWN}/@v/v1.0.0.mod", keys, reply(200, OWN_GOMOD)),
+        by_both("sees the zip", f"{OWN}/@v/v1.0.0.zip", keys, zipped(zip_bytes)),
+        by_both("sees the info", f"{OWN}/@v/v1.0.0.info", keys, info("v1.0.0")),
+        by_both("sees the time", f"{OWN}/@v/v1.1.0-rc.1.info", keys, info("v1.1.0-rc.1", time)),
+        by_both("sees the list", f"{OWN}/@v/list", keys, LIST),
+        by_both("sees the latest", f"{OWN}/@latest", keys, LATEST),
+        by_both("sees the module", "-/modules", keys, MODULES),
+        by_both("sees the sum", f"-/gosum/{OWN}/@v/v1.0.0", keys, reply(200, gomod_sum(OWN, "v1.0.0", OWN_GOMOD))),
+    ]
+    return [(f"{shelf}: {name}", requests, wanted) for name, requests, wanted in rows]
+
+
+LATE = "1234567890123456789012345678901234567890123456789012345678901234"
+BETA, BETA_READER = SHELVES[1][1:]
+COMMON, COMMON_READER = SHELVES[-1][1:]
+# once common has published too, each team goes on seeing its own; a team that came last, with a key of 64 bytes, sees common
+AFTER = [
+    *[by_both(f"{shelf}: still sees its own", f"{OWN}/@v/v1.0.0.zip", keys, zipped(keys[0].encode())) for shelf, *keys in SHELVES],
+    ("beta: sees its own list", [get(f"{OWN}/@v/list", BETA_READER)], [LIST]),
+    ("beta: sees its own latest", [get(f"{OWN}/@latest", BETA_READER)], [LATEST]),
+    ("beta: sees one module", [get("-/modules", BETA_READER)], [MODULES]),
+    ("late: sees common", [get(f"{OWN}/@v/v1.0.0.zip", LATE), get(f"{OWN}/@v/list", LATE)], [zipped(COMMON.encode()), LIST]),
+    ("late: conflicts with common", [own("v1.0.0", LATE, b"another zip")], [CONFLICT]),
+    ("late: repeats what common has", [own("v1.0.0", LATE, COMMON.encode())], [AGAIN]),
+    ("late: publishes its own", [own("v1.0.1", LATE, b"Z"), get(f"{OWN}/@v/v1.0.1.zip", LATE)], [PUBLISHED, zipped(b"Z")]),
+    by_both("late: the others do not see it", f"{OWN}/@v/v1.0.1.zip", (BETA, COMMON, COMMON_READER), NOT_FOUND),
+    ("an unknown key sees nothing", [get(f"{OWN}/@v/v1.0.0.zip", NOBODY)], [NOT_FOUND]),
+]
+
+
+def many(suite, store):
+    """Five messages, 20,000 times, each message in a read of its own."""
+    first = put("example.com/lib", "v1.0.0", GOMOD, b"Z")
+    five = [first, get("example.com/lib/@v/v1.0.0.mod", store.reader), get("example.com/lib/@v/v1.0.0.mod", NOBODY)]
+    five += [get("example.com/lib/@v/v1.0.0.info"), get("example.com/lib/@v/list")]
+    wanted = AGAIN + reply(200, GOMOD) + NOT_FOUND + info("v1.0.0") + reply(200, b"v1.0.0\n")
+    status, written, told = run_in_reads(["answer", *store.words], [first, *five * 20_000])
+    suite.equal(f"{store.name} 100,001 messages, each in a read of its own: the end", (status, told), (0, ""))
+    suite.equal(f"{store.name} 100,001 messages, each in a read of its own: the replies", written, PUBLISHED + wanted * 20_000)
+
+
+def over_both(suite):
+    """The rows over each store, of which each table has a new one."""
+    for number, part in enumerate((cuts, FRONTS, PIECES, many)):
+        for store in (Memory(), File(f"{number}.db", ("alpha", KEY, READER))):
+            part(suite, store) if callable(part) else answer_rows(suite, store, part)
+
+
+def over_a_file(suite):
+    """What each key may do and sees, which wants several keys."""
+    store = File("rights.db", *SHELVES)
+    for shelf in SHELVES:
+        answer_rows(suite, store, rights(*shelf))
+    add_shelf(store.file, "late", LATE)
+    answer_rows(suite, store, AFTER)
+
+
+if __name__ == "__main__":
+    sys.exit(in_new_folders(Suite(), over_both, over_a_file))

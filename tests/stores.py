@@ -1,0 +1,103 @@
+"""Shelves in memory and in a file, and rows that both answer byte for byte."""
+
+import base64
+import hashlib
+import socket
+import subprocess
+import threading
+
+from harness import KEY, MEMORY, PROGRAM, difference, new_store, replies, reply, run
+
+PUBLISHED = reply(201, b"published\n")
+AGAIN = reply(200, b"already published\n")
+BAD = reply(400, b"bad request\n")
+FORBIDDEN = reply(403, b"forbidden\n")
+NOT_FOUND = reply(404, b"not found\n")
+CONFLICT = reply(409, b"conflict\n")
+TOO_LARGE = reply(413, b"too large\n")
+FULL = reply(507, b"full\n")
+# to a GET of `-/modules` by a shelf that sees no module
+NO_MODULE = reply(200, b"")
+
+
+def zipped(body):
+    """The reply to a GET of a zip."""
+    return reply(200, body, ".zip")
+
+
+def info(version, time=""):
+    """The reply to a GET of an info or of @latest."""
+    text = f'{{"Time":"{time}","Version":"{version}"}}' if time else f'{{"Version":"{version}"}}'
+    return reply(200, text.encode(), ".info")
+
+
+def gomod_sum(path, version, gomod):
+    """The line of go.sum for a go.mod file."""
+    text = f"{hashlib.sha256(gomod).hexdigest()}  go.mod\n".encode()
+    return f"{path} {version}/go.mod h1:{base64.b64encode(hashlib.sha256(text).digest()).decode()}\n".encode()
+
+
+def answer(words, requests):
+    """What one run of `goshelf answer` writes for these requests. It has to end well."""
+    status, written, told = run(["answer", *words], b"".join(requests), 600)
+    assert (status, told) == (0, ""), (status, told)
+    return written
+
+
+class Memory:
+    """Shelves in memory: each run begins with none of what another published, so it first publishes again what was taken before."""
+
+    name, words, reader = "--mem", MEMORY, KEY
+
+    def __init__(self):
+        self.taken = []
+
+    def answer(self, requests):
+        """The bytes that answer these requests."""
+        written, before = answer(self.words, [*self.taken, *requests]), PUBLISHED * len(self.taken)
+        assert written.startswith(before), difference(written, before)
+        written = written[len(before) :]
+        self.taken += [request for request, (status, _) in zip(requests, replies(written)) if status == 201]
+        return written
+
+
+class File:
+    """A store in a file, made with these shelves, each as `add_shelf` takes it. Each run opens it."""
+
+    name = "--db"
+
+    def __init__(self, file, *shelves):
+        self.file, self.words, self.reader = file, ["--db", file], shelves[0][-1]
+        new_store(file, *shelves)
+
+    def answer(self, requests):
+        """The bytes that answer these requests."""
+        return answer(self.words, requests)
+
+
+def answer_rows(suite, store, rows):
+    """Adds a row for each name with its requests and the replies to them, in bytes. A row goes on from what those before it published."""
+    for name, requests, wanted in rows:
+        suite.equal(f"{store.name} {name}", store.answer(requests), b"".join(wanted))
+
+
+def run_in_reads(words, pieces, timeout=600):
+    """Runs goshelf as `run` does, on a standard input of which each read gives one piece. A piece is shorter than a read may be."""
+    ours, theirs = socket.socketpair(socket.AF_UNIX, socket.SOCK_SEQPACKET)
+    with theirs:
+        program = subprocess.Popen([PROGRAM, *words], stdin=theirs, stdout=subprocess.PIPE, stderr=subprocess.PIPE)
+    sender = threading.Thread(target=send, args=(ours, pieces))
+    sender.start()
+    written, told = program.communicate(timeout=timeout)
+    sender.join()
+    return program.returncode, written, told.decode()
+
+
+def send(to, pieces):
+    """Sends each piece, and then the end; ends early if the program reads no more."""
+    with to:
+        try:
+            for piece in pieces:
+                to.send(piece)
+        except (BrokenPipeError, ConnectionResetError):
+            pass

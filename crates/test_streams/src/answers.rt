@@ -3,7 +3,6 @@ use crate::doubles::{Sink, Source, shelves};
 use crate::stream::{ANSWER_ENDS, ANSWERS, BAD_REQUEST, ENDS, STREAM, TOOLCHAIN};
 use engine::{Io, answer_all, answer_one};
 use std::alloc::{AllocError, Global};
-use std::io::ErrorKind;
 use std::test::Fail;
 
 /// Answers a stream from shelves on which nothing stands.
@@ -29,6 +28,7 @@ fn answers_the_stored_run_however_it_is_cut(rt: HostRuntime) {
         let result = serve(rt.alloc(), &mut Source::new(STREAM, piece), &mut writer);
         assert!(rt; result == Ok(()));
         assert!(rt; writer.taken.as_slice() == ANSWERS, "in pieces of {piece}");
+        assert!(rt; writer.is_flushed);
     }
 }
 
@@ -62,6 +62,7 @@ fn answers_one_and_reads_no_more(rt: HostRuntime) {
     let status = serve_one(rt.alloc(), &mut reader, &mut writer);
     assert!(rt; status == Ok(Some(201)));
     assert!(rt; writer.taken.as_slice() == &ANSWERS[..ANSWER_ENDS[0]]);
+    assert!(rt; writer.is_flushed);
     assert!(rt; reader.rest == &STREAM[ENDS[0]..]);
 }
 
@@ -71,40 +72,6 @@ fn publishes_a_module_with_a_toolchain(rt: HostRuntime) {
     let result = serve(rt.alloc(), &mut Source::new(TOOLCHAIN, 4096), &mut writer);
     assert!(rt; result == Ok(()));
     assert!(rt; writer.taken.as_slice() == &ANSWERS[..ANSWER_ENDS[0]]);
-}
-
-/// How many bytes are written for so many bytes of the stream, where they are followed by nothing.
-fn answered(len: usize) -> usize {
-    let mut bytes = 0;
-    for (end, answer) in ENDS.iter().zip(ANSWER_ENDS.iter()) {
-        if *end <= len {
-            bytes = *answer;
-        }
-    }
-    bytes
-}
-
-#[test]
-fn has_answered_what_was_read_when_a_read_fails(rt: HostRuntime) {
-    for reads in 0..STREAM.len() {
-        let mut reader = Source::new(STREAM, 1);
-        reader.reads = reads as u64;
-        reader.failure = ErrorKind::ConnectionReset;
-        let mut writer = Sink::new(rt.alloc(), usize::MAX);
-        assert!(rt; serve(rt.alloc(), &mut reader, &mut writer) == Err(Io::Read));
-        assert!(rt; writer.taken.len() == answered(reads), "at {reads}");
-        assert!(rt; reader.rest.len() == STREAM.len() - reads);
-    }
-}
-
-#[test]
-fn has_written_a_beginning_when_a_write_fails(rt: HostRuntime) {
-    for room in 0..ANSWERS.len() {
-        let mut writer = Sink::new(rt.alloc(), room);
-        let result = serve(rt.alloc(), &mut Source::new(STREAM, 50), &mut writer);
-        assert!(rt; result == Err(Io::Write));
-        assert!(rt; writer.taken.as_slice() == &ANSWERS[..room]);
-    }
 }
 
 #[test]

@@ -66,6 +66,8 @@ pub struct Sink {
     pub interrupts: bool,
     pub flushes: bool,
     pub writes: u64,
+    /// Nothing was taken since it was flushed.
+    pub is_flushed: bool,
 }
 
 impl Sink {
@@ -77,6 +79,7 @@ impl Sink {
             interrupts: true,
             flushes: true,
             writes: 0,
+            is_flushed: true,
         }
     }
 }
@@ -95,11 +98,13 @@ impl Write for Sink {
         self.room -= n;
         self.writes = self.writes.saturating_add(1);
         self.interrupts = true;
+        self.is_flushed = false;
         Ok(n)
     }
 
     fn flush(&mut self) -> io::Result<()> {
         if self.flushes {
+            self.is_flushed = true;
             Ok(())
         } else {
             Err(Error::from(ErrorKind::BrokenPipe))

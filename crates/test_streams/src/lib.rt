@@ -1,5 +1,5 @@
-//! The worked rows of streams and connections: answers however a stream is cut, readers and writers that fail, connections of this process
-//! to itself, and a peer's time.
+//! The worked rows of streams and connections: answers however a stream is cut, readers and writers that fail at each of their calls,
+//! connections of this process to itself, and a peer's time.
 #![tactic(auto)]
 
 #[cfg(test)]
@@ -12,3 +12,5 @@ mod doubles;
 mod in_time;
 #[cfg(test)]
 mod stream;
+#[cfg(test)]
+mod sweeps;

@@ -75,11 +75,12 @@ def bodies_of(crate):
     return found
 
 
-def rounds_of(bodies):
-    """Returns the bodies in rounds of which no two stand in one function; a wide one has a round for itself."""
+def rounds_of(bodies, most):
+    """Returns the bodies in rounds of at most so many, of which no two stand in one function; a wide one has a round for itself."""
     rounds = []
     for body in bodies:
-        fits = (it for it in rounds if not it[0].is_wide and not any({*body.functions} & {*other.functions} for other in it))
+        open_rounds = (it for it in rounds if not it[0].is_wide and len(it) < most)
+        fits = (it for it in open_rounds if not any({*body.functions} & {*other.functions} for other in it))
         place = None if body.is_wide else next(fits, None)
         rounds.append([body]) if place is None else place.append(body)
     return rounds

@@ -13,6 +13,8 @@ STAMP = "out/planted-proved"
 # The process groups of the commands that run, the folders that they work in, and whether the tool ends.
 RUNNING, ROOMS = set(), set()
 ENDS = threading.Event()
+# One for each check that may run at once; main gives it the number that --jobs says.
+SLOTS = threading.Semaphore(1)
 
 # What a message says of a body.
 REFUTED = "an obligation is false"
@@ -45,16 +47,24 @@ def run(words, folder):
 
 
 def check(folder):
-    """Runs rt check in a crate's folder."""
-    return run([*RT, "check", "--jobs", "1"], folder)
+    """Runs rt check in a crate's folder, once a slot is free."""
+    with SLOTS:
+        return run([*RT, "check", "--jobs", "1"], folder)
 
 
 def copy(folder, to):
-    """Copies a folder, which there is, to a path where nothing is."""
-    os.makedirs(os.path.dirname(to), exist_ok=True)
-    status, text = run(["cp", "-r", folder, to], ".")
-    if status:
-        raise Unusable(f"it cannot be copied: {short(text)}")
+    """Copies a folder to a path where nothing is. Checked modules are linked, because a check replaces such a file and changes none."""
+
+    def linked(one, other):
+        if one.endswith(".oantt"):
+            with contextlib.suppress(OSError):
+                return os.link(one, other)
+        return shutil.copy2(one, other)
+
+    try:
+        shutil.copytree(folder, to, symlinks=True, copy_function=linked)
+    except (OSError, shutil.Error) as why:
+        raise Unusable(f"it cannot be copied: {short(str(why))}") from why
 
 
 def stop(*_):
@@ -81,10 +91,10 @@ def prove(crate):
 
 
 class Room:
-    """Copies of a crate, of its kept work and of the libraries below; the crate's own is made anew for each round of bodies."""
+    """Copies of a crate, of its kept work and of the libraries below, for one round; the crate's own is made anew for each check."""
 
-    def __init__(self, crate, root, keep):
-        self.crate, self.root, self.keep, self.checks = crate, root, keep, 0
+    def __init__(self, crate, root, keep, number):
+        self.crate, self.root, self.keep, self.number, self.checks = crate, root, keep, number, 0
         for it in [*crate.below, crate]:
             to = f"{root}/crates/{it.name}" if it is not crate else f"{root}/kept"
             for part in (*PARTS, "out/rlib" if it is not crate else "out/incremental"):
@@ -109,7 +119,7 @@ class Room:
         said = Said(self.crate.name, *check(folder))
         if self.keep:
             names = "".join(f"{body.name}\n" for body in bodies)
-            write(f"{self.keep}/{self.crate.name}-{self.checks}.txt", f"{names}\n{said.text}")
+            write(f"{self.keep}/{self.crate.name}-{self.number}-{self.checks}.txt", f"{names}\n{said.text}")
         return said
 
 

@@ -1,339 +1,196 @@
 //! Messages out of a stream. (RFC 9112.)
-use crate::rows::{column, with_lines};
-use std::alloc::Global;
+use crate::rows::{Subject, bytes, column, named, on_one_line, wrong_row};
+use std::alloc::{AllocError, Global};
 use std::test::Fail;
-use wire::{Bad, Framer, Memory, Message, Next};
+use wire::{Bad, Framer, Memory, Message, Next, length_value};
 
-const PUT: &[u8] =
-    b"PUT /k/alphakey00000001/example.com/lib/@v/v1.0.0 HTTP/1.1\r\nMod-Length: 23\r\nContent-Length: 23\r\n\r\nmodule example.com/lib\n";
+/// - `length`: the text of a header, and the number that it writes; `-` for none.
+/// - `stream`: a stream, its messages however it is cut, each with its body behind `+`, and how it ends: `empty`, 400, 413, or `more` and
+///   how many bytes of a body are missing.
+/// - `last`: a stream, what it gives without its last byte, and then what it gives with it. The second column is repeated as often as
+///   the third says, and shown as `*`; the fourth follows. A head has at most 64 headers and 16,384 bytes.
+const ROWS: &str = "\
+length|0|0
+length|1|1
+length|23|23
+length|17825792|17825792
+length|9999999999|9999999999
+length||-
+length|00|-
+length|023|-
+length|+23|-
+length|-1|-
+length|0x17|-
+length|2 3|-
+length|23 |-
+length|10000000000|-
+stream|GET / HTTP/1.0;;|GET / +  empty
+stream|\r;\r;GET / HTTP/1.1\r;\r;|GET / +  empty
+stream|GET / HTTP/1.1\r;content-length: 0\r;\r;|GET / +  empty
+stream|GET /ü HTTP/1.1\r;\r;|GET /ü +  empty
+stream|GET / HTTP/1.1\r;Content-Length: 1\r;\r;ab|GET / + a more 0
+stream|GET / HTTP/1.1\r;Content-Length: \t1 \r;\r;a|GET / + a empty
+stream||empty
+stream|\r;\r;|more 0
+stream|GET / HTTP/1.1\r;Content-Length: 17825792\r;\r;|more 17825792
+stream|GET / HTTP/1.1\r;Content-Length: 17825793\r;\r;|413
+stream|GET / HTTP/1.1\r;Content-Length: 9999999999\r;\r;|413
+stream|GET / HTTP/1.1\r;Content-Length: 10000000000\r;\r;|400
+stream|GET / HTTP/1.1\r;Content-Length: \r;\r;|400
+stream|GET / HTTP/1.1\r;Content-Length: 00\r;\r;|400
+stream|GET / HTTP/1.1\r;Content-Length: +23\r;\r;|400
+stream|GET / HTTP/1.1\r;Content-Length: 023\r;\r;|400
+stream|GET / HTTP/1.1\r;Content-Length: 0x17\r;\r;|400
+stream|GET / HTTP/1.1\r;Content-Length: 99999999999\r;\r;|400
+stream|GET / HTTP/1.1\r;Content-Length: 1\r;Content-Length: 1\r;\r;a|400
+stream|GET / HTTP/1.1\r;Transfer-Encoding: identity\r;\r;|400
+stream|GET / HTTP/1.1\r;Content-Length: 9999999999\r;transfer-encoding: x\r;\r;|400
+stream|GET / HTTP/2.0\r;\r;|400
+stream|PUT / HTTP/1.1;Content-Length: 1;;a|PUT / + a empty
+stream|GET / HTTP/1.1\r;Content-Length : 1\r;\r;a|400
+stream|GET / HTTP/1.1\r;Content-Length: 1, 1\r;\r;a|400
+stream|GET / HTTP/1.1\r;Content-Length: 1\r; 2\r;\r;a|400
+stream|GET / HTTP/1.1\r;Transfer-Encoding:\r;\r;|400
+stream|GET /\u{0} HTTP/1.1\r;\r;|400
+stream|GET /ÿ HTTP/1.1\r;\r;|400
+stream|PUT /k/alphakey00000001/example.com/lib/@v/v1.0.0 HTTP/1.1\r;Mod-Length: 23\r;Content-Length: 23\r;\r;module example.com/lib;GET /k/alphakey00000001/example.com/lib/@v/v1.0.0.mod HTTP/1.1\r;\r;GET /k/alphakey00000001/example.com/lib/@v/v1.0.0.zip HTTP/1.1\r;\r;GET /k/nosuchkey0000001/example.com/lib/@v/v1.0.0.mod HTTP/1.1\r;\r;|PUT /k/alphakey00000001/example.com/lib/@v/v1.0.0 mod-length 23 + module example.com/lib; GET /k/alphakey00000001/example.com/lib/@v/v1.0.0.mod +  GET /k/alphakey00000001/example.com/lib/@v/v1.0.0.zip +  GET /k/nosuchkey0000001/example.com/lib/@v/v1.0.0.mod +  empty
+stream|PUT / HTTP/1.1\r;mod-length: 1\r;Version-Time: \t2024-02-29T23:59:59Z \r;MOD-LENGTH:2\r;Version-Times: x\r;\r;|PUT / mod-length 1 mod-length 2 version-time 2024-02-29T23:59:59Z +  empty
+stream|GET / HTTP/1.1\r;\r;\r;|GET / +  more 0
+stream|GET / HTTP/1.1\r;Content-Length: 9999999999\r;\r;PUT /k/alphakey00000001/example.com/lib/@v/v1.0.0 HTTP/1.1\r;Mod-Length: 23\r;Content-Length: 23\r;\r;module example.com/lib;|413
+last|PUT /k/alphakey00000001/example.com/lib/@v/v1.0.0 HTTP/1.1\r;Mod-Length: 23\r;Content-Length: 23\r;\r;module example.com/lib;|more 1 then PUT /k/alphakey00000001/example.com/lib/@v/v1.0.0 mod-length 23 + module example.com/lib; empty
+last|G(|more 0 then 400
+last|\rG|more 0 then 400
+last|;\ra|more 0 then 400
+last|GET\t|more 0 then 400
+last|GET  |more 0 then 400
+last|GET /\t|more 0 then 400
+last|GET / X|more 0 then 400
+last|GET / HTTP/1.2|more 0 then 400
+last|GET / HTTP/1.1\ra|more 0 then 400
+last|GET / HTTP/1.1\r;:|more 0 then 400
+last|GET / HTTP/1.1\r; |more 0 then 400
+last|GET / HTTP/1.1\r;A |more 0 then 400
+last|GET / HTTP/1.1\r;A\t|more 0 then 400
+last|GET / HTTP/1.1\r;A: b\u{0}|more 0 then 400
+last|GET / HTTP/1.1\r;A: b\rc|more 0 then 400
+last|GET / HTTP/1.1\r;A: b\r;\ra|more 0 then 400
+last|\r;GET / HTTP/1.1\r;|A: b\r;|64|\r;|more 0 then GET / +  empty
+last|\r;GET / HTTP/1.1\r;|A: b\r;|65|more 0 then 400
+last|\r;GET / HTTP/1.1\r;|A: b\r;|64|Content-Length: 9999999999\r;|more 0 then 400
+last|\r;GET / HTTP/1.1\r;A: |c|16359|\r;\r;|more 0 then GET / +  empty
+last|\r;GET / HTTP/1.1\r;A: |c|16360|\r;\r|more 0 then 400
+last|\r;GET / HTTP/1.1\r;Content-Length: 9999999999\r;A: |c|16332|\r;\r|more 0 then 400
+last|\r;GET / HTTP/1.1\r;A: |c|16363|more 0 then 400
+last||;|16384|more 0 then 400
+last|PUT /a HTTP/1.1\r;Content-Length: 5000\r;\r;|more 0 then more 5000
+last|PUT /a HTTP/1.1\r;Content-Length: 5000\r;\r;|x|5000|GET /b HTTP/1.1\r;\r;|PUT /a + * more 0 then PUT /a + * GET /b +  empty
+";
 
-#[test]
-fn a_message_is_handed_out_with_its_last_byte(rt: HostRuntime) {
-    let mut framer = Framer::new(rt.alloc());
-    let mut waits = 0u32;
-    let mut messages = 0u32;
-    for byte in PUT {
-        assert!(rt; framer.feed(&[*byte]).is_ok());
-        match framer.next() {
-            Ok(Next::NeedMore) => waits = waits.saturating_add(1),
-            Ok(Next::Message(message)) => {
-                messages = messages.saturating_add(1);
-                assert!(rt; message.method.as_slice() == b"PUT".as_slice());
-                assert!(rt;
-                    message.target.as_slice()
-                        == b"/k/alphakey00000001/example.com/lib/@v/v1.0.0".as_slice()
-                );
-                assert!(rt; message.body.as_slice() == b"module example.com/lib\n".as_slice());
-                assert!(rt; message.mod_lengths.len() == 1 && message.version_times.is_empty());
-                assert!(rt; framer.is_empty());
-            }
-            _ => assert!(rt; false),
-        }
+/// Puts these words behind the text, with a space behind each.
+fn put_words(text: &mut Vec<u8>, words: &[&[u8]]) -> Result<(), AllocError> {
+    for word in words {
+        text.extend_from_slice(word)?;
+        text.push(b' ')?;
     }
-    assert_eq!(rt; (waits, messages), (120, 1));
+    Ok(())
 }
 
-/// A publish and its fetches: 121 bytes, and three GETs.
-const RUN: &[u8] =
-    b"PUT /k/alphakey00000001/example.com/lib/@v/v1.0.0 HTTP/1.1\r\nMod-Length: 23\r\nContent-Length: 23\r\n\r\nmodule example.com/lib\nGET /k/alphakey00000001/example.com/lib/@v/v1.0.0.mod HTTP/1.1\r\n\r\nGET /k/alphakey00000001/example.com/lib/@v/v1.0.0.zip HTTP/1.1\r\n\r\nGET /k/nosuchkey0000001/example.com/lib/@v/v1.0.0.mod HTTP/1.1\r\n\r\n";
+/// Puts the values of the headers of this name behind the text.
+fn put_values(text: &mut Vec<u8>, name: &[u8], values: &[Vec<u8>]) -> Result<(), AllocError> {
+    for value in values {
+        put_words(text, &[name, value.as_slice()])?;
+    }
+    Ok(())
+}
 
-/// The method, the target and the body of each of its messages.
-const MESSAGES: &[u8] =
-    b"PUT /k/alphakey00000001/example.com/lib/@v/v1.0.0 module example.com/lib\n|GET /k/alphakey00000001/example.com/lib/@v/v1.0.0.mod |GET /k/alphakey00000001/example.com/lib/@v/v1.0.0.zip |GET /k/nosuchkey0000001/example.com/lib/@v/v1.0.0.mod |";
+/// Puts a message behind the text: its method, target, lengths and times, and its body behind a `+`.
+fn put_message(text: &mut Vec<u8>, message: &Message) -> Result<(), AllocError> {
+    put_words(
+        text,
+        &[message.method.as_slice(), message.target.as_slice()],
+    )?;
+    put_values(text, b"mod-length", message.mod_lengths.as_slice())?;
+    put_values(text, b"version-time", message.version_times.as_slice())?;
+    put_words(text, &[b"+", message.body.as_slice()])
+}
 
-/// Puts the messages that the framer has behind the text, and says whether it then holds nothing.
-fn put_messages(framer: &mut Framer, text: &mut Vec<u8>) -> Result<bool, Memory> {
+/// Puts the messages that are whole behind the text, and returns what follows them.
+fn take(framer: &mut Framer, text: &mut Vec<u8>) -> Result<&'static str, Memory> {
     for _ in 0..8u8 {
         match framer.next()? {
-            Next::Message(message) => {
-                text.extend_from_slice(&message.method)?;
-                text.push(b' ')?;
-                text.extend_from_slice(&message.target)?;
-                text.push(b' ')?;
-                text.extend_from_slice(&message.body)?;
-                text.push(b'|')?;
-            }
-            _ => return Ok(framer.is_empty()),
+            Next::Message(message) => put_message(text, &message)?,
+            Next::NeedMore => return Ok("more"),
+            Next::Bad(Bad::BadRequest) => return Ok("400"),
+            Next::Bad(Bad::TooLarge) => return Ok("413"),
         }
     }
-    Ok(false)
+    Ok("more than 8 messages")
 }
 
-/// The messages of a stream that comes in two pieces, where none of it is left.
-fn in_pieces(alloc: Global, front: &[u8], back: &[u8]) -> Result<Option<Vec<u8>>, Memory> {
+/// The messages of a stream and how it ends. The front comes in one piece, and the back in pieces of `step` bytes.
+fn handed_out(alloc: Global, front: &[u8], back: &[u8], step: usize) -> Result<Vec<u8>, Memory> {
     let mut framer = Framer::new(alloc);
     let mut text = Vec::new(alloc);
     framer.feed(front)?;
-    put_messages(&mut framer, &mut text)?;
-    framer.feed(back)?;
-    if put_messages(&mut framer, &mut text)? {
-        Ok(Some(text))
-    } else {
-        Ok(None)
+    take(&mut framer, &mut text)?;
+    for piece in back.chunks(step.max(1)) {
+        framer.feed(piece)?;
+        take(&mut framer, &mut text)?;
     }
+    let end = match take(&mut framer, &mut text)? {
+        _ if framer.is_empty() => String::from_str(alloc, "empty")?,
+        "more" => format!(in alloc; "more {}", framer.missing())?,
+        status => String::from_str(alloc, status)?,
+    };
+    text.extend_from_slice(end.as_bytes())?;
+    Ok(text)
 }
 
-/// However the stream is cut in two.
-#[test]
-fn messages_do_not_hang_on_the_cut(rt: HostRuntime) {
-    for cut in 0..=RUN.len() {
-        let (front, back) = RUN.split_at(cut.min(RUN.len()));
-        match in_pieces(rt.alloc(), front, back) {
-            Ok(Some(text)) => assert!(rt; text.as_slice() == MESSAGES, "cut at {cut}"),
-            _ => assert!(rt; false, "cut at {cut}"),
+/// What a stream gives in one piece. It must give the same if it is cut in two at any of the first `places` bytes, and if the bytes
+/// after the cut come one by one.
+fn however_cut(alloc: Global, stream: &[u8], places: usize) -> Result<Vec<u8>, Memory> {
+    let whole = handed_out(alloc, stream, b"", 1)?;
+    for cut in 0..places.min(stream.len()) {
+        let (front, back) = stream.split_at(cut);
+        let in_two = handed_out(alloc, front, back, back.len())?;
+        let by_bytes = handed_out(alloc, front, back, 1)?;
+        if in_two.as_slice() != whole.as_slice() || by_bytes.as_slice() != whole.as_slice() {
+            return Ok(Vec::from_slice(alloc, b"the cut matters")?);
         }
     }
+    Ok(whole)
 }
 
-/// The next message, where one is whole.
-fn next_message(framer: &mut Framer) -> Option<Message> {
-    match framer.next() {
-        Ok(Next::Message(message)) => Some(message),
-        _ => None,
+/// What a stream gives without its last byte, and with it, in one piece and byte by byte.
+fn at_the_last_byte(alloc: Global, stream: &[u8]) -> Result<Vec<u8>, Memory> {
+    let (front, _) = stream.split_at(stream.len().saturating_sub(1));
+    let mut text = however_cut(alloc, front, 1)?;
+    text.extend_from_slice(b" then ")?;
+    text.extend_from_slice(&however_cut(alloc, stream, 1)?)?;
+    Ok(text)
+}
+
+/// What the call of a row returns.
+pub fn given(alloc: Global, row: &str) -> Result<String, Fail> {
+    let times = column(row, 3).parse::<usize>().unwrap_or(1);
+    let filling = column(row, 2).repeat(alloc, times)?;
+    let text = format!(in alloc; "{}{}{}", column(row, 1), filling.as_str(), column(row, 4))?;
+    let stream = bytes(alloc, text.as_str())?;
+    let text = match column(row, 0) {
+        "length" => return Ok(named(alloc, length_value(&stream))?),
+        "stream" => however_cut(alloc, &stream, stream.len())?,
+        _ => at_the_last_byte(alloc, &stream)?,
+    };
+    let text = on_one_line(alloc, &text)?;
+    if filling.is_empty() {
+        return Ok(text);
     }
+    Ok(text.replace(alloc, filling.as_str(), "*")?)
 }
 
-/// A large body is handed out in the buffer that it was gathered in.
 #[test]
-fn what_follows_a_large_body_stays(rt: HostRuntime) -> Result<(), Fail> {
-    let mut framer = Framer::new(rt.alloc());
-    let body = vec![in rt.alloc(); b'x'; 5_000]?;
-    assert!(rt;
-        framer
-            .feed(b"PUT /a HTTP/1.1\r\nContent-Length: 5000\r\n\r\n")
-            .is_ok()
-    );
-    assert!(rt; next_message(&mut framer).is_none());
-    assert_eq!(rt; framer.missing(), 5_000);
-    assert!(rt; framer.feed(body.as_slice()).is_ok());
-    assert!(rt; framer.feed(b"GET /b HTTP/1.1\r\n\r\n").is_ok());
-    assert_eq!(rt; framer.missing(), 0);
-    let large = next_message(&mut framer).ok_or("no message")?;
-    assert!(rt; large.body.as_slice() == body.as_slice());
-    let small = next_message(&mut framer).ok_or("no message")?;
-    assert!(rt; small.target.as_slice() == b"/b".as_slice());
-    assert!(rt; framer.is_empty());
+fn streams_give_messages(rt: HostRuntime) -> Result<(), Fail> {
+    let wrong = wrong_row(rt.alloc(), Subject::Framing, ROWS)?;
+    assert!(rt; wrong.is_empty(), "{wrong}");
     Ok(())
-}
-
-/// The values in their order, without the spaces and tabs around them; a name's case does not count.
-#[test]
-fn headers_are_handed_out(rt: HostRuntime) {
-    let mut framer = Framer::new(rt.alloc());
-    let bytes =
-        b"PUT / HTTP/1.1\r\nmod-length: 1\r\nVersion-Time: \t2024-02-29T23:59:59Z \r\nMOD-LENGTH:2\r\nVersion-Times: x\r\n\r\n";
-    assert!(rt; framer.feed(bytes).is_ok());
-    match framer.next() {
-        Ok(Next::Message(message)) => {
-            assert!(rt; message.mod_lengths.len() == 2);
-            assert!(rt; message.mod_lengths[0].as_slice() == b"1".as_slice());
-            assert!(rt; message.mod_lengths[1].as_slice() == b"2".as_slice());
-            assert!(rt; message.version_times.len() == 1);
-            assert!(rt; message.version_times[0].as_slice() == b"2024-02-29T23:59:59Z".as_slice());
-        }
-        _ => assert!(rt; false),
-    }
-}
-
-/// What the first bytes of a stream give, as a word.
-fn answer(alloc: Global, bytes: &[u8]) -> Result<&'static str, Memory> {
-    let mut framer = Framer::new(alloc);
-    framer.feed(bytes)?;
-    Ok(match framer.next()? {
-        Next::Message(_) => "message",
-        Next::NeedMore => "more",
-        Next::Bad(Bad::BadRequest) => "400",
-        Next::Bad(Bad::TooLarge) => "413",
-    })
-}
-
-/// First bytes of streams, and what each gives; `;` stands for a newline.
-const FRONTS: &str = "\
-GET / HTTP/1.0;;|message
-\r;\r;GET / HTTP/1.1\r;\r;|message
-GET / HTTP/1.1\r;content-length: 0\r;\r;|message
-GET /ü HTTP/1.1\r;\r;|message
-GET / HTTP/1.1\r;Content-Length: 1\r;\r;ab|message
-GET / HTTP/1.1\r;Content-Length: \t1 \r;\r;a|message
-|more
-\r;\r;|more
-GET / HTTP/1.1\r;Content-Length: 17825792\r;\r;|more
-GET / HTTP/1.1\r;Content-Length: 17825793\r;\r;|413
-GET / HTTP/1.1\r;Content-Length: 9999999999\r;\r;|413
-GET / HTTP/1.1\r;Content-Length: 10000000000\r;\r;|400
-GET / HTTP/1.1\r;Content-Length: \r;\r;|400
-GET / HTTP/1.1\r;Content-Length: 00\r;\r;|400
-GET / HTTP/1.1\r;Content-Length: +23\r;\r;|400
-GET / HTTP/1.1\r;Content-Length: 023\r;\r;|400
-GET / HTTP/1.1\r;Content-Length: 0x17\r;\r;|400
-GET / HTTP/1.1\r;Content-Length: 99999999999\r;\r;|400
-GET / HTTP/1.1\r;Content-Length: 1\r;Content-Length: 1\r;\r;a|400
-GET / HTTP/1.1\r;Transfer-Encoding: identity\r;\r;|400
-GET / HTTP/1.1\r;Content-Length: 9999999999\r;transfer-encoding: x\r;\r;|400
-GET / HTTP/2.0\r;\r;|400
-PUT / HTTP/1.1;Content-Length: 1;;a|message
-GET / HTTP/1.1\r;Content-Length : 1\r;\r;a|400
-GET / HTTP/1.1\r;Content-Length: 1, 1\r;\r;a|400
-GET / HTTP/1.1\r;Content-Length: 1\r; 2\r;\r;a|400
-GET / HTTP/1.1\r;Transfer-Encoding:\r;\r;|400
-GET /\u{0} HTTP/1.1\r;\r;|400
-";
-
-#[test]
-fn fronts_are_what_they_are(rt: HostRuntime) -> Result<(), Fail> {
-    for row in FRONTS.lines() {
-        let bytes = with_lines(rt.alloc(), column(row, 0))?;
-        assert!(rt;
-            answer(rt.alloc(), bytes.as_bytes())? == column(row, 1),
-            "{row}"
-        );
-    }
-    assert!(rt; answer(rt.alloc(), b"GET /\xff HTTP/1.1\r\n\r\n")? == "400");
-    Ok(())
-}
-
-/// What a stream gives that comes byte by byte, as a word, and how many of its bytes had come by then.
-fn answer_by_bytes(alloc: Global, bytes: &[u8]) -> Result<(&'static str, usize), Memory> {
-    let mut framer = Framer::new(alloc);
-    let mut fed = 0usize;
-    for byte in bytes {
-        framer.feed(&[*byte])?;
-        fed = fed.saturating_add(1);
-        match framer.next()? {
-            Next::NeedMore => {}
-            Next::Message(_) => return Ok(("message", fed)),
-            Next::Bad(Bad::BadRequest) => return Ok(("400", fed)),
-            Next::Bad(Bad::TooLarge) => return Ok(("413", fed)),
-        }
-    }
-    Ok(("more", fed))
-}
-
-#[test]
-fn fronts_may_come_by_bytes(rt: HostRuntime) -> Result<(), Fail> {
-    for row in FRONTS.lines() {
-        let bytes = with_lines(rt.alloc(), column(row, 0))?;
-        let (given, _) = answer_by_bytes(rt.alloc(), bytes.as_bytes())?;
-        assert!(rt; given == column(row, 1), "{row}");
-    }
-    Ok(())
-}
-
-/// Bytes that no head can go on from their last one on; `;` stands for a newline.
-const BROKEN_OFF: &str = "\
-G(
-\rG
-;\ra
-GET\t
-GET  
-GET /\t
-GET / X
-GET / HTTP/1.2
-GET / HTTP/1.1\ra
-GET / HTTP/1.1\r;:
-GET / HTTP/1.1\r; 
-GET / HTTP/1.1\r;A 
-GET / HTTP/1.1\r;A\t
-GET / HTTP/1.1\r;A: b\u{0}
-GET / HTTP/1.1\r;A: b\rc
-GET / HTTP/1.1\r;A: b\r;\ra
-";
-
-#[test]
-fn a_malformed_head_is_refused_at_its_byte(rt: HostRuntime) -> Result<(), Fail> {
-    for row in BROKEN_OFF.lines() {
-        let bytes = with_lines(rt.alloc(), row)?;
-        let (given, fed) = answer_by_bytes(rt.alloc(), bytes.as_bytes())?;
-        assert!(rt; given == "400" && fed == bytes.len(), "{row}");
-    }
-    Ok(())
-}
-
-/// A head of so many headers, of which the last is this one, and of at least so many bytes; an empty line stands before it.
-fn head_of(alloc: Global, headers: u8, last: &[u8], length: usize) -> Result<Vec<u8>, Memory> {
-    let mut head = Vec::from_slice(alloc, b"\r\nGET / HTTP/1.1\r\n")?;
-    for _ in 1..headers {
-        head.extend_from_slice(b"A: b\r\n")?;
-    }
-    head.extend_from_slice(last)?;
-    for _ in 0..length.saturating_sub(head.len()).saturating_sub(4) {
-        head.push(b'c')?;
-    }
-    head.extend_from_slice(b"\r\n\r\n")?;
-    Ok(head)
-}
-
-/// Heads: how many headers; the last of them, where `;` stands for a newline; how many bytes at least; and what each gives.
-const HEADS: &str = "\
-64|A: b|0|message
-65|A: b|0|400
-65|Content-Length: 9999999999|0|400
-1|A: |16384|message
-1|A: |16385|400
-1|Content-Length: 9999999999\r;A: |16385|400
-";
-
-#[test]
-fn heads_have_limits(rt: HostRuntime) -> Result<(), Fail> {
-    for row in HEADS.lines() {
-        let headers = column(row, 0).parse::<u8>()?;
-        let last = with_lines(rt.alloc(), column(row, 1))?;
-        let length = column(row, 2).parse::<usize>()?;
-        let head = head_of(rt.alloc(), headers, last.as_bytes(), length)?;
-        assert!(rt; length == 0 || head.len() == length, "{row}");
-        assert!(rt; answer(rt.alloc(), &head)? == column(row, 3), "{row}");
-    }
-    Ok(())
-}
-
-/// At their limits too: of a header too many the line is waited for.
-#[test]
-fn a_long_head_may_come_by_bytes(rt: HostRuntime) -> Result<(), Fail> {
-    let many = head_of(rt.alloc(), 64, b"A: b", 0)?;
-    assert!(rt; answer_by_bytes(rt.alloc(), &many)? == ("message", many.len()));
-    let more = head_of(rt.alloc(), 65, b"A: b", 0)?;
-    assert!(rt; answer_by_bytes(rt.alloc(), &more)? == ("400", more.len().saturating_sub(2)));
-    let long = head_of(rt.alloc(), 1, b"A: ", 16_384)?;
-    assert!(rt; answer_by_bytes(rt.alloc(), &long)? == ("message", 16_384));
-    let longer = head_of(rt.alloc(), 1, b"A: ", 16_385)?;
-    assert!(rt; answer_by_bytes(rt.alloc(), &longer)? == ("400", 16_384));
-    Ok(())
-}
-
-/// The first so many bytes.
-fn first(bytes: &[u8], count: usize) -> &[u8] {
-    &bytes[..count.min(bytes.len())]
-}
-
-/// A head that is not whole, and then empty lines alone, which belong to the head that they stand before.
-#[test]
-fn a_head_is_waited_for_up_to_its_limit(rt: HostRuntime) -> Result<(), Fail> {
-    let head = head_of(rt.alloc(), 1, b"A: ", 20_000)?;
-    assert!(rt; answer(rt.alloc(), first(&head, 16_383))? == "more");
-    assert!(rt; answer(rt.alloc(), first(&head, 16_384))? == "400");
-    let lines = vec![in rt.alloc(); b'\n'; 16_384]?;
-    assert!(rt; answer(rt.alloc(), first(&lines, 16_383))? == "more");
-    assert!(rt; answer(rt.alloc(), &lines)? == "400");
-    Ok(())
-}
-
-/// The line after a message belongs to the head of the next one.
-#[test]
-fn a_line_after_a_message_is_kept(rt: HostRuntime) {
-    let mut framer = Framer::new(rt.alloc());
-    assert!(rt; framer.feed(b"GET / HTTP/1.1\r\n\r\n\r\n").is_ok());
-    assert!(rt; matches!(framer.next(), Ok(Next::Message(_))));
-    assert!(rt; matches!(framer.next(), Ok(Next::NeedMore)));
-    assert!(rt; !framer.is_empty());
-}
-
-#[test]
-fn a_failed_stream_stays_failed(rt: HostRuntime) {
-    let mut framer = Framer::new(rt.alloc());
-    let front = b"GET / HTTP/1.1\r\nContent-Length: 9999999999\r\n\r\n";
-    assert!(rt; framer.feed(front).is_ok());
-    assert!(rt; matches!(framer.next(), Ok(Next::Bad(Bad::TooLarge))));
-    assert!(rt; framer.feed(PUT).is_ok());
-    assert!(rt; matches!(framer.next(), Ok(Next::Bad(Bad::TooLarge))));
-    assert!(rt; !framer.is_empty());
 }

@@ -1,9 +1,16 @@
 //! go.mod files in the style of public modules, and what they say, worked out by hand.
 use crate::rows::column;
-use gomod::{GoMod, Requirement};
+use gomod::GoMod;
 use modver::{Version, VersionFault};
 use std::alloc::{AllocError, Global};
 use std::test::Fail;
+
+/// How a file with many intervals begins.
+const MANY: &str = "\
+example.com/many||v1.0.0 v1.0.5 v1.7.3 v1.149.0 v1.150.5 v1.298.0 v1.299.1-rc.1 v1.299.5|v1.0.0-rc.1 v1.0.6 v1.7.6 v1.8.0-rc.1 v1.149.6 v1.298.7 v1.299.6 v1.300.0
+module example.com/many
+retract (
+";
 
 /// Files, with `====` between them. The first line says of the file below it: the module's path; what it requires; versions that it
 /// retracts; and versions that it does not.
@@ -250,19 +257,14 @@ go 1.9.2\r
 require (\r
 )";
 
-/// Puts a requirement behind the others, as words.
-fn push_words(words: &mut String, requirement: &Requirement) -> Result<(), AllocError> {
-    words.push_str(requirement.path.as_str())?;
-    words.push_str(" ")?;
-    words.push_str(requirement.version.as_str())?;
-    words.push_str(" ")
-}
-
 /// What a file requires, as words.
 fn required(alloc: Global, module: &GoMod) -> Result<String, AllocError> {
     let mut words = String::new(alloc);
     for requirement in module.required() {
-        push_words(&mut words, requirement)?;
+        words.push_str(requirement.path.as_str())?;
+        words.push_str(" ")?;
+        words.push_str(requirement.version.as_str())?;
+        words.push_str(" ")?;
     }
     Ok(words)
 }
@@ -270,53 +272,51 @@ fn required(alloc: Global, module: &GoMod) -> Result<String, AllocError> {
 /// Whether a file retracts each of these versions, or none.
 fn retracts(alloc: Global, module: &GoMod, texts: &str, each: bool) -> Result<bool, VersionFault> {
     for text in texts.split_whitespace() {
-        let version = Version::parse(alloc, text)?;
-        if module.retracts(&version) != each {
+        if module.retracts(&Version::parse(alloc, text)?) != each {
             return Ok(false);
         }
     }
     Ok(true)
 }
 
-#[test]
-fn files_require_and_retract(rt: HostRuntime) -> Result<(), Fail> {
-    for file in FILES.split("====\n") {
-        let (said, text) = file.split_once('\n').ok_or("no file")?;
-        let module = GoMod::read(rt.alloc(), text.as_bytes())?;
-        assert!(rt; module.module().as_str() == column(said, 0), "{said}");
-        assert!(rt;
-            required(rt.alloc(), &module)?.as_str() == column(said, 1),
-            "{said}"
-        );
-        assert!(rt;
-            retracts(rt.alloc(), &module, column(said, 2), true)?,
-            "{said}"
-        );
-        assert!(rt;
-            retracts(rt.alloc(), &module, column(said, 3), false)?,
-            "{said}"
-        );
-    }
-    Ok(())
+/// Whether a file says what its first line says of it.
+fn says(alloc: Global, said: &str, text: &str) -> Result<bool, Fail> {
+    let module = GoMod::read(alloc, text.as_bytes())?;
+    Ok(
+        module.module().as_str() == column(said, 0)
+            && required(alloc, &module)?.as_str() == column(said, 1)
+            && retracts(alloc, &module, column(said, 2), true)?
+            && retracts(alloc, &module, column(said, 3), false)?,
+    )
 }
 
-/// A go.mod that retracts the first patches of each minor version, the last version first.
-fn with_retractions(alloc: Global, minors: u32) -> Result<String, AllocError> {
-    let mut text = String::from_str(alloc, "module example.com/many\nretract (\n")?;
-    for minor in (0..minors).rev() {
-        writeln!(text, "[v1.{minor}.0, v1.{minor}.5]").map_err(|_| AllocError)?;
+/// A file whose go.mod retracts the first patches of 300 minor versions, the last version first.
+fn with_retractions(alloc: Global) -> Result<String, AllocError> {
+    let mut text = String::from_str(alloc, MANY)?;
+    for minor in (0..300u32).rev() {
+        let interval = format!(in alloc; "[v1.{minor}.0, v1.{minor}.5]\n")?;
+        text.push_str(interval.as_str())?;
     }
     text.push_str(")\n")?;
     Ok(text)
 }
 
+/// The first line of the first file that does not say what it should; empty if there is none.
+fn wrong_file<'a>(alloc: Global, files: &'a str) -> Result<&'a str, Fail> {
+    for file in files.split("====\n") {
+        let (said, text) = file.split_once('\n').ok_or("a file of one line")?;
+        if !says(alloc, said, text)? {
+            return Ok(said);
+        }
+    }
+    Ok("")
+}
+
 #[test]
-fn each_of_many_intervals_retracts(rt: HostRuntime) -> Result<(), Fail> {
-    let text = with_retractions(rt.alloc(), 300)?;
-    let module = GoMod::read(rt.alloc(), text.as_bytes())?;
-    let within = "v1.0.0 v1.0.5 v1.7.3 v1.149.0 v1.150.5 v1.298.0 v1.299.1-rc.1 v1.299.5";
-    let outside = "v1.0.0-rc.1 v1.0.6 v1.7.6 v1.8.0-rc.1 v1.149.6 v1.298.7 v1.299.6 v1.300.0";
-    assert!(rt; retracts(rt.alloc(), &module, within, true)?, "{within}");
-    assert!(rt; retracts(rt.alloc(), &module, outside, false)?, "{outside}");
+fn files_require_and_retract(rt: HostRuntime) -> Result<(), Fail> {
+    let wrong = wrong_file(rt.alloc(), FILES)?;
+    assert!(rt; wrong.is_empty(), "{wrong}");
+    let many = with_retractions(rt.alloc())?;
+    assert!(rt; wrong_file(rt.alloc(), many.as_str())?.is_empty());
     Ok(())
 }

@@ -1,12 +1,25 @@
 //! The worked rows of what shelves are made of: module paths, versions, go.mod files, the latest version, go.sum lines, and the
 //! messages and replies of HTTP/1.1.
 //!
-//! Each table is a text whose lines are rows, and each public function of the crates below is run on one at least. Expected values
-//! are those of the public standards, worked out by hand or made by another program.
+//! Each table is one text whose lines are rows, and `rows::wrong_row` returns the first row that does not hold. At least one row calls
+//! each public function of the crates below. Expected values are those of the public standards, worked out by hand or made by
+//! another program.
+//!
+//! | module | calls of | its rows show |
+//! |---|---|---|
+//! | `module_paths` | `modpath` | module paths, loose paths, their suffixes and faults; escaped forms |
+//! | `versions` | `modver` | versions, their classes and faults; times; copies; the paths that a version fits |
+//! | `orders` | `modver` | precedence and rank, each list compared with each of its versions; keys byte by byte |
+//! | `tokens` | `modlex` | tokens of texts and lines, what they stand for, and faults |
+//! | `gomod_faults` | `gomod` | what reads as a go.mod, what is bare, and the first fault of the others |
+//! | `gomod_files` | `gomod` | what whole files require and retract |
+//! | `latest_versions` | `latest` | the highest version, and the latest |
+//! | `hashes` | `gosum` | hashes and go.sum lines |
+//! | `targets` | `wire`, `text` | what requests ask for |
+//! | `framing` | `wire` | messages and the ends of streams, however they are cut; lengths |
+//! | `replies` | `wire` | replies, heads and the bodies of `.info` |
 #![tactic(auto)]
 
-#[cfg(test)]
-mod escapes;
 #[cfg(test)]
 mod framing;
 #[cfg(test)]
@@ -18,11 +31,7 @@ mod hashes;
 #[cfg(test)]
 mod latest_versions;
 #[cfg(test)]
-mod lengths;
-#[cfg(test)]
 mod module_paths;
-#[cfg(test)]
-mod order_keys;
 #[cfg(test)]
 mod orders;
 #[cfg(test)]

@@ -1,148 +1,163 @@
-//! Module paths and loose paths. (Go Modules Reference, "Module paths" and "Major version suffixes".)
-use crate::rows::{column, named};
+//! Module paths, loose paths and their escaped form. (Go Modules Reference, "Module paths", "Major version suffixes" and "GOPROXY
+//! protocol".)
+use crate::rows::{Subject, column, named, wrong_row};
 use modpath::{
-    LoosePath, ModulePath, PathError, PathFault, check, check_loose, loose_suffix, suffix,
+    LoosePath, ModulePath, PathError, check, check_loose, escape, loose_suffix, suffix, unescape,
 };
-use std::alloc::Global;
+use std::alloc::{AllocError, Global};
 use std::test::Fail;
 
-/// Texts, and the fault that a check of each as a module path finds.
-const PATHS: &str = "\
-gopkg.in/yaml.v2|-
-example.com/a/v2|-
-example.com/a~1b|-
-example.com/v|-
-gopkg.in/yaml.v0|-
-example.com/v18446744073709551615|-
-example.com/vendor|-
-|Empty
-example.com//a|Element
-/|Element
-///|Element
-example.com/a/|Element
-example.com/é|Element
-example.com/a b|Element
-example.com/.a|DotEnd
-example.com/a.|DotEnd
-example.com/con.b|Reserved
-CON.com/a|Reserved
-example.com/Lpt9|Reserved
-example.com/b~1|Tilde
-example.com/a~1.b|Tilde
-Example.com/a|First
-example|First
--example.com/a|First
-example.com/a/v1|Suffix
-example.com/a/v02|Suffix
-example.com/a/v2.0|Suffix
-example.com/v0|Suffix
-example.com/v18446744073709551616|Suffix
-gopkg.in/yaml|Suffix
-gopkg.in/yaml.v02|Suffix
-gopkg.in/yaml.v18446744073709551616|Suffix
-gopkg.in/v2|Suffix
-mymod/v2|First
+/// - `path` and `loose`: a text, and the major version suffix of the path that it writes, or its fault. A path has at most 255 bytes.
+/// - `escape` and `unescape`: a text, and its other form or its fault.
+const ROWS: &str = "\
+path|gopkg.in/yaml.v2|Dot(2)
+path|example.com/a/v2|Slash(2)
+path|example.com/a~1b|None
+path|example.com/v|None
+path|gopkg.in/yaml.v0|Dot(0)
+path|example.com/v18446744073709551615|Slash(18446744073709551615)
+path|example.com/vendor|None
+path||Empty
+path|example.com//a|Element
+path|/|Element
+path|///|Element
+path|example.com/a/|Element
+path|example.com/é|Element
+path|example.com/a b|Element
+path|example.com/.a|DotEnd
+path|example.com/a.|DotEnd
+path|example.com/con.b|Reserved
+path|CON.com/a|Reserved
+path|example.com/Lpt9|Reserved
+path|example.com/b~1|Tilde
+path|example.com/a~1.b|Tilde
+path|Example.com/a|First
+path|example|First
+path|-example.com/a|First
+path|example.com/a/v1|Suffix
+path|example.com/a/v02|Suffix
+path|example.com/a/v2.0|Suffix
+path|example.com/v0|Suffix
+path|example.com/v18446744073709551616|Suffix
+path|gopkg.in/yaml|Suffix
+path|gopkg.in/yaml.v02|Suffix
+path|gopkg.in/yaml.v18446744073709551616|Suffix
+path|gopkg.in/v2|Suffix
+path|mymod/v2|First
+path|example.com|None
+path|example.com/aaaaaaaaaaaaaaaaaaaaaaaaaaaaaaaaaaaaaaaaaaaaaaaaaaaaaaaaaaaaaaaaaaaaaaaaaaaaaaaaaaaaaaaaaaaaaaaaaaaaaaaaaaaaaaaaaaaaaaaaaaaaaaaaaaaaaaaaaaaaaaaaaaaaaaaaaaaaaaaaaaaaaaaaaaaaaaaaaaaaaaaaaaaaaaaaaaaaaaaaaaaaaaaaaaaaaaaaaaaaaaaaaaaaaaaaaaaaaaaaaaa|None
+path|example.com/aaaaaaaaaaaaaaaaaaaaaaaaaaaaaaaaaaaaaaaaaaaaaaaaaaaaaaaaaaaaaaaaaaaaaaaaaaaaaaaaaaaaaaaaaaaaaaaaaaaaaaaaaaaaaaaaaaaaaaaaaaaaaaaaaaaaaaaaaaaaaaaaaaaaaaaaaaaaaaaaaaaaaaaaaaaaaaaaaaaaaaaaaaaaaaaaaaaaaaaaaaaaaaaaaaaaaaaaaaaaaaaaaaaaaaaaaaaaaaaaaaaa|TooLong
+loose|mymod|None
+loose|Example.com/a|None
+loose|example.com/a/v2|Slash(2)
+loose|gopkg.in|None
+loose||Empty
+loose|mymod/|Element
+loose|mymod/.a|DotEnd
+loose|mymod/NUL|Reserved
+loose|mymod/a~12|Tilde
+loose|mymod/v1|Suffix
+loose|gopkg.in/mymod|Suffix
+loose|example.com//a|Element
+loose|example.com/a.|DotEnd
+loose|CON.com/a|Reserved
+loose|example.com/b~1|Tilde
+loose|mymod/v2|Slash(2)
+loose|example.com/a/v1|Suffix
+loose|gopkg.in/yaml.v0|Dot(0)
+loose|example.com/v|None
+loose|example.com|None
+loose|example.com/aaaaaaaaaaaaaaaaaaaaaaaaaaaaaaaaaaaaaaaaaaaaaaaaaaaaaaaaaaaaaaaaaaaaaaaaaaaaaaaaaaaaaaaaaaaaaaaaaaaaaaaaaaaaaaaaaaaaaaaaaaaaaaaaaaaaaaaaaaaaaaaaaaaaaaaaaaaaaaaaaaaaaaaaaaaaaaaaaaaaaaaaaaaaaaaaaaaaaaaaaaaaaaaaaaaaaaaaaaaaaaaaaaaaaaaaaaaaaaaaaaa|None
+loose|example.com/aaaaaaaaaaaaaaaaaaaaaaaaaaaaaaaaaaaaaaaaaaaaaaaaaaaaaaaaaaaaaaaaaaaaaaaaaaaaaaaaaaaaaaaaaaaaaaaaaaaaaaaaaaaaaaaaaaaaaaaaaaaaaaaaaaaaaaaaaaaaaaaaaaaaaaaaaaaaaaaaaaaaaaaaaaaaaaaaaaaaaaaaaaaaaaaaaaaaaaaaaaaaaaaaaaaaaaaaaaaaaaaaaaaaaaaaaaaaaaaaaaaa|TooLong
+escape|example.com/Lib|example.com/!lib
+unescape|example.com/!lib|example.com/Lib
+escape||
+unescape||
+escape|example.com/AZ|example.com/!a!z
+unescape|example.com/!a!z|example.com/AZ
+escape|v1.0.0-RC.1|v1.0.0-!r!c.1
+unescape|v1.0.0-!r!c.1|v1.0.0-RC.1
+escape|é/Ä|é/Ä
+unescape|é/Ä|é/Ä
+unescape|A!|Upper
+unescape|!1A|Bang
+unescape|a!|Bang
+unescape|!A|Bang
+unescape|!!a|Bang
+unescape|example.com/Lib|Upper
+unescape|example.com/!1|Bang
+unescape|!é|Bang
 ";
 
-/// The same of loose paths.
-const LOOSE: &str = "\
-mymod|-
-Example.com/a|-
-example.com/a/v2|-
-gopkg.in|-
-|Empty
-mymod/|Element
-mymod/.a|DotEnd
-mymod/NUL|Reserved
-mymod/a~12|Tilde
-mymod/v1|Suffix
-gopkg.in/mymod|Suffix
-example.com//a|Element
-example.com/a.|DotEnd
-CON.com/a|Reserved
-example.com/b~1|Tilde
-mymod/v2|-
-example.com/a/v1|Suffix
-";
-
-/// Paths and their major version suffixes, as module paths and as loose paths.
-const SUFFIXES: &str = "\
-gopkg.in/yaml.v0|Dot(0)
-example.com/a/v2|Slash(2)
-example.com/v|None
-example.com|None
-";
-
-/// Whether a module path is made of a text where no fault is found, and keeps the text, and otherwise has this fault.
-fn keeps(alloc: Global, text: &str, fault: Option<PathFault>) -> bool {
-    match (ModulePath::parse(alloc, text), fault) {
-        (Ok(path), None) => path.as_str() == text,
-        (Err(PathError::Fault(told)), Some(fault)) => told == fault,
-        _ => false,
+/// The suffix of a module path, or the fault of its text; `-` if `check` and `ModulePath::parse` differ.
+fn path(alloc: Global, text: &str) -> Result<String, AllocError> {
+    let checked = check(text).err();
+    match ModulePath::parse(alloc, text) {
+        Ok(path) => {
+            let same = checked.is_none() && path.as_str() == text;
+            named(alloc, if same { Some(suffix(&path)) } else { None })
+        }
+        Err(PathError::Fault(fault)) => named(
+            alloc,
+            if checked == Some(fault) {
+                checked
+            } else {
+                None
+            },
+        ),
+        Err(PathError::Memory) => Err(AllocError),
     }
 }
 
-/// The same of a loose path.
-fn keeps_loose(alloc: Global, text: &str, fault: Option<PathFault>) -> bool {
-    match (LoosePath::parse(alloc, text), fault) {
-        (Ok(path), None) => path.as_str() == text,
-        (Err(PathError::Fault(told)), Some(fault)) => told == fault,
-        _ => false,
+/// The suffix of a loose path, or the fault of its text; `-` if `check_loose` and `LoosePath::parse` differ.
+fn loose(alloc: Global, text: &str) -> Result<String, AllocError> {
+    let checked = check_loose(text).err();
+    match LoosePath::parse(alloc, text) {
+        Ok(path) => {
+            let same = checked.is_none() && path.as_str() == text;
+            named(
+                alloc,
+                if same {
+                    Some(loose_suffix(&path))
+                } else {
+                    None
+                },
+            )
+        }
+        Err(PathError::Fault(fault)) => named(
+            alloc,
+            if checked == Some(fault) {
+                checked
+            } else {
+                None
+            },
+        ),
+        Err(PathError::Memory) => Err(AllocError),
+    }
+}
+
+/// What an escaped form stands for, or its fault.
+fn unescaped(alloc: Global, text: &str) -> Result<String, AllocError> {
+    match unescape(alloc, text) {
+        Ok(plain) => Ok(plain),
+        Err(fault) => format!(in alloc; "{fault:?}"),
+    }
+}
+
+/// What the call of a row returns.
+pub fn given(alloc: Global, row: &str) -> Result<String, AllocError> {
+    let text = column(row, 1);
+    match column(row, 0) {
+        "path" => path(alloc, text),
+        "loose" => loose(alloc, text),
+        "escape" => escape(alloc, text),
+        _ => unescaped(alloc, text),
     }
 }
 
 #[test]
-fn texts_are_paths_or_have_a_fault(rt: HostRuntime) -> Result<(), Fail> {
-    for row in PATHS.lines() {
-        let text = column(row, 0);
-        let fault = check(text).err();
-        assert!(rt;
-            named(rt.alloc(), fault)?.as_str() == column(row, 1),
-            "{row}"
-        );
-        assert!(rt; keeps(rt.alloc(), text, fault), "{row}");
-    }
-    Ok(())
-}
-
-#[test]
-fn texts_are_loose_paths_or_have_a_fault(rt: HostRuntime) -> Result<(), Fail> {
-    for row in LOOSE.lines() {
-        let text = column(row, 0);
-        let fault = check_loose(text).err();
-        assert!(rt;
-            named(rt.alloc(), fault)?.as_str() == column(row, 1),
-            "{row}"
-        );
-        assert!(rt; keeps_loose(rt.alloc(), text, fault), "{row}");
-    }
-    Ok(())
-}
-
-#[test]
-fn a_path_has_at_most_255_bytes(rt: HostRuntime) -> Result<(), Fail> {
-    let name = "a".repeat(rt.alloc(), 243)?;
-    let longest = format!(in rt.alloc(); "example.com/{name}")?;
-    let too_long = format!(in rt.alloc(); "example.com/{name}a")?;
-    let fault = Some(PathFault::TooLong);
-    assert!(rt; longest.len() == 255);
-    assert!(rt; check(longest.as_str()).is_ok());
-    assert!(rt; check_loose(longest.as_str()).is_ok());
-    assert!(rt; check(too_long.as_str()).err() == fault);
-    assert!(rt; check_loose(too_long.as_str()).err() == fault);
-    assert!(rt; keeps(rt.alloc(), too_long.as_str(), fault));
-    assert!(rt; keeps_loose(rt.alloc(), too_long.as_str(), fault));
-    Ok(())
-}
-
-#[test]
-fn paths_have_suffixes(rt: HostRuntime) -> Result<(), Fail> {
-    for row in SUFFIXES.lines() {
-        let path = ModulePath::parse(rt.alloc(), column(row, 0))?;
-        let found = format!(in rt.alloc(); "{:?}", suffix(&path))?;
-        assert!(rt; found.as_str() == column(row, 1), "{row}");
-        let loose = LoosePath::parse(rt.alloc(), column(row, 0))?;
-        assert!(rt; loose_suffix(&loose) == suffix(&path), "{row}");
-    }
+fn paths_and_escaped_forms(rt: HostRuntime) -> Result<(), Fail> {
+    let wrong = wrong_row(rt.alloc(), Subject::Paths, ROWS)?;
+    assert!(rt; wrong.is_empty(), "{wrong}");
     Ok(())
 }

@@ -1,9 +1,56 @@
 //! The bytes of replies.
-use crate::rows::{column, named, with_lines};
+use crate::rows::{Subject, column, named, on_one_line, wrong_row};
 use modver::{Version, read_time};
-use std::alloc::Global;
+use std::alloc::{AllocError, Global};
 use std::test::Fail;
 use wire::{Fixed, Kind, StatusCode, fixed, fixed_line, info_body, put_head, reply_head};
+
+/// - `fixed` and `line`: a reply with a fixed body, and its bytes or its line.
+/// - `zip` and `made`: the head of a zip of no bytes, put into a buffer or made.
+/// - `info`: a version, its time, and the body of its `.info`.
+///
+/// `;` stands for a newline, and in `text/plain; charset=utf-8` for itself.
+const ROWS: &str = "\
+fixed|AlreadyPublished|HTTP/1.1 200 OK\r;Content-Type: text/plain; charset=utf-8\r;Content-Length: 18\r;Connection: close\r;\r;already published;
+fixed|Published|HTTP/1.1 201 Created\r;Content-Type: text/plain; charset=utf-8\r;Content-Length: 10\r;Connection: close\r;\r;published;
+fixed|BadRequest|HTTP/1.1 400 Bad Request\r;Content-Type: text/plain; charset=utf-8\r;Content-Length: 12\r;Connection: close\r;\r;bad request;
+fixed|BadModLength|HTTP/1.1 400 Bad Request\r;Content-Type: text/plain; charset=utf-8\r;Content-Length: 15\r;Connection: close\r;\r;bad mod-length;
+fixed|Forbidden|HTTP/1.1 403 Forbidden\r;Content-Type: text/plain; charset=utf-8\r;Content-Length: 10\r;Connection: close\r;\r;forbidden;
+fixed|NotFound|HTTP/1.1 404 Not Found\r;Content-Type: text/plain; charset=utf-8\r;Content-Length: 10\r;Connection: close\r;\r;not found;
+fixed|Conflict|HTTP/1.1 409 Conflict\r;Content-Type: text/plain; charset=utf-8\r;Content-Length: 9\r;Connection: close\r;\r;conflict;
+fixed|TooLarge|HTTP/1.1 413 Payload Too Large\r;Content-Type: text/plain; charset=utf-8\r;Content-Length: 10\r;Connection: close\r;\r;too large;
+fixed|MajorMismatch|HTTP/1.1 422 Unprocessable Entity\r;Content-Type: text/plain; charset=utf-8\r;Content-Length: 15\r;Connection: close\r;\r;major-mismatch;
+fixed|BadTime|HTTP/1.1 422 Unprocessable Entity\r;Content-Type: text/plain; charset=utf-8\r;Content-Length: 9\r;Connection: close\r;\r;bad-time;
+fixed|TimeMismatch|HTTP/1.1 422 Unprocessable Entity\r;Content-Type: text/plain; charset=utf-8\r;Content-Length: 14\r;Connection: close\r;\r;time-mismatch;
+fixed|BadGoMod(0)|HTTP/1.1 422 Unprocessable Entity\r;Content-Type: text/plain; charset=utf-8\r;Content-Length: 12\r;Connection: close\r;\r;bad-gomod 0;
+fixed|BadGoMod(18446744073709551615)|HTTP/1.1 422 Unprocessable Entity\r;Content-Type: text/plain; charset=utf-8\r;Content-Length: 31\r;Connection: close\r;\r;bad-gomod 18446744073709551615;
+fixed|ModulePath|HTTP/1.1 422 Unprocessable Entity\r;Content-Type: text/plain; charset=utf-8\r;Content-Length: 12\r;Connection: close\r;\r;module-path;
+fixed|IncompatibleGoMod|HTTP/1.1 422 Unprocessable Entity\r;Content-Type: text/plain; charset=utf-8\r;Content-Length: 19\r;Connection: close\r;\r;incompatible-gomod;
+fixed|Unavailable|HTTP/1.1 503 Service Unavailable\r;Content-Type: text/plain; charset=utf-8\r;Content-Length: 12\r;Connection: close\r;\r;unavailable;
+fixed|Full|HTTP/1.1 507 Insufficient Storage\r;Content-Type: text/plain; charset=utf-8\r;Content-Length: 5\r;Connection: close\r;\r;full;
+line|AlreadyPublished|200 already published
+line|Published|201 published
+line|BadRequest|400 bad request
+line|BadModLength|400 bad mod-length
+line|Forbidden|403 forbidden
+line|NotFound|404 not found
+line|Conflict|409 conflict
+line|TooLarge|413 too large
+line|MajorMismatch|422 major-mismatch
+line|BadTime|422 bad-time
+line|TimeMismatch|422 time-mismatch
+line|BadGoMod(0)|422 bad-gomod 0
+line|BadGoMod(18446744073709551615)|422 bad-gomod 18446744073709551615
+line|ModulePath|422 module-path
+line|IncompatibleGoMod|422 incompatible-gomod
+line|Unavailable|503 unavailable
+line|Full|507 full
+line|BadGoMod(4)|422 bad-gomod 4
+zip||HTTP/1.1 200 OK\r;Content-Type: application/zip\r;Content-Length: 0\r;Connection: close\r;\r;
+made||HTTP/1.1 200 OK\r;Content-Type: application/zip\r;Content-Length: 0\r;Connection: close\r;\r;
+info|v1.0.0||{\"Version\":\"v1.0.0\"}
+info|v1.0.0|2024-02-29T23:59:59Z|{\"Time\":\"2024-02-29T23:59:59Z\",\"Version\":\"v1.0.0\"}
+";
 
 const FIXED: &[Fixed] = &[
     Fixed::AlreadyPublished,
@@ -18,6 +65,7 @@ const FIXED: &[Fixed] = &[
     Fixed::BadTime,
     Fixed::TimeMismatch,
     Fixed::BadGoMod(0),
+    Fixed::BadGoMod(4),
     Fixed::BadGoMod(u64::MAX),
     Fixed::ModulePath,
     Fixed::IncompatibleGoMod,
@@ -25,86 +73,50 @@ const FIXED: &[Fixed] = &[
     Fixed::Full,
 ];
 
-/// The name of each, its length, and its status line; `;` stands for a newline.
-const LENGTHS: &str = "\
-AlreadyPublished|117|200 OK\r;
-Published|114|201 Created\r;
-BadRequest|120|400 Bad Request\r;
-BadModLength|123|400 Bad Request\r;
-Forbidden|116|403 Forbidden\r;
-NotFound|116|404 Not Found\r;
-Conflict|113|409 Conflict\r;
-TooLarge|124|413 Payload Too Large\r;
-MajorMismatch|132|422 Unprocessable Entity\r;
-BadTime|125|422 Unprocessable Entity\r;
-TimeMismatch|131|422 Unprocessable Entity\r;
-BadGoMod(0)|129|422 Unprocessable Entity\r;
-BadGoMod(18446744073709551615)|148|422 Unprocessable Entity\r;
-ModulePath|129|422 Unprocessable Entity\r;
-IncompatibleGoMod|136|422 Unprocessable Entity\r;
-Unavailable|128|503 Service Unavailable\r;
-Full|121|507 Insufficient Storage\r;
-";
-
-#[test]
-fn fixed_replies_have_their_lengths(rt: HostRuntime) -> Result<(), Fail> {
-    let mut buf = [0; 160];
-    for (answer, row) in FIXED.iter().zip(LENGTHS.lines()) {
-        let line = with_lines(rt.alloc(), column(row, 2))?;
-        let length = fixed(*answer, &mut buf);
-        assert!(rt;
-            named(rt.alloc(), Some(*answer))?.as_str() == column(row, 0),
-            "{row}"
-        );
-        assert!(rt;
-            named(rt.alloc(), Some(length))?.as_str() == column(row, 1),
-            "{row}"
-        );
-        assert!(rt; buf[9..].starts_with(line.as_bytes()), "{row}");
+/// The fixed reply of this name.
+fn reply_of(alloc: Global, name: &str) -> Result<Fixed, Fail> {
+    for answer in FIXED {
+        if named(alloc, Some(*answer))?.as_str() == name {
+            return Ok(*answer);
+        }
     }
-    Ok(())
+    Err(Fail::new("no such reply"))
 }
 
-#[test]
-fn fixed_replies_have_their_texts(rt: HostRuntime) {
+/// The body of the `.info` of a version and a time.
+fn info(alloc: Global, row: &str) -> Result<String, Fail> {
+    let version = Version::parse(alloc, column(row, 1))?;
+    on_one_line(
+        alloc,
+        &info_body(alloc, &version, read_time(column(row, 2)).ok())?,
+    )
+}
+
+/// What the call of a row returns.
+pub fn given(alloc: Global, row: &str) -> Result<String, Fail> {
     let mut buf = [0; 160];
-    let len = fixed(Fixed::NotFound, &mut buf);
-    assert!(rt;
-        &buf[..len]
-            == b"HTTP/1.1 404 Not Found\r\nContent-Type: text/plain; charset=utf-8\r\nContent-Length: 10\r\nConnection: close\r\n\r\nnot found\n".as_slice()
-    );
     let mut line = [0; 40];
-    let len = fixed_line(Fixed::BadGoMod(4), &mut line);
-    assert!(rt; &line[..len] == b"422 bad-gomod 4".as_slice());
-    let len = fixed_line(Fixed::Published, &mut line);
-    assert!(rt; &line[..len] == b"201 published".as_slice());
-}
-
-/// The head of a zip of no bytes, which has 88 bytes, into memory and onto the stack.
-#[test]
-fn heads_have_their_texts(rt: HostRuntime) {
-    let wanted =
-        b"HTTP/1.1 200 OK\r\nContent-Type: application/zip\r\nContent-Length: 0\r\nConnection: close\r\n\r\n";
-    assert!(rt; wanted.len() == 88);
-    let mut buf = [0; 160];
-    let len = put_head(Kind::Zip, 0, &mut buf);
-    assert!(rt; &buf[..len] == wanted.as_slice());
-    let head = reply_head(rt.alloc(), StatusCode::OK, Kind::Zip, 0);
-    assert!(rt; head.is_ok_and(|head| head.as_slice() == wanted.as_slice()));
-}
-
-/// Versions, their times, and the bodies of their `.info`.
-const INFOS: &str = "\
-v1.0.0||{\"Version\":\"v1.0.0\"}
-v1.0.0|2024-02-29T23:59:59Z|{\"Time\":\"2024-02-29T23:59:59Z\",\"Version\":\"v1.0.0\"}
-";
-
-#[test]
-fn info_bodies_have_their_texts(rt: HostRuntime) -> Result<(), Fail> {
-    for row in INFOS.lines() {
-        let version = Version::parse(rt.alloc(), column(row, 0))?;
-        let body = info_body(rt.alloc(), &version, read_time(column(row, 1)).ok())?;
-        assert!(rt; body.as_slice() == column(row, 2).as_bytes(), "{row}");
+    match column(row, 0) {
+        "info" => info(alloc, row),
+        "made" => on_one_line(alloc, &reply_head(alloc, StatusCode::OK, Kind::Zip, 0)?),
+        "zip" => {
+            let len = put_head(Kind::Zip, 0, &mut buf);
+            on_one_line(alloc, &buf[..len])
+        }
+        "line" => {
+            let len = fixed_line(reply_of(alloc, column(row, 1))?, &mut line);
+            on_one_line(alloc, &line[..len])
+        }
+        _ => {
+            let len = fixed(reply_of(alloc, column(row, 1))?, &mut buf);
+            on_one_line(alloc, &buf[..len])
+        }
     }
+}
+
+#[test]
+fn replies_have_their_bytes(rt: HostRuntime) -> Result<(), Fail> {
+    let wrong = wrong_row(rt.alloc(), Subject::Replies, ROWS)?;
+    assert!(rt; wrong.is_empty(), "{wrong}");
     Ok(())
 }

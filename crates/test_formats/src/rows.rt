@@ -1,10 +1,60 @@
-//! How rows are read: each stands on a line of a table, and `|` between its columns.
+//! How rows are read. A row is a line of a table, with `|` between its columns: the call, what it takes, and last what it returns.
+//! `;` stands for a newline and `ÿ` for the byte 255.
+use crate::{
+    framing, gomod_faults, hashes, latest_versions, module_paths, orders, replies, targets, tokens,
+    versions,
+};
 use modver::Version;
 use std::alloc::{AllocError, Global};
 use std::fmt::Debug;
 use std::test::Fail;
 
-/// A column of a row; one that is not there is empty.
+/// The module whose calls a table makes.
+#[derive(Clone, Copy)]
+pub enum Subject {
+    Framing,
+    GoModFaults,
+    Hashes,
+    Keys,
+    Latest,
+    Orders,
+    Paths,
+    Replies,
+    Targets,
+    Tokens,
+    Versions,
+}
+
+/// What the call of a row returns, as a text.
+fn given(alloc: Global, subject: Subject, row: &str) -> Result<String, Fail> {
+    match subject {
+        Subject::Framing => framing::given(alloc, row),
+        Subject::GoModFaults => Ok(gomod_faults::given(alloc, row)?),
+        Subject::Hashes => hashes::given(alloc, row),
+        Subject::Keys => orders::key(alloc, row),
+        Subject::Latest => latest_versions::given(alloc, row),
+        Subject::Orders => orders::given(alloc, row),
+        Subject::Paths => Ok(module_paths::given(alloc, row)?),
+        Subject::Replies => replies::given(alloc, row),
+        Subject::Targets => targets::given(alloc, row),
+        Subject::Tokens => Ok(tokens::given(alloc, row)?),
+        Subject::Versions => versions::given(alloc, row),
+    }
+}
+
+/// The first row whose call returns something else than its last column, and what it returns; empty if there is none.
+pub fn wrong_row(alloc: Global, subject: Subject, rows: &str) -> Result<String, Fail> {
+    for row in rows.lines() {
+        let (call, wanted) = row.rsplit_once('|').ok_or("a row of one column")?;
+        let given = given(alloc, subject, call)?;
+        if given.as_str() != wanted {
+            return Ok(format!(in alloc; "{row} returns {}", given.as_str())?);
+        }
+    }
+    Ok(String::new(alloc))
+}
+
+/// A column of a row; empty if the row has fewer.
 pub fn column(row: &str, place: usize) -> &str {
     row.split('|').nth(place).unwrap_or("")
 }
@@ -14,16 +64,34 @@ pub fn with_lines(alloc: Global, column: &str) -> Result<String, AllocError> {
     column.replace(alloc, ";", "\n")
 }
 
-/// The name of a fault, or a number, as a table has it; `-` for none.
-pub fn named<F: Debug + Copy>(alloc: Global, fault: Option<F>) -> Result<String, AllocError> {
-    match fault {
-        Some(fault) => format!(in alloc; "{fault:?}"),
+/// The bytes that a column writes with `;` for each newline and `ÿ` for each byte 255.
+pub fn bytes(alloc: Global, column: &str) -> Result<Vec<u8>, AllocError> {
+    let text = with_lines(alloc, column)?;
+    let mut bytes = Vec::new(alloc);
+    for (place, part) in text.split('ÿ').enumerate() {
+        if place > 0 {
+            bytes.push(255)?;
+        }
+        bytes.extend_from_slice(part.as_bytes())?;
+    }
+    Ok(bytes)
+}
+
+/// The text of these bytes, with `;` for each newline.
+pub fn on_one_line(alloc: Global, bytes: &[u8]) -> Result<String, Fail> {
+    Ok(str::from_utf8(bytes)?.replace(alloc, "\n", ";")?)
+}
+
+/// A value by its name; `-` for none.
+pub fn named<F: Debug + Copy>(alloc: Global, value: Option<F>) -> Result<String, AllocError> {
+    match value {
+        Some(value) => format!(in alloc; "{value:?}"),
         None => String::from_str(alloc, "-"),
     }
 }
 
 /// The versions that the words of a column write.
-pub fn versions(alloc: Global, column: &str) -> Result<Vec<Version>, Fail> {
+pub fn versions_of(alloc: Global, column: &str) -> Result<Vec<Version>, Fail> {
     let mut list = Vec::new(alloc);
     for text in column.split_whitespace() {
         list.push(Version::parse(alloc, text)?)?;

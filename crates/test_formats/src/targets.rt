@@ -1,54 +1,11 @@
 //! What requests ask for. (Go Modules Reference, "GOPROXY protocol".)
-use crate::rows::column;
-use modpath::ModulePath;
-use modver::Version;
-use std::alloc::Global;
+use crate::rows::{Subject, bytes, wrong_row};
+use std::alloc::{AllocError, Global};
 use std::test::Fail;
-use text::Text;
 use wire::{Memory, Query, RouteTable, Target, target};
 
-/// What is asked of a path, or of a version of it, as a text.
-fn of_path(alloc: Global, word: &str, key: &Text, path: &ModulePath) -> Result<String, Memory> {
-    Ok(format!(in alloc; "{word} {} {}", key.as_str(), path.as_str())?)
-}
-
-fn of_version(
-    alloc: Global,
-    word: &str,
-    key: &Text,
-    path: &ModulePath,
-    version: &Version,
-) -> Result<String, Memory> {
-    let mut line = of_path(alloc, word, key, path)?;
-    line.push_str(" ")?;
-    line.push_str(version.as_str())?;
-    Ok(line)
-}
-
-/// What a request asks for, as a text; `-` where it can't be read.
-fn shown(
-    alloc: Global,
-    routes: &mut RouteTable,
-    method: &[u8],
-    text: &[u8],
-) -> Result<String, Memory> {
-    match target(routes, method, text)? {
-        Target::Unreadable => Ok(String::from_str(alloc, "-")?),
-        Target::Get { key, query } => match query {
-            Query::Info { path, version } => of_version(alloc, "info", &key, &path, &version),
-            Query::GoMod { path, version } => of_version(alloc, "mod", &key, &path, &version),
-            Query::Zip { path, version } => of_version(alloc, "zip", &key, &path, &version),
-            Query::List { path } => of_path(alloc, "list", &key, &path),
-            Query::Latest { path } => of_path(alloc, "latest", &key, &path),
-            Query::Modules => Ok(format!(in alloc; "modules {}", key.as_str())?),
-            Query::GoSum { path, version } => of_version(alloc, "sum", &key, &path, &version),
-        },
-        Target::Put { key, path, version } => of_version(alloc, "put", &key, &path, &version),
-    }
-}
-
-/// Requests, one a line: the method and the target, and what they ask for; `-` where the target is not read.
-const TARGETS: &str = "\
+/// A method and a target, and what they ask for: the word, the key, the path and the version; `-` for an unreadable target.
+const ROWS: &str = "\
 GET /k/key/example.com/lib/@v/v1.0.0.info|info key example.com/lib v1.0.0
 GET /k/key/example.com/lib/@v/v1.0.0.mod|mod key example.com/lib v1.0.0
 GET /k/key/example.com/lib/@v/v1.0.0.zip|zip key example.com/lib v1.0.0
@@ -131,17 +88,97 @@ get /k/key/example.com/lib/@v/v1.0.0.mod|-
 get /k/key/-/modules|-
 HEAD /k/key/example.com/lib/@v/v1.0.0.mod|-
  /k/key/example.com/lib/@latest|-
+GET /k/kÿ/example.com/lib/@v/v1.0.0.mod|-
 ";
+
+/// What a query asks for, as a word.
+fn word(query: &Query) -> &'static str {
+    match query {
+        Query::Info { .. } => "info",
+        Query::GoMod { .. } => "mod",
+        Query::Zip { .. } => "zip",
+        Query::List { .. } => "list",
+        Query::Latest { .. } => "latest",
+        Query::Modules => "modules",
+        Query::GoSum { .. } => "sum",
+    }
+}
+
+/// The path of a query; empty if it names none.
+fn path(query: &Query) -> &str {
+    match query {
+        Query::Info { path, .. }
+        | Query::GoMod { path, .. }
+        | Query::Zip { path, .. }
+        | Query::List { path }
+        | Query::Latest { path }
+        | Query::GoSum { path, .. } => path.as_str(),
+        Query::Modules => "",
+    }
+}
+
+/// The version of a query; empty if it names none.
+fn version(query: &Query) -> &str {
+    match query {
+        Query::Info { version, .. }
+        | Query::GoMod { version, .. }
+        | Query::Zip { version, .. }
+        | Query::GoSum { version, .. } => version.as_str(),
+        Query::List { .. } | Query::Latest { .. } | Query::Modules => "",
+    }
+}
+
+/// The word, the key, the path and the version of a target, with spaces between them.
+fn shown(alloc: Global, target: &Target) -> Result<String, AllocError> {
+    match target {
+        Target::Unreadable => String::from_str(alloc, "-"),
+        Target::Put { key, path, version } => {
+            format!(in alloc;
+                "put {} {} {}",
+                key.as_str(),
+                path.as_str(),
+                version.as_str()
+            )
+        }
+        Target::Get { key, query } => {
+            format!(in alloc;
+                "{} {} {} {}",
+                word(query),
+                key.as_str(),
+                path(query),
+                version(query)
+            )
+        }
+    }
+}
+
+/// What a request asks for, as a text.
+fn asked(
+    alloc: Global,
+    routes: &mut RouteTable,
+    method: &str,
+    text: &[u8],
+) -> Result<String, Memory> {
+    let asked = target(routes, method.as_bytes(), text)?;
+    Ok(shown(alloc, &asked)?)
+}
+
+/// What the request of a row asks for, if a table of routes says so twice.
+pub fn given(alloc: Global, row: &str) -> Result<String, Fail> {
+    let (method, text) = row.split_once(' ').ok_or("no target")?;
+    let text = bytes(alloc, text)?;
+    let mut routes = RouteTable::new(alloc);
+    let first = asked(alloc, &mut routes, method, &text)?;
+    let again = asked(alloc, &mut routes, method, &text)?;
+    if first.as_str() != again.as_str() {
+        return Err(Fail::new("the table of routes answers otherwise the second time"));
+    }
+    Ok(String::from_str(alloc, first.as_str().trim_end())?)
+}
 
 #[test]
 fn targets_are_read(rt: HostRuntime) -> Result<(), Fail> {
-    let mut routes = RouteTable::new(rt.alloc());
-    for row in TARGETS.lines() {
-        let (method, text) = column(row, 0).split_once(' ').ok_or("no target")?;
-        let asked = shown(rt.alloc(), &mut routes, method.as_bytes(), text.as_bytes())?;
-        assert!(rt; asked.as_str() == column(row, 1), "{row}");
-    }
-    let text = b"/k/k\xff/example.com/lib/@v/v1.0.0.mod";
-    assert!(rt; shown(rt.alloc(), &mut routes, b"GET", text)?.as_str() == "-");
+    let wrong = wrong_row(rt.alloc(), Subject::Targets, ROWS)?;
+    assert!(rt; wrong.is_empty(), "{wrong}");
     Ok(())
 }

@@ -1,127 +1,92 @@
 //! Tokens of texts and of lines, and what they stand for. (Go Modules Reference, "go.mod files", lexical elements.)
-use modlex::{Span, Token, TokenFault, cut_line, first_tokens, line_tokens, tokens};
+use crate::rows::{Subject, column, named, with_lines, wrong_row};
+use modlex::{Token, TokenFault, cut_line, first_tokens, line_tokens, tokens};
 use std::alloc::{AllocError, Global};
 use std::borrow::CowStr;
 use std::test::Fail;
 
-/// A text, and its tokens: the kind, the line and the slice of each.
-const TEXT: &str = "go 1.21rc1\na => // x\n[\"b\\\"\",`c`]\n( =>x)";
-
-const TOKENS: &str = "\
-Name 1 go
-Name 1 1.21rc1
-Name 2 a
-Arrow 2 =>
-BracketLeft 3 [
-Quoted 3 \"b\\\"\"
-Comma 3 ,
-Raw 3 `c`
-BracketRight 3 ]
-ParenLeft 4 (
-Name 4 =>x
-ParenRight 4 )
+/// - `tokens`: a text, and the kind, line, span and slice of each token, or the fault.
+/// - `line_tokens` and `first_tokens`: line 7 of a text, from byte 20 on, and its tokens or the first two of them, or the fault.
+/// - `cut_line`: a text, and its first line and what follows; `-` for a text of one line.
+/// - `word`: a text of one token; whether it is a word, a name and the arrow; whether its value is a part of the text; and the value.
+const ROWS: &str = "\
+tokens|go 1.21rc1;a => // x;[\"b\\\"\",`c`];( =>x)|Name 1 0-2 go, Name 1 3-10 1.21rc1, Name 2 11-12 a, Arrow 2 13-15 =>, BracketLeft 3 21-22 [, Quoted 3 22-27 \"b\\\"\", Comma 3 27-28 ,, Raw 3 28-31 `c`, BracketRight 3 31-32 ], ParenLeft 4 33-34 (, Name 4 35-38 =>x, ParenRight 4 38-39 )
+tokens|a;b {|Lex(2)
+line_tokens|  a//b|Name 7 22-23 a
+line_tokens|a /* b|Lex(7)
+first_tokens|  a b c//d|Name 7 22-23 a, Name 7 24-25 b
+first_tokens|a b {|Lex(7)
+cut_line|a;b;c|(\"a\", \"b\\nc\")
+cut_line|a|-
+word|require|true true false true [require]
+word|\"a \\\\ \\\"b\\\"\"|true false false false [a \\ \"b\"]
+word|\"a b\"|true false false true [a b]
+word|`c\\d`|true false false true [c\\d]
+word|\"\"|true false false true []
+word|=>|false false true true [=>]
+word|,|false false false true [,]
 ";
 
-/// The kind, the line and the slice of each token.
+/// The kind, the line, the span and the slice of each token.
 fn shown(alloc: Global, found: &[Token]) -> Result<String, AllocError> {
     let mut text = String::new(alloc);
     for token in found {
-        writeln!(text, "{:?} {} {}", token.kind, token.line, token.text).map_err(|_| AllocError)?;
+        if !text.is_empty() {
+            text.push_str(", ")?;
+        }
+        let (kind, line, span) = (token.kind, token.line, token.span);
+        let one = format!(in alloc;
+            "{kind:?} {line} {}-{} {}",
+            span.start, span.end, token.text
+        )?;
+        text.push_str(one.as_str())?;
     }
     Ok(text)
 }
 
-/// Whether the span of each token is where its slice stands.
-fn are_at_their_spans(text: &str, found: &[Token]) -> bool {
-    for token in found {
-        if text.get(token.span.start..token.span.end) != Some(token.text) {
-            return false;
+/// The tokens that a call finds.
+fn found<'a>(alloc: Global, call: &str, text: &'a str) -> Result<Vec<Token<'a>>, TokenFault> {
+    match call {
+        "line_tokens" => line_tokens(alloc, 7, 20, text),
+        "first_tokens" => {
+            let mut found = tokens(alloc, "x y z")?;
+            first_tokens(&mut found, 2, 7, 20, text)?;
+            Ok(found)
         }
+        _ => tokens(alloc, text),
     }
-    true
+}
+
+/// What kind of word a token is, and its value.
+fn word(alloc: Global, token: &Token) -> Result<String, AllocError> {
+    let value = token.value(alloc)?;
+    let is_part = matches!(value, CowStr::Borrowed(_));
+    let (is_word, is_name, is_arrow) = (token.is_word(), token.is_name(), token.is_arrow());
+    format!(in alloc;
+        "{is_word} {is_name} {is_arrow} {is_part} [{}]",
+        value.as_str()
+    )
+}
+
+/// What the call of a row returns.
+pub fn given(alloc: Global, row: &str) -> Result<String, AllocError> {
+    let call = column(row, 0);
+    let text = with_lines(alloc, column(row, 1))?;
+    if call == "cut_line" {
+        return named(alloc, cut_line(text.as_str()));
+    }
+    match found(alloc, call, text.as_str()) {
+        Ok(list) => match list.as_slice() {
+            [token] if call == "word" => word(alloc, token),
+            all => shown(alloc, all),
+        },
+        Err(fault) => format!(in alloc; "{fault:?}"),
+    }
 }
 
 #[test]
 fn texts_have_tokens(rt: HostRuntime) -> Result<(), Fail> {
-    let found = tokens(rt.alloc(), TEXT)?;
-    assert!(rt; shown(rt.alloc(), found.as_slice())?.as_str() == TOKENS);
-    assert!(rt; are_at_their_spans(TEXT, found.as_slice()));
-    Ok(())
-}
-
-#[test]
-fn a_text_that_has_no_tokens_has_a_fault(rt: HostRuntime) {
-    assert!(rt; tokens(rt.alloc(), "a\nb {").err() == Some(TokenFault::Lex(2)));
-}
-
-#[test]
-fn lines_of_texts(rt: HostRuntime) {
-    assert!(rt; cut_line("a\nb\nc") == Some(("a", "b\nc")));
-    assert!(rt; cut_line("a") == None);
-    match line_tokens(rt.alloc(), 7, 20, "  a//b") {
-        Ok(found) => match found.as_slice() {
-            [token] => {
-                assert!(rt; token.line == 7 && token.text == "a");
-                assert!(rt; token.span == Span { start: 22, end: 23 });
-            }
-            _ => assert!(rt; false),
-        },
-        Err(_) => assert!(rt; false),
-    }
-    assert!(rt; line_tokens(rt.alloc(), 7, 0, "a /* b").err() == Some(TokenFault::Lex(7)));
-}
-
-#[test]
-fn first_tokens_of_lines(rt: HostRuntime) -> Result<(), Fail> {
-    let mut found = tokens(rt.alloc(), "x y z")?;
-    first_tokens(&mut found, 2, 7, 20, "  a b c//d")?;
-    match found.as_slice() {
-        [first, second] => {
-            assert!(rt; first.text == "a" && second.text == "b" && second.line == 7);
-            assert!(rt; second.span == Span { start: 24, end: 25 });
-        }
-        _ => assert!(rt; false),
-    }
-    assert!(rt; first_tokens(&mut found, 2, 7, 0, "a b {").err() == Some(TokenFault::Lex(7)));
-    Ok(())
-}
-
-/// A text of one token, whether it is a word, a name, the arrow, and the value that it stands for is
-/// a part of the text, and that value.
-const WORDS: &str = "\
-require|true|true|false|true|require
-\"a \\\\ \\\"b\\\"\"|true|false|false|false|a \\ \"b\"
-\"a b\"|true|false|false|true|a b
-`c\\d`|true|false|false|true|c\\d
-\"\"|true|false|false|true|
-=>|false|false|true|true|=>
-,|false|false|false|true|,
-";
-
-/// The columns of a text of one token behind it.
-fn columns(alloc: Global, text: &str) -> Result<String, TokenFault> {
-    let found = tokens(alloc, text)?;
-    match found.as_slice() {
-        [token] => shown_word(alloc, token),
-        _ => Ok(String::new(alloc)),
-    }
-}
-
-fn shown_word(alloc: Global, token: &Token) -> Result<String, TokenFault> {
-    let value = token.value(alloc)?;
-    let is_part = matches!(value, CowStr::Borrowed(_));
-    let (is_word, is_name, is_arrow) = (token.is_word(), token.is_name(), token.is_arrow());
-    Ok(format!(in alloc;
-        "{is_word}|{is_name}|{is_arrow}|{is_part}|{}",
-        value.as_str()
-    )?)
-}
-
-#[test]
-fn words_have_their_values(rt: HostRuntime) -> Result<(), Fail> {
-    for row in WORDS.lines() {
-        let (text, wanted) = row.split_once('|').ok_or("no columns")?;
-        assert!(rt; columns(rt.alloc(), text)?.as_str() == wanted, "{row}");
-    }
+    let wrong = wrong_row(rt.alloc(), Subject::Tokens, ROWS)?;
+    assert!(rt; wrong.is_empty(), "{wrong}");
     Ok(())
 }

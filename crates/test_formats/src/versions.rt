@@ -1,160 +1,167 @@
-//! Versions, their classes, and times. (Go Modules Reference, "Versions" and "Pseudo-versions".)
-use crate::rows::{column, named};
-use modver::{Class, TimeFault, Version, VersionFault, class, read_time};
-use std::alloc::Global;
+//! Versions, their classes, times, and the paths that they fit. (Go Modules Reference, "Versions" and "Pseudo-versions".)
+use crate::rows::{Subject, column, wrong_row};
+use modpath::{LoosePath, ModulePath};
+use modver::{Class, Version, class, fits, fits_loose, read_time};
+use std::alloc::{AllocError, Global};
 use std::test::Fail;
 
-/// Texts, and the fault for which each is no version.
-const VERSIONS: &str = "\
-1.0.0|Form
-v1.0|Form
-v01.0.0|Form
-v1.0.0-01|Form
-v18446744073709551616.0.0|Form
-v0.18446744073709551616.0|Form
-v0.0.18446744073709551616|Form
-v18446744073709551615.18446744073709551615.18446744073709551615|-
-|Form
-v|Form
-V1.0.0|Form
-v1.0.0-|Form
-v1.0.0-a..b|Form
-v1.0.0-é|Form
-v1.0.0+|Form
-v1.0.0+meta|Build
-v1.0.0+Incompatible|Build
-v1.0.0+incompatible.1|Build
-v1.0.0+incompatible|-
-v1.0.0-0A.01a.-|-
-v1.0.0-9999999999999999999999999999999999999999999999999999999999999999999999999999999999999999999999999999|-
-v1.0.0-aaaaaaaaaaaaaaaaaaaaaaaaaaaaaaaaaaaaaaaaaaaaaaaaaaaaaaaaaaaaaaaaaaaaaaaaaaaaaaaaaaaaaaaaaaaaaaaaaaaaaaaaaaaaaaaaaaaaaaaaa|-
-v1.0.0-aaaaaaaaaaaaaaaaaaaaaaaaaaaaaaaaaaaaaaaaaaaaaaaaaaaaaaaaaaaaaaaaaaaaaaaaaaaaaaaaaaaaaaaaaaaaaaaaaaaaaaaaaaaaaaaaaaaaaaaaaa|TooLong
-xxxxxxxxxxxxxxxxxxxxxxxxxxxxxxxxxxxxxxxxxxxxxxxxxxxxxxxxxxxxxxxxxxxxxxxxxxxxxxxxxxxxxxxxxxxxxxxxxxxxxxxxxxxxxxxxxxxxxxxxxxxxxxxxx|TooLong
-v1.0.0+mmmmmmmmmmmmmmmmmmmmmmmmmmmmmmmmmmmmmmmmmmmmmmmmmmmmmmmmmmmmmmmmmmmmmmmmmmmmmmmmmmmmmmmmmmmmmmmmmmmmmmmmmmmmmmmmmmmmmmmmmm|TooLong
+/// - `version`: a text, and the class of the version that it writes, its time for a pseudo-version, or its fault.
+/// - `time`: a text, and the time that it writes or its fault.
+/// - `copy`: a version, its copy, and whether the copy is marked `+incompatible`.
+/// - `fits` and `fits_loose`: a path, a version, and whether the version fits the path.
+const ROWS: &str = "\
+version|1.0.0|Form
+version|v1.0|Form
+version|v01.0.0|Form
+version|v1.0.0-01|Form
+version|v18446744073709551616.0.0|Form
+version|v0.18446744073709551616.0|Form
+version|v0.0.18446744073709551616|Form
+version|v18446744073709551615.18446744073709551615.18446744073709551615|release
+version||Form
+version|v|Form
+version|V1.0.0|Form
+version|v1.0.0-|Form
+version|v1.0.0-a..b|Form
+version|v1.0.0-é|Form
+version|v1.0.0+|Form
+version|v1.0.0+meta|Build
+version|v1.0.0+Incompatible|Build
+version|v1.0.0+incompatible.1|Build
+version|v1.0.0+incompatible|release
+version|v1.0.0-0A.01a.-|pre
+version|v1.0.0-9999999999999999999999999999999999999999999999999999999999999999999999999999999999999999999999999999|pre
+version|v1.0.0-aaaaaaaaaaaaaaaaaaaaaaaaaaaaaaaaaaaaaaaaaaaaaaaaaaaaaaaaaaaaaaaaaaaaaaaaaaaaaaaaaaaaaaaaaaaaaaaaaaaaaaaaaaaaaaaaaaaaaaaaa|pre
+version|v1.0.0-aaaaaaaaaaaaaaaaaaaaaaaaaaaaaaaaaaaaaaaaaaaaaaaaaaaaaaaaaaaaaaaaaaaaaaaaaaaaaaaaaaaaaaaaaaaaaaaaaaaaaaaaaaaaaaaaaaaaaaaaaa|TooLong
+version|xxxxxxxxxxxxxxxxxxxxxxxxxxxxxxxxxxxxxxxxxxxxxxxxxxxxxxxxxxxxxxxxxxxxxxxxxxxxxxxxxxxxxxxxxxxxxxxxxxxxxxxxxxxxxxxxxxxxxxxxxxxxxxxxx|TooLong
+version|v1.0.0+mmmmmmmmmmmmmmmmmmmmmmmmmmmmmmmmmmmmmmmmmmmmmmmmmmmmmmmmmmmmmmmmmmmmmmmmmmmmmmmmmmmmmmmmmmmmmmmmmmmmmmmmmmmmmmmmmmmmmmmmmm|TooLong
+version|v1.2.3|release
+version|v2.0.0+incompatible|release
+version|v1.2.3-pre|pre
+version|v0.0.0-20191109021931-daa7c04131f5|2019-11-09T02:19:31Z
+version|v3.0.0-20191109021931-daa7c04131f5+incompatible|2019-11-09T02:19:31Z
+version|v0.0.1-20191109021931-daa7c04131f5|pre
+version|v0.1.0-20191109021931-daa7c04131f5|pre
+version|v1.2.4-0.20191109021931-daa7c04131f5|2019-11-09T02:19:31Z
+version|v1.2.0-0.20191109021931-daa7c04131f5|pre
+version|v1.2.4-1.20191109021931-daa7c04131f5|pre
+version|v1.2.3-pre.0.20191109021931-daa7c04131f5|2019-11-09T02:19:31Z
+version|v1.2.0-0.0.20191109021931-daa7c04131f5|2019-11-09T02:19:31Z
+version|v1.2.3-pre.1.20191109021931-daa7c04131f5|pre
+version|v1.2.3-0.pre.20191109021931-daa7c04131f5|pre
+version|v0.0.0-2019110902193-daa7c04131f5|pre
+version|v0.0.0-20191109021931-daa7c04131f|pre
+version|v0.0.0-20191109021931-daa7c04131f55|pre
+version|v0.0.0-20191109021931-DAA7C04131F5|pre
+version|v0.0.0-20191109021931-daa7c04131fg|pre
+version|v0.0.0-20191109021931.daa7c04131f5|pre
+version|v0.0.0-20240230000000-aaaaaaaaaaaa|pre
+version|v1.0.0-0.20230101000000-bbbbbbbbbbbb|pre
+version|v0.0.0-20240229000000-aaaaaaaaaaaa|2024-02-29T00:00:00Z
+version|v0.0.0-20000229000000-aaaaaaaaaaaa|2000-02-29T00:00:00Z
+version|v0.0.0-19000229000000-aaaaaaaaaaaa|pre
+version|v0.0.0-00000101000000-aaaaaaaaaaaa|0000-01-01T00:00:00Z
+version|v0.0.0-99991231235959-aaaaaaaaaaaa|9999-12-31T23:59:59Z
+version|v0.0.0-20241301000000-aaaaaaaaaaaa|pre
+version|v0.0.0-20240100000000-aaaaaaaaaaaa|pre
+version|v0.0.0-20240101240000-aaaaaaaaaaaa|pre
+version|v0.0.0-20240101006000-aaaaaaaaaaaa|pre
+version|v0.0.0-20240101000060-aaaaaaaaaaaa|pre
+time|2024-02-29T23:59:59Z|2024-02-29T23:59:59Z
+time|0000-01-01T00:00:00Z|0000-01-01T00:00:00Z
+time|2023-02-29T00:00:00Z|Date
+time|2024-01-01T24:00:00Z|Date
+time|2024-01-01T00:60:00Z|Date
+time|2024-01-01T00:00:60Z|Date
+time|2024-13-01T00:00:00Z|Date
+time|2024-00-01T00:00:00Z|Date
+time|2024-04-31T00:00:00Z|Date
+time|2024-01-00T00:00:00Z|Date
+time|2024-1-01T00:00:00Z|Form
+time|2024-01-01t00:00:00Z|Form
+time|2024-01-01T00:00:00z|Form
+time|2024-01-01T00:00:00+00:00|Form
+time|2024-01-01T00:00:00.0Z|Form
+time|2024-01-01 00:00:00Z|Form
+time||Form
+copy|v2.0.0-rc.1+incompatible|v2.0.0-rc.1+incompatible true
+fits|example.com/lib|v0.1.0|true
+fits|example.com/lib|v1.0.0|true
+fits|example.com/lib|v2.0.0|false
+fits|example.com/lib|v1.0.0+incompatible|false
+fits|example.com/lib|v2.0.0+incompatible|true
+fits|example.com/lib|v2.0.0-rc.1+incompatible|true
+fits|example.com/lib/v2|v2.0.0-rc.1+incompatible|false
+fits|example.com/lib/v2|v2.0.0|true
+fits|example.com/lib/v2|v1.0.0|false
+fits|example.com/lib/v2|v3.0.0|false
+fits|gopkg.in/yaml.v0|v0.8.0|true
+fits|gopkg.in/yaml.v0|v1.0.0|false
+fits|gopkg.in/yaml.v1|v1.0.0|true
+fits|gopkg.in/yaml.v1|v0.8.0|false
+fits|gopkg.in/yaml.v1|v0.0.0|false
+fits|gopkg.in/yaml.v1|v0.0.0-20160105164936-4f90aeace3a2|true
+fits|gopkg.in/yaml.v2|v0.0.0-20160105164936-4f90aeace3a2|false
+fits|gopkg.in/yaml.v2|v2.1.5|true
+fits|gopkg.in/yaml.v2|v2.1.5+incompatible|false
+fits_loose|mymod|v0.0.0|true
+fits_loose|mymod|v2.0.0|false
+fits_loose|mymod|v2.0.0+incompatible|true
+fits_loose|mymod/v2|v2.0.0|true
+fits_loose|mymod/v2|v1.0.0|false
+fits_loose|gopkg.in/yaml.v1|v0.0.0-20160105164936-4f90aeace3a2|true
 ";
 
-/// Versions and their classes, of a pseudo-version its time.
-const CLASSES: &str = "\
-v1.2.3|release
-v2.0.0+incompatible|release
-v1.2.3-pre|pre
-v0.0.0-20191109021931-daa7c04131f5|2019-11-09T02:19:31Z
-v3.0.0-20191109021931-daa7c04131f5+incompatible|2019-11-09T02:19:31Z
-v0.0.1-20191109021931-daa7c04131f5|pre
-v0.1.0-20191109021931-daa7c04131f5|pre
-v1.2.4-0.20191109021931-daa7c04131f5|2019-11-09T02:19:31Z
-v1.2.0-0.20191109021931-daa7c04131f5|pre
-v1.2.4-1.20191109021931-daa7c04131f5|pre
-v1.2.3-pre.0.20191109021931-daa7c04131f5|2019-11-09T02:19:31Z
-v1.2.0-0.0.20191109021931-daa7c04131f5|2019-11-09T02:19:31Z
-v1.2.3-pre.1.20191109021931-daa7c04131f5|pre
-v1.2.3-0.pre.20191109021931-daa7c04131f5|pre
-v0.0.0-2019110902193-daa7c04131f5|pre
-v0.0.0-20191109021931-daa7c04131f|pre
-v0.0.0-20191109021931-daa7c04131f55|pre
-v0.0.0-20191109021931-DAA7C04131F5|pre
-v0.0.0-20191109021931-daa7c04131fg|pre
-v0.0.0-20191109021931.daa7c04131f5|pre
-v0.0.0-20240230000000-aaaaaaaaaaaa|pre
-v1.0.0-0.20230101000000-bbbbbbbbbbbb|pre
-v0.0.0-20240229000000-aaaaaaaaaaaa|2024-02-29T00:00:00Z
-v0.0.0-20000229000000-aaaaaaaaaaaa|2000-02-29T00:00:00Z
-v0.0.0-19000229000000-aaaaaaaaaaaa|pre
-v0.0.0-00000101000000-aaaaaaaaaaaa|0000-01-01T00:00:00Z
-v0.0.0-99991231235959-aaaaaaaaaaaa|9999-12-31T23:59:59Z
-v0.0.0-20241301000000-aaaaaaaaaaaa|pre
-v0.0.0-20240100000000-aaaaaaaaaaaa|pre
-v0.0.0-20240101240000-aaaaaaaaaaaa|pre
-v0.0.0-20240101006000-aaaaaaaaaaaa|pre
-v0.0.0-20240101000060-aaaaaaaaaaaa|pre
-";
-
-/// Texts, and the fault for which each is no time.
-const TIMES: &str = "\
-2024-02-29T23:59:59Z|-
-0000-01-01T00:00:00Z|-
-2023-02-29T00:00:00Z|Date
-2024-01-01T24:00:00Z|Date
-2024-01-01T00:60:00Z|Date
-2024-01-01T00:00:60Z|Date
-2024-13-01T00:00:00Z|Date
-2024-00-01T00:00:00Z|Date
-2024-04-31T00:00:00Z|Date
-2024-01-00T00:00:00Z|Date
-2024-1-01T00:00:00Z|Form
-2024-01-01t00:00:00Z|Form
-2024-01-01T00:00:00z|Form
-2024-01-01T00:00:00+00:00|Form
-2024-01-01T00:00:00.0Z|Form
-2024-01-01 00:00:00Z|Form
-|Form
-";
-
-/// Why a text is no version, or that the version has another text.
-fn fault_of_version(alloc: Global, text: &str) -> Option<VersionFault> {
+/// The class of a version, of a pseudo-version its time, or the fault of its text.
+fn version(alloc: Global, text: &str) -> Result<String, AllocError> {
     match Version::parse(alloc, text) {
-        Ok(version) if version.as_str() == text => None,
-        Ok(_) => Some(VersionFault::Memory),
-        Err(fault) => Some(fault),
+        Ok(version) if version.as_str() == text => match class(&version) {
+            Class::Release => String::from_str(alloc, "release"),
+            Class::Pre => String::from_str(alloc, "pre"),
+            Class::Pseudo(time) => String::from_str(alloc, time.as_str()),
+        },
+        Ok(_) => String::from_str(alloc, "another text"),
+        Err(fault) => format!(in alloc; "{fault:?}"),
     }
 }
 
-#[test]
-fn texts_are_versions_or_have_a_fault(rt: HostRuntime) -> Result<(), Fail> {
-    for row in VERSIONS.lines() {
-        let fault = fault_of_version(rt.alloc(), column(row, 0));
-        assert!(rt;
-            named(rt.alloc(), fault)?.as_str() == column(row, 1),
-            "{row}"
-        );
-    }
-    Ok(())
-}
-
-/// Whether a version has this class.
-fn is_of_class(found: Class, name: &str) -> bool {
-    match found {
-        Class::Release => name == "release",
-        Class::Pre => name == "pre",
-        Class::Pseudo(time) => time.as_str() == name,
-    }
-}
-
-#[test]
-fn versions_have_classes(rt: HostRuntime) -> Result<(), Fail> {
-    for row in CLASSES.lines() {
-        let version = Version::parse(rt.alloc(), column(row, 0))?;
-        assert!(rt; is_of_class(class(&version), column(row, 1)), "{row}");
-    }
-    Ok(())
-}
-
-/// Why a text is no time, or that the time has another text.
-fn fault_of_time(text: &str) -> Option<TimeFault> {
+/// The text of a time, or the fault of a text that is none.
+fn time(alloc: Global, text: &str) -> Result<String, AllocError> {
     match read_time(text) {
-        Ok(time) if time.as_str() == text => None,
-        Ok(_) => Some(TimeFault::Form),
-        Err(fault) => Some(fault),
+        Ok(time) => String::from_str(alloc, time.as_str()),
+        Err(fault) => format!(in alloc; "{fault:?}"),
+    }
+}
+
+/// The text of the copy of a version, and whether it is marked.
+fn copy(alloc: Global, text: &str) -> Result<String, Fail> {
+    let copy = Version::parse(alloc, text)?.copy(alloc)?;
+    Ok(format!(in alloc; "{} {}", copy.as_str(), copy.is_marked())?)
+}
+
+/// Whether a version fits a path, or a loose path.
+fn fit(alloc: Global, row: &str) -> Result<bool, Fail> {
+    let version = Version::parse(alloc, column(row, 2))?;
+    if column(row, 0) == "fits" {
+        return Ok(fits(&ModulePath::parse(alloc, column(row, 1))?, &version));
+    }
+    Ok(fits_loose(&LoosePath::parse(alloc, column(row, 1))?, &version))
+}
+
+/// What the call of a row returns.
+pub fn given(alloc: Global, row: &str) -> Result<String, Fail> {
+    let text = column(row, 1);
+    match column(row, 0) {
+        "version" => Ok(version(alloc, text)?),
+        "time" => Ok(time(alloc, text)?),
+        "copy" => copy(alloc, text),
+        _ => Ok(format!(in alloc; "{}", fit(alloc, row)?)?),
     }
 }
 
 #[test]
-fn texts_are_times_or_have_a_fault(rt: HostRuntime) -> Result<(), Fail> {
-    for row in TIMES.lines() {
-        let fault = fault_of_time(column(row, 0));
-        assert!(rt;
-            named(rt.alloc(), fault)?.as_str() == column(row, 1),
-            "{row}"
-        );
-    }
-    Ok(())
-}
-
-#[test]
-fn a_copy_has_the_same_text(rt: HostRuntime) -> Result<(), Fail> {
-    let version = Version::parse(rt.alloc(), "v2.0.0-rc.1+incompatible")?;
-    let copy = version.copy(rt.alloc())?;
-    assert!(rt; copy.as_str() == "v2.0.0-rc.1+incompatible");
-    assert!(rt; copy.is_marked());
+fn versions_and_times(rt: HostRuntime) -> Result<(), Fail> {
+    let wrong = wrong_row(rt.alloc(), Subject::Versions, ROWS)?;
+    assert!(rt; wrong.is_empty(), "{wrong}");
     Ok(())
 }

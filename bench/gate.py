@@ -4,8 +4,9 @@
 usage: python3 bench/gate.py [COMMIT] [--kept]
 
 COMMIT is HEAD if it is left out. With --kept, proofs of earlier runs on this machine count, as they do at a landing. The total is what
-the system counted for all processes of the run. The rest is a sample of the prover's processes, twice a second: it misses the end of
-each. A peak is the most memory that one process held. The output of the run goes to gate.log in the folder that is printed first.
+the system counted for all processes of the run. The rest is a sample of the run's processes of the prover, twice a second: it misses
+the end of each. A peak is the most memory that one process held. The output of the run goes to gate.log in the folder that is printed
+first.
 """
 
 import argparse
@@ -39,11 +40,18 @@ def kind_of(words, folder):
     return "proofs of tests" if "--test" in words else "proofs"
 
 
-def looked_at(number):
+def is_of(run, number):
+    """Whether a process is the run or descends from it."""
+    while number not in ("0", "1", run):
+        number = read(f"/proc/{number}/stat").rpartition(")")[2].split()[1]
+    return number == run
+
+
+def looked_at(number, run):
     """One process as (its start, crate, kind, processor seconds, peak in GiB); None where it is no check, or has ended."""
     try:
         words = read(f"/proc/{number}/cmdline").split("\0")
-        if not words[0].endswith("/rattle") or "--crate-name" not in words:
+        if not words[0].endswith("/rattle") or "--crate-name" not in words or not is_of(run, number):
             return None
         told = read(f"/proc/{number}/stat").rpartition(")")[2].split()
         peak = re.search(r"VmHWM:\s+(\d+)", read(f"/proc/{number}/status"))
@@ -59,12 +67,12 @@ class Sampler(threading.Thread):
 
     def __init__(self):
         super().__init__(daemon=True)
-        self.seen, self.used, self.ends = {}, 0, threading.Event()
+        self.seen, self.used, self.ends, self.of = {}, 0, threading.Event(), str(os.getpid())
 
     def run(self):
         while not self.ends.wait(0.5):
             for number in filter(str.isdigit, os.listdir("/proc")):
-                found = looked_at(number)
+                found = looked_at(number, self.of)
                 if found:
                     self.seen[number, found[0]] = found[1:]
             memory = dict(re.findall(r"(\w+):\s+(\d+)", read("/proc/meminfo")))
@@ -98,7 +106,8 @@ def main():
     sampler.start()
     with open(f"{folder}/gate.log", "w", encoding="utf-8") as log:
         gate = ["rt", "ci", *([] if said.kept else ["--anew"])]
-        status = subprocess.run(gate, cwd=f"{folder}/goshelf", stdin=subprocess.DEVNULL, stdout=log, stderr=log).returncode
+        settings = dict(os.environ, PYTHONUNBUFFERED="1")
+        status = subprocess.run(gate, cwd=f"{folder}/goshelf", env=settings, stdin=subprocess.DEVNULL, stdout=log, stderr=log).returncode
     sampler.ends.set()
     wall, took = (time.monotonic() - start) / 60, resource.getrusage(resource.RUSAGE_CHILDREN)
     sums = table(sampler.seen.values())

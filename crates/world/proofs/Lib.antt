@@ -25,3 +25,5 @@ pub mod Counted
 pub mod KeptListLemmas
 pub mod Sees
 pub mod Parts
+pub mod Places
+pub mod Profiles

@@ -7,6 +7,7 @@ use Rattle.std.specs.FinMap as map
 use Rattle.std.specs.FinSet as set
 use Rattle.std.proofs.lemmas.Bool.{true≢false, or_cases, or_left, or_right}
 use Rattle.std.proofs.lemmas.List.Elements.{Contains-append_left, Contains-append_right, Contains-append_cases}
+use Rattle.gomod.specs.Keywords.{Keywords, profile_in_force}
 use Rattle.modver.specs.Fits.{IsVersionOf, fits}
 use Rattle.modver.specs.Reading.{IsCanonical, version_of}
 use Rattle.modver.specs.SemanticVersion.{SemanticVersion, version_text}
@@ -17,7 +18,7 @@ use Rattle.world.specs.Latest.{AllOf}
 use Rattle.world.specs.Lines.{in_order, EachToNext}
 use Rattle.world.specs.Versions.{with_version, named, version_cmp, by_precedence, versions_of, VersionsAscend}
 use Rattle.world.specs.Visible.{IsSeen, seen_versions, versions_among, versions_seen}
-use Rattle.world.specs.World.{World, IsWorld, IsEntry, chain, common, place, text_cmp, seen_at, first_on, view}
+use Rattle.world.specs.World.{World, IsWorld, IsWorldBy, IsEntry, IsEntryBy, chain, common, place, text_cmp, seen_at, first_on, view}
 use Rattle.world.proofs.Orders.{texts_total, texts_exact}
 use Rattle.world.proofs.Members.{no_member, first_member, later_member, member_cases, in_order_rises, in_order_of, in_set_of}
 use Rattle.world.proofs.Precedence.{same_versions, sorted_members, below_next}
@@ -121,9 +122,12 @@ stands_on w (s ∷ ss) p v e found =
           subst (λ (y : Seen). map.get w.entries (place y.shelf p v) ≡ Some y.entry) same here
     ] refl found
 
+pub entry_by : (known : Keywords) (w : World) (s p t : List ℕ) → IsWorldBy known w → (seen : IsSeen w s p t) → IsEntryBy known (place seen.0.shelf p t) seen.0.entry
+entry_by known w s p t is seen = is.entries_fit (place seen.0.shelf p t) seen.0.entry (stands_on w (chain w s) p t seen.0 seen.1)
+
 module _ (w : World) (is : IsWorld w) (s p : List ℕ) where
   pub entry_at : (t : List ℕ) (seen : IsSeen w s p t) → IsEntry (place seen.0.shelf p t) seen.0.entry
-  entry_at t seen = is.entries_fit (place seen.0.shelf p t) seen.0.entry (stands_on w (chain w s) p t seen.0 seen.1)
+  entry_at t seen = entry_by profile_in_force w s p t is seen
 
   named_members : (v : SemanticVersion) → Contains (named (in_order (versions_seen w s p))) v ↔ seen_versions w s p v
   named_members v =

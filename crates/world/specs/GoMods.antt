@@ -4,7 +4,7 @@ use Rattle.gomod.specs.Faults.{line_of}
 use Rattle.gomod.specs.Module.{GoModule}
 use Rattle.gomod.specs.Reading as gomod
 use Rattle.gomod.specs.Reads.{Reads}
-use Rattle.gomod.specs.Keywords.{profile_in_force}
+use Rattle.gomod.specs.Keywords.{Keywords, profile_in_force}
 use Rattle.gomod.specs.declared.fault.GoModFault.{GoModFault}
 use Rattle.world.specs.declared.reading.Reading.{Reading}
 use Rattle.world.specs.declared.reading.Reading.TheVariants.{Module, Fault}
@@ -18,18 +18,26 @@ abbrev pub told : Result GoModule GoModFault → Reading
 told (Ok m) = Module m
 told (Err f) = Fault (line_of f)
 
+-- what reading a go.mod by these keywords gives
+abbrev pub reading_by : Keywords → List ℕ → Reading
+reading_by known bytes = told (gomod.reading known bytes)
+
 -- what reading a go.mod gives
 abbrev pub reading_of : List ℕ → Reading
-reading_of bytes = told (gomod.reading profile_in_force bytes)
+reading_of bytes = reading_by profile_in_force bytes
 
 -- what a go.mod says, if it reads
 abbrev pub module_told : Reading → Option GoModule
 module_told (Module m) = Some m
 module_told (Fault line) = None
 
--- a go.mod reads, names the path, and is bare where the version has the mark
-pub record IsGoModOf (path : List ℕ) (is_marked : Bool) (bytes : List ℕ) : Type 0 where
+-- by these keywords a go.mod reads, names the path, and is bare where the version has the mark
+pub record IsGoModBy (known : Keywords) (path : List ℕ) (is_marked : Bool) (bytes : List ℕ) : Type 0 where
   pub says : GoModule
-  pub reads : reading_of bytes ≡ Module says
+  pub reads : reading_by known bytes ≡ Module says
   pub names : says.path ≡ path
   pub bare : is_marked ≡ true → says.bare ≡ true
+
+-- so it is by the profile in force
+abbrev pub IsGoModOf : List ℕ → Bool → List ℕ → Type 0
+IsGoModOf path is_marked bytes = IsGoModBy profile_in_force path is_marked bytes

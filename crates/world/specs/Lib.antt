@@ -17,3 +17,5 @@ pub mod Kept
 pub mod Counts
 pub mod KeptLists
 pub mod Part
+pub mod Places
+pub mod Profiles

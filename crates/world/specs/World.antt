@@ -13,7 +13,8 @@ use Rattle.world.specs.declared.entry.Heading.{Heading}
 use Rattle.world.specs.declared.entry.Seen.{Seen}
 use Rattle.world.specs.declared.entry.Holder.{Holder}
 use Rattle.world.specs.Forms.{IsPath, IsVersionText, fits, suffix_of}
-use Rattle.world.specs.GoMods.{IsGoModOf}
+use Rattle.gomod.specs.Keywords.{Keywords, profile_in_force}
+use Rattle.world.specs.GoMods.{IsGoModBy}
 use Rattle.modver.specs.Class.{class_of}
 use Rattle.modver.specs.Time.{IsTime}
 use Rattle.modver.specs.declared.version.Class.{Class}
@@ -127,19 +128,23 @@ IsTimeOf (class.Pseudo stamp) time = time ≡ Some stamp
 IsTimeOf c None = Unit {0}
 IsTimeOf c (Some time) = IsTime time
 
--- an entry may stand at a place: path and version are well formed and go together, the files are within
--- the limits, the time is that of the version, and the go.mod is that of the path
-pub record IsEntry (q : Place) (e : Entry) : Type 0 where
+-- by these keywords an entry may stand at a place: path and version are well formed and go together, the files are
+-- within the limits, the time is that of the version, and the go.mod is that of the path
+pub record IsEntryBy (known : Keywords) (q : Place) (e : Entry) : Type 0 where
   pub path : IsPath q.path
   pub version : IsVersionText q.version
   pub fits : fits (suffix_of q.path) version.0 ≡ true
   pub gomod : length e.gomod ≤ gomod_limit
   pub zip : length e.zip ≤ zip_limit
   pub time : IsTimeOf (class_of version.0) e.time
-  pub reads : IsGoModOf q.path version.0.marked e.gomod
+  pub reads : IsGoModBy known q.path version.0.marked e.gomod
 
--- What every world keeps.
-pub record IsWorld (w : World) : Type 0 where
+-- so it is by the profile in force
+abbrev pub IsEntry : Place → Entry → Type 0
+IsEntry q e = IsEntryBy profile_in_force q e
+
+-- What every world keeps whose go.mods are read by these keywords.
+pub record IsWorldBy (known : Keywords) (w : World) : Type 0 where
   -- common is there, and each other shelf has the name of a team
   pub has_common : set.contains w.shelves common ≡ true
   pub team_names : (s : List ℕ) → set.contains w.shelves s ≡ true → (s ≡ common) ⊎ (is_team_name s ≡ true)
@@ -147,7 +152,11 @@ pub record IsWorld (w : World) : Type 0 where
   pub key_names : (k : List ℕ) (h : Holder) → map.get w.keys k ≡ Some h → is_key k ≡ true
   pub keys_stand : (k : List ℕ) (h : Holder) → map.get w.keys k ≡ Some h → set.contains w.shelves h.shelf ≡ true
   -- each entry may stand at its place, and its shelf is there
-  pub entries_fit : (q : Place) (e : Entry) → map.get w.entries q ≡ Some e → IsEntry q e
+  pub entries_fit : (q : Place) (e : Entry) → map.get w.entries q ≡ Some e → IsEntryBy known q e
   pub entries_stand : (q : Place) (e : Entry) → map.get w.entries q ≡ Some e → set.contains w.shelves q.shelf ≡ true
   -- no shelf has more versions of a path than the limit
   pub few : (s p : List ℕ) → count w s p ≤ version_limit
+
+-- What every world keeps: its go.mods are read by the profile in force.
+abbrev pub IsWorld : World → Type 0
+IsWorld w = IsWorldBy profile_in_force w

@@ -1,6 +1,8 @@
 //! What holds of worlds by their definitions alone.
 ghost use Rattle.world.specs.EntryTest.{EntryTestIsExact};
 ghost use Rattle.world.specs.Part.{PartIsWorld, PartHasTheChain};
+ghost use Rattle.world.specs.Places.{PlacesRead, SeenPlacesRead};
+ghost use Rattle.world.specs.Profiles.{Profile2KeepsWorlds};
 ghost use Rattle.world.specs.Versions.{VersionsAscend};
 
 /// The test of an entry passes exactly those that may stand at their place.
@@ -17,4 +19,15 @@ pub fn parts()
 /// The versions of a path that a shelf sees stand in their list once each, each below the next. (SemVer 2.0.0, section 11.)
 pub fn versions_ascend()
     ensures { VersionsAscend }
+{}
+
+/// The path and the version of each entry of a world read, and so do those of each entry that a shelf sees.
+pub fn places_read()
+    ensures entries { PlacesRead }
+    ensures seen { SeenPlacesRead }
+{}
+
+/// Every world whose go.mods the first profile reads is a world of the second.
+pub fn profile_2_keeps_worlds()
+    ensures { Profile2KeepsWorlds }
 {}

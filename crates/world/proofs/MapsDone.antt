@@ -21,6 +21,8 @@ done old new w x value next answer same is = record {
   err = tt;
   left = λ _. inr same;
   kept = λ _. inl same;
+  settled = inl (inl same);
+  failed = tt;
 }
 
 -- the answer is the value, and nothing changes

@@ -17,14 +17,22 @@ pub record Shown : Type 1 where
   -- whatever a crash at this moment leaves stands for the first world or for the second
   pub leaves : World → World → Type 0
 
+-- a crash leaves nothing that it did not leave before
+abbrev pub AddsNothing : Shown → Shown → Type 0
+AddsNothing old new = (x y : World) → old.leaves x y → new.leaves x y
+
 -- In this world, a call answers the value and leads to the next world, or fails and changes nothing.
 -- If a crash left this world alone before, it leaves the two from then on, and after Ok the next alone.
+-- Whatever a crash left before, after Ok it leaves the next world alone, or the call changed nothing and added nothing;
+-- and after a failure it leaves one of the two, or the call added nothing.
 pub record DoesAt {T : Type 0} (old new : Shown) (w : World) (result : Result T StoreFault) (value : T) (next : World) : Type 0 where
   pub answer : IfOk result (λ x. x ≡ value)
   pub ok : OnOk result (new.stands next)
   pub err : OnErr result (new.stands w)
   pub left : old.leaves w w → new.leaves w next
   pub kept : old.leaves w w → OnOk result (new.leaves next next)
+  pub settled : OnOk result (new.leaves next next ⊎ ((next ≡ w) × AddsNothing old new))
+  pub failed : OnErr result (new.leaves w next ⊎ AddsNothing old new)
 
 -- So it is in each world that the store stood for and that fits, as far as no answer of a disk was wrong.
 pub record DoesWhere {T : Type 0} (fits : World → Type 0) (old new : Shown) (result : Result T StoreFault) (value : World → T) (next : World → World) : Type 0 where
@@ -39,7 +47,7 @@ Does old new result value next = DoesWhere (λ _. Unit {0}) old new result value
 pub record ReadsAt {T : Type 0} (old new : Shown) (w : World) (result : Result T StoreFault) (value : T) : Type 0 where
   pub answer : IfOk result (λ x. x ≡ value)
   pub stays : new.stands w
-  pub left : (x y : World) → old.leaves x y → new.leaves x y
+  pub left : AddsNothing old new
 
 pub record Reads {T : Type 0} (old new : Shown) (result : Result T StoreFault) (value : World → T) : Type 0 where
   pub honest : new.is_honest → old.is_honest

@@ -22,16 +22,11 @@ use Rattle.shelf.specs.declared.reply.Reply.TheVariants as reply
 use Rattle.world.specs.World.{World, IsWorld, place, is_team_name, is_key}
 use Rattle.shelf.specs.Machine.{decision, keyed_reply, after_decision, stored, offered, place_of, reply_to, after}
 use Rattle.world.specs.Registry.{team_added, key_added, key_revoked, after_team_add, after_key_add, after_key_revoke}
-use Rattle.shelf.specs.Isolation.{is_among, is_near, is_kept}
+use Rattle.shelf.specs.Isolation.{is_among, is_near, is_kept, Agree}
 use Rattle.world.proofs.Orders.{places_total, places_exact, get_put_both, get_elsewhere}
-use Rattle.shelf.proofs.Views.{SameOn, SameSeen}
+use Rattle.shelf.proofs.Views.{SameSeen}
 use Rattle.shelf.proofs.Alike.{decision_same, query_same}
 use Rattle.shelf.proofs.Chains.{Reaches}
-
-pub record Agree (w x : World) (ss : List (List ℕ)) : Type 0 where
-  pub keys : w.keys ≡ x.keys
-  pub shelves : w.shelves ≡ x.shelves
-  pub seen : (t : List ℕ) → is_among ss t ≡ true → SameOn w x t
 
 pub agree_self : (w : World) (ss : List (List ℕ)) → Agree w w ss
 agree_self w ss = record { keys = refl; shelves = refl; seen = λ t among p v. refl }

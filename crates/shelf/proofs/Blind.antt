@@ -14,7 +14,7 @@ use Rattle.shelf.specs.declared.reply.Decision.TheVariants.{Published}
 use Rattle.shelf.specs.declared.reply.Reply.TheVariants as reply
 use Rattle.world.specs.World.{World, IsWorld, place, on_shelf}
 use Rattle.shelf.specs.Machine.{decision, keyed_reply, after_decision, stored, offered, place_of, after_ask}
-use Rattle.shelf.specs.Isolation.{sees, belongs, Low, IsBlind}
+use Rattle.shelf.specs.Isolation.{sees, belongs, Agree, Low, AgreeIsLow, IsBlind}
 use Rattle.world.proofs.Orders.{places_total, places_exact, get_put_both, text_self, text_same}
 use Rattle.shelf.proofs.Views.{SameOn, SameSeen, guarded, sees_through}
 use Rattle.world.proofs.Orders.{test_alike}
@@ -41,6 +41,22 @@ same_whole w x t same = map.same_map places_total places_exact _ _ (λ q.
 
 low_seen : (w x : World) (s t : List ℕ) → IsWorld w → Low w x s → sees w s t ≡ true → SameSeen w x t
 low_seen w x s t is low st u tu = same_places w x u (low.entries u (sees_through w is s t u st tu))
+
+-- ---- worlds that agree
+
+pub agree_is_low : AgreeIsLow
+agree_is_low w x s chains = (
+  λ agree. (
+    record {
+      chains = chains;
+      entries = λ t st. same_whole w x t (agree.seen t st);
+      keys = λ k h st. (λ at. subst (λ m. map.get m k ≡ Some h) agree.keys at, λ at. subst (λ m. map.get m k ≡ Some h) (sym agree.keys) at);
+    },
+    agree.keys,
+    agree.shelves,
+  ),
+  λ both. record { keys = both.1; shelves = both.2; seen = λ t st. same_places w x t (both.0.entries t st) },
+)
 
 -- ---- a publish into both
 

@@ -9,17 +9,21 @@ use Rattle.shelf.specs.declared.reply.Reply.{Reply}
 use Rattle.shelf.specs.declared.reply.Answer.{Answer}
 use Rattle.shelf.specs.declared.reply.Answer.TheVariants.{Replied, Failed}
 use Rattle.world.specs.World.{World, IsWorld, chain}
-use Rattle.shelf.specs.Machine.{reply_to, after, replies, Run, answered, replies_of}
-use Rattle.shelf.specs.Isolation.{is_among, is_near, is_near_key, asking_key, is_kept, kept, marked, purge, IsAnsweredIfKept, KeptAnswered, AllReplied, IsIsolated, PurgeIsTheSame, PurgedRunsAgree, FaultyRunsAgree, MarksAreAsLong, MarksAreAtTheirMoment, OnlyOthersGo}
+use Rattle.shelf.specs.Machine.{reply_to, after, after_all, replies, Run, answered, replies_of}
+use Rattle.shelf.specs.Isolation.{is_among, is_near, is_near_key, asking_key, is_kept, kept, marked, purge, IsAnsweredIfKept, KeptAnswered, AllReplied, Agree, IsIsolated, PurgeIsTheSame, PurgedRunsAgree, FaultyRunsAgree, MarksAreAsLong, MarksAreAtTheirMoment, OnlyOthersGo}
 use Rattle.shelf.proofs.Sound.{sound}
 use Rattle.shelf.proofs.Chains.{reaches}
-use Rattle.shelf.proofs.Apart.{Agree, agree_self, agree_back, event_alike, event_far, kept_alike}
+use Rattle.shelf.proofs.Apart.{agree_self, agree_back, event_alike, event_far, kept_alike}
 
 -- ---- against the machine over the purged list
 
+-- the replies are those of the machine over the purged list, and the worlds after both agree
+abbrev ToldAlike : List Bool → List Event → List Reply → World → World → List ℕ → Type 0
+ToldAlike marks es told x new s = (marked marks told ≡ replies x (marked marks es)) × Agree new (after_all x (marked marks es)) (chain new s)
+
 told_alike : (w x new : World) (s : List ℕ) (es : List Event) (answers : List Answer) → IsWorld w → Agree w x (chain new s) → Run w es answers new
-    → marked (kept w (chain new s) (answered es answers)) (replies_of answers) ≡ replies x (marked (kept w (chain new s) (answered es answers)) (answered es answers))
-told_alike w x new s [] [] is agree run = refl
+    → ToldAlike (kept w (chain new s) (answered es answers)) (answered es answers) (replies_of answers) x new s
+told_alike w x new s [] [] is agree run = (refl, subst (λ y. Agree y x (chain new s)) (sym run) agree)
 told_alike w x new s [] (a ∷ answers) is agree run = absurd run
 told_alike w x new s (e ∷ es) [] is agree run = absurd run
 told_alike w x new s (e ∷ es) (Failed fault ∷ answers) is agree run = told_alike w x new s es answers is agree run
@@ -28,22 +32,24 @@ told_alike w x new s (e ∷ es) (Replied r ∷ answers) is agree run =
     let marks : List Bool = kept (after w e) ss (answered es answers) in
     let told : List Reply = replies_of answers in
     let rest : List Event = answered es answers in
-    elim (is_kept w ss e) as (λ b. is_kept w ss e ≡ b → marked (b ∷ marks) (r ∷ told) ≡ replies x (marked (b ∷ marks) (e ∷ rest))) [
+    elim (is_kept w ss e) as (λ b. is_kept w ss e ≡ b → ToldAlike (b ∷ marks) (e ∷ rest) (r ∷ told) x new s) [
       | true ↦ λ near.
           let alike = event_alike w x ss e near is (reaches w new s (e ∷ es) (Replied r ∷ answers) is run) agree in
-          ap (λ a. a ∷ marked marks told) (run.0 ∙ alike.reply)
-          ∙ ap (λ rs. reply_to x e ∷ rs) (told_alike (after w e) (after x e) new s es answers (sound w e is) alike.worlds run.1)
+          let more = told_alike (after w e) (after x e) new s es answers (sound w e is) alike.worlds run.1 in
+          (ap (λ a. a ∷ marked marks told) (run.0 ∙ alike.reply) ∙ ap (λ rs. reply_to x e ∷ rs) more.0, more.1)
       | false ↦ λ far. told_alike (after w e) x new s es answers (sound w e is) (event_far w x ss e far agree) run.1
     ] refl
 
 pub isolated : IsIsolated
-isolated old new s events answers is run = told_alike old old new s events answers is (agree_self old (chain new s)) run
+isolated old old_too new s events answers is agree run = told_alike old old_too new s events answers is agree run
 
 -- ---- against another run
 
 pub faulty_runs_agree : FaultyRunsAgree
 faulty_runs_agree old one two s first second told heard is run again chains same =
-    isolated old one s first told is run ∙ ap (replies old) same ∙ sym (isolated old two s second heard is again)
+    (isolated old old one s first told is (agree_self old (chain one s)) run).0
+    ∙ ap (replies old) same
+    ∙ sym (isolated old old two s second heard is (agree_self old (chain two s)) again).0
 
 -- the world of the run, the one that all events would have led to, and that of the purged run
 record Three (w x y : World) (ss : List (List ℕ)) : Type 0 where
@@ -76,36 +82,42 @@ first_of y other e es [] run all = absurd run
 first_of y other e es (Replied r ∷ rest) run all = (r, rest, refl, run.0, run.1, all.1)
 first_of y other e es (Failed fault ∷ rest) run all = absurd all.0
 
+-- the kept events are answered alike, and the worlds after both runs agree
+abbrev PurgedTold : List Bool → List Answer → List Answer → World → World → List ℕ → Type 0
+PurgedTold marks answers purged new other s = (marked marks answers ≡ purged) × Agree new other (chain new s)
+
 purged_told : (w x y new other : World) (s : List ℕ) (es : List Event) (answers purged : List Answer) → IsWorld w → Three w x y (chain new s)
     → Run w es answers new → KeptAnswered x (chain new s) es answers → Run y (marked (kept x (chain new s) es) es) purged other → AllReplied purged
-    → marked (kept x (chain new s) es) answers ≡ purged
-purged_told w x y new other s [] [] [] is three run told again all = refl
+    → PurgedTold (kept x (chain new s) es) answers purged new other s
+purged_told w x y new other s [] [] [] is three run told again all =
+    (refl, subst (λ v. Agree v other (chain new s)) (sym run) (subst (λ v. Agree w v (chain new s)) (sym again) three.purged))
 purged_told w x y new other s [] [] (a ∷ purged) is three run told again all = absurd again
 purged_told w x y new other s [] (a ∷ answers) purged is three run told again all = absurd run
 purged_told w x y new other s (e ∷ es) [] purged is three run told again all = absurd run
 purged_told w x y new other s (e ∷ es) (Failed fault ∷ answers) purged is three run told again all =
     let ss : List (List ℕ) = chain new s in
     let marks : List Bool = kept (after x e) ss es in
-    elim (is_kept x ss e) as (λ b. is_kept x ss e ≡ b → IsAnsweredIfKept b (Failed fault) → Run y (marked (b ∷ marks) (e ∷ es)) purged other → marked (b ∷ marks) (Failed fault ∷ answers) ≡ purged) [
+    elim (is_kept x ss e) as (λ b. is_kept x ss e ≡ b → IsAnsweredIfKept b (Failed fault) → Run y (marked (b ∷ marks) (e ∷ es)) purged other → PurgedTold (b ∷ marks) (Failed fault ∷ answers) purged new other s) [
       | true ↦ λ near never _. absurd never
       | false ↦ λ far _ rest. purged_told w (after x e) y new other s es answers purged is (three_failed w x y ss e three far) run told.1 rest all
     ] refl told.0 again
 purged_told w x y new other s (e ∷ es) (Replied r ∷ answers) purged is three run told again all =
     let ss : List (List ℕ) = chain new s in
     let marks : List Bool = kept (after x e) ss es in
-    elim (is_kept x ss e) as (λ b. is_kept x ss e ≡ b → Run y (marked (b ∷ marks) (e ∷ es)) purged other → marked (b ∷ marks) (Replied r ∷ answers) ≡ purged) [
+    elim (is_kept x ss e) as (λ b. is_kept x ss e ≡ b → Run y (marked (b ∷ marks) (e ∷ es)) purged other → PurgedTold (b ∷ marks) (Replied r ∷ answers) purged new other s) [
       | true ↦ λ near rest.
           let first = first_of y other e (marked marks es) purged rest all in
           let step = three_kept w x y new s e r es answers is three (kept_alike w x ss e three.all ∙ near) run in
-          ap (λ a. Replied a ∷ marked marks answers) (step.0 ∙ sym first.3)
-          ∙ ap (λ told. Replied first.0 ∷ told) (purged_told (after w e) (after x e) (after y e) new other s es answers first.1 (sound w e is) step.1 run.1 told.1 first.4 first.5)
-          ∙ sym first.2
+          let more = purged_told (after w e) (after x e) (after y e) new other s es answers first.1 (sound w e is) step.1 run.1 told.1 first.4 first.5 in (
+            ap (λ a. Replied a ∷ marked marks answers) (step.0 ∙ sym first.3) ∙ ap (λ told. Replied first.0 ∷ told) more.0 ∙ sym first.2,
+            more.1,
+          )
       | false ↦ λ far rest. purged_told (after w e) (after x e) y new other s es answers purged (sound w e is) (three_far w x y ss e three far) run.1 told.1 rest all
     ] refl again
 
 pub purged_runs_agree : PurgedRunsAgree
-purged_runs_agree old new other s events answers purged is run told again all =
-    let self = agree_self old (chain new s) in purged_told old old old new other s events answers purged is (record { all = self; purged = self }) run told again all
+purged_runs_agree old old_too new new_too s events answers purged is agree run told again all =
+    purged_told old old old_too new new_too s events answers purged is (record { all = agree_self old (chain new s); purged = agree }) run told again all
 
 -- ---- the purge with the faults and without
 

@@ -8,7 +8,7 @@ use Rattle.shelf.specs.declared.ask.Event.{Event}
 use Rattle.shelf.specs.declared.ask.Event.TheVariants.{Asked}
 use Rattle.shelf.specs.declared.reply.Answer.{Answer}
 use Rattle.shelf.specs.declared.reply.Answer.TheVariants.{Replied, Failed}
-use Rattle.world.specs.World.{World, IsWorld, chain, on_shelf}
+use Rattle.world.specs.World.{World, IsWorld, chain, on_shelf, place}
 pub use Rattle.world.specs.World.{is_among, sees}
 use Rattle.shelf.specs.Machine.{after, after_all, ask_reply, after_ask, replies, Run, answered, replies_of}
 
@@ -60,12 +60,21 @@ marked marks xs = []
 abbrev pub purge : World → List (List ℕ) → List Event → List Event
 purge w ss es = marked (kept w ss es) es
 
+-- The worlds have one registry, and the same entries on each of these shelves.
+pub record Agree (w x : World) (ss : List (List ℕ)) : Type 0 where
+  pub keys : w.keys ≡ x.keys
+  pub shelves : w.shelves ≡ x.shelves
+  pub seen : (t : List ℕ) → is_among ss t ≡ true → (p v : List ℕ) → map.get w.entries (place t p v) ≡ map.get x.entries (place t p v)
+
 -- A shelf is told what it would be told if no request with a key of a shelf that it does not see had come:
--- in each run, the replies to the kept events are those of the machine over the purged list.
+-- in each run, the replies to the kept events are those of the machine over the purged list, from this world or from one
+-- that agrees with it on what the shelf sees. The worlds after them agree again.
 abbrev pub IsIsolated : Type 0
 IsIsolated =
-    (old new : World) (s : List ℕ) (events : List Event) (answers : List Answer) → IsWorld old → Run old events answers new
-    → marked (kept old (chain new s) (answered events answers)) (replies_of answers) ≡ replies old (purge old (chain new s) (answered events answers))
+    (old old_too new : World) (s : List ℕ) (events : List Event) (answers : List Answer) → IsWorld old → Agree old old_too (chain new s)
+    → Run old events answers new → let asked : List Event = purge old (chain new s) (answered events answers) in
+    (marked (kept old (chain new s) (answered events answers)) (replies_of answers) ≡ replies old_too asked)
+    × Agree new (after_all old_too asked) (chain new s)
 
 -- ---- two runs
 
@@ -95,14 +104,14 @@ PurgeIsTheSame =
     → KeptAnswered old (chain new s) events answers
     → purge old (chain new s) events ≡ purge old (chain new s) (answered events answers)
 
--- A run over a list and a run over the purged list answer the kept events alike, where none of these met a
--- fault. Faults of the other events do not matter.
+-- From worlds that agree on what the shelf sees, a run over a list and a run over the purged list answer the kept events
+-- alike, where none of these met a fault, and end in worlds that agree. Faults of the other events do not matter.
 abbrev pub PurgedRunsAgree : Type 0
 PurgedRunsAgree =
-    (old new other : World) (s : List ℕ) (events : List Event) (answers purged : List Answer) → IsWorld old
-    → Run old events answers new → KeptAnswered old (chain new s) events answers
-    → Run old (purge old (chain new s) events) purged other → AllReplied purged
-    → marked (kept old (chain new s) events) answers ≡ purged
+    (old old_too new new_too : World) (s : List ℕ) (events : List Event) (answers purged : List Answer) → IsWorld old
+    → Agree old old_too (chain new s) → Run old events answers new → KeptAnswered old (chain new s) events answers
+    → Run old_too (purge old (chain new s) events) purged new_too → AllReplied purged
+    → (marked (kept old (chain new s) events) answers ≡ purged) × Agree new new_too (chain new s)
 
 -- Two runs whose answered events are the same after the purge reply alike to the kept ones.
 abbrev pub FaultyRunsAgree : Type 0
@@ -139,6 +148,12 @@ pub record Low (w x : World) (s : List ℕ) : Type 0 where
   pub chains : chain w s ≡ chain x s
   pub entries : (t : List ℕ) → sees w s t ≡ true → on_shelf w t ≡ on_shelf x t
   pub keys : (k : List ℕ) (h : Holder) → sees w s h.shelf ≡ true → (map.get w.keys k ≡ Some h) ↔ (map.get x.keys k ≡ Some h)
+
+-- Worlds agree on what s sees exactly if they are the same to s and have one registry.
+abbrev pub AgreeIsLow : Type 0
+AgreeIsLow =
+    (w x : World) (s : List ℕ) → chain w s ≡ chain x s
+    → Agree w x (chain w s) ↔ (Low w x s × (w.keys ≡ x.keys) × (w.shelves ≡ x.shelves))
 
 -- A key of a shelf that s sees is answered alike in worlds that are the same to s, and they stay so.
 abbrev pub IsBlind : Type 0

@@ -2,7 +2,7 @@
 ghost use Rattle.shelf.specs.Laws.{WorldStays, RunsKeepWorlds, OnlyChangesChange, BodiesChangeNothing, RunsAreCut, RunsAreJoined};
 ghost use Rattle.shelf.specs.Immutability.{StaysServed, AcceptedIsServed, RepeatedListChangesNothing};
 ghost use Rattle.shelf.specs.PathLaws.{VersionsAreSeen, PathsAreSeen, PathsAreTold, ListIsTold, ListIsNotFound, LatestIsTheTop, NoneIsLatest, LatestIsTold, LatestIsNotFound};
-ghost use Rattle.shelf.specs.Isolation.{IsIsolated, PurgedRunsAgree, FaultyRunsAgree, MarksAreAsLong, MarksAreAtTheirMoment, OnlyOthersGo, PurgeIsTheSame, IsBlind};
+ghost use Rattle.shelf.specs.Isolation.{IsIsolated, PurgedRunsAgree, FaultyRunsAgree, MarksAreAsLong, MarksAreAtTheirMoment, OnlyOthersGo, PurgeIsTheSame, AgreeIsLow, IsBlind};
 ghost use Rattle.shelf.specs.Parts.{PartIsLow, IsBlindThroughout, PartTellsTheSame, OthersAreNotFound};
 
 /// Each event leads from a world to a world.
@@ -11,12 +11,14 @@ pub fn soundness()
     ensures run { RunsKeepWorlds }
 {}
 
-/// A shelf is told what it would be told if no request with a key of another team had come.
+/// A shelf is told what it would be told if no request with a key of another team had come, in this world or in one that
+/// agrees with it on the registry and on what the shelf sees. The worlds after both agree again, so that it goes on.
 pub fn isolation()
     ensures { IsIsolated }
 {}
 
-/// A run over all events and a run over the purged list answer the kept events alike, unless one of these met a fault.
+/// A run over all events and a run over the purged list answer the kept events alike, unless one of these met a fault, and
+/// end in worlds that agree.
 pub fn runs_agree()
     ensures purged { PurgedRunsAgree }
     ensures faulty { FaultyRunsAgree }
@@ -31,9 +33,10 @@ pub fn purge()
     ensures same { PurgeIsTheSame }
 {}
 
-/// A key is answered alike in all worlds that are the same to its shelf.
+/// A key is answered alike in all worlds that are the same to its shelf. Such worlds agree if they have one registry.
 pub fn blindness()
-    ensures { IsBlind }
+    ensures alike { IsBlind }
+    ensures agree { AgreeIsLow }
 {}
 
 /// Keys of a team and of `common` get the same answers from a world and from the team's part of it, through whole runs.

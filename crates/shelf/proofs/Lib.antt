@@ -2,6 +2,7 @@ pub mod InMemory
 pub mod Checks
 pub mod Misfits
 pub mod Runs
+mod AfterRead
 pub mod Views
 pub mod Alike
 pub mod Sound

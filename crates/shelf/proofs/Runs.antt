@@ -1,14 +1,16 @@
--- A run goes on by one event.
-use Rattle.std.proofs.Common.{◌≡◌, ℕ, ◌+◌, ◌<◌, List, [], ◌∷◌, ◌++◌, length, get_or, take, sym, subst, inl, inr, ◌⊎◌, ◌≤◌, arith}
+-- A run goes on by one event, or by another run.
+use Rattle.std.proofs.Common.{◌≡◌, ℕ, ◌+◌, ◌<◌, List, [], ◌∷◌, ◌++◌, length, get_or, take, refl, sym, subst, ◌∙◌, inl, inr, ◌⊎◌, ◌≤◌, Ok, Err, arith}
 use Rattle.std.proofs.lemmas.List.{take_more}
 use Rattle.shelf.specs.declared.ask.Event.{Event}
 use Rattle.shelf.specs.declared.reply.Answer.{Answer}
 use Rattle.shelf.specs.declared.reply.Answer.TheVariants.{Replied, Failed}
 use Rattle.world.specs.World.{World}
+use Rattle.world.specs.declared.registry.StoreFault.{StoreFault}
 use Rattle.world.specs.declared.registry.StoreFault.TheVariants.{Device}
-use Rattle.shelf.specs.Machine.{after, Run, AnsweredOrIdle, MetDevice, world_after}
-use Rattle.world.specs.Store.{Shown, GrewOrFull}
-use Rattle.shelf.specs.Runs.{Runs, RunsAt}
+use Rattle.shelf.specs.declared.reply.Reply.{Reply}
+use Rattle.shelf.specs.Machine.{reply_to, after, Run, AnsweredOrIdle, MetDevice, world_after}
+use Rattle.world.specs.Store.{Shown, DoesAt, GrewOrFull}
+use Rattle.shelf.specs.Runs.{Runs, RunsAt, AllKeep, Settles, IsPending, MayLeave}
 
 pub run_more : (old mid new : World) (events more : List Event) (answers last : List Answer) → Run old events answers mid → Run mid more last new → Run old (events ++ more) (answers ++ last) new
 run_more old mid new [] more [] last run next = subst (λ w. Run w more last new) run next
@@ -16,13 +18,6 @@ run_more old mid new [] more (a ∷ answers) last run next = absurd run
 run_more old mid new (e ∷ es) more [] last run next = absurd run
 run_more old mid new (e ∷ es) more (Replied r ∷ answers) last run next = (run.0, run_more (after old e) mid new es more answers last run.1 next)
 run_more old mid new (e ∷ es) more (Failed fault ∷ answers) last run next = run_more old mid new es more answers last run next
-
--- the event at an index joins those before it
-pub run_push : (old mid new : World) (events : List Event) (i : ℕ) (e : Event) (answers : List Answer) (a : Answer) → i < length events → e ≡ get_or events i e
-    → Run old (take i events) answers mid → Run mid (e ∷ []) (a ∷ []) new → Run old (take (i + 1) events) (answers ++ a ∷ []) new
-run_push old mid new events i e answers a below is run next =
-    subst (λ es. Run old es (answers ++ a ∷ []) new) (sym (take_more events i e below))
-    (run_more old mid new (take i events) (get_or events i e ∷ []) answers (a ∷ []) run (subst (λ x. Run mid (x ∷ []) (a ∷ []) new) is next))
 
 -- ---- one more answer
 
@@ -35,13 +30,6 @@ idle_parts old mid (e ∷ es) more [] last run idle = absurd run
 idle_parts old mid (e ∷ es) more (Replied r ∷ answers) last run idle = idle_parts (after old e) mid es more answers last run.1 idle
 idle_parts old mid (e ∷ es) more (Failed fault ∷ answers) last run idle =
     let parts = idle_parts old mid es more answers last run idle.1 in ((idle.0, parts.0), parts.1)
-
-pub idle_push : (old mid : World) (events : List Event) (i : ℕ) (e : Event) (answers : List Answer) (a : Answer) → i < length events → e ≡ get_or events i e
-    → Run old (take i events) answers mid → AnsweredOrIdle old (take (i + 1) events) (answers ++ a ∷ [])
-    → AnsweredOrIdle old (take i events) answers × AnsweredOrIdle mid (e ∷ []) (a ∷ [])
-idle_push old mid events i e answers a below is run idle =
-    let parts = idle_parts old mid (take i events) (get_or events i e ∷ []) answers (a ∷ []) run (subst (λ es. AnsweredOrIdle old es (answers ++ a ∷ [])) (take_more events i e below) idle) in
-    (parts.0, subst (λ x. AnsweredOrIdle mid (x ∷ []) (a ∷ [])) (sym is) parts.1)
 
 pub met_before : (answers : List Answer) (a : Answer) → MetDevice (answers ++ a ∷ []) → MetDevice answers ⊎ (a ≡ Failed Device)
 met_before [] a (inl here) = inr here
@@ -68,25 +56,177 @@ run_end old new (e ∷ es) [] run = absurd run
 run_end old new (e ∷ es) (Replied r ∷ answers) run = run_end (after old e) new es answers run.1
 run_end old new (e ∷ es) (Failed fault ∷ answers) run = run_end old new es answers run
 
+-- ---- what a crash leaves
+
+-- events that change nothing lead nowhere
+keep_ends : (w : World) (es : List Event) (answers : List Answer) → AllKeep w es answers → world_after w es answers ≡ w
+keep_ends w [] answers keep = refl
+keep_ends w (e ∷ es) [] keep = refl
+keep_ends w (e ∷ es) (Replied r ∷ answers) keep = keep_ends (after w e) es answers keep.1 ∙ keep.0
+keep_ends w (e ∷ es) (Failed fault ∷ answers) keep = keep_ends w es answers keep
+
+keep_more : (old mid : World) (es more : List Event) (answers last : List Answer) → Run old es answers mid
+    → AllKeep old es answers → AllKeep mid more last → AllKeep old (es ++ more) (answers ++ last)
+keep_more old mid [] more [] last run keep next = subst (λ w. AllKeep w more last) run next
+keep_more old mid [] more (a ∷ answers) last run keep next = absurd run
+keep_more old mid (e ∷ es) more [] last run keep next = absurd run
+keep_more old mid (e ∷ es) more (Replied r ∷ answers) last run keep next =
+    (keep.0, keep_more (after old e) mid es more answers last run.1 keep.1 next)
+keep_more old mid (e ∷ es) more (Failed fault ∷ answers) last run keep next = keep_more old mid es more answers last run keep next
+
+-- a world is pending still if nothing changes
+pending_first : (old mid : World) (es more : List Event) (answers last : List Answer) (x : World) → Run old es answers mid
+    → IsPending old es answers x → AllKeep mid more last → IsPending old (es ++ more) (answers ++ last) x
+pending_first old mid [] more [] last x run is keep = absurd is
+pending_first old mid [] more (a ∷ answers) last x run is keep = absurd run
+pending_first old mid (e ∷ es) more [] last x run is keep = absurd run
+pending_first old mid (e ∷ es) more (Replied r ∷ answers) last x run is keep =
+    pending_first (after old e) mid es more answers last x run.1 is keep
+pending_first old mid (e ∷ es) more (Failed fault ∷ answers) last x run (inl here) keep =
+    inl (here.0, keep_more old mid es more answers last run here.1 keep)
+pending_first old mid (e ∷ es) more (Failed fault ∷ answers) last x run (inr later) keep =
+    inr (pending_first old mid es more answers last x run later keep)
+
+pending_next : (old mid : World) (es more : List Event) (answers last : List Answer) (x : World) → Run old es answers mid
+    → IsPending mid more last x → IsPending old (es ++ more) (answers ++ last) x
+pending_next old mid [] more [] last x run is = subst (λ w. IsPending w more last x) run is
+pending_next old mid [] more (a ∷ answers) last x run is = absurd run
+pending_next old mid (e ∷ es) more [] last x run is = absurd run
+pending_next old mid (e ∷ es) more (Replied r ∷ answers) last x run is = pending_next (after old e) mid es more answers last x run.1 is
+pending_next old mid (e ∷ es) more (Failed fault ∷ answers) last x run is = inr (pending_next old mid es more answers last x run is)
+
+-- the last change that was answered is before or after
+settles_parts : (old mid : World) (es more : List Event) (answers last : List Answer) → Run old es answers mid
+    → Settles old (es ++ more) (answers ++ last) → (Settles old es answers × AnsweredOrIdle mid more last) ⊎ Settles mid more last
+settles_parts old mid [] more [] last run settles = inr (subst (λ w. Settles w more last) (sym run) settles)
+settles_parts old mid [] more (a ∷ answers) last run settles = absurd run
+settles_parts old mid (e ∷ es) more [] last run settles = absurd run
+settles_parts old mid (e ∷ es) more (Replied r ∷ answers) last run (inl here) =
+    let parts = idle_parts (after old e) mid es more answers last run.1 here.1 in inl (inl (here.0, parts.0), parts.1)
+settles_parts old mid (e ∷ es) more (Replied r ∷ answers) last run (inr later) =
+    elim (settles_parts (after old e) mid es more answers last run.1 later) [ inl both ↦ inl (inr both.0, both.1) | inr there ↦ inr there ]
+settles_parts old mid (e ∷ es) more (Failed fault ∷ answers) last run settles = settles_parts old mid es more answers last run settles
+
+module _ (w : World) (es more : List Event) (answers last : List Answer) (run : Run w es answers (world_after w es answers))
+    (same : world_after (world_after w es answers) more last ≡ world_after w (es ++ more) (answers ++ last)) (x y z : World) where
+  abbrev mid : World
+  mid = world_after w es answers
+
+  -- what may be left after both
+  may_more : MayLeave w es answers x y → MayLeave mid more last y z → MayLeave w (es ++ more) (answers ++ last) x z
+  may_more first (inl is) = inl (is ∙ same)
+  may_more first (inr (inl is)) = inr (inl (pending_next w mid es more answers last z run is))
+  may_more (inl is) (inr (inr still)) = inl (still.0 ∙ (is ∙ (sym (keep_ends mid more last still.1) ∙ same)))
+  may_more (inr (inl is)) (inr (inr still)) =
+      inr (inl (subst (λ v. IsPending w (es ++ more) (answers ++ last) v) (sym still.0) (pending_first w mid es more answers last y run is still.1)))
+  may_more (inr (inr first)) (inr (inr still)) = inr (inr (still.0 ∙ first.0, keep_more w mid es more answers last run first.1 still.1))
+
+-- ---- none, and one event
+
+-- nothing was done
+pub runs_none : (shown : Shown) (w : World) → shown.stands w → RunsAt shown shown w [] []
+runs_none shown w stands = record {
+  run = refl;
+  ends = stands;
+  left = λ idle was. was;
+  settled = λ never. absurd never;
+  beside = λ x was. (x, was, inr (inr (refl, tt)));
+}
+
+-- no event was done yet
+pub runs_begun : (shown : Shown) → Runs shown shown [] []
+runs_begun shown = record { honest = λ h. h; at = λ h w stands. runs_none shown w stands }
+
+-- an event was not begun
+pub runs_unasked : (shown : Shown) (w : World) (e : Event) (fault : StoreFault) → shown.stands w → RunsAt shown shown w (e ∷ []) (Failed fault ∷ [])
+runs_unasked shown w e fault stands = record {
+  run = refl;
+  ends = stands;
+  left = λ idle was. was;
+  settled = λ never. absurd never;
+  beside = λ x was. (x, was, inr (inr (refl, tt)));
+}
+
+module _ (old new : Shown) (w : World) (e : Event) where
+  -- it was answered
+  pub runs_replied : (r : Reply) → DoesAt old new w (Ok r) (reply_to w e) (after w e) → RunsAt old new w (e ∷ []) (Replied r ∷ [])
+  runs_replied r does = record {
+    run = (does.answer, refl);
+    ends = does.ok;
+    left = λ idle was. does.kept was;
+    settled = λ settles. elim settles [
+      | inl moved ↦ elim does.settled [ inl alone ↦ alone | inr same ↦ absurd (moved.0 same.0) ]
+      | inr never ↦ absurd never
+    ];
+    beside = λ x was. elim does.settled [
+      | inl alone ↦ (after w e, alone, inl refl)
+      | inr same ↦ (x, subst (λ v. new.leaves v x) (sym same.0) (same.1 w x was), inr (inr (refl, (same.0, tt))))
+    ];
+  }
+
+  -- it met a fault
+  pub runs_failed : {T : Type 0} (fault : StoreFault) (value : T) → DoesAt {T = T} old new w (Err fault) value (after w e)
+      → RunsAt old new w (e ∷ []) (Failed fault ∷ [])
+  runs_failed fault value does = record {
+    run = refl;
+    ends = does.err;
+    left = λ idle was. subst (λ x. new.leaves w x) idle.0 (does.left was);
+    settled = λ never. absurd never;
+    beside = λ x was. elim does.failed [
+      | inl two ↦ (after w e, two, inr (inl (inl (refl, tt))))
+      | inr none ↦ (x, none w x was, inr (inr (refl, tt)))
+    ];
+  }
+
+  -- it was answered and changed nothing, and the answer was lost
+  pub runs_lost : {T : Type 0} (x value : T) (fault : StoreFault) → DoesAt old new w (Ok x) value (after w e) → after w e ≡ w
+      → RunsAt old new w (e ∷ []) (Failed fault ∷ [])
+  runs_lost told value fault does same = record {
+    run = refl;
+    ends = subst new.stands same does.ok;
+    left = λ idle was. subst (λ x. new.leaves x x) same (does.kept was);
+    settled = λ never. absurd never;
+    beside = λ x was. elim does.settled [
+      | inl alone ↦ (w, subst (λ v. new.leaves v v) same alone, inl refl)
+      | inr still ↦ (x, still.1 w x was, inr (inr (refl, tt)))
+    ];
+  }
+
+-- ---- more events
+
 module _ (old mid new : Shown) where
-  at_push : (w : World) (events : List Event) (i : ℕ) (e : Event) (answers : List Answer) (a : Answer) → i < length events → e ≡ get_or events i e
-      → RunsAt old mid w (take i events) answers → RunsAt mid new (world_after w (take i events) answers) (e ∷ []) (a ∷ [])
-      → RunsAt old new w (take (i + 1) events) (answers ++ a ∷ [])
-  at_push w events i e answers a below is so last =
-      let end = world_after (world_after w (take i events) answers) (e ∷ []) (a ∷ []) in
-      let run = run_push w (world_after w (take i events) answers) end events i e answers a below is so.run last.run in
-      let same = run_end w end (take (i + 1) events) (answers ++ a ∷ []) run in
+  at_joined : (w : World) (events more : List Event) (answers last : List Answer) → RunsAt old mid w events answers
+      → RunsAt mid new (world_after w events answers) more last → RunsAt old new w (events ++ more) (answers ++ last)
+  at_joined w events more answers last first next =
+      let between = world_after w events answers in
+      let end = world_after between more last in
+      let run = run_more w between end events more answers last first.run next.run in
+      let same = run_end w end (events ++ more) (answers ++ last) run in
       record {
-        run = subst (λ x. Run w (take (i + 1) events) (answers ++ a ∷ []) x) same run;
-        ends = subst (λ x. new.stands x) same last.ends;
+        run = subst (λ x. Run w (events ++ more) (answers ++ last) x) same run;
+        ends = subst (λ x. new.stands x) same next.ends;
         left = λ idle was.
-            let parts = idle_push w (world_after w (take i events) answers) events i e answers a below is so.run idle in
-            subst (λ x. new.leaves x x) same (last.left parts.1 (so.left parts.0 was));
+            let parts = idle_parts w between events more answers last first.run idle in
+            subst (λ x. new.leaves x x) same (next.left parts.1 (first.left parts.0 was));
+        settled = λ settles. subst (λ x. new.leaves x x) same (elim (settles_parts w between events more answers last first.run settles) [
+          | inl both ↦ next.left both.1 (first.settled both.0)
+          | inr later ↦ next.settled later
+        ]);
+        beside = λ x was.
+            let y = first.beside x was in
+            let z = next.beside y.0 y.1 in
+            (z.0, subst (λ v. new.leaves v z.0) same z.1, may_more w events more answers last first.run same x y.0 z.0 y.2 z.2);
       }
+
+  pub runs_joined : (events more : List Event) (answers last : List Answer) → Runs old mid events answers → Runs mid new more last
+      → Runs old new (events ++ more) (answers ++ last)
+  runs_joined events more answers last first next = record {
+    honest = λ h. first.honest (next.honest h);
+    at = λ h w stands. let so = first.at (next.honest h) w stands in at_joined w events more answers last so (next.at h _ so.ends);
+  }
 
   pub runs_push : (events : List Event) (i : ℕ) (e : Event) (answers : List Answer) (a : Answer) → i < length events → e ≡ get_or events i e
       → Runs old mid (take i events) answers → Runs mid new (e ∷ []) (a ∷ []) → Runs old new (take (i + 1) events) (answers ++ a ∷ [])
-  runs_push events i e answers a below is so last = record {
-    honest = λ h. so.honest (last.honest h);
-    at = λ h w stands. let first = so.at (last.honest h) w stands in at_push w events i e answers a below is first (last.at h _ first.ends);
-  }
+  runs_push events i e answers a below is so last =
+      subst (λ es. Runs old new es (answers ++ a ∷ [])) (sym (take_more events i e below))
+      (runs_joined (take i events) (get_or events i e ∷ []) answers (a ∷ []) so (subst (λ x. Runs mid new (x ∷ []) (a ∷ [])) is last))

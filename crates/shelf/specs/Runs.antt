@@ -1,17 +1,46 @@
 -- What a list of events does in each world that a store stands for, and to what a crash may leave.
-use Rattle.std.specs.Prelude.{List}
+use Rattle.std.specs.Prelude.{◌≡◌, ◌≢◌, ◌⊎◌, List, ◌∷◌}
 use Rattle.world.specs.Store.{Shown}
 use Rattle.world.specs.World.{World}
 use Rattle.shelf.specs.declared.ask.Event.{Event}
 use Rattle.shelf.specs.declared.reply.Answer.{Answer}
-use Rattle.shelf.specs.Machine.{Run, AnsweredOrIdle, world_after}
+use Rattle.shelf.specs.declared.reply.Answer.TheVariants.{Replied, Failed}
+use Rattle.shelf.specs.Machine.{after, Run, AnsweredOrIdle, world_after}
+
+-- no event that was answered changed the world
+abbrev pub AllKeep : World → List Event → List Answer → Type 0
+AllKeep w (e ∷ es) (Replied r ∷ answers) = (after w e ≡ w) × AllKeep (after w e) es answers
+AllKeep w (e ∷ es) (Failed fault ∷ answers) = AllKeep w es answers
+AllKeep w es answers = Unit {0}
+
+-- an event that changed the world was answered, and each event after it was answered or changes nothing
+abbrev pub Settles : World → List Event → List Answer → Type 0
+Settles w (e ∷ es) (Replied r ∷ answers) = ((after w e ≢ w) × AnsweredOrIdle (after w e) es answers) ⊎ Settles (after w e) es answers
+Settles w (e ∷ es) (Failed fault ∷ answers) = Settles w es answers
+Settles w es answers = ⊥
+
+-- an event that met a fault would have led to this world, and no event after it changed the world
+abbrev pub IsPending : World → List Event → List Answer → World → Type 0
+IsPending w (e ∷ es) (Replied r ∷ answers) x = IsPending (after w e) es answers x
+IsPending w (e ∷ es) (Failed fault ∷ answers) x = ((x ≡ after w e) × AllKeep w es answers) ⊎ IsPending w es answers x
+IsPending w es answers x = ⊥
+
+-- Where a crash left x beside the world of the begin, it may leave y beside that of the end: that world itself, a
+-- pending one, or x if no event changed the world.
+abbrev pub MayLeave : World → List Event → List Answer → World → World → Type 0
+MayLeave w events answers x y =
+    (y ≡ world_after w events answers) ⊎ (IsPending w events answers y ⊎ ((y ≡ x) × AllKeep w events answers))
 
 -- In this world, the events may be answered so, and lead to the world after those that were answered.
--- If no event that would change it met a fault, a crash leaves that world alone, where it left this one alone before.
 pub record RunsAt (old new : Shown) (w : World) (events : List Event) (answers : List Answer) : Type 0 where
   pub run : Run w events answers (world_after w events answers)
   pub ends : new.stands (world_after w events answers)
+  -- if no event that would change it met a fault, a crash leaves the world at the end alone, where it left this one alone before
   pub left : AnsweredOrIdle w events answers → old.leaves w w → new.leaves (world_after w events answers) (world_after w events answers)
+  -- after a change that was answered it leaves that alone, whatever it left before, as long as no later change met a fault
+  pub settled : Settles w events answers → new.leaves (world_after w events answers) (world_after w events answers)
+  -- whatever met a fault, it leaves the world at the end or one other
+  pub beside : (x : World) → old.leaves w x → (y : World) × new.leaves (world_after w events answers) y × MayLeave w events answers x y
 
 -- In each world that the store stood for, these answers to the events are those of a run.
 pub record Runs (old new : Shown) (events : List Event) (answers : List Answer) : Type 0 where

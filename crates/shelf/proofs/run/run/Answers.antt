@@ -1,6 +1,17 @@
 use Rattle.std.proofs.Common.{arith, inl, inr}
-use Rattle.shelf.proofs.Runs.{runs_push, met_before, grown_more, grown_before}
+use Rattle.shelf.proofs.Runs.{runs_begun, runs_push, met_before, grown_more, grown_before}
 use Rattle.shelf.proofs.run.run.Goals as goal
+
+pub loop-event-init : goal.loop-event-init
+loop-event-init g c =
+    let made = c.in_ok-answers.ensures in
+    record {
+      runs = rw made.items (runs_begun (g.S.Shelves.shown c.args.shelves.now));
+      no_fewer = omega arith;
+      device = λ met. absurd (rw made.items at met);
+      count = made.len;
+      room = made.capacity;
+    }
 
 pub loop-event-preserved : goal.loop-event-preserved
 loop-event-preserved g c =

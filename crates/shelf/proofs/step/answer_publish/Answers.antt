@@ -2,6 +2,7 @@ use Rattle.std.proofs.Common.{◌≡◌, sym, subst, ◌∙◌, Some}
 use Rattle.std.specs.FinMap as map
 use Rattle.shelf.specs.Machine.{decision, after_decision}
 use Rattle.world.specs.Store.{DoesAt}
+use Rattle.shelf.proofs.AfterRead.{after_read}
 use Rattle.shelf.proofs.step.answer_publish.Goals as goal
 
 pub returns-clause-does : goal.returns-clause-does
@@ -18,5 +19,5 @@ returns-clause-does g c =
           let then =
           subst (λ o. DoesAt (shown c.key.new.self) (shown c.publish_to.new.shelves) w c.publish_to.result (decision w o c.args.publish.now) (after_decision w o c.args.publish.now (decision w o c.args.publish.now))) (sym found)
           (does.at h w key.stays there) in
-          record { answer = then.answer; ok = then.ok; err = then.err; left = λ was. then.left (key.left w w was); kept = λ was. then.kept (key.left w w was) };
+          after_read _ _ _ w c.publish_to.result _ _ key.left then;
     }

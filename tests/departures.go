@@ -1,11 +1,13 @@
 // Tells of each row on standard input what golang.org/x/mod says of it, for departures.py beside this file.
-// A row is tab-separated: path P, version P V, or gomod TEXT, where \n in TEXT stands for the end of a line.
+// A row is tab-separated: path P, version P V, or gomod TEXT, where \n in TEXT stands for the end of a line, and <C2 A0> for these bytes.
 package main
 
 import (
 	"bufio"
+	"encoding/hex"
 	"fmt"
 	"os"
+	"regexp"
 	"strings"
 
 	"golang.org/x/mod/modfile"
@@ -17,6 +19,20 @@ func word(err error) string {
 		return "accepted"
 	}
 	return "refused"
+}
+
+var named = regexp.MustCompile("<[0-9A-F ]+>")
+
+// unwritten returns the bytes of a go.mod, as a row writes it.
+func unwritten(text string) []byte {
+	text = strings.ReplaceAll(text, `\n`, "\n")
+	return []byte(named.ReplaceAllStringFunc(text, func(them string) string {
+		bytes, err := hex.DecodeString(strings.ReplaceAll(strings.Trim(them, "<>"), " ", ""))
+		if err != nil {
+			panic(err)
+		}
+		return string(bytes)
+	}))
 }
 
 func main() {
@@ -34,7 +50,7 @@ func main() {
 			}
 			fmt.Println(said)
 		case "gomod":
-			text := []byte(strings.ReplaceAll(row[1], `\n`, "\n"))
+			text := unwritten(row[1])
 			_, own := modfile.Parse("go.mod", text, nil)
 			_, other := modfile.ParseLax("go.mod", text, nil)
 			fmt.Printf("%s; in another module %s\n", word(own), word(other))

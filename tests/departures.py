@@ -5,6 +5,7 @@ It needs Debian's golang-go and golang-golang-x-mod-dev. With --print it prints 
 """
 
 import os
+import re
 import subprocess
 import sys
 import tempfile
@@ -17,7 +18,8 @@ PACKAGES = "/usr/share/gocode/src/golang.org/x/mod"
 LONG_PATH = "example.com/" + "a" * 244
 LONG_VERSION = "v1.0.0-" + "a" * 122
 
-# What a row is about, and the row: a path, a path and a version, or the text of a go.mod.
+# What a row is about, and the row: a path, a path and a version, or the text of a go.mod. In that text \n ends a line, and <C2 A0>
+# has the bytes that it names, as `unwritten` reads it.
 ROWS = [
     ("`gopkg.in` with `-unstable`", "path", "gopkg.in/yaml.v2-unstable"),
     ("a path of 256 bytes", "path", LONG_PATH),
@@ -45,6 +47,17 @@ ROWS = [
     ("a retracted interval from high to low", "gomod", r"module example.com/x\nretract [v1.1.0, v1.0.0]\n"),
     ("a retraction of another major", "gomod", r"module example.com/x\nretract v2.0.0\n"),
     ("a replacement by a Windows path", "gomod", r"module example.com/x\nreplace example.com/y => C:\y\n"),
+    ("an empty block on one line", "gomod", r"module example.com/x\nrequire ( )\n"),
+    ("a comment that is not UTF-8", "gomod", r"module example.com/x // <FF>\n"),
+    ("a required path with a reserved name", "gomod", r"module example.com/x\nrequire example.com/con v1.0.0\n"),
+    ("a required path with a plus sign", "gomod", r"module example.com/x\nrequire a+b v1.0.0\n"),
+    ("a replacement by a path without a dot in its first element", "gomod",
+     r"module example.com/x\nreplace example.com/y => mymod v1.0.0\n"),
+    ("a replacement by a version of another major", "gomod", r"module example.com/x\nreplace example.com/y => example.com/z v2.0.0\n"),
+    ("a replacement by `..`", "gomod", r"module example.com/x\nreplace example.com/y => ..\n"),
+    ("`go` with a release candidate", "gomod", r"module example.com/x\ngo 1.21rc1\n"),
+    ("a no-break space in a file path", "gomod", r"module example.com/x\nreplace example.com/y => ./a<C2 A0>b\n"),
+    ("a zero-width space in a file path", "gomod", r"module example.com/x\nreplace example.com/y => ./a<E2 80 8B>b\n"),
     ("a required path without a dot in its first element", "gomod",
      r"module example.com/x\nrequire mymod v0.0.0\nreplace mymod => ./mymod\n"),
 ]
@@ -61,6 +74,11 @@ def go_says(rows):
         return subprocess.run([program], input=text, capture_output=True, text=True, check=True).stdout.splitlines()
 
 
+def unwritten(text):
+    """The bytes of a go.mod, as a row writes it."""
+    return re.sub(rb"<([0-9A-F ]+)>", lambda named: bytes.fromhex(named[1].decode()), text.encode().replace(rb"\n", b"\n"))
+
+
 def escaped(text):
     """The case escape of the GOPROXY protocol."""
     return "".join("!" + c.lower() if c.isupper() else c for c in text)
@@ -70,12 +88,12 @@ def put(row):
     """The bytes of a publish of the row."""
     kind, rest = row[1], row[2:]
     if kind == "gomod":
-        path, version, gomod = "example.com/x", "v1.0.0", rest[0].replace(r"\n", "\n")
+        path, version, gomod = "example.com/x", "v1.0.0", unwritten(rest[0])
     else:
         path = rest[0]
         version = rest[1] if kind == "version" else "v2.0.0" if path.startswith("gopkg.in/") else "v1.0.0"
-        gomod = f"module {path}\n"
-    body = gomod.encode() + b"zip"
+        gomod = f"module {path}\n".encode()
+    body = gomod + b"zip"
     head = f"PUT /k/{KEY}/{escaped(path)}/@v/{escaped(version)} HTTP/1.1\r\nMod-Length: {len(gomod)}\r\nContent-Length: {len(body)}\r\n\r\n"
     return head.encode() + body
 

@@ -1,5 +1,5 @@
 #!/usr/bin/env python3
-"""What each command prints and how it ends: words, names, help, runs on one store, imports, inventories, and the port of `serve`.
+"""What each command prints and how it ends: words, names, help, runs on one store, imports, inventories, and the port and address of `serve`.
 
 A table holds runs, which are made in order, as `harness.runs_of` reads them. Each run is to end with its status, print its lines, byte
 for byte, and say its word or nothing on standard error.
@@ -8,9 +8,10 @@ for byte, and say its word or nothing on standard error.
 import os
 import re
 import socket
+import subprocess
 import sys
 
-from harness import Suite, in_new_folders, run, words_of, write
+from harness import PROGRAM, Suite, get, in_new_folders, reply, run, words_of, write
 
 NAMES = """
 answer --mem --team alpha --key A | 0
@@ -294,5 +295,25 @@ def serve(suite):
         suite.equal("serve on a port that is taken", run(words.split()), (1, b"", "goshelf: io\n"))
 
 
+def asked(address, port, request):
+    """What is answered to a request at an address and a port, or `refused`."""
+    try:
+        with socket.create_connection((address, port), timeout=60) as stream:
+            stream.sendall(request)
+            return b"".join(iter(lambda: stream.recv(65_536), b""))
+    except ConnectionRefusedError:
+        return "refused"
+
+
+def address(suite):
+    suite.runs("a new store", "init --db store.db | 0")
+    child = subprocess.Popen([PROGRAM, *"serve --db store.db --port 0 --connections 1".split()], stdout=subprocess.PIPE, text=True)
+    port = int(child.stdout.readline().rpartition(":")[2])
+    request = get("example.com/lib/@v/list")
+    suite.equal("serve does not listen at another address of the machine", asked("127.0.0.2", port, request), "refused")
+    suite.equal("serve answers at 127.0.0.1", asked("127.0.0.1", port, request), reply(404, b"not found\n"))
+    suite.equal("serve of one connection ends well", child.wait(60), 0)
+
+
 if __name__ == "__main__":
-    sys.exit(in_new_folders(Suite(), names, bad_usage, helped, one_store, imports, seen, serve))
+    sys.exit(in_new_folders(Suite(), names, bad_usage, helped, one_store, imports, seen, serve, address))

@@ -167,7 +167,7 @@ def ran(script):
         for name in ("bin", "work"):
             os.mkdir(f"{room}/{name}")
         os.symlink(os.path.abspath(PROGRAM), f"{room}/bin/goshelf")
-        settings = dict(os.environ, HOME=room, PATH=f"{room}/bin:{os.environ['PATH']}", goshelf="goshelf")
+        settings = dict(os.environ, HOME=room, PATH=f"{room}/bin:{ROOT}/tools:{os.environ['PATH']}", goshelf="goshelf")
         settings.update(GOPATH=f"{room}/go", GOCACHE=f"{room}/cache", GOFLAGS="-modcacherw", GOTOOLCHAIN="local")
         told = f"{room}/printed", f"{room}/errors"
         with open(told[0], "wb") as printed, open(told[1], "wb") as errors:
@@ -180,7 +180,7 @@ def ran(script):
 def run_blocks(suite, page, found):
     """Adds a row for each block of a page that runs."""
     script = "".join(f"{body}printf '%s\\n' '{MARK}'\n" for body, _ in found)
-    missing = [it for it in ("curl", "go", "python3") if re.search(rf"^{it} ", script, re.M) and not shutil.which(it)]
+    missing = [it for it in ("curl", "git", "go", "python3") if re.search(rf"^{it} ", script, re.M) and not shutil.which(it)]
     if missing:
         suite.skip(f"{page}: blocks", f"{missing[0]} is not installed")
         return

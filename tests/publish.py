@@ -20,13 +20,12 @@ import subprocess
 import sys
 import tempfile
 import threading
-import time
 import zipfile
 
 from go_client import escaped, h1
-from harness import KEYS, PROGRAM, ROOT, Suite, add_shelf, done, new_store, run, write
+from harness import KEYS, PROGRAM, ROOT, Suite, new_store, run, write
 
-NEEDS = ["curl", "git", "go"]
+NEEDS = ["curl", "git", "go", "ps"]
 PUBLISH, ADOPT = (os.path.join(ROOT, "tools", it) for it in ("publish", "adopt"))
 SHELL = shutil.which("dash") or "sh"
 KEY, READER = KEYS["A"], KEYS["R"]
@@ -66,7 +65,7 @@ class Room:
 
     def go(self, at, proxies, *words):
         """Runs the go command as a user with a cache below a folder of its own."""
-        own = {"GOPATH": f"{self.folder}/{at}/path", "GOPROXY": proxies, "GOSUMDB": "off", "GOFLAGS": "-modcacherw", "CGO_ENABLED": "0"}
+        own = {"GOPATH": f"{self.folder}/{at}-path", "GOPROXY": proxies, "GOSUMDB": "off", "GOFLAGS": "-modcacherw", "CGO_ENABLED": "0"}
         return subprocess.run(["go", *words], cwd=f"{self.folder}/{at}", env={**self.env, **own}, capture_output=True, text=True, timeout=300)
 
 
@@ -222,7 +221,6 @@ def publishes(room, server, rows):
         wanted = repository.lines(path, version, commit, folder)
         SUITE.equal(f"check {path} {ref}", room.publish("--check", *words[4:]), (0, f"checked {wanted}", ""))
         SUITE.equal(f"publish {path} {ref}", room.publish(*words), (0, f"published {wanted}", ""))
-        SUITE.equal(f"publish {path} {ref} again", room.publish(*words), (0, f"already published {wanted}", ""))
         info = server.ask("GET", f"{escaped(path)}/@v/{escaped(version)}.info")
         SUITE.holds(f"the time of {path} {version}", info[0] == 200 and f'"{TIME}"'.encode() in info[1], info)
 
@@ -253,6 +251,10 @@ def from_host(room, server):
     for path, ref, version, folder in (("github.com/acme/tool", "v1.0.0", "v1.0.0", ""), ("github.com/acme/tool/sub", "sub/v0.1.0", "v0.1.0", "sub")):
         wanted = 0, "published " + hosted.lines(path, version, hosted.first, folder), ""
         SUITE.equal(f"from its host: {path}", room.publish(*words, path, ref, **settings), wanted)
+    other = {**settings, "GIT_CONFIG_VALUE_0": "https://github.com/acme/wrong"}
+    sentence = "the go.mod at v1.0.0 names github.com/acme/tool, not github.com/acme/wrong: publish it by that path; capitals count"
+    refused(room, "from its host: another path", sentence, *words, "github.com/acme/wrong", "v1.0.0", **other)
+    refused(room, "from its host: no version", "v1.0 is not a version: name the tag vMAJOR.MINOR.PATCH", *words, "github.com/acme/tool", "v1.0", **settings)
 
 
 def consumes(room, server, rows):
@@ -286,7 +288,7 @@ def in_repository(room, greet, url):
     table = [
         ("no such tag", "example.com/greet", "v9.9.9", f"{greet.folder} has no tag v9.9.9 for example.com/greet: make it by git tag, or {fetch}"),
         ("no such branch", "example.com/greet", "nosuch", f"{greet.folder} has no tag, branch or commit nosuch: check the name, or {fetch}"),
-        ("a tag that is no version", "example.com/greet", "v1.1", "the tag v1.1 is not a version: name it vMAJOR.MINOR.PATCH"),
+        ("a tag that is no version", "example.com/greet", "v1.1", "v1.1 is not a version: name the tag vMAJOR.MINOR.PATCH"),
         ("a tag of another module", "example.com/greet", "sub/v0.1.0", "the tag sub/v0.1.0 is of a module in sub, and example.com/greet does not end with that: name the module of the tag"),
         ("another path", "example.com/hello", "v1.0.0", "no go.mod of v1.0.0 names example.com/hello where the path ends with its folder, and capitals count"
          "; Words/go.mod names example.com/greet/Words; go.mod names example.com/greet; sub/go.mod names example.com/greet/sub; sub/v3/go.mod names example.com/greet/sub/v3; v2/go.mod names example.com/greet/v2"),
@@ -394,7 +396,7 @@ def conflicts(room, server):
     refused(room, "another time", times, *words, "v1.2.0")
     _, here, mod = other.lines(path, "v1.3.0", first).splitlines()
     no_zip = "(the go command reads no such zip)"
-    refused(room, "rubbish", front.format(path, "v1.3.0", path, "v1.3.0", no_zip, f"{path} v1.3.0/go.mod {no_zip}", here, mod), *words, "v1.3.0")
+    refused(room, "rubbish", front.format(path, "v1.3.0", path, "v1.3.0", no_zip, mod, here, mod), *words, "v1.3.0")
 
 
 def of_goshelf(room, server):
@@ -430,11 +432,13 @@ def of_others(room, greet):
     ]  # fmt: skip
     for status, body, wanted in table:
         Answers.answer = status, body.encode()
-        told = room.publish(*words)
-        SUITE.equal(f"an answer {status} {body.strip()}", re.sub(r"of \d+ bytes", "of SIZE bytes", told[2]), f"publish: {wanted}\n")
-        SUITE.equal(f"its status for {status} {body.strip()}", told[:2], (1, ""))
+        code, output, errors = room.publish(*words)
+        told = code, output, re.sub(r"of \d+ bytes", "of SIZE bytes", errors)
+        SUITE.equal(f"an answer {status} {body.partition(chr(10))[0]}", told, (1, "", f"publish: {wanted}\n"))
     keys = [it for it in Answers.words if any(key in it for key in KEYS.values())]
     SUITE.holds("no key among the words of a process", Answers.words and not keys, keys)
+    told = room.publish("--to", url.replace("http", "https"), *words[2:])
+    SUITE.holds("no TLS", told[:2] == (1, "") and told[2].startswith(f"publish: no TLS with {url.replace('http', 'https')}: "), told)
     by_netrc(room, url, [*words[:2], *words[4:]])
     behind.shutdown()
 
@@ -476,10 +480,30 @@ def hangs_up(room, greet):
         SUITE.holds("a server that hangs up", told[:2] == (1, "") and "closed the connection, so it may or may not have published" in told[2], told)
 
 
-def blocks(page, kind):
-    """The blocks of code of a page of a kind."""
-    with open(os.path.join(ROOT, "docs", page), encoding="utf-8") as file:
-        return re.findall(rf"```{kind}\n(.*?)```", file.read(), re.S)
+def blocks(page, kind, word=""):
+    """The blocks of code of a page, by their kind and a word that stands in them."""
+    with open(os.path.join(ROOT, page), encoding="utf-8") as file:
+        return [it for it in re.findall(rf"```{kind}\n(.*?)```", file.read(), re.S) if word in it]
+
+
+def shell(room, folder, script, replaced, **more):
+    """Runs a block of a page in a folder, with other words in the place of some, and returns its status, output and errors."""
+    for old, new in replaced.items():
+        assert old in script, old
+        script = script.replace(old, new)
+    env = {**room.env, **more}
+    ran = subprocess.run(["bash", "-e", "-c", script], cwd=folder, env=env, capture_output=True, text=True, timeout=300)
+    SAID.append(ran.stderr)
+    return ran.returncode, ran.stdout, ran.stderr
+
+
+def readme(room, server, greet):
+    """The command of the README, in a clone."""
+    shutil.copy(f"{room.folder}/key", f"{room.folder}/home/goshelf.key")
+    found = blocks("README.md", "sh", "tools/publish")
+    told = shell(room, greet.folder, found[0], {"tools/publish": PUBLISH, "http://127.0.0.1:8080": server.url})
+    wanted = 0, "already published " + greet.lines("example.com/greet", "v1.0.0", greet.first), ""
+    SUITE.equal("the command of the README", (len(found), told), (1, wanted))
 
 
 def jobs(room, server):
@@ -488,7 +512,7 @@ def jobs(room, server):
     shutil.copytree(os.path.join(ROOT, "tools"), f"{team.folder}/tools", ignore=lambda _, names: set(names) - {"publish"})
     files = {**module("example.com/team"), **module("example.com/team/one", "one"), **module("example.com/team/two", "two")}
     team.first = team.commit(files, "v1.0.0", "one/v0.1.0", "two/v0.2.0")
-    found = blocks("TUTORIAL.md", "yaml")
+    found = blocks("docs/TUTORIAL.md", "yaml")
     SUITE.equal("jobs of the tutorial", len(found), 2)
     for text, tags in zip(found, (["v1.0.0", "one/v0.1.0"], ["two/v0.2.0"])):
         SUITE.holds("a job has at most 15 lines", text.count("\n") <= 15, text)
@@ -500,17 +524,21 @@ def job(room, server, team, text, tag):
     """Runs the script of a job as its system does: on a clone of the tag, with the system's variables."""
     folder = tempfile.mkdtemp(prefix="job-", dir=room.folder)
     team.git("clone", "-q", "-b", tag, team.folder, f"{folder}/clone")
-    script = "".join(f"{line[8:] if line.startswith('          ') else line[6:]}\n" for line in text.splitlines() if is_script(line))
     own = {"CI_COMMIT_TAG": tag, "GITHUB_REF_NAME": tag, "GOSHELF_KEY": f"{room.folder}/key", "KEY": KEY}
-    script = script.replace("https://shelf.example.com", server.url)
-    ran = subprocess.run(["bash", "-e", "-c", script], cwd=f"{folder}/clone", env={**room.env, **own}, capture_output=True, text=True, timeout=300)
+    told = shell(room, f"{folder}/clone", script_of(text), {"https://shelf.example.com": server.url}, **own)
     folder_of, _, version = tag.rpartition("/")
     path = f"example.com/team/{folder_of}".rstrip("/")
-    SUITE.equal(f"a job for {tag}", (ran.returncode, ran.stdout, ran.stderr), (0, "published " + team.lines(path, version, team.first, folder_of), ""))
+    SUITE.equal(f"a job for {tag}", told, (0, "published " + team.lines(path, version, team.first, folder_of), ""))
 
 
-def is_script(line):
-    return re.match(r"    - |      (?!- |env|with|KEY)|          ", line)
+def script_of(text):
+    """The commands of a job: the items of `script:`, which lines further in continue, or the lines below `run: |`."""
+    lines = text.splitlines()
+    if "  script:" not in lines:
+        at = next(at for at, line in enumerate(lines) if line.endswith("run: |"))
+        return "\n".join(line[10:] for line in lines[at + 1 :])
+    items = "\n".join(lines[lines.index("  script:") + 1 :]).split("    - ")
+    return "\n".join(" ".join(it.split("\n      ")).strip() for it in items)
 
 
 def list_of(room, *words):
@@ -521,27 +549,42 @@ def list_of(room, *words):
 
 def adopts(room, rows):
     """The user's module cache, a static proxy and an Athens are listed, imported into a new store, and read from there with the same sums."""
-    cache = f"{room.folder}/user/path/pkg/mod"
+    cache = f"{room.folder}/user-path/pkg/mod"
     found, status, errors, text = list_of(room, cache)
     wanted = sorted((path, version) for path, _, version, *_ in rows)
     SUITE.equal("the module cache: versions", sorted((it[0], it[1]) for it in found[1:]), wanted)
     SUITE.equal("the module cache: status", (status, found[0]), (0, ["path", "version", "time", "mod", "zip"]))
     times = {it[2] for it in found[1:] if "2024" not in it[1]}
     SUITE.holds("the module cache: times", times <= {TIME, ""}, (times, errors))
-    imports(room, "cache", text, rows)
+    of_page(room, cache, rows)
     static(room, f"{cache}/cache/download", found)
     athens(room, found, rows)
     of_folders(room, found)
 
 
+def of_page(room, cache, rows):
+    """The commands of docs/OPERATING.md: of the versions of example.com in a module cache to a store."""
+    new_store(f"{room.folder}/cache.db", ("alpha", KEY, READER))
+    script = blocks("docs/OPERATING.md", "sh", "tools/adopt")[0]
+    replaced = {"tools/adopt": f"{sys.executable} {ADOPT}", "goshelf import": f"{PROGRAM} import", "/var/lib/goshelf/shelves.db": f"{room.folder}/cache.db"}
+    told = shell(room, room.folder, script, {**replaced, "--key KEY": f"--key {KEY}"}, GOMODCACHE=cache)
+    few = [it for it in rows if it[0].startswith("example.com/")]
+    SUITE.equal("the commands of OPERATING", (told[0], told[1].count(" 201 published\n")), (0, len(few))) or print(told)
+    fetches(room, "cache", few)
+
+
 def imports(room, name, text, rows):
     """Imports a list into a new store, and downloads each version from it."""
-    store = f"{room.folder}/{name}.db"
-    new_store(store, ("alpha", KEY, READER))
+    new_store(f"{room.folder}/{name}.db", ("alpha", KEY, READER))
     write({f"{room.folder}/{name}.csv": text})
-    status, printed, told = run(["import", "--db", store, "--key", KEY, "--list", f"{room.folder}/{name}.csv"])
+    status, printed, told = run(["import", "--db", f"{room.folder}/{name}.db", "--key", KEY, "--list", f"{room.folder}/{name}.csv"])
     SUITE.holds(f"{name}: import", status == 0 and printed.decode().count(" 201 published\n") == len(rows), (printed, told))
-    server = Server(store)
+    fetches(room, name, rows)
+
+
+def fetches(room, name, rows):
+    """The go command downloads each version from a store with the sums of the repository."""
+    server = Server(f"{room.folder}/{name}.db")
     os.mkdir(f"{room.folder}/{name}")
     for path, _, version, repository, commit, folder in rows:
         told = room.go(name, f"{server.url}/k/{READER}", "mod", "download", "-json", f"{path}@{version}").stdout
@@ -637,9 +680,9 @@ def session(folder):
     of_keys(room, server, greet)
     conflicts(room, server)
     of_goshelf(room, server)
+    readme(room, server, greet)
     jobs(room, server)
     nobody = f"http://127.0.0.1:{free_port()}"
-    held = server.ask("GET", "-/modules")
     in_repository(room, greet, nobody)
     of_shape(room, nobody)
     of_others(room, greet)

@@ -289,7 +289,7 @@ def in_repository(room, greet, url):
         ("no such tag", "example.com/greet", "v9.9.9", f"{greet.folder} has no tag v9.9.9 for example.com/greet: make it by git tag, or {fetch}"),
         ("no such branch", "example.com/greet", "nosuch", f"{greet.folder} has no tag, branch or commit nosuch: check the name, or {fetch}"),
         ("a tag that is no version", "example.com/greet", "v1.1", "v1.1 is not a version: name the tag vMAJOR.MINOR.PATCH"),
-        ("a tag of another module", "example.com/greet", "sub/v0.1.0", "the tag sub/v0.1.0 is of a module in sub, and example.com/greet does not end with that: name the module of the tag"),
+        ("a tag of another module", "example.com/greet", "sub/v0.1.0", "the tag sub/v0.1.0 is of a module in sub, not of example.com/greet: name the module of the tag; a folder v2 is no part of one"),
         ("another path", "example.com/hello", "v1.0.0", "no go.mod of v1.0.0 names example.com/hello where the path ends with its folder, and capitals count"
          "; Words/go.mod names example.com/greet/Words; go.mod names example.com/greet; sub/go.mod names example.com/greet/sub; sub/v3/go.mod names example.com/greet/sub/v3; v2/go.mod names example.com/greet/v2"),
         ("an escaped path", "example.com/greet/!words", "v1.0.0", "example.com/greet/!words is not a module path: write it as the go.mod does, with capitals and without !"),

@@ -1,5 +1,5 @@
 //! The checks of a publish.
-ghost use Rattle.std.specs.Prelude.{◌≡◌, option_copied, true};
+ghost use Rattle.std.specs.Prelude.{◌≡◌, Some, true};
 ghost use Rattle.shelf.specs.Machine as spec;
 
 use crate::ask::{GivenTime, Publish};
@@ -10,16 +10,16 @@ use world::reading::Reading;
 use world::standing::Standing;
 
 /// The outcome of the twelve checks of a publish, in their order. They take the right of the key (none: an unknown key),
-/// the go.mod as it was read (none: an earlier check fails), how the entry stands to what the shelf sees, and the count
-/// of the path. It takes no memory.
+/// the go.mod as it was read, how the entry stands to what the shelf sees, and the count of the path. It takes no memory.
+/// There is no decision without a go.mod: [`refusal`] has the checks that come before it.
 pub fn decide(
     publish: &Publish,
     right: Option<Right>,
-    gomod: Option<&Reading>,
+    gomod: &Reading,
     standing: Standing,
     count: u64,
 ) -> Decision
-    ensures { result ≡ spec.decided publish.now right (option_copied gomod.entry) standing count }
+    ensures { result ≡ spec.decided publish.now right (Some gomod.now) standing count }
 {
     if let Some(refused) = refusal(publish, right) {
         return refused;
@@ -31,10 +31,10 @@ pub fn decide(
 }
 
 /// The answer of the first check of the go.mod that fails. It takes no memory.
-pub fn gomod_refusal(publish: &Publish, gomod: Option<&Reading>) -> Option<Decision>
-    ensures { result ≡ spec.first_failing (spec.gomod_checks publish.now (option_copied gomod.entry)) }
+pub fn gomod_refusal(publish: &Publish, gomod: &Reading) -> Option<Decision>
+    ensures { result ≡ spec.first_failing (spec.gomod_checks publish.now (Some gomod.now)) }
 {
-    let misfit = module_misfit(&publish.path, &publish.version, gomod?)?;
+    let misfit = module_misfit(&publish.path, &publish.version, gomod)?;
     Some(told(misfit))
 }
 

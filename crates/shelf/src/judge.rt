@@ -44,8 +44,10 @@ fn own_refusal(
     if let Some(refused) = refusal(publish, Some(right)) {
         return Ok(Some(refused));
     }
-    let gomod = read_gomod(alloc, publish)?;
-    Ok(gomod_refusal(publish, gomod.as_ref()))
+    match read_gomod(alloc, publish)? {
+        Some(gomod) => Ok(gomod_refusal(publish, &gomod)),
+        None => Ok(None),
+    }
 }
 
 /// What reading the go.mod of a publish gives.

@@ -4,7 +4,6 @@ ghost use Rattle.shelf.specs.Publishing.{AnswersPut, PublishesTo, CarriesOut, St
 ghost use Rattle.world.specs.Store.{Does, HasCause};
 
 use crate::ask::{Ask, Publish};
-use crate::decide::decide;
 use crate::judge::judge;
 use crate::queries::answer_query;
 use crate::reply::{Decision, Reply};
@@ -12,7 +11,6 @@ use std::alloc::Global;
 use world::entry::Holder;
 use world::registry::StoreFault;
 use world::shelves::Shelves;
-use world::standing::Standing;
 
 /// Answers a request.
 pub fn step<S: Shelves>(alloc: Global, shelves: &mut S, ask: &Ask) -> Result<Reply, StoreFault>
@@ -43,7 +41,7 @@ fn answer_publish<S: Shelves>(
     ensures cause { HasCause (S.failure_count shelves.old) (S.failure_count shelves.new) result }
 {
     let Some(holder) = shelves.key(key)? else {
-        return Ok(decide(publish, None, None, Standing::Absent, 0));
+        return Ok(Decision::NotFound);
     };
     publish_to(alloc, shelves, &holder, publish)
 }

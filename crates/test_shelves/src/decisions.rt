@@ -81,12 +81,9 @@ fn right(text: &str) -> Option<Right> {
     }
 }
 
-fn reading(alloc: Global, text: &str) -> Result<Option<Reading>, AllocError> {
-    if text == "-" {
-        return Ok(None);
-    }
+fn reading(alloc: Global, text: &str) -> Result<Reading, AllocError> {
     let gomod = with_lines(alloc, text)?;
-    Ok(Some(Reading::of(alloc, gomod.as_bytes())?))
+    Reading::of(alloc, gomod.as_bytes())
 }
 
 /// The entry that a publish with the go.mod of the path makes; none for no zip.
@@ -117,7 +114,7 @@ fn decided_as_read(
     alloc: Global,
     row: &str,
     publish: &Publish,
-    reading: Option<&Reading>,
+    reading: &Reading,
 ) -> Result<Decision, Fail> {
     let right = right(column(row, 0));
     let count = column(row, 8).parse::<u64>()?;
@@ -128,7 +125,7 @@ fn decided_as_read(
 
 fn decided(alloc: Global, row: &str, publish: &Publish) -> Result<Decision, Fail> {
     let reading = reading(alloc, column(row, 5))?;
-    decided_as_read(alloc, row, publish, reading.as_ref())
+    decided_as_read(alloc, row, publish, &reading)
 }
 
 #[test]

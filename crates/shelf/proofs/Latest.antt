@@ -1,5 +1,5 @@
 -- The latest version of a path.
-use Rattle.std.proofs.Common.{◌≡◌, ℕ, List, [], refl, ◌∙◌, sym, ap, subst, Some, None, Result, Ok, Err}
+use Rattle.std.proofs.Common.{◌≡◌, ℕ, List, [], refl, ◌∙◌, sym, ap, subst, Some, None, Result, Ok}
 use Rattle.std.specs.Prelude.{◌↔◌, Contains}
 use Rattle.gomod.specs.Module.{GoModule, IsRetracted}
 use Rattle.gomod.specs.Reading as gomod
@@ -15,7 +15,7 @@ use Rattle.shelf.specs.declared.ask.Query.TheVariants as query
 use Rattle.world.specs.declared.reading.Reading.{Reading}
 use Rattle.world.specs.declared.reading.Reading.TheVariants.{Module, Fault}
 use Rattle.shelf.specs.declared.reply.Reply.TheVariants as reply
-use Rattle.world.specs.GoMods.{Says, told, reading_of, module_told}
+use Rattle.world.specs.GoMods.{Says, reading_of, module_told}
 use Rattle.world.specs.Versions.{versions_of}
 use Rattle.world.specs.Latest.{module_of, highest_left, latest_by, latest_of, AllOf, highest, unretracted}
 use Rattle.shelf.specs.Machine.{latest_reply, info_reply, query_reply}
@@ -23,14 +23,11 @@ use Rattle.world.specs.Visible.{IsSeen, seen_versions}
 use Rattle.shelf.specs.PathLaws.{HighestSays, unretracted_versions, LatestIsTheTop, NoneIsLatest, HasTime, LatestIsTold, LatestIsNotFound}
 use Rattle.world.specs.World.{World, IsWorld, view, without_zip, heading}
 use Rattle.world.proofs.Members.{no_member}
+use Rattle.world.proofs.Profiles.{reading_ok}
 use Rattle.world.proofs.Highest.{none_highest, highest_top, left}
 use Rattle.world.proofs.SeenVersions.{entry_at, seen_members, versions_fit}
 
 -- ---- what a go.mod says
-
-reading_ok : (r : Result GoModule GoModFault) (m : GoModule) → told r ≡ Module m → r ≡ Ok m
-reading_ok (Ok x) m e = let same : x ≡ m = cc e in ap Ok same
-reading_ok (Err f) m e = cc e
 
 module_read : (r : Reading) (m : GoModule) → module_told r ≡ Some m → r ≡ Module m
 module_read (Module x) m e = let same : x ≡ m = cc e in ap Module same

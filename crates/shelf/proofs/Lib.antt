@@ -17,3 +17,4 @@ pub mod Changes
 pub mod Told
 pub mod Latest
 pub mod Parts
+pub mod Profiles

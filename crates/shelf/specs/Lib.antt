@@ -7,3 +7,4 @@ pub mod PathLaws
 pub mod Isolation
 pub mod Immutability
 pub mod Parts
+pub mod Profiles

@@ -3,6 +3,7 @@ ghost use Rattle.shelf.specs.Laws.{WorldStays, RunsKeepWorlds, OnlyChangesChange
 ghost use Rattle.shelf.specs.Immutability.{StaysServed, AcceptedIsServed, RepeatedListChangesNothing};
 ghost use Rattle.shelf.specs.PathLaws.{VersionsAreSeen, PathsAreSeen, PathsAreTold, ListIsTold, ListIsNotFound, LatestIsTheTop, NoneIsLatest, LatestIsTold, LatestIsNotFound};
 ghost use Rattle.shelf.specs.Isolation.{IsIsolated, PurgedRunsAgree, FaultyRunsAgree, MarksAreAsLong, MarksAreAtTheirMoment, OnlyOthersGo, PurgeIsTheSame, AgreeIsLow, IsBlind};
+ghost use Rattle.shelf.specs.Profiles.{ProfileInForceIsTheMachine, Profile2KeepsAnswers};
 ghost use Rattle.shelf.specs.Parts.{PartIsLow, IsBlindThroughout, PartTellsTheSame, OthersAreNotFound};
 
 /// Each event leads from a world to a world.
@@ -97,4 +98,12 @@ pub fn latest_version()
     ensures none { NoneIsLatest }
     ensures told { LatestIsTold }
     ensures not_found { LatestIsNotFound }
+{}
+
+/// In a world whose go.mods the first profile reads, the second answers each event as the first does and leads to the
+/// same world, except that a publish whose go.mod the first refuses may be answered otherwise. The machine is that of
+/// the profile in force.
+pub fn profile_2_keeps_answers()
+    ensures in_force { ProfileInForceIsTheMachine }
+    ensures kept { Profile2KeepsAnswers }
 {}

@@ -1,9 +1,10 @@
 -- One text is written after another.
-use Rattle.std.proofs.Common.{◌++◌, List, ℕ, Option, Ok, Err, Result, sym, ap, ◌∙◌, append_assoc}
+use Rattle.std.proofs.Common.{◌≢◌, ◌++◌, List, ℕ, Option, [], ◌∷◌, Ok, Err, Result, refl, sym, ap, ◌∙◌, append_assoc, append-nil}
 use Rattle.std.proofs.KnownBytes.{Appends-trans}
 use Rattle.std.specs.Io.KnownBytes.{Appends}
-use Rattle.engine.specs.Written.{Writes}
+use Rattle.engine.specs.Written.{Writes, WritesPart}
 use Rattle.engine.specs.declared.fault.Io.{Io}
+use Rattle.commands.specs.ImportLine.{PrintsFront}
 
 -- a text was written, and then another, or a beginning of it
 pub writes_after : {T : Type 0} (a b c : Option (List ℕ)) (first last : List ℕ) (result : Result T Io) → Appends a b first → Writes b c last result
@@ -18,3 +19,17 @@ writes_after a b c first last (Err e) done then =
         Appends-trans a b c first front done then.1.2,
       ),
     )
+
+longer : (rest last : List ℕ) → rest ≢ [] → rest ++ last ≢ []
+longer [] last some = absurd (some refl)
+longer (x ∷ rest) last some = λ none. cc
+
+-- a beginning of the first of two texts is one of both
+pub part_first : (a b : Option (List ℕ)) (first last : List ℕ) → WritesPart a b first → WritesPart a b (first ++ last)
+part_first a b first last (front, (rest, some, cut), did) =
+    (front, (rest ++ last, longer rest last some, ap (λ l. l ++ last) cut ∙ append_assoc front rest last), did)
+
+-- what was written is a beginning of the text, however the write ended
+pub writes_front : {T : Type 0} (a b : Option (List ℕ)) (text : List ℕ) (result : Result T Io) → Writes a b text result → PrintsFront a b text
+writes_front a b text (Ok u) done = (text, ([], sym (append-nil text)), done)
+writes_front a b text (Err e) part = (part.1.0, (part.1.1.0, part.1.1.2), part.1.2)

@@ -1,8 +1,7 @@
 -- How a run ends, and what it tells of it.
-use Rattle.std.specs.Prelude.{ℕ, List, ◌≡◌, ◌++◌, codes, Bool, true, false, Option, Result, Ok, Err, OnOk}
-use Rattle.std.specs.Io.KnownBytes.{Appends}
-use Rattle.std.specs.declared.io.Error.{Error}
+use Rattle.std.specs.Prelude.{ℕ, List, ◌≡◌, ◌++◌, codes, Bool, true, false, Option, Result, Ok, Err}
 use Rattle.commands.specs.Ending.{word}
+use Rattle.commands.specs.ImportLine.{PrintsFront}
 use Rattle.commands.specs.declared.refusal.Refusal.{Refusal}
 use Rattle.commands.specs.declared.exit.Ending.{Ending}
 use Rattle.commands.specs.declared.exit.Ending.TheVariants.{Done, NotAccepted, Refused, BadUsage}
@@ -30,7 +29,8 @@ module _ (errors errors_new : Option (List ℕ)) where
   IsSilent BadUsage = Unit {0}
   IsSilent other = errors_new ≡ errors
 
-  -- Where the command was refused, the line of its word was written to the errors, or that write failed; else nothing was.
+  -- Where the command was refused, a beginning of the line of its word was written to the errors: all of it, unless a write
+  -- failed. Else nothing was.
   abbrev pub Says : Ending → Type 0
-  Says (Refused why) = (written : Result (Unit {0}) Error) × OnOk written (Appends errors errors_new (line_of why))
+  Says (Refused why) = PrintsFront errors errors_new (line_of why)
   Says other = errors_new ≡ errors

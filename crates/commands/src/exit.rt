@@ -1,10 +1,12 @@
 //! How a run ends: its exit status, and the line that tells why a command was refused.
-ghost use Rattle.std.specs.Prelude.{◌≡◌, OnOk};
-ghost use Rattle.std.specs.Io.KnownBytes.{Appends};
+ghost use Rattle.std.specs.Prelude.{◌≡◌};
+ghost use Rattle.engine.specs.Written.{Writes};
 ghost use Rattle.commands.specs.Exit as spec;
 
 use crate::refusal::Refusal;
-use std::io::{self, Write};
+use engine::Io;
+use engine::write::{write_both, write_bytes};
+use std::io::Write;
 
 /// How a run ended.
 #[derive(Clone, Copy, Debug, Drop, PartialEq, Eq)]
@@ -42,8 +44,8 @@ impl Ending {
         }
     }
 
-    /// Writes the line that says why the command was refused, if it was. It gives up a line that can't be written: the exit
-    /// status says the same.
+    /// Writes the line that says why the command was refused, if it was. If a write fails, a beginning of the line was written,
+    /// and it gives up the rest: the exit status says the same.
     pub fn tell<E: Write>(self, errors: &mut E)
         ensures { spec.Says (E.contents errors.old) (E.contents errors.new) self }
     {
@@ -53,11 +55,10 @@ impl Ending {
     }
 }
 
-/// Writes the line `goshelf: <word>`.
-fn write_line<E: Write>(refusal: Refusal, errors: &mut E) -> io::Result<()>
-    ensures { OnOk result (Appends (E.contents errors.old) (E.contents errors.new) (spec.line_of refusal)) }
+/// Writes the line `goshelf: <word>`. An `Err` has written a beginning of it, and not all.
+fn write_line<E: Write>(refusal: Refusal, errors: &mut E) -> Result<(), Io>
+    ensures { Writes (E.contents errors.old) (E.contents errors.new) (spec.line_of refusal) result }
 {
-    errors.write_all(b"goshelf: ")?;
-    errors.write_all(refusal.word().as_bytes())?;
-    errors.write_all(b"\n")
+    write_bytes(errors, b"goshelf: ")?;
+    write_both(errors, refusal.word().as_bytes(), b"\n")
 }

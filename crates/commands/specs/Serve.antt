@@ -18,8 +18,8 @@ port_line port = port_text port ++ codes "\n"
 abbrev pub Announces : ℕ → Option (List ℕ) → Option (List ℕ) → Type 0
 Announces port written written_new = (bound : ℕ) × (port ≢ 0 → bound ≡ port) × Appends written written_new (port_line bound)
 
--- The port was printed, and the store went through the requests of the connections. Or the port can't be had, or the output
--- failed: then the store stays as it was.
+-- A port was printed, and the store went through no more requests than there are connections. Or the port can't be had, or the
+-- output failed: then the store stays as it was.
 abbrev pub Listens : {S : Type 0} → (S → Shown) → (S → ℕ) → S → S → ℕ → ℕ → Option (List ℕ) → Option (List ℕ) → Result (Unit {0}) Refusal → Type 0
 Listens shown failures old new port connections written written_new result =
     MatchResult result

@@ -54,7 +54,7 @@ module _ {S : Type 0} (shown : S → Shown) (failures : S → ℕ) (old new : Mo
     pub unread : new.unread ≡ old.unread
 
   -- What is done by the kind of work: nothing, one command of the registry, one publish, those of a list, an inventory or the
-  -- requirements of a version are printed, all requests of the input are answered, or one request on each of some connections is.
+  -- requirements of a version are printed, all requests of the input are answered, or no more requests than there are connections.
   abbrev pub Works : Result Bool Refusal → Work → Type 0
   Works result work.Open = (new ≡ old) × (result ≡ Ok true)
   Works result (work.TeamAdd team) =

@@ -26,7 +26,7 @@ pub fn serve<S: Shelves, O: Write>(
     let Ok(listener) = listen(rt, port, output) else {
         return Err(Refusal::Io);
     };
-    serve_on(rt.alloc(), rt, &listener, shelves, connections);
+    serve_on(rt.alloc(), rt, &mut &listener, shelves, connections);
     Ok(())
 }
 

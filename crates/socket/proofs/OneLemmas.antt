@@ -1,39 +1,111 @@
 -- What a store goes through on one connection, and on those before it.
-use Rattle.std.proofs.Common.{ℕ, ◌+◌, ◌≤◌, List, [], ◌++◌, length, Option, Result, Ok, Err, arith}
-use Rattle.std.proofs.lemmas.List.{length-append}
+use Rattle.std.proofs.Common.{ℕ, ◌+◌, ◌≤◌, ◌≡◌, refl, sym, ap, ◌∙◌, subst, List, [], ◌∷◌, ◌++◌, length, map, Option, Some, None, Result, Ok, Err, inl, inr, arith, append_assoc, append-nil}
+use Rattle.std.proofs.lemmas.List.{length-append, map-append}
+use Rattle.std.proofs.lemmas.List.Elements.{All-nil, All-push}
 use Rattle.world.specs.Store.{Shown}
-use Rattle.engine.specs.First.{First, Answers, Closes, first_exchanges, ServesFirst}
+use Rattle.engine.specs.First.{First, Answers as Message, Closes, first_exchanges, ServesFirst}
+use Rattle.engine.specs.Store.{GoesThrough}
 use Rattle.engine.specs.declared.fault.Io.{Io}
 use Rattle.engine.specs.declared.fault.Io.TheVariants as io
 use Rattle.engine.proofs.StoreLemmas.{through_none, through_more}
-use Rattle.socket.specs.Connections.{GoesThroughOne, GoesThroughMost}
+use Rattle.socket.specs.Connections.{Visit, Answers, AnswersEach, Come, IsAnsweredThere, exchanges_of, exchanges_with, peer_of}
 
-one_at_most : (first : First) → length (first_exchanges first) ≤ 1
-one_at_most (Answers x) = omega arith
-one_at_most (Closes closing) = omega arith
+one_at_most : (first : Option First) → length (exchanges_of first) ≤ 1
+one_at_most None = omega arith
+one_at_most (Some (Message x)) = omega arith
+one_at_most (Some (Closes closing)) = omega arith
 
--- what was answered first is one message, or none
-pub served_one : (old new : Shown) (before now : ℕ) (u u' w w' : Option (List ℕ)) (told : Result (Option ℕ) Io)
-    → ServesFirst old new before now u u' w w' told → GoesThroughOne old new before now
-served_one old new before now u u' w w' (Ok status) (first, takes, through, is, ended) = (first_exchanges first, one_at_most first, through)
-served_one old new before now u u' w w' (Err io.Read) (got, consumed, unfinished, through, kept) = ([], omega arith, through)
-served_one old new before now u u' w w' (Err io.Write) (first, takes, through, ended) = (first_exchanges first, one_at_most first, through)
+-- no more messages than connections
+pub one_each : {P : Type 0} (visits : List (Visit P)) → length (exchanges_with visits) ≤ length visits
+one_each [] = omega arith
+one_each (visit ∷ visits) = omega (
+  arith,
+  length-append (exchanges_of visit.first) (exchanges_with visits),
+  one_at_most visit.first,
+  one_each visits,
+)
 
-pub served_none : (shown : Shown) (count : ℕ) → GoesThroughOne shown shown count count
-served_none shown count = ([], omega arith, through_none shown count)
+with_last : {P : Type 0} (visits : List (Visit P)) (last : Visit P)
+    → exchanges_with (visits ++ last ∷ []) ≡ exchanges_with visits ++ exchanges_of last.first
+with_last [] last = append-nil (exchanges_of last.first)
+with_last (visit ∷ visits) last =
+    ap (λ more. exchanges_of visit.first ++ more) (with_last visits last)
+    ∙ sym (append_assoc (exchanges_of visit.first) (exchanges_with visits) (exchanges_of last.first))
 
-pub most_none : (shown : Shown) (count : ℕ) → GoesThroughMost shown shown count count 0
-most_none shown count = record { exchanges = []; few = omega arith; through = through_none shown count }
+none_come : {P : Type 0} (waiting : Option (List P)) → Come waiting waiting []
+none_come None = tt
+none_come (Some all) = refl
 
--- another connection
-pub most_more : (old mid new : Shown) (before between now n : ℕ) → GoesThroughMost old mid before between n
-    → GoesThroughOne mid new between now → GoesThroughMost old new before now (n + 1)
-most_more old mid new before between now n first (exchanges, few, through) = record {
-  exchanges = first.exchanges ++ exchanges;
-  few = omega (arith, length-append first.exchanges exchanges, first.few, few);
-  through = through_more old mid new before between now first.exchanges first.through exchanges through;
-}
+-- these come, and then those
+then_come : {P : Type 0} (waiting left rest : Option (List P)) (first next : List P) → Come waiting left first → Come left rest next
+    → Come waiting rest (first ++ next)
+then_come None left rest first next one two = tt
+then_come (Some all) None rest first next one two = absurd one
+then_come (Some all) (Some more) None first next one two = absurd two
+then_come (Some all) (Some more) (Some few) first next one two =
+    one ∙ ap (λ l. first ++ l) two ∙ sym (append_assoc first next few)
 
--- it failed
-pub most_same : (old new : Shown) (before now n : ℕ) → GoesThroughMost old new before now n → GoesThroughMost old new before now (n + 1)
-most_same old new before now n first = record { exchanges = first.exchanges; few = omega (arith, first.few); through = first.through }
+same_come : {P : Type 0} (waiting left rest : Option (List P)) (first : List P) → Come waiting left first → Come left rest []
+    → Come waiting rest first
+same_come waiting left rest first one two = subst (Come waiting rest) (append-nil first) (then_come waiting left rest first [] one two)
+
+module _ {P : Type 0} (unread written : P → Option (List ℕ)) where
+  -- the peer that was served was answered
+  pub answered : (old new : Shown) (before now : ℕ) (peer after : P) (told : Result (Option ℕ) Io)
+      → ServesFirst old new before now (unread peer) (unread after) (written peer) (written after) told
+      → Answers unread written peer old new before now
+  answered old new before now peer after (Ok status) (first, takes, through, is, ended) = record {
+    visit = record { before = peer; after = after; first = Some first };
+    begins = refl;
+    there = (takes, inr ended);
+    through = through;
+  }
+  answered old new before now peer after (Err io.Read) (got, consumed, unfinished, through, kept) = record {
+    visit = record { before = peer; after = after; first = None };
+    begins = refl;
+    there = kept;
+    through = through;
+  }
+  answered old new before now peer after (Err io.Write) (first, takes, through, ended) = record {
+    visit = record { before = peer; after = after; first = Some first };
+    begins = refl;
+    there = (takes, ended);
+    through = through;
+  }
+
+  pub each_none : (waiting : Option (List P)) (shown : Shown) (count : ℕ)
+      → AnswersEach unread written waiting waiting shown shown count count 0
+  each_none waiting shown count = record {
+    visits = [];
+    few = omega arith;
+    came = none_come waiting;
+    there = All-nil (IsAnsweredThere unread written);
+    through = through_none shown count;
+  }
+
+  module _ (waiting left rest : Option (List P)) (old mid new : Shown) (before between now n : ℕ)
+      (first : AnswersEach unread written waiting left old mid before between n) where
+    -- another connection
+    pub each_more : (peer : P) → Come left rest (peer ∷ []) → Answers unread written peer mid new between now
+        → AnswersEach unread written waiting rest old new before now (n + 1)
+    each_more peer comes next = record {
+      visits = first.visits ++ next.visit ∷ [];
+      few = omega (arith, length-append first.visits (next.visit ∷ []), first.few);
+      came = subst (Come waiting rest) (sym (map-append peer_of first.visits (next.visit ∷ [])))
+          (then_come waiting left rest (map peer_of first.visits) (next.visit.before ∷ []) first.came
+            (subst (λ p. Come left rest (p ∷ [])) (sym next.begins) comes));
+      there = All-push (IsAnsweredThere unread written) first.visits next.visit first.there next.there;
+      through = subst (GoesThrough old new before now) (sym (with_last first.visits next.visit))
+          (through_more old mid new before between now (exchanges_with first.visits) first.through (exchanges_of next.visit.first) next.through);
+    }
+
+  -- no connection came
+  pub each_same : (waiting left rest : Option (List P)) (old new : Shown) (before now n : ℕ) → Come left rest []
+      → AnswersEach unread written waiting left old new before now n → AnswersEach unread written waiting rest old new before now (n + 1)
+  each_same waiting left rest old new before now n comes first = record {
+    visits = first.visits;
+    few = omega (arith, first.few);
+    came = same_come waiting left rest (map peer_of first.visits) first.came comes;
+    there = first.there;
+    through = first.through;
+  }

@@ -2,7 +2,6 @@
 ghost use Rattle.std.specs.Prelude.{◌≡◌, None, IfOk, IfErr};
 ghost use Rattle.engine.specs.First.{ServesFirst};
 ghost use Rattle.engine.specs.Isolated.{AnswersByItsShelf};
-ghost use Rattle.socket.specs.Connections.{GoesThroughOne};
 
 use crate::bounds::{LONGEST_WAIT, PATIENCE};
 use crate::pace::Paced;
@@ -10,7 +9,7 @@ use crate::rest::drop_rest;
 use engine::{Io, answer_one};
 use std::alloc::Global;
 use std::io::{self, Read, Write};
-use std::net::TcpStream;
+use std::net::{TcpListener, TcpStream};
 use std::time::{Clock, Duration};
 use world::shelves::Shelves;
 
@@ -64,19 +63,81 @@ fn limit_waits(stream: &TcpStream) -> io::Result<()> {
     stream.set_write_timeout(Some(Duration::from_secs(LONGEST_WAIT)))
 }
 
-/// Answers one request on a connection. What fails on it is told to nobody.
-pub(crate) fn answer_on<C: Clock, S: Shelves>(
-    alloc: Global,
-    clock: &C,
-    stream: &TcpStream,
-    shelves: &mut S,
-)
-    ensures { GoesThroughOne (S.shown shelves.old) (S.shown shelves.new) (S.failure_count shelves.old) (S.failure_count shelves.new) }
-{
-    if limit_waits(stream).is_err() {
-        return;
+/// A connected peer.
+pub trait Peer {
+    ghost use Rattle.std.specs.Prelude.{ℕ, List, Option, ◌≡◌};
+    ghost use Rattle.engine.specs.First.{ServesFirst};
+
+    /// The bytes that it sends from here on, where they are known.
+    ghost unread: { Self → Option (List ℕ) };
+
+    /// The bytes that it was sent, where they are known.
+    ghost written: { Self → Option (List ℕ) };
+
+    /// Answers its first request, as `engine::answer_one` does.
+    fn answer<C: Clock, S: Shelves>(
+        &mut self,
+        alloc: Global,
+        clock: &C,
+        shelves: &mut S,
+    ) -> Result<Option<u16>, Io>
+        ensures { ServesFirst (S.shown shelves.old) (S.shown shelves.new) (S.failure_count shelves.old) (S.failure_count shelves.new)
+            (unread self.old) (unread self.new) (written self.old) (written self.new) result };
+
+    /// Ends the connection after a reply with this status.
+    fn end<C: Clock>(&mut self, clock: &C, status: u16)
+        ensures { written self.new ≡ written self.old };
+}
+
+/// A socket tells no bytes.
+impl Peer for TcpStream {
+    ghost use Rattle.std.specs.Prelude.{None};
+
+    ghost unread = { λ _. None };
+
+    ghost written = { λ _. None };
+
+    /// Bounds each wait too. A connection whose waits can't be bounded is not read.
+    fn answer<C: Clock, S: Shelves>(
+        &mut self,
+        alloc: Global,
+        clock: &C,
+        shelves: &mut S,
+    ) -> Result<Option<u16>, Io> {
+        let stream: &TcpStream = self;
+        if limit_waits(stream).is_err() {
+            return Err(Io::Read);
+        }
+        answer_in_time(alloc, clock, stream, stream, shelves).told
     }
-    if let Ok(Some(status)) = answer_in_time(alloc, clock, stream, stream, shelves).told {
-        let _ = drop_rest(clock, stream, status);
+
+    /// Shuts the writing side, and drops what the peer sent behind its message.
+    fn end<C: Clock>(&mut self, clock: &C, status: u16) {
+        let _ = drop_rest(clock, self, status);
+    }
+}
+
+/// What takes connections.
+pub trait Listener<P> {
+    ghost use Rattle.std.specs.Prelude.{List, Option};
+    ghost use Rattle.socket.specs.Connections.{Accepts};
+
+    /// The peers that connect from here on, in their order, where they are known.
+    ghost waiting: { Self → Option (List P) };
+
+    /// Takes the next connection, and waits for it as long as it takes.
+    fn accept(&mut self) -> io::Result<P>
+        ensures { Accepts (waiting self.old) (waiting self.new) result };
+}
+
+/// Nobody knows who connects to a port.
+impl<'a> Listener<TcpStream> for &'a TcpListener {
+    ghost use Rattle.std.specs.Prelude.{None};
+
+    ghost waiting = { λ _. None };
+
+    fn accept(&mut self) -> io::Result<TcpStream> {
+        let (stream, _) = TcpListener::accept(self)?;
+        Ok(stream)
     }
 }

@@ -25,5 +25,5 @@ mod pace;
 mod rest;
 mod serve;
 
-pub use connection::{Answered, answer_in_time};
+pub use connection::{Answered, Listener, Peer, answer_in_time};
 pub use serve::serve_on;

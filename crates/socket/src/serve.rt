@@ -1,30 +1,49 @@
 //! One connection after another.
-ghost use Rattle.socket.specs.Connections.{GoesThroughMost};
+ghost use Rattle.socket.specs.Connections.{Answers, AnswersEach, GoesThroughMost};
 
-use crate::connection::answer_on;
+use crate::connection::{Listener, Peer};
 use std::alloc::Global;
-use std::net::TcpListener;
 use std::time::Clock;
 use world::shelves::Shelves;
 
-/// Takes connections from a listener, one after another; the store goes through at most as many requests as there are
-/// connections. It returns after the last of them, and waits for each as long as it takes.
+/// Takes connections from a listener, one after another, and answers on each the first message that comes over it; the store
+/// goes through at most as many requests as there are connections. It returns after the last of them, and waits for each as
+/// long as it takes.
 ///
 /// A connection that fails counts and is reported to nobody. If its request was not read whole, it changed nothing; if its
 /// reply failed, what the request did stays. An accept that fails counts too, so a server without descriptors ends.
-pub fn serve_on<C: Clock, S: Shelves>(
+pub fn serve_on<C: Clock, P: Peer + Drop, L: Listener<P>, S: Shelves>(
     alloc: Global,
     clock: &C,
-    listener: &TcpListener,
+    listener: &mut L,
     shelves: &mut S,
     connections: u32,
 )
-    ensures { GoesThroughMost (S.shown shelves.old) (S.shown shelves.new) (S.failure_count shelves.old) (S.failure_count shelves.new)
+    ensures most { GoesThroughMost (S.shown shelves.old) (S.shown shelves.new) (S.failure_count shelves.old) (S.failure_count shelves.new)
         connections }
+    // Each message is answered on the connection that it came over, at most one on each.
+    ensures each { AnswersEach P.unread P.written (L.waiting listener.old) (L.waiting listener.new)
+        (S.shown shelves.old) (S.shown shelves.new) (S.failure_count shelves.old) (S.failure_count shelves.new) connections }
 {
     for _ in 0..connections {
-        if let Ok((stream, _)) = listener.accept() {
-            answer_on(alloc, clock, &stream, shelves);
+        match listener.accept() {
+            Ok(mut peer) => answer_on(alloc, clock, &mut peer, shelves),
+            Err(_) => {}
         }
+    }
+}
+
+/// Answers one request of a peer, and ends its connection. What fails on it is told to nobody.
+fn answer_on<C: Clock, P: Peer, S: Shelves>(
+    alloc: Global,
+    clock: &C,
+    peer: &mut P,
+    shelves: &mut S,
+)
+    ensures { Answers P.unread P.written peer.old (S.shown shelves.old) (S.shown shelves.new) (S.failure_count shelves.old)
+        (S.failure_count shelves.new) }
+{
+    if let Ok(Some(status)) = peer.answer(alloc, clock, shelves) {
+        peer.end(clock, status);
     }
 }

@@ -40,9 +40,9 @@ fn half_client(rt: &HostRuntime, port: u16, bytes: &[u8], more: &[u8]) -> Result
 }
 
 /// Serves so many connections from shelves on which nothing stands.
-fn serve(rt: &HostRuntime, listener: &TcpListener, connections: u32) -> Result<(), Fail> {
+fn serve(rt: &HostRuntime, mut listener: &TcpListener, connections: u32) -> Result<(), Fail> {
     let mut shelves = shelves(rt.alloc())?;
-    serve_on(rt.alloc(), rt, listener, &mut shelves, connections);
+    serve_on(rt.alloc(), rt, &mut listener, &mut shelves, connections);
     Ok(())
 }
 

@@ -1,21 +1,21 @@
 use Rattle.std.proofs.Common.{arith}
-use Rattle.socket.proofs.OneLemmas.{most_none, most_more, most_same}
+use Rattle.socket.specs.Connections.{exchanges_with}
+use Rattle.socket.proofs.OneLemmas.{each_none, each_more, each_same, one_each}
 use Rattle.socket.proofs.serve.serve_on.Goals as goal
-use Rattle.socket.proofs.serve.serve_on.Goals.{in-Ok, in_default}
+use Rattle.socket.proofs.serve.serve_on.Goals.{in-Ok, in-Err}
 
 pub loop-init : goal.loop-init
-loop-init g c = most_none _ _
+loop-init g c = each_none _ _ _ _ _
 
 pub loop-preserved : goal.loop-preserved
 loop-preserved g c = elim c.match-accept.branch [
-  | in-Ok w ↦ rw w.shelves-is (most_more _ _ _ _ _ _ _ c.loop.invariant w.answer_on.ensures)
-  | in_default w ↦ rw w.shelves-is (most_same _ _ _ _ _ c.loop.invariant)
+  | in-Ok w ↦ rw w.shelves-is (each_more _ _ _ _ _ _ _ _ _ _ _ _ c.loop.invariant _ w.in-Ok.ensures w.answer_on.ensures)
+  | in-Err w ↦ rw w.shelves-is (each_same _ _ _ _ _ _ _ _ _ _ w.in-Err.ensures c.loop.invariant)
 ]
 
-pub returns : goal.returns
-returns g c =
-    record {
-      exchanges = c.loop.invariant.exchanges;
-      few = omega (arith, c.loop.invariant.few, c.loop.auto.counter-end);
-      through = c.loop.invariant.through;
-    }
+pub returns-clause-most : goal.returns-clause-most
+returns-clause-most g c = record {
+  exchanges = exchanges_with c.loop.invariant.visits;
+  few = omega (arith, one_each c.loop.invariant.visits, c.loop.invariant.few, c.loop.auto.counter-end);
+  through = c.loop.invariant.through;
+}

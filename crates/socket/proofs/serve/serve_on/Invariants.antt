@@ -1,8 +1,11 @@
-use Rattle.socket.specs.Connections.{GoesThroughMost}
+use Rattle.socket.specs.Connections.{AnswersEach}
 use Rattle.socket.proofs.serve.serve_on.Given as goal
 
 -- the connections so far
 abbrev pub invariant-loop : goal.invariant-loop
 invariant-loop g l =
     let s = g.S.Shelves in
-    GoesThroughMost (s.shown l.fn.shelves) (s.shown l.shelves) (s.failure_count l.fn.shelves) (s.failure_count l.shelves) l.counter
+    let p = g.P.Peer in
+    let waiting = g.L.Listener.waiting in
+    AnswersEach p.unread p.written (waiting l.fn.listener) (waiting l.listener) (s.shown l.fn.shelves) (s.shown l.shelves)
+        (s.failure_count l.fn.shelves) (s.failure_count l.shelves) l.counter

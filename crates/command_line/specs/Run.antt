@@ -4,9 +4,7 @@ use Rattle.clap.specs.declared.error.kind.ErrorKind.{ErrorKind}
 use Rattle.clap.specs.declared.error.kind.ErrorKind.TheVariants.{DisplayHelp, DisplayVersion, OutOfMemory}
 use Rattle.commands.specs.declared.refusal.Refusal.{Refusal}
 use Rattle.commands.specs.declared.refusal.Refusal.TheVariants.{Io, Memory}
-use Rattle.world.specs.Store.{Shown}
 use Rattle.commands.specs.Exit.{ending_of, status_of, IsSilent, Says}
-use Rattle.tasks.specs.Task.{Performs}
 use Rattle.commands.specs.declared.exit.Ending.{Ending}
 use Rattle.commands.specs.declared.exit.Ending.TheVariants.{Done, Refused, BadUsage}
 use Rattle.tasks.specs.declared.Task.{Task}
@@ -19,18 +17,24 @@ EndsShown DisplayVersion ended = (ended ≡ Done) ⊎ (ended ≡ Refused Io)
 EndsShown OutOfMemory ended = ended ≡ Refused Memory
 EndsShown other ended = ended ≡ BadUsage
 
-module _ {S : Type 0} (shown : S → Shown) (failures : S → ℕ) (unread unread_new written written_new : Option (List ℕ)) where
-  -- a task was done, and the run ends by what it told
+-- How what does tasks is before a task and after it; what is left to read of the input, and what the output has, before and after;
+-- what the task told; and the task.
+abbrev pub Performed : Type 0 → Type 1
+Performed P = P → P → Option (List ℕ) → Option (List ℕ) → Option (List ℕ) → Option (List ℕ) → Result Bool Refusal → Task → Type 0
+
+module _ {P : Type 0} (performed : Performed P) (old new : P) (unread unread_new written written_new : Option (List ℕ)) where
+  -- one task was done, and the run ends by what it told
   pub record DoesTask (ended : Ending) : Type 0 where
     pub task : Task
     pub told : Result Bool Refusal
-    pub performs : Performs shown failures unread unread_new written written_new told task
+    pub performs : performed old new unread unread_new written written_new told task
     pub ends : ended ≡ ending_of told
 
   -- no task was done, the parser's text was shown, and nothing was read
   pub record ShowsText (ended : Ending) : Type 0 where
     pub kind : ErrorKind
     pub ends : EndsShown kind ended
+    pub idle : new ≡ old
     pub input : unread_new ≡ unread
 
   -- a task was done, or the parser's text was shown
@@ -45,3 +49,12 @@ module _ {S : Type 0} (shown : S → Shown) (failures : S → ℕ) (unread unrea
     pub silent : IsSilent errors errors_run ended
     pub says : Says errors_run errors_new ended
     pub tells : status ≡ status_of ended
+
+-- The words could not be read, and the run ends by why: for want of memory, or because one is no text.
+pub record RefusesWords (errors errors_new : Option (List ℕ)) (status : ℕ) : Type 0 where
+  pub ended : Ending
+  pub why : (ended ≡ Refused Memory) ⊎ (ended ≡ BadUsage)
+  pub errors_run : Option (List ℕ)
+  pub silent : IsSilent errors errors_run ended
+  pub says : Says errors_run errors_new ended
+  pub tells : status ≡ status_of ended

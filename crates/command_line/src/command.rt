@@ -1,74 +1,92 @@
 //! One whole run of the program.
-ghost use Rattle.std.specs.Prelude.{◌≡◌, ◌⊎◌};
+ghost use Rattle.std.specs.Prelude.{◌≡◌};
 ghost use Rattle.clap.specs.Values.{kind_of};
-ghost use Rattle.commands.specs.Exit.{status_of, IsSilent};
-ghost use Rattle.command_line.specs.Run.{EndsShown, Exits, Runs};
+ghost use Rattle.commands.specs.Exit.{IsSilent};
+ghost use Rattle.command_line.specs.Run.{EndsShown, Exits, RefusesWords, Runs};
 
 use crate::arguments::parser;
 use crate::asked::task_of;
+use crate::performer::{Performer, SystemStores};
 use clap::ArgMatches;
 use clap::error::ErrorKind;
 use commands::exit::Ending;
 use commands::refusal::Refusal;
+use std::alloc::Global;
 use std::io::{self, Read, Write};
 use std::rt::HostRuntime;
-use store::open::FileShelves;
-use tasks::perform;
-use world::shelves::Shelves;
 
 /// Runs the program by the words after its name and returns the exit status: 0 done, 1 refused, 2 bad usage.
 ///
 /// A refusal prints one line `goshelf: <word>` on `errors`; `publish` prints its outcome on `output` instead, and `import` a line
 /// for each row. Bad usage prints the parser's text on `errors`. The texts are tested and not proved.
-pub fn command<I: Read, O: Write, E: Write>(
-    rt: &HostRuntime,
+pub fn command<'a, I: Read, O: Write, E: Write>(
+    rt: &'a HostRuntime,
     words: &[String],
     input: &mut I,
     output: &mut O,
     errors: &mut E,
 ) -> u8
-    ensures { Exits ⟦<FileShelves as Shelves>⟧.shown ⟦<FileShelves as Shelves>⟧.failure_count
+    ensures { (stores stores_new : SystemStores) × Exits ⟦<SystemStores<'a> as Performer>⟧.performed stores stores_new
         (I.remaining input.old) (I.remaining input.new) (O.contents output.old) (O.contents output.new)
         (E.contents errors.old) (E.contents errors.new) result }
 {
-    let ending = run(rt, words, input, output, errors);
+    let mut stores = SystemStores { rt };
+    command_by(rt.alloc(), &mut stores, words, input, output, errors)
+}
+
+/// Runs the program, whatever does its tasks: one task for the words of a command, and none where the parser's text is shown,
+/// as for `--help`.
+pub fn command_by<P: Performer, I: Read, O: Write, E: Write>(
+    alloc: Global,
+    performer: &mut P,
+    words: &[String],
+    input: &mut I,
+    output: &mut O,
+    errors: &mut E,
+) -> u8
+    ensures { Exits P.performed performer.old performer.new
+        (I.remaining input.old) (I.remaining input.new) (O.contents output.old) (O.contents output.new)
+        (E.contents errors.old) (E.contents errors.new) result }
+{
+    let ending = run(alloc, performer, words, input, output, errors);
     ending.tell(errors);
     ending.status()
 }
 
 /// Does what the words say, or shows the parser's text.
-fn run<I: Read, O: Write, E: Write>(
-    rt: &HostRuntime,
+fn run<P: Performer, I: Read, O: Write, E: Write>(
+    alloc: Global,
+    performer: &mut P,
     words: &[String],
     input: &mut I,
     output: &mut O,
     errors: &mut E,
 ) -> Ending
-    ensures runs { Runs ⟦<FileShelves as Shelves>⟧.shown ⟦<FileShelves as Shelves>⟧.failure_count
+    ensures runs { Runs P.performed performer.old performer.new
         (I.remaining input.old) (I.remaining input.new) (O.contents output.old) (O.contents output.new) result }
     ensures silent { IsSilent (E.contents errors.old) (E.contents errors.new) result }
 {
-    let Ok(parser) = parser(rt.alloc()) else {
+    let Ok(parser) = parser(alloc) else {
         return Ending::Refused(Refusal::Memory);
     };
     match parser.try_get_matches_from(words) {
-        Ok(matches) => perform_matched(rt, &matches, input, output),
+        Ok(matches) => perform_matched(performer, &matches, input, output),
         Err(error) => show(error, output, errors),
     }
 }
 
 /// Does the task that the words ask for. The parser refuses words without a command.
-fn perform_matched<I: Read, O: Write>(
-    rt: &HostRuntime,
+fn perform_matched<P: Performer, I: Read, O: Write>(
+    performer: &mut P,
     matches: &ArgMatches<'_>,
     input: &mut I,
     output: &mut O,
 ) -> Ending
-    ensures { Runs ⟦<FileShelves as Shelves>⟧.shown ⟦<FileShelves as Shelves>⟧.failure_count
+    ensures { Runs P.performed performer.old performer.new
         (I.remaining input.old) (I.remaining input.new) (O.contents output.old) (O.contents output.new) result }
 {
     match task_of(matches) {
-        Some(task) => Ending::of_task(perform(rt, &task, input, output)),
+        Some(task) => Ending::of_task(performer.perform(&task, input, output)),
         None => Ending::BadUsage,
     }
 }
@@ -95,7 +113,7 @@ fn show<O: Write, E: Write>(error: clap::Error, output: &mut O, errors: &mut E) 
 /// Reports that the words could not be read, and returns the exit status. Words that are not text are bad usage; without
 /// memory the run ends with `goshelf: memory`.
 pub fn words_refused<E: Write>(error: io::Error, errors: &mut E) -> u8
-    ensures { (result ≡ status_of (Ending.Refused Refusal.Memory)) ⊎ (result ≡ status_of Ending.BadUsage) }
+    ensures { RefusesWords (E.contents errors.old) (E.contents errors.new) result }
 {
     let ended = match error.kind() {
         io::ErrorKind::OutOfMemory => Ending::Refused(Refusal::Memory),

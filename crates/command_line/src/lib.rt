@@ -4,3 +4,4 @@
 mod arguments;
 mod asked;
 pub mod command;
+pub mod performer;

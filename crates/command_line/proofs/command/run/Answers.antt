@@ -3,4 +3,4 @@ use Rattle.clap.specs.declared.error.kind.ErrorKind.TheVariants.{OutOfMemory}
 use Rattle.command_line.proofs.command.run.Goals as goal
 
 pub returns-in_default-clause-runs : goal.returns-in_default-clause-runs
-returns-in_default-clause-runs g c = inr (record { kind = OutOfMemory; ends = refl; input = refl })
+returns-in_default-clause-runs g c = inr (record { kind = OutOfMemory; ends = refl; idle = refl; input = refl })

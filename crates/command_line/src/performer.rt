@@ -1,0 +1,46 @@
+//! What does the tasks of a run.
+use commands::refusal::Refusal;
+use std::io::{Read, Write};
+use std::rt::HostRuntime;
+use store::open::FileShelves;
+use tasks::{Task, perform};
+use world::shelves::Shelves;
+
+/// What does the tasks of a run. A run has no other way to the files of stores.
+pub trait Performer {
+    ghost use Rattle.command_line.specs.Run.{Performed};
+
+    /// What is done for a task.
+    ghost performed: { Performed Self };
+
+    /// Does a task and returns whether it was accepted, as [`tasks::perform`] does.
+    fn perform<I: Read, O: Write>(
+        &mut self,
+        task: &Task,
+        input: &mut I,
+        output: &mut O,
+    ) -> Result<bool, Refusal>
+        ensures { performed self.old self.new (I.remaining input.old) (I.remaining input.new) (O.contents output.old) (O.contents output.new)
+            result task.now };
+}
+
+/// The files of the system.
+#[derive(Clone, Copy, Drop)]
+pub struct SystemStores<'a> {
+    pub rt: &'a HostRuntime,
+}
+
+impl<'a> Performer for SystemStores<'a> {
+    ghost use Rattle.tasks.specs.Task.{Performs};
+
+    ghost performed = { λ _ _. Performs ⟦<FileShelves as Shelves>⟧.shown ⟦<FileShelves as Shelves>⟧.failure_count };
+
+    fn perform<I: Read, O: Write>(
+        &mut self,
+        task: &Task,
+        input: &mut I,
+        output: &mut O,
+    ) -> Result<bool, Refusal> {
+        perform(self.rt, task, input, output)
+    }
+}

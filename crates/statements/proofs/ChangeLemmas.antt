@@ -1,11 +1,11 @@
 -- Calls one after another.
-use Rattle.std.proofs.Common.{◌≡◌, ◌≤◌, Bool, true, false, inl, refl, sym, subst, arith, IsTrue, true≢false, Result, Ok, Err, IsErr, is_ok, IfOk, OnOk, Option, Some, None, is_some, option_map}
+use Rattle.std.proofs.Common.{◌≡◌, ◌≤◌, ◌⊎◌, Bool, true, false, inl, inr, refl, sym, subst, arith, IsTrue, true≢false, Result, Ok, Err, IsErr, is_ok, IfOk, OnOk, Option, Some, None, is_some, option_map}
 use Rattle.sqlite_trees.specs.View.{doubt}
 use Rattle.sqlite.specs.Tree.{Trees}
 use Rattle.sqlite.specs.State.{State, HasCleanDisk}
 use Rattle.world.specs.World.{World}
 use Rattle.tables.specs.Means.{Holds, Stands}
-use Rattle.statements.specs.Calls.{Spares, LeavesOnly, ChangesAt, Changes}
+use Rattle.statements.specs.Calls.{Spares, LeavesOnly, LeavesNoMore, ChangesAt, Changes}
 use Rattle.tables.proofs.FailureLemmas.{was_clean}
 use Rattle.statements.proofs.WriteLemmas.{open_leaves}
 
@@ -17,6 +17,7 @@ spared old new next s = record {
     world = s.stays w;
     left = λ clean stands only db may. let it = only db (s.left clean w stands db may) in (it.0, it.1, inl it.2);
     kept = λ done. absurd (true≢false (sym done));
+    failed = λ _ clean stands. inr (s.left clean w stands);
   };
 }
 
@@ -29,8 +30,15 @@ refused old new next law s same = record {
     world = λ stands clean shown. subst (Holds new) (sym (same clean w stands).1) (s.stays w stands clean shown);
     left = λ clean stands only db may. let it = only db (s.left clean w stands db may) in (it.0, it.1, inl it.2);
     kept = λ _ clean stands. let it = same clean w stands in subst (λ x. LeavesOnly new (λ y. y ≡ x)) (sym it.1) (open_leaves new w (λ db. law db it.0) (s.stays w stands clean it.0));
+    failed = λ part. absurd (true≢false part);
   };
 }
+
+-- what a crash leaves after a read and a change that failed
+no_more : (a b c : State) (w next : World) → Spares a b → doubt b.is_clean ≤ doubt c.is_clean → HasCleanDisk c → Stands a w
+    → LeavesOnly c (λ x. (x ≡ w) ⊎ (x ≡ next)) ⊎ LeavesNoMore b c → LeavesOnly c (λ x. (x ≡ w) ⊎ (x ≡ next)) ⊎ LeavesNoMore a c
+no_more a b c w next s up clean stands (inl only) = inl only
+no_more a b c w next s up clean stands (inr none) = inr (λ db may. s.left (was_clean b c up clean) w stands db (none db may))
 
 pub spares_changes : (a b c : State) (done : Bool) (next : World → World) → Spares a b → doubt b.is_clean ≤ doubt c.is_clean → ((w : World) → (HasCleanDisk c → Stands a w → ChangesAt b c done w (next w))) → Changes a c done next
 spares_changes a b c done next s up then = record {
@@ -39,6 +47,7 @@ spares_changes a b c done next s up then = record {
     world = λ stands clean. (then w clean stands).world (s.stays w stands) clean;
     left = λ clean stands only. (then w clean stands).left clean (s.stays w stands) (λ db may. only db (s.left (was_clean b c up clean) w stands db may));
     kept = λ done clean stands. (then w clean stands).kept done clean (s.stays w stands);
+    failed = λ part clean stands. no_more a b c w (next w) s up clean stands ((then w clean stands).failed part clean (s.stays w stands));
   };
 }
 
@@ -47,6 +56,7 @@ spares_at a b c done w next s up then = record {
   world = λ stands. then.world (s.stays w stands);
   left = λ clean stands only. then.left clean (s.stays w stands) (λ db may. only db (s.left (was_clean b c up clean) w stands db may));
   kept = λ done clean stands. then.kept done clean (s.stays w stands);
+  failed = λ part clean stands. no_more a b c w next s up clean stands (then.failed part clean (s.stays w stands));
 }
 
 pub not_ok : {A E : Type 0} (r : Result A E) → IsErr r → is_ok r ≡ false

@@ -13,7 +13,7 @@ use Rattle.world.specs.declared.entry.Place.{Place}
 use Rattle.world.specs.declared.entry.Entry.{Entry}
 use Rattle.world.specs.World.{World, with_entry}
 use Rattle.tables.specs.Means.{Holds, Stands, StandFor}
-use Rattle.statements.specs.Calls.{ChangesAt}
+use Rattle.statements.specs.Calls.{LeavesOnly, ChangesAt}
 use Rattle.statements.specs.Rows.{Writing, Filling}
 use Rattle.statements.specs.Added.{HasAdded}
 use Rattle.tables.proofs.FailureLemmas.{was_clean}
@@ -43,7 +43,7 @@ module _ {S : Type 0} (g : Ghosts S) (h : Held S) (last exit : State) (w next : 
       let holds = stands clean (opened clean) in
       record { schema = holds.schema; trees = holds.trees; is_open = opened clean; inside = refl }
 
-  module _ (quiet : Survives begun last (λ _. ⊥)) where
+  module _ (law : (db : Trees) → IsTrue old.is_open → old.may_leave db → db ≡ old.committed.trees) (quiet : Survives begun last (λ _. ⊥)) where
     -- a crash leaves what it left before the transaction, or what the end of it writes
     left_by : (P : Trees → Type 0) → Survives last exit P → HasCleanDisk exit → (db : Trees) → exit.may_leave db → old.may_leave db ⊎ P db
     left_by P ends clean db may = elim (ends.crash clean db may) [
@@ -53,7 +53,7 @@ module _ {S : Type 0} (g : Ghosts S) (h : Held S) (last exit : State) (w next : 
 
     committed_to : ((db : Trees) → IsTrue exit.is_open → exit.may_leave db → db ≡ exit.committed.trees) → (HasCleanDisk last → Stands old w → Writing last next)
         → Survives last exit (λ db. db ≡ last.now.trees) → (HasCleanDisk exit → Shows last exit last.now last.now false) → ChangesAt old exit true w next
-    committed_to law made ends shown =
+    committed_to settled made ends shown =
         let late = was_clean last exit ends.clean in
         let holds = λ (clean : HasCleanDisk exit) (stands : Stands old w).
         let it = made (late clean) stands in
@@ -70,7 +70,8 @@ module _ {S : Type 0} (g : Ghosts S) (h : Held S) (last exit : State) (w next : 
             | inl first ↦ (let it = only db first in (it.0, it.1, inl it.2))
             | inr made_so ↦ (next, subst (λ t. StandFor t next) (sym made_so) (made (late clean) stands).trees, inr refl)
           ];
-          kept = λ _ clean stands. open_leaves exit next (λ db. law db (shown clean).is_open) (holds clean stands);
+          kept = λ _ clean stands. open_leaves exit next (λ db. settled db (shown clean).is_open) (holds clean stands);
+          failed = λ part. absurd (true≢false part);
         }
 
     undone_to : (HasCleanDisk last → KeepsCommit begun last) → doubt last.is_clean ≤ doubt exit.is_clean → (HasCleanDisk exit → Stands old w → IsRolledBack last exit)
@@ -89,12 +90,22 @@ module _ {S : Type 0} (g : Ghosts S) (h : Held S) (last exit : State) (w next : 
             autocommit = b.autocommit;
             trees = subst (λ (d : Database). StandFor d.trees w) (sym now) holds.trees;
           };
-      left = λ clean stands only db may. elim (left_by P ends clean db may) [
-        | inl first ↦ (let it = only db first in (it.0, it.1, inl it.2))
-        | inr it ↦ (next, made clean stands db it, inr refl)
-      ];
+      left = leaves;
       kept = λ done. absurd (true≢false (sym done));
+      failed = λ _ clean stands. inl (leaves clean stands (alone clean stands));
     }
+      where
+        -- the connection was open, so a crash left what it showed
+        alone : HasCleanDisk exit → Stands old w → LeavesOnly old (λ x. x ≡ w)
+        alone clean stands =
+            let was = was_clean begun last quiet.clean (was_clean last exit up clean) in
+            open_leaves old w (λ db. law db (opened was)) (stands was (opened was))
+
+        leaves : HasCleanDisk exit → Stands old w → LeavesOnly old (λ x. x ≡ w) → LeavesOnly exit (λ x. (x ≡ w) ⊎ (x ≡ next))
+        leaves clean stands only db may = elim (left_by P ends clean db may) [
+          | inl first ↦ (let it = only db first in (it.0, it.1, inl it.2))
+          | inr it ↦ (next, made clean stands db it, inr refl)
+        ]
 
     module _ (is_whole : Bool) (undone : HasCleanDisk exit → is_whole ≡ false → IsRolledBack last exit) (ends : IsTrue is_whole → Survives last exit (λ db. db ≡ last.now.trees))
         (lost : is_whole ≡ false → Survives last exit (λ _. ⊥)) (keeps : HasCleanDisk last → KeepsCommit begun last) (made : HasCleanDisk last → Stands old w → IsTrue is_whole → Writing last next) where
@@ -104,8 +115,8 @@ module _ {S : Type 0} (g : Ghosts S) (h : Held S) (last exit : State) (w next : 
       -- `commit_if` ended it
       pub ended_by : (HasCleanDisk exit → IsTrue is_whole → Shows last exit last.now last.now false)
           → ((db : Trees) → IsTrue exit.is_open → exit.may_leave db → db ≡ exit.committed.trees) → ChangesAt old exit is_whole w next
-      ended_by shown law = elim (true_or_false is_whole) [
-        | inl all ↦ subst (λ b. ChangesAt old exit b w next) (sym all) (committed_to law (λ late stands. made late stands all) (ends all) (λ clean. shown clean all))
+      ended_by shown settled = elim (true_or_false is_whole) [
+        | inl all ↦ subst (λ b. ChangesAt old exit b w next) (sym all) (committed_to settled (λ late stands. made late stands all) (ends all) (λ clean. shown clean all))
         | inr part ↦ subst (λ b. ChangesAt old exit b w next) (sym part) (not_whole part)
       ]
 

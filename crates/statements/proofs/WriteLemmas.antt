@@ -107,14 +107,19 @@ module _ (sql : List ℕ) (params : Row) (command : Command) (is : command_of (u
         world = λ stands clean shown. written_holds w next (held clean stands) (turns (held clean stands)) count (ran clean);
         left = λ clean stands only. written_leaves w next (held clean stands) (turns (held clean stands)) survives clean only;
         kept = λ _ clean stands. open_leaves new next (λ db. law db (written_open w (held clean stands) count (ran clean))) (written_holds w next (held clean stands) (turns (held clean stands)) count (ran clean));
+        failed = λ part. absurd (true≢false part);
       }
 
-  pub failed_changes : (HasCleanDisk old → IsTrue old.is_open) → (w next : World) → ((h : Holds old w) → Rewrites params command old next)
+  pub failed_changes : ((db : Trees) → IsTrue old.is_open → old.may_leave db → db ≡ old.committed.trees) → (HasCleanDisk old → IsTrue old.is_open) → (w next : World) → ((h : Holds old w) → Rewrites params command old next)
       → Survives old new (CommitsBy sql params old) → (e : Error) → (HasCleanDisk new → Executes sql params old new (Err e)) → ChangesAt old new false w next
-  failed_changes opened w next turns survives e ran =
+  failed_changes law opened w next turns survives e ran =
       let held = λ (clean : HasCleanDisk new) (stands : Stands old w). let was = was_clean old new survives.clean clean in stands was (opened was) in
       record {
         world = λ stands. kept_stands old new w survives.clean (λ clean. failed_execute sql params old new e (ran clean)) stands;
         left = λ clean stands only. written_leaves w next (held clean stands) (turns (held clean stands)) survives clean only;
         kept = λ done. absurd (true≢false (sym done));
+        failed = λ _ clean stands.
+            let h = held clean stands in
+            let early = opened (was_clean old new survives.clean clean) in
+            inl (written_leaves w next h (turns h) survives clean (open_leaves old w (λ db. law db early) h));
       }

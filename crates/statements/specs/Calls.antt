@@ -1,5 +1,5 @@
 -- What statements leave of a connection.
-use Rattle.std.specs.Prelude.{ℕ, ◌≤◌, ◌≡◌, ◌⊎◌, List, [], ◌∷◌, Option, Some, None, IsTrue, Bool, if◌then◌else◌}
+use Rattle.std.specs.Prelude.{ℕ, ◌≤◌, ◌≡◌, ◌⊎◌, List, [], ◌∷◌, Option, Some, None, IsTrue, Bool, false, if◌then◌else◌}
 use Rattle.sqlite_trees.specs.View.{doubt}
 use Rattle.sqlite.specs.Tree.{Trees}
 use Rattle.sqlite.specs.Order.{Row}
@@ -35,11 +35,17 @@ Selects sql params db None = Reads (command_of (understood store_schema sql)) db
 abbrev pub LeavesOnly : State → (World → Type 0) → Type 0
 LeavesOnly s P = (db : Trees) → s.may_leave db → (x : World) × StandFor db x × P x
 
+-- a crash leaves nothing that it did not leave before
+abbrev pub LeavesNoMore : State → State → Type 0
+LeavesNoMore old new = (db : Trees) → new.may_leave db → old.may_leave db
+
 -- It makes the next world of this one where it is done, and leaves it where it is not. A crash leaves one of the two, and once it is done the next alone.
+-- Where it is not done, a crash leaves one of the two or nothing more, whatever it left before.
 pub record ChangesAt (old new : State) (done : Bool) (w next : World) : Type 0 where
   pub world : Stands old w → Stands new (if done then next else w)
   pub left : HasCleanDisk new → Stands old w → LeavesOnly old (λ x. x ≡ w) → LeavesOnly new (λ x. (x ≡ w) ⊎ (x ≡ next))
   pub kept : IsTrue done → HasCleanDisk new → Stands old w → LeavesOnly new (λ x. x ≡ next)
+  pub failed : done ≡ false → HasCleanDisk new → Stands old w → LeavesOnly new (λ x. (x ≡ w) ⊎ (x ≡ next)) ⊎ LeavesNoMore old new
 
 -- A change made the next world in each world that the tables stood for, or left it.
 pub record Changes (old new : State) (done : Bool) (next : World → World) : Type 0 where

@@ -1,5 +1,5 @@
 -- The part of a team, written whole or not at all, as a call of a store.
-use Rattle.std.proofs.Common.{◌≡◌, ◌≢◌, ◌≤◌, ℕ, List, Bool, true, false, IsTrue, Result, Ok, Err, IsErr, is_ok, inl, refl, sym, subst, arith, true≢false}
+use Rattle.std.proofs.Common.{◌≡◌, ◌≢◌, ◌≤◌, ℕ, List, Bool, true, false, IsTrue, Result, Ok, Err, IsErr, is_ok, inl, inr, refl, sym, subst, arith, true≢false}
 use Rattle.sqlite_trees.specs.View.{doubt}
 use Rattle.sqlite.specs.State.{State, HasCleanDisk}
 use Rattle.world.specs.Part.{part, IsTeam}
@@ -61,6 +61,7 @@ spared_at a b x next spares = record {
   world = spares.stays x;
   left = λ clean stands only db may. let it = only db (spares.left clean x stands db may) in (it.0, it.1, inl it.2);
   kept = λ done. absurd (true≢false (sym done));
+  failed = λ _ clean stands. inr (spares.left clean x stands);
 }
 
 pub is_read : (a b : State) → Spares a b → IsRead (shown_of a) (shown_of b)

@@ -1,5 +1,5 @@
 -- Calls on the tables as calls of a store.
-use Rattle.std.proofs.Common.{ℕ, List, ◌≡◌, ◌≤◌, Result, Ok, Err, inl, inr, refl, subst, is_ok}
+use Rattle.std.proofs.Common.{ℕ, List, ◌≡◌, ◌≤◌, Result, Ok, Err, inl, inr, refl, sym, subst, is_ok}
 use Rattle.std.specs.Prelude.{IfOk, if◌then◌else◌}
 use Rattle.sqlite_trees.specs.View.{doubt}
 use Rattle.sqlite.specs.State.{State, HasCleanDisk}
@@ -50,6 +50,8 @@ module _ {T : Type 0} (old new : State) (kept after : Kept) where
         err = tt;
         left = λ only. change.left clean stands.0 (narrow old w only);
         kept = λ only db may. let it = change.kept refl clean stands.0 db may in (it.0, it.1, inl it.2);
+        settled = inl (λ db may. let it = change.kept refl clean stands.0 db may in (it.0, it.1, inl it.2));
+        failed = tt;
       }
       changed (Err fault) clean w stands value next answer change is right = record {
         answer = tt;
@@ -57,6 +59,8 @@ module _ {T : Type 0} (old new : State) (kept after : Kept) where
         err = ((change.world stands.0, stands.1), right);
         left = λ only. change.left clean stands.0 (narrow old w only);
         kept = λ _. tt;
+        settled = tt;
+        failed = elim (change.failed refl clean stands.0) [ inl only ↦ inl only | inr none ↦ inr (λ x y only db may. only db (none db may)) ];
       }
 
 -- a read that keeps no more
@@ -89,6 +93,8 @@ refused old kept x value next same = record {
     err = tt;
     left = λ only. subst (LeavesEither old w) (same w).1 only;
     kept = λ only. subst (λ y. LeavesEither old y y) (same w).1 only;
+    settled = inr (sym (same w).1, λ x y only. only);
+    failed = tt;
   };
 }
 

@@ -16,7 +16,7 @@ returns-in-Err-clause-changes g c opened w unused =
     let new = state g.S.Store c.execute.new.self in
     let name = c.args.name.now in
     let told = rw c.params-to_sql.ensures at c.in-Err.ensures in
-    failed_changes _ (shelf_params name) (Insert 1 (Values terms 2)) refl (refl, refl) (inserting 1 (Values terms 2)) old new opened w (with_team w name) (add_shelf_turns w name old) told.survives c.in-Err.error told.runs
+    failed_changes _ (shelf_params name) (Insert 1 (Values terms 2)) refl (refl, refl) (inserting 1 (Values terms 2)) old new (g.met.S.Store.settled c.args.conn.now.store) opened w (with_team w name) (add_shelf_turns w name old) told.survives c.in-Err.error told.runs
 
 pub returns-in-Ok-clause-changes : goal.returns-in-Ok-clause-changes
 unfolding understood everything

@@ -8,20 +8,21 @@ use Rattle.csv.specs.declared.parser.State.{State}
 use Rattle.csv.specs.declared.reader.Reader.{Reader}
 use Rattle.engine.specs.declared.fault.Io.{Io}
 use Rattle.engine.specs.declared.fault.Io.TheVariants as io
-use Rattle.shelf.proofs.Runs.{run_more, run_end, idle_parts, grown_more, grown_before}
-use Rattle.shelf.specs.Machine.{ask_reply, after_ask, world_after, MetDevice, Run}
+use Rattle.shelf.proofs.Runs.{runs_begun, runs_replied, runs_failed, runs_joined, grown_more, grown_before}
+use Rattle.shelf.specs.Machine.{ask_reply, after_ask, MetDevice}
 use Rattle.shelf.specs.Runs.{Runs}
 use Rattle.shelf.specs.declared.ask.Ask.{Ask}
 use Rattle.shelf.specs.declared.ask.Body.{Body}
-use Rattle.shelf.specs.declared.ask.Event.{Event}
+use Rattle.shelf.specs.declared.ask.Event.TheVariants.{Asked}
 use Rattle.shelf.specs.declared.reply.Answer.{Answer}
 use Rattle.shelf.specs.declared.reply.Answer.TheVariants.{Replied, Failed}
 use Rattle.shelf.specs.declared.reply.Reply.{Reply}
 use Rattle.wire.specs.declared.reply.Fixed.{Fixed}
+use Rattle.wire.specs.declared.reply.Fixed.TheVariants.{Unavailable}
 use Rattle.world.specs.Store.{Shown, Does, HasCause}
 use Rattle.world.specs.declared.registry.StoreFault.{StoreFault}
 use Rattle.commands.specs.Import as spec
-use Rattle.commands.specs.Import.{Turn, GoesThrough, Publishes, DoesRow, Imports, Answers}
+use Rattle.commands.specs.Import.{Turn, GoesThrough, Publishes, DoesRow, Imports, Answers, HasNoFile, Unfetched}
 use Rattle.commands.specs.ImportFiles.{IsBodyOf}
 use Rattle.commands.specs.ImportLine.{IsFront, PrintsFront}
 use Rattle.commands.specs.ImportList.{HasRead, IsAt, Line, fields_of_line, header}
@@ -29,6 +30,7 @@ use Rattle.commands.specs.Publish.{answer_of}
 use Rattle.commands.specs.declared.import.Closing.{Closing}
 use Rattle.commands.specs.declared.import.Ending.{Ending}
 use Rattle.commands.specs.declared.import_line.Outcome.TheVariants as outcome
+use Rattle.commands.specs.declared.sources.SourceFault.TheVariants as source
 
 -- ---- lists of turns
 
@@ -46,26 +48,6 @@ met_either [] last met = inr met
 met_either (a ∷ first) last (inl here) = inl (inl here)
 met_either (a ∷ first) last (inr later) = elim (met_either first last later) [ inl x ↦ inl (inr x) | inr x ↦ inr x ]
 
--- two runs, one after the other
-runs_joined : (a b c : Shown) (es fs : List Event) (xs ys : List Answer) → Runs a b es xs → Runs b c fs ys → Runs a c (es ++ fs) (xs ++ ys)
-runs_joined a b c es fs xs ys so last = record {
-  honest = λ h. so.honest (last.honest h);
-  at = λ h w stands.
-      let first = so.at (last.honest h) w stands in
-      let then = last.at h (world_after w es xs) first.ends in
-      let mid = world_after w es xs in
-      let end = world_after mid fs ys in
-      let run = run_more w mid end es fs xs ys first.run then.run in
-      let same = run_end w end (es ++ fs) (xs ++ ys) run in
-      record {
-        run = subst (λ x. Run w (es ++ fs) (xs ++ ys) x) same run;
-        ends = subst (λ x. c.stands x) same then.ends;
-        left = λ idle was.
-            let parts = idle_parts w mid es fs xs ys first.run idle in
-            subst (λ x. c.leaves x x) same (then.left parts.1 (first.left parts.0 was));
-      };
-}
-
 -- ---- one row
 
 module _ (old new : Shown) (before now : ℕ) (ask : Ask) where
@@ -77,9 +59,7 @@ module _ (old new : Shown) (before now : ℕ) (ask : Ask) where
     told = Replied reply;
     runs = record {
       honest = does.honest;
-      at = λ h w stands.
-          let d = does.at h w stands tt in
-          record { run = (d.answer, refl); ends = d.ok; left = λ idle was. d.kept was };
+      at = λ h w stands. runs_replied old new w (Asked ask) reply (does.at h w stands tt);
     };
     is = is;
     no_fewer = cause.no_fewer;
@@ -89,9 +69,7 @@ module _ (old new : Shown) (before now : ℕ) (ask : Ask) where
     told = Failed fault;
     runs = record {
       honest = does.honest;
-      at = λ h w stands.
-          let d = does.at h w stands tt in
-          record { run = refl; ends = d.err; left = λ idle was. subst (λ x. new.leaves w x) idle.0 (d.left was) };
+      at = λ h w stands. runs_failed old new w (Asked ask) fault _ (does.at h w stands tt);
     };
     is = is;
     no_fewer = cause.no_fewer;
@@ -108,11 +86,27 @@ module _ (told : List ℕ → Option (Option (List ℕ))) (key : List ℕ) where
     is = ap outcome.Answered is.is;
   }
 
+  -- a row that was not asked of the machine leaves the store as it was
+  pub row_without_file : (old : Shown) (before : ℕ) (l : Line) → IsBodyOf told l (Err source.NoFile)
+      → DoesRow old old before before told key l outcome.NoFile
+  row_without_file old before l none = record {
+    done = HasNoFile;
+    through = record { done = (none, tt); runs = runs_begun old; no_fewer = omega arith; device = λ never. absurd never };
+    is = refl;
+  }
+
+  pub row_unfetched : (old : Shown) (before : ℕ) (l : Line) → DoesRow old old before before told key l (outcome.Answered Unavailable)
+  row_unfetched old before l = record {
+    done = Unfetched;
+    through = record { done = (tt, tt); runs = runs_begun old; no_fewer = omega arith; device = λ never. absurd never };
+    is = refl;
+  }
+
   -- nothing is done
   pub nothing_done : (old : Shown) (before : ℕ) → GoesThrough old old before before told key []
   nothing_done old before = record {
     done = tt;
-    runs = record { honest = λ h. h; at = λ h w stands. record { run = refl; ends = stands; left = λ idle was. was } };
+    runs = runs_begun old;
     no_fewer = omega arith;
     device = λ never. absurd never;
   }

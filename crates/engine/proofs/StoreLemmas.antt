@@ -8,15 +8,17 @@ use Rattle.shelf.specs.declared.reply.Reply.{Reply}
 use Rattle.shelf.specs.declared.reply.Reply.TheVariants.{GoMod, Info, Versions, Paths}
 use Rattle.world.specs.declared.registry.StoreFault.{StoreFault}
 use Rattle.world.specs.World.{World}
-use Rattle.shelf.specs.Machine.{ask_reply, after_ask, HasBody}
-use Rattle.world.specs.Store.{Shown, Does, HasCause, GrewOrFull}
+use Rattle.shelf.specs.Machine.{ask_reply, after_ask, reply_to, after, HasBody}
+use Rattle.world.specs.Store.{Shown, Does, DoesAt, HasCause, GrewOrFull}
 use Rattle.shelf.proofs.Changes.{bodies_change_nothing}
 use Rattle.engine.specs.Ask.{ask_of, sum_of}
+use Rattle.engine.specs.Ask.{event_of as event_of_message}
 use Rattle.engine.specs.Exchange.{Exchange, Outcome, Unserved, Met, Told, event_of, answer_of}
 use Rattle.engine.specs.Reply.{IsComposed, IsOutcome}
 use Rattle.engine.specs.Store.{GoesThrough, LeavesTwo, AllCalm, world_at}
 use Rattle.engine.proofs.CrashLemmas.{leaves_kept, leaves_more, world_step}
-use Rattle.engine.proofs.RunLemmas.{runs_more, world_more, met_either}
+use Rattle.engine.proofs.RunLemmas.{world_more, met_either}
+use Rattle.shelf.proofs.Runs.{runs_none, runs_unasked, runs_failed, runs_replied, runs_lost, runs_joined}
 
 calm_parts : (w : World) (xs ys : List Exchange) → AllCalm w (xs ++ ys) → AllCalm w xs × AllCalm (world_at w xs) ys
 calm_parts w [] ys all = (tt, all)
@@ -46,7 +48,7 @@ pub through_none : (shown : Shown) (count : ℕ) → GoesThrough shown shown cou
 through_none shown count = record {
   runs = record {
     honest = λ h. h;
-    at = λ h w stands. record { run = refl; ends = stands; left = λ idle was. was };
+    at = λ h w stands. runs_none shown w stands;
   };
   left = λ h w stands was. was;
   settled = λ h w stands calm was. was;
@@ -63,7 +65,7 @@ pub through_unasked : (shown : Shown) (count : ℕ) (m : Request) → ((w x : Wo
 through_unasked shown count m wider = record {
   runs = record {
     honest = λ h. h;
-    at = λ h w stands. record { run = refl; ends = stands; left = λ idle was. was };
+    at = λ h w stands. runs_unasked shown w _ _ stands;
   };
   left = λ h w stands was. wider w _ was;
   settled = λ h w stands calm was. was;
@@ -73,17 +75,19 @@ through_unasked shown count m wider = record {
 }
 
 module _ (old new : Shown) (before now : ℕ) (m : Request) (ask : Ask) (is : ask ≡ ask_of m) where
+  -- in one world, of the message
+  asked : new.is_honest → (w : World) → old.stands w → (told : Result Reply StoreFault)
+      → Does {T = Reply} old new told (λ w. ask_reply w ask) (λ w. after_ask w ask)
+      → DoesAt {T = Reply} old new w told (reply_to w (event_of_message m)) (after w (event_of_message m))
+  asked h w stands told does = subst (λ a. DoesAt {T = Reply} old new w told (ask_reply w a) (after_ask w a)) is (does.at h w stands tt)
+
   -- it met a fault
   pub through_met : (fault : StoreFault) → Does {T = Reply} old new (Err fault) (λ w. ask_reply w ask) (λ w. after_ask w ask)
       → HasCause {T = Reply} before now (Err fault) → GoesThrough old new before now (record { message = m; outcome = Met fault } ∷ [])
   through_met fault does cause = record {
     runs = record {
       honest = λ h. does.honest h;
-      at = λ h w stands. let at = does.at h w stands tt in record {
-        run = refl;
-        ends = at.err;
-        left = λ idle was. subst (λ x. new.leaves w x) (ap (after_ask w) is ∙ idle.0) (at.left was);
-      };
+      at = λ h w stands. runs_failed old new w _ fault _ (asked h w stands (Err fault) does);
     };
     left = λ h w stands was. subst (λ x. new.leaves w x) (ap (after_ask w) is) ((does.at h w stands tt).left was);
     settled = λ h w stands calm was. elim calm.0 [
@@ -101,11 +105,7 @@ module _ (old new : Shown) (before now : ℕ) (m : Request) (ask : Ask) (is : as
   through_told reply does cause = record {
     runs = record {
       honest = λ h. does.honest h;
-      at = λ h w stands. let at = does.at h w stands tt in record {
-        run = (at.answer ∙ ap (ask_reply w) is, refl);
-        ends = subst new.stands (ap (after_ask w) is) at.ok;
-        left = λ idle was. kept w (at.kept was);
-      };
+      at = λ h w stands. runs_replied old new w _ reply (asked h w stands (Ok reply) does);
     };
     left = λ h w stands was. subst (λ x. new.leaves w x) (ap (after_ask w) is) ((does.at h w stands tt).left was);
     settled = λ h w stands calm was. kept w ((does.at h w stands tt).kept was);
@@ -123,11 +123,7 @@ module _ (old new : Shown) (before now : ℕ) (m : Request) (ask : Ask) (is : as
   through_unshown reply body does cause = record {
     runs = record {
       honest = λ h. does.honest h;
-      at = λ h w stands. let at = does.at h w stands tt in record {
-        run = refl;
-        ends = subst new.stands (same h w stands) at.ok;
-        left = λ idle was. kept h w stands was;
-      };
+      at = λ h w stands. runs_lost old new w _ reply _ _ (asked h w stands (Ok reply) does) (ap (after_ask w) (sym is) ∙ same h w stands);
     };
     left = λ h w stands was. subst (λ x. new.leaves w x) (ap (after_ask w) is) ((does.at h w stands tt).left was);
     settled = λ h w stands calm was. kept h w stands was;
@@ -179,7 +175,7 @@ module _ (old mid new : Shown) (before between now : ℕ) (xs : List Exchange) (
     pub through_more : GoesThrough mid new between now ys → GoesThrough old new before now (xs ++ ys)
     through_more next = record {
       runs = rw (map-append event_of xs ys, map-append answer_of xs ys)
-          (runs_more old mid new (map event_of xs) (map event_of ys) (map answer_of xs) (map answer_of ys) first.runs next.runs);
+          (runs_joined old mid new (map event_of xs) (map event_of ys) (map answer_of xs) (map answer_of ys) first.runs next.runs);
       left = leaves_after ys next;
       settled = λ h w stands calm was.
           let parts = calm_parts w xs ys calm in

@@ -2,8 +2,11 @@ use Rattle.wire.specs.Framing.{view}
 use Rattle.engine.specs.Exchange.{Exchange}
 use Rattle.std.proofs.lemmas.Result.{err_from_is_err_and}
 use Rattle.engine.proofs.MessageLemmas.{message_shortens}
-use Rattle.engine.proofs.TurnLemmas.{answered_one, answered_more, cut_one, cut_more}
+use Rattle.engine.proofs.TurnLemmas.{answered_none, answered_one, answered_more, cut_one, cut_more}
 use Rattle.engine.proofs.answer.answer_held.Goals as goal
+
+pub loop-message-init : goal.loop-message-init
+loop-message-init g c = (answered_none _ _ _ _, c.requires)
 
 pub loop-message-smaller : goal.loop-message-smaller
 loop-message-smaller g c = message_shortens _ _ _ c.in-Message.ensures.0

@@ -1,9 +1,10 @@
-use Rattle.std.proofs.Common.{[], Some, refl, rules}
-use Rattle.std.proofs.KnownBytes.{Consumes-nil}
+use Rattle.std.proofs.Common.{[], Some, Err, refl, rules}
+use Rattle.std.proofs.KnownBytes.{Consumes-nil, Keeps-refl}
 use Rattle.wire.specs.Framing.{view}
 use Rattle.wire.proofs.StreamLemmas.{unfinished_nothing}
 use Rattle.engine.specs.First.{Answers, Closes}
 use Rattle.engine.specs.Exchange.{Exchange}
+use Rattle.engine.specs.declared.fault.Io.TheVariants as io
 use Rattle.engine.proofs.FirstLemmas.{first_served, first_unread, closes_reading, takes_message, takes_closing}
 use Rattle.engine.proofs.StoreLemmas.{through_none}
 use Rattle.engine.proofs.answer.serve_first.Goals as goal
@@ -41,3 +42,9 @@ returns-in_err-closing-clause-serves g c =
     let far = c.loop.invariant in
     rw (far.untouched, far.unwritten)
     (first_unread _ _ _ _ _ _ c.loop.framer.held c.from_residual.result (search (c, rules)) far.consumed far.unfinished c.in_err-closing.ensures.1)
+
+pub returns-clause-serves : goal.returns-clause-serves
+returns-clause-serves g c =
+    let far = c.loop.invariant in
+    rw (far.untouched, far.unwritten)
+    (first_unread _ _ _ _ _ _ c.loop.framer.held (Err io.Read) refl far.consumed far.unfinished (Keeps-refl _))

@@ -1,8 +1,8 @@
-use Rattle.std.proofs.Common.{◌≡◌, ap, ◌∙◌, subst}
+use Rattle.std.proofs.Common.{◌≡◌, refl, ap, ◌∙◌, subst}
 use Rattle.wire.specs.Framing.{view}
-use Rattle.engine.proofs.StoreLemmas.{through_asked}
+use Rattle.engine.proofs.StoreLemmas.{through_asked, through_unasked}
 use Rattle.engine.specs.Ask.{ask_of, sum_of, sum_by}
-use Rattle.engine.specs.Exchange.{answer_to}
+use Rattle.engine.specs.Exchange.{Unserved, answer_to}
 use Rattle.engine.specs.Reply.{answer_page, IsOutcome}
 use Rattle.engine.proofs.AskLemmas.{sum_asked}
 use Rattle.engine.proofs.exchange.page_for.Goals as goal
@@ -17,3 +17,6 @@ returns g c =
     let is_one = subst (λ at. IsOutcome at c.step-told.result outcome) sum is in
     let step = c.step-told.ensures in
     (outcome, (through_asked _ _ _ _ m asking.ask ask c.step-told.result outcome is_one step.does step.cause, shown ∙ ap (λ at. answer_page at (answer_to outcome)) sum))
+
+pub returns-in_default : goal.returns-in_default
+returns-in_default g c = (Unserved, (through_unasked _ _ _ (g.met.S.Shelves.wider c.args.shelves.now), refl))

@@ -5,8 +5,9 @@ ghost use Rattle.store.specs.Restart.{IsThereAfterRestart};
 
 use sqlite::Alter;
 
-/// If a crash leaves one world alone, as it does once a change has answered Ok (the clauses of `Shelves`), the files that
-/// it leaves hold that world, and a store opened over them begins at it (`SqlShelves::open_from`).
+/// Restates `leaves`, which the clauses of `Shelves` speak of, in the words of `SqlShelves::open_from`, and adds no other
+/// fact: if a crash leaves one world alone, as it does once a change has answered Ok, files that hold a database that it
+/// may leave hold that world, so a store opened over them begins at it.
 pub fn restart<S: Alter>()
     ensures { (conn : _) → IsThereAfterRestart (state S.Store conn) }
 {}

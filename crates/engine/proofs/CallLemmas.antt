@@ -11,16 +11,16 @@ use Rattle.wire.proofs.StreamLemmas.{stream_unique}
 use Rattle.world.specs.Store.{Shown}
 use Rattle.world.specs.World.{World, IsWorld, chain}
 use Rattle.shelf.specs.Machine.{Run}
-use Rattle.shelf.specs.Isolation.{kept, marked}
+use Rattle.shelf.specs.Isolation.{kept, marked, Agree}
 use Rattle.engine.specs.Exchange.{Exchange, message_of, event_of, answer_of}
-use Rattle.engine.specs.Headline.{NoneUnavailable, kept_messages, kept_texts}
 use Rattle.engine.specs.Reply.{text_of}
+use Rattle.engine.specs.Store.{world_at}
 use Rattle.engine.specs.Served.{IsClosing, closing_bytes, texts_of, Ended, Serves}
-use Rattle.engine.specs.Calls.{kept_for, end_bytes, CallsTellAlike, AgreeAsFar, CallsTellAlikeAsFar}
+use Rattle.engine.specs.Calls.{NoneUnavailable, kept_for, end_bytes, CallsTellAlike, AgreeAsFar, CallsTellAlikeAsFar}
 use Rattle.engine.specs.declared.fault.Io.{Io}
 use Rattle.engine.specs.declared.fault.Io.TheVariants as io
 use Rattle.engine.proofs.FrontLemmas.{run_front, none_front, texts_front, marks_front, kept_front, GoesAsFar, EndsBefore, either_ends}
-use Rattle.engine.proofs.HeadlineLemmas.{events_are, callers_are_told_alike}
+use Rattle.engine.proofs.PurgedLemmas.{kept_messages, kept_texts, events_are, exchanges_alike}
 
 -- ---- the stream without some pieces
 
@@ -80,7 +80,7 @@ messages_kept w s messages xs is =
     ap (λ ms. marked (kept_for w s ms) ms) (sym is) ∙ ap (λ es. marked (kept w (chain w s) es) (map message_of xs)) (sym (events_are xs))
 
 pub calls_tell_alike : (old new old_too new_too : Shown) → ((w : World) → old.stands w → IsWorld w) → CallsTellAlike old new old_too new_too
-calls_tell_alike old new old_too new_too sound w s messages end calls other other_too others none =
+calls_tell_alike old new old_too new_too sound w x s messages end calls other other_too others none =
     let marks : List Bool = kept_for w s messages in
     let full = calls.full in
     let purged = calls.purged in
@@ -90,15 +90,21 @@ calls_tell_alike old new old_too new_too sound w s messages end calls other othe
     (messages_make_a_stream (marked marks calls.pieces) (marked marks messages) calls.rest end (marked_messages marks calls.pieces messages calls.are) calls.ends) purged other_too in
     let kept_alike = texts_kept w s messages full.exchanges [] (sym first.all ∙ sym (append-nil (map message_of full.exchanges))) in
     let run = full.through.runs.at calls.honest w calls.stands in
-    let again = purged.through.runs.at calls.honest_too w calls.stands_too in
-    let same = callers_are_told_alike w _ _ s full.exchanges purged.exchanges (sound w calls.stands) run.run again.run
-    (second.all ∙ messages_kept w s messages full.exchanges first.all) (subst NoneUnavailable kept_alike others) none ∙ sym kept_alike in
+    let again = purged.through.runs.at calls.honest_too x calls.stands_too in
+    let alike = exchanges_alike w x _ _ s full.exchanges purged.exchanges (sound w calls.stands) calls.agree run.run again.run
+    (second.all ∙ messages_kept w s messages full.exchanges first.all) (subst NoneUnavailable kept_alike others) none in
+    let same = alike.0 ∙ sym kept_alike in
     record {
       all = first.all;
       left = second.all;
       texts = same;
       wrote = first.wrote;
       wrote_too = second.wrote ∙ ap (λ texts. concat texts ++ end_bytes end) same;
+      world = world_at w full.exchanges;
+      world_too = world_at x purged.exchanges;
+      stands = run.ends;
+      stands_too = again.ends;
+      agree = alike.1;
     }
 
 -- ---- as far as both went
@@ -121,24 +127,24 @@ first_messages old new before now bytes unread written written_new result messag
     stream_begins bytes (map message_of call.exchanges) messages (call.rest ++ begins.0) end
     (subst (λ all. ReadsMessages all (map message_of call.exchanges) (call.rest ++ begins.0)) (sym begins.1) reads) stream
 
-as_far : (w one two : World) (s : List ℕ) → IsWorld w → (full purged : List Exchange) → Run w (map event_of full) (map answer_of full) one
-    → Run w (map event_of purged) (map answer_of purged) two → NoneUnavailable (kept_texts w (chain w s) full) → NoneUnavailable (map text_of purged)
+as_far : (w x one two : World) (s : List ℕ) → IsWorld w → Agree w x (chain w s) → (full purged : List Exchange)
+    → Run w (map event_of full) (map answer_of full) one → Run x (map event_of purged) (map answer_of purged) two → NoneUnavailable (kept_texts w (chain w s) full) → NoneUnavailable (map text_of purged)
     → GoesAsFar w (chain w s) full purged ⊎ EndsBefore w (chain w s) full purged
     → AgreeAsFar (kept_texts w (chain w s) full) (map text_of purged)
-as_far w one two s is full purged run again others none (inl (front, more, cut, same)) =
+as_far w x one two s is agree full purged run again others none (inl (front, more, cut, same)) =
     let all = ap (map text_of) cut ∙ texts_front front more in
-    let short = run_front w two front more (subst (λ xs. Run w (map event_of xs) (map answer_of xs) two) cut again) in
-    let alike = callers_are_told_alike w one short.0 s full front is run short.1 same others (none_front (map text_of front) (map text_of more) (subst NoneUnavailable all none)) in
-    (map text_of more, inr (all ∙ ap (λ texts. texts ++ map text_of more) alike))
-as_far w one two s is full purged run again others none (inr (front, more, cut, same)) =
+    let short = run_front x two front more (subst (λ xs. Run x (map event_of xs) (map answer_of xs) two) cut again) in
+    let alike = exchanges_alike w x one short.0 s full front is agree run short.1 same others (none_front (map text_of front) (map text_of more) (subst NoneUnavailable all none)) in
+    (map text_of more, inr (all ∙ ap (λ texts. texts ++ map text_of more) alike.0))
+as_far w x one two s is agree full purged run again others none (inr (front, more, cut, same)) =
     let kept_so = kept_front w (chain w s) front more in
     let all = ap (kept_texts w (chain w s)) cut ∙ kept_so.1 in
     let short = run_front w one front more (subst (λ xs. Run w (map event_of xs) (map answer_of xs) one) cut run) in
-    let alike = callers_are_told_alike w short.0 two s front purged is short.1 again same (none_front (kept_texts w (chain w s) front) kept_so.0 (subst NoneUnavailable all others)) none in
-    (kept_so.0, inl (all ∙ ap (λ texts. texts ++ kept_so.0) (sym alike)))
+    let alike = exchanges_alike w x short.0 two s front purged is agree short.1 again same (none_front (kept_texts w (chain w s) front) kept_so.0 (subst NoneUnavailable all others)) none in
+    (kept_so.0, inl (all ∙ ap (λ texts. texts ++ kept_so.0) (sym alike.0)))
 
 pub calls_tell_alike_as_far : (old new old_too new_too : Shown) → ((w : World) → old.stands w → IsWorld w) → CallsTellAlikeAsFar old new old_too new_too
-calls_tell_alike_as_far old new old_too new_too sound w s messages end result result_too calls others none =
+calls_tell_alike_as_far old new old_too new_too sound w x s messages end result result_too calls others none =
     let marks : List Bool = kept_for w s messages in
     let full = calls.full in
     let purged = calls.purged in
@@ -149,6 +155,6 @@ calls_tell_alike_as_far old new old_too new_too sound w s messages end result re
     let cut = either_ends w (chain w s) full.exchanges purged.exchanges first.0 second.0 (ap (λ ms. marked (kept_for w s ms) ms) (sym first.1) ∙ second.1) in
     let same = texts_kept w s messages full.exchanges first.0 first.1 in
     let run = full.through.runs.at calls.honest w calls.stands in
-    let again = purged.through.runs.at calls.honest_too w calls.stands_too in
+    let again = purged.through.runs.at calls.honest_too x calls.stands_too in
     subst (λ texts. AgreeAsFar texts (map text_of purged.exchanges)) (sym same)
-    (as_far w _ _ s (sound w calls.stands) full.exchanges purged.exchanges run.run again.run (subst NoneUnavailable same others) none cut)
+    (as_far w x _ _ s (sound w calls.stands) calls.agree full.exchanges purged.exchanges run.run again.run (subst NoneUnavailable same others) none cut)

@@ -9,7 +9,8 @@ use Rattle.shelf.specs.Isolation.{is_kept, kept, marked}
 use Rattle.engine.specs.Ask as spec
 use Rattle.engine.specs.Exchange.{Exchange, message_of, event_of, answer_of}
 use Rattle.engine.specs.Reply.{text_of}
-use Rattle.engine.specs.Headline.{NoneUnavailable, kept_messages, kept_texts}
+use Rattle.engine.specs.Calls.{NoneUnavailable}
+use Rattle.engine.proofs.PurgedLemmas.{kept_messages, kept_texts}
 
 -- a run over the first messages
 pub run_front : (w new : World) (xs more : List Exchange) → Run w (map event_of (xs ++ more)) (map answer_of (xs ++ more)) new

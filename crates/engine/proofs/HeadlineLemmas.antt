@@ -1,5 +1,5 @@
 -- The laws of runs, in bytes.
-use Rattle.std.proofs.Common.{◌≡◌, ◌≢◌, ◌⊎◌, ℕ, List, [], ◌∷◌, Bool, true, false, Option, Some, None, refl, ◌∙◌, sym, ap, subst, inl, inr, arith}
+use Rattle.std.proofs.Common.{◌≡◌, ◌⊎◌, ℕ, List, [], ◌∷◌, Bool, Option, Some, None, refl, ◌∙◌, sym, ap, subst, inl, inr, arith}
 use Rattle.std.specs.Prelude.{map}
 use Rattle.std.specs.FinMap as fin
 use Rattle.modver.specs.SemanticVersion.{SemanticVersion, version_text}
@@ -15,82 +15,44 @@ use Rattle.shelf.specs.declared.reply.Answer.{Answer}
 use Rattle.shelf.specs.declared.reply.Answer.TheVariants.{Replied, Failed}
 use Rattle.shelf.specs.declared.reply.Reply.{Reply}
 use Rattle.shelf.specs.declared.reply.Reply.TheVariants as reply
-use Rattle.shelf.specs.Machine.{Run, after, keyed_reply, query_reply, gomod_reply, zip_reply, info_reply, latest_reply}
+use Rattle.shelf.specs.Machine.{Run, after_all, replies, replies_of, keyed_reply, query_reply, gomod_reply, zip_reply, info_reply, latest_reply}
 use Rattle.world.specs.Latest.{latest_of}
-use Rattle.shelf.specs.Isolation.{is_kept, marked, belongs, IsAnsweredIfKept, KeptAnswered, IsReplied, AllReplied}
+use Rattle.shelf.specs.Isolation.{kept, marked, belongs, Agree}
 use Rattle.shelf.specs.Immutability.{IsOfVersion, IsFound, IsFailed}
-use Rattle.shelf.proofs.Isolated.{purged_runs_agree}
+use Rattle.shelf.proofs.Isolated.{isolated}
 use Rattle.shelf.proofs.Latest.{latest_is_the_top, none_is_latest}
 use Rattle.shelf.proofs.Served.{stays_served}
 use Rattle.engine.specs.Ask as spec
-use Rattle.engine.specs.Exchange.{Exchange, message_of, event_of, answer_of}
+use Rattle.engine.specs.Exchange.{Exchange, event_of, answer_of}
+use Rattle.engine.specs.Happening.{Coming, event_in, coming_of, event_at, answer_at, text_at, told}
 use Rattle.engine.specs.Reply.{reply_page, page_of, page_for, page_bytes, page_status, bytes_of, text_of}
-use Rattle.engine.specs.Headline.{unavailable, NoneUnavailable, are_kept, kept_messages, kept_texts, CallersAreToldAlike, BytesStayServed, TellsLatest, LatestIsWritten}
+use Rattle.engine.specs.Headline.{unavailable, CallersAreToldAlike, BytesStayServed, TellsLatest, LatestIsWritten}
+use Rattle.engine.proofs.ToldLemmas.{texts, events_are, told_events, told_texts, marked_events, marked_texts, IsExact, exact}
 
 -- ---- nothing of others
 
--- what is written for messages with these answers
-abbrev texts_for : List Request → List Answer → List (List ℕ)
-texts_for (m ∷ ms) (a ∷ answers) = bytes_of m a ∷ texts_for ms answers
-texts_for ms answers = []
-
-pub events_are : (xs : List Exchange) → map event_of xs ≡ map spec.event_of (map message_of xs)
-events_are [] = refl
-events_are (x ∷ xs) = ap (λ es. event_of x ∷ es) (events_are xs)
-
-texts_are : (xs : List Exchange) → map text_of xs ≡ texts_for (map message_of xs) (map answer_of xs)
-texts_are [] = refl
-texts_are (x ∷ xs) = ap (λ ts. text_of x ∷ ts) (texts_are xs)
-
-marked_events : (marks : List Bool) (ms : List Request) → marked marks (map spec.event_of ms) ≡ map spec.event_of (marked marks ms)
-marked_events [] ms = refl
-marked_events (true ∷ marks) [] = refl
-marked_events (false ∷ marks) [] = refl
-marked_events (true ∷ marks) (m ∷ ms) = ap (λ es. spec.event_of m ∷ es) (marked_events marks ms)
-marked_events (false ∷ marks) (m ∷ ms) = marked_events marks ms
-
-marked_texts : (marks : List Bool) (xs : List Exchange) → marked marks (map text_of xs) ≡ texts_for (marked marks (map message_of xs)) (marked marks (map answer_of xs))
-marked_texts [] xs = refl
-marked_texts (true ∷ marks) [] = refl
-marked_texts (false ∷ marks) [] = refl
-marked_texts (true ∷ marks) (x ∷ xs) = ap (λ ts. text_of x ∷ ts) (marked_texts marks xs)
-marked_texts (false ∷ marks) (x ∷ xs) = marked_texts marks xs
-
--- a message that was not answered by the 503 was answered
-answered : (m : Request) (a : Answer) → bytes_of m a ≢ unavailable → IsAnsweredIfKept true a
-answered m (Replied r) other = tt
-answered m (Failed fault) other = absurd (other refl)
-
-kept_answered : (w : World) (ss : List (List ℕ)) (xs : List Exchange) → NoneUnavailable (kept_texts w ss xs)
-    → KeptAnswered w ss (map event_of xs) (map answer_of xs)
-kept_answered w ss [] none = tt
-kept_answered w ss (x ∷ xs) none =
-    let next : World = after w (event_of x) in
-    elim (is_kept w ss (event_of x)) as (λ b. NoneUnavailable (marked (b ∷ are_kept next ss xs) (text_of x ∷ map text_of xs)) → IsAnsweredIfKept b (answer_of x) × KeptAnswered next ss (map event_of xs) (map answer_of xs)) [
-      | true ↦ λ n. (answered x.message (answer_of x) n.0, kept_answered next ss xs n.1)
-      | false ↦ λ n. (tt, kept_answered next ss xs n)
-    ] none
-
-replied : (m : Request) (a : Answer) → bytes_of m a ≢ unavailable → IsReplied a
-replied m (Replied r) other = tt
-replied m (Failed fault) other = absurd (other refl)
-
-all_replied : (xs : List Exchange) → NoneUnavailable (map text_of xs) → AllReplied (map answer_of xs)
-all_replied [] none = tt
-all_replied (x ∷ xs) none = (replied x.message (answer_of x) none.0, all_replied xs none.1)
-
 pub callers_are_told_alike : CallersAreToldAlike
-callers_are_told_alike old one two s full purged is run again same others none =
-    let marks : List Bool = are_kept old (chain one s) full in
-    let events : map event_of purged ≡ marked marks (map event_of full) =
-    events_are purged ∙ ap (λ ms. map spec.event_of ms) same ∙ sym (marked_events marks (map message_of full)) ∙ ap (marked marks) (sym (events_are full)) in
-    let answers : marked marks (map answer_of full) ≡ map answer_of purged =
-    purged_runs_agree old one two s (map event_of full) (map answer_of full) (map answer_of purged) is run (kept_answered old (chain one s) full others)
-    (subst (λ es. Run old es (map answer_of purged) two) events again) (all_replied purged none) in
-    texts_are purged
-    ∙ ap (λ ms. texts_for ms (map answer_of purged)) same
-    ∙ ap (texts_for (kept_messages old (chain one s) full)) (sym answers)
-    ∙ sym (marked_texts marks full)
+callers_are_told_alike old old_too new new_too s full purged is agree run again same =
+    let ss : List (List ℕ) = chain new s in
+    let marks : List Bool = kept old ss (map event_at (told full)) in
+    let cs : List Coming = map coming_of (told full) in
+    let rs : List Reply = replies_of (map answer_at full) in
+    let heard : List Reply = replies_of (map answer_at purged) in
+    let first : (marked marks rs ≡ replies old_too (marked marks (map event_at (told full)))) × Agree new (after_all old_too (marked marks (map event_at (told full)))) ss =
+    subst (λ es. (marked (kept old ss es) rs ≡ replies old_too (marked (kept old ss es) es)) × Agree new (after_all old_too (marked (kept old ss es) es)) ss) (told_events full)
+    (isolated old old_too new s (map event_at full) (map answer_at full) is agree run) in
+    let second : IsExact old_too new_too (map event_at (told purged)) heard =
+    subst (λ es. IsExact old_too new_too es heard) (told_events purged) (exact old_too new_too (map event_at purged) (map answer_at purged) again) in
+    let events : map event_at (told purged) ≡ marked marks (map event_at (told full)) =
+    events_are (told purged) ∙ ap (λ c. map event_in c) same ∙ sym (marked_events marks cs) ∙ ap (marked marks) (sym (events_are (told full))) in
+    let alike : heard ≡ marked marks rs = second.told ∙ ap (replies old_too) events ∙ sym first.0 in (
+      told_texts purged
+      ∙ ap (λ c. texts c heard) same
+      ∙ ap (texts (marked marks cs)) alike
+      ∙ sym (marked_texts marks cs rs)
+      ∙ ap (marked marks) (sym (told_texts full)),
+      subst (λ w. Agree new w ss) (sym (second.ends ∙ ap (after_all old_too) events)) first.1,
+    )
 
 -- ---- a query of one version or of the latest
 

@@ -8,9 +8,10 @@ pub mod HeadlineLemmas
 pub mod IsolationLemmas
 pub mod MessageLemmas
 pub mod PartLemmas
+pub mod PurgedLemmas
 pub mod ReadLemmas
 pub mod RunLemmas
 pub mod ServedLemmas
 pub mod StoreLemmas
-pub mod ThroughoutLemmas
+pub mod ToldLemmas
 pub mod TurnLemmas

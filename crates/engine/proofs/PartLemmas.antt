@@ -15,49 +15,21 @@ use Rattle.shelf.specs.Machine.{answered, replies_of, after_all, Run}
 use Rattle.shelf.specs.Parts.{AllOwn, AllAsked, IsNotFound}
 use Rattle.shelf.proofs.Parts.{part_tells_the_same, others_are_not_found, run_leads}
 use Rattle.engine.specs.Ask as spec
-use Rattle.engine.specs.Exchange.{Exchange, Outcome, Unserved, Met, Told, message_of, event_of, answer_of}
+use Rattle.engine.specs.Exchange.{Exchange, Outcome, Unserved, Met, Told, event_of, answer_of}
+use Rattle.engine.specs.Happening.{event_in, coming_of, event_at, answer_at, told}
 use Rattle.engine.specs.Headline.{unavailable}
 use Rattle.engine.specs.Reply.{bytes_of, text_of}
-use Rattle.engine.specs.Parts.{told, PartWritesTheSame, OthersAreWrittenNotFound}
-use Rattle.engine.proofs.HeadlineLemmas.{events_are}
+use Rattle.engine.specs.Parts.{PartWritesTheSame, OthersAreWrittenNotFound}
+use Rattle.engine.proofs.ToldLemmas.{texts, events_are, told_events, told_texts}
 
 -- ---- requests of the team
 
--- what is written, from the messages and the replies
-abbrev texts : List Request → List Reply → List (List ℕ)
-texts (m ∷ ms) (r ∷ replies) = bytes_of m (Replied r) ∷ texts ms replies
-texts ms replies = []
-
-abbrev EventsTold : List Exchange → Type 0
-EventsTold xs = answered (map event_of xs) (map answer_of xs) ≡ map event_of (told xs)
-
-told_events : (xs : List Exchange) → EventsTold xs
-told_events [] = refl
-told_events (x ∷ xs) = go x.outcome refl (told_events xs)
-  where
-    go : (o : Outcome) → x.outcome ≡ o → EventsTold xs → EventsTold (x ∷ xs)
-    go Unserved is rest = rw is rest
-    go (Met fault) is rest = rw is rest
-    go (Told reply) is rest = rw is (ap (λ es. event_of x ∷ es) rest)
-
-abbrev TextsTold : List Exchange → Type 0
-TextsTold xs = map text_of (told xs) ≡ texts (map message_of (told xs)) (replies_of (map answer_of xs))
-
-told_texts : (xs : List Exchange) → TextsTold xs
-told_texts [] = refl
-told_texts (x ∷ xs) = go x.outcome refl (told_texts xs)
-  where
-    go : (o : Outcome) → x.outcome ≡ o → TextsTold xs → TextsTold (x ∷ xs)
-    go Unserved is rest = rw is rest
-    go (Met fault) is rest = rw is rest
-    go (Told reply) is rest = rw is (ap (λ ts. bytes_of x.message (Replied reply) ∷ ts) rest)
-
 pub part_writes_the_same : PartWritesTheSame
 part_writes_the_same w new other s xs ys is run again same own =
-    let events : map event_of (told xs) ≡ map event_of (told ys) = events_are (told xs) ∙ ap (map spec.event_of) same ∙ sym (events_are (told ys)) in
+    let events : map event_at (told xs) ≡ map event_at (told ys) = events_are (told xs) ∙ ap (map event_in) same ∙ sym (events_are (told ys)) in
     let asked = told_events xs ∙ events ∙ sym (told_events ys) in
-    let replies = part_tells_the_same w new other s (map event_of xs) (map event_of ys) (map answer_of xs) (map answer_of ys) is run again asked (subst (AllOwn w s) (sym (told_events xs)) own) in
-    told_texts xs ∙ ap (λ ms. texts ms (replies_of (map answer_of xs))) same ∙ ap (texts (map message_of (told ys))) replies ∙ sym (told_texts ys)
+    let replies = part_tells_the_same w new other s (map event_at xs) (map event_at ys) (map answer_at xs) (map answer_at ys) is run again asked (subst (AllOwn w s) (sym (told_events xs)) own) in
+    told_texts xs ∙ ap (λ cs. texts cs (replies_of (map answer_at xs))) same ∙ ap (texts (map coming_of (told ys))) replies ∙ sym (told_texts ys)
 
 -- ---- requests of others
 
@@ -84,6 +56,6 @@ others_are_written_not_found w mid new s k before x far by run last = go (answer
     go : (a : Answer) → answer_of x ≡ a → (text_of x ≡ fixed_bytes NotFound) ⊎ (text_of x ≡ unavailable)
     go (Failed fault) is = inr (ap (bytes_of x.message) is)
     go (Replied r) is =
-        let told = (subst (λ a. Run mid (event_of x ∷ []) (a ∷ []) new) is last).0 in
+        let reply = (subst (λ a. Run mid (event_of x ∷ []) (a ∷ []) new) is last).0 in
         let found = others_are_not_found w s k (answered (map event_of before) (map answer_of before)) (spec.ask_of x.message) far by (all_asked before) in
-        inl (ap (bytes_of x.message) is ∙ not_found_written x.message r (subst IsNotFound (sym (told ∙ ap (λ u. Rattle.shelf.specs.Machine.ask_reply u (spec.ask_of x.message)) at)) found))
+        inl (ap (bytes_of x.message) is ∙ not_found_written x.message r (subst IsNotFound (sym (reply ∙ ap (λ u. Rattle.shelf.specs.Machine.ask_reply u (spec.ask_of x.message)) at)) found))

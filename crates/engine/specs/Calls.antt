@@ -1,19 +1,23 @@
 -- Two calls that answer one stream, the second without the bytes of others' messages.
 use Rattle.std.specs.Prelude.{◌≡◌, ◌≢◌, ◌⊎◌, ℕ, List, [], ◌++◌, Bool, Option, Some, map, Result, Ok}
-use Rattle.std.specs.List.{concat}
+use Rattle.std.specs.List.{concat, AllByRecursion}
 use Rattle.wire.specs.Message.{Request, End, clean, too_large, bad, Ends}
 use Rattle.wire.specs.Pieces.{AreMessages}
 use Rattle.wire.specs.Reply.{fixed_bytes}
 use Rattle.wire.specs.declared.reply.Fixed.TheVariants.{TooLarge, BadRequest, Unavailable}
 use Rattle.world.specs.Store.{Shown}
 use Rattle.world.specs.World.{World, chain}
-use Rattle.shelf.specs.Isolation.{kept, marked}
+use Rattle.shelf.specs.Isolation.{kept, marked, Agree}
 use Rattle.engine.specs.Ask.{event_of}
 use Rattle.engine.specs.Exchange.{Exchange, message_of}
-use Rattle.engine.specs.Headline.{NoneUnavailable}
+use Rattle.engine.specs.Headline.{unavailable}
 use Rattle.engine.specs.Reply.{text_of}
 use Rattle.engine.specs.Served.{Serves}
 use Rattle.engine.specs.declared.fault.Io.{Io}
+
+-- none of the texts is the 503
+abbrev pub NoneUnavailable : List (List ℕ) → Type 0
+NoneUnavailable texts = AllByRecursion (λ text. text ≢ unavailable) texts
 
 -- which messages of a stream are kept for s: not one whose key belongs, at its moment, to a shelf that s does not see
 abbrev pub kept_for : World → List ℕ → List Request → List Bool
@@ -25,13 +29,14 @@ end_bytes clean = []
 end_bytes too_large = fixed_bytes TooLarge
 end_bytes bad = fixed_bytes BadRequest
 
--- Two calls of `answer_all` over stores that stood for one world, each on an honest disk. The stream is these messages, the bytes of each
--- a piece, and then a rest with this end. The one call was told all of it, the other all but the pieces of others' messages.
+-- Two calls of `answer_all` over stores whose worlds agreed on what s sees, each on an honest disk. The stream is these messages, the bytes
+-- of each a piece, and then a rest with this end. The one call was told all of it, the other all but the pieces of others' messages.
 pub record AreTwoCalls
-    (old new old_too new_too : Shown) (w : World) (s : List ℕ) (messages : List Request) (end : End)
+    (old new old_too new_too : Shown) (w x : World) (s : List ℕ) (messages : List Request) (end : End)
     (result result_too : Result (Unit {0}) Io) : Type 0 where
   pub stands : old.stands w
-  pub stands_too : old_too.stands w
+  pub stands_too : old_too.stands x
+  pub agree : Agree w x (chain w s)
   pub honest : new.is_honest
   pub honest_too : new_too.is_honest
   pub pieces : List (List ℕ)
@@ -54,23 +59,28 @@ pub record AreTwoCalls
       written_too written_too_new result_too
 
 -- What two calls wrote, the one for these messages and the other for those that are marked: a text for each message, the same in both,
--- and then the same for the end.
+-- and then the same for the end. The stores stand for worlds that agree again on what s sees.
 pub record WriteAlike
-    (messages : List Request) (marks : List Bool) (end : End) (one two : List Exchange) (out out_too : List ℕ) : Type 0 where
+    (new new_too : Shown) (s : List ℕ) (messages : List Request) (marks : List Bool) (end : End) (one two : List Exchange) (out out_too : List ℕ) : Type 0 where
   pub all : map message_of one ≡ messages
   pub left : map message_of two ≡ marked marks messages
   pub texts : map text_of two ≡ marked marks (map text_of one)
   pub wrote : out ≡ concat (map text_of one) ++ end_bytes end
   pub wrote_too : out_too ≡ concat (marked marks (map text_of one)) ++ end_bytes end
+  pub world : World
+  pub world_too : World
+  pub stands : new.stands world
+  pub stands_too : new_too.stands world_too
+  pub agree : Agree world world_too (chain world s)
 
 -- Where both ended well and neither wrote the 503, not in the place of what was left, and not for a message that is kept, they wrote alike.
 abbrev pub CallsTellAlike : Shown → Shown → Shown → Shown → Type 0
 CallsTellAlike old new old_too new_too =
-    (w : World) (s : List ℕ) (messages : List Request) (end : End)
-    (calls : AreTwoCalls old new old_too new_too w s messages end (Ok tt) (Ok tt)) → let marks : List Bool = kept_for w s messages in
+    (w x : World) (s : List ℕ) (messages : List Request) (end : End)
+    (calls : AreTwoCalls old new old_too new_too w x s messages end (Ok tt) (Ok tt)) → let marks : List Bool = kept_for w s messages in
     calls.full.ends.1.0 ≢ Some Unavailable → calls.purged.ends.1.0 ≢ Some Unavailable
     → NoneUnavailable (marked marks (map text_of calls.full.exchanges)) → NoneUnavailable (map text_of calls.purged.exchanges)
-    → WriteAlike messages marks end calls.full.exchanges calls.purged.exchanges calls.full.out calls.purged.out
+    → WriteAlike new new_too s messages marks end calls.full.exchanges calls.purged.exchanges calls.full.out calls.purged.out
 
 -- the one list begins with the other
 abbrev pub AgreeAsFar : List (List ℕ) → List (List ℕ) → Type 0
@@ -80,7 +90,7 @@ AgreeAsFar one two = (more : List (List ℕ)) × ((one ≡ two ++ more) ⊎ (two
 -- the messages that are kept, and none of these by the 503, they are written the same.
 abbrev pub CallsTellAlikeAsFar : Shown → Shown → Shown → Shown → Type 0
 CallsTellAlikeAsFar old new old_too new_too =
-    (w : World) (s : List ℕ) (messages : List Request) (end : End) (result result_too : Result (Unit {0}) Io)
-    (calls : AreTwoCalls old new old_too new_too w s messages end result result_too) → let marks : List Bool = kept_for w s messages in
+    (w x : World) (s : List ℕ) (messages : List Request) (end : End) (result result_too : Result (Unit {0}) Io)
+    (calls : AreTwoCalls old new old_too new_too w x s messages end result result_too) → let marks : List Bool = kept_for w s messages in
     NoneUnavailable (marked marks (map text_of calls.full.exchanges)) → NoneUnavailable (map text_of calls.purged.exchanges)
     → AgreeAsFar (marked marks (map text_of calls.full.exchanges)) (map text_of calls.purged.exchanges)

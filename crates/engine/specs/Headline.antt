@@ -1,9 +1,7 @@
 -- What the callers of a stream are told, in bytes: nothing of others, the same for good, and the latest version by the rules' words.
-use Rattle.std.specs.Prelude.{ℕ, ◌≡◌, ◌≢◌, ◌⊎◌, List, [], ◌∷◌, Bool, Option, map}
-use Rattle.std.specs.List.{AllByRecursion}
+use Rattle.std.specs.Prelude.{ℕ, ◌≡◌, ◌⊎◌, List, [], ◌∷◌, Bool, Option, map}
 use Rattle.latest.specs.Latest.{IsTop}
 use Rattle.modver.specs.SemanticVersion.{SemanticVersion}
-use Rattle.wire.specs.Message.{Request}
 use Rattle.wire.specs.Reply.{reply_bytes, fixed_bytes, info_bytes}
 use Rattle.wire.specs.declared.request.Query.{Query as Wanted}
 use Rattle.wire.specs.declared.request.Target.TheVariants as target
@@ -15,43 +13,30 @@ use Rattle.shelf.specs.declared.ask.Event.{Event}
 use Rattle.shelf.specs.declared.ask.Query.TheVariants.{Latest}
 use Rattle.shelf.specs.declared.reply.Answer.{Answer}
 use Rattle.shelf.specs.Machine.{Run}
-use Rattle.shelf.specs.Isolation.{kept, marked, belongs}
+use Rattle.shelf.specs.Isolation.{kept, marked, belongs, Agree}
 use Rattle.shelf.specs.Immutability.{IsOfVersion}
 use Rattle.shelf.specs.PathLaws.{unretracted_versions, HasTime}
 use Rattle.engine.specs.Ask.{ask_of, query_of, target_in}
-use Rattle.engine.specs.Exchange.{Exchange, message_of, event_of, answer_of}
+use Rattle.engine.specs.Exchange.{Exchange, event_of, answer_of}
+use Rattle.engine.specs.Happening.{Happening, coming_of, event_at, answer_at, text_at, told}
 use Rattle.engine.specs.Reply.{text_of, status_of}
 
 -- the 503
 abbrev pub unavailable : List ℕ
 unavailable = fixed_bytes Unavailable
 
--- none of the texts is the 503
-abbrev pub NoneUnavailable : List (List ℕ) → Type 0
-NoneUnavailable texts = AllByRecursion (λ text. text ≢ unavailable) texts
-
 -- ---- nothing of others
 
--- which of the messages are kept: not one whose key belongs, at its moment, to another shelf than these
-abbrev pub are_kept : World → List (List ℕ) → List Exchange → List Bool
-are_kept w ss exchanges = kept w ss (map event_of exchanges)
-
--- the messages that are kept, and the texts written for them
-abbrev pub kept_messages : World → List (List ℕ) → List Exchange → List Request
-kept_messages w ss exchanges = marked (are_kept w ss exchanges) (map message_of exchanges)
-
-abbrev pub kept_texts : World → List (List ℕ) → List Exchange → List (List ℕ)
-kept_texts w ss exchanges = marked (are_kept w ss exchanges) (map text_of exchanges)
-
--- From one world some messages were answered, and in another run those that are kept of them, the others' taken out: these are written the
--- same, where none of them was answered by the 503.
+-- From worlds that agree on what s sees, in one run all that came, and in another what is kept of it, the others' messages taken out: what is
+-- told of a kept message is the same text. A message that was answered 503, in either run, is left out there, and so is a command that met
+-- a fault. The worlds after both agree again.
 abbrev pub CallersAreToldAlike : Type 0
 CallersAreToldAlike =
-    (old one two : World) (s : List ℕ) (full purged : List Exchange) → IsWorld old
-    → Run old (map event_of full) (map answer_of full) one → Run old (map event_of purged) (map answer_of purged) two
-    → map message_of purged ≡ kept_messages old (chain one s) full
-    → NoneUnavailable (kept_texts old (chain one s) full) → NoneUnavailable (map text_of purged)
-    → map text_of purged ≡ kept_texts old (chain one s) full
+    (old old_too new new_too : World) (s : List ℕ) (full purged : List Happening) → IsWorld old → Agree old old_too (chain new s)
+    → Run old (map event_at full) (map answer_at full) new → Run old_too (map event_at purged) (map answer_at purged) new_too
+    → let marks : List Bool = kept old (chain new s) (map event_at (told full)) in
+    map coming_of (told purged) ≡ marked marks (map coming_of (told full))
+    → (map text_at (told purged) ≡ marked marks (map text_at (told full))) × Agree new new_too (chain new s)
 
 -- ---- the same for good
 

@@ -3,13 +3,13 @@ pub mod Ask
 pub mod Calls
 pub mod Exchange
 pub mod First
+pub mod Happening
 pub mod Headline
 pub mod Isolated
 pub mod Parts
 pub mod Reply
 pub mod Served
 pub mod Store
-pub mod Throughout
 pub mod Turn
 pub mod TwoStores
 pub mod Written

@@ -9,29 +9,19 @@ use Rattle.shelf.specs.Machine.{Run}
 use Rattle.shelf.specs.Isolation.{key_of}
 use Rattle.shelf.specs.Parts.{AllOwn}
 use Rattle.engine.specs.Ask.{ask_of}
-use Rattle.engine.specs.Exchange.{Exchange, Outcome, Unserved, Met, Told, message_of, event_of, answer_of}
+use Rattle.engine.specs.Exchange.{Exchange, event_of, answer_of}
+use Rattle.engine.specs.Happening.{Happening, coming_of, event_at, answer_at, text_at, told}
 use Rattle.engine.specs.Headline.{unavailable}
 use Rattle.engine.specs.Reply.{text_of}
 
--- the exchange, where its message was answered
-abbrev pub if_told : Exchange → Outcome → List Exchange → List Exchange
-if_told x Unserved xs = xs
-if_told x (Met fault) xs = xs
-if_told x (Told reply) xs = x ∷ xs
-
--- the exchanges whose messages were answered
-abbrev pub told : List Exchange → List Exchange
-told [] = []
-told (x ∷ xs) = if_told x x.outcome (told xs)
-
--- Of two runs, one from a world and one from a team's part of it: where the messages that were answered are the same, each with a key of a
+-- Of two runs, one from a world and one from a team's part of it: where what was answered is the same, each a message with a key of a
 -- shelf that the team sees, so is the text that was written for each.
 abbrev pub PartWritesTheSame : Type 0
 PartWritesTheSame =
-    (w new other : World) (s : List ℕ) (xs ys : List Exchange) → IsWorld w
-    → Run w (map event_of xs) (map answer_of xs) new → Run (part w s) (map event_of ys) (map answer_of ys) other
-    → map message_of (told xs) ≡ map message_of (told ys) → AllOwn w s (map event_of (told xs))
-    → map text_of (told xs) ≡ map text_of (told ys)
+    (w new other : World) (s : List ℕ) (xs ys : List Happening) → IsWorld w
+    → Run w (map event_at xs) (map answer_at xs) new → Run (part w s) (map event_at ys) (map answer_at ys) other
+    → map coming_of (told xs) ≡ map coming_of (told ys) → AllOwn w s (map event_at (told xs))
+    → map text_at (told xs) ≡ map text_at (told ys)
 
 -- After any messages, for one whose key belongs to no shelf that the team sees, or to none, the 404 is written, or the 503.
 abbrev pub OthersAreWrittenNotFound : Type 0

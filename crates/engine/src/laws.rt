@@ -6,22 +6,16 @@ ghost use Rattle.engine.specs.Accepted.{AcceptedIsWritten};
 ghost use Rattle.engine.specs.Calls.{CallsTellAlike, CallsTellAlikeAsFar};
 ghost use Rattle.engine.specs.Headline.{CallersAreToldAlike, BytesStayServed, LatestIsWritten};
 ghost use Rattle.engine.specs.Parts.{PartWritesTheSame, OthersAreWrittenNotFound};
-ghost use Rattle.engine.specs.Throughout.{CallersAreToldAlikeThroughout};
 ghost use Rattle.engine.specs.TwoStores.{TwoAnswersAreAlike};
 
 use world::shelves::Shelves;
 
-/// A caller is written the same bytes whether or not other teams send requests: two runs from one world, one with the
-/// others' messages and one without, write the same text for each kept message, unless one of these texts is the 503.
+/// A caller is written the same bytes whether or not other teams send requests: two runs, one with the others' messages
+/// and one without, write the same text for each kept message. Registry commands may come among the messages, so that keys
+/// come and go, and each run leaves out what it answered 503 and the commands that met a fault. The runs begin in one world,
+/// or in two that agree on the registry and on what the caller's shelf sees, and they end in worlds that agree again.
 pub fn isolation()
     ensures { CallersAreToldAlike }
-{}
-
-/// Isolation throughout: with registry commands among the messages, so that keys come and go, a caller is written the
-/// same bytes whether or not other teams send requests, if both runs leave out each message that was answered 503 and
-/// each command that met a fault.
-pub fn isolation_throughout()
-    ensures { CallersAreToldAlikeThroughout }
 {}
 
 /// What was once written with 200 for a version is written for good, to any key that then belongs to the shelf, or the 503.
@@ -42,11 +36,12 @@ pub fn latest_version()
     ensures { LatestIsWritten }
 {}
 
-/// Isolation also holds between two calls of [`answer_all`](crate::answer_all) over any two stores that stand for one world,
-/// on honest disks and with known bytes: if the second stream lacks the bytes of other teams' messages, the second call
-/// writes what the first writes without the texts for them. Both have to end well and write no 503, neither for a kept
-/// message nor in place of what is left. However they end, the kept messages are written the same as far as both go and
-/// none of them is the 503.
+/// Isolation also holds between two calls of [`answer_all`](crate::answer_all) over any two stores whose worlds agree on the
+/// registry and on what the shelf sees, on honest disks and with known bytes: if the second stream lacks the bytes of other
+/// teams' messages, the second call writes what the first writes without the texts for them, and the worlds after both agree
+/// again, so that what holds of one stream holds of many. Both have to end well and write no 503, neither for a kept message
+/// nor in place of what is left. However they end, the kept messages are written the same as far as both go and none of them
+/// is the 503.
 pub fn isolation_of_calls<S: Shelves, T: Shelves>()
     ensures whole { (old new : S) (old_too new_too : T)
         → CallsTellAlike (S.shown old) (S.shown new) (T.shown old_too) (T.shown new_too) }

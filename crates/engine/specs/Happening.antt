@@ -1,16 +1,12 @@
--- The headline of isolation with commands of the registry among the messages, and with what was answered 503 left out.
-use Rattle.std.specs.Prelude.{ℕ, ◌≡◌, List, [], ◌∷◌, map}
+-- What comes to a store, a message or a command of the registry, and what became of it.
+use Rattle.std.specs.Prelude.{ℕ, List, [], ◌∷◌}
 use Rattle.wire.specs.Message.{Request}
-use Rattle.world.specs.World.{World, IsWorld, chain}
 use Rattle.shelf.specs.declared.ask.Event.{Event}
 use Rattle.shelf.specs.declared.reply.Answer.{Answer}
 use Rattle.shelf.specs.declared.reply.Answer.TheVariants.{Replied, Failed}
-use Rattle.shelf.specs.Machine.{Run}
-use Rattle.shelf.specs.Isolation.{kept, marked}
 use Rattle.engine.specs.Ask as spec
 use Rattle.engine.specs.Reply.{bytes_of}
 
--- what comes to a store: a message, or a command of the registry
 pub data Coming : Type 0 where
   Message : Request → Coming
   Command : Event → Coming
@@ -45,14 +41,7 @@ abbrev pub if_told : Happening → Answer → List Happening → List Happening
 if_told h (Replied r) hs = h ∷ hs
 if_told h (Failed fault) hs = hs
 
--- those that met no fault
+-- those that met no fault: a message that was not answered 503, a command that was done or refused
 abbrev pub told : List Happening → List Happening
 told [] = []
 told (h ∷ hs) = if_told h h.answer (told hs)
-
-abbrev pub CallersAreToldAlikeThroughout : Type 0
-CallersAreToldAlikeThroughout =
-    (old one two : World) (s : List ℕ) (full purged : List Happening) → IsWorld old
-    → Run old (map event_at full) (map answer_at full) one → Run old (map event_at purged) (map answer_at purged) two
-    → map coming_of (told purged) ≡ marked (kept old (chain one s) (map event_at (told full))) (map coming_of (told full))
-    → map text_at (told purged) ≡ marked (kept old (chain one s) (map event_at (told full))) (map text_at (told full))

@@ -1,0 +1,95 @@
+-- Messages that were answered, and those that are kept of them, where none of these was answered by the 503.
+use Rattle.std.proofs.Common.{◌≡◌, ◌≢◌, ℕ, List, [], ◌∷◌, Bool, true, false, refl, ◌∙◌, sym, ap, subst}
+use Rattle.std.specs.Prelude.{map}
+use Rattle.wire.specs.Message.{Request}
+use Rattle.world.specs.World.{World, IsWorld, chain}
+use Rattle.shelf.specs.declared.reply.Answer.{Answer}
+use Rattle.shelf.specs.declared.reply.Answer.TheVariants.{Replied, Failed}
+use Rattle.shelf.specs.Machine.{Run, after}
+use Rattle.shelf.specs.Isolation.{is_kept, kept, marked, Agree, IsAnsweredIfKept, KeptAnswered, IsReplied, AllReplied}
+use Rattle.shelf.proofs.Isolated.{purged_runs_agree}
+use Rattle.engine.specs.Ask as spec
+use Rattle.engine.specs.Calls.{NoneUnavailable}
+use Rattle.engine.specs.Exchange.{Exchange, message_of, event_of, answer_of}
+use Rattle.engine.specs.Headline.{unavailable}
+use Rattle.engine.specs.Reply.{bytes_of, text_of}
+
+-- which of the messages are kept, these, and the texts written for them
+abbrev pub are_kept : World → List (List ℕ) → List Exchange → List Bool
+are_kept w ss exchanges = kept w ss (map event_of exchanges)
+
+abbrev pub kept_messages : World → List (List ℕ) → List Exchange → List Request
+kept_messages w ss exchanges = marked (are_kept w ss exchanges) (map message_of exchanges)
+
+abbrev pub kept_texts : World → List (List ℕ) → List Exchange → List (List ℕ)
+kept_texts w ss exchanges = marked (are_kept w ss exchanges) (map text_of exchanges)
+
+-- what is written for messages with these answers
+abbrev texts_for : List Request → List Answer → List (List ℕ)
+texts_for (m ∷ ms) (a ∷ answers) = bytes_of m a ∷ texts_for ms answers
+texts_for ms answers = []
+
+pub events_are : (xs : List Exchange) → map event_of xs ≡ map spec.event_of (map message_of xs)
+events_are [] = refl
+events_are (x ∷ xs) = ap (λ es. event_of x ∷ es) (events_are xs)
+
+texts_are : (xs : List Exchange) → map text_of xs ≡ texts_for (map message_of xs) (map answer_of xs)
+texts_are [] = refl
+texts_are (x ∷ xs) = ap (λ ts. text_of x ∷ ts) (texts_are xs)
+
+marked_events : (marks : List Bool) (ms : List Request) → marked marks (map spec.event_of ms) ≡ map spec.event_of (marked marks ms)
+marked_events [] ms = refl
+marked_events (true ∷ marks) [] = refl
+marked_events (false ∷ marks) [] = refl
+marked_events (true ∷ marks) (m ∷ ms) = ap (λ es. spec.event_of m ∷ es) (marked_events marks ms)
+marked_events (false ∷ marks) (m ∷ ms) = marked_events marks ms
+
+marked_texts : (marks : List Bool) (xs : List Exchange) → marked marks (map text_of xs) ≡ texts_for (marked marks (map message_of xs)) (marked marks (map answer_of xs))
+marked_texts [] xs = refl
+marked_texts (true ∷ marks) [] = refl
+marked_texts (false ∷ marks) [] = refl
+marked_texts (true ∷ marks) (x ∷ xs) = ap (λ ts. text_of x ∷ ts) (marked_texts marks xs)
+marked_texts (false ∷ marks) (x ∷ xs) = marked_texts marks xs
+
+-- a message that was not answered by the 503 was answered
+answered : (m : Request) (a : Answer) → bytes_of m a ≢ unavailable → IsAnsweredIfKept true a
+answered m (Replied r) other = tt
+answered m (Failed fault) other = absurd (other refl)
+
+kept_answered : (w : World) (ss : List (List ℕ)) (xs : List Exchange) → NoneUnavailable (kept_texts w ss xs)
+    → KeptAnswered w ss (map event_of xs) (map answer_of xs)
+kept_answered w ss [] none = tt
+kept_answered w ss (x ∷ xs) none =
+    let next : World = after w (event_of x) in
+    elim (is_kept w ss (event_of x)) as (λ b. NoneUnavailable (marked (b ∷ are_kept next ss xs) (text_of x ∷ map text_of xs)) → IsAnsweredIfKept b (answer_of x) × KeptAnswered next ss (map event_of xs) (map answer_of xs)) [
+      | true ↦ λ n. (answered x.message (answer_of x) n.0, kept_answered next ss xs n.1)
+      | false ↦ λ n. (tt, kept_answered next ss xs n)
+    ] none
+
+replied : (m : Request) (a : Answer) → bytes_of m a ≢ unavailable → IsReplied a
+replied m (Replied r) other = tt
+replied m (Failed fault) other = absurd (other refl)
+
+all_replied : (xs : List Exchange) → NoneUnavailable (map text_of xs) → AllReplied (map answer_of xs)
+all_replied [] none = tt
+all_replied (x ∷ xs) none = (replied x.message (answer_of x) none.0, all_replied xs none.1)
+
+-- Of two runs from worlds that agree, one over all messages and one over those that are kept, these are written the same, where none of them
+-- was answered by the 503; and the worlds after both agree.
+pub exchanges_alike : (old old_too new new_too : World) (s : List ℕ) (full purged : List Exchange) → IsWorld old → Agree old old_too (chain new s)
+    → Run old (map event_of full) (map answer_of full) new → Run old_too (map event_of purged) (map answer_of purged) new_too
+    → map message_of purged ≡ kept_messages old (chain new s) full
+    → NoneUnavailable (kept_texts old (chain new s) full) → NoneUnavailable (map text_of purged)
+    → (map text_of purged ≡ kept_texts old (chain new s) full) × Agree new new_too (chain new s)
+exchanges_alike old old_too new new_too s full purged is agree run again same others none =
+    let marks : List Bool = are_kept old (chain new s) full in
+    let events : map event_of purged ≡ marked marks (map event_of full) =
+    events_are purged ∙ ap (λ ms. map spec.event_of ms) same ∙ sym (marked_events marks (map message_of full)) ∙ ap (marked marks) (sym (events_are full)) in
+    let alike = purged_runs_agree old old_too new new_too s (map event_of full) (map answer_of full) (map answer_of purged) is agree run (kept_answered old (chain new s) full others)
+    (subst (λ es. Run old_too es (map answer_of purged) new_too) events again) (all_replied purged none) in (
+      texts_are purged
+      ∙ ap (λ ms. texts_for ms (map answer_of purged)) same
+      ∙ ap (texts_for (kept_messages old (chain new s) full)) (sym alike.0)
+      ∙ sym (marked_texts marks full),
+      alike.1,
+    )

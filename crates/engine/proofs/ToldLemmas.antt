@@ -1,0 +1,80 @@
+-- What was told of all that came, by the events that were answered and the replies to them.
+use Rattle.std.proofs.Common.{◌≡◌, List, [], ◌∷◌, Bool, true, false, refl, ◌∙◌, sym, ap}
+use Rattle.std.specs.Prelude.{ℕ, map}
+use Rattle.world.specs.World.{World}
+use Rattle.shelf.specs.declared.ask.Event.{Event}
+use Rattle.shelf.specs.declared.reply.Reply.{Reply}
+use Rattle.shelf.specs.declared.reply.Answer.{Answer}
+use Rattle.shelf.specs.declared.reply.Answer.TheVariants.{Replied, Failed}
+use Rattle.shelf.specs.Machine.{Run, replies, replies_of, answered, after, after_all, reply_to}
+use Rattle.shelf.specs.Isolation.{marked}
+use Rattle.engine.specs.Happening.{Coming, Happening, event_in, text_in, coming_of, event_at, answer_at, text_at, told}
+
+-- what is written for what came, by the replies
+abbrev pub texts : List Coming → List Reply → List (List ℕ)
+texts (c ∷ cs) (r ∷ rs) = text_in c (Replied r) ∷ texts cs rs
+texts cs rs = []
+
+pub events_are : (xs : List Happening) → map event_at xs ≡ map event_in (map coming_of xs)
+events_are [] = refl
+events_are (x ∷ xs) = ap (λ es. event_at x ∷ es) (events_are xs)
+
+abbrev EventsTold : List Happening → Type 0
+EventsTold xs = answered (map event_at xs) (map answer_at xs) ≡ map event_at (told xs)
+
+pub told_events : (xs : List Happening) → EventsTold xs
+told_events [] = refl
+told_events (x ∷ xs) = go x.answer refl (told_events xs)
+  where
+    go : (a : Answer) → x.answer ≡ a → EventsTold xs → EventsTold (x ∷ xs)
+    go (Failed fault) is rest = rw is rest
+    go (Replied r) is rest = rw is (ap (λ es. event_at x ∷ es) rest)
+
+abbrev TextsTold : List Happening → Type 0
+TextsTold xs = map text_at (told xs) ≡ texts (map coming_of (told xs)) (replies_of (map answer_at xs))
+
+pub told_texts : (xs : List Happening) → TextsTold xs
+told_texts [] = refl
+told_texts (x ∷ xs) = go x.answer refl (told_texts xs)
+  where
+    go : (a : Answer) → x.answer ≡ a → TextsTold xs → TextsTold (x ∷ xs)
+    go (Failed fault) is rest = rw is rest
+    go (Replied r) is rest = rw is (ap (λ ts. text_in x.coming (Replied r) ∷ ts) rest)
+
+-- ---- what is marked
+
+pub marked_events : (marks : List Bool) (cs : List Coming) → marked marks (map event_in cs) ≡ map event_in (marked marks cs)
+marked_events [] cs = refl
+marked_events (true ∷ marks) [] = refl
+marked_events (false ∷ marks) [] = refl
+marked_events (true ∷ marks) (c ∷ cs) = ap (λ es. event_in c ∷ es) (marked_events marks cs)
+marked_events (false ∷ marks) (c ∷ cs) = marked_events marks cs
+
+none : (cs : List Coming) → texts cs [] ≡ []
+none [] = refl
+none (c ∷ cs) = refl
+
+pub marked_texts : (marks : List Bool) (cs : List Coming) (rs : List Reply) → marked marks (texts cs rs) ≡ texts (marked marks cs) (marked marks rs)
+marked_texts [] cs rs = refl
+marked_texts (true ∷ marks) [] rs = refl
+marked_texts (false ∷ marks) [] rs = refl
+marked_texts (true ∷ marks) (c ∷ cs) [] = refl
+marked_texts (false ∷ marks) (c ∷ cs) [] = sym (none (marked marks cs))
+marked_texts (true ∷ marks) (c ∷ cs) (r ∷ rs) = ap (λ ts. text_in c (Replied r) ∷ ts) (marked_texts marks cs rs)
+marked_texts (false ∷ marks) (c ∷ cs) (r ∷ rs) = marked_texts marks cs rs
+
+-- ---- a run, by what was answered in it
+
+-- the replies are those of the machine over what was answered, and it ends where that ends
+pub record IsExact (w new : World) (es : List Event) (rs : List Reply) : Type 0 where
+  pub told : rs ≡ replies w es
+  pub ends : new ≡ after_all w es
+
+pub exact : (w new : World) (es : List Event) (answers : List Answer) → Run w es answers new → IsExact w new (answered es answers) (replies_of answers)
+exact w new [] [] run = record { told = refl; ends = run }
+exact w new [] (a ∷ answers) run = absurd run
+exact w new (e ∷ es) [] run = absurd run
+exact w new (e ∷ es) (Failed fault ∷ answers) run = exact w new es answers run
+exact w new (e ∷ es) (Replied r ∷ answers) run =
+    let rest = exact (after w e) new es answers run.1 in
+    record { told = ap (λ a. a ∷ replies_of answers) run.0 ∙ ap (λ rs. reply_to w e ∷ rs) rest.told; ends = rest.ends }

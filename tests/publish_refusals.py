@@ -1,0 +1,335 @@
+#!/usr/bin/env python3
+"""tools/publish refuses: each cause ends with status 1 and a sentence, and nothing is published.
+
+The answers of servers that are not goshelf are those of a server in this file. The table of docs/REFERENCE.md is compared with what
+was printed: each of its sentences was, and no other.
+"""
+
+import base64
+import csv
+import http.server
+import io
+import os
+import re
+import signal
+import socket
+import subprocess
+import sys
+import tempfile
+import threading
+import zipfile
+
+from go_client import h1
+from harness import KEYS, ROOT, Suite, new_store, run, write
+from repositories import KEY, PUBLISH, READER, SHELL, TIME, Repository, Room, Server, free_port, gomod, greet_of, module, zipped
+
+NEEDS = ["curl", "git", "go", "ps"]
+MIB = 1_048_576
+SUITE = Suite()
+
+
+class Answers(http.server.BaseHTTPRequestHandler):
+    """A server that is not goshelf: what it answers is set by a row. It notes what it is asked, and the words of the processes that ask."""
+
+    answer, asked, words = (200, b""), [], []
+
+    def reply(self):
+        self.rfile.read(int(self.headers.get("Content-Length") or 0))
+        Answers.asked.append((self.command, self.path, self.headers.get("Authorization")))
+        Answers.words.extend(words_of_children(os.getpid()))
+        status, body = Answers.answer
+        self.send_response(status)
+        self.send_header("Content-Length", str(len(body)))
+        self.end_headers()
+        self.wfile.write(body)
+
+    do_GET = do_PUT = reply
+
+    def log_message(self, *_):
+        pass
+
+
+def words_of_children(parent):
+    """The command lines of the processes below one, all as one text each."""
+    found = []
+    for child in subprocess.run(["ps", "-o", "pid=", "--ppid", str(parent)], capture_output=True, text=True).stdout.split():
+        try:
+            with open(f"/proc/{child}/cmdline", "rb") as file:
+                found.append(file.read().replace(b"\0", b" ").decode())
+        except OSError:
+            continue
+        found += words_of_children(child)
+    return found
+
+
+def refused(room, name, wanted, *words, **more):
+    """A row: tools/publish refuses with this sentence, and prints nothing else."""
+    told = room.publish(*words, **more)
+    return SUITE.equal(name, told, (1, "", "".join(f"publish: {it}\n" for it in wanted.split("\n"))))
+
+
+def in_repository(room, greet, url):
+    """What a repository and the words say against a version. Nobody listens at the URL, so nothing of it is sent."""
+    words = ["--to", url, "--key-file", f"{room.folder}/key", "--repository", greet.folder]
+    fetch = "fetch it by git fetch --tags"
+    table = [
+        ("no such tag", "example.com/greet", "v9.9.9", f"{greet.folder} has no tag v9.9.9 for example.com/greet: make it by git tag, or {fetch}"),
+        ("no such branch", "example.com/greet", "nosuch", f"{greet.folder} has no tag, branch or commit nosuch: check the name, or {fetch}"),
+        ("a tag that is no version", "example.com/greet", "v1.1", "v1.1 is not a version: name the tag vMAJOR.MINOR.PATCH"),
+        ("a tag of another module", "example.com/greet", "sub/v0.1.0",
+         "the tag sub/v0.1.0 is of a module in sub, not of example.com/greet: name the module of the tag; a folder v2 is no part of one"),
+        ("another path", "example.com/hello", "v1.0.0",
+         "no go.mod of v1.0.0 names example.com/hello where the path ends with its folder, and capitals count; "
+         + "; ".join(f"{it}go.mod names example.com/greet/{it}".rstrip("/") for it in ("Words/", "", "sub/", "sub/v3/", "v2/"))),
+        ("an escaped path", "example.com/greet/!words", "v1.0.0",
+         "example.com/greet/!words is not a module path: write it as the go.mod does, with capitals and without !"),
+        ("a path with a space", "example.com/a b", "v1.0.0", "example.com/a b is not a module path: write it as the go.mod does"),
+    ]  # fmt: skip
+    for name, path, ref, wanted in table:
+        refused(room, name, wanted, *words, path, ref)
+    told = room.publish(*words, "example.com/greet/words", "v1.0.0")
+    SUITE.holds("other capitals", told[:2] == (1, "") and "names example.com/greet/words" in told[2] and "capitals count" in told[2], told)
+    write({f"{greet.folder}/greet.go": "package greet\n"})
+    wanted = f"{greet.folder} has changes that no commit has, and a version holds commits: commit or stash them (%s)"
+    refused(room, "a dirty tree", wanted % "greet.go", *words, "example.com/greet", "v1.0.0")
+    greet.git("checkout", "-q", "greet.go")
+    write({f"{greet.folder}/new.go": "package greet\n"})
+    refused(room, "a new file", wanted % "new.go", *words, "example.com/greet", "v1.0.0")
+    os.remove(f"{greet.folder}/new.go")
+    wanted = f"{room.folder} is not a git repository that can be read: not a git repository (or any of the parent directories): .git"
+    refused(room, "no repository", wanted, *words[:4], "--repository", room.folder, "example.com/greet", "v1.0.0")
+    refused(room, "nobody listens", f"nobody listens at {url}: check the URL, and that goshelf serves", *words, "example.com/greet", "v1.0.0")
+
+
+def of_shape(room, url):
+    """What the go command and the limits say against a version, before anything is sent."""
+    odd = Repository(room, "odd")
+    odd.commit({**module("example.com/odd"), "data.bin": os.urandom(17 * MIB)}, "v1.0.0")
+    odd.git("rm", "-q", "data.bin")
+    odd.commit({"go.mod": gomod("example.com/odd") + "// " + "a" * MIB}, "v1.0.1")
+    odd.commit({"go.mod": gomod("example.com/odd"), "a:b": "no name of a file in a zip"}, "v1.0.2")
+    odd.git("rm", "-q", "a:b")
+    odd.commit({"elsewhere/go.mod": gomod("example.com/odd/inner")}, "v1.0.3", "v2.0.0")
+    words = ["--to", url, "--key-file", f"{room.folder}/key", "--repository", odd.folder, "example.com/odd"]
+    told = room.publish(*words, "v1.0.0")
+    size = re.search(r"the zip has (\d+) bytes, and goshelf takes 16777216: move large files to a folder with a go.mod of its own\n$", told[2])
+    SUITE.holds("a zip over 16 MiB", told[:2] == (1, "") and size and int(size[1]) > 17 * MIB, told)
+    told = room.publish(*words, "v1.0.1")
+    SUITE.holds("a go.mod over 1 MiB", told[:2] == (1, "") and "bytes, and goshelf takes 1048576: shorten it" in told[2], told)
+    told = room.publish(*words, "v1.0.2")
+    begins = told[2].startswith("publish: the go command makes no zip of example.com/odd at v1.0.2:")
+    SUITE.holds("a name that no zip may have", told[:2] == (1, "") and begins and told[2].count("\n") == 1, told)
+    told = room.publish(*words, "v2.0.0")
+    SUITE.holds("a major version without its path", told[:2] == (1, "") and "example.com/odd" in told[2] and told[2].count("\n") == 1, told)
+    told = room.publish(*words[:-1], "example.com/odd/inner", "main")
+    SUITE.holds("a folder that the path lacks", told[:2] == (1, "") and "elsewhere/go.mod names example.com/odd/inner" in told[2], told)
+    shallow(room, odd, words)
+
+
+def shallow(room, odd, words):
+    """A clone without its history has tags, but no version for a commit."""
+    subprocess.run(["git", "clone", "-q", "--depth", "1", f"file://{odd.folder}", f"{room.folder}/shallow"], env=room.env, check=True)
+    few = ["--check", "--repository", f"{room.folder}/shallow", "example.com/odd"]
+    commit = odd.git("rev-parse", "v1.0.3").decode().strip()
+    SUITE.equal("a tag of a shallow clone", room.publish(*few, "v1.0.3"), (0, "checked " + odd.lines("example.com/odd", "v1.0.3", commit), ""))
+    wanted = f"{room.folder}/shallow is a shallow clone, and the version of a commit depends on the tags before it"
+    refused(room, "a commit of a shallow clone", f"{wanted}: git fetch --unshallow --tags", *few, "HEAD")
+
+
+def of_keys(room, server, greet):
+    """What goshelf says against a key, and what a key may not be."""
+    words = ["--to", server.url, "--repository", greet.folder, "example.com/greet", "v1.0.0"]
+    wanted = "the key only reads: use a key that was added without --read-only"
+    refused(room, "a key that only reads", wanted, *words, "--key-file", f"{room.folder}/reader")
+    unknown = f"{server.url} has no such key, or takes no such path or version: check the key and the URL, then example.com/greet v1.0.0"
+    refused(room, "a key of nobody", unknown, *words, "--key-file", f"{room.folder}/nobody")
+    refused(room, "no file of a key", "--key-file names no file that can be read: put the key into a file, and name it", *words, "--key-file", KEY)
+    wanted = "the file of the key holds none: a key is 16 to 64 characters of a-z and 0-9"
+    refused(room, "a file without a key", wanted, *words, "--key-file", "/dev/null")
+    secret = "a URL with a key or a password shows it to every user of this machine: use --key-file or --netrc"
+    refused(room, "a key in the URL", secret, "--to", f"{server.url}/k/{KEY}", "--netrc", *words[2:])
+    refused(room, "no URL", "shelf.example.com is not a URL: it begins with http:// or https://", "--to", "shelf.example.com", "--netrc", *words[2:])
+
+
+def of_use(room):
+    """Bad usage ends with 2."""
+    for line in ("", "--check", "--check a", "--check a b c", "a b", "--to http://x a b", "--nosuch a b", "--check --wait x a b", "--to"):
+        words = line.split()
+        status, output, errors = room.publish(*words)
+        SUITE.holds(f"usage: {words}", (status, output) == (2, "") and "usage: tools/publish" in errors, (status, output, errors))
+    SUITE.holds("help", room.publish("--help")[0] == 0 and "exit status" in room.publish("--help")[1])
+
+
+def conflicts(room, server):
+    """Versions that are there with another zip, other files, another time, or none that the go command reads."""
+    other = Repository(room, "other")
+    first = other.commit(module("example.com/other"), "v1.0.0", "v1.1.0", "v1.2.0", "v1.3.0", "v1.4.0")
+    path, files = "example.com/other", other.files(first, "")
+    text, changed = files["go.mod"], {**files, "other.go": b"package other\n"}
+    server.put(path, "v1.0.0", text, zipped(path, "v1.0.0", files), TIME)
+    server.put(path, "v1.1.0", text, zipped(path, "v1.1.0", changed), TIME)
+    server.put(path, "v1.2.0", text, zipped(path, "v1.2.0", files), "2024-02-01T12:00:00Z")
+    server.put(path, "v1.3.0", text, b"rubbish", TIME)
+    words = ["--to", server.url, "--key-file", f"{room.folder}/key", "--repository", other.folder, path]
+    told = 0, "already published " + other.lines(path, "v1.0.0", first), "publish: the zip there has other bytes, but the same files and sums\n"
+    SUITE.equal("the same files in another zip", room.publish(*words, "v1.0.0"), told)
+    there = h1([(f"{path}@v1.1.0/{name}", it) for name, it in changed.items()])
+    _, here, mod = other.lines(path, "v1.1.0", first).splitlines()
+    front = "{} {} is there with other bytes, which never change: publish a new version\nthere: {} {} {}\nthere: {}\nhere:  {}\nhere:  {}"
+    refused(room, "other files", front.format(path, "v1.1.0", path, "v1.1.0", there, mod, here, mod), *words, "v1.1.0")
+    times = f"{path} v1.2.0 is there with the same sums and the time 2024-02-01T12:00:00Z, not {TIME}: leave it, it never changes"
+    refused(room, "another time", times, *words, "v1.2.0")
+    _, here, mod = other.lines(path, "v1.3.0", first).splitlines()
+    no_zip = "(the go command reads no such zip)"
+    refused(room, "rubbish", front.format(path, "v1.3.0", path, "v1.3.0", no_zip, mod, here, mod), *words, "v1.3.0")
+
+
+def of_goshelf(room, server):
+    """What goshelf says against a version."""
+    bad = Repository(room, "bad")
+    bad.commit({**module("example.com/bad"), "go.mod": "module example.com/bad\n\nfrobnicate y\n"}, "v1.0.0")
+    words = ["--to", server.url, "--key-file", f"{room.folder}/key", "--repository", bad.folder]
+    wanted = "line 3 of the go.mod is not valid: mend it, and tag a new version (frobnicate y)"
+    refused(room, "a go.mod that is not valid", wanted, *words, "example.com/bad", "v1.0.0")
+
+
+def from_host(room, url):
+    """What stands against a version without a clone, which the go command fetches from the host of the path: a user's insteadOf here."""
+    hosted = Repository(room, "hosted")
+    hosted.commit(module("github.com/acme/tool"), "v1.0.0")
+    settings = {"GIT_CONFIG_COUNT": "1", "GIT_CONFIG_KEY_0": f"url.{hosted.folder}.insteadOf", "GIT_CONFIG_VALUE_0": "https://github.com/acme/wrong"}
+    words = ["--to", url, "--key-file", f"{room.folder}/key", "github.com/acme/wrong"]
+    sentence = "the go.mod at v1.0.0 names github.com/acme/tool, not github.com/acme/wrong: publish it by that path; capitals count"
+    refused(room, "from its host: another path", sentence, *words, "v1.0.0", **settings)
+    refused(room, "from its host: no version", "v1.0 is not a version: name the tag vMAJOR.MINOR.PATCH", *words, "v1.0", **settings)
+    told = room.publish(*words, "v9.9.9", **settings)
+    begins = told[2].startswith("publish: the go command makes no zip of github.com/acme/wrong at v9.9.9:")
+    SUITE.holds("from its host: no tag", told[:2] == (1, "") and begins, told)
+
+
+def of_others(room, greet):
+    """What servers answer that are not goshelf, and what goshelf answers that is hard to bring about."""
+    behind = http.server.ThreadingHTTPServer(("127.0.0.1", 0), Answers)
+    threading.Thread(target=behind.serve_forever, daemon=True).start()
+    url = f"http://127.0.0.1:{behind.server_port}"
+    words = ["--to", url, "--key-file", f"{room.folder}/key", "--repository", greet.folder, "example.com/greet", "v1.0.0"]
+    table = [
+        (200, "", f"{url} answers 200 and is no goshelf: check the URL ()"),
+        (200, "<html>\nhello", f"{url} answers 200 and is no goshelf: check the URL (<html>)"),
+        (301, "", f"{url} leads to another URL: give that to --to"),
+        (400, "bad mod-length\n", "the header Mod-Length did not arrive: let the server in front of goshelf pass it on"),
+        (401, "", f"{url} wants a user: give --netrc, and a line of ~/.netrc with the host, the user and its password"),
+        (404, "<html>", f"{url} answers 404 and is no goshelf: check the URL (<html>)"),
+        (409, "conflict\n", "example.com/greet v1.0.0 is there with other bytes, which never change: publish a new version"),
+        (413, "", f"{url} takes no body of SIZE bytes: raise client_max_body_size of the server in front"),
+        (422, "major-mismatch\n", "v1.0.0 does not fit the path example.com/greet: version 2 and higher need a path that ends in /v2 and so on"),
+        (422, "bad-time\n", f"the time {TIME} does not fit v1.0.0: check the clock of whoever made the commit"),
+        (422, "module-path\n", "the go.mod does not name example.com/greet: publish it by the path that it names"),
+        (422, "bad-gomod 1w/nosuch\n", f"{url} answers 422 and is no goshelf: check the URL (bad-gomod 1w/nosuch)"),
+        (422, "incompatible-gomod\n",
+         "v1.0.0 is +incompatible, which only a go.mod with a module line alone can be: name the module example.com/greet/v1"),
+        (502, "", f"{url} answers 502: goshelf behind it is down or busy, so run this again"),
+        (503, "unavailable\n", "the store met a fault and published nothing: run this again, and tell the operator if it stays"),
+        (507, "full\n", "the shelf has 4096 versions of example.com/greet and takes no more: go on under a new path"),
+    ]  # fmt: skip
+    for status, body, wanted in table:
+        Answers.answer = status, body.encode()
+        code, output, errors = room.publish(*words)
+        told = code, output, re.sub(r"of \d+ bytes", "of SIZE bytes", errors)
+        SUITE.equal(f"an answer {status} {body.partition(chr(10))[0]}", told, (1, "", f"publish: {wanted}\n"))
+    keys = [it for it in Answers.words if any(key in it for key in KEYS.values())]
+    SUITE.holds("no key among the words of a process", Answers.words and not keys, keys)
+    told = room.publish("--to", url.replace("http", "https"), *words[2:])
+    SUITE.holds("no TLS", told[:2] == (1, "") and told[2].startswith(f"publish: no TLS with {url.replace('http', 'https')}: "), told)
+    by_netrc(room, url, [*words[:2], *words[4:]])
+    behind.shutdown()
+
+
+def by_netrc(room, url, words):
+    """With --netrc the user stands in a header and no key in the path, and goshelf's answer is that of a server with a user."""
+    write({f"{room.folder}/netrc": f"machine 127.0.0.1 login alpha password {KEY}\n"})
+    Answers.answer, Answers.asked = (201, b"published\n"), []
+    status, output, errors = room.publish(*words, "--netrc", NETRC=f"{room.folder}/netrc")
+    user = "Basic " + base64.b64encode(f"alpha:{KEY}".encode()).decode()
+    SUITE.holds("a user", (status, errors) == (0, "") and output.startswith("published example.com/greet v1.0.0\n"), (status, output, errors))
+    SUITE.equal("what the server is asked", Answers.asked, [("PUT", "/example.com/greet/@v/v1.0.0", user)])
+    missing = f"{room.folder}/nosuch"
+    refused(room, "no netrc", f"{missing} cannot be read: make it, with a line for the host of {url}", *words, "--netrc", NETRC=missing)
+
+
+def of_transfers(room, greet):
+    """Servers that never answer or hang up; a name that no host has; a run that is stopped."""
+    held = socket.create_server(("127.0.0.1", 0), backlog=8)
+    url = f"http://127.0.0.1:{held.getsockname()[1]}"
+    words = ["--key-file", f"{room.folder}/key", "--repository", greet.folder, "example.com/greet", "v1.0.0"]
+    again = "Run this again: it ends well if the version is there."
+    wanted = f"{url} did not answer within 2 seconds, so it may or may not have published. {again}"
+    refused(room, "a server that does not answer", wanted, "--to", url, "--wait", "2", *words)
+    child = subprocess.Popen([SHELL, PUBLISH, "--to", url, *words], env=room.env, stdout=subprocess.PIPE, stderr=subprocess.PIPE,
+                             start_new_session=True)
+    held.accept()
+    held.accept()
+    os.killpg(child.pid, signal.SIGTERM)
+    child.communicate(timeout=60)
+    SUITE.equal("a run that is stopped: its status, and its temporary files", (child.returncode, os.listdir(room.tmp)), (143, []))
+    held.close()
+    refused(room, "a host that is not", "no host has the name in http://nosuch.invalid: check the URL", "--to", "http://nosuch.invalid", *words)
+
+
+def hangs_up(room, greet):
+    with socket.create_server(("127.0.0.1", 0)) as held:
+        threading.Thread(target=lambda: held.accept()[0].close(), daemon=True).start()
+        url = f"http://127.0.0.1:{held.getsockname()[1]}"
+        told = room.publish("--to", url, "--key-file", f"{room.folder}/key", "--repository", greet.folder, "example.com/greet", "v1.0.0")
+        SUITE.holds("a server that hangs up", told[:2] == (1, "") and "closed the connection, so it may or may not have published" in told[2], told)
+
+
+def table_of_pages(room):
+    """Each phrase of the table of docs/REFERENCE.md was printed, but for what no test brings about."""
+    with open(os.path.join(ROOT, "docs", "REFERENCE.md"), encoding="utf-8") as file:
+        part = file.read().partition("## Refusals of tools/publish\n")[2].partition("\n## ")[0]
+    phrases = re.findall(r"^\| `([^`|]+)` \|", part, re.M)
+    printed = "".join(room.said)
+    missing = [it for it in phrases if not all(word in printed for word in re.split(r"\b[A-Z]{2,}\b(?!-)", it))]
+    SUITE.holds("the table of refusals: each was printed", len(phrases) > 15 and not missing, (len(phrases), missing))
+    unlisted = [it for it in printed.splitlines() if it.startswith("publish: ") and not any(is_of(it, row) for row in phrases)]
+    notes = ("there: ", "here: ", "the zip there has other bytes")
+    unlisted = [it for it in unlisted if not it[9:].startswith(notes) and not re.search(r"needed|lacks|too many|no option|takes a number", it)]
+    SUITE.holds("the table of refusals: none lacks", not unlisted, unlisted)
+
+
+def is_of(line, phrase):
+    """Whether a line has a phrase, in which words of capitals stand for any text."""
+    parts = [re.escape(it) for it in re.split(r"\b[A-Z]{2,}\b(?!-)", phrase)]
+    return re.search(".*".join(parts), line)
+
+
+def session(folder):
+    room, store = Room(folder), f"{folder}/shelves.db"
+    greet, nobody = greet_of(room), f"http://127.0.0.1:{free_port()}"
+    new_store(store, ("alpha", KEY, READER))
+    server = Server(store)
+    of_keys(room, server, greet)
+    conflicts(room, server)
+    of_goshelf(room, server)
+    server.stop()
+    in_repository(room, greet, nobody)
+    from_host(room, nobody)
+    of_shape(room, nobody)
+    of_others(room, greet)
+    of_transfers(room, greet)
+    hangs_up(room, greet)
+    of_use(room)
+    found = csv.reader(io.StringIO(run(["inventory", "--db", store, "--key", KEY])[1].decode()))
+    SUITE.equal("nothing was published but by hand", [it[:2] for it in list(found)[1:]], [["example.com/other", f"v1.{it}.0"] for it in range(4)])
+    table_of_pages(room)
+
+
+def main():
+    with tempfile.TemporaryDirectory(prefix="goshelf-publish-") as folder:
+        session(folder)
+    return SUITE.end()
+
+
+if __name__ == "__main__":
+    sys.exit(main())

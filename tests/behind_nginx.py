@@ -1,109 +1,76 @@
 #!/usr/bin/env python3
-"""nginx before `goshelf serve`, as docs/OPERATING.md configures it: TLS, its cache, slow clients, keys.
+"""nginx before `goshelf serve`, by deploy/nginx/ and the commands of docs/OPERATING.md: log in, TLS, its cache, slow clients, logs.
 
-The configuration and the command that takes a revoked key out of the cache are read from the page; only ports and places are put in.
-Clients are slow with a head, with a body or with what they are sent.
+The files and the commands run as they are, on a machine in a folder (machine.py). Users are added and removed by the page's commands.
+Clients are slow with a head, with a body or with what they are sent. The go command logs in by ~/.netrc.
 """
 
+import base64
 import http.client
+import http.server
+import io
 import os
 import re
-import shutil
 import socket
 import ssl
 import subprocess
 import sys
 import tempfile
+import threading
 import time
+import zipfile
 
-from harness import KEY, PROGRAM, ROOT, Suite, done, new_store
+from harness import Suite, done, new_store
+from machine import Machine, block, wait_for
 
-NEEDS = ["nginx", "openssl"]
-READER = "alphareader00001"
-AT = "example.com/lib/@v"
+NEEDS = ["nginx", "openssl", "go", "curl"]
+LIB = "/example.com/lib"
+AT = f"{LIB}/@v"
 GOMOD, ZIP = b"module example.com/lib\n", os.urandom(3_000_000)
 # more than all buffers of sockets on the way hold
 LARGEST_ZIP = os.urandom(16_777_216)
+# name, shelf and right; the name of one begins as another's, and one shelf has the longest name
+LONG = "z" * 32
+# a key of alpha that nginx does not know
+UNUSED = "firstkey00000001"
+USERS = [("ann", "alpha", "read"), ("ann-b", "alpha", "read"), ("pub", "alpha", "publish"), ("bob", "beta", "publish"), ("zoe", LONG, "publish")]
 
 
-def free_port():
-    with socket.socket() as held:
-        held.bind(("127.0.0.1", 0))
-        return held.getsockname()[1]
+class Client:
+    """What the users of the front see of it."""
 
+    def __init__(self, machine):
+        self.machine, self.passwords = machine, {}
+        self.pem = f"{machine.folder}/etc/ssl/goshelf.pem"
+        self.context = ssl.create_default_context(cafile=self.pem)
 
-def block(kind, first):
-    """A block of code of the page, by its kind and what stands in it."""
-    with open(os.path.join(ROOT, "docs", "OPERATING.md"), encoding="utf-8") as page:
-        found = [it for it in re.findall(rf"```{kind}\n(.*?)```", page.read(), re.S) if first in it]
-    assert len(found) == 1, (kind, first, len(found))
-    return found[0]
+    def add(self, user, shelf, right):
+        """Adds a user by the page's commands, and keeps the password that they print."""
+        settings = f"user={user} shelf={shelf} right={right} host=localhost"
+        script = block("sh", ">> /etc/nginx/goshelf/users.map")
+        first, _, rest = script.partition("\n")
+        assert first.startswith("user=ann"), first
+        line = self.machine.does(f"{settings}\n{rest}")
+        assert line.split()[:4] == ["machine", "localhost", "login", user], line
+        self.passwords[user] = line.split()[5]
 
+    def login(self, user):
+        """The header by which a user logs in."""
+        return "Basic " + base64.b64encode(f"{user}:{self.passwords[user]}".encode()).decode()
 
-def start_nginx(folder, port, behind):
-    pem, key = f"{folder}/goshelf.pem", f"{folder}/goshelf.key"
-    made = ["openssl", "req", "-x509", "-newkey", "rsa:2048", "-nodes", "-days", "2", "-subj", "/CN=localhost"]
-    subprocess.run([*made, "-addext", "subjectAltName=DNS:localhost", "-out", pem, "-keyout", key], check=True, capture_output=True)
-    text = block("nginx", "proxy_cache_path")
-    for old, new in (
-        ("listen 443 ssl", f"listen 127.0.0.1:{port} ssl"),
-        ("server_name shelf.example.com", "server_name localhost"),
-        ("/etc/ssl/goshelf.pem", pem),
-        ("/etc/ssl/goshelf.key", key),
-        ("/var/cache/nginx/goshelf", f"{folder}/cache"),
-        ("/var/log/nginx", folder),
-        ("http://127.0.0.1:8080", f"http://127.0.0.1:{behind}"),
-    ):
-        assert old in text, old
-        text = text.replace(old, new)
-    places = " ".join(f"{it}_temp_path {folder}/{it};" for it in ("client_body", "proxy", "fastcgi", "uwsgi", "scgi"))
-    with open(f"{folder}/nginx.conf", "w", encoding="utf-8") as file:
-        file.write(f"daemon off; worker_processes 1; pid {folder}/pid; events {{ }}\nhttp {{ {places}\n{text}}}\n")
-    os.chmod(folder, 0o755)
-    child = subprocess.Popen([shutil.which("nginx") or "/usr/sbin/nginx", "-c", f"{folder}/nginx.conf", "-e", f"{folder}/start.log"])
-    wait_for(port)
-    return child, pem
-
-
-def wait_for(port):
-    for _ in range(200):
-        with socket.socket() as probe:
-            if probe.connect_ex(("127.0.0.1", port)) == 0:
-                return
-        time.sleep(0.05)
-    sys.exit(f"nobody listens on {port}")
-
-
-def start_goshelf(store, port):
-    child = subprocess.Popen([PROGRAM, "serve", "--db", store, "--port", str(port)], stdout=subprocess.PIPE)
-    assert child.stdout.readline() == f"listening on 127.0.0.1:{port}\n".encode()
-    return child
-
-
-def stop(child):
-    child.terminate()
-    child.wait()
-
-
-class Front:
-    """What a client sees of the front."""
-
-    def __init__(self, port, pem):
-        self.port, self.context = port, ssl.create_default_context(cafile=pem)
-
-    def ask(self, method, target, body=None, headers=None):
-        conn = http.client.HTTPSConnection("localhost", self.port, timeout=60, context=self.context)
-        conn.request(method, target, body, headers or {})
+    def ask(self, method, target, header, body=None, headers=None):
+        conn = http.client.HTTPSConnection("localhost", self.machine.front, timeout=60, context=self.context)
+        conn.request(method, target, body, {**({"Authorization": header} if header else {}), **(headers or {})})
         reply = conn.getresponse()
         told = reply.status, reply.read()
         conn.close()
         return told
 
-    def get(self, rest, key=READER):
-        return self.ask("GET", f"/k/{key}/{rest}")
+    def get(self, target, user="ann"):
+        return self.ask("GET", target, self.login(user))
 
-    def publish(self, version, body):
-        return self.ask("PUT", f"/k/{KEY}/{AT}/{version}", body, {"Mod-Length": str(len(GOMOD))})
+    def put(self, version, body, user="pub"):
+        return self.ask("PUT", f"{AT}/{version}", self.login(user), body, {"Mod-Length": str(len(GOMOD))})
 
     def begin(self, sent, room=None):
         """A connection on which this is sent; with room for so many bytes of what is answered."""
@@ -111,23 +78,14 @@ class Front:
         raw.settimeout(60)
         if room:
             raw.setsockopt(socket.SOL_SOCKET, socket.SO_RCVBUF, room)
-        raw.connect(("127.0.0.1", self.port))
+        raw.connect(("127.0.0.1", self.machine.front))
         held = self.context.wrap_socket(raw, server_hostname="localhost")
         held.sendall(sent)
         return held
 
-    def half_a_head(self):
-        """A client that sends half of a head, and then nothing."""
-        return self.begin(f"GET /k/{READER}/{AT}/list HTTP/1.1\r\nHo".encode())
-
-    def half_a_body(self):
-        """A client that sends half of a publish, and then nothing."""
-        head = f"PUT /k/{KEY}/{AT}/v9.0.0 HTTP/1.1\r\nHost: localhost\r\nMod-Length: {len(GOMOD)}\r\n"
-        return self.begin(f"{head}Content-Length: {len(GOMOD + ZIP)}\r\n\r\n".encode() + GOMOD + ZIP[: len(ZIP) // 2])
-
-    def reads_nothing(self, key):
-        """A client that asks for the largest zip and reads nothing of it."""
-        return self.begin(f"GET /k/{key}/{AT}/v1.2.0.zip HTTP/1.1\r\nHost: localhost\r\nConnection: close\r\n\r\n".encode(), 4096)
+    def head(self, method, target, user, *lines):
+        """The head of a request, without the empty line at its end."""
+        return "".join(f"{it}\r\n" for it in (f"{method} {target} HTTP/1.1", "Host: localhost", f"Authorization: {self.login(user)}", *lines)).encode()
 
 
 def rest_of(held):
@@ -138,94 +96,296 @@ def rest_of(held):
     return told
 
 
-def hold(suite, front, name, clients):
+def set_up(suite, folder):
+    """A machine with goshelf behind nginx, by the page's commands."""
+    machine = Machine(folder)
+    new_store(machine.store, ("alpha", UNUSED), ("beta", "firstkey00000002"), (LONG, "firstkey00000003"))
+    machine.does("systemctl start goshelf")
+    made = "openssl req -x509 -newkey rsa:2048 -nodes -days 2 -subj /CN=localhost -addext subjectAltName=DNS:localhost"
+    machine.does(f"{made} -out /etc/ssl/goshelf.pem -keyout /etc/ssl/goshelf.key")
+    machine.check_out()
+    machine.does(block("sh", "deploy/nginx/users.map"))
+    machine.does("sed -i 's/server_name shelf.example.com;/server_name localhost;/' /etc/nginx/conf.d/goshelf.conf")
+    keys = block("sh", ">> /etc/nginx/goshelf/keys.map")
+    for shelf in ("alpha", "beta", LONG):
+        machine.does(keys.replace("alpha", shelf))
+    machine.does("nginx")
+    wait_for(machine.front)
+    client = Client(machine)
+    for user in USERS:
+        client.add(*user)
+    settle(client)
+    maps = [f"{folder}/etc/nginx/goshelf/{name}" for name in ("users.map", "keys.map")]
+    suite.equal("only root may read the maps", [os.stat(it).st_mode & 0o777 for it in maps], [0o600, 0o600])
+    return machine, client
+
+
+def settle(client, user="zoe", wanted=200):
+    """Waits until nginx has read its maps anew, so that a user gets what is wanted. Returns the seconds that it took."""
+    begun = time.time()
+    while client.get("/-/modules", user)[0] != wanted:
+        assert time.time() - begun < 20, f"{user} does not get {wanted}"
+        time.sleep(0.05)
+    return time.time() - begun
+
+
+def keys_of(machine):
+    """Every key of the store that nginx knows."""
+    return re.findall(r"^\".*\" (\w+);$", machine.read("etc/nginx/goshelf/keys.map"), re.M)
+
+
+def strangers(suite, client):
+    """Whoever is no user gets a 401 and reaches nothing."""
+    target, good = f"{AT}/list", client.login("ann")
+    word, text = good.split()
+    flipped = text[:-8] + text[-8:].swapcase()
+    bad = {
+        "no login": None,
+        "a wrong password": "Basic " + base64.b64encode(b"ann:wrong").decode(),
+        "a password in other case": f"{word} {flipped}",
+        "a login and more": f"{good}AAAA",
+        "a beginning of a login": good[:-6],
+        "another scheme": good.replace("Basic", "Bearer"),
+        "an empty login": "Basic ",
+        "a regular expression": "Basic .*",
+        "the header of users.map": f"^Basic {text}$",
+        "a key of goshelf": "Basic " + base64.b64encode(f"ann:{keys_of(client.machine)[0]}".encode()).decode(),
+        "a user without a password": "Basic " + base64.b64encode(b"ann:").decode(),
+    }
+    for name, header in bad.items():
+        status, body = client.ask("GET", target, header)
+        suite.holds(f"{name}: 401, in plain text", status == 401 and body.startswith(b"log in: "), (status, body))
+    suite.equal("a stranger's publish", client.ask("PUT", f"{AT}/v8.0.0", None, GOMOD, {"Mod-Length": str(len(GOMOD))})[0], 401)
+    suite.equal("a key in the URL is no login", client.ask("GET", f"/k/{keys_of(client.machine)[0]}{AT}/list", None)[0], 401)
+    suite.equal("nor is it with a login", client.get(f"/k/{keys_of(client.machine)[0]}{AT}/list")[0], 404)
+
+
+def rights(suite, client):
+    """A user has the right and the shelf of the map, and no other."""
+    suite.equal("a publish", client.put("v1.0.0", GOMOD + ZIP), (201, b"published\n"))
+    suite.equal("a publish by a user who reads", client.put("v1.9.0", GOMOD, "ann"), (403, b"forbidden\n"))
+    for file, body in (("v1.0.0.zip", ZIP), ("v1.0.0.mod", GOMOD), ("list", b"v1.0.0\n")):
+        suite.holds(f"{file}, for both who read and for who publishes", {client.get(f"{AT}/{file}", it) for it in ("ann", "ann-b", "pub")} == {(200, body)})
+        suite.equal(f"{file}, for other teams", {client.get(f"{AT}/{file}", it) for it in ("bob", "zoe")}, {(404, b"not found\n")})
+    other = GOMOD + b"other"
+    suite.equal("another team publishes the same name", client.put("v1.0.0", other, "bob"), (201, b"published\n"))
+    found = [client.get(f"{AT}/v1.0.0.zip", it)[1] for it in ("bob", "ann", "bob", "pub")]
+    suite.holds("each team gets its own, cached or not", found == [b"other", ZIP, b"other", ZIP])
+    # no spelling of a target makes one shelf's user another's, or makes nginx keep what changes
+    odd = ["/../k/{}", "//k/{}", "/%2e%2e/{}", "/..%2f{}", "/{}", "?/k/{}", "/./../{}"]
+    told = {client.get(it.format(UNUSED) + f"{AT}/list", "bob")[0] for it in odd}
+    suite.holds("no spelling of a target reaches another shelf", told <= {400, 404}, told)
+
+
+def spellings(suite, client):
+    """Targets that look to nginx as what never changes, and to goshelf as what does."""
+    targets = [f"{AT}/x/../list", f"{AT}/list?/@v/v1.0.0.info", f"{LIB}/@latest?x=/@v/v1.0.0.mod", "/-/gosum/../modules", "/-/modules?/-/gosum/", f"{AT}/%6cist",
+               f"{AT}/list%3f.info", f"{AT}/list#.info"]
+    before = [client.get(it) for it in targets]
+    client.put("v1.0.1", GOMOD)
+    after = [client.get(it) for it in targets]
+    suite.holds("no 200 of such a target is kept", all(one != two or one[0] != 200 or b"v1.0.1" in two[1] or one[1] == b"example.com/lib\n" for one, two in zip(before, after)),
+                (before, after))
+
+
+def sizes(suite, client):
+    """Bodies that are too large, for goshelf and for nginx; a chunked one; a client that waits for a 100."""
+    suite.equal("one byte more than goshelf takes", client.put("v7.0.0", bytes(17_825_793)), (413, b"too large\n"))
+    suite.equal("more than nginx takes, in plain text", client.put("v7.0.0", bytes(18 * 1_048_576 + 1)), (413, b"too large\n"))
+    with client.begin(client.head("PUT", f"{AT}/v1.0.2", "pub", f"Mod-Length: {len(GOMOD)}", "Transfer-Encoding: chunked", "Connection: close") + b"\r\n") as held:
+        held.sendall(b"%x\r\n%s\r\n0\r\n\r\n" % (len(GOMOD), GOMOD))
+        suite.holds("nginx reads a chunked body", rest_of(held).startswith(b"HTTP/1.1 201 "))
+
+
+def hold(suite, client, name, clients):
     """While these clients stand still, another is answered at once."""
     time.sleep(1)
     begun = time.time()
-    status = front.get(f"{AT}/list")[0]
+    status = client.get(f"{AT}/list")[0]
     suite.holds(f"{len(clients)} clients that {name} hold nobody", status == 200 and time.time() - begun < 5, (status, time.time() - begun))
 
 
-def slow_clients(suite, front):
+def slow_clients(suite, client):
     """Some that are slow with a head, with a body, and with what they are sent."""
-    suite.equal("a publish of the largest zip", front.publish("v1.2.0", GOMOD + LARGEST_ZIP)[0], 201)
-    heads = [front.half_a_head() for _ in range(4)]
-    hold(suite, front, "send half of a head", heads)
-    bodies = [front.half_a_body() for _ in range(4)]
-    hold(suite, front, "send half of a body", bodies)
-    readers = [front.reads_nothing(key) for key in (KEY, READER) for _ in range(2)]
-    hold(suite, front, "read nothing of a zip", readers)
+    suite.equal("a publish of the largest zip", client.put("v1.2.0", GOMOD + LARGEST_ZIP)[0], 201)
+    heads = [client.begin(client.head("GET", f"{AT}/list", "ann")) for _ in range(4)]
+    hold(suite, client, "send half of a head", heads)
+    head = client.head("PUT", f"{AT}/v9.0.0", "pub", f"Mod-Length: {len(GOMOD)}", f"Content-Length: {len(GOMOD + ZIP)}") + b"\r\n"
+    bodies = [client.begin(head + GOMOD + ZIP[: len(ZIP) // 2]) for _ in range(4)]
+    hold(suite, client, "send half of a body", bodies)
+    head = [client.head("GET", f"{AT}/v1.2.0.zip", it, "Connection: close") + b"\r\n" for it in ("ann", "pub", "ann", "pub")]
+    readers = [client.begin(it, 4096) for it in head]
+    hold(suite, client, "read nothing of a zip", readers)
     suite.holds("a late reader gets the whole zip", all(rest_of(it).endswith(b"\r\n\r\n" + LARGEST_ZIP) for it in readers))
     for it in (*heads, *bodies, *readers):
         it.close()
-    suite.equal("half of a publish leaves nothing", front.get(f"{AT}/v9.0.0.mod")[0], 404)
+    suite.equal("half of a publish leaves nothing", client.get(f"{AT}/v9.0.0.mod")[0], 404)
 
 
-def keys_in(log):
-    """Whether a key stands in a log."""
-    with open(log, "rb") as file:
-        text = file.read()
-    return KEY.encode() in text or READER.encode() in text
+def cached(suite, client):
+    """What is kept, and what is answered while goshelf is stopped."""
+    machine = client.machine
+    suite.equal("a version that does not exist", client.get(f"{AT}/v1.1.0.mod")[0], 404)
+    suite.equal("a publish behind a 404", client.put("v1.1.0", GOMOD)[0], 201)
+    suite.equal("a 404 is not kept", client.get(f"{AT}/v1.1.0.mod"), (200, GOMOD))
+    suite.holds("a list is not kept", b"v1.1.0\n" in client.get(f"{AT}/list")[1])
+    suite.equal("goshelf is alive", client.ask("GET", "/healthz", None), (200, b"ok\n"))
+    machine.does("systemctl stop goshelf")
+    suite.holds("a zip is there while goshelf is stopped, for each user of the shelf", {client.get(f"{AT}/v1.0.0.zip", it) for it in ("ann", "ann-b", "pub")} == {(200, ZIP)})
+    suite.equal("what another team had asked for is not", client.get(f"{AT}/v1.2.0.zip", "bob")[0], 502)
+    status, body = client.get(f"{AT}/list")
+    suite.holds("a list is not, and the text is plain", status == 502 and body.startswith(b"goshelf does not answer"), (status, body))
+    suite.equal("goshelf is not alive", client.ask("GET", "/healthz", None)[0], 502)
+    suite.equal("a stranger gets nothing of the cache", client.ask("GET", f"{AT}/v1.0.0.zip", None)[0], 401)
+    machine.does("systemctl start goshelf")
 
 
-def unwritable_cache(suite, front, folder):
-    """Where the cache can't be written nginx tells so by a line that has the key, whatever the format of the log is."""
-    os.chmod(f"{folder}/cache", 0o500)
+def revoked(suite, client):
+    """A user who is removed by the page's commands gets nothing from then on, cached or not, on a new connection or an old one."""
+    suite.holds("before: what is cached, and a list", [client.get(f"{AT}/{it}")[0] for it in ("v1.0.0.zip", "list")] == [200, 200])
+    held = http.client.HTTPSConnection("localhost", client.machine.front, timeout=60, context=client.context)
+    held.request("GET", f"{AT}/v1.0.0.mod", headers={"Authorization": client.login("ann")})
+    assert held.getresponse().read() == GOMOD
+    client.machine.does(block("sh", 'sed -i "/ '), user="ann")
+    took = settle(client, "ann", 401)
+    suite.holds("a removed user gets a 401 within 2 seconds", took < 2, took)
+    told = {client.get(f"{AT}/{it}", "ann")[0] for it in ("v1.0.0.zip", "v1.0.0.mod", "v1.2.0.zip", "list")}
+    suite.equal("a removed user gets nothing that is cached", told, {401})
     try:
-        front.get(f"{AT}/v1.1.0.mod", KEY)
-        front.get(f"{AT}/v1.2.0.mod", KEY)
+        held.request("GET", f"{AT}/v1.0.0.mod", headers={"Authorization": client.login("ann")})
+        status = held.getresponse().status
+    except (http.client.HTTPException, OSError):
+        status = "closed"
+    suite.holds("nor on a connection from before", status in (401, "closed"), status)
+    suite.equal("a user whose name begins alike still reads", client.get(f"{AT}/v1.0.0.zip", "ann-b"), (200, ZIP))
+    suite.equal("others still publish", client.put("v1.3.0", GOMOD)[0], 201)
+    client.add("ann", "alpha", "read")
+    suite.holds("added again, with another password", settle(client, "ann") < 20 and client.get(f"{AT}/v1.0.0.zip") == (200, ZIP))
+
+
+def too_many(suite, client):
+    """Strangers are held off, by address, and users are not."""
+    told = [client.ask("GET", "/", None) for _ in range(60)]
+    statuses = {status for status, _ in told}
+    suite.equal("strangers in a row", statuses, {401, 429})
+    suite.equal("the text is plain", {body for status, body in told if status == 429}, {b"too many requests at once\n"})
+    suite.equal("a user of the same address", {client.get(f"{AT}/list")[0] for _ in range(30)}, {200})
+
+
+def logs(suite, client):
+    """The log says who did what, and holds no key and no password."""
+    machine = client.machine
+    names = ["goshelf.log", "goshelf-errors.log", "error.log", "start.log"]
+    secrets = [*keys_of(machine), *client.passwords.values(), *(client.login(it).split()[1] for it in client.passwords)]
+    text = "".join(machine.read(f"var/log/nginx/{it}") for it in names)
+    suite.holds("no key and no password is in a log", not any(it in text for it in secrets))
+    audit = machine.does(block("sh", "awk '$5 == \"PUT\"")).splitlines()
+    suite.holds("who published what, and when", any(re.fullmatch(rf"20\S+ pub alpha {AT}/v1.0.0", it) for it in audit), audit)
+    suite.holds("and the other team", any(re.fullmatch(rf"20\S+ bob beta {AT}/v1.0.0", it) for it in audit), audit)
+    suite.holds("a stranger is logged as `-`", re.search(rf"^20\S+ 127.0.0.1 - - GET {AT}/list 401 ", text, re.M))
+    suite.holds("what came from the cache is marked", re.search(rf"^20\S+ 127.0.0.1 ann alpha GET {AT}/v1.0.0.zip 200 \d+ \S+ HIT$", text, re.M))
+
+
+def unwritable_cache(suite, client):
+    """Where the cache can't be written nginx tells so by a line that has the key, whatever the format of the log is."""
+    cache = f"{client.machine.folder}/var/cache/nginx/goshelf"
+    held = [os.path.join(at, it) for at, folders, _ in os.walk(cache) for it in folders]
+    for it in (cache, *held):
+        os.chmod(it, 0o500)
+    try:
+        for it in range(3):
+            client.put(f"v1.4.{it}", GOMOD)
+            client.get(f"{AT}/v1.4.{it}.mod")
     except http.client.HTTPException:
         pass
     finally:
-        os.chmod(f"{folder}/cache", 0o700)
-    suite.holds("a line of crit holds a key", keys_in(f"{folder}/goshelf-errors.log"))
+        for it in (cache, *held):
+            os.chmod(it, 0o700)
+    text = client.machine.read("var/log/nginx/goshelf-errors.log")
+    suite.holds("a line of crit holds a key", any(it in text for it in keys_of(client.machine)))
 
 
-def cached(suite, front, program, store, behind):
-    """Answers while goshelf runs, while it is stopped, and after a key was revoked. Returns the goshelf that runs at the end."""
-    suite.equal("TLS: a publish", front.publish("v1.0.0", GOMOD + ZIP)[0], 201)
-    for file, body in (("v1.0.0.zip", ZIP), ("v1.0.0.mod", GOMOD), ("list", b"v1.0.0\n")):
-        suite.holds(f"TLS: {file}", front.get(f"{AT}/{file}") == (200, body))
-    suite.equal("versions that do not exist", [front.get(f"{AT}/{it}.mod")[0] for it in ("v1.1.0", "v1.2.0")], [404, 404])
-    slow_clients(suite, front)
-    suite.equal("a publish behind a 404", front.publish("v1.1.0", GOMOD)[0], 201)
-    suite.equal("a 404 is not kept", front.get(f"{AT}/v1.1.0.mod"), (200, GOMOD))
-    suite.equal("a list is not kept", front.get(f"{AT}/list"), (200, b"v1.0.0\nv1.1.0\nv1.2.0\n"))
-    stop(program)
-    suite.holds("a zip is there while goshelf is stopped", front.get(f"{AT}/v1.0.0.zip") == (200, ZIP))
-    suite.equal("a list is not", front.get(f"{AT}/list")[0], 502)
-    done("key-revoke", "--db", store, "--key", READER)
-    program = start_goshelf(store, behind)
-    suite.equal("a revoked key gets no list", front.get(f"{AT}/list")[0], 404)
-    suite.holds("a revoked key gets what it has cached", front.get(f"{AT}/v1.0.0.zip") == (200, ZIP))
-    return program
+ASKED = []
 
 
-def purged(suite, front, folder):
-    """The page's command takes what a revoked key has cached out of the cache."""
-    purge = block("sh", "xargs -r rm").replace("/var/cache/nginx/goshelf", f"{folder}/cache")
-    subprocess.run(["sh", "-c", purge], check=True, env={**os.environ, "KEY": READER})
-    suite.equal("a revoked key gets nothing once that is taken out", front.get(f"{AT}/v1.0.0.zip")[0], 404)
-    suite.holds("another key still gets it", front.get(f"{AT}/v1.0.0.zip", KEY) == (200, ZIP))
+class Behind(http.server.BaseHTTPRequestHandler):
+    """A public proxy that has no module, and notes what it is asked."""
+
+    def do_GET(self):
+        ASKED.append(self.path)
+        self.send_error(404)
+
+    def log_message(self, *_):
+        pass
+
+
+def module_zip(path, version, files):
+    held = io.BytesIO()
+    with zipfile.ZipFile(held, "w") as file:
+        for name, text in files.items():
+            file.writestr(f"{path}@{version}/{name}", text)
+    return held.getvalue()
+
+
+def go(client, proxies, netrc, *words):
+    """Runs the go command in a new module, with no cache: whether it ended well, what it said, and what the public proxy was asked."""
+    ASKED.clear()
+    with tempfile.TemporaryDirectory(prefix="goshelf-go-") as folder:
+        for name, text in (("go.mod", "module example.com/hello\n\ngo 1.19\n"), (".netrc", netrc), ("main.go", 'package main\n\nimport "example.com/greet"\n\nfunc main() { println(greet.Text) }\n')):
+            with open(f"{folder}/{name}", "w", encoding="utf-8") as file:
+                file.write(text)
+        clean = {name: text for name, text in os.environ.items() if not name.startswith("GO") and name != "NETRC"}
+        own = {"HOME": folder, "GOPATH": f"{folder}/go", "GOFLAGS": "-modcacherw", "GOPROXY": proxies, "GONOSUMDB": "example.com", "GOTOOLCHAIN": "local",
+               "CGO_ENABLED": "0", "SSL_CERT_FILE": client.pem}
+        ran = subprocess.run(["go", *words], cwd=folder, env={**clean, **own}, capture_output=True, text=True, timeout=300)
+    return ran.returncode == 0, ran.stdout + ran.stderr, list(ASKED)
+
+
+def go_command(suite, client):
+    """The go command logs in by ~/.netrc, and a 401 ends it before it asks the public proxy."""
+    behind = http.server.ThreadingHTTPServer(("127.0.0.1", 0), Behind)
+    threading.Thread(target=behind.serve_forever, daemon=True).start()
+    gomod = "module example.com/greet\n"
+    zipped = module_zip("example.com/greet", "v1.0.0", {"go.mod": gomod, "greet.go": "package greet\n\nconst Text = 1\n"})
+    with tempfile.TemporaryDirectory(prefix="goshelf-put-") as folder:
+        with open(f"{folder}/go.mod", "w", encoding="utf-8") as file:
+            file.write(gomod)
+        with open(f"{folder}/body", "wb") as file:
+            file.write(gomod.encode() + zipped)
+        client.machine.write("root/.netrc", f"machine localhost login pub password {client.passwords['pub']}\n")
+        publish = block("sh", "curl --netrc -T body").split("direct\n", 1)[1]
+        publish = publish.replace("curl ", "curl -sS --cacert /etc/ssl/goshelf.pem ").replace("shelf.example.com", f"localhost:{client.machine.front}")
+        settings = {"module": "example.com/greet", "version": "v1.0.0", "time": "2024-01-31T12:00:00Z"}
+        told = client.machine.does(f"cd {folder}\n{publish}", **settings)
+    suite.equal("curl publishes by ~/.netrc", told, "published\n")
+    proxies = f"https://localhost:{client.machine.front},http://127.0.0.1:{behind.server_port}"
+    line = "machine localhost login ann password {}\n"
+    good, wrong = line.format(client.passwords["ann"]), line.format("wrong")
+    ended, told, asked = go(client, proxies, good, "run", "-mod=mod", ".")
+    suite.equal("a build by ~/.netrc", (ended, told.splitlines()[-1:], asked), (True, ["1"], []))
+    suite.holds("no secret is in what the go command says", not any(it in told for it in (*client.passwords.values(), *keys_of(client.machine))))
+    for name, netrc in (("no ~/.netrc", ""), ("a wrong password", wrong)):
+        ended, told, asked = go(client, proxies, netrc, "get", "example.com/greet@v1.0.0")
+        suite.holds(f"{name}: the go command ends with a 401 and asks nobody else", not ended and "401" in told and "log in: " in told and not asked, (told, asked))
+    ended, told, asked = go(client, proxies, good, "get", "example.com/nosuch@v1.0.0")
+    suite.holds("a name that the shelf does not see is asked for at the next proxy", not ended and any("nosuch" in it for it in asked), (told, asked))
+    behind.shutdown()
 
 
 def main():
-    suite, port, behind = Suite(), free_port(), free_port()
+    suite = Suite()
+    if os.geteuid() != 0:
+        suite.skip("nginx", "its users and folders need root")
+        return suite.end()
     with tempfile.TemporaryDirectory(prefix="goshelf-front-") as folder:
-        store = os.path.join(folder, "shelves.db")
-        new_store(store, ("alpha", KEY, READER))
-        program = start_goshelf(store, behind)
-        nginx, pem = start_nginx(folder, port, behind)
-        front = Front(port, pem)
+        machine = client = None
         try:
-            program = cached(suite, front, program, store, behind)
-            purged(suite, front, folder)
-            suite.holds("no key is in a log", not any(keys_in(f"{folder}/{name}") for name in ("goshelf.log", "goshelf-errors.log")))
-            unwritable_cache(suite, front, folder)
+            machine, client = set_up(suite, folder)
+            for part in (strangers, rights, spellings, sizes, slow_clients, cached, go_command, revoked, too_many, logs, unwritable_cache):
+                part(suite, client)
         finally:
-            stop(program)
-            nginx.terminate()
-            nginx.wait()
+            if machine:
+                machine.close()
     return suite.end()
 
 

@@ -22,7 +22,7 @@ LONGEST_README = 150
 LONGEST_CELL = 120
 LONGEST_LINE = 100
 # folders and files at the top whose names pages cite in backticks
-PLACES = re.compile(r"(?:\.ci|bench|crates|docs|examples|tests|tools)/[\w./*-]+|[\w-]+\.(?:md|txt)")
+PLACES = re.compile(r"(?:\.ci|bench|crates|deploy|docs|examples|tests|tools)/[\w./*-]+|[\w-]+\.(?:md|txt)")
 COMMIT = re.compile(r"(?=.*\d)(?=.*[a-f])[0-9a-f]{7,12}")
 ITEM = re.compile(r"\w+(?:::\w+)+")
 FENCE = re.compile(r"^```([^\n]*)\n(.*?)^```$", re.M | re.S)

@@ -1,0 +1,138 @@
+"""A machine in a folder, on which the commands and files of docs/OPERATING.md and deploy/ run as they are written.
+
+Their absolute names are put below the folder, and ports that are free in the place of 443 and 8080. The commands `goshelf`, `nginx`
+and `systemctl` stand on the path: the first is the built program, the second starts with the machine's configuration, and the third
+starts and stops the program on the machine's store.
+"""
+
+import os
+import re
+import shutil
+import socket
+import subprocess
+import time
+
+from harness import PROGRAM, ROOT
+
+# folders whose names the page and deploy/ use; each is put below the folder of the machine
+PLACES = re.compile(r"(?<![\w./~])/(?=(?:etc/(?:nginx|ssl)|var/(?:lib|log|cache|backups)|usr/local|run|root)\b)")
+SYSTEMCTL = """\
+#!/bin/sh
+# `systemctl stop goshelf` and `systemctl start goshelf`, for a program that a file names by its number, and how often it was restarted
+case $1 in
+show) cat "@/restarts" ;;
+start)
+    goshelf serve --db "@/var/lib/goshelf/shelves.db" --port PORT > "@/serve.out" 2> "@/serve.err" < /dev/null &
+    echo $! > "@/serve.pid"
+    until grep -q '^listening on' "@/serve.out"; do kill -0 $! || exit 1; sleep 0.05; done ;;
+stop)
+    kill "$(cat "@/serve.pid")"
+    while kill -0 "$(cat "@/serve.pid")" 2> /dev/null; do sleep 0.02; done ;;
+esac
+"""
+NGINX_CONF = """\
+user www-data;
+worker_processes 2;
+pid @/nginx.pid;
+error_log @/var/log/nginx/error.log;
+events { worker_connections 768; }
+http {
+    default_type application/octet-stream;
+    gzip on;
+    client_body_temp_path @/var/lib/nginx/body;
+    proxy_temp_path @/var/lib/nginx/proxy;
+    fastcgi_temp_path @/var/lib/nginx/fastcgi;
+    uwsgi_temp_path @/var/lib/nginx/uwsgi;
+    scgi_temp_path @/var/lib/nginx/scgi;
+    include @/etc/nginx/conf.d/*.conf;
+}
+"""
+
+
+def free_port():
+    """A port on which nobody listens."""
+    with socket.socket() as held:
+        held.bind(("127.0.0.1", 0))
+        return held.getsockname()[1]
+
+
+def wait_for(port):
+    """Waits until somebody listens on a port."""
+    for _ in range(200):
+        with socket.socket() as probe:
+            if probe.connect_ex(("127.0.0.1", port)) == 0:
+                return
+        time.sleep(0.05)
+    raise TimeoutError(f"nobody listens on {port}")
+
+
+def block(kind, first, page="OPERATING.md"):
+    """A block of code of a page, by its kind and what stands in it."""
+    with open(os.path.join(ROOT, "docs", page), encoding="utf-8") as file:
+        found = [it for it in re.findall(rf"```{kind}\n(.*?)```", file.read(), re.S) if first in it]
+    assert len(found) == 1, (kind, first, len(found))
+    return found[0]
+
+
+class Machine:
+    """A machine in a folder."""
+
+    def __init__(self, folder):
+        self.folder, self.front, self.behind = folder, free_port(), free_port()
+        for name in ("bin", "etc/nginx/conf.d", "etc/ssl", "var/lib/nginx", "var/log/nginx", "var/lib/goshelf", "var/backups", "usr/local/bin", "run", "root"):
+            os.makedirs(f"{folder}/{name}")
+        os.chmod(folder, 0o755)
+        os.symlink(PROGRAM, f"{folder}/usr/local/bin/goshelf")
+        self.command("systemctl", SYSTEMCTL.replace("PORT", str(self.behind)))
+        nginx = shutil.which("nginx") or "/usr/sbin/nginx"
+        self.command("nginx", f'#!/bin/sh\nexec {nginx} -c "@/nginx.conf" -e "@/var/log/nginx/start.log" "$@"\n')
+        self.write("nginx.conf", NGINX_CONF.replace("@/", f"{folder}/"))
+        self.store = f"{folder}/var/lib/goshelf/shelves.db"
+
+    def command(self, name, text):
+        self.write(f"bin/{name}", text.replace("@/", f"{self.folder}/"))
+        os.chmod(f"{self.folder}/bin/{name}", 0o755)
+
+    def write(self, name, text):
+        with open(f"{self.folder}/{name}", "w", encoding="utf-8") as file:
+            file.write(text)
+
+    def read(self, name):
+        with open(f"{self.folder}/{name}", encoding="utf-8", errors="replace") as file:
+            return file.read()
+
+    def placed(self, text):
+        """A text with its absolute names below the folder, and with the machine's ports."""
+        text = PLACES.sub(f"{self.folder}/", text).replace("127.0.0.1:8080", f"127.0.0.1:{self.behind}")
+        return text.replace("listen 443 ssl", f"listen 127.0.0.1:{self.front} ssl")
+
+    def sh(self, script, **settings):
+        """Runs a script that is written for a whole machine, in `root`. Returns its status, what it prints, and its errors."""
+        where = {"PATH": f"{self.folder}/bin:{self.folder}/usr/local/bin:{os.environ['PATH']}:/usr/sbin", "HOME": f"{self.folder}/root", **settings}
+        ran = subprocess.run(["sh", "-euc", self.placed(script)], cwd=f"{self.folder}/root", env=where, capture_output=True, text=True,
+                             stdin=subprocess.DEVNULL, timeout=120)
+        return ran.returncode, ran.stdout, ran.stderr
+
+    def does(self, script, **settings):
+        """Runs a script that has to end well, and returns what it prints."""
+        status, printed, errors = self.sh(script, **settings)
+        assert status == 0, (script, status, printed, errors)
+        return printed
+
+    def check_out(self):
+        """Puts the files of deploy/ into `root`, as a checkout has them."""
+        for at, _, names in os.walk(os.path.join(ROOT, "deploy")):
+            below = os.path.join("root", os.path.relpath(at, ROOT))
+            os.makedirs(f"{self.folder}/{below}")
+            for name in names:
+                with open(os.path.join(at, name), encoding="utf-8") as file:
+                    self.write(f"{below}/{name}", self.placed(file.read()))
+                shutil.copymode(os.path.join(at, name), f"{self.folder}/{below}/{name}")
+
+    def close(self):
+        """Ends what was started on the machine."""
+        for name, signal in (("nginx.pid", 15), ("serve.pid", 15)):
+            try:
+                os.kill(int(self.read(name)), signal)
+            except (OSError, ValueError):
+                pass

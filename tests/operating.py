@@ -1,0 +1,227 @@
+#!/usr/bin/env python3
+"""What docs/OPERATING.md has an operator do besides nginx: backups, queries, alerts, an upgrade, a secret that is taken out.
+
+The page's commands and the scripts of deploy/ run as they are, on a machine in a folder (machine.py).
+"""
+
+import http.server
+import os
+import re
+import shutil
+import sys
+import tempfile
+import threading
+
+from harness import PROGRAM, Suite, answered, done, get, new_store, read, run
+from machine import Machine, block
+
+NEEDS = ["sqlite3", "openssl", "curl"]
+ALPHA, READER, BETA, COMMON = "alphakey00000001", "alphareader00001", "betakey000000001", "commonkey0000001"
+SECRET = os.urandom(150_000)
+# shelf's key, path, version, and the zip
+PUBLISHED = [
+    (ALPHA, "example.com/lib", "v1.0.0", b"one"),
+    (ALPHA, "example.com/lib", "v1.1.0", SECRET),
+    (ALPHA, "example.com/lib", "v1.2.0", b"three"),
+    (BETA, "example.com/lib", "v1.1.0", b"beta's own"),
+    (COMMON, "example.com/base", "v0.1.0", b"four" * 50_000),
+]
+
+
+def publish(machine, key, path, version, zipped):
+    """Publishes while the program is stopped, and returns what is printed."""
+    mod, file = f"{machine.folder}/root/go.mod", f"{machine.folder}/root/zip"
+    for name, content in ((mod, f"module {path}\n".encode()), (file, zipped)):
+        with open(name, "wb") as held:
+            held.write(content)
+    line = f"publish --db {machine.store} --key {key} --module {path} --version {version} --mod {mod} --zip {file} --time 2024-01-31T12:00:00Z"
+    return run(line.split())[1].decode().strip()
+
+
+def set_up(folder):
+    """A machine with the scripts of deploy/ and a store, whose program runs."""
+    machine = Machine(folder)
+    machine.write("restarts", "0\n")
+    machine.check_out()
+    new_store(machine.store, ("alpha", ALPHA, READER), ("beta", BETA), ("common", COMMON))
+    told = [publish(machine, *it) for it in PUBLISHED]
+    assert told == ["201 published"] * len(PUBLISHED), told
+    for script in ("goshelf-backup", "goshelf-watch"):
+        machine.does(block("sh", f"install deploy/{script} ").splitlines()[0])
+    machine.does("systemctl start goshelf")
+    return machine
+
+
+def runs(machine):
+    """Whether the program runs."""
+    return machine.sh('kill -0 "$(cat /serve.pid)"'.replace("/serve.pid", f"{machine.folder}/serve.pid"))[0] == 0
+
+
+def copies(machine):
+    """The good copies, the oldest first."""
+    return sorted(it for it in os.listdir(f"{machine.folder}/var/backups/goshelf") if it.startswith("2"))
+
+
+def asked(file, *targets, key=ALPHA):
+    """The statuses and bodies of requests to a store."""
+    return answered(["--db", file], [get(it, key) for it in targets])
+
+
+def backups(suite, machine):
+    """Backups that are good, and those that are not."""
+    at = f"{machine.folder}/var/backups/goshelf"
+    suite.equal("a backup prints nothing", machine.sh("goshelf-backup"), (0, "", ""))
+    suite.holds("and goshelf runs again", runs(machine))
+    first = copies(machine)
+    suite.equal("there is one copy", len(first), 1)
+    suite.equal("only root may read it", {os.stat(f"{at}/{it}").st_mode & 0o077 for it in (".", first[0], f"{first[0]}/shelves.db")}, {0})
+    suite.equal("its versions", read(f"{at}/{first[0]}/versions").decode().splitlines(), sorted(
+        f"{shelf}|{path}|{version}|2024-01-31T12:00:00Z" for (_, path, version, _), shelf in zip(PUBLISHED, ["alpha"] * 3 + ["beta", "common"])))
+    shutil.copytree(f"{at}/{first[0]}", f"{machine.folder}/root/copy")
+    suite.equal("it is a store", asked(f"{machine.folder}/root/copy/shelves.db", "example.com/lib/@v/v1.1.0.zip"), [(200, SECRET)])
+    for day in range(20):
+        shutil.copytree(f"{at}/{first[0]}", f"{at}/2020-01-{day + 1:02}T031500Z")
+    os.rename(f"{at}/{first[0]}", f"{at}/2020-02-01T031500Z")
+    suite.equal("another backup", machine.sh("goshelf-backup"), (0, "", ""))
+    suite.equal("14 are kept, the latest", (len(copies(machine)), copies(machine)[0]), (14, "2020-01-09T031500Z"))
+    machine.does("systemctl stop goshelf")
+    os.rename(machine.store, f"{machine.store}.aside")
+    shutil.copy(machine.store + ".aside", machine.store)
+    machine.does("sqlite3 /var/lib/goshelf/shelves.db \"DELETE FROM piece WHERE version = 1; DELETE FROM version WHERE id = 1\"; systemctl start goshelf")
+    status, told, _ = machine.sh("goshelf-backup")
+    suite.holds("a copy that lacks a version is none", status == 1 and "alpha|example.com/lib|v1.0.0|" in told and len(copies(machine)) == 14, (status, told))
+    machine.does("systemctl stop goshelf; rm /var/lib/goshelf/shelves.db*; cp /dev/null /var/lib/goshelf/shelves.db; systemctl start goshelf")
+    status, _, told = machine.sh("goshelf-backup")
+    suite.holds("an empty copy is none", status != 0 and len(copies(machine)) == 14, (status, told))
+    suite.holds("and goshelf runs all the same", runs(machine))
+    machine.does(block("sh", "chown --reference"), night=copies(machine)[-1])
+    machine.does("systemctl stop goshelf")
+    suite.equal("a restored store", asked(machine.store, "example.com/lib/@v/v1.1.0.zip", "example.com/lib/@v/list"), [(200, SECRET), (200, b"v1.0.0\nv1.1.0\nv1.2.0\n")])
+    machine.does("systemctl start goshelf")
+
+
+def queries(suite, machine):
+    """What sqlite3 prints of a copy."""
+    copy = f"{machine.folder}/root/copy/shelves.db"
+    for first, words in (
+        ("ORDER BY id DESC LIMIT 20", [["common", "example.com/base", "v0.1.0"], ["beta", "example.com/lib", "v1.1.0"]]),
+        ("AS zip_bytes", [["common", "1", "24", "200000"], ["alpha", "3", "69", str(3 + len(SECRET) + 5)], ["beta", "1", "23", "10"]]),
+        ("substr(token, 1, 4)", [["alpha", "publish", "alph"], ["alpha", "read", "alph"], ["beta", "publish", "beta"], ["common", "publish", "comm"]]),
+    ):
+        printed = machine.does(block("sh", first).replace("COPY", copy))
+        rows = [[it.strip() for it in line.strip("│\n").split("│")] for line in printed.splitlines() if line.startswith("│")]
+        suite.holds(first, all(row[: len(want)] == want for row, want in zip(rows[1:], words)) and len(rows) > len(words), printed)
+    printed = machine.does(block("sh", "/versions | head"))
+    suite.holds("the first backup that has a version", printed.endswith("/2020-01-09T031500Z/versions\n"), printed)
+
+
+class Health(http.server.BaseHTTPRequestHandler):
+    """What /healthz says."""
+
+    status = 200
+
+    def do_GET(self):
+        self.send_response(Health.status)
+        self.send_header("Content-Length", "0")
+        self.end_headers()
+
+    def log_message(self, *_):
+        pass
+
+
+def watch(suite, machine):
+    """Nothing is printed while all is well, and a line for each problem."""
+    server = http.server.ThreadingHTTPServer(("127.0.0.1", 0), Health)
+    threading.Thread(target=server.serve_forever, daemon=True).start()
+    script = machine.read("usr/local/bin/goshelf-watch")
+    script = script.replace("https://shelf.example.com/", f"http://127.0.0.1:{server.server_port}/").replace("--retry-delay 10", "--retry-delay 1")
+    machine.write("usr/local/bin/goshelf-watch", script)
+    machine.does("openssl req -x509 -newkey rsa:2048 -nodes -days 30 -subj /CN=localhost -out /etc/ssl/goshelf.pem -keyout /etc/ssl/goshelf.key")
+    now = machine.does("date +%Y-%m-%dT%H:%M:%S%:z").strip()
+    line = "{} 127.0.0.1 ann alpha GET /example.com/lib/@v/list {} 7 0.001 -\n"
+    old, good, bad = line.format("2020-01-01T00:00:00+00:00", 502), line.format(now, 200), line.format(now, 503)
+
+    def says(name, wanted):
+        status, told, errors = machine.sh("goshelf-watch")
+        suite.holds(name, (status, errors) == (1 if wanted else 0, "") and re.fullmatch(f"goshelf: .*{wanted}.*\n" if wanted else "", told), (status, told, errors))
+
+    machine.write("var/log/nginx/goshelf.log", old * 50 + good * 300 + bad * 3)
+    says("all is well", "")
+    Health.status = 502
+    says("it does not answer", "does not answer")
+    Health.status = 200
+    machine.write("var/log/nginx/goshelf.log", good * 300 + bad * 6)
+    says("answers with a 5xx", "got a 5xx")
+    machine.write("var/log/nginx/goshelf.log", good)
+    machine.write("restarts", "2\n")
+    says("it was restarted", "2 times")
+    says("it was not restarted again", "")
+    machine.command("ps", "#!/bin/sh\necho 900000\n")
+    says("memory", "900000 KiB of memory")
+    os.remove(f"{machine.folder}/bin/ps")
+    machine.command("df", "#!/bin/sh\necho 'Use%'; echo ' 81%'\n")
+    says("the disk", "full to 81 %")
+    os.remove(f"{machine.folder}/bin/df")
+    for it in copies(machine):
+        os.utime(f"{machine.folder}/var/backups/goshelf/{it}", (0, 0))
+    says("backups", "no backup")
+    for it in copies(machine):
+        os.utime(f"{machine.folder}/var/backups/goshelf/{it}")
+    machine.does("openssl req -x509 -newkey rsa:2048 -nodes -days 10 -subj /CN=localhost -out /etc/ssl/goshelf.pem -keyout /etc/ssl/goshelf.key")
+    says("the certificate", "within 14 days")
+    server.shutdown()
+
+
+def upgrade(suite, machine):
+    """A new program, and the old one again."""
+    os.symlink(PROGRAM, f"{machine.folder}/root/goshelf.new")
+    program = f"{machine.folder}/usr/local/bin/goshelf"
+    machine.does(block("sh", "goshelf.old\ninstall goshelf.new"))
+    suite.holds("the new program runs", runs(machine) and read(program) == read(PROGRAM) and not os.path.islink(program))
+    machine.does(block("sh", "install /usr/local/bin/goshelf.old"))
+    suite.holds("the old program runs", runs(machine))
+
+
+def leaked(suite, machine):
+    """A version that is taken out is gone, from the store's bytes too, and nothing else is."""
+    cache = f"{machine.folder}/var/cache/nginx/goshelf"
+    os.makedirs(f"{cache}/1/ab")
+    with open(f"{cache}/1/ab/entry", "w", encoding="utf-8") as file:
+        file.write("KEY: alpha /example.com/lib/@v/v1.1.0.zip\n")
+    machine.does(block("sh", "secure_delete").replace("'P'", "'example.com/lib'").replace("'V'", "'v1.1.0'"))
+    suite.equal("the cache is empty", [names for _, _, names in os.walk(cache) if names], [])
+    machine.does("systemctl stop goshelf")
+    at = "example.com/lib/@v"
+    found = asked(machine.store, f"{at}/v1.1.0.zip", f"{at}/v1.1.0.mod", f"{at}/list", f"{at}/v1.0.0.zip", f"{at}/v1.2.0.zip", "example.com/base/@v/v0.1.0.zip")
+    wanted = [(404, b"not found\n"), (404, b"not found\n"), (200, b"v1.0.0\nv1.2.0\n"), (200, b"one"), (200, b"three"), (200, b"four" * 50_000)]
+    suite.equal("the version is gone, and no other", found, wanted)
+    suite.equal("another team has its own", asked(machine.store, f"{at}/v1.1.0.zip", key=BETA), [(200, b"beta's own")])
+    held = b"".join(read(it) for it in (machine.store, machine.store + "-wal") if os.path.exists(it))
+    suite.holds("no page of it is in the store", not any(SECRET[it : it + 64] in held for it in range(0, len(SECRET), 4096)))
+    suite.equal("the next version is published", publish(machine, ALPHA, "example.com/lib", "v1.3.0", b"next"), "201 published")
+    machine.does("systemctl start goshelf")
+    status, told, _ = machine.sh("goshelf-backup")
+    suite.holds("the next backup complains", status == 1 and "alpha|example.com/lib|v1.1.0|" in told, (status, told))
+    os.rename(f"{machine.folder}/var/backups/goshelf/{copies(machine)[-1]}", f"{machine.folder}/root/before")
+    for it in copies(machine):
+        shutil.rmtree(f"{machine.folder}/var/backups/goshelf/{it}")
+    suite.equal("and a later one does not", machine.sh("goshelf-backup"), (0, "", ""))
+
+
+def main():
+    suite = Suite()
+    if os.geteuid() != 0:
+        suite.skip("the machine", "an operator's commands need root")
+        return suite.end()
+    with tempfile.TemporaryDirectory(prefix="goshelf-operating-") as folder:
+        machine = set_up(folder)
+        try:
+            for part in (backups, queries, watch, upgrade, leaked):
+                part(suite, machine)
+        finally:
+            machine.close()
+    return suite.end()
+
+
+if __name__ == "__main__":
+    sys.exit(main())

@@ -1,18 +1,22 @@
 #!/usr/bin/env python3
-"""Memory and time of the program on stores of several sizes: to open one, to fetch its largest zip, to publish the largest one.
+"""Memory and time of the program on stores of several sizes: to open one, to fetch its largest zip, to publish the largest one, to serve.
 
 Build the program first (`./goshelf --version`). The stores are made by sqlite3, with the tables of bench/store.py. With numbers, the stores of
 so many MiB alone (100, 500).
 """
 
 import os
+import re
+import subprocess
 import sys
 import tempfile
 
-from store import KEY, answered, get, insert, made, place, publish
+from store import KEY, PROGRAM, answered, get, insert, made, place, publish
 
 MIB = 1_048_576
 LARGEST = 16 * MIB
+# from how many bytes on the C library maps a block by itself, as deploy/systemd/goshelf.service sets it
+SETTING = {"MALLOC_MMAP_THRESHOLD_": "32768"}
 # the bytes of a zip: small, middle and the largest
 ZIPS = (1024, MIB, LARGEST)
 
@@ -35,6 +39,17 @@ def zip_of(n):
     return f"GET /k/{KEY}/{path}/@v/{version}.zip HTTP/1.1\r\n\r\n".encode()
 
 
+def held(file, setting):
+    """The MiB that `serve` holds once it has opened a store, with these settings of the C library."""
+    child = subprocess.Popen([PROGRAM, "serve", "--db", file, "--port", "0"], stdout=subprocess.PIPE, env={**os.environ, **setting})
+    child.stdout.readline()
+    with open(f"/proc/{child.pid}/status", encoding="ascii") as status:
+        kib = int(re.search(r"VmRSS:\s+(\d+)", status.read())[1])
+    child.terminate()
+    child.wait()
+    return kib / 1024
+
+
 def main():
     sizes = [int(word) for word in sys.argv[1:]] or [100, 500]
     for size in sizes:
@@ -46,9 +61,11 @@ def main():
                 seconds, opened = answered(file, [])
                 _, fetched = answered(file, [zip_of(0)])
                 _, published = answered(file, [publish(count, LARGEST), get(0)])
+                plain, returned = held(file, {}), held(file, SETTING)
                 print(
                     f"{count:,} versions with zips of {zip_length:,} bytes, {mib:,.0f} MiB: opened in {seconds:.2f} s with {opened:,.0f} MiB; "
-                    f"{fetched:,.0f} MiB to fetch a zip, {published:,.0f} MiB to publish one of 16 MiB"
+                    f"{fetched:,.0f} MiB to fetch a zip, {published:,.0f} MiB to publish one of 16 MiB; "
+                    f"serve then holds {plain:,.0f} MiB, and {returned:,.0f} MiB as the unit starts it"
                 )
 
 

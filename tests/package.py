@@ -1,0 +1,369 @@
+#!/usr/bin/env python3
+"""The release of tools/release: its files, and its Debian package installed, upgraded, removed and purged under systemd.
+
+The package goes to a copy of this machine: the same files under an overlay, with processes, a network and a systemd of its own. The copy
+vanishes with the suite, and the machine stays as it is. The commands that set goshelf up are those of docs/OPERATING.md.
+"""
+
+import hashlib
+import os
+import re
+import shutil
+import subprocess
+import sys
+import tarfile
+import tempfile
+import time
+
+from harness import KEY, PROGRAM, ROOT, Suite, read
+
+NEEDS = ["adduser", "curl", "dpkg-deb", "git", "ldd", "nsenter", "systemd-analyze", "unshare"]
+RELEASE = os.path.join(ROOT, "tools", "release")
+UNIT = os.path.join(ROOT, "deploy", "systemd", "goshelf.service")
+# files that a release has among others
+WANTED = {"README.md", "docs/OPERATING.md", "docs/REFERENCE.md", "bench/RESULTS.md", "deploy/systemd/goshelf.service"}
+# the settings of a command on the copy
+SETTINGS = ["PATH=/usr/local/sbin:/usr/local/bin:/usr/sbin:/usr/bin:/sbin:/bin", "DEBIAN_FRONTEND=noninteractive", "LC_ALL=C", "HOME=/root"]
+# the rating of systemd-analyze below which the unit has to stay
+SAFE = 2.5
+AT = "example.com/lib/@v"
+LEFT = "/etc/default/goshelf /var/lib/goshelf: shelves.db shelves.db-wal"
+KEPT = "goshelf: kept /var/lib/goshelf and the user goshelf. A purge with GOSHELF_REMOVE_DATA=yes removes both.\n"
+# Starts systemd over a copy of the files of this machine, with nothing that runs at boot, in the namespaces of `unshare`.
+BOOT = """
+mount --make-rprivate /
+mount -t tmpfs tmpfs "$0"
+mkdir "$0/upper" "$0/work" "$0/root"
+mount -t overlay overlay -o "lowerdir=/,upperdir=$0/upper,workdir=$0/work" "$0/root"
+cd "$0/root"
+rm -rf usr/lib/systemd/system/*.wants etc/systemd/system/*.wants
+mount -t proc proc proc
+mount -t sysfs -o ro sysfs sys
+mount -t cgroup2 cgroup2 sys/fs/cgroup
+mount -t tmpfs tmpfs run
+mount -t tmpfs -o mode=755 tmpfs dev
+mkdir dev/pts dev/shm
+ln -s pts/ptmx dev/ptmx
+for it in null zero full random urandom; do touch "dev/$it"; mount --bind "/dev/$it" "dev/$it"; done
+pivot_root . mnt
+cd /
+umount -l mnt
+exec env -i container=other PATH=/usr/sbin:/usr/bin:/sbin:/bin /lib/systemd/systemd --unit=multi-user.target --show-status=no
+"""
+
+
+def groups():
+    """The folder of the control groups of version 2, or None."""
+    places = ("/sys/fs/cgroup/unified", "/sys/fs/cgroup")
+    return next((it for it in places if os.path.exists(f"{it}/cgroup.controllers")), None)
+
+
+class Copy:
+    """A copy of this machine that systemd runs."""
+
+    def __init__(self, folder, groups):
+        self.group = os.path.join(groups, os.path.basename(folder))
+        words = ["unshare", "--mount", "--pid", "--uts", "--ipc", "--net", "--cgroup", "--fork", "--kill-child", "sh", "-euc", BOOT, folder]
+        join = ["sh", "-euc", 'mkdir "$0"; echo $$ > "$0/cgroup.procs"; exec "$@"', self.group]
+        self.log = tempfile.TemporaryFile()
+        self.child = subprocess.Popen([*join, *words], stdin=subprocess.DEVNULL, stdout=self.log, stderr=self.log, start_new_session=True)
+        self.first = None
+
+    def starts(self):
+        """Waits until systemd runs. Returns None then, and otherwise why it does not."""
+        for _ in range(600):
+            if self.child.poll() is not None:
+                self.log.seek(0)
+                return self.log.read().decode(errors="replace").strip()[-300:] or "it ended"
+            with open(f"/proc/{self.child.pid}/task/{self.child.pid}/children", encoding="ascii") as file:
+                self.first = file.read().strip() or None
+            if self.first and self.sh("systemctl is-system-running")[1] in ("running\n", "degraded\n"):
+                return None
+            time.sleep(0.1)
+        return "systemd did not come up in a minute"
+
+    def sh(self, script, **settings):
+        """Runs a script on the copy, as root. Returns its exit status, and what it prints on standard output and on standard error."""
+        spaces = ["--mount", "--pid", "--uts", "--ipc", "--net", "--cgroup", "--root", "--wd"]
+        env = ["env", "-i", "--chdir=/", *SETTINGS, *(f"{name}={value}" for name, value in settings.items())]
+        words = ["nsenter", "--target", self.first, *spaces, *env, "sh", "-euc", script]
+        ran = subprocess.run(words, stdin=subprocess.DEVNULL, capture_output=True, text=True, errors="replace", timeout=120)
+        return ran.returncode, ran.stdout, ran.stderr
+
+    def prints(self, script):
+        """What a script prints on the copy, whatever its status, on one line."""
+        return " ".join(self.sh(f"set +e\n{script}")[1].split())
+
+    def put(self, file):
+        """Copies a file to the copy, and returns its name there."""
+        name = os.path.basename(file)
+        shutil.copyfile(file, f"/proc/{self.first}/root/root/{name}")
+        return f"/root/{name}"
+
+    def close(self):
+        """Ends all that runs on the copy, and takes its group away."""
+        if self.first:
+            os.kill(int(self.first), 9)
+        self.child.kill()
+        self.child.wait()
+        self.log.close()
+        for _ in range(100):
+            groups = [at for at, _, _ in os.walk(self.group, topdown=False)]
+            if not groups:
+                return
+            for at in groups:
+                try:
+                    os.rmdir(at)
+                except OSError:
+                    time.sleep(0.05)
+
+
+def lines_of(text):
+    """The lines `name: value` of a text."""
+    return dict(line.split(": ", 1) for line in text.splitlines() if ": " in line)
+
+
+def released(suite, folder):
+    """Makes a release twice, and returns the names of its tar file and its package."""
+    names = {}
+    for way in ("one", "two"):
+        ran = subprocess.run([RELEASE, "--program", PROGRAM, "--to", f"{folder}/{way}"], capture_output=True, text=True)
+        if not suite.holds(f"a release is made ({way})", ran.returncode == 0, ran.stderr):
+            return None
+        names[way] = {it: hashlib.sha256(read(f"{folder}/{way}/{it}")).hexdigest() for it in sorted(os.listdir(f"{folder}/{way}"))}
+    suite.equal("a second one has the same bytes", names["two"], names["one"])
+    sums = "".join(f"{names['one'][it]}  {it}\n" for it in sorted(names["one"]) if it != "SHA256SUMS")
+    suite.equal("SHA256SUMS has the sum of each file", read(f"{folder}/one/SHA256SUMS").decode(), sums)
+    tar, package = (next(f"{folder}/one/{it}" for it in names["one"] if it.endswith(end)) for end in (".tar.gz", ".deb"))
+    return tar, package
+
+
+def unpacked(suite, tar, folder):
+    """Looks at the files of a release, and returns what it says of itself."""
+    with tarfile.open(tar) as held:
+        members = held.getmembers()
+        held.extractall(f"{folder}/tar", filter="tar")
+    top = os.path.basename(tar).removesuffix(".tar.gz")
+    at = f"{folder}/tar/{top}"
+    suite.equal("it unpacks into one folder", [it.name for it in members if it.name.split("/")[0] != top], [])
+    suite.equal("its files are root's", {(it.uid, it.gid, it.mode & 0o22) for it in members}, {(0, 0, 0)})
+    suite.equal("its sums are right", subprocess.run(["sha256sum", "--quiet", "-c", "SHA256SUMS"], cwd=at).returncode, 0)
+    summed = {line.split("  ./", 1)[1] for line in read(f"{at}/SHA256SUMS").decode().splitlines()}
+    files = {os.path.relpath(os.path.join(where, it), at) for where, _, them in os.walk(at) for it in them}
+    suite.equal("each file has a sum", files - summed, {"SHA256SUMS"})
+    suite.holds("it has the program", read(f"{at}/goshelf") == read(PROGRAM))
+    suite.equal("it has the pages and the unit", WANTED - files, set())
+    about = lines_of(read(f"{at}/BUILD").decode())
+    commit = subprocess.run(["git", "rev-parse", "HEAD"], cwd=ROOT, capture_output=True, text=True).stdout.strip()
+    suite.equal("BUILD names the commit", about["commit"], commit)
+    suite.equal("BUILD says what was gated", (about["gate"], about["suites"]), ("not run", "not run"))
+    printed = subprocess.run([f"{at}/goshelf", "--version"], capture_output=True, text=True).stdout.split()[1]
+    form = rf"{re.escape(printed)}\+git\d{{14}}\.{commit[:12]}~ungated"
+    suite.holds("the version names the program's and the commit", re.fullmatch(form, about["version"]), about["version"])
+    return about
+
+
+def needs(suite, about):
+    """The libraries of the program. One that `rt try` built has a sanitizer, which needs more."""
+    libraries, _, glibc = about["libraries"].partition(", of ")
+    suite.holds(f"docs/OPERATING.md names {glibc}", glibc in read(os.path.join(ROOT, "docs", "OPERATING.md")).decode())
+    if b"AddressSanitizer" in read(PROGRAM):
+        suite.skip("the program needs the C library alone", "this program was built unproved, with a sanitizer")
+    else:
+        suite.equal("the program needs the C library alone", libraries, "libc.so.6")
+
+
+def refusals(suite, folder):
+    """A release of what is not a commit, or of no program, is refused."""
+    clone = f"{folder}/clone"
+    subprocess.run(["git", "clone", "-q", ROOT, clone], check=True)
+    shutil.copy2(RELEASE, f"{clone}/tools/release")
+    with open(f"{clone}/README.md", "a", encoding="utf-8") as file:
+        file.write("changed\n")
+    said = "tools/release: files differ from the commit: commit or remove them first\n"
+    for name, words, wanted in (
+        ("a changed file", [], (1, said)),
+        ("--program without a name", ["--program"], (1, "tools/release: --program needs a name\n")),
+        ("a program that does not exist", ["--program", "/none"], (1, "realpath: /none: No such file or directory\n")),
+    ):
+        ran = subprocess.run([f"{clone}/tools/release", *words], capture_output=True, text=True, timeout=60, env={**os.environ, "LC_ALL": "C"})
+        suite.equal(f"{name} is refused", (ran.returncode, ran.stderr), wanted)
+    suite.holds("a refused release writes nothing", not os.path.exists(f"{clone}/out"))
+
+
+def rated(suite):
+    """systemd-analyze rates the unit as safe."""
+    ran = subprocess.run(["systemd-analyze", "security", "--offline=true", "--no-pager", UNIT], capture_output=True, text=True)
+    found = re.search(r"exposure level for goshelf.service: ([\d.]+)", ran.stdout)
+    suite.holds(f"the unit is rated below {SAFE}", found and float(found[1]) < SAFE, ran.stdout[-200:] + ran.stderr)
+
+
+def later(package, folder):
+    """A package of a later version with the same files, but with another default port, and its name."""
+    subprocess.run(["dpkg-deb", "--raw-extract", package, f"{folder}/later"], check=True)
+    control = read(f"{folder}/later/DEBIAN/control").decode()
+    with open(f"{folder}/later/DEBIAN/control", "w", encoding="utf-8") as file:
+        file.write(re.sub(r"(?m)^Version: .*$", r"\g<0>.later", control))
+    subprocess.run(["dpkg-deb", "-Znone", "--root-owner-group", "--build", f"{folder}/later", f"{folder}/later.deb"], check=True, capture_output=True)
+    return f"{folder}/later.deb"
+
+
+def commands(first):
+    """The shell commands of docs/OPERATING.md of the block that has these words."""
+    found = [it for it in re.findall(r"```sh\n(.*?)```", read(os.path.join(ROOT, "docs", "OPERATING.md")).decode(), re.S) if first in it]
+    assert len(found) == 1, (first, len(found))
+    return found[0]
+
+
+def ask(copy, rest, port=8080, how=""):
+    """The body and the status of a request on the copy, once somebody listens on the port."""
+    wait = "--retry 300 --retry-delay 0 --retry-max-time 60 --retry-connrefused"
+    return copy.prints(f"curl -s {wait} -w ' %{{http_code}}' {how} http://127.0.0.1:{port}/k/{KEY}/{rest}")
+
+
+def publish(copy, version):
+    """Publishes a version of example.com/lib on the copy, and returns what it is told."""
+    copy.sh("printf 'module example.com/lib\nzip' > /root/body")
+    return ask(copy, f"{AT}/{version}", how="-T /root/body -H Expect: -H 'Mod-Length: 23'")
+
+
+def first_process(copy):
+    """The number of the process of goshelf on the copy."""
+    return copy.prints("systemctl show -P MainPID goshelf")
+
+
+def installed(suite, copy, package, version):
+    """The first command of the page makes a user and a folder, and starts nothing."""
+    suite.equal("no user goshelf before", copy.sh("getent passwd goshelf")[1], "")
+    copy.put(package)
+    install = commands("apt install").partition("\n")[0].replace("VERSION", version)
+    status, _, errors = copy.sh(f"cd /root\n{install}")
+    suite.holds("it installs by apt", status == 0, errors)
+    suite.equal("dpkg knows its version", copy.prints("dpkg-query -W goshelf"), f"goshelf {version}")
+    suite.equal("its user", copy.prints("getent passwd goshelf | cut -d: -f 6,7"), "/var/lib/goshelf:/usr/sbin/nologin")
+    suite.equal("its folder", copy.prints("stat -c '%a %U %G' /var/lib/goshelf; ls -A /var/lib/goshelf"), "700 goshelf goshelf")
+    suite.equal("nothing starts, now or at boot", copy.prints("systemctl is-active goshelf; systemctl is-enabled goshelf"), "inactive disabled")
+    suite.equal("the unit is right", copy.sh("systemd-analyze verify goshelf.service"), (0, "", ""))
+    copy.sh("systemctl start goshelf")
+    found = copy.prints("systemctl show -P AssertResult goshelf; systemctl is-active goshelf; ls -A /var/lib/goshelf")
+    suite.equal("it does not start without a store, and makes none", found, "no inactive")
+
+
+def started(suite, copy):
+    """The commands of the page make a store and start goshelf."""
+    status, _, errors = copy.sh(commands("apt install").partition("\n")[2].replace("KEY", KEY))
+    suite.holds("the commands of the page end well", status == 0 and re.fullmatch(r"(Created symlink .*\n)?", errors), (status, errors))
+    suite.equal("it answers", ask(copy, "-/modules"), "200")
+    suite.equal("it starts at boot", copy.prints("systemctl is-enabled goshelf"), "enabled")
+    suite.equal("a publish", publish(copy, "v1.0.0"), "published 201")
+    suite.equal("its files are its own", copy.prints("stat -c %U /var/lib/goshelf/* | sort -u"), "goshelf")
+    suite.equal("nobody else sees them", copy.sh("setpriv --reuid=65534 --clear-groups ls /var/lib/goshelf")[0], 2)
+
+
+def restarted(suite, copy):
+    """It comes back after a kill, after commands of root, and on another port."""
+    before = first_process(copy)
+    copy.sh(f"kill -9 {before}")
+    copy.sh(f"while [ $(systemctl show -P MainPID goshelf) = {before} ]; do sleep 0.1; done")
+    suite.equal("a killed one is started again, and has the version", ask(copy, f"{AT}/list"), "v1.0.0 200")
+    copy.sh("systemctl stop goshelf")
+    copy.sh("goshelf key-add --db /var/lib/goshelf/shelves.db --shelf alpha --key alphareader00001 --read-only")
+    copy.sh("chown root:root /var/lib/goshelf/*; chmod 600 /var/lib/goshelf/*")
+    copy.sh("echo GOSHELF_PORT=8181 > /etc/default/goshelf; systemctl start goshelf")
+    suite.equal("it starts over files of root, on the port of its settings", ask(copy, f"{AT}/list", 8181), "v1.0.0 200")
+
+
+def confined(suite, copy):
+    """The process as the kernel sees it."""
+    at = "/proc/$(systemctl show -P MainPID goshelf)"
+    status = lines_of(copy.sh(f"tr '\\t' ' ' < {at}/status")[1])
+    user = copy.prints("id -u goshelf")
+    suite.equal("it runs as its user", status["Uid"].split(), [user] * 4)
+    suite.equal("it has no rights of root", (status["CapBnd"], status["CapEff"], status["NoNewPrivs"]), ("0" * 16, "0" * 16, "1"))
+    suite.equal("its system calls are filtered", status["Seccomp"], "2")
+    suite.equal("it leaves no core", copy.prints(f"grep 'Max core' {at}/limits").split()[4:6], ["0", "0"])
+    suite.equal("freed memory returns", copy.prints(f"tr '\\0' '\\n' < {at}/environ | grep MALLOC"), "MALLOC_MMAP_THRESHOLD_=32768")
+
+
+def upgraded(suite, copy, first, second, version):
+    """Another version over a running one restarts it, and keeps settings and store. So does the first one again."""
+    for name, file, wanted in (("an upgrade", copy.put(second), f"{version}.later"), ("the way back", copy.put(first), version)):
+        before = first_process(copy)
+        status, _, errors = copy.sh(f"dpkg -i {file}")
+        errors = re.sub(r"dpkg: warning: downgrading goshelf .*\n", "", errors)
+        suite.equal(f"{name} ends without a word", (status, errors), (0, ""))
+        suite.equal(f"{name}: the version", copy.prints("dpkg-query -W -f '${Version}' goshelf"), wanted)
+        suite.holds(f"{name} restarts it", first_process(copy) not in (before, "0"))
+        suite.equal(f"{name} keeps settings and store", ask(copy, f"{AT}/list", 8181), "v1.0.0 200")
+    copy.sh("systemctl stop goshelf")
+    copy.sh(f"dpkg -i {file}")
+    suite.equal("one that was stopped stays so", copy.prints("systemctl is-active goshelf; systemctl is-enabled goshelf"), "inactive enabled")
+    copy.sh("systemctl start goshelf")
+
+
+def removed(suite, copy, package):
+    """What a removal and a purge leave."""
+    status, _, errors = copy.sh("dpkg -r goshelf")
+    suite.equal("a removal ends without a word", (status, errors), (0, ""))
+    suite.equal("nothing runs", copy.prints("pgrep -c goshelf"), "0")
+    suite.equal("nothing starts at boot", copy.prints("find /etc/systemd /run/systemd -name 'goshelf*'"), "")
+    suite.equal("the store and the settings stay", copy.prints("ls /var/lib/goshelf /etc/default/goshelf"), LEFT)
+    status, _, errors = copy.sh("dpkg -P goshelf")
+    suite.equal("a purge says what it keeps", (status, errors), (0, KEPT))
+    suite.equal("the store and its user stay", copy.prints("stat -c %U /var/lib/goshelf /var/lib/goshelf/shelves.db"), "goshelf goshelf")
+    suite.equal("the settings go", copy.prints("ls /etc/default | grep goshelf"), "")
+    copy.sh(f"dpkg -i {copy.put(package)}; systemctl start goshelf")
+    suite.equal("installed again, it has the version", ask(copy, f"{AT}/list"), "v1.0.0 200")
+    status, _, errors = copy.sh("dpkg -P goshelf", GOSHELF_REMOVE_DATA="yes")
+    suite.equal("a purge with the data ends without a word", (status, errors), (0, ""))
+    found = copy.prints("getent passwd goshelf; getent group goshelf; find /etc /usr /var /run -xdev -name '*goshelf*'")
+    suite.equal("it leaves nothing", found, "")
+
+
+def by_hand(suite, copy, tar, version):
+    """The commands of the page do with the tar file what the package does."""
+    for file in (tar, os.path.join(os.path.dirname(tar), "SHA256SUMS")):
+        copy.put(file)
+    status, _, errors = copy.sh("cd /root\n" + commands("tar -xzf").replace("VERSION", version))
+    suite.equal("the tar file: the commands of the page end well", (status, errors), (0, ""))
+    suite.equal("the tar file: the unit is right", copy.sh("systemd-analyze verify goshelf.service"), (0, "", ""))
+    copy.sh("\n".join(commands("apt install").replace("KEY", KEY).splitlines()[1:]))
+    suite.equal("the tar file: goshelf answers", ask(copy, "-/modules"), "200")
+
+
+def on_a_copy(suite, tar, package, version, folder):
+    """Takes the package through its life on a copy of this machine."""
+    name = "the package on a copy of this machine"
+    if os.geteuid() != 0 or not groups():
+        suite.skip(name, "this needs root and control groups of version 2")
+        return
+    copy = Copy(tempfile.mkdtemp(prefix="goshelf-copy-", dir=folder), groups())
+    try:
+        if why := copy.starts():
+            suite.skip(name, f"systemd does not start on one: {why}")
+            return
+        installed(suite, copy, package, version)
+        started(suite, copy)
+        confined(suite, copy)
+        restarted(suite, copy)
+        upgraded(suite, copy, package, later(package, folder), version)
+        removed(suite, copy, package)
+        by_hand(suite, copy, tar, version)
+    finally:
+        copy.close()
+
+
+def main():
+    suite = Suite()
+    with tempfile.TemporaryDirectory(prefix="goshelf-package-") as folder:
+        rated(suite)
+        refusals(suite, folder)
+        if made := released(suite, folder):
+            about = unpacked(suite, made[0], folder)
+            needs(suite, about)
+            on_a_copy(suite, *made, about["version"], folder)
+    return suite.end()
+
+
+if __name__ == "__main__":
+    sys.exit(main())

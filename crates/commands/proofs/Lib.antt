@@ -4,3 +4,4 @@ mod Imports
 mod Openings
 mod Repeated
 mod Written
+mod Rows

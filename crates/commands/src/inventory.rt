@@ -4,6 +4,7 @@ ghost use Rattle.std.specs.FinMap as map;
 ghost use Rattle.world.specs.Store.{Reads, HasCause};
 ghost use Rattle.commands.specs.Inventory as spec;
 ghost use Rattle.commands.specs.Reading.{Adds};
+ghost use Rattle.commands.specs.Rows.{IsWhole};
 
 use crate::inventory_text::text_of;
 use modpath::ModulePath;
@@ -40,7 +41,7 @@ pub enum InventoryFault {
     Memory,
 }
 
-/// The inventory of a key: CSV of the versions that its shelf sees and whose paths read, the paths by their bytes, the
+/// The inventory of a key: CSV with exactly one row for each version that its shelf sees, the paths by their bytes, the
 /// versions of each by precedence, pseudo-versions among the others. (RFC 4180; SemVer 2.0.0, section 11.)
 ///
 /// Fails with `NoKey` if there is no such key, `Device` if a disk failed, and `Memory` if memory ran out.
@@ -49,7 +50,8 @@ pub fn inventory<S: Shelves>(
     shelves: &mut S,
     key: &str,
 ) -> Result<Bytes, InventoryFault>
-    ensures { spec.Inventories (S.shown shelves.old) (S.shown shelves.new) (S.failure_count shelves.old) (S.failure_count shelves.new) key.now result }
+    ensures told { spec.Inventories (S.shown shelves.old) (S.shown shelves.new) (S.failure_count shelves.old) (S.failure_count shelves.new) key.now result }
+    ensures whole { IfOk result (λ text. IsWhole (S.shown shelves.old) (S.shown shelves.new) key.now text) }
 {
     match inventory_of(alloc, shelves, key) {
         Ok(Some(text)) => Ok(text),

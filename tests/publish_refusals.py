@@ -157,7 +157,9 @@ def of_use(room):
         words = line.split()
         status, output, errors = room.publish(*words)
         SUITE.holds(f"usage: {words}", (status, output) == (2, "") and "usage: tools/publish" in errors, (status, output, errors))
-    SUITE.holds("help", room.publish("--help")[0] == 0 and "exit status" in room.publish("--help")[1])
+    status, output, errors = room.publish("--help")
+    right = output.startswith("publish: publishes a version") and output.endswith("changes nothing in DIR.\n")
+    SUITE.holds("help", (status, errors) == (0, "") and right, (status, output, errors))
 
 
 def conflicts(room, server):
@@ -253,6 +255,9 @@ def by_netrc(room, url, words):
     user = "Basic " + base64.b64encode(f"alpha:{KEY}".encode()).decode()
     SUITE.holds("a user", (status, errors) == (0, "") and output.startswith("published example.com/greet v1.0.0\n"), (status, output, errors))
     SUITE.equal("what the server is asked", Answers.asked, [("PUT", "/example.com/greet/@v/v1.0.0", user)])
+    Answers.answer = 401, b""
+    netrc = f"{room.folder}/netrc"
+    refused(room, "another user", f"{url} knows no such user: mend the line for its host in {netrc}", *words, "--netrc", NETRC=netrc)
     missing = f"{room.folder}/nosuch"
     refused(room, "no netrc", f"{missing} cannot be read: make it, with a line for the host of {url}", *words, "--netrc", NETRC=missing)
 

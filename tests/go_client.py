@@ -240,6 +240,31 @@ def teams(alpha, beta):
     beta.tells("versions of one path, by beta", f"{words} v0.9.0", "list", "-m", "-versions", f"{words}@latest")
 
 
+def two_contents(server, alpha, beta):
+    """A version that `common` publishes after a team did: the team keeps its own, and a go.sum of one fails at the other."""
+    path = "example.com/shared"
+    of_alpha, of_common, next_one = module(path, "v1.5.0"), module(path, "v1.5.0", more="// of common\n"), module(path, "v1.5.1")
+    told = [server.put(key, it)[0] for key, it in ((ALPHA, of_alpha), (COMMON, of_common), (COMMON, next_one), (ALPHA, module(path, "v1.5.1", more="// of alpha\n")))]
+    check("common publishes what alpha has, and alpha can't publish what common has", told == [201, 201, 201, 409], told)
+    downloads(alpha, [of_alpha, next_one])
+    downloads(beta, [of_common, next_one])
+    mod_sum, zip_sum = sums(*of_alpha[2:])
+    lines = f"{path} v1.5.0 {zip_sum}\n{path} v1.5.0/go.mod {mod_sum}\n"
+    for client, name, wanted in ((alpha, "same", True), (beta, "other", False)):
+        client.module(name, f"module example.com/{name}\n\ngo 1.17\n\nrequire {path} v1.5.0\n", f'package main\n\nimport _ "{path}"\n\nfunc main() {{}}\n')
+        with open(os.path.join(client.folder, name, "go.sum"), "w") as held:
+            held.write(lines)
+        status, _, errors = client.go("build", at=name)
+        said = "checksum mismatch" in errors and "SECURITY ERROR" in errors
+        check(f"alpha's go.sum, by {client.key}", (status == 0, said) == (wanted, not wanted), f"{status} {errors}")
+        client.go("mod", "edit", f"-require={path}@v1.5.1", at=name)
+        os.remove(os.path.join(client.folder, name, "go.sum"))
+        status, _, errors = client.go("mod", "tidy", at=name)
+        with open(os.path.join(client.folder, name, "go.sum")) as held:
+            text = held.read()
+        check(f"the next version, by {client.key}", status == 0 and "v1.5.1 h1:" in text and "v1.5.0" not in text, f"{text} {errors}")
+
+
 def publishes(server):
     """Each version is published by PUT, and a second time it is there."""
     for key, entries in ((ALPHA, ON_ALPHA), (COMMON, ON_COMMON), (BETA, ON_BETA)):
@@ -274,6 +299,7 @@ def session(folder):
     gets(alpha)
     builds(alpha)
     teams(alpha, beta)
+    two_contents(server, alpha, beta)
     server.stop()
     done("key-revoke", "--db", store, "--key", READER)
     server = Server(store)

@@ -1,5 +1,5 @@
 #!/usr/bin/env python3
-"""Each cause that docs/OPERATING.md names for a word on standard error, and what it says to do about it.
+"""Each cause that docs/OPERATING.md names for a word on standard error, and docs/REFERENCE.md for a publish, and what they say to do.
 
 Every row makes the cause, runs a command, and looks at its exit status and its word; where
 the page names a remedy, the command is run again after it. Rights are tried as nobody, where the machine lets a process become that; a
@@ -7,6 +7,7 @@ full disk on a small tmpfs, where it lets one be mounted; sqlite3 by Python's ow
 """
 
 import os
+import re
 import shutil
 import socket
 import sqlite3
@@ -15,7 +16,7 @@ import sys
 import tempfile
 
 import harness
-from harness import KEY, NOBODY, PROGRAM, Suite, can_be_nobody, mounted, run
+from harness import KEY, KEYS, NOBODY, PROGRAM, ROOT, Suite, answered, can_be_nobody, mounted, put, run
 
 ROW = f"--key {KEY} --module example.com/lib --version v1.0.0"
 HEADER = "path,version,time,mod,zip\n"
@@ -28,6 +29,53 @@ def word(line, *more, before=(), output=subprocess.PIPE):
         return ""
     assert ran.returncode == 1 and told.startswith("goshelf: ") and told.count("\n") == 1, (line, ran.returncode, told)
     return told[len("goshelf: ") : -1]
+
+
+# causes of the table of publish outcomes in docs/REFERENCE.md, in order: the outcome, the cause, and what is published. `-` is in the place
+# of what a row lacks: a go.mod other than that of its path, a zip other than `zip`, a time, and a key other than alpha's
+PSEUDO = "v0.0.0-20240131120000-abcdefabcdef"
+OUTCOMES = f"""\
+201 published            | a version                         | example.com/lib    v1.0.0 - - -
+200 already published    | the same again                    | example.com/lib    v1.0.0 - - -
+403 forbidden            | a key that only reads             | example.com/lib    v1.1.0 - - - R
+404 not found            | a key that is not there           | example.com/lib    v1.1.0 - - - N
+404 not found            | v1.1                              | example.com/lib    v1.1 - - -
+404 not found            | no v                              | example.com/lib    1.1.0 - - -
+404 not found            | a build part                      | example.com/lib    v1.1.0+linux - - -
+404 not found            | an upper-case letter              | example.com/Lib    v1.1.0 - - -
+201 published            | it is escaped                     | example.com/!lib   v1.1.0 module_example.com/Lib - -
+404 not found            | no dot in the first part          | lib                v1.1.0 - - -
+409 conflict             | another zip                       | example.com/lib    v1.0.0 - other -
+409 conflict             | another go.mod                    | example.com/lib    v1.0.0 module_example.com/lib;; - -
+409 conflict             | another time                      | example.com/lib    v1.0.0 - - 2024-01-31T12:00:00Z
+201 published            | a version of common               | example.com/base   v1.0.0 - - - C
+409 conflict             | common has it                     | example.com/base   v1.0.0 - other -
+201 published            | the next version                  | example.com/base   v1.0.1 - other -
+413 too large            | a large go.mod                    | example.com/lib    v1.1.0 LARGE - -
+422 major-mismatch       | v2 without a suffix               | example.com/lib    v2.0.0 - - -
+201 published            | with a suffix                     | example.com/lib/v2 v2.0.0 - - -
+201 published            | with +incompatible                | example.com/lib    v2.0.0+incompatible - - -
+422 major-mismatch       | v1 with /v2                       | example.com/lib/v2 v1.1.0 - - -
+422 bad-time             | an offset                         | example.com/lib    v1.1.0 - - 2024-01-31T12:00:00+02:00
+422 bad-time             | fractions                         | example.com/lib    v1.1.0 - - 2024-01-31T12:00:00.5Z
+422 bad-time             | no such day                       | example.com/lib    v1.1.0 - - 2024-02-30T12:00:00Z
+201 published            | UTC                               | example.com/lib    v1.1.0 - - 2024-01-31T12:00:00Z
+422 time-mismatch        | another time than the version's   | example.com/lib    {PSEUDO} - - 2024-01-31T12:00:01Z
+201 published            | no time                           | example.com/lib    {PSEUDO} - - -
+422 bad-gomod 2          | a fault in line 2                 | example.com/lib    v1.2.0 module_example.com/lib;no_directive - -
+422 module-path          | the go.mod of a fork              | example.com/fork   v1.2.0 module_example.com/lib - -
+201 published            | the go.mod was changed            | example.com/fork   v1.2.0 - - -
+422 incompatible-gomod   | +incompatible and more            | example.com/lib    v3.0.0+incompatible module_example.com/lib;go_1.17 - -
+201 published            | the go.mod was cut                | example.com/lib    v3.0.0+incompatible - - -
+"""
+
+
+def publish_of(words):
+    """The request of a row of OUTCOMES."""
+    path, version, gomod, zipped, time, letter = [*words.split(), "A"][:6]
+    plain = path.replace("!l", "L")
+    text = f"module {plain}" if gomod == "-" else gomod.replace("_", " ").replace(";", "\n").replace("LARGE", "/" * 1_048_577)
+    return put(path, version, f"{text}\n".encode(), b"zip" if zipped == "-" else zipped.encode(), KEYS[letter], "" if time == "-" else time)
 
 
 class Refusals(Suite):
@@ -230,6 +278,24 @@ def extracts(suite):
     suite.wants("extract: G has a team", "not-empty", word("extract --db whole.db --team alpha --to part.db"))
 
 
+def outcomes(suite):
+    harness.new_store("o.db", *harness.SHELVES)
+    rows = [[it.strip() for it in line.split("|")] for line in OUTCOMES.splitlines()]
+    more = [
+        ("400 bad mod-length", "none", f"PUT /k/{KEY}/example.com/lib/@v/v1.2.0 HTTP/1.1\r\nContent-Length: 3\r\n\r\nzip"),
+        ("400 bad mod-length", "more than the body", f"PUT /k/{KEY}/example.com/lib/@v/v1.2.0 HTTP/1.1\r\nMod-Length: 4\r\nContent-Length: 3\r\n\r\nzip"),
+        ("400 bad request", "a chunked body", f"PUT /k/{KEY}/example.com/lib/@v/v1.2.0 HTTP/1.1\r\nTransfer-Encoding: chunked\r\n\r\n3\r\nzip\r\n0\r\n\r\n"),
+    ]
+    told = answered(["--db", "o.db"], [*(publish_of(words) for _, _, words in rows), *(text.encode() for _, _, text in more)])
+    for (wanted, cause, _), (status, body) in zip([*rows, *more], told, strict=True):
+        suite.equal(f"a publish, {wanted}: {cause}", f"{status} {body.decode().strip()}", wanted)
+    with open(os.path.join(ROOT, "docs", "REFERENCE.md"), encoding="utf-8") as page:
+        listed = re.findall(r"^\| (\d{3}) `([a-z -]+)(?: LINE)?` \|", page.read().partition("| outcome | cause |")[2], re.M)
+    made = {tuple(re.sub(r" \d+$", "", wanted).split(" ", 1)) for wanted, *_ in [*rows, *more]} - {("201", "published")}
+    # (tests/largest.py fills a shelf, and tests/refused_allocation.py makes memory run out)
+    suite.equal("the page lists these outcomes", set(listed), made | {("507", "full"), ("503", "unavailable")})
+
+
 def names(suite):
     new_store("n.db")
     for cause, team in (("an upper-case letter", "Alpha"), ("a digit first", "1team"), ("33 bytes", "a" * 33), ("common", "common")):
@@ -269,7 +335,7 @@ def main():
     suite = Refusals()
     with tempfile.TemporaryDirectory() as folder:
         os.chdir(folder)
-        for part in (device, rights, full_disk, bad_schema, numbers, files, extracts, names, memory):
+        for part in (device, rights, full_disk, bad_schema, numbers, files, outcomes, extracts, names, memory):
             part(suite)
         os.chdir("/")
     return suite.end()

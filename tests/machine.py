@@ -1,8 +1,8 @@
 """A machine in a folder, on which the commands and files of docs/OPERATING.md and deploy/ run as they are written.
 
 Their absolute names are put below the folder, and ports that are free in the place of 443 and 8080. The commands `goshelf`, `nginx`
-and `systemctl` stand on the path: the first is the built program, the second starts with the machine's configuration, and the third
-starts and stops the program on the machine's store.
+and `systemctl` stand in its /usr/local/bin: the first is the built program, the second starts with the machine's configuration, and the
+third starts and stops the program on the machine's store.
 """
 
 import os
@@ -79,7 +79,7 @@ class Machine:
 
     def __init__(self, folder):
         self.folder, self.front, self.behind = folder, free_port(), free_port()
-        for name in ("bin", "etc/nginx/conf.d", "etc/ssl", "var/lib/nginx", "var/log/nginx", "var/lib/goshelf", "var/backups", "usr/local/bin", "run", "root"):
+        for name in ("etc/nginx/conf.d", "etc/ssl", "var/lib/nginx", "var/log/nginx", "var/lib/goshelf", "var/backups", "usr/local/bin", "run", "root"):
             os.makedirs(f"{folder}/{name}")
         os.chmod(folder, 0o755)
         os.symlink(PROGRAM, f"{folder}/usr/local/bin/goshelf")
@@ -90,8 +90,8 @@ class Machine:
         self.store = f"{folder}/var/lib/goshelf/shelves.db"
 
     def command(self, name, text):
-        self.write(f"bin/{name}", text.replace("@/", f"{self.folder}/"))
-        os.chmod(f"{self.folder}/bin/{name}", 0o755)
+        self.write(f"usr/local/bin/{name}", text.replace("@/", f"{self.folder}/"))
+        os.chmod(f"{self.folder}/usr/local/bin/{name}", 0o755)
 
     def write(self, name, text):
         with open(f"{self.folder}/{name}", "w", encoding="utf-8") as file:
@@ -108,7 +108,7 @@ class Machine:
 
     def sh(self, script, **settings):
         """Runs a script that is written for a whole machine, in `root`. Returns its status, what it prints, and its errors."""
-        where = {"PATH": f"{self.folder}/bin:{self.folder}/usr/local/bin:{os.environ['PATH']}:/usr/sbin", "HOME": f"{self.folder}/root", **settings}
+        where = {"PATH": f"{self.folder}/usr/local/bin:{os.environ['PATH']}:/usr/sbin", "HOME": f"{self.folder}/root", **settings}
         ran = subprocess.run(["sh", "-euc", self.placed(script)], cwd=f"{self.folder}/root", env=where, capture_output=True, text=True,
                              stdin=subprocess.DEVNULL, timeout=120)
         return ran.returncode, ran.stdout, ran.stderr

@@ -48,6 +48,7 @@ def set_up(folder):
     assert told == ["201 published"] * len(PUBLISHED), told
     for script in ("goshelf-backup", "goshelf-watch"):
         machine.does(block("sh", f"install deploy/{script} ").splitlines()[0])
+    os.makedirs(f"{folder}/var/cache/nginx/goshelf/1/ab")
     machine.does("systemctl start goshelf")
     return machine
 
@@ -94,7 +95,9 @@ def backups(suite, machine):
     status, _, told = machine.sh("goshelf-backup")
     suite.holds("an empty copy is none", status != 0 and len(copies(machine)) == 14, (status, told))
     suite.holds("and goshelf runs all the same", runs(machine))
+    machine.write("var/cache/nginx/goshelf/1/ab/entry", "KEY: alpha /example.com/lib/@v/v1.9.0.zip\n")
     machine.does(block("sh", "chown --reference"), night=copies(machine)[-1])
+    suite.equal("the cache is empty after that", os.listdir(f"{machine.folder}/var/cache/nginx/goshelf/1/ab"), [])
     machine.does("systemctl stop goshelf")
     suite.equal("a restored store", asked(machine.store, "example.com/lib/@v/v1.1.0.zip", "example.com/lib/@v/list"), [(200, SECRET), (200, b"v1.0.0\nv1.1.0\nv1.2.0\n")])
     machine.does("systemctl start goshelf")
@@ -158,10 +161,10 @@ def watch(suite, machine):
     says("it was not restarted again", "")
     machine.command("ps", "#!/bin/sh\necho 900000\n")
     says("memory", "900000 KiB of memory")
-    os.remove(f"{machine.folder}/bin/ps")
+    os.remove(f"{machine.folder}/usr/local/bin/ps")
     machine.command("df", "#!/bin/sh\necho 'Use%'; echo ' 81%'\n")
     says("the disk", "full to 81 %")
-    os.remove(f"{machine.folder}/bin/df")
+    os.remove(f"{machine.folder}/usr/local/bin/df")
     for it in copies(machine):
         os.utime(f"{machine.folder}/var/backups/goshelf/{it}", (0, 0))
     says("backups", "no backup")
@@ -184,12 +187,9 @@ def upgrade(suite, machine):
 
 def leaked(suite, machine):
     """A version that is taken out is gone, from the store's bytes too, and nothing else is."""
-    cache = f"{machine.folder}/var/cache/nginx/goshelf"
-    os.makedirs(f"{cache}/1/ab")
-    with open(f"{cache}/1/ab/entry", "w", encoding="utf-8") as file:
-        file.write("KEY: alpha /example.com/lib/@v/v1.1.0.zip\n")
+    machine.write("var/cache/nginx/goshelf/1/ab/entry", "KEY: alpha /example.com/lib/@v/v1.1.0.zip\n")
     machine.does(block("sh", "secure_delete").replace("'P'", "'example.com/lib'").replace("'V'", "'v1.1.0'"))
-    suite.equal("the cache is empty", [names for _, _, names in os.walk(cache) if names], [])
+    suite.equal("the cache is empty", os.listdir(f"{machine.folder}/var/cache/nginx/goshelf/1/ab"), [])
     machine.does("systemctl stop goshelf")
     at = "example.com/lib/@v"
     found = asked(machine.store, f"{at}/v1.1.0.zip", f"{at}/v1.1.0.mod", f"{at}/list", f"{at}/v1.0.0.zip", f"{at}/v1.2.0.zip", "example.com/base/@v/v0.1.0.zip")

@@ -60,12 +60,12 @@ def main():
                 mib = os.path.getsize(file) / MIB
                 seconds, opened = answered(file, [])
                 _, fetched = answered(file, [zip_of(0)])
-                _, published = answered(file, [publish(count, LARGEST), get(0)])
                 plain, returned = held(file, {}), held(file, SETTING)
+                _, published = answered(file, [publish(count, LARGEST), get(0)])
                 print(
                     f"{count:,} versions with zips of {zip_length:,} bytes, {mib:,.0f} MiB: opened in {seconds:.2f} s with {opened:,.0f} MiB; "
                     f"{fetched:,.0f} MiB to fetch a zip, {published:,.0f} MiB to publish one of 16 MiB; "
-                    f"serve then holds {plain:,.0f} MiB, and {returned:,.0f} MiB as the unit starts it"
+                    f"serve holds {plain:,.0f} MiB, and {returned:,.0f} MiB as the unit starts it"
                 )
 
 

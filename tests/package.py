@@ -15,7 +15,7 @@ import tarfile
 import tempfile
 import time
 
-from harness import KEY, PROGRAM, ROOT, Suite, read
+from harness import KEY, PROGRAM, ROOT, Suite, read, write
 
 NEEDS = ["adduser", "curl", "dpkg-deb", "git", "ldd", "nsenter", "systemd-analyze", "unshare"]
 RELEASE = os.path.join(ROOT, "tools", "release")
@@ -26,6 +26,7 @@ WANTED = {"README.md", "docs/OPERATING.md", "docs/REFERENCE.md", "bench/RESULTS.
 SETTINGS = ["PATH=/usr/local/sbin:/usr/local/bin:/usr/sbin:/usr/bin:/sbin:/bin", "DEBIAN_FRONTEND=noninteractive", "LC_ALL=C", "HOME=/root"]
 # the rating of systemd-analyze below which the unit has to stay
 SAFE = 2.5
+UNPROVED = "this program was built unproved, with a sanitizer"
 AT = "example.com/lib/@v"
 LEFT = "/etc/default/goshelf /var/lib/goshelf: shelves.db shelves.db-wal"
 KEPT = "goshelf: kept /var/lib/goshelf and the user goshelf. A purge with GOSHELF_REMOVE_DATA=yes removes both.\n"
@@ -163,32 +164,59 @@ def unpacked(suite, tar, folder):
     return about
 
 
+def is_instrumented():
+    """Whether the program is one that `rt try` built, with a sanitizer. It needs more libraries."""
+    return b"AddressSanitizer" in read(PROGRAM)
+
+
 def needs(suite, about):
-    """The libraries of the program. One that `rt try` built has a sanitizer, which needs more."""
+    """The libraries of the program."""
     libraries, _, glibc = about["libraries"].partition(", of ")
     suite.holds(f"docs/OPERATING.md names {glibc}", glibc in read(os.path.join(ROOT, "docs", "OPERATING.md")).decode())
-    if b"AddressSanitizer" in read(PROGRAM):
-        suite.skip("the program needs the C library alone", "this program was built unproved, with a sanitizer")
+    if is_instrumented():
+        suite.skip("the program needs the C library alone", UNPROVED)
     else:
         suite.equal("the program needs the C library alone", libraries, "libc.so.6")
 
 
-def refusals(suite, folder):
-    """A release of what is not a commit, or of no program, is refused."""
-    clone = f"{folder}/clone"
+def gated(suite, folder):
+    """Without --program the gate and the suites decide. Here they are scripts, which print what the environment says."""
+    clone, path = f"{folder}/clone", f"{folder}/bin:{os.environ['PATH']}"
     subprocess.run(["git", "clone", "-q", ROOT, clone], check=True)
+    os.mkdir(f"{folder}/bin")
+    gate = f"mkdir -p crates/goshelf/out; cp {PROGRAM} crates/goshelf/out/goshelf; echo $GATE"
+    for at, text in ((f"{folder}/bin/rt", f"[ $1 = ci ] || exec echo a kit\n{gate}"), (f"{clone}/tests/all", "echo $SUITES")):
+        write({at: f"#!/bin/sh\n{text}\n"})
+        os.chmod(at, 0o755)
     shutil.copy2(RELEASE, f"{clone}/tools/release")
-    with open(f"{clone}/README.md", "a", encoding="utf-8") as file:
-        file.write("changed\n")
-    said = "tools/release: files differ from the commit: commit or remove them first\n"
-    for name, words, wanted in (
-        ("a changed file", [], (1, said)),
-        ("--program without a name", ["--program"], (1, "tools/release: --program needs a name\n")),
-        ("a program that does not exist", ["--program", "/none"], (1, "realpath: /none: No such file or directory\n")),
+
+    def release(*words, **settings):
+        env = {**os.environ, "PATH": path, "LC_ALL": "C", "GATE": "59 passed, 0 failed", "SUITES": "9 passed, 0 failed, 1 skipped", **settings}
+        ran = subprocess.run([f"{clone}/tools/release", *words], capture_output=True, text=True, timeout=300, env=env)
+        return ran.returncode, ran.stderr
+
+    differs = "files differ from the commit: commit or remove them first"
+    suite.equal("a release of changed files", release(), (1, f"tools/release: {differs}\n"))
+    user = ["-c", "user.name=release", "-c", "user.email=release@localhost"]
+    subprocess.run(["git", *user, "commit", "-qam", "scripts"], cwd=clone, check=True)
+    for name, words, settings, said in (
+        ("--program without a name", ["--program"], {}, "tools/release: --program needs a name\n"),
+        ("a program that does not exist", ["--program", "/none"], {}, "realpath: /none: No such file or directory\n"),
+        ("a gate that failed", [], {"GATE": "58 passed, 1 failed"}, "tools/release: no release: rt ci\n"),
+        ("a suite that failed", [], {"SUITES": "8 passed, 1 failed"}, "tools/release: no release: tests/all\n"),
+        ("a gate that says nothing", [], {"GATE": ""}, "tools/release: no release: rt ci\n"),
     ):
-        ran = subprocess.run([f"{clone}/tools/release", *words], capture_output=True, text=True, timeout=60, env={**os.environ, "LC_ALL": "C"})
-        suite.equal(f"{name} is refused", (ran.returncode, ran.stderr), wanted)
+        suite.equal(f"a release with {name}", release(*words, **settings), (1, said))
     suite.holds("a refused release writes nothing", not os.path.exists(f"{clone}/out"))
+    if is_instrumented():
+        suite.skip("a release of what passed", UNPROVED)
+        return
+    suite.equal("a release of what passed", release(), (0, ""))
+    tar = next(it for it in os.listdir(f"{clone}/out") if it.endswith(".tar.gz"))
+    with tarfile.open(f"{clone}/out/{tar}") as held:
+        about = lines_of(held.extractfile(f"{tar.removesuffix('.tar.gz')}/BUILD").read().decode())
+    found = about["kit"], about["gate"], about["suites"], about["version"].endswith("~ungated")
+    suite.equal("its BUILD", found, ("a kit", "59 passed, 0 failed", "9 passed, 0 failed, 1 skipped", False))
 
 
 def rated(suite):
@@ -357,7 +385,7 @@ def main():
     suite = Suite()
     with tempfile.TemporaryDirectory(prefix="goshelf-package-") as folder:
         rated(suite)
-        refusals(suite, folder)
+        gated(suite, folder)
         if made := released(suite, folder):
             about = unpacked(suite, made[0], folder)
             needs(suite, about)

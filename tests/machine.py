@@ -22,9 +22,10 @@ SYSTEMCTL = """\
 case $1 in
 show) cat "@/restarts" ;;
 start)
+    rm -f "@/serve.out"
     goshelf serve --db "@/var/lib/goshelf/shelves.db" --port PORT > "@/serve.out" 2> "@/serve.err" < /dev/null &
     echo $! > "@/serve.pid"
-    until grep -q '^listening on' "@/serve.out"; do kill -0 $! || exit 1; sleep 0.05; done ;;
+    until grep -qs '^listening on' "@/serve.out"; do kill -0 $! || exit 1; sleep 0.05; done ;;
 stop)
     kill "$(cat "@/serve.pid")"
     while kill -0 "$(cat "@/serve.pid")" 2> /dev/null; do sleep 0.02; done ;;

@@ -47,10 +47,10 @@ callers_are_told_alike old old_too new new_too s full purged is agree run again 
     events_are (told purged) ∙ ap (λ c. map event_in c) same ∙ sym (marked_events marks cs) ∙ ap (marked marks) (sym (events_are (told full))) in
     let alike : heard ≡ marked marks rs = second.told ∙ ap (replies old_too) events ∙ sym first.0 in (
       told_texts purged
-      ∙ ap (λ c. texts c heard) same
-      ∙ ap (texts (marked marks cs)) alike
-      ∙ sym (marked_texts marks cs rs)
-      ∙ ap (marked marks) (sym (told_texts full)),
+          ∙ ap (λ c. texts c heard) same
+          ∙ ap (texts (marked marks cs)) alike
+          ∙ sym (marked_texts marks cs rs)
+          ∙ ap (marked marks) (sym (told_texts full)),
       subst (λ w. Agree new w ss) (sym (second.ends ∙ ap (after_all old_too) events)) first.1,
     )
 

@@ -88,8 +88,8 @@ exchanges_alike old old_too new new_too s full purged is agree run again same ot
     let alike = purged_runs_agree old old_too new new_too s (map event_of full) (map answer_of full) (map answer_of purged) is agree run (kept_answered old (chain new s) full others)
     (subst (λ es. Run old_too es (map answer_of purged) new_too) events again) (all_replied purged none) in (
       texts_are purged
-      ∙ ap (λ ms. texts_for ms (map answer_of purged)) same
-      ∙ ap (texts_for (kept_messages old (chain new s) full)) (sym alike.0)
-      ∙ sym (marked_texts marks full),
+          ∙ ap (λ ms. texts_for ms (map answer_of purged)) same
+          ∙ ap (texts_for (kept_messages old (chain new s) full)) (sym alike.0)
+          ∙ sym (marked_texts marks full),
       alike.1,
     )

@@ -93,7 +93,7 @@ module _ {P : Type 0} (unread written : P → Option (List ℕ)) where
       few = omega (arith, length-append first.visits (next.visit ∷ []), first.few);
       came = subst (Come waiting rest) (sym (map-append peer_of first.visits (next.visit ∷ [])))
           (then_come waiting left rest (map peer_of first.visits) (next.visit.before ∷ []) first.came
-            (subst (λ p. Come left rest (p ∷ [])) (sym next.begins) comes));
+          (subst (λ p. Come left rest (p ∷ [])) (sym next.begins) comes));
       there = All-push (IsAnsweredThere unread written) first.visits next.visit first.there next.there;
       through = subst (GoesThrough old new before now) (sym (with_last first.visits next.visit))
           (through_more old mid new before between now (exchanges_with first.visits) first.through (exchanges_of next.visit.first) next.through);

@@ -34,12 +34,7 @@ pub fn serve_on<C: Clock, P: Peer + Drop, L: Listener<P>, S: Shelves>(
 }
 
 /// Answers one request of a peer, and ends its connection. What fails on it is told to nobody.
-fn answer_on<C: Clock, P: Peer, S: Shelves>(
-    alloc: Global,
-    clock: &C,
-    peer: &mut P,
-    shelves: &mut S,
-)
+fn answer_on<C: Clock, P: Peer, S: Shelves>(alloc: Global, clock: &C, peer: &mut P, shelves: &mut S)
     ensures { Answers P.unread P.written peer.old (S.shown shelves.old) (S.shown shelves.new) (S.failure_count shelves.old)
         (S.failure_count shelves.new) }
 {

@@ -14,7 +14,7 @@ ghost use Rattle.store.specs.Restart.{HoldsWorld};
 use crate::files::connect;
 use crate::refusal::Refusal;
 use crate::store::SqlShelves;
-use sqlite::{Connection, File, FileFrom, FileStore, MemStore, Start, Unknown};
+use sqlite::{Alter, Connection, File, FileFrom, FileStore, MemStore, Start, Unknown};
 use std::alloc::Global;
 use std::rt::HostRuntime;
 
@@ -36,6 +36,22 @@ impl SqlShelves<MemStore> {
             Ok(shelves) => Ok(shelves),
             Err((refusal, _)) => Err(refusal),
         }
+    }
+}
+
+impl<S: Alter> SqlShelves<S> {
+    /// Closes a store and gives its connection back, on which it does nothing: what was acknowledged stands in the files already.
+    /// A crate that drops a store has to prove the dropping of all its parts, so callers drop the connection instead.
+    pub fn close(self) -> Connection<S>
+        ensures untouched { result ≡ self.conn }
+    {
+        let SqlShelves {
+            conn,
+            kept: _,
+            failures: _,
+            alloc: _,
+        } = self;
+        conn
     }
 }
 
@@ -82,8 +98,4 @@ impl SqlShelves<FileStore<File>> {
     {
         SqlShelves::open_from(rt, path, Unknown)
     }
-
-    /// Lets the store of a file go. What was acknowledged stands in its files already, so that nothing is left to do or to fail.
-    /// A crate that drops a store has to prove the dropping of all its parts, so callers call this.
-    pub fn close(self) {}
 }

@@ -27,7 +27,7 @@ pub(crate) fn extract_file(rt: &HostRuntime, db: &str, team: &str, to: &str) -> 
         Err(unopened) => return Err(open_refusal(unopened)),
     };
     let told = extract_to(rt, db, &mut source, team, to);
-    source.close();
+    drop(source.close());
     told
 }
 
@@ -52,7 +52,7 @@ fn extract_to<S: Alter>(
         Err(unopened) => return Err(unmade(open_refusal(unopened))),
     };
     let told = extract_part(source, team, &mut fresh);
-    fresh.close();
+    drop(fresh.close());
     told
 }
 

@@ -142,6 +142,6 @@ fn on_file<I: Read, O: Write>(
         Err(unopened) => return Err(open_refusal(unopened)),
     };
     let told = work_on(rt, &mut shelves, work, input, output);
-    shelves.close();
+    drop(shelves.close());
     told
 }

@@ -40,18 +40,16 @@ fn find_tables<S: Alter>(alloc: Global, conn: &mut Connection<S>) -> Result<(), 
 
 /// Makes the tables where there are none.
 fn make_tables<S: Alter>(conn: &mut Connection<S>) -> Result<(), Refusal>
+    requires empty { (state S.Store conn.old).now.schema ≡ no_schema }
     ensures clean { doubt (state S.Store conn.old).is_clean ≤ doubt (state S.Store conn.new).is_clean }
     ensures refused { IfErr result IsOfOpening }
-    ensures opens { Honestly (state S.Store conn.old) (state S.Store conn.new) (λ old new.
-        old.now.schema ≡ no_schema → OnOk result (Opens old new)) }
+    ensures opens { Honestly (state S.Store conn.old) (state S.Store conn.new) (λ old new. OnOk result (Opens old new)) }
     ensures kept { Honestly (state S.Store conn.old) (state S.Store conn.new) (λ old new.
         IsTrue new.is_open → OnErr result (new.now ≡ old.now)) }
-    ensures left { Honestly (state S.Store conn.old) (state S.Store conn.new) (λ old new.
-        old.now.schema ≡ no_schema → LeavesFirst old new) }
+    ensures left { Honestly (state S.Store conn.old) (state S.Store conn.new) LeavesFirst }
     ensures failed { IfErr result (λ e. e ≢ Refusal.BadSchema) }
     ensures device { Honestly (state S.Store conn.old) (state S.Store conn.new) (λ old new.
-        old.now.schema ≡ no_schema → old.in_transaction ≡ false
-        → IfErr result (λ e. e ≡ Refusal.Device → IsHindered old new)) }
+        old.in_transaction ≡ false → IfErr result (λ e. e ≡ Refusal.Device → IsHindered old new)) }
 {
     match create(conn) {
         Ok(()) => Ok(()),

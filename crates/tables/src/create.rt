@@ -7,7 +7,7 @@ ghost use Rattle.sqlite_trees.specs.View.{doubt};
 ghost use Rattle.tables.specs.Means.{Holds, StandFor};
 ghost use Rattle.tables.specs.Made.{IsMade};
 ghost use Rattle.tables.specs.Schema.{no_schema};
-ghost use Rattle.tables.specs.Calls.{Honestly, HonestlyOver};
+ghost use Rattle.tables.specs.Calls.{Honestly};
 ghost use Rattle.tables.specs.Causes.{IsExcused};
 ghost use Rattle.world.specs.World.{only_common};
 
@@ -30,20 +30,21 @@ fn create_tables<S: Alter>(tx: &mut Transaction<'_, S>) -> Result<(), Error>
     )
 }
 
-/// Makes the tables, with the shelf `common` alone, in one transaction. A connection that is in a
+/// Makes the tables, with the shelf `common` alone, in one transaction, where there is no table. A connection that is in a
 /// transaction is refused.
 ///
 /// Where this fails the connection shows what it showed. An error outside a transaction tells that
 /// memory was wanted, that the connection is shut or limited in its steps, or that the disk failed.
 pub fn create<S: Alter>(conn: &mut Connection<S>) -> Result<(), Error>
+    requires empty { (state S.Store conn.old).now.schema ≡ no_schema }
     ensures clean { doubt (state S.Store conn.old).is_clean ≤ doubt (state S.Store conn.new).is_clean }
-    ensures made { HonestlyOver no_schema (state S.Store conn.old) (state S.Store conn.new) (λ _ new.
+    ensures made { Honestly (state S.Store conn.old) (state S.Store conn.new) (λ _ new.
         OnOk result (IsTrue new.is_open × Holds new only_common)) }
     ensures unmade { Honestly (state S.Store conn.old) (state S.Store conn.new) (λ old new.
         IsTrue new.is_open → OnErr result (new.now ≡ old.now)) }
-    ensures left { HonestlyOver no_schema (state S.Store conn.old) (state S.Store conn.new) (λ old new.
+    ensures left { Honestly (state S.Store conn.old) (state S.Store conn.new) (λ old new.
         (db : _) → new.may_leave db → old.may_leave db ⊎ StandFor db only_common) }
-    ensures cause { HonestlyOver no_schema (state S.Store conn.old) (state S.Store conn.new) (λ old new.
+    ensures cause { Honestly (state S.Store conn.old) (state S.Store conn.new) (λ old new.
         old.in_transaction ≡ false → IfErr result (IsExcused old new)) }
 {
     if !conn.is_autocommit() {

@@ -6,15 +6,15 @@ use Rattle.store.proofs.OpenLemmas.{begins_at, told_device}
 use Rattle.store.proofs.adopt.make_tables.Goals as goal
 
 pub returns-in-Ok-clause-opens : goal.returns-in-Ok-clause-opens
-returns-in-Ok-clause-opens g c clean none =
-    let h = c.in-Ok.ensures.made clean none in
+returns-in-Ok-clause-opens g c clean =
+    let h = c.in-Ok.ensures.made clean in
     record {
       is_open = h.0;
       world = only_common;
-      tables = inl (none, refl);
+      tables = inl (c.requires, refl);
       begins = begins_at (state g.S.Store c.args.conn.now) (state g.S.Store c.create.new.conn) (λ db shown may. g.met.S.Store.settled c.create.new.conn.store db shown may) h.0 clean only_common h.1 only_common_stands;
     }
 
 pub returns-in-Err-clause-device : goal.returns-in-Err-clause-device
-returns-in-Err-clause-device g c clean none outside =
-    told_device (state g.S.Store c.args.conn.now) (state g.S.Store c.create.new.conn) c.in-Err.error c.open_refusal.result c.open_refusal.ensures.memory (c.in-Err.ensures.cause clean none outside)
+returns-in-Err-clause-device g c clean outside =
+    told_device (state g.S.Store c.args.conn.now) (state g.S.Store c.create.new.conn) c.in-Err.error c.open_refusal.result c.open_refusal.ensures.memory (c.in-Err.ensures.cause clean outside)

@@ -30,6 +30,10 @@ fn find_tables<S: Alter>(alloc: Global, conn: &mut Connection<S>) -> Result<(), 
         old.now.schema ≢ no_schema → IfErr result (λ e. e ≡ Refusal.BadSchema → IsBad old.now)) }
     ensures device { Honestly (state S.Store conn.old) (state S.Store conn.new) (λ old new.
         IfErr result (λ e. e ≡ Refusal.Device → IsHindered old new ⊎ IsVast old.now)) }
+    ensures mode { Honestly (state S.Store conn.old) (state S.Store conn.new) (λ old new.
+        old.in_transaction ≡ false → new.in_transaction ≡ false) }
+    ensures limit { Honestly (state S.Store conn.old) (state S.Store conn.new) (λ old new.
+        new.step_limit ≡ old.step_limit) }
 {
     match stand_for_world(alloc, conn) {
         Ok(true) => Ok(()),
@@ -50,6 +54,8 @@ fn make_tables<S: Alter>(conn: &mut Connection<S>) -> Result<(), Refusal>
     ensures failed { IfErr result (λ e. e ≢ Refusal.BadSchema) }
     ensures device { Honestly (state S.Store conn.old) (state S.Store conn.new) (λ old new.
         old.in_transaction ≡ false → IfErr result (λ e. e ≡ Refusal.Device → IsHindered old new)) }
+    ensures mode { (state S.Store conn.new).in_transaction ≡ (state S.Store conn.old).in_transaction }
+    ensures limit { (state S.Store conn.new).step_limit ≡ (state S.Store conn.old).step_limit }
 {
     match create(conn) {
         Ok(()) => Ok(()),
@@ -72,6 +78,10 @@ pub(crate) fn open_tables<S: Alter>(alloc: Global, conn: &mut Connection<S>) -> 
         IfErr result (λ e. e ≡ Refusal.BadSchema → IsBad old.now)) }
     ensures device { Honestly (state S.Store conn.old) (state S.Store conn.new) (λ old new.
         IfErr result (λ e. e ≡ Refusal.Device → IsTrue old.in_transaction ⊎ (IsHindered old new ⊎ IsVast old.now))) }
+    ensures mode { Honestly (state S.Store conn.old) (state S.Store conn.new) (λ old new.
+        new.in_transaction ≡ old.in_transaction) }
+    ensures limit { Honestly (state S.Store conn.old) (state S.Store conn.new) (λ old new.
+        new.step_limit ≡ old.step_limit) }
 {
     if !conn.is_autocommit() {
         return Err(Refusal::Device);

@@ -249,6 +249,11 @@ impl<S: Alter> SqlShelves<S> {
         ensures crash { IfErr result (λ e. Honestly (state S.Store conn) (state S.Store e.1) LeavesFirst) }
         ensures bad { IfErr result (λ e. Honestly (state S.Store conn) (state S.Store e.1) (λ old _.
             e.0 ≡ Refusal.BadSchema → IsBad old.now)) }
+        // A refused connection comes back in no transaction unless it came in one, and its steps are limited as before.
+        ensures mode { IfErr result (λ e. Honestly (state S.Store conn) (state S.Store e.1) (λ old new.
+            new.in_transaction ≡ old.in_transaction)) }
+        ensures limit { IfErr result (λ e. Honestly (state S.Store conn) (state S.Store e.1) (λ old new.
+            new.step_limit ≡ old.step_limit)) }
         // `Device` has one of these causes.
         ensures device { IfErr result (λ e. Honestly (state S.Store conn) (state S.Store e.1) (λ old new.
             e.0 ≡ Refusal.Device → IsTrue old.in_transaction ⊎ (IsHindered old new ⊎ IsVast old.now))) }

@@ -46,6 +46,9 @@ pub fn create<S: Alter>(conn: &mut Connection<S>) -> Result<(), Error>
         (db : _) → new.may_leave db → old.may_leave db ⊎ StandFor db only_common) }
     ensures cause { Honestly (state S.Store conn.old) (state S.Store conn.new) (λ old new.
         old.in_transaction ≡ false → IfErr result (IsExcused old new)) }
+    // It comes back in the transaction that it was in, or in none, and its steps are limited as before.
+    ensures mode { (state S.Store conn.new).in_transaction ≡ (state S.Store conn.old).in_transaction }
+    ensures limit { (state S.Store conn.new).step_limit ≡ (state S.Store conn.old).step_limit }
 {
     if !conn.is_autocommit() {
         return Err(Error::SqliteFailure(ErrorCode::TransactionState));

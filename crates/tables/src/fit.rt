@@ -383,6 +383,11 @@ pub fn stand_for_world<S: Alter>(alloc: Global, conn: &mut Connection<S>) -> Res
         (db : _) → new.may_leave db → old.may_leave db) }
     ensures cause { Honestly (state S.Store conn.old) (state S.Store conn.new) (λ old new.
         IfErr result (HasReason old new)) }
+    // It comes back in no transaction if it was in none, and its steps are limited as before.
+    ensures mode { Honestly (state S.Store conn.old) (state S.Store conn.new) (λ old new.
+        old.in_transaction ≡ false → new.in_transaction ≡ false) }
+    ensures limit { Honestly (state S.Store conn.old) (state S.Store conn.new) (λ old new.
+        new.step_limit ≡ old.step_limit) }
 {
     if !is_store_schema(conn.schema()) {
         return Ok(false);

@@ -17,7 +17,7 @@ use Rattle.store.proofs.KeptLemmas.{nothing_kept}
 use Rattle.statements.specs.Rows.{Writing}
 use Rattle.statements.specs.Extract.{IsReady, Copies}
 use Rattle.statements.proofs.RowLemmas.{filling_of, writing_of}
-use Rattle.store.specs.Extracted.{MakesPart, is_written, IsRead, Tells, ExtractsAt, Extracts}
+use Rattle.store.specs.Extracted.{MakesPart, is_written, IsRead, IsUnfit, Tells, ExtractsAt, Extracts}
 use Rattle.store.specs.declared.extract_judge.Judged.{Judged}
 use Rattle.store.specs.declared.extract_judge.Judged.TheVariants as judged
 use Rattle.statements.specs.declared.extract_rows.CopyError.{CopyError}
@@ -33,6 +33,14 @@ no_team_is_not_fit e = cc
 
 pub not_empty_is_not_fit : judged.NotEmpty ≡ judged.Fit → ⊥
 not_empty_is_not_fit e = cc
+
+pub done_is_fit : IsUnfit (Ok tt) → ⊥
+done_is_fit (inl e) = cc
+done_is_fit (inr e) = cc
+
+pub fault_is_fit : (r : Refusal) → r ≢ refusal.NotEmpty → r ≢ refusal.NoTeam → IsUnfit (Err r) → ⊥
+fault_is_fit r some none (inl e) = let it : r ≡ refusal.NoTeam = cc in none it
+fault_is_fit r some none (inr e) = let it : r ≡ refusal.NotEmpty = cc in some it
 
 pub err_is_not_ok : {A E : Type 0} (r : Result A E) (x : A) → IsErr r → r ≡ Ok x → ⊥
 err_is_not_ok (Ok y) x h e = true≢false (sym h)
@@ -125,6 +133,11 @@ extracts_kept a a_new b b_new kept kept_new old new team r same none does = reco
     left = λ h w x y so. does.reads.left h w x y so.0;
   };
   honest = does.honest;
+  spares = λ unfit. let read = does.spares unfit in record {
+    honest = read.honest;
+    stays = λ h w so. (read.stays h w so.0, nothing_kept w new none);
+    left = λ h w x y so. read.left h w x y so.0;
+  };
   at = λ h good w x sw sx.
       let it = does.at h good w x sw.0 sx.0 in
       record {

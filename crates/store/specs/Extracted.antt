@@ -82,10 +82,16 @@ pub record ExtractsAt (old new : Shown) (w x : World) (team : List ℕ) (result 
   pub left : old.leaves x x → new.leaves x (part w team)
   pub kept : old.leaves x x → OnOk result (new.leaves (part w team) (part w team))
 
--- So it is in each two worlds that the source and the fresh store stood for, as far as no answer of a disk was wrong. The source is only read.
+-- there is no such team, or the fresh store has more than `common`
+abbrev pub IsUnfit : Result (Unit {0}) Refusal → Type 0
+IsUnfit result = (result ≡ Err refusal.NoTeam) ⊎ (result ≡ Err refusal.NotEmpty)
+
+-- So it is in each two worlds that the source and the fresh store stood for, as far as no answer of a disk was wrong. The source is only read, and so is a
+-- fresh store where the part is not to be put into it.
 pub record Extracts (source source_new fresh fresh_new : Shown) (team : List ℕ) (result : Result (Unit {0}) Refusal) : Type 0 where
   pub reads : IsRead source source_new
   pub honest : fresh_new.is_honest → fresh.is_honest
+  pub spares : IsUnfit result → IsRead fresh fresh_new
   pub at :
       source_new.is_honest → fresh_new.is_honest → (w x : World) → source.stands w → fresh.stands x
       → ExtractsAt fresh fresh_new w x team result

@@ -25,6 +25,7 @@ fn extract_part<S: Alter, F: Alter>(
 ) -> Result<Judged, CopyError>
     ensures reads { Spares (state S.Store source.old) (state S.Store source.new) }
     ensures clean { doubt (state F.Store fresh.old).is_clean ≤ doubt (state F.Store fresh.new).is_clean }
+    ensures spares { IfOk result (λ judged. judged ≢ Judged.Fit → Spares (state F.Store fresh.old) (state F.Store fresh.new)) }
     ensures verdict { InEachTwo (state S.Store source.old) (state S.Store source.new) (state F.Store fresh.old) (state F.Store fresh.new)
         (λ w x. IfOk result (IsJudged w x team.now)) }
     ensures changes { InEachTwo (state S.Store source.old) (state S.Store source.new) (state F.Store fresh.old) (state F.Store fresh.new)
@@ -55,7 +56,8 @@ impl<S: Alter> SqlShelves<S> {
     ///
     /// Fails with `NoTeam` if no team has the name (`common` is no team), otherwise with `NotEmpty` if
     /// the fresh store has another shelf, a key or an entry; with `Device` if a disk failed and with
-    /// `Memory` if memory ran out. Then both stores are as they were; the source always is.
+    /// `Memory` if memory ran out. Then both stores are as they were; the source always is. With the first two, a crash leaves
+    /// of the fresh store nothing that it did not leave before.
     pub fn extract<F: Alter>(
         &mut self,
         team: &str,

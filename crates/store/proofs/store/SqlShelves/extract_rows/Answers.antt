@@ -1,12 +1,13 @@
-use Rattle.std.proofs.Common.{Ok, Err, subst}
+use Rattle.std.proofs.Common.{◌≡◌, Ok, Err, sym, subst}
 use Rattle.sqlite.specs.Held.{state}
 use Rattle.world.specs.Part.{part}
 use Rattle.tables.proofs.FailureLemmas.{was_clean}
 use Rattle.statements.specs.Calls.{ChangesAt}
 use Rattle.store.specs.Extracted.{IsJudged, is_written}
 use Rattle.store.specs.declared.extract_judge.Judged.{Judged}
+use Rattle.store.specs.declared.extract_judge.Judged.TheVariants.{Fit}
 use Rattle.store.specs.declared.refusal.Refusal.TheVariants as refusal
-use Rattle.store.proofs.ExtractedLemmas.{is_read, extracts_at, fault_tells}
+use Rattle.store.proofs.ExtractedLemmas.{is_read, extracts_at, fault_tells, done_is_fit, fault_is_fit, no_team_is_not_fit, not_empty_is_not_fit}
 use Rattle.store.proofs.store.SqlShelves.extract_rows.Goals as goal
 
 pub returns-in-Ok-Fit-clause-extracts : goal.returns-in-Ok-Fit-clause-extracts
@@ -18,6 +19,7 @@ returns-in-Ok-Fit-clause-extracts g c =
     record {
       reads = is_read (state g.S.Store c.args.self.now.conn) (state g.S.Store c.extract_part.new.source) c.extract_part.ensures.reads;
       honest = was_clean fresh end c.extract_part.ensures.clean;
+      spares = λ unfit. absurd (done_is_fit unfit);
       at = λ clean good w x sw sx. extracts_at fresh end w x team (Ok tt) good sx sw.1
           (subst (λ (j : Judged). ChangesAt fresh end (is_written (Ok j)) x (part w team)) is (c.in-Ok-Fit.ensures.changes clean good w x sw sx))
           (subst (IsJudged w x team) is (c.in-Ok-Fit.ensures.verdict clean good w x sw sx));
@@ -32,6 +34,7 @@ returns-in-Ok-NoTeam-clause-extracts g c =
     record {
       reads = is_read (state g.S.Store c.args.self.now.conn) (state g.S.Store c.extract_part.new.source) c.extract_part.ensures.reads;
       honest = was_clean fresh end c.extract_part.ensures.clean;
+      spares = λ _. is_read fresh end (c.in-Ok-NoTeam.ensures.spares (subst (λ (j : Judged). j ≡ Fit → ⊥) (sym is) no_team_is_not_fit));
       at = λ clean good w x sw sx. extracts_at fresh end w x team (Err refusal.NoTeam) good sx sw.1
           (subst (λ (j : Judged). ChangesAt fresh end (is_written (Ok j)) x (part w team)) is (c.in-Ok-NoTeam.ensures.changes clean good w x sw sx))
           (subst (IsJudged w x team) is (c.in-Ok-NoTeam.ensures.verdict clean good w x sw sx));
@@ -46,6 +49,7 @@ returns-in-Ok-NotEmpty-clause-extracts g c =
     record {
       reads = is_read (state g.S.Store c.args.self.now.conn) (state g.S.Store c.extract_part.new.source) c.extract_part.ensures.reads;
       honest = was_clean fresh end c.extract_part.ensures.clean;
+      spares = λ _. is_read fresh end (c.in-Ok-NotEmpty.ensures.spares (subst (λ (j : Judged). j ≡ Fit → ⊥) (sym is) not_empty_is_not_fit));
       at = λ clean good w x sw sx. extracts_at fresh end w x team (Err refusal.NotEmpty) good sx sw.1
           (subst (λ (j : Judged). ChangesAt fresh end (is_written (Ok j)) x (part w team)) is (c.in-Ok-NotEmpty.ensures.changes clean good w x sw sx))
           (subst (IsJudged w x team) is (c.in-Ok-NotEmpty.ensures.verdict clean good w x sw sx));
@@ -60,6 +64,7 @@ returns-in-Err-Source-clause-extracts g c =
     record {
       reads = is_read (state g.S.Store c.args.self.now.conn) (state g.S.Store c.extract_part.new.source) c.extract_part.ensures.reads;
       honest = was_clean fresh end c.extract_part.ensures.clean;
+      spares = λ unfit. absurd (fault_is_fit c.told_as.result named.1 named.2 unfit);
       at = λ clean good w x sw sx. extracts_at fresh end w x team (Err c.told_as.result) good sx sw.1 (c.in-Err-Source.ensures.changes clean good w x sw sx)
           (fault_tells w x team c.told_as.result named.0 named.1 named.2);
     }
@@ -73,6 +78,7 @@ returns-in-Err-Fresh-clause-extracts g c =
     record {
       reads = is_read (state g.S.Store c.args.self.now.conn) (state g.S.Store c.extract_part.new.source) c.extract_part.ensures.reads;
       honest = was_clean fresh end c.extract_part.ensures.clean;
+      spares = λ unfit. absurd (fault_is_fit c.told_as-in-Err-Fresh.result named.1 named.2 unfit);
       at = λ clean good w x sw sx. extracts_at fresh end w x team (Err c.told_as-in-Err-Fresh.result) good sx sw.1 (c.in-Err-Fresh.ensures.changes clean good w x sw sx)
           (fault_tells w x team c.told_as-in-Err-Fresh.result named.0 named.1 named.2);
     }

@@ -1,10 +1,16 @@
 -- Tables that are opened.
 use Rattle.std.proofs.Common.{◌≡◌, ◌⊎◌, refl, sym, ap, subst, ◌∙◌, inl, inr, IsTrue, true≢false, arith}
-use Rattle.std.specs.Prelude.{IsSome, List, [], ◌∷◌}
+use Rattle.std.specs.Prelude.{Option, Some, None, IsSome, IsSomeAnd, List, [], ◌∷◌}
 use Rattle.std.specs.List.{AllZip}
 use Rattle.sqlite.specs.Order.{Row}
 use Rattle.sqlite_wal.specs.Recovery.{Image}
+use Rattle.sqlite_disk.specs.declared.Disk.{Ghosts}
+use Rattle.sqlite.specs.declared.file.Leftover.{Leftover}
+use Rattle.sqlite.specs.Files.{IsNothing as HoldsNothing, IsCleanLeft}
 use Rattle.sqlite.specs.Start.{FindsIn}
+use Rattle.sqlite.proofs.ListingLemmas.{empty_is_sound}
+use Rattle.sqlite_catalog.proofs.ReadLemmas.{lists_once}
+use Rattle.sqlite_trees.specs.Objects.{catalog_tree}
 use Rattle.sqlite_catalog.specs.Listing.{IsSound, IsTableRow}
 use Rattle.sqlite.specs.Tree.{Trees}
 use Rattle.sqlite.specs.Effect.{Database}
@@ -18,8 +24,9 @@ use Rattle.store.specs.declared.kept.Kept.{Kept}
 use Rattle.store.specs.Kept.{IsNothing}
 use Rattle.store.proofs.KeptLemmas.{nothing_kept}
 use Rattle.tables.specs.Causes.{IsHindered, IsExcused, IsVast, HasReason}
-use Rattle.store.specs.Opened.{Opens, IsOfOpening}
-use Rattle.store.specs.Restart.{HoldsWorld}
+use Rattle.store.specs.Opened.{Opens, IsBad, IsOfOpening}
+use Rattle.store.specs.Restart.{HoldsWorld, HoldsStore, HoldsNoStore, HoldsNoDatabase}
+use Rattle.store.proofs.FileLemmas.{finds_empty}
 use Rattle.tables.proofs.OneWorld.{stand_for_one}
 use Rattle.store.specs.declared.refusal.Refusal.{Refusal}
 use Rattle.store.specs.declared.refusal.Refusal.TheVariants as refusal
@@ -80,6 +87,40 @@ begins_found old new image live opened settled finds it w held =
       | inl first ↦ absurd (unlisted old.now.trees (subst (λ s. IsSound s old.now.trees) first.0 (live opened).0) stand.sound)
       | inr found ↦ subst (BeginsAt (shown_of new)) (stand_for_one old.now.trees it.world w found.means stand.means) it.begins
     ]
+
+-- and where they have no database yet, with `common` alone
+begins_blank : (old new : State) (image : Image) → IsLive old → IsTrue old.is_open → old.now ≡ old.committed → FindsIn image old → Opens old new → HoldsNothing image → BeginsAt (shown_of new) only_common
+begins_blank old new image live opened settled finds it nothing =
+    let empty = finds_empty image old.committed.trees nothing finds.reads in
+    let none : old.now.trees catalog_tree ≡ [] = ap (λ (d : Database). d.trees catalog_tree) settled ∙ empty.1 in
+    elim it.tables [
+      | inl first ↦ subst (BeginsAt (shown_of new)) first.1 it.begins
+      | inr found ↦ absurd (unlisted old.now.trees (empty_is_sound old.now.trees none) (subst (λ s. IsSound s old.now.trees) found.schema (live opened).0))
+    ]
+
+pub begins_store : (old new : State) (image : Image) → IsLive old → IsTrue old.is_open → old.now ≡ old.committed → FindsIn image old → Opens old new → (w : World) → HoldsStore image w → BeginsAt (shown_of new) w
+begins_store old new image live opened settled finds it w (inl held) = begins_found old new image live opened settled finds it w held
+begins_store old new image live opened settled finds it w (inr blank) =
+    subst (BeginsAt (shown_of new)) (sym blank.1) (begins_blank old new image live opened settled finds it blank.0)
+
+-- no store begins over files whose tables are bad
+pub bad_is_no_store : (old : State) (image : Image) → IsLive old → IsTrue old.is_open → old.now ≡ old.committed → FindsIn image old → IsBad old.now → HoldsNoStore image
+bad_is_no_store old image live opened settled finds bad w is (inl held) =
+    let trees : old.now.trees ≡ held.0 = ap (λ (d : Database). d.trees) settled ∙ finds.holds held.0 held.1 in
+    let stand : StandFor old.now.trees w = subst (λ db. StandFor db w) (sym trees) held.2 in
+    bad.none (lists_once _ old.now.schema store_schema (live opened).0.lists stand.sound.lists) w stand.means is
+bad_is_no_store old image live opened settled finds bad w is (inr blank) =
+    let empty = finds_empty image old.committed.trees blank.0 finds.reads in
+    let none : old.now.trees catalog_tree ≡ [] = ap (λ (d : Database). d.trees catalog_tree) settled ∙ empty.1 in
+    bad.some (lists_once _ old.now.schema no_schema (live opened).0.lists (empty_is_sound old.now.trees none).lists)
+
+no_database_is_no_store : (image : Image) → HoldsNoDatabase image → HoldsNoStore image
+no_database_is_no_store image none w is (inl held) = none (inl (held.0, held.1))
+no_database_is_no_store image none w is (inr blank) = none (inr blank.0)
+
+pub left_of_no_store : {D : Type 0} {g : Ghosts D} (image : Image) (left : Option (Leftover D g)) → IsSomeAnd left (λ it. IsCleanLeft it → HoldsNoDatabase image) → IsSomeAnd left (λ it. IsCleanLeft it → HoldsNoStore image)
+left_of_no_store image None none = absurd none
+left_of_no_store image (Some it) none = λ clean. no_database_is_no_store image (none clean)
 
 -- nothing is kept where it begins
 pub begins_empty : (s : State) (kept : Kept) (w : World) → IsNothing kept → BeginsAt (shown_of s) w → BeginsAt (shown_with s kept) w

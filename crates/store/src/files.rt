@@ -1,16 +1,19 @@
 //! The files of a store that are opened, with room in memory for the pages of a zip.
 
-ghost use Rattle.std.specs.Prelude.{◌≡◌, ◌⊎◌, Err, codes, IfOk, IfErr};
-ghost use Rattle.sqlite.specs.Files.{file_state, IsOpened};
+ghost use Rattle.std.specs.Prelude.{◌≡◌, ◌⊎◌, ◌↔◌, false, codes, IfOk, IfErr, IsErrAnd, IsSomeAnd, IsTrue};
+ghost use Rattle.sqlite.specs.Files.{file_state, image_of, IsOpened, IsCleanLeft, Finds};
 ghost use Rattle.sqlite.specs.Start.{FindsIn};
 ghost use Rattle.sqlite.specs.State.{HasCleanDisk};
 ghost use Rattle.sqlite_wal.specs.Files.{image_at};
 ghost use Rattle.store.specs.Opened.{IsOfOpening};
+ghost use Rattle.store.specs.Restart.{HoldsNoDatabase};
 
 use crate::refusal::Refusal;
-use sqlite::{Connection, Error, ErrorCode, FileFrom, FileStore, Start};
+use sqlite::{Connection, Error, ErrorCode, FileFrom, FileStore, Files, Leftover, Start};
+use sqlite_disk::Disk;
 use sqlite_pager::Options;
 use sqlite_std_file::OpenError;
+use std::alloc::Global;
 use std::hash::{BuildHasher, RandomState};
 use std::io::ErrorKind;
 
@@ -22,36 +25,65 @@ const KEPT_PAGES: usize = 8_192;
 /// A connection to the files at a path, which are made where there are none. `:memory:` and a URI name none.
 ///
 /// It is refused as `BadSchema` where the files hold no database, as `Memory` where memory was wanted, and as `Device`
-/// where the disk failed, another process has them open, or the system or the name does not let them be opened.
+/// where the disk failed, another process has them open, or the system or the name does not let them be opened. The files
+/// then come back, where they were opened.
 /// It opens both files itself, because the kit's call for a path takes no number of pages. No statement asks for the
 /// time, so it passes no clock.
 pub(crate) fn connect<T: Start>(
     rt: &HostRuntime,
     path: &str,
     start: T,
-) -> Result<Connection<FileStore<FileFrom<T>>>, Refusal>
-    ensures memory { path.now ≡ codes ":memory:" → result ≡ Err Refusal.Device }
+) -> Result<Connection<FileStore<FileFrom<T>>>, (Refusal, Option<Leftover<FileFrom<T>>>)>
+    ensures memory { path.now ≡ codes ":memory:" → IsErrAnd result (λ e. e.0 ≡ Refusal.Device) }
     ensures opened { IfOk result (λ c. HasCleanDisk (file_state c) → IsOpened c) }
     ensures found { IfOk result (λ c. HasCleanDisk (file_state c) → FindsIn (image_at T.Start) (file_state c)) }
-    ensures refused { IfErr result IsOfOpening }
+    ensures refused { IfErr result (λ e. IsOfOpening e.0) }
+    ensures bad { IfErr result (λ e. e.0 ≡ Refusal.BadSchema
+        → IsSomeAnd e.1 (λ left. IsCleanLeft left → HoldsNoDatabase (image_at T.Start))) }
 {
     if path == ":memory:" || path.starts_with("file:") {
-        return Err(Refusal::Device);
+        return Err((Refusal::Device, None));
     }
     let files = match sqlite_std_file::open(rt, path, start) {
         Ok(files) => files,
-        Err(error) => return Err(path_refusal(error)),
+        Err(error) => return Err((path_refusal(error), None)),
     };
     let Ok(state) = RandomState::new(rt) else {
-        return Err(Refusal::Device);
+        return Err((Refusal::Device, None));
     };
     let options = Options {
         cache_pages: KEPT_PAGES,
         ..Options::new(state.hash_one(&0u8))
     };
-    match Connection::open_files_with(rt.alloc(), files, options, false) {
+    match connect_files(rt.alloc(), files, options) {
         Ok(conn) => Ok(conn),
-        Err((error, _)) => Err(file_refusal(error)),
+        Err((refusal, left)) => Err((refusal, Some(left))),
+    }
+}
+
+/// A connection to two files. A read that fails the test of its digest is a failure of the disk, and no sign of what the
+/// files hold.
+fn connect_files<D: Disk + Drop>(
+    alloc: Global,
+    files: Files<D>,
+    options: Options,
+) -> Result<Connection<FileStore<D>>, (Refusal, Leftover<D>)>
+    requires log { IsTrue (D.Disk.is_usable files.log) }
+    requires db { IsTrue (D.Disk.is_usable files.db) }
+    ensures opened { IfOk result (λ c. HasCleanDisk (file_state c) → IsOpened c) }
+    ensures found { IfOk result (λ c. HasCleanDisk (file_state c) → Finds files c) }
+    ensures refused { IfErr result (λ e. IsOfOpening e.0) }
+    ensures bad { IfErr result (λ e. e.0 ≡ Refusal.BadSchema
+        → IsCleanLeft e.1 → HoldsNoDatabase (image_of D.Disk files)) }
+{
+    let caught = files.tally().caught;
+    match Connection::open_files_with(alloc, files, options, false) {
+        Ok(conn) => Ok(conn),
+        Err((error, left)) => {
+            let files = left.into_files();
+            let refusal = file_refusal(error, files.tally().caught != caught);
+            Err((refusal, Leftover::Files(files)))
+        }
     }
 }
 
@@ -68,17 +100,21 @@ fn path_refusal(error: OpenError) -> Refusal
     }
 }
 
-/// The refusal for opened files that cannot be read: `BadSchema` if they hold no database or a damaged one, `Memory`
-/// without memory, and otherwise `Device`.
-fn file_refusal(error: Error) -> Refusal
-    ensures no_database { error ≡ Error.SqliteFailure ErrorCode.NotADatabase → result ≡ Refusal.BadSchema }
-    ensures damaged { error ≡ Error.SqliteFailure ErrorCode.DatabaseCorrupt → result ≡ Refusal.BadSchema }
+/// The refusal for opened files that cannot be read: `BadSchema` if they hold no database or a damaged one and each read
+/// passed the test of its digest, `Memory` without memory, and otherwise `Device`.
+fn file_refusal(error: Error, is_caught: bool) -> Refusal
+    ensures bad { result ≡ Refusal.BadSchema
+        ↔ ((is_caught ≡ false) × ((error ≡ Error.SqliteFailure ErrorCode.NotADatabase) ⊎ (error ≡ Error.SqliteFailure ErrorCode.DatabaseCorrupt))) }
     ensures memory { error ≡ Error.SqliteFailure ErrorCode.OutOfMemory → result ≡ Refusal.Memory }
     ensures opening { IsOfOpening result }
 {
     match error {
         Error::SqliteFailure(ErrorCode::NotADatabase | ErrorCode::DatabaseCorrupt) => {
-            Refusal::BadSchema
+            if is_caught {
+                Refusal::Device
+            } else {
+                Refusal::BadSchema
+            }
         }
         Error::SqliteFailure(ErrorCode::OutOfMemory) => Refusal::Memory,
         _ => Refusal::Device,

@@ -1,20 +1,20 @@
 //! Stores that are opened.
 
-ghost use Rattle.std.specs.Prelude.{◌≡◌, Err, codes, IfOk, IfErr};
+ghost use Rattle.std.specs.Prelude.{◌≡◌, Err, codes, IfOk, IfErr, IsErrAnd, IsSomeAnd};
 ghost use Rattle.sqlite.specs.Held.{state};
-ghost use Rattle.sqlite.specs.Files.{file_state};
+ghost use Rattle.sqlite.specs.Files.{file_state, IsCleanLeft};
 ghost use Rattle.sqlite.specs.State.{HasCleanDisk};
 ghost use Rattle.sqlite.specs.Steps.{over_memory};
 ghost use Rattle.sqlite_wal.specs.Files.{image_at};
 ghost use Rattle.world.specs.World.{only_common};
 ghost use Rattle.store.specs.Shown.{shown_with, BeginsAt};
 ghost use Rattle.store.specs.Opened.{IsOfOpening};
-ghost use Rattle.store.specs.Restart.{HoldsWorld};
+ghost use Rattle.store.specs.Restart.{HoldsStore, HoldsNoStore};
 
 use crate::files::connect;
 use crate::refusal::Refusal;
 use crate::store::SqlShelves;
-use sqlite::{Alter, Connection, File, FileFrom, FileStore, MemStore, Start, Unknown};
+use sqlite::{Alter, Connection, File, FileFrom, FileStore, Leftover, MemStore, Start, Unknown};
 use std::alloc::Global;
 use std::rt::HostRuntime;
 
@@ -62,25 +62,29 @@ impl<T: Start> SqlShelves<FileStore<FileFrom<T>>> {
     ///
     /// It is refused as `BadSchema` where the files hold no database, other tables, or tables that
     /// stand for no world; as `Memory` where memory was wanted; and as `Device` where the disk failed,
-    /// or the system or the name does not let the files be opened. Files that are no store stay as they are (tested); where the disk
+    /// or the system or the name does not let the files be opened. The files then come back, where they were opened.
+    /// Files that are no store stay as they are (tested); where the disk
     /// failed or memory was wanted, those that were empty may hold the made tables, and a log may be left beside them.
     pub fn open_from(
         rt: &HostRuntime,
         path: &str,
         start: T,
-    ) -> Result<SqlShelves<FileStore<FileFrom<T>>>, Refusal>
-        ensures memory { path.now ≡ codes ":memory:" → result ≡ Err Refusal.Device }
+    ) -> Result<SqlShelves<FileStore<FileFrom<T>>>, (Refusal, Option<Leftover<FileFrom<T>>>)>
+        ensures memory { path.now ≡ codes ":memory:" → IsErrAnd result (λ e. e.0 ≡ Refusal.Device) }
         ensures begins { IfOk result (λ s. HasCleanDisk (file_state s.conn)
             → (w : _) × BeginsAt (shown_with (file_state s.conn) s.kept) w) }
         ensures found { IfOk result (λ s. HasCleanDisk (file_state s.conn) → (w : _)
-            → HoldsWorld (image_at T.Start) w → BeginsAt (shown_with (file_state s.conn) s.kept) w) }
-        ensures refused { IfErr result IsOfOpening }
+            → HoldsStore (image_at T.Start) w → BeginsAt (shown_with (file_state s.conn) s.kept) w) }
+        ensures refused { IfErr result (λ e. IsOfOpening e.0) }
+        // `BadSchema` tells that the files hold no store, as far as no answer of the disk was wrong.
+        ensures bad { IfErr result (λ e. e.0 ≡ Refusal.BadSchema
+            → IsSomeAnd e.1 (λ left. IsCleanLeft left → HoldsNoStore (image_at T.Start))) }
         ensures none_failed { IfOk result (λ s. s.failures ≡ 0) }
     {
         let conn = connect(rt, path, start)?;
         match SqlShelves::adopt(rt.alloc(), conn) {
             Ok(shelves) => Ok(shelves),
-            Err((refusal, _)) => Err(refusal),
+            Err((refusal, conn)) => Err((refusal, Some(Leftover::Store(conn.into_store())))),
         }
     }
 }
@@ -96,6 +100,9 @@ impl SqlShelves<FileStore<File>> {
         ensures refused { IfErr result IsOfOpening }
         ensures none_failed { IfOk result (λ s. s.failures ≡ 0) }
     {
-        SqlShelves::open_from(rt, path, Unknown)
+        match SqlShelves::open_from(rt, path, Unknown) {
+            Ok(shelves) => Ok(shelves),
+            Err((refusal, _)) => Err(refusal),
+        }
     }
 }

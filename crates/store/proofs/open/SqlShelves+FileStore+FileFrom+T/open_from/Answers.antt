@@ -1,6 +1,10 @@
+use Rattle.std.proofs.Common.{arith}
+use Rattle.std.proofs.lemmas.Result.{err_from_is_err_and}
+use Rattle.sqlite_trees.proofs.Doubt.{no_doubt}
 use Rattle.sqlite.specs.Files.{file_state}
+use Rattle.sqlite.specs.State.{HasCleanDisk}
 use Rattle.tables.proofs.FailureLemmas.{was_clean}
-use Rattle.store.proofs.OpenLemmas.{begins_found, begins_empty}
+use Rattle.store.proofs.OpenLemmas.{begins_store, begins_empty, bad_is_no_store, left_of_no_store}
 use Rattle.store.proofs.open.SqlShelves+FileStore+FileFrom+T.open_from.Goals as goal
 
 pub returns-in-Ok-clause-begins : goal.returns-in-Ok-clause-begins
@@ -15,4 +19,17 @@ returns-in-Ok-clause-found g c clean w held =
     let was = was_clean old new c.in-Ok.ensures.clean clean in
     let opened = c.in_ok-conn.ensures.opened was in
     begins_empty new c.in-Ok.shelves.kept w c.in-Ok.ensures.none_kept
-    (begins_found old new _ opened.1 opened.0.is_open opened.0.clean (c.in_ok-conn.ensures.found was) (c.in-Ok.ensures.opens clean) w held)
+    (begins_store old new _ opened.1 opened.0.is_open opened.0.clean (c.in_ok-conn.ensures.found was) (c.in-Ok.ensures.opens clean) w held)
+
+pub returns-in-Err-clause-bad : goal.returns-in-Err-clause-bad
+returns-in-Err-clause-bad g c bad clean =
+    let old = file_state c.in_ok-conn.conn in
+    let here : HasCleanDisk (file_state c.in-Err.conn) = omega (arith, c.into_store.ensures.quiet.clean, no_doubt _ clean) in
+    let was = was_clean old (file_state c.in-Err.conn) c.in-Err.ensures.was_clean here in
+    let opened = c.in_ok-conn.ensures.opened was in
+    bad_is_no_store old _ opened.1 opened.0.is_open opened.0.clean (c.in_ok-conn.ensures.found was) (c.in-Err.ensures.bad here bad)
+
+pub returns-in_err-conn-clause-bad : goal.returns-in_err-conn-clause-bad
+returns-in_err-conn-clause-bad g c =
+    let p = err_from_is_err_and c.from_residual.result c.from_residual.ensures.1 in
+    rw (p.1, p.2) (λ bad. left_of_no_store _ _ (c.in_err-conn.ensures.bad bad))

@@ -1,5 +1,6 @@
 //! What does the tasks of a run.
 use commands::refusal::Refusal;
+use sqlite::{Start, Unknown};
 use std::io::{Read, Write};
 use std::rt::HostRuntime;
 use store::open::FileShelves;
@@ -24,6 +25,9 @@ pub trait Performer {
             result task.now };
 }
 
+/// The store of files as they are found: nothing here names what they held.
+pub type Found = FileShelves<Unknown>;
+
 /// The files of the system.
 #[derive(Clone, Copy, Drop)]
 pub struct SystemStores<'a> {
@@ -31,9 +35,12 @@ pub struct SystemStores<'a> {
 }
 
 impl<'a> Performer for SystemStores<'a> {
+    ghost use Rattle.sqlite_wal.specs.Files.{image_at};
     ghost use Rattle.tasks.specs.Task.{Performs};
 
-    ghost performed = { λ _ _. Performs ⟦<FileShelves as Shelves>⟧.shown ⟦<FileShelves as Shelves>⟧.failure_count };
+    ghost performed = { λ _ _.
+        Performs ⟦<Found as Shelves>⟧.shown ⟦<Found as Shelves>⟧.failure_count (image_at ⟦<Unknown as Start>⟧)
+        ⟦<Found as Shelves>⟧.shown ⟦<Found as Shelves>⟧.failure_count (image_at ⟦<Unknown as Start>⟧) };
 
     fn perform<I: Read, O: Write>(
         &mut self,
@@ -41,6 +48,6 @@ impl<'a> Performer for SystemStores<'a> {
         input: &mut I,
         output: &mut O,
     ) -> Result<bool, Refusal> {
-        perform(self.rt, task, input, output)
+        perform(self.rt, task, Unknown, Unknown, input, output)
     }
 }

@@ -1,5 +1,6 @@
 -- What an extract from the store of one file into that of another does.
 use Rattle.std.specs.Prelude.{ℕ, List, ◌≡◌, ◌⊎◌, Result, Ok, Err}
+use Rattle.sqlite_wal.specs.Recovery.{Image}
 use Rattle.world.specs.Store.{Shown}
 use Rattle.store.specs.Extracted.{Extracts, HasCauseInEither}
 use Rattle.store.specs.declared.refusal.Refusal.{Refusal as Unopened}
@@ -20,11 +21,11 @@ module _ {S F : Type 0} (shown : S → Shown) (failures : S → ℕ) (shown_too 
     pub cause : HasCauseInEither (failures source) (failures source_new) (failures_too fresh) (failures_too fresh_new) told
     pub ends : result ≡ extracted told
 
-  -- the store of a file was opened, and the part was put into it or was not
-  pub record FillsOpened (team : List ℕ) (result : Result (Unit {0}) Refusal) : Type 0 where
+  -- the store of files that held this was opened, and the part was put into it or was not
+  pub record FillsOpened (held : Image) (team : List ℕ) (result : Result (Unit {0}) Refusal) : Type 0 where
     pub fresh : F
     pub fresh_new : F
-    pub begins : HasBegun shown_too failures_too fresh
+    pub begins : HasBegun shown_too failures_too held fresh
     pub extracts : ExtractsPart fresh fresh_new team result
 
   -- nothing was done with the source: the file is its own, or its store was not opened, and why is told
@@ -32,16 +33,17 @@ module _ {S F : Type 0} (shown : S → Shown) (failures : S → ℕ) (shown_too 
     pub same : source_new ≡ source
     pub tells : (result ≡ Err NotEmpty) ⊎ ((why : Unopened) × (result ≡ Err (unmade (unopened why))))
 
-  abbrev pub Fills : List ℕ → Result (Unit {0}) Refusal → Type 0
-  Fills team result = FillsOpened team result ⊎ FillsNone result
+  abbrev pub Fills : Image → List ℕ → Result (Unit {0}) Refusal → Type 0
+  Fills held team result = FillsOpened held team result ⊎ FillsNone result
 
-module _ {S : Type 0} (shown : S → Shown) (failures : S → ℕ) (team : List ℕ) where
+module _ {S F : Type 0} (shown : S → Shown) (failures : S → ℕ) (held : Image) (shown_too : F → Shown) (failures_too : F → ℕ) (held_too : Image)
+    (team : List ℕ) where
   -- the store of one file was opened, and a team's part of it was put into that of another, or was not
   pub record ExtractsOpened (result : Result (Unit {0}) Refusal) : Type 0 where
     pub source : S
     pub source_new : S
-    pub begins : HasBegun shown failures source
-    pub fills : Fills shown failures shown failures source source_new team result
+    pub begins : HasBegun shown failures held source
+    pub fills : Fills shown failures shown_too failures_too source source_new held_too team result
 
   -- so it was; or both are one file without bytes, or the store of the first was not opened, and why is told
   abbrev pub ExtractsFile : Result (Unit {0}) Refusal → Type 0

@@ -1,8 +1,10 @@
 -- A store that is opened, and why a command is refused whose store is not.
 use Rattle.std.specs.Prelude.{ℕ, ◌≡◌}
+use Rattle.sqlite_wal.specs.Recovery.{Image}
 use Rattle.world.specs.Store.{Shown}
 use Rattle.world.specs.World.{World}
 use Rattle.store.specs.Shown.{BeginsAt}
+use Rattle.store.specs.Restart.{HoldsStore}
 use Rattle.store.specs.declared.refusal.Refusal.{Refusal as Unopened}
 use Rattle.store.specs.declared.refusal.Refusal.TheVariants as store
 use Rattle.commands.specs.declared.refusal.Refusal.{Refusal}
@@ -21,7 +23,9 @@ abbrev pub unmade : Refusal → Refusal
 unmade refusal.BadSchema = refusal.NotEmpty
 unmade other = other
 
--- a store that was just opened: as far as its disk was honest it stands for a world, and a crash leaves that world alone
-pub record HasBegun {S : Type 0} (shown : S → Shown) (failures : S → ℕ) (store : S) : Type 0 where
+-- A store that was just opened over files that held this. As far as its disk was honest, it stands for a world, and a crash leaves that world
+-- alone; where the files held a store's world, or no database yet, it is that world.
+pub record HasBegun {S : Type 0} (shown : S → Shown) (failures : S → ℕ) (held : Image) (store : S) : Type 0 where
   pub world : (shown store).is_honest → (w : World) × BeginsAt (shown store) w
+  pub found : (shown store).is_honest → (w : World) → HoldsStore held w → BeginsAt (shown store) w
   pub none_failed : failures store ≡ 0

@@ -1,5 +1,6 @@
 -- What is done for a task.
 use Rattle.std.specs.Prelude.{ℕ, List, ◌≡◌, ◌⊎◌, Bool, Option, Result, Ok, Err}
+use Rattle.sqlite_wal.specs.Recovery.{Image}
 use Rattle.world.specs.Store.{Shown}
 use Rattle.store.specs.declared.refusal.Refusal.{Refusal as Unopened}
 use Rattle.commands.specs.Opening.{AnsweredFor}
@@ -31,13 +32,13 @@ module _ (unread unread_new written written_new : Option (List ℕ)) (result : R
     pub answers : AnsweredFor team key unread unread_new written written_new ended
     pub tells : result ≡ acceptance ended
 
-module _ {S : Type 0} (shown : S → Shown) (failures : S → ℕ) where
-  -- a store was opened, and the work was done on it
+module _ {S : Type 0} (shown : S → Shown) (failures : S → ℕ) (held : Image) where
+  -- the store of files that held this was opened, and the work was done on it
   pub record WorksOpened
       (unread unread_new written written_new : Option (List ℕ)) (work : Work) (result : Result Bool Refusal) : Type 0 where
     pub begun : S
     pub ended : S
-    pub begins : HasBegun shown failures begun
+    pub begins : HasBegun shown failures held begun
     pub works : Works shown failures
         (record { store = begun; unread = unread; written = written })
         (record { store = ended; unread = unread_new; written = written_new }) result work
@@ -54,19 +55,17 @@ module _ {S : Type 0} (shown : S → Shown) (failures : S → ℕ) where
       TellsAlone unread unread_new written written_new result (Err NotEmpty)
       ⊎ ((opened : Result Bool Refusal) × WorksOnFile unread unread_new written written_new Open opened × (result ≡ made opened))
 
+module _ {S F : Type 0} (shown : S → Shown) (failures : S → ℕ) (held : Image) (shown_too : F → Shown) (failures_too : F → ℕ) (held_too : Image)
+    (unread unread_new written written_new : Option (List ℕ)) (result : Result Bool Refusal) where
   -- a team's part of the store of a file was put into that of another or was not, and nothing was read or written
-  pub record ExtractsAlone
-      (unread unread_new written written_new : Option (List ℕ)) (team : List ℕ) (result : Result Bool Refusal) : Type 0 where
+  pub record ExtractsAlone (team : List ℕ) : Type 0 where
     pub ended : Result (Unit {0}) Refusal
-    pub extracts : ExtractsFile shown failures team ended
+    pub extracts : ExtractsFile shown failures held shown_too failures_too held_too team ended
     pub tells : TellsAlone unread unread_new written written_new result (acceptance ended)
 
-  -- what is done, by the kind of task
-  abbrev pub Performs : Option (List ℕ) → Option (List ℕ) → Option (List ℕ) → Option (List ℕ) → Result Bool Refusal → Task → Type 0
-  Performs unread unread_new written written_new result (task.Init db) = Inits unread unread_new written written_new result
-  Performs unread unread_new written written_new result (task.AnswerInMemory team key) =
-      AnswersInMemory unread unread_new written written_new result team.now key.now
-  Performs unread unread_new written written_new result (task.OnStore db work) =
-      WorksOnFile unread unread_new written written_new work result
-  Performs unread unread_new written written_new result (task.Extract db team to) =
-      ExtractsAlone unread unread_new written written_new team.now result
+  -- What is done, by the kind of task, where the first file of the task held this and its log, and the second file that.
+  abbrev pub Performs : Task → Type 0
+  Performs (task.Init db) = Inits shown failures held unread unread_new written written_new result
+  Performs (task.AnswerInMemory team key) = AnswersInMemory unread unread_new written written_new result team.now key.now
+  Performs (task.OnStore db work) = WorksOnFile shown failures held unread unread_new written written_new work result
+  Performs (task.Extract db team to) = ExtractsAlone team.now

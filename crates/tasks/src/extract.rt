@@ -1,12 +1,13 @@
 //! A team's part of the store of one file as the store of another.
 
 ghost use Rattle.std.specs.Prelude.{◌≡◌};
+ghost use Rattle.sqlite_wal.specs.Files.{image_at};
 ghost use Rattle.tasks.specs.Extract.{ExtractsFile, ExtractsPart, Fills};
 
 use crate::{open_refusal, unmade};
 use commands::files::{is_empty_file, is_same_file};
 use commands::refusal::Refusal;
-use sqlite::Alter;
+use sqlite::{Alter, Start};
 use std::rt::HostRuntime;
 use store::open::FileShelves;
 use store::store::SqlShelves;
@@ -16,17 +17,27 @@ use world::shelves::Shelves;
 /// and an empty one stays so.
 /// It compares the files after it opened the first and before it opens the second, whose lock would be `Device`.
 /// A hard link to the first file is `Device`, because sqlite refuses the first one itself.
-pub(crate) fn extract_file(rt: &HostRuntime, db: &str, team: &str, to: &str) -> Result<(), Refusal>
-    ensures { ExtractsFile ⟦<FileShelves as Shelves>⟧.shown ⟦<FileShelves as Shelves>⟧.failure_count team.now result }
+pub(crate) fn extract_file<T: Start, U: Start>(
+    rt: &HostRuntime,
+    db: &str,
+    start: T,
+    team: &str,
+    to: &str,
+    target: U,
+) -> Result<(), Refusal>
+    ensures { ExtractsFile
+        ⟦<FileShelves<T> as Shelves>⟧.shown ⟦<FileShelves<T> as Shelves>⟧.failure_count (image_at T.Start)
+        ⟦<FileShelves<U> as Shelves>⟧.shown ⟦<FileShelves<U> as Shelves>⟧.failure_count (image_at U.Start)
+        team.now result }
 {
     if is_empty_file(rt, db) && is_same_file(rt, db, to) {
         return Err(Refusal::NotEmpty);
     }
-    let mut source = match FileShelves::open_file(rt, db) {
+    let mut source = match FileShelves::open_from(rt, db, start) {
         Ok(shelves) => shelves,
-        Err(unopened) => return Err(open_refusal(unopened)),
+        Err((unopened, _)) => return Err(open_refusal(unopened)),
     };
-    let told = extract_to(rt, db, &mut source, team, to);
+    let told = extract_to(rt, db, &mut source, team, to, target);
     drop(source.close());
     told
 }
@@ -34,22 +45,24 @@ pub(crate) fn extract_file(rt: &HostRuntime, db: &str, team: &str, to: &str) -> 
 /// Opens the store of a file and puts a team's part of an open store into it. The file of the open one, which is at `db`, is no
 /// empty store, and is not opened again.
 /// It is generic over the first store, because the checker runs out of steps with two file stores in one function.
-fn extract_to<S: Alter>(
+fn extract_to<S: Alter, U: Start>(
     rt: &HostRuntime,
     db: &str,
     source: &mut SqlShelves<S>,
     team: &str,
     to: &str,
+    target: U,
 ) -> Result<(), Refusal>
     ensures { Fills ⟦<SqlShelves<S> as Shelves>⟧.shown ⟦<SqlShelves<S> as Shelves>⟧.failure_count
-        ⟦<FileShelves as Shelves>⟧.shown ⟦<FileShelves as Shelves>⟧.failure_count source.old source.new team.now result }
+        ⟦<FileShelves<U> as Shelves>⟧.shown ⟦<FileShelves<U> as Shelves>⟧.failure_count
+        source.old source.new (image_at U.Start) team.now result }
 {
     if is_same_file(rt, db, to) {
         return Err(Refusal::NotEmpty);
     }
-    let mut fresh = match FileShelves::open_file(rt, to) {
+    let mut fresh = match FileShelves::open_from(rt, to, target) {
         Ok(shelves) => shelves,
-        Err(unopened) => return Err(unmade(open_refusal(unopened))),
+        Err((unopened, _)) => return Err(unmade(open_refusal(unopened))),
     };
     let told = extract_part(source, team, &mut fresh);
     drop(fresh.close());

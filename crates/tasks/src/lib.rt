@@ -12,6 +12,7 @@
 #![tactic(auto)]
 
 ghost use Rattle.std.specs.Prelude.{◌≡◌};
+ghost use Rattle.sqlite_wal.specs.Files.{image_at};
 ghost use Rattle.commands.specs.Work as told;
 ghost use Rattle.tasks.specs.Opened as spec;
 ghost use Rattle.tasks.specs.Task.{Performs, Inits, WorksOnFile};
@@ -23,6 +24,7 @@ use commands::files::holds_bytes;
 use commands::memory::answer_in_memory;
 use commands::refusal::Refusal;
 use commands::work::{Work, work_on};
+use sqlite::Start;
 use std::io::{Read, Write};
 use std::rt::HostRuntime;
 use store::open::FileShelves;
@@ -55,23 +57,31 @@ pub enum Task<'a> {
 }
 
 /// Does a task and returns whether it was accepted; only a publish and an import can be done and not accepted.
-pub fn perform<I: Read, O: Write>(
+///
+/// `T` stands for what the file of the task and its log hold, and `U` for that of the file that `extract` writes. It is proved
+/// for all contents: a task goes on from the world that they hold.
+pub fn perform<T: Start, U: Start, I: Read, O: Write>(
     rt: &HostRuntime,
     task: &Task,
+    start: T,
+    target: U,
     input: &mut I,
     output: &mut O,
 ) -> Result<bool, Refusal>
-    ensures { Performs ⟦<FileShelves as Shelves>⟧.shown ⟦<FileShelves as Shelves>⟧.failure_count
-        (I.remaining input.old) (I.remaining input.new) (O.contents output.old) (O.contents output.new) result task.now }
+    ensures { Performs
+        ⟦<FileShelves<T> as Shelves>⟧.shown ⟦<FileShelves<T> as Shelves>⟧.failure_count (image_at T.Start)
+        ⟦<FileShelves<U> as Shelves>⟧.shown ⟦<FileShelves<U> as Shelves>⟧.failure_count (image_at U.Start)
+        (I.remaining input.old) (I.remaining input.new) (O.contents output.old) (O.contents output.new)
+        result task.now }
 {
     match task {
-        Task::Init { db } => init(rt, db, input, output),
+        Task::Init { db } => init(rt, db, start, input, output),
         Task::AnswerInMemory { team, key } => {
             answer_in_memory(rt.alloc(), team, key, input, output)?;
             Ok(true)
         }
-        Task::OnStore { db, work } => on_file(rt, db, work, input, output),
-        Task::Extract { db, team, to } => acceptance(extract_file(rt, db, team, to)),
+        Task::OnStore { db, work } => on_file(rt, db, start, work, input, output),
+        Task::Extract { db, team, to } => acceptance(extract_file(rt, db, start, team, to, target)),
     }
 }
 
@@ -85,19 +95,20 @@ fn acceptance(ended: Result<(), Refusal>) -> Result<bool, Refusal>
 
 /// Makes a store with the shelf `common` alone. A file that has bytes is `NotEmpty`.
 /// It reads one byte. If the file can't be read, opening the store says what is wrong.
-fn init<I: Read, O: Write>(
+fn init<T: Start, I: Read, O: Write>(
     rt: &HostRuntime,
     path: &str,
+    start: T,
     input: &mut I,
     output: &mut O,
 ) -> Result<bool, Refusal>
-    ensures { Inits ⟦<FileShelves as Shelves>⟧.shown ⟦<FileShelves as Shelves>⟧.failure_count
+    ensures { Inits ⟦<FileShelves<T> as Shelves>⟧.shown ⟦<FileShelves<T> as Shelves>⟧.failure_count (image_at T.Start)
         (I.remaining input.old) (I.remaining input.new) (O.contents output.old) (O.contents output.new) result }
 {
     if holds_bytes(rt, path) {
         return Err(Refusal::NotEmpty);
     }
-    match on_file(rt, path, &Work::Open, input, output) {
+    match on_file(rt, path, start, &Work::Open, input, output) {
         Ok(done) => Ok(done),
         Err(refusal) => Err(unmade(refusal)),
     }
@@ -127,19 +138,22 @@ fn open_refusal(unopened: Unopened) -> Refusal
 }
 
 /// Does a work on the store of a file. Where the store is not opened, nothing is read or written.
-fn on_file<I: Read, O: Write>(
+fn on_file<T: Start, I: Read, O: Write>(
     rt: &HostRuntime,
     path: &str,
+    start: T,
     work: &Work,
     input: &mut I,
     output: &mut O,
 ) -> Result<bool, Refusal>
-    ensures { WorksOnFile ⟦<FileShelves as Shelves>⟧.shown ⟦<FileShelves as Shelves>⟧.failure_count
-        (I.remaining input.old) (I.remaining input.new) (O.contents output.old) (O.contents output.new) work.now result }
+    ensures { WorksOnFile
+        ⟦<FileShelves<T> as Shelves>⟧.shown ⟦<FileShelves<T> as Shelves>⟧.failure_count (image_at T.Start)
+        (I.remaining input.old) (I.remaining input.new) (O.contents output.old) (O.contents output.new)
+        work.now result }
 {
-    let mut shelves = match FileShelves::open_file(rt, path) {
+    let mut shelves = match FileShelves::open_from(rt, path, start) {
         Ok(shelves) => shelves,
-        Err(unopened) => return Err(open_refusal(unopened)),
+        Err((unopened, _)) => return Err(open_refusal(unopened)),
     };
     let told = work_on(rt, &mut shelves, work, input, output);
     drop(shelves.close());

@@ -2,9 +2,9 @@ use Rattle.std.proofs.Common.{inl}
 use Rattle.tasks.proofs.extract.extract_file.Goals as goal
 
 pub returns : goal.returns
-returns c = inl (record {
+returns g c = inl (record {
   source = c.in-Ok.shelves;
   source_new = c.extract_to-told.new.source;
-  begins = record { world = c.in-Ok.ensures.begins; none_failed = c.in-Ok.ensures.none_failed };
+  begins = record { world = c.in-Ok.ensures.begins; found = c.in-Ok.ensures.found; none_failed = c.in-Ok.ensures.none_failed };
   fills = c.extract_to-told.ensures;
 })

@@ -5,6 +5,6 @@ pub returns : goal.returns
 returns g c = inl (record {
   fresh = c.in-Ok.shelves;
   fresh_new = c.extract_part-told.new.fresh;
-  begins = record { world = c.in-Ok.ensures.begins; none_failed = c.in-Ok.ensures.none_failed };
+  begins = record { world = c.in-Ok.ensures.begins; found = c.in-Ok.ensures.found; none_failed = c.in-Ok.ensures.none_failed };
   extracts = c.extract_part-told.ensures;
 })

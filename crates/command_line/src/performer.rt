@@ -21,8 +21,8 @@ pub trait Performer {
         input: &mut I,
         output: &mut O,
     ) -> Result<bool, Refusal>
-        ensures { performed self.old self.new (I.remaining input.old) (I.remaining input.new) (O.contents output.old) (O.contents output.new)
-            result task.now };
+        ensures { performed self.old self.new (I.remaining input.old) (I.remaining input.new)
+            (O.contents output.old) (O.contents output.new) result task.now };
 }
 
 /// The store of files as they are found: nothing here names what they held.

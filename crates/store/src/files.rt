@@ -104,7 +104,8 @@ fn path_refusal(error: OpenError) -> Refusal
 /// passed the test of its digest, `Memory` without memory, and otherwise `Device`.
 fn file_refusal(error: Error, is_caught: bool) -> Refusal
     ensures bad { result ≡ Refusal.BadSchema
-        ↔ ((is_caught ≡ false) × ((error ≡ Error.SqliteFailure ErrorCode.NotADatabase) ⊎ (error ≡ Error.SqliteFailure ErrorCode.DatabaseCorrupt))) }
+        ↔ ((is_caught ≡ false) × ((error ≡ Error.SqliteFailure ErrorCode.NotADatabase)
+        ⊎ (error ≡ Error.SqliteFailure ErrorCode.DatabaseCorrupt))) }
     ensures memory { error ≡ Error.SqliteFailure ErrorCode.OutOfMemory → result ≡ Refusal.Memory }
     ensures opening { IsOfOpening result }
 {

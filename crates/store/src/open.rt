@@ -14,7 +14,7 @@ ghost use Rattle.store.specs.Restart.{HoldsStore, HoldsNoStore};
 use crate::files::connect;
 use crate::refusal::Refusal;
 use crate::store::SqlShelves;
-use sqlite::{Alter, Connection, FileFrom, FileStore, Leftover, MemStore, Start};
+use sqlite::{Alter, Connection, File, FileFrom, FileStore, Leftover, MemStore, Start, Unknown};
 use std::alloc::Global;
 use std::rt::HostRuntime;
 
@@ -62,9 +62,9 @@ impl<T: Start> SqlShelves<FileStore<FileFrom<T>>> {
     ///
     /// It is refused as `BadSchema` where the files hold no database, other tables, or tables that
     /// stand for no world; as `Memory` where memory was wanted; and as `Device` where the disk failed,
-    /// or the system or the name does not let the files be opened. The files then come back, where they were opened.
-    /// Files that are no store stay as they are (tested); where the disk
-    /// failed or memory was wanted, those that were empty may hold the made tables, and a log may be left beside them.
+    /// or the system or the name does not let the files be opened. The files then come back, where they
+    /// were opened. Files that are no store stay as they are (tested); where the disk failed or memory
+    /// was wanted, those that were empty may hold the made tables, and a log may be left beside them.
     ///
     /// No clause of `sqlite` ties a path to the bytes of a file, so no contract says that this path was opened: tests do.
     pub fn open_from(
@@ -87,6 +87,24 @@ impl<T: Start> SqlShelves<FileStore<FileFrom<T>>> {
         match SqlShelves::adopt(rt.alloc(), conn) {
             Ok(shelves) => Ok(shelves),
             Err((refusal, conn)) => Err((refusal, Some(Leftover::Store(conn.into_store())))),
+        }
+    }
+}
+
+impl SqlShelves<FileStore<File>> {
+    /// Opens the store of a file, as `open_from` does when nothing is known of what the file holds.
+    /// It supposes that a write which a crash tore leaves each byte old or new. As with SQLite's
+    /// `synchronous=FULL`, most commits then sync once.
+    pub fn open_file(rt: &HostRuntime, path: &str) -> Result<FileShelves<Unknown>, Refusal>
+        ensures memory { path.now ≡ codes ":memory:" → result ≡ Err Refusal.Device }
+        ensures begins { IfOk result (λ s. HasCleanDisk (file_state s.conn)
+            → (w : _) × BeginsAt (shown_with (file_state s.conn) s.kept) w) }
+        ensures refused { IfErr result IsOfOpening }
+        ensures none_failed { IfOk result (λ s. s.failures ≡ 0) }
+    {
+        match SqlShelves::open_from(rt, path, Unknown) {
+            Ok(shelves) => Ok(shelves),
+            Err((refusal, _)) => Err(refusal),
         }
     }
 }

@@ -239,7 +239,8 @@ impl<S: Alter> SqlShelves<S> {
         mut conn: Connection<S>,
     ) -> Result<SqlShelves<S>, (Refusal, Connection<S>)>
         ensures clean { IfOk result (λ s. doubt (state S.Store conn).is_clean ≤ doubt (state S.Store s.conn).is_clean) }
-        ensures was_clean { IfErr result (λ e. doubt (state S.Store conn).is_clean ≤ doubt (state S.Store e.1).is_clean) }
+        ensures was_clean { IfErr result (λ e.
+            doubt (state S.Store conn).is_clean ≤ doubt (state S.Store e.1).is_clean) }
         ensures opens { IfOk result (λ s. Honestly (state S.Store conn) (state S.Store s.conn) Opens) }
         ensures none_kept { IfOk result (λ s. IsNothing s.kept) }
         ensures refused { IfErr result (λ e. IsOfOpening e.0) }

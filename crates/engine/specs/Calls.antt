@@ -86,8 +86,8 @@ CallsTellAlike old new old_too new_too =
 abbrev pub AgreeAsFar : List (List ℕ) → List (List ℕ) → Type 0
 AgreeAsFar one two = (more : List (List ℕ)) × ((one ≡ two ++ more) ⊎ (two ≡ one ++ more))
 
--- However they ended, by a failed read or write or by the 503 in the place of what was left, which may be others': as far as both answered
--- the messages that are kept, and none of these by the 503, they are written the same.
+-- However they ended, by a failed read or write or by the 503 in the place of what was left, which may be others': where none of the texts
+-- written for the kept messages is the 503, those of one call begin with those of the other.
 abbrev pub CallsTellAlikeAsFar : Shown → Shown → Shown → Shown → Type 0
 CallsTellAlikeAsFar old new old_too new_too =
     (w x : World) (s : List ℕ) (messages : List Request) (end : End) (result result_too : Result (Unit {0}) Io)

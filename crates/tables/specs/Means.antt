@@ -1,4 +1,4 @@
--- The world that the tables stand for. No row number and no order of rows occurs here.
+-- The world that the tables stand for. No order of rows occurs here, and a row's number only ties a version to its pieces.
 use Rattle.std.specs.Prelude.{ℕ, ℤ, Bool, true, false, pos, if◌then◌else◌, List, Some, IsTrue, codes, filter, ◌≡◌}
 use Rattle.sqlite.specs.declared.types.Value.TheVariants.{Int, Text, Blob}
 use Rattle.sqlite.specs.Order.{Row, column}

@@ -227,6 +227,7 @@ def of_others(room, greet):
         (422, "major-mismatch\n", "v1.0.0 does not fit the path example.com/greet: version 2 and higher need a path that ends in /v2 and so on"),
         (422, "bad-time\n", f"the time {TIME} does not fit v1.0.0: check the clock of whoever made the commit"),
         (422, "module-path\n", "the go.mod does not name example.com/greet: publish it by the path that it names"),
+        (422, "bad-gomod 0\n", "the go.mod has no module line, or is not UTF-8: mend it, and tag a new version"),
         (422, "bad-gomod 1w/nosuch\n", f"{url} answers 422 and is no goshelf: check the URL (bad-gomod 1w/nosuch)"),
         (422, "incompatible-gomod\n",
          "v1.0.0 is +incompatible, which only a go.mod with a module line alone can be: name the module example.com/greet/v1"),

@@ -7,13 +7,15 @@ The proxy behind is one that has no module and notes what it is asked; nothing e
 import http.server
 import io
 import os
+import re
 import subprocess
 import sys
 import tempfile
 import threading
 import zipfile
 
-from harness import KEY, PROGRAM, Suite, done, new_store
+from harness import KEY, PROGRAM, ROOT, Suite, done, new_store
+from repositories import blocks
 
 NEEDS = ["go"]
 READER = "alphareader00001"
@@ -61,6 +63,27 @@ def asked(proxies, imported, *words, **settings):
     return ran.returncode == 0, {it.split("/@v/")[0].strip("/") for it in ASKED}
 
 
+def of_pages(suite):
+    """The commands of the pages set what they say, and that of OPERATING undoes it."""
+    with open(os.path.join(ROOT, "docs", "OPERATING.md"), encoding="utf-8") as file:
+        undo = re.search(r"`(go env -u [A-Z ]*)`", file.read())[1]
+    names = ["GOPROXY", "GONOSUMDB", "GONOPROXY"]
+    with tempfile.TemporaryDirectory(prefix="goshelf-go-") as folder:
+        clean = {name: text for name, text in os.environ.items() if not name.startswith("GO")}
+
+        def after(script):
+            ran = subprocess.run(["sh", "-euc", f"{script}\ngo env {' '.join(names)}"], env={**clean, "HOME": folder}, capture_output=True, text=True)
+            return ran.stdout.splitlines() or ran.stderr
+
+        before = after("")
+        found = [it for page in ("README.md", "docs/OPERATING.md") for it in blocks(page, "sh", "go env -w GOPROXY=") if "tools/" not in it]
+        suite.equal("blocks that set the go command", len(found), 2)
+        for script in found:
+            proxies = re.search("GOPROXY=(.*)", script)[1]
+            suite.equal(f"the settings of {proxies}", after(script), [proxies, "example.com", "none"])
+            suite.equal("they are undone", after(undo), before)
+
+
 def main():
     behind = http.server.ThreadingHTTPServer(("127.0.0.1", 0), Behind)
     threading.Thread(target=behind.serve_forever, daemon=True).start()
@@ -82,6 +105,7 @@ def main():
         child.terminate()
         child.wait()
     suite = Suite()
+    of_pages(suite)
     for name, told, wanted in rows:
         suite.equal(name, told, wanted)
     return suite.end()

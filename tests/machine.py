@@ -15,7 +15,7 @@ import time
 from harness import PROGRAM, ROOT
 
 # folders whose names the page and deploy/ use; each is put below the folder of the machine
-PLACES = re.compile(r"(?<![\w./~])/(?=(?:etc/(?:nginx|ssl)|var/(?:lib|log|cache|backups)|usr/local|run|root)\b)")
+PLACES = re.compile(r"(?<![\w./~])/(?=(?:etc/(?:nginx|ssl|cron\.d)|var/(?:lib|log|cache|backups)|usr/local|run|root)\b)")
 SYSTEMCTL = """\
 #!/bin/sh
 # `systemctl stop goshelf` and `systemctl start goshelf`, for a program that a file names by its number, and how often it was restarted
@@ -80,7 +80,7 @@ class Machine:
 
     def __init__(self, folder):
         self.folder, self.front, self.behind = folder, free_port(), free_port()
-        for name in ("etc/nginx/conf.d", "etc/ssl", "var/lib/nginx", "var/log/nginx", "var/lib/goshelf", "var/backups", "usr/local/bin", "run", "root"):
+        for name in ("etc/nginx/conf.d", "etc/ssl", "etc/cron.d", "var/lib/nginx", "var/log/nginx", "var/lib/goshelf", "var/backups", "usr/local/bin", "run", "root"):
             os.makedirs(f"{folder}/{name}")
         os.chmod(folder, 0o755)
         os.symlink(PROGRAM, f"{folder}/usr/local/bin/goshelf")

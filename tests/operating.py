@@ -1,5 +1,5 @@
 #!/usr/bin/env python3
-"""What docs/OPERATING.md has an operator do besides nginx: backups, queries, alerts, an upgrade, a secret that is taken out.
+"""What docs/OPERATING.md has an operator do besides nginx: keys, backups, queries, alerts, an upgrade, a secret that is taken out, tables.
 
 The page's commands and the scripts of deploy/ run as they are, on a machine in a folder (machine.py).
 """
@@ -8,14 +8,16 @@ import http.server
 import os
 import re
 import shutil
+import subprocess
 import sys
 import tempfile
 import threading
 
-from harness import PROGRAM, Suite, answered, done, get, new_store, read, run
+from harness import PROGRAM, ROOT, Suite, answered, done, get, new_store, read, run
 from machine import Machine, block
+from refusals import reordered
 
-NEEDS = ["sqlite3", "openssl", "curl"]
+NEEDS = ["sqlite3", "openssl", "curl", "xxd"]
 ALPHA, READER, BETA, COMMON = "alphakey00000001", "alphareader00001", "betakey000000001", "commonkey0000001"
 SECRET = os.urandom(150_000)
 # shelf's key, path, version, and the zip
@@ -28,13 +30,21 @@ PUBLISHED = [
 ]
 
 
-def publish(machine, key, path, version, zipped):
+PAGE = read(os.path.join(ROOT, "docs", "OPERATING.md")).decode()
+
+
+def beginning(first):
+    """The block of the page that begins with these words."""
+    return next(it for it in re.findall(r"```sh\n(.*?)```", PAGE, re.S) if it.startswith(first))
+
+
+def publish(machine, key, path, version, zipped, store=None):
     """Publishes while the program is stopped, and returns what is printed."""
     mod, file = f"{machine.folder}/root/go.mod", f"{machine.folder}/root/zip"
     for name, content in ((mod, f"module {path}\n".encode()), (file, zipped)):
         with open(name, "wb") as held:
             held.write(content)
-    line = f"publish --db {machine.store} --key {key} --module {path} --version {version} --mod {mod} --zip {file} --time 2024-01-31T12:00:00Z"
+    line = f"publish --db {store or machine.store} --key {key} --module {path} --version {version} --mod {mod} --zip {file} --time 2024-01-31T12:00:00Z"
     return run(line.split())[1].decode().strip()
 
 
@@ -47,7 +57,7 @@ def set_up(folder):
     told = [publish(machine, *it) for it in PUBLISHED]
     assert told == ["201 published"] * len(PUBLISHED), told
     for script in ("goshelf-backup", "goshelf-watch"):
-        machine.does(block("sh", f"install deploy/{script} ").splitlines()[0])
+        machine.does(block("sh", f"install deploy/{script} "))
     os.makedirs(f"{folder}/var/cache/nginx/goshelf/1/ab")
     machine.does("systemctl start goshelf")
     return machine
@@ -66,6 +76,49 @@ def copies(machine):
 def asked(file, *targets, key=ALPHA):
     """The statuses and bodies of requests to a store."""
     return answered(["--db", file], [get(it, key) for it in targets])
+
+
+def keys(suite, machine):
+    """A key is made, and one is revoked."""
+    made = machine.does(beginning("head -c 16"))
+    suite.holds("a key is made", re.fullmatch("[0-9a-f]{32}", made), made)
+    machine.does(f"systemctl stop goshelf; goshelf key-add --db {machine.store} --shelf alpha --key {made}; systemctl start goshelf")
+    machine.does(block("sh", "key-revoke --db /var/lib/goshelf/shelves.db --key KEY").replace("KEY", made))
+    suite.holds("goshelf runs after a key was revoked", runs(machine))
+    machine.does("systemctl stop goshelf")
+    found = [asked(machine.store, "example.com/lib/@v/list", key=it)[0][0] for it in (made, ALPHA)]
+    suite.equal("the revoked key reads nothing, and another still does", found, [404, 200])
+    machine.does("systemctl start goshelf")
+
+
+def cron(suite, machine):
+    """The lines for cron run as cron runs them, with few settings."""
+    lines = machine.read("etc/cron.d/goshelf").splitlines()
+    suite.equal("the lines for cron", [it.split()[5:] for it in lines], [["root", f"{machine.folder}/usr/local/bin/goshelf-{it}"] for it in ("backup", "watch")])
+    ran = subprocess.run(["sh", "-c", lines[0].split()[6]], env={"PATH": "/usr/bin:/bin", "HOME": "/root"}, cwd="/", capture_output=True, text=True)
+    suite.equal("a backup by cron", (ran.returncode, ran.stdout, ran.stderr, len(copies(machine))), (0, "", "", 1))
+    shutil.rmtree(f"{machine.folder}/var/backups/goshelf")
+
+
+def by_hand(suite, machine):
+    """sqlite3 copies a store whose program is stopped. While it runs the copy fails, and is empty, which an inventory shows."""
+    ways = re.findall(r"`(sqlite3 F [^`]*COPY[^`]*)`", PAGE)
+    suite.equal("ways to copy", len(ways), 3)
+    listed = beginning("goshelf inventory").replace("KEY", ALPHA)
+    for at, way in enumerate(ways):
+        copy = f"{machine.folder}/root/copy-{at}.db"
+        status, _, told = machine.sh(way.replace("F", machine.store, 1).replace("COPY", copy))
+        suite.equal(f"{way}: fails while goshelf runs", (status == 0, "database is locked" in told), (".dump" in way, ".dump" not in way))
+        suite.holds(f"{way}: leaves an empty copy", os.path.getsize(copy) == 0)
+        suite.equal(f"{way}: sqlite3 calls that copy good", machine.does(f"sqlite3 {copy} 'PRAGMA integrity_check'"), "ok\n")
+        suite.equal(f"{way}: an inventory does not", machine.sh(listed.replace("COPY", copy)), (1, "", "goshelf: no-key\n"))
+    machine.does("systemctl stop goshelf")
+    wanted = machine.does(listed.replace("COPY", machine.store))
+    for at, way in enumerate(ways):
+        copy = f"{machine.folder}/root/good-{at}.db"
+        machine.does(way.replace("F", machine.store, 1).replace("COPY", copy))
+        suite.equal(f"{way}: the copy is a store", machine.does(listed.replace("COPY", copy)), wanted)
+    machine.does("systemctl start goshelf")
 
 
 def backups(suite, machine):
@@ -191,6 +244,8 @@ def leaked(suite, machine):
     machine.does(block("sh", "secure_delete").replace("'P'", "'example.com/lib'").replace("'V'", "'v1.1.0'"))
     suite.equal("the cache is empty", os.listdir(f"{machine.folder}/var/cache/nginx/goshelf/1/ab"), [])
     machine.does("systemctl stop goshelf")
+    query = re.search(r"`(SELECT shelf FROM version WHERE path = 'P')`", PAGE)[1].replace("'P'", "'example.com/lib'")
+    suite.equal("other shelves with the path", machine.does(f'sqlite3 {machine.store} "{query}"').split(), ["alpha", "alpha", "beta"])
     at = "example.com/lib/@v"
     found = asked(machine.store, f"{at}/v1.1.0.zip", f"{at}/v1.1.0.mod", f"{at}/list", f"{at}/v1.0.0.zip", f"{at}/v1.2.0.zip", "example.com/base/@v/v0.1.0.zip")
     wanted = [(404, b"not found\n"), (404, b"not found\n"), (200, b"v1.0.0\nv1.2.0\n"), (200, b"one"), (200, b"three"), (200, b"four" * 50_000)]
@@ -208,6 +263,38 @@ def leaked(suite, machine):
     suite.equal("and a later one does not", machine.sh("goshelf-backup"), (0, "", ""))
 
 
+def moved(suite, machine):
+    """A team's own store has what the team sees, and answers no other team."""
+    machine.does(block("sh", "goshelf extract"))
+    own, at = f"{machine.folder}/root/alpha.db", "example.com/lib/@v"
+    suite.holds("goshelf runs after an extract", runs(machine))
+    suite.equal("the team's own store", asked(own, f"{at}/list", f"{at}/v1.0.0.zip", "example.com/base/@v/list"), [(200, b"v1.0.0\nv1.2.0\nv1.3.0\n"), (200, b"one"), (200, b"v0.1.0\n")])
+    suite.equal("it answers no other team", asked(own, f"{at}/list", key=BETA), [(404, b"not found\n")])
+
+
+def tables(suite, machine):
+    """What sqlite3 does with the tables: a zip is read, rows are taken over from other tables, and the highest row number is moved."""
+    machine.does("systemctl stop goshelf")
+    script = block("sh", "xxd -r -p").rstrip().replace("'P'", "'example.com/base'").replace("'V'", "'v0.1.0'").replace("'alpha'", "'common'")
+    machine.does(f"{script.replace(' F ', f' {machine.store} ')} > zip.out")
+    suite.holds("a zip is read", read(f"{machine.folder}/root/zip.out") == b"four" * 50_000)
+    other, new = (f"{machine.folder}/root/{it}.db" for it in ("other", "taken"))
+    machine.does(f"sqlite3 {machine.store} 'PRAGMA wal_checkpoint(TRUNCATE)'")
+    reordered(other, machine.store)
+    suite.equal("tables in another order are no store", run(["inventory", "--db", other, "--key", ALPHA])[2], "goshelf: bad-schema\n")
+    machine.does(block("sh", "goshelf init --db NEW").replace("NEW", new).replace("'F'", f"'{other}'"))
+    lists = [run(["inventory", "--db", it, "--key", ALPHA]) for it in (new, machine.store)]
+    suite.holds("their rows are taken over", lists[0] == lists[1] and lists[0][0] == 0, lists)
+    ends = "UPDATE version SET id = {0} WHERE id = (SELECT {1}(id) FROM version); UPDATE piece SET version = {0} WHERE version = (SELECT {1}(version) FROM piece)"
+    for number, which in ((2**63 - 1, "max"), (-(2**63), "min")):
+        machine.does(f'sqlite3 {new} "{ends.format(number, which)}"')
+    lowest = publish(machine, ALPHA, "example.com/lib", "v1.4.0", b"last", new)
+    machine.does(block("sh", "UPDATE version SET id = 0").replace(" F ", f" {new} "))
+    found = lowest, publish(machine, ALPHA, "example.com/lib", "v1.4.0", b"last", new)
+    suite.equal("a publish without a row number, and with one that was freed", found, ("503 unavailable", "201 published"))
+    machine.does("systemctl start goshelf")
+
+
 def main():
     suite = Suite()
     if os.geteuid() != 0:
@@ -216,7 +303,7 @@ def main():
     with tempfile.TemporaryDirectory(prefix="goshelf-operating-") as folder:
         machine = set_up(folder)
         try:
-            for part in (backups, queries, watch, upgrade, leaked):
+            for part in (keys, cron, by_hand, backups, queries, watch, upgrade, leaked, moved, tables):
                 part(suite, machine)
         finally:
             machine.close()

@@ -167,7 +167,7 @@ def ran(script):
         for name in ("bin", "work"):
             os.mkdir(f"{room}/{name}")
         os.symlink(os.path.abspath(PROGRAM), f"{room}/bin/goshelf")
-        settings = dict(os.environ, HOME=room, PATH=f"{room}/bin:{ROOT}/tools:{os.environ['PATH']}", goshelf="goshelf")
+        settings = dict(os.environ, HOME=room, TMPDIR=room, PATH=f"{room}/bin:{ROOT}/tools:{os.environ['PATH']}", goshelf="goshelf")
         settings.update(GOPATH=f"{room}/go", GOCACHE=f"{room}/cache", GOFLAGS="-modcacherw", GOTOOLCHAIN="local")
         told = f"{room}/printed", f"{room}/errors"
         with open(told[0], "wb") as printed, open(told[1], "wb") as errors:

@@ -20,10 +20,10 @@ import threading
 import time
 import zipfile
 
-from harness import Suite, done, new_store
+from harness import ROOT, Suite, done, new_store
 from machine import Machine, block, wait_for
 
-NEEDS = ["nginx", "openssl", "go", "curl"]
+NEEDS = ["nginx", "openssl", "go", "git", "curl"]
 LIB = "/example.com/lib"
 AT = f"{LIB}/@v"
 GOMOD, ZIP = b"module example.com/lib\n", os.urandom(3_000_000)
@@ -279,6 +279,47 @@ def too_many(suite, client):
     suite.equal("a user of the same address", {client.get(f"{AT}/list")[0] for _ in range(30)}, {200})
 
 
+def at_once(suite, client):
+    """A user has 200 requests at a time and no more; another user is answered meanwhile, and the first again once some have ended."""
+    head = client.head("PUT", f"{AT}/v9.1.0", "bob", f"Mod-Length: {len(GOMOD)}", f"Content-Length: {len(GOMOD)}") + b"\r\n"
+    held = [client.begin(head) for _ in range(200)]
+    until(lambda: client.get(f"{AT}/list", "bob")[0] == 429)
+    suite.equal("the 201st request of a user", client.get(f"{AT}/list", "bob"), (429, b"too many requests at once\n"))
+    suite.equal("another user meanwhile", client.get(f"{AT}/list")[0], 200)
+    for it in held:
+        it.close()
+    until(lambda: client.get(f"{AT}/list", "bob")[0] != 429)
+    suite.equal("the user again", client.get(f"{AT}/list", "bob")[0], 200)
+
+
+def until(holds):
+    """Waits until something holds."""
+    begun = time.time()
+    while not holds():
+        assert time.time() - begun < 30, "it does not come about"
+        time.sleep(0.05)
+
+
+def keys_change(suite, client):
+    """A key of goshelf that is changed as the page says: users do not notice, and the old key is worth nothing."""
+    machine = client.machine
+    reads = re.compile(r'^"alpha read" (\w+);', re.M)
+    old = reads.search(machine.read("etc/nginx/goshelf/keys.map"))[1]
+    lists = [client.get(f"{AT}/list")]
+    machine.does(block("sh", "new=$(new_secret)"))
+    # (nginx's old processes end their connections with the old key)
+    time.sleep(2)
+    lists.append(client.get(f"{AT}/list"))
+    machine.does(block("sh", '--key "$old"'), old=old)
+    lists.append(client.get(f"{AT}/list"))
+    suite.holds("a user gets the same before, between and after", lists[0][0] == 200 and lists == lists[:1] * 3, lists)
+    suite.holds("the key is another", reads.search(machine.read("etc/nginx/goshelf/keys.map"))[1] != old)
+    conn = http.client.HTTPConnection("127.0.0.1", machine.behind, timeout=60)
+    conn.request("GET", f"/k/{old}{AT}/list")
+    suite.equal("the old key is worth nothing", conn.getresponse().status, 404)
+    conn.close()
+
+
 def logs(suite, client):
     """The log says who did what, and holds no key and no password."""
     machine = client.machine
@@ -361,8 +402,7 @@ def go_command(suite, client):
         with open(f"{folder}/body", "wb") as file:
             file.write(gomod.encode() + zipped)
         client.machine.write("root/.netrc", f"machine localhost login pub password {client.passwords['pub']}\n")
-        publish = block("sh", "curl --netrc -T body").split("direct\n", 1)[1]
-        publish = publish.replace("curl ", "curl -sS --cacert /etc/ssl/goshelf.pem ").replace("shelf.example.com", f"localhost:{client.machine.front}")
+        publish = block("sh", "curl --netrc -T body").replace("curl ", "curl -sS --cacert /etc/ssl/goshelf.pem ").replace("shelf.example.com", f"localhost:{client.machine.front}")
         settings = {"module": "example.com/greet", "version": "v1.0.0", "time": "2024-01-31T12:00:00Z"}
         told = client.machine.does(f"cd {folder}\n{publish}", **settings)
     suite.equal("curl publishes by ~/.netrc", told, "published\n")
@@ -380,6 +420,32 @@ def go_command(suite, client):
     behind.shutdown()
 
 
+def three_modules(suite, client):
+    """A user publishes the tutorial's repository of three modules by the page's commands, and another, who only reads, builds with them."""
+    made, uses = (block("sh run", it, "TUTORIAL.md") for it in ("mkdir -p team/log", 'import "example.com/team/log"'))
+    publish, wanted = block("sh", "--netrc --repository team"), block("output", "published example.com/team v1.0.0", "TUTORIAL.md")
+    publish = publish.replace("https://shelf.example.com", f"https://localhost:{client.machine.front}").replace(",https://proxy.golang.org,direct", "")
+    settings = [it for it in publish.splitlines(True) if not it.startswith("tools/")]
+    with tempfile.TemporaryDirectory(prefix="goshelf-team-") as folder:
+        clean = {name: text for name, text in os.environ.items() if not name.startswith(("GO", "GIT_")) and name != "NETRC"}
+        os.symlink(os.path.join(ROOT, "tools"), f"{folder}/tools")
+
+        def user(name, script):
+            os.mkdir(f"{folder}/{name}")
+            with open(f"{folder}/{name}/.netrc", "w", encoding="utf-8") as file:
+                file.write(f"machine localhost login {name} password {client.passwords[name]}\n")
+            own = {"HOME": f"{folder}/{name}", "GOPATH": f"{folder}/{name}/go", "GOFLAGS": "-modcacherw", "GOTOOLCHAIN": "local", "CGO_ENABLED": "0"}
+            env = {**clean, **own, "SSL_CERT_FILE": client.pem, "CURL_CA_BUNDLE": client.pem}
+            return subprocess.run(["sh", "-euc", script], cwd=folder, env=env, capture_output=True, text=True, timeout=300)
+
+        begun = time.time()
+        ran = user("pub", made + publish)
+        suite.equal("three modules are published by ~/.netrc", (ran.stdout, ran.returncode), (wanted, 0)) or print(ran.stderr)
+        ran = user("ann", "".join(settings) + f"mkdir hello\ncd hello\ngo mod init example.com/hello\ncd ..\n{uses}")
+        suite.equal("a consumer builds with them by ~/.netrc", (ran.stdout, ran.returncode), ("log and team 2\n", 0)) or print(ran.stderr)
+        suite.holds("both take less than five minutes", time.time() - begun < 300, time.time() - begun)
+
+
 def main():
     suite = Suite()
     if os.geteuid() != 0:
@@ -389,7 +455,7 @@ def main():
         machine = client = None
         try:
             machine, client = set_up(suite, folder)
-            for part in (strangers, rights, spellings, sizes, slow_clients, cached, go_command, revoked, too_many, logs, unwritable_cache):
+            for part in (strangers, rights, spellings, sizes, slow_clients, cached, go_command, three_modules, revoked, keys_change, too_many, at_once, logs, unwritable_cache):
                 part(suite, client)
         finally:
             if machine:

@@ -11,7 +11,7 @@ import socket
 import subprocess
 import sys
 
-from harness import PROGRAM, Suite, get, in_new_folders, reply, run, words_of, write
+from harness import PROGRAM, ROOT, Suite, get, in_new_folders, read, reply, run, words_of, write
 
 NAMES = """
 answer --mem --team alpha --key A | 0
@@ -266,7 +266,9 @@ def helped(suite):
         suite.equal(f"{command} --help names its options", sorted(named - {"--help"}), sorted(options.split()))
     listed = shown("--help", ["--help"])
     suite.equal("--help lists each command", [it for it in commands if not re.search(rf"^  {it} ", listed, re.M)], [])
-    suite.holds("--version names the program", re.fullmatch(r"goshelf \S+\n", shown("--version", ["--version"])))
+    with open(os.path.join(ROOT, "crates", "command_line", "src", "version.rt"), encoding="utf-8") as file:
+        version = re.search(r'"(.*)"', file.read())[1]
+    suite.equal("--version names the version", shown("--version", ["--version"]), f"goshelf {version}\n")
 
 
 def one_store(suite):
@@ -282,6 +284,15 @@ def imports(suite):
 def seen(suite):
     write(SEEN_FILES)
     suite.runs("what a shelf sees", SEEN)
+
+
+def quick_start(suite):
+    """The README's first command writes what the README says."""
+    page = read(os.path.join(ROOT, "README.md")).decode()
+    words, stream = re.search(r"^\./goshelf --unproved (answer .*) < (\S+)$", page, re.M).groups()
+    replies = read(os.path.join(ROOT, re.search(r"bytes of `(\S+)`", page)[1]))
+    suite.equal("the README's first command", run(words.split(), read(os.path.join(ROOT, stream))), (0, replies, ""))
+    suite.equal("the README counts its bytes", int(re.search(r"writes the (\d+)\s+bytes", page)[1]), len(replies))
 
 
 def serve(suite):
@@ -316,4 +327,4 @@ def address(suite):
 
 
 if __name__ == "__main__":
-    sys.exit(in_new_folders(Suite(), names, bad_usage, helped, one_store, imports, seen, serve, address))
+    sys.exit(in_new_folders(Suite(), quick_start, names, bad_usage, helped, one_store, imports, seen, serve, address))

@@ -17,11 +17,12 @@ import time
 
 from harness import KEY, PROGRAM, ROOT, Suite, read, write
 
-NEEDS = ["adduser", "curl", "dpkg-deb", "git", "ldd", "nsenter", "systemd-analyze", "unshare"]
+NEEDS = ["adduser", "cc", "curl", "dpkg-deb", "git", "ldd", "nsenter", "sqlite3", "systemd-analyze", "unshare"]
 RELEASE = os.path.join(ROOT, "tools", "release")
+VERSION = os.path.join(ROOT, "crates", "command_line", "src", "version.rt")
 UNIT = os.path.join(ROOT, "deploy", "systemd", "goshelf.service")
 # files that a release has among others
-WANTED = {"README.md", "docs/OPERATING.md", "docs/REFERENCE.md", "bench/RESULTS.md", "deploy/systemd/goshelf.service"}
+WANTED = {"README.md", "copyright", "docs/OPERATING.md", "docs/REFERENCE.md", "bench/RESULTS.md", "deploy/systemd/goshelf.service"}
 # the settings of a command on the copy
 SETTINGS = ["PATH=/usr/local/sbin:/usr/local/bin:/usr/sbin:/usr/bin:/sbin:/bin", "DEBIAN_FRONTEND=noninteractive", "LC_ALL=C", "HOME=/root"]
 # the rating of systemd-analyze below which the unit has to stay
@@ -158,9 +159,8 @@ def unpacked(suite, tar, folder):
     commit = subprocess.run(["git", "rev-parse", "HEAD"], cwd=ROOT, capture_output=True, text=True).stdout.strip()
     suite.equal("BUILD names the commit", about["commit"], commit)
     suite.equal("BUILD says what was gated", (about["gate"], about["suites"]), ("not run", "not run"))
-    printed = subprocess.run([f"{at}/goshelf", "--version"], capture_output=True, text=True).stdout.split()[1]
-    form = rf"{re.escape(printed)}\+git\d{{14}}\.{commit[:12]}~ungated"
-    suite.holds("the version names the program's and the commit", re.fullmatch(form, about["version"]), about["version"])
+    form = rf"[\d.]+\+git\d{{14}}\.{commit[:12]}~ungated"
+    suite.holds("the version names the commit", re.fullmatch(form, about["version"]), about["version"])
     return about
 
 
@@ -179,44 +179,62 @@ def needs(suite, about):
         suite.equal("the program needs the C library alone", libraries, "libc.so.6")
 
 
+# Stands in for `rt`: its `ci` makes a program that prints VERSION, and otherwise the version of the tree.
+GATE = """#!/bin/sh
+[ "$1" = ci ] || exec echo a kit
+version=${VERSION:-$(sed -n 's/.*"\\(.*\\)".*/\\1/p' crates/command_line/src/version.rt)}
+mkdir -p crates/goshelf/out
+printf '#include <stdio.h>\\nint main(void) { puts("goshelf %s"); }\\n' "$version" | cc -x c -o crates/goshelf/out/goshelf -
+echo $GATE
+"""
+
+
 def gated(suite, folder):
     """Without --program the gate and the suites decide. Here they are scripts, which print what the environment says."""
     clone, path = f"{folder}/clone", f"{folder}/bin:{os.environ['PATH']}"
     subprocess.run(["git", "clone", "-q", ROOT, clone], check=True)
     os.mkdir(f"{folder}/bin")
-    gate = f"mkdir -p crates/goshelf/out; cp {PROGRAM} crates/goshelf/out/goshelf; echo $GATE"
-    for at, text in ((f"{folder}/bin/rt", f"[ $1 = ci ] || exec echo a kit\n{gate}"), (f"{clone}/tests/all", "echo $SUITES")):
-        write({at: f"#!/bin/sh\n{text}\n"})
+    for at, text in ((f"{folder}/bin/rt", GATE), (f"{clone}/tests/all", '#!/bin/sh\neval "$WHILE"\necho $SUITES\n')):
+        write({at: text})
         os.chmod(at, 0o755)
-    shutil.copy2(RELEASE, f"{clone}/tools/release")
+    for it in (RELEASE, VERSION):
+        shutil.copy2(it, f"{clone}/{os.path.relpath(it, ROOT)}")
 
     def release(*words, **settings):
         env = {**os.environ, "PATH": path, "LC_ALL": "C", "GATE": "59 passed, 0 failed", "SUITES": "9 passed, 0 failed, 1 skipped", **settings}
-        ran = subprocess.run([f"{clone}/tools/release", *words], capture_output=True, text=True, timeout=300, env=env)
+        ran = subprocess.run([f"{clone}/tools/release", *words], cwd=clone, capture_output=True, text=True, timeout=300, env=env)
         return ran.returncode, ran.stderr
 
     differs = "files differ from the commit: commit or remove them first"
     suite.equal("a release of changed files", release(), (1, f"tools/release: {differs}\n"))
     user = ["-c", "user.name=release", "-c", "user.email=release@localhost"]
-    subprocess.run(["git", *user, "commit", "-qam", "scripts"], cwd=clone, check=True)
+    subprocess.run(["git", "add", "-A"], cwd=clone, check=True)
+    subprocess.run(["git", *user, "commit", "-qm", "scripts"], cwd=clone, check=True)
     for name, words, settings, said in (
         ("--program without a name", ["--program"], {}, "tools/release: --program needs a name\n"),
         ("a program that does not exist", ["--program", "/none"], {}, "realpath: /none: No such file or directory\n"),
         ("a gate that failed", [], {"GATE": "58 passed, 1 failed"}, "tools/release: no release: rt ci\n"),
         ("a suite that failed", [], {"SUITES": "8 passed, 1 failed"}, "tools/release: no release: tests/all\n"),
         ("a gate that says nothing", [], {"GATE": ""}, "tools/release: no release: rt ci\n"),
+        ("a suite that changes a file", [], {"WHILE": "echo >> README.md"}, "tools/release: the gate or the suites changed files\n"),
+        ("a program of another version", [], {"VERSION": "0.1.0"}, "tools/release: the program has another version\n"),
     ):
         suite.equal(f"a release with {name}", release(*words, **settings), (1, said))
     suite.holds("a refused release writes nothing", not os.path.exists(f"{clone}/out"))
-    if is_instrumented():
-        suite.skip("a release of what passed", UNPROVED)
+    if not suite.equal("a release of what passed", release(), (0, "")):
         return
-    suite.equal("a release of what passed", release(), (0, ""))
     tar = next(it for it in os.listdir(f"{clone}/out") if it.endswith(".tar.gz"))
     with tarfile.open(f"{clone}/out/{tar}") as held:
-        about = lines_of(held.extractfile(f"{tar.removesuffix('.tar.gz')}/BUILD").read().decode())
+        held.extractall(f"{folder}/gated", filter="tar")
+    at = f"{folder}/gated/{tar.removesuffix('.tar.gz')}"
+    about = lines_of(read(f"{at}/BUILD").decode())
     found = about["kit"], about["gate"], about["suites"], about["version"].endswith("~ungated")
     suite.equal("its BUILD", found, ("a kit", "59 passed, 0 failed", "9 passed, 0 failed, 1 skipped", False))
+    printed = subprocess.run([f"{at}/goshelf", "--version"], capture_output=True, text=True).stdout
+    suite.equal("its program prints its version", printed, f"goshelf {about['version']}\n")
+    commit = subprocess.run(["git", "rev-parse", "HEAD"], cwd=clone, capture_output=True, text=True).stdout.strip()
+    suite.holds("which names the commit", about["commit"] == commit and about["version"].endswith(commit[:12]), about)
+    suite.equal("the checkout stays as it was", read(f"{clone}/{os.path.relpath(VERSION, ROOT)}"), read(VERSION))
 
 
 def rated(suite):
@@ -227,7 +245,7 @@ def rated(suite):
 
 
 def later(package, folder):
-    """A package of a later version with the same files, but with another default port, and its name."""
+    """A package of a later version with the same files, and its name."""
     subprocess.run(["dpkg-deb", "--raw-extract", package, f"{folder}/later"], check=True)
     control = read(f"{folder}/later/DEBIAN/control").decode()
     with open(f"{folder}/later/DEBIAN/control", "w", encoding="utf-8") as file:
@@ -264,7 +282,7 @@ def installed(suite, copy, package, version):
     """The first command of the page makes a user and a folder, and starts nothing."""
     suite.equal("no user goshelf before", copy.sh("getent passwd goshelf")[1], "")
     copy.put(package)
-    install = commands("apt install").partition("\n")[0].replace("VERSION", version)
+    install = commands("goshelf_VERSION_amd64.deb").partition("\n")[0].replace("VERSION", version)
     status, _, errors = copy.sh(f"cd /root\n{install}")
     suite.holds("it installs by apt", status == 0, errors)
     suite.equal("dpkg knows its version", copy.prints("dpkg-query -W goshelf"), f"goshelf {version}")
@@ -272,6 +290,7 @@ def installed(suite, copy, package, version):
     suite.equal("its folder", copy.prints("stat -c '%a %U %G' /var/lib/goshelf; ls -A /var/lib/goshelf"), "700 goshelf goshelf")
     suite.equal("nothing starts, now or at boot", copy.prints("systemctl is-active goshelf; systemctl is-enabled goshelf"), "inactive disabled")
     suite.equal("the unit is right", copy.sh("systemd-analyze verify goshelf.service"), (0, "", ""))
+    suite.holds("its copyright is there", "licence" in copy.sh("cat /usr/share/doc/goshelf/copyright")[1])
     copy.sh("systemctl start goshelf")
     found = copy.prints("systemctl show -P AssertResult goshelf; systemctl is-active goshelf; ls -A /var/lib/goshelf")
     suite.equal("it does not start without a store, and makes none", found, "no inactive")
@@ -279,7 +298,7 @@ def installed(suite, copy, package, version):
 
 def started(suite, copy):
     """The commands of the page make a store and start goshelf."""
-    status, _, errors = copy.sh(commands("apt install").partition("\n")[2].replace("KEY", KEY))
+    status, _, errors = copy.sh(commands("goshelf_VERSION_amd64.deb").partition("\n")[2].replace("KEY", KEY))
     suite.holds("the commands of the page end well", status == 0 and re.fullmatch(r"(Created symlink .*\n)?", errors), (status, errors))
     suite.equal("it answers", ask(copy, "-/modules"), "200")
     suite.equal("it starts at boot", copy.prints("systemctl is-enabled goshelf"), "enabled")
@@ -295,7 +314,8 @@ def restarted(suite, copy):
     copy.sh(f"while [ $(systemctl show -P MainPID goshelf) = {before} ]; do sleep 0.1; done")
     suite.equal("a killed one is started again, and has the version", ask(copy, f"{AT}/list"), "v1.0.0 200")
     copy.sh("systemctl stop goshelf")
-    copy.sh("goshelf key-add --db /var/lib/goshelf/shelves.db --shelf alpha --key alphareader00001 --read-only")
+    added = copy.sh("runuser -u goshelf -- goshelf key-add --db /var/lib/goshelf/shelves.db --shelf alpha --key alphareader00001 --read-only")
+    suite.equal("a command by the user goshelf, while it is stopped", added, (0, "", ""))
     copy.sh("chown root:root /var/lib/goshelf/*; chmod 600 /var/lib/goshelf/*")
     copy.sh("echo GOSHELF_PORT=8181 > /etc/default/goshelf; systemctl start goshelf")
     suite.equal("it starts over files of root, on the port of its settings", ask(copy, f"{AT}/list", 8181), "v1.0.0 200")
@@ -314,36 +334,49 @@ def confined(suite, copy):
 
 
 def upgraded(suite, copy, first, second, version):
-    """Another version over a running one restarts it, and keeps settings and store. So does the first one again."""
-    for name, file, wanted in (("an upgrade", copy.put(second), f"{version}.later"), ("the way back", copy.put(first), version)):
+    """The commands of the page try another version on a copy, and put it over a running one, which restarts; and the first one again."""
+    copy.sh("cd /usr/share/goshelf; install deploy/goshelf-backup /usr/local/bin/")
+    old, new = copy.put(first), copy.put(second)
+    names = {f"goshelf_{name}_amd64.deb": os.path.basename(it) for name, it in (("OLD", old), ("NEW", new))}
+    tries, over, back = (commands(it) for it in ("dpkg-deb -x", "apt install ./goshelf_NEW", "--allow-downgrades"))
+    copy.sh("systemctl stop goshelf; cp /var/lib/goshelf/shelves.db* /root; systemctl start goshelf")
+    copied = tries.replace("COPY", "/root/shelves.db").replace("KEY", KEY)
+    for name, script, wanted in (("a try", copied, version), ("an upgrade", over, f"{version}.later"), ("the way back", back, version)):
         before = first_process(copy)
-        status, _, errors = copy.sh(f"dpkg -i {file}")
-        errors = re.sub(r"dpkg: warning: downgrading goshelf .*\n", "", errors)
-        suite.equal(f"{name} ends without a word", (status, errors), (0, ""))
+        for word, file in names.items():
+            script = script.replace(word, file)
+        status, printed, errors = copy.sh(f"cd /root\n{script}")
+        suite.holds(f"{name}: the commands of the page end well", status == 0 and "error" not in errors.lower(), (status, errors))
         suite.equal(f"{name}: the version", copy.prints("dpkg-query -W -f '${Version}' goshelf"), wanted)
-        suite.holds(f"{name} restarts it", first_process(copy) not in (before, "0"))
+        suite.equal(f"{name} restarts it", first_process(copy) not in (before, "0"), name != "a try")
         suite.equal(f"{name} keeps settings and store", ask(copy, f"{AT}/list", 8181), "v1.0.0 200")
+        suite.holds(f"{name}: what the new program sees", name != "a try" or "example.com/lib,v1.0.0,alpha," in printed, printed)
+    suite.equal("the backup is there", copy.prints("cut -d'|' -f 1-3 /var/backups/goshelf/2*/versions"), "alpha|example.com/lib|v1.0.0")
     copy.sh("systemctl stop goshelf")
-    copy.sh(f"dpkg -i {file}")
+    copy.sh(f"dpkg -i {old}")
     suite.equal("one that was stopped stays so", copy.prints("systemctl is-active goshelf; systemctl is-enabled goshelf"), "inactive enabled")
-    copy.sh("systemctl start goshelf")
+    copy.sh("systemctl start goshelf; rm -r /usr/local/bin/goshelf-backup /var/backups/goshelf")
+
+
+def by_apt(copy, words, **settings):
+    """Runs apt on the copy. Returns its status, and the lines of the package and of what went wrong."""
+    status, printed, errors = copy.sh(f"apt {words} -y goshelf", **settings)
+    said = "".join(f"{it}\n" for it in printed.splitlines() if it.startswith("goshelf: "))
+    return status, said + re.sub(r"\n*WARNING: apt does not have a stable CLI.*\n*", "", errors)
 
 
 def removed(suite, copy, package):
     """What a removal and a purge leave."""
-    status, _, errors = copy.sh("dpkg -r goshelf")
-    suite.equal("a removal ends without a word", (status, errors), (0, ""))
+    suite.equal("a removal ends without a word", by_apt(copy, "remove"), (0, ""))
     suite.equal("nothing runs", copy.prints("pgrep -c goshelf"), "0")
     suite.equal("nothing starts at boot", copy.prints("find /etc/systemd /run/systemd -name 'goshelf*'"), "")
     suite.equal("the store and the settings stay", copy.prints("ls /var/lib/goshelf /etc/default/goshelf"), LEFT)
-    status, _, errors = copy.sh("dpkg -P goshelf")
-    suite.equal("a purge says what it keeps", (status, errors), (0, KEPT))
+    suite.equal("a purge says what it keeps", by_apt(copy, "purge"), (0, KEPT))
     suite.equal("the store and its user stay", copy.prints("stat -c %U /var/lib/goshelf /var/lib/goshelf/shelves.db"), "goshelf goshelf")
     suite.equal("the settings go", copy.prints("ls /etc/default | grep goshelf"), "")
     copy.sh(f"dpkg -i {copy.put(package)}; systemctl start goshelf")
     suite.equal("installed again, it has the version", ask(copy, f"{AT}/list"), "v1.0.0 200")
-    status, _, errors = copy.sh("dpkg -P goshelf", GOSHELF_REMOVE_DATA="yes")
-    suite.equal("a purge with the data ends without a word", (status, errors), (0, ""))
+    suite.equal("a purge with the data ends without a word", by_apt(copy, "purge", GOSHELF_REMOVE_DATA="yes"), (0, ""))
     found = copy.prints("getent passwd goshelf; getent group goshelf; find /etc /usr /var /run -xdev -name '*goshelf*'")
     suite.equal("it leaves nothing", found, "")
 
@@ -355,7 +388,7 @@ def by_hand(suite, copy, tar, version):
     status, _, errors = copy.sh("cd /root\n" + commands("tar -xzf").replace("VERSION", version))
     suite.equal("the tar file: the commands of the page end well", (status, errors), (0, ""))
     suite.equal("the tar file: the unit is right", copy.sh("systemd-analyze verify goshelf.service"), (0, "", ""))
-    copy.sh("\n".join(commands("apt install").replace("KEY", KEY).splitlines()[1:]))
+    copy.sh("\n".join(commands("goshelf_VERSION_amd64.deb").replace("KEY", KEY).splitlines()[1:]))
     suite.equal("the tar file: goshelf answers", ask(copy, "-/modules"), "200")
 
 

@@ -1,4 +1,5 @@
 //! The command line: its commands, their options and their help.
+use crate::version::VERSION;
 use clap::builder::ValueParser;
 use clap::{Arg, ArgAction, Command};
 use std::alloc::{AllocError, Global};
@@ -378,7 +379,7 @@ fn program<'a>(alloc: Global) -> Result<Command<'a>, AllocError> {
 fn described<'a>(alloc: Global) -> Command<'a> {
     Command::new(alloc, "goshelf")
         .about("A private Go module proxy with team shelves")
-        .version("0.1.0")
+        .version(VERSION)
 }
 
 /// A command as help tells of it, without its options. Where forms are told, the command alone shows its help, as bad usage.

@@ -5,3 +5,4 @@ mod arguments;
 mod asked;
 pub mod command;
 pub mod performer;
+mod version;

@@ -116,6 +116,8 @@ init --db store.db | 1 not-empty
 """
 
 HEADER = "path,version,time,mod,zip\n"
+# what `serve` says of a file that is missing or empty
+NEW_STORE = "new store: the file of --db is missing or empty; without a key, each request gets a 404\n"
 LISTS = {
     "two.csv": HEADER + "example.com/i,v1.0.0,,i.mod,i.zip\nexample.com/i,v1.1.0,2024-01-01T00:00:00Z,i.mod,i.zip\n",
     "one.csv": HEADER + "example.com/i,v1.0.0,,i.mod,i.zip\n",
@@ -295,6 +297,25 @@ def quick_start(suite):
     suite.equal("the README counts its bytes", int(re.search(r"writes the (\d+)\s+bytes", page)[1]), len(replies))
 
 
+def new_store_told(suite):
+    """`serve` says before it listens that its store is new. No other command does, and it does not say so of another file."""
+    write({"empty.db": b"", "bad.db": b"no store"})
+    serve = "serve --db {} --port 0 --connections 0"
+    for name in ("none.db", "empty.db"):
+        status, _, told = run(serve.format(name).split())
+        suite.equal(f"serve on {name}", (status, told), (0, NEW_STORE))
+        status, _, told = run(serve.format(name).split())
+        suite.equal(f"serve on {name} again", (status, told), (0, ""))
+    suite.equal("serve on bytes that are no store", run(serve.format("bad.db").split()), (1, b"", "goshelf: bad-schema\n"))
+    suite.equal("serve on a folder", run(serve.format(".").split()), (1, b"", "goshelf: device\n"))
+    suite.equal("serve in a folder that is missing", run(serve.format("none/none.db").split()), (1, b"", NEW_STORE + "goshelf: device\n"))
+    suite.equal("answer on a missing file", run("answer --db answer.db".split()), (0, b"", ""))
+    suite.equal("team-add on a missing file", run("team-add --db team.db --team alpha".split()), (0, b"", ""))
+    with socket.create_server(("127.0.0.1", 0)) as taken:
+        words = f"serve --db other.db --port {taken.getsockname()[1]} --connections 0"
+        suite.equal("serve on a missing file and a port that is taken", run(words.split()), (1, b"", NEW_STORE + "goshelf: io\n"))
+
+
 def serve(suite):
     suite.runs("a new store", "init --db store.db | 0")
     status, output, told = run("serve --db store.db --port 0 --connections 0".split())
@@ -327,4 +348,4 @@ def address(suite):
 
 
 if __name__ == "__main__":
-    sys.exit(in_new_folders(Suite(), quick_start, names, bad_usage, helped, one_store, imports, seen, serve, address))
+    sys.exit(in_new_folders(Suite(), quick_start, names, bad_usage, helped, one_store, imports, seen, new_store_told, serve, address))

@@ -2,7 +2,8 @@
 ghost use Rattle.std.specs.Prelude.{◌≡◌};
 ghost use Rattle.clap.specs.Values.{kind_of};
 ghost use Rattle.commands.specs.Exit.{IsSilent};
-ghost use Rattle.command_line.specs.Run.{EndsShown, Exits, RefusesWords, Runs};
+ghost use Rattle.commands.specs.ImportLine.{PrintsFront};
+ghost use Rattle.command_line.specs.Run.{EndsShown, Exits, RefusesWords, Runs, Tells, new_store_line};
 
 use crate::arguments::parser;
 use crate::asked::task_of;
@@ -11,14 +12,18 @@ use clap::ArgMatches;
 use clap::error::ErrorKind;
 use commands::exit::Ending;
 use commands::refusal::Refusal;
+use commands::work::Work;
+use engine::write::write_bytes;
 use std::alloc::Global;
 use std::io::{self, Read, Write};
 use std::rt::HostRuntime;
+use tasks::Task;
 
 /// Runs the program by the words after its name and returns the exit status: 0 done, 1 refused, 2 bad usage.
 ///
 /// A refusal prints one line `goshelf: <word>` on `errors`; `publish` prints its outcome on `output` instead, and `import` a line
-/// for each row. Bad usage prints the parser's text on `errors`. The texts are tested and not proved.
+/// for each row. Bad usage prints the parser's text on `errors`, and `serve` a line if its store is new. The texts of the parser are
+/// tested and not proved.
 pub fn command<'a, I: Read, O: Write, E: Write>(
     rt: &'a HostRuntime,
     words: &[String],
@@ -62,33 +67,59 @@ fn run<P: Performer, I: Read, O: Write, E: Write>(
     output: &mut O,
     errors: &mut E,
 ) -> Ending
-    ensures runs { Runs P.performed performer.old performer.new
-        (I.remaining input.old) (I.remaining input.new) (O.contents output.old) (O.contents output.new) result }
-    ensures silent { IsSilent (E.contents errors.old) (E.contents errors.new) result }
+    ensures { Runs P.performed performer.old performer.new
+        (I.remaining input.old) (I.remaining input.new) (O.contents output.old) (O.contents output.new)
+        (E.contents errors.old) (E.contents errors.new) result }
 {
     let Ok(parser) = parser(alloc) else {
         return Ending::Refused(Refusal::Memory);
     };
     match parser.try_get_matches_from(words) {
-        Ok(matches) => perform_matched(performer, &matches, input, output),
+        Ok(matches) => perform_matched(performer, &matches, input, output, errors),
         Err(error) => show(error, output, errors),
     }
 }
 
 /// Does the task that the words ask for. The parser refuses words without a command.
-fn perform_matched<P: Performer, I: Read, O: Write>(
+fn perform_matched<P: Performer, I: Read, O: Write, E: Write>(
     performer: &mut P,
     matches: &ArgMatches<'_>,
     input: &mut I,
     output: &mut O,
+    errors: &mut E,
 ) -> Ending
     ensures { Runs P.performed performer.old performer.new
-        (I.remaining input.old) (I.remaining input.new) (O.contents output.old) (O.contents output.new) result }
+        (I.remaining input.old) (I.remaining input.new) (O.contents output.old) (O.contents output.new)
+        (E.contents errors.old) (E.contents errors.new) result }
 {
-    match task_of(matches) {
-        Some(task) => Ending::of_task(performer.perform(&task, input, output)),
-        None => Ending::BadUsage,
+    let Some(task) = task_of(matches) else {
+        return Ending::BadUsage;
+    };
+    tell_new_store(performer, &task, errors);
+    Ending::of_task(performer.perform(&task, input, output))
+}
+
+/// Writes a line on `errors` if the task serves a store that is new, because a mistyped name answers 404 to everybody.
+fn tell_new_store<P: Performer, E: Write>(performer: &P, task: &Task, errors: &mut E)
+    ensures { Tells (E.contents errors.old) (E.contents errors.new) task.now }
+{
+    match task {
+        Task::OnStore {
+            db,
+            work: Work::Serve { .. },
+        } if performer.is_new(db) => write_new_store(errors),
+        _ => {}
     }
+}
+
+/// Writes that line, or a beginning of it if a write fails.
+fn write_new_store<E: Write>(errors: &mut E)
+    ensures { PrintsFront (E.contents errors.old) (E.contents errors.new) new_store_line }
+{
+    let _ = write_bytes(
+        errors,
+        b"new store: the file of --db is missing or empty; without a key, each request gets a 404\n",
+    );
 }
 
 /// Shows the parser's text: help and the version on the output, what is wrong with the words on `errors`.

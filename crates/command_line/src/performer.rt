@@ -1,7 +1,9 @@
 //! What does the tasks of a run.
+use commands::files::is_empty_file;
 use commands::refusal::Refusal;
 use sqlite::{Start, Unknown};
-use std::io::{Read, Write};
+use std::fs;
+use std::io::{ErrorKind, Read, Write};
 use std::rt::HostRuntime;
 use store::open::FileShelves;
 use tasks::{Task, perform};
@@ -13,6 +15,9 @@ pub trait Performer {
 
     /// What is done for a task.
     ghost performed: { Performed Self };
+
+    /// Whether the file of a store is missing or empty, so that a task begins with a new store.
+    fn is_new(&self, db: &str) -> bool;
 
     /// Does a task and returns whether it was accepted, as [`tasks::perform`] does.
     fn perform<I: Read, O: Write>(
@@ -42,6 +47,10 @@ impl<'a> Performer for SystemStores<'a> {
         Performs ⟦<Found as Shelves>⟧.shown ⟦<Found as Shelves>⟧.failure_count (image_at ⟦<Unknown as Start>⟧)
         ⟦<Found as Shelves>⟧.shown ⟦<Found as Shelves>⟧.failure_count (image_at ⟦<Unknown as Start>⟧) };
 
+    fn is_new(&self, db: &str) -> bool {
+        is_empty_file(self.rt, db) || is_missing(self.rt, db)
+    }
+
     fn perform<I: Read, O: Write>(
         &mut self,
         task: &Task,
@@ -49,5 +58,13 @@ impl<'a> Performer for SystemStores<'a> {
         output: &mut O,
     ) -> Result<bool, Refusal> {
         perform(self.rt, task, Unknown, Unknown, input, output)
+    }
+}
+
+/// Whether there is no file of this name. One that the system does not show may be there.
+fn is_missing(rt: &HostRuntime, path: &str) -> bool {
+    match fs::metadata(rt, path) {
+        Ok(_) => false,
+        Err(error) => error.kind() == ErrorKind::NotFound,
     }
 }

@@ -3,14 +3,14 @@ ghost use Rattle.std.specs.Prelude.{◌≡◌, None, IfOk, IfErr};
 ghost use Rattle.engine.specs.First.{ServesFirst};
 ghost use Rattle.engine.specs.Isolated.{AnswersByItsShelf};
 
-use crate::bounds::{LONGEST_WAIT, PATIENCE};
-use crate::pace::Paced;
+use crate::pace::{Paced, Part};
 use crate::rest::drop_rest;
+use crate::wait::{BoundRead, BoundWrite};
 use engine::{Io, answer_one};
 use std::alloc::Global;
-use std::io::{self, Read, Write};
+use std::io;
 use std::net::{TcpListener, TcpStream};
-use std::time::{Clock, Duration};
+use std::time::Clock;
 use world::shelves::Shelves;
 
 /// The two ends of a connection, and how its first request was answered, as `answer_one` tells it.
@@ -21,17 +21,18 @@ pub struct Answered<R, W> {
     /// What the reply was written to.
     pub writer: W,
     /// The number of the status that was written, `None` where the peer sent nothing; `Io::Read` or `Io::Write` where a read or a
-    /// write failed, or began when the time for it was over.
+    /// write failed, or the time for it was over.
     pub told: Result<Option<u16>, Io>,
 }
 
 /// Answers the first request of a peer (RFC 9112, in the crate `wire`'s profile), as `engine::answer_one` does. All reads together
-/// have 10 seconds and one more for each 262,144 bytes that were read, and so have all writes; the time begins at the first of
-/// them. One that begins later fails, and so does one for which the clock can't be read.
+/// have 5 seconds and one more for each 1,048,576 bytes that were read, and so have all writes; the time begins at the first of
+/// them. Each wait is bounded to what is left of it. A read or a write fails where nothing is left, where the clock can't be read,
+/// and where its wait can't be bounded.
 ///
 /// `Io::Read`: nothing was done, and nothing written. `Io::Write`: a beginning of the reply was written, or the flush alone
 /// failed; the shelves are as after the request.
-pub fn answer_in_time<C: Clock, R: Read + Drop, W: Write + Drop, S: Shelves>(
+pub fn answer_in_time<C: Clock, R: BoundRead + Drop, W: BoundWrite + Drop, S: Shelves>(
     alloc: Global,
     clock: &C,
     reader: R,
@@ -47,20 +48,14 @@ pub fn answer_in_time<C: Clock, R: Read + Drop, W: Write + Drop, S: Shelves>(
     ensures isolated { AnswersByItsShelf (S.shown shelves.old) (S.shown shelves.new)
         (R.remaining reader) (W.contents writer) (W.contents result.writer) result.told }
 {
-    let mut request = Paced::new(reader, clock, PATIENCE);
-    let mut reply = Paced::new(writer, clock, PATIENCE);
+    let mut request = Paced::new(reader, clock, Part::Message);
+    let mut reply = Paced::new(writer, clock, Part::Message);
     let told = answer_one(alloc, &mut request, &mut reply, shelves);
     Answered {
         reader: request.into_inner(),
         writer: reply.into_inner(),
         told,
     }
-}
-
-/// Bounds each wait for the peer.
-fn limit_waits(stream: &TcpStream) -> io::Result<()> {
-    stream.set_read_timeout(Some(Duration::from_secs(LONGEST_WAIT)))?;
-    stream.set_write_timeout(Some(Duration::from_secs(LONGEST_WAIT)))
 }
 
 /// A connected peer.
@@ -97,7 +92,6 @@ impl Peer for TcpStream {
 
     ghost written = { λ _. None };
 
-    /// Bounds each wait too. A connection whose waits can't be bounded is not read.
     fn answer<C: Clock, S: Shelves>(
         &mut self,
         alloc: Global,
@@ -105,9 +99,6 @@ impl Peer for TcpStream {
         shelves: &mut S,
     ) -> Result<Option<u16>, Io> {
         let stream: &TcpStream = self;
-        if limit_waits(stream).is_err() {
-            return Err(Io::Read);
-        }
         answer_in_time(alloc, clock, stream, stream, shelves).told
     }
 

@@ -1,32 +1,42 @@
 //! How long a peer may take.
-ghost use Rattle.std.specs.Prelude.{◌≡◌, ◌+◌, ◌*◌, ◌/◌};
+ghost use Rattle.std.specs.Prelude.{◌≡◌, ◌+◌, ◌*◌, ◌/◌, ◌<◌, ◌≤◌, IfOk, IfSome, IfNone};
 ghost use Rattle.std.specs.Duration.{as_nanos};
 
-use crate::bounds::BYTES_A_SECOND;
+use crate::bounds::{BYTES_A_SECOND, PATIENCE, REST_PATIENCE};
+use crate::wait::{BoundRead, BoundWrite};
 use std::io::{self, ErrorKind, Read, Write};
 use std::time::{Clock, Duration, Instant};
 
-/// A stream whose peer has a time that grows with the bytes that it moves, and begins at the first read or write. One that begins
-/// later fails.
+/// What a peer has time for.
+#[derive(Clone, Copy)]
+pub(crate) enum Part {
+    /// The request, or the reply.
+    Message,
+    /// What comes behind the request.
+    Rest,
+}
+
+/// A stream whose peer has a time, which begins at the first read or write. One that begins later than that fails, and none waits
+/// longer than what is left.
 #[derive(Drop)]
 pub(crate) struct Paced<'a, C: Clock, T> {
     inner: T,
     clock: &'a C,
     begun: Option<Instant>,
-    patience: u32,
+    part: Part,
     moved: u64,
 }
 
 impl<'a, C: Clock, T: Drop> Paced<'a, C, T> {
     /// The stream with a time that has not begun.
-    pub(crate) fn new(inner: T, clock: &'a C, patience: u32) -> Paced<'a, C, T>
+    pub(crate) fn new(inner: T, clock: &'a C, part: Part) -> Paced<'a, C, T>
         ensures { result.inner ≡ inner }
     {
         Paced {
             inner,
             clock,
             begun: None,
-            patience,
+            part,
             moved: 0,
         }
     }
@@ -38,16 +48,18 @@ impl<'a, C: Clock, T: Drop> Paced<'a, C, T> {
         self.inner
     }
 
-    /// Begins the time of the peer, or fails where it is over.
-    fn check(&mut self) -> io::Result<()>
-        ensures { self.new.inner ≡ self.old.inner }
+    /// Begins the time of the peer, and returns what is left of it, or fails where it is over.
+    fn left(&mut self) -> io::Result<Duration>
+        ensures same { self.new.inner ≡ self.old.inner }
+        ensures some { IfOk result (λ left. 0 < as_nanos left) }
+        ensures message { self.old.part ≡ Part.Message →
+            IfOk result (λ left. as_nanos left ≤ (5 + self.old.moved / 1_048_576) * 1_000_000_000) }
+        ensures rest { self.old.part ≡ Part.Rest → IfOk result (λ left. as_nanos left ≤ 2_000_000_000) }
     {
         let now = Instant::now(self.clock)?;
         let begun = *self.begun.get_or_insert(now);
-        if now.duration_since(begun) > time_for(self.patience, self.moved) {
-            return Err(io::Error::from(ErrorKind::TimedOut));
-        }
-        Ok(())
+        let time = time_for(self.part, self.moved);
+        time_left(time, now.duration_since(begun)).ok_or(io::Error::from(ErrorKind::TimedOut))
     }
 
     /// So many bytes more were moved.
@@ -58,29 +70,47 @@ impl<'a, C: Clock, T: Drop> Paced<'a, C, T> {
     }
 }
 
-/// The time of a peer that began with so many seconds and has moved so many bytes.
-fn time_for(patience: u32, moved: u64) -> Duration
-    ensures { as_nanos result ≡ (patience + moved / 262_144) * 1_000_000_000 }
+/// The time of a peer that has moved so many bytes.
+fn time_for(part: Part, moved: u64) -> Duration
+    ensures message { part ≡ Part.Message → as_nanos result ≡ (5 + moved / 1_048_576) * 1_000_000_000 }
+    ensures rest { part ≡ Part.Rest → as_nanos result ≡ 2_000_000_000 }
 {
-    Duration::from_secs(patience as u64 + moved / BYTES_A_SECOND)
+    match part {
+        Part::Message => Duration::from_secs(PATIENCE + moved / BYTES_A_SECOND),
+        Part::Rest => Duration::from_secs(REST_PATIENCE),
+    }
 }
 
-impl<'a, C: Clock, T: Read + Drop> Read for Paced<'a, C, T> {
+/// What is left of a time of which so much is spent, `None` where it is over.
+fn time_left(time: Duration, spent: Duration) -> Option<Duration>
+    ensures some { IfSome result (λ left. (0 < as_nanos left) × (as_nanos left + as_nanos spent ≡ as_nanos time)) }
+    ensures none { IfNone result (as_nanos time ≤ as_nanos spent) }
+{
+    if spent < time {
+        time.checked_sub(spent)
+    } else {
+        None
+    }
+}
+
+impl<'a, C: Clock, T: BoundRead + Drop> Read for Paced<'a, C, T> {
     ghost remaining = { λ p. T.remaining p.inner };
 
     fn read(&mut self, buf: &mut [u8]) -> io::Result<usize> {
-        self.check()?;
+        let left = self.left()?;
+        self.inner.bound_reads(left)?;
         let n = self.inner.read(buf)?;
         self.count(n);
         Ok(n)
     }
 }
 
-impl<'a, C: Clock, T: Write + Drop> Write for Paced<'a, C, T> {
+impl<'a, C: Clock, T: BoundWrite + Drop> Write for Paced<'a, C, T> {
     ghost contents = { λ p. T.contents p.inner };
 
     fn write(&mut self, buf: &[u8]) -> io::Result<usize> {
-        self.check()?;
+        let left = self.left()?;
+        self.inner.bound_writes(left)?;
         let n = self.inner.write(buf)?;
         self.count(n);
         Ok(n)

@@ -1,8 +1,9 @@
 //! What a peer sends behind its message.
 ghost use Rattle.std.specs.Prelude.{◌≡◌, ◌==◌, ◌||◌};
 
-use crate::bounds::{LONGEST_REST_WAIT, MOST_DROPPED, REST_PATIENCE};
-use crate::pace::Paced;
+use crate::bounds::MOST_DROPPED;
+use crate::pace::{Paced, Part};
+use crate::wait::BoundRead;
 use std::io::{self, Read};
 use std::net::{Shutdown, TcpStream};
 use std::time::{Clock, Duration};
@@ -14,16 +15,43 @@ fn leaves_a_rest(status: u16) -> bool
     status == 400 || status == 413 || status == 503
 }
 
+/// What comes behind a message, and whether a read waits for it.
+#[derive(Drop)]
+struct Rest<'a> {
+    stream: &'a TcpStream,
+    waits: bool,
+}
+
+impl<'a> Read for Rest<'a> {
+    ghost use Rattle.std.specs.Prelude.{None};
+
+    ghost remaining = { λ _. None };
+
+    fn read(&mut self, buf: &mut [u8]) -> io::Result<usize> {
+        self.stream.read(buf)
+    }
+}
+
+impl<'a> BoundRead for Rest<'a> {
+    /// Needs no call of the system where no read waits.
+    fn bound_reads(&self, longest: Duration) -> io::Result<()> {
+        if self.waits {
+            self.stream.bound_reads(longest)
+        } else {
+            Ok(())
+        }
+    }
+}
+
 /// Shuts the writing side, and drops what the peer sent behind the message that was answered with this status, or still sends
 /// where its request may not have been read to its end.
 pub(crate) fn drop_rest<C: Clock>(clock: &C, stream: &TcpStream, status: u16) -> io::Result<()> {
     stream.shutdown(Shutdown::Write)?;
-    if leaves_a_rest(status) {
-        stream.set_read_timeout(Some(Duration::from_secs(LONGEST_REST_WAIT)))?;
-    } else {
+    let waits = leaves_a_rest(status);
+    if !waits {
         stream.set_nonblocking(true)?;
     }
-    skip(Paced::new(stream, clock, REST_PATIENCE))
+    skip(Paced::new(Rest { stream, waits }, clock, Part::Rest))
 }
 
 /// Reads to the end of a reader, or so many bytes, and drops them.

@@ -1,11 +1,11 @@
 //! A peer's time, by a clock of the test's own.
 use crate::connections::{PUBLISHED, PUT};
-use crate::doubles::shelves;
+use crate::doubles::{Sink, shelves};
 use engine::Io;
-use socket::answer_in_time;
+use socket::{Answered, BoundRead, BoundWrite, answer_in_time};
 use std::alloc::Global;
 use std::cell::Cell;
-use std::io::{self, Read};
+use std::io::{self, Chain, Read, Write};
 use std::test::Fail;
 use std::time::{Clock, Duration};
 
@@ -36,47 +36,125 @@ fn clock(step: u64) -> Steps {
     }
 }
 
-/// What is told of a message whose bytes come in two reads or more, by a clock with this step, and what is written for it.
-type Told = (Result<Option<u16>, Io>, Vec<u8>);
+/// A stream that never waits, and how long its last call might have waited.
+#[derive(Drop)]
+struct Bounded<T> {
+    inner: T,
+    longest: Cell<Duration>,
+}
 
-fn told(alloc: Global, step: u64, first: &[u8], last: &[u8]) -> Result<Told, Fail> {
+impl<T> Bounded<T> {
+    fn new(inner: T) -> Bounded<T> {
+        Bounded {
+            inner,
+            longest: Cell::new(Duration::ZERO),
+        }
+    }
+
+    fn millis(&self) -> u128 {
+        self.longest.get().as_millis()
+    }
+}
+
+impl<T: Read> Read for Bounded<T> {
+    fn read(&mut self, buf: &mut [u8]) -> io::Result<usize> {
+        self.inner.read(buf)
+    }
+}
+
+impl<T: Read> BoundRead for Bounded<T> {
+    fn bound_reads(&self, longest: Duration) -> io::Result<()> {
+        self.longest.set(longest);
+        Ok(())
+    }
+}
+
+impl<T: Write> Write for Bounded<T> {
+    fn write(&mut self, buf: &[u8]) -> io::Result<usize> {
+        self.inner.write(buf)
+    }
+
+    fn flush(&mut self) -> io::Result<()> {
+        self.inner.flush()
+    }
+}
+
+impl<T: Write> BoundWrite for Bounded<T> {
+    fn bound_writes(&self, longest: Duration) -> io::Result<()> {
+        self.longest.set(longest);
+        Ok(())
+    }
+}
+
+/// A reader that gives its bytes in two reads or more, and a writer, behind an answer.
+type Told<'a, W> = Answered<Bounded<Chain<&'a [u8], &'a [u8]>>, Bounded<W>>;
+
+/// Answers a message from these bytes, by a clock with this step.
+fn told<'a, W: Write + Drop>(
+    alloc: Global,
+    step: u64,
+    first: &'a [u8],
+    last: &'a [u8],
+    writer: W,
+) -> Result<Told<'a, W>, Fail> {
     let mut shelves = shelves(alloc)?;
-    let clock = clock(step);
-    let output = Vec::new(alloc);
-    let answered = answer_in_time(alloc, &clock, first.chain(last), output, &mut shelves);
-    let told = answered.told;
-    let writer = answered.writer;
-    Ok((told, writer))
+    let reader = Bounded::new(first.chain(last));
+    Ok(answer_in_time(
+        alloc,
+        &clock(step),
+        reader,
+        Bounded::new(writer),
+        &mut shelves,
+    ))
 }
 
 #[test]
 fn a_request_that_comes_in_time_is_answered(rt: HostRuntime) -> Result<(), Fail> {
     let (first, last) = PUT.split_at(20);
-    let (told, written) = told(rt.alloc(), 10_000, first, last)?;
-    assert!(rt; told == Ok(Some(201)));
-    assert!(rt; written.as_slice() == PUBLISHED.as_bytes());
+    let answered = told(rt.alloc(), 4_999, first, last, Vec::new(rt.alloc()))?;
+    assert!(rt; answered.told == Ok(Some(201)));
+    assert!(rt; answered.writer.inner.as_slice() == PUBLISHED.as_bytes());
+    // The second read began a millisecond before the end, and the first write begins a time of its own.
+    assert!(rt; answered.reader.millis() == 1);
+    assert!(rt; answered.writer.millis() == 5_000);
     Ok(())
 }
 
 #[test]
 fn a_read_that_begins_too_late_fails(rt: HostRuntime) -> Result<(), Fail> {
     let (first, last) = PUT.split_at(20);
-    let (told, written) = told(rt.alloc(), 10_001, first, last)?;
-    assert!(rt; told == Err(Io::Read));
-    assert!(rt; written.is_empty());
+    let answered = told(rt.alloc(), 5_000, first, last, Vec::new(rt.alloc()))?;
+    assert!(rt; answered.told == Err(Io::Read));
+    assert!(rt; answered.writer.inner.is_empty());
     Ok(())
 }
 
-/// The head of a publish whose zip has 524,288 bytes, and its go.mod.
+#[test]
+fn a_write_that_begins_too_late_fails(rt: HostRuntime) -> Result<(), Fail> {
+    // The reply has 114 bytes, and the sink takes 7 of them at each second call: the last of 34 calls begins after 33 steps.
+    let sink = Sink::new(rt.alloc(), usize::MAX);
+    let answered = told(rt.alloc(), 151, PUT, b"", sink)?;
+    assert!(rt; answered.told == Ok(Some(201)));
+    assert!(rt; answered.writer.millis() == 17);
+    let sink = Sink::new(rt.alloc(), usize::MAX);
+    let answered = told(rt.alloc(), 152, PUT, b"", sink)?;
+    assert!(rt; answered.told == Err(Io::Write));
+    assert!(rt; answered.writer.inner.taken.len() == 112);
+    Ok(())
+}
+
+/// The head of a publish whose zip has 1,114,112 bytes, and its go.mod.
 const LARGE: &[u8] =
-    b"PUT /k/alphakey00000001/example.com/lib/@v/v1.0.0 HTTP/1.1\r\nMod-Length: 23\r\nContent-Length: 524311\r\n\r\nmodule example.com/lib\n";
+    b"PUT /k/alphakey00000001/example.com/lib/@v/v1.0.0 HTTP/1.1\r\nMod-Length: 23\r\nContent-Length: 1114135\r\n\r\nmodule example.com/lib\n";
 
 #[test]
 fn bytes_that_are_moved_give_more_time(rt: HostRuntime) -> Result<(), Fail> {
-    let zip = vec![in rt.alloc(); b'z'; 524_288]?;
-    // A read for the head and the go.mod, and eight of 65,536 bytes. The ninth read begins after eight steps, when 458,752 bytes have
-    // come: 10 s are allowed, and 1 for the first 262,144.
-    assert!(rt; told(rt.alloc(), 1_375, LARGE, zip.as_slice())?.0 == Ok(Some(201)));
-    assert!(rt; told(rt.alloc(), 1_376, LARGE, zip.as_slice())?.0 == Err(Io::Read));
+    let zip = vec![in rt.alloc(); b'z'; 1_114_112]?;
+    // A read for the head and the go.mod, and 17 of 65,536 bytes. The last begins after 17 steps, when more than 1,048,576 bytes have
+    // come: 6 s are allowed. For the one before it 5 s are.
+    let answered = told(rt.alloc(), 312, LARGE, &zip, Vec::new(rt.alloc()))?;
+    assert!(rt; answered.told == Ok(Some(201)));
+    let answered = told(rt.alloc(), 313, LARGE, &zip, Vec::new(rt.alloc()))?;
+    assert!(rt; answered.told == Err(Io::Read));
     Ok(())
 }

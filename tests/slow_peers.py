@@ -1,9 +1,9 @@
 #!/usr/bin/env python3
-"""How long a request waits behind slow and hostile peers: at goshelf's own port, within its bounds, and through nginx, a second.
+"""How long a request waits behind slow and hostile peers: at goshelf's own port as long as its bounds, through nginx at most a second.
 
-goshelf answers one connection after another, so a peer holds up all others for as long as docs/REFERENCE.md says: 5 seconds to read a
-request and 5 to write its reply, each with one more for each MiB, and 2 to drop what comes behind it. Each kind of peer has a server of
-its own. A request is made behind one such peer, and behind three of them. Then the same peers come to nginx, by the files of deploy/.
+goshelf answers one connection after another, so a peer holds up all others, as docs/REFERENCE.md says: 5 seconds while it sends a
+request and 5 while it takes the reply, each with one more for each MiB, and 2 while it sends what nobody reads. Each kind of peer has a
+server of its own. A request is made behind one such peer, and behind three. Then the same peers come to nginx, by the files of deploy/.
 """
 
 import os
@@ -22,7 +22,7 @@ from harness import KEY, PROGRAM, Suite, answered, new_store, put, reply
 
 MIB = 1_048_576
 ZIP = os.urandom(16 * MIB)
-# seconds of reading a request or writing its reply, of the drain, and what a busy machine takes more
+# seconds of reading a request or writing its reply, of the drain, and those that a busy machine takes more
 PATIENCE, DRAIN, MARGIN = 5, 2, 2
 FOREVER = 3_600
 # seconds after which a request that is not answered ends the suite
@@ -31,7 +31,9 @@ TOO_LARGE = 18 * MIB
 
 
 class Door:
-    """goshelf's own port."""
+    """goshelf's own port, which closes each connection."""
+
+    closes = True
 
     def __init__(self, file):
         words = [PROGRAM, "serve", "--db", file, "--port", "0"]
@@ -70,7 +72,9 @@ class Door:
 
 
 class Front:
-    """The port of nginx."""
+    """The port of nginx, which may keep a connection."""
+
+    closes = False
 
     def __init__(self, client):
         self.client, self.port = client, client.machine.front
@@ -117,21 +121,17 @@ class Peer:
         self.got += self.held.recv(most)
 
     def end(self):
-        """Stops, and returns all that it was sent."""
+        """Stops, and returns all that it was sent where the connection was closed."""
         self.stopped.set()
         self.thread.join()
         try:
-            while self.door_closed() and (part := self.held.recv(MIB)):
+            while self.held and self.door.closes and (part := self.held.recv(MIB)):
                 self.got += part
         except OSError:
             pass
         if self.held:
             self.held.close()
         return self.got
-
-    def door_closed(self):
-        """Whether what is left to read ends: goshelf closes each connection, and nginx keeps some."""
-        return self.held and isinstance(self.door, Door)
 
 
 def is_silent(peer):
@@ -239,7 +239,7 @@ def behind(door, acts, count):
     """Makes a request behind so many peers. Returns the seconds until it is answered, and what each peer was sent."""
     peers = [Peer(door, acts) for _ in range(count)]
     for it in peers:
-        # most go on for as long as they are let; others have come and gone then
+        # these come and go, and the others go on for as long as they are let
         it.thread.join(30 if acts in (is_reset_in_mid_zip, closes_1000_connections) else 0.1)
     seconds = door.asked()
     return seconds, [it.end() for it in peers]
@@ -271,7 +271,6 @@ def own_port(suite, folder):
             most = len(sent) * patience + sum(map(len, sent)) / MIB
             row = f"behind {len(sent)} that {name}: {seconds:.1f} s, at most {most:.1f} and {MARGIN}"
             suite.holds(row, seconds <= most + MARGIN)
-            # what one that was reset was sent is lost
             statuses = {it[9:12] for it in sent}
             suite.equal(f"{len(sent)} that {name}: the status", statuses, {str(status or "").encode()})
 

@@ -118,7 +118,10 @@ class Peer:
         self.held.sendall(sent)
 
     def reads(self, most):
-        self.got += self.held.recv(most)
+        """Reads some bytes, and returns them: none at the end."""
+        part = self.held.recv(most)
+        self.got += part
+        return part
 
     def end(self):
         """Stops, and returns all that it was sent where the connection was closed."""
@@ -190,8 +193,8 @@ def feeds_the_drain(peer):
 def is_reset_in_mid_zip(peer):
     asks_for_the_zip(peer)
     yield 0
-    while len(peer.got) < MIB:
-        peer.reads(65_536)
+    while len(peer.got) < MIB and peer.reads(65_536):
+        pass
     # a close that lingers for no time sends a reset
     peer.held.setsockopt(socket.SOL_SOCKET, socket.SO_LINGER, struct.pack("ii", 1, 0))
     peer.held.close()

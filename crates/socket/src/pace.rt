@@ -86,11 +86,8 @@ fn time_left(time: Duration, spent: Duration) -> Option<Duration>
     ensures some { IfSome result (λ left. (0 < as_nanos left) × (as_nanos left + as_nanos spent ≡ as_nanos time)) }
     ensures none { IfNone result (as_nanos time ≤ as_nanos spent) }
 {
-    if spent < time {
-        time.checked_sub(spent)
-    } else {
-        None
-    }
+    let left = time.checked_sub(spent)?;
+    if left.is_zero() { None } else { Some(left) }
 }
 
 impl<'a, C: Clock, T: BoundRead + Drop> Read for Paced<'a, C, T> {

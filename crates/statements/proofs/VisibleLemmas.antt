@@ -1,10 +1,9 @@
 -- What the queries of versions and of paths answer.
-use Rattle.std.proofs.Common.{◌≡◌, ◌⊎◌, ◌↔◌, ◌∙◌, ℕ, Bool, true, false, List, [], ◌∷◌, ◌++◌, Option, Some, None, is_some, ◌+◌, ◌<◌, length, take, get_or, inl, inr, refl, sym, ap, subst, true≢false}
-use Rattle.std.specs.Option.{option_or}
+use Rattle.std.proofs.Common.{◌≡◌, ◌⊎◌, ◌↔◌, ◌∙◌, ℕ, Bool, true, false, List, [], ◌∷◌, ◌++◌, Some, is_some, ◌+◌, ◌<◌, length, take, get_or, inl, inr, refl, sym, ap, subst}
 use Rattle.std.specs.FinMap as map
 use Rattle.std.specs.FinSet as set
 use Rattle.std.specs.FinSet.{same_set}
-use Rattle.std.proofs.lemmas.Bool.{and_parts}
+use Rattle.std.proofs.lemmas.Bool.{and_parts, or_cases, or_left, or_right}
 use Rattle.std.proofs.lemmas.List.{take_more}
 use Rattle.sqlite.specs.declared.types.Value.TheVariants.{Text}
 use Rattle.sqlite.specs.Collation.TheVariants.{Binary}
@@ -16,18 +15,36 @@ use Rattle.sqlite.specs.Query.{Query}
 use Rattle.sqlite.specs.Effect.{Database, Reads}
 use Rattle.sqlite_rules.proofs.ListLemmas.{has_left, has_right, has_either}
 use Rattle.world.specs.declared.entry.Entry.{Entry}
-use Rattle.world.specs.World.{World, common, place, text_cmp, seen_at, view}
-use Rattle.world.specs.Visible.{versions_seen, paths_seen}
+use Rattle.world.specs.World.{World, place, text_cmp}
+use Rattle.world.specs.Visible.{versions_among, paths_among}
 use Rattle.world.proofs.Orders.{texts_total, texts_exact}
 use Rattle.world.proofs.Sound.{still}
-use Rattle.world.proofs.Seen.{contains_versions, contains_paths}
+use Rattle.world.proofs.Seen.{contains_among, path_among}
+use Rattle.world.proofs.SeenVersions.{some_of}
 use Rattle.tables.specs.Means.{Means, IsAt}
 use Rattle.statements.specs.Lookup.{lookup, AreFound}
-use Rattle.statements.specs.Lists.{Adds, AddsTexts, AddsVersions, AddsPaths, IsShown}
+use Rattle.statements.specs.Lists.{AddsTexts, IsShown}
 use Rattle.tables.proofs.Maps.{text_put, text_splits}
 use Rattle.tables.proofs.ValueLemmas.{equals_text, equals_itself}
 use Rattle.statements.proofs.LookupLemmas.{asks, all_found}
 use Rattle.tables.proofs.CountedRows.{same_place}
+
+-- ---- the texts that rows show
+
+same_truth : (a b : Bool) → ((a ≡ true) ↔ (b ≡ true)) → a ≡ b
+same_truth true true h = refl
+same_truth true false h = sym (h.0 refl)
+same_truth false true h = h.1 refl
+same_truth false false h = refl
+
+-- where they are the members of a set, that set is added
+set_added : (rows : List Row) (more old new : set.FinSet text_cmp) → ((t : List ℕ) → IsShown rows t ↔ (set.contains more t ≡ true)) → AddsTexts rows old new → new ≡ set.union more old
+set_added rows more old new shown adds = same_set texts_total texts_exact new (set.union more old) (λ t.
+    let either = set.contains-union texts_total more old t in
+    same_truth (set.contains new t) (set.contains (set.union more old) t) (
+      λ h. either ∙ elim ((adds t).0 h) [ inl was ↦ or_right _ _ was | inr is ↦ or_left _ _ ((shown t).0 is) ],
+      λ h. (adds t).1 (elim (or_cases (set.contains more t) _ (sym either ∙ h)) [ inl is ↦ inr ((shown t).1 is) | inr was ↦ inl was ]),
+    ))
 
 -- ---- the versions of a path on a shelf
 
@@ -36,13 +53,6 @@ by_path = op2 (Compare Eq Binary) (col 1 2) (col 0 0) ∷ op2 (Compare Eq Binary
 
 abbrev pub versions_query : Query
 versions_query = lookup 6 by_path (col 1 4 ∷ [])
-
--- what is added to a set that had none of it
-exchanged : (P Q : List ℕ → Type 0) (old new : set.FinSet text_cmp) → ((t : List ℕ) → P t → Q t) → ((t : List ℕ) → Q t → P t) → Adds P old new → Adds Q old new
-exchanged P Q old new to from adds t = (
-  λ h. elim ((adds t).0 h) [ inl was ↦ inl was | inr is ↦ inr (to t is) ],
-  λ h. (adds t).1 (elim h [ inl was ↦ inl was | inr is ↦ inr (from t is) ]),
-)
 
 module _ (shelf path : List ℕ) (db : Database) (w : World) (means : Means db.trees w) (out : List Row) where
   abbrev params : Row
@@ -67,8 +77,18 @@ module _ (shelf path : List ℕ) (db : Database) (w : World) (means : Means db.t
       let at = it.2.place in
       (eval_all (col 1 4 ∷ []) (params ∷ it.0 ∷ []), found.complete it.0 it.1 (rw (at.0, at.1, equals_itself shelf, equals_itself path) refl), at.2)
 
-  pub versions_added : (old new : set.FinSet text_cmp) → Reads (asks versions_query) db params out → AddsTexts out old new → AddsVersions w shelf path old new
-  versions_added old new read adds = exchanged _ _ old new (versions_sound (found read)) (versions_complete (found read)) adds
+  abbrev versions : set.FinSet text_cmp
+  versions = versions_among shelf path (map.entries w.entries)
+
+  versions_shown : AreFound (db.trees 6) by_path (col 1 4 ∷ []) params out → (v : List ℕ) → IsShown out v ↔ (set.contains versions v ≡ true)
+  versions_shown found v =
+      let there : set.contains versions v ≡ is_some (map.get w.entries (place shelf path v)) =
+      contains_among shelf path v (map.entries w.entries) ∙ ap is_some (sym (map.get-entries w.entries (place shelf path v))) in
+      let some = some_of (map.get w.entries (place shelf path v)) in
+      (λ shown. there ∙ some.1 (versions_sound found v shown), λ h. versions_complete found v (some.0 (sym there ∙ h)))
+
+  pub versions_added : (old new : set.FinSet text_cmp) → Reads (asks versions_query) db params out → AddsTexts out old new → new ≡ set.union versions old
+  versions_added old new read = set_added out versions old new (versions_shown (found read))
 
 -- ---- the paths on a shelf
 
@@ -97,8 +117,20 @@ module _ (shelf : List ℕ) (db : Database) (w : World) (means : Means db.trees 
       let at = it.2.place in
       (eval_all (col 1 3 ∷ []) ((Text shelf ∷ []) ∷ it.0 ∷ []), found.complete it.0 it.1 (rw (at.0, equals_itself shelf) refl), at.1)
 
-  pub paths_added : (old new : set.FinSet text_cmp) → Reads (asks paths_query) db (Text shelf ∷ []) out → AddsTexts out old new → AddsPaths w shelf old new
-  paths_added old new read adds = exchanged _ _ old new (paths_sound (found_paths read)) (paths_complete (found_paths read)) adds
+  abbrev paths : set.FinSet text_cmp
+  paths = paths_among shelf (map.entries w.entries)
+
+  paths_shown : AreFound (db.trees 6) by_shelf (col 1 3 ∷ []) (Text shelf ∷ []) out → (p : List ℕ) → IsShown out p ↔ (set.contains paths p ≡ true)
+  paths_shown found p =
+      let there = λ (v : List ℕ). ap is_some (map.get-entries w.entries (place shelf p v)) in
+      let some = λ (v : List ℕ). some_of (map.get w.entries (place shelf p v)) in
+      let among = path_among shelf p (map.entries w.entries) in (
+        λ shown. let it = paths_sound found p shown in among.1 (it.0, sym (there it.0) ∙ (some it.0).1 (it.1, it.2)),
+        λ h. let it = among.0 h in let e = (some it.0).0 (there it.0 ∙ it.1) in paths_complete found p (it.0, e.0, e.1),
+      )
+
+  pub paths_added : (old new : set.FinSet text_cmp) → Reads (asks paths_query) db (Text shelf ∷ []) out → AddsTexts out old new → new ≡ set.union paths old
+  paths_added old new read = set_added out paths old new (paths_shown (found_paths read))
 
 -- ---- row by row
 
@@ -125,49 +157,3 @@ one_more rows at row text old mid new within is shows made adds = subst (λ l. A
       | inr (inl last) ↦ (let same : text ≡ t = let e = sym shows ∙ (ap (λ (r : Row). column r 0) (sym last) ∙ shown.2) in cc in subst (λ s. set.contains s t ≡ true) (sym made) (subst (λ x. set.contains (set.insert mid text) x ≡ true) same (text_put mid text)))
       | inr (inr none) ↦ absurd none
     ]
-
--- ---- the own shelf and `common`
-
-same_truth : (a b : Bool) → ((a ≡ true) ↔ (b ≡ true)) → a ≡ b
-same_truth true true h = refl
-same_truth true false h = sym (h.0 refl)
-same_truth false true h = h.1 refl
-same_truth false false h = refl
-
--- what is added to the empty set, and then to that
-twice : (P Q : List ℕ → Type 0) (mid new : set.FinSet text_cmp) → Adds P set.empty mid → Adds Q mid new → (t : List ℕ) → (set.contains new t ≡ true) ↔ (P t ⊎ Q t)
-twice P Q mid new first next t = (
-  λ h. elim ((next t).0 h) [
-    | inl was ↦ elim ((first t).0 was) [ inl none ↦ absurd (true≢false (sym none ∙ set.contains-empty text_cmp t)) | inr is ↦ inl is ]
-    | inr is ↦ inr is
-  ],
-  λ h. (next t).1 (elim h [ inl is ↦ inl ((first t).1 (inr is)) | inr is ↦ inr is ]),
-)
-
-some_seen : (a b : Option Entry) (s t : List ℕ) → (is_some (option_or (seen_at a s) (option_or (seen_at b t) None)) ≡ true) ↔ (((e : Entry) × (a ≡ Some e)) ⊎ ((e : Entry) × (b ≡ Some e)))
-some_seen (Some e) b s t = (λ _. inl (e, refl), λ _. refl)
-some_seen None (Some e) s t = (λ _. inr (e, refl), λ _. refl)
-some_seen None None s t = (λ h. absurd (true≢false (sym h)), λ h. elim h [ inl it ↦ absurd (let e = it.1 in cc) | inr it ↦ absurd (let e = it.1 in cc) ])
-
-module _ (w : World) (s : List ℕ) (mid new : set.FinSet text_cmp) where
-  pub versions_whole : (p : List ℕ) → AddsVersions w s p set.empty mid → AddsVersions w common p mid new → new ≡ versions_seen w s p
-  versions_whole p first next = same_set texts_total texts_exact new (versions_seen w s p) (λ v. each v)
-    where
-      each : (v : List ℕ) → set.contains new v ≡ set.contains (versions_seen w s p) v
-      each v =
-          let both = twice _ _ mid new first next v in
-          let seen = some_seen (map.get w.entries (place s p v)) (map.get w.entries (place common p v)) s common in
-          same_truth (set.contains new v) (is_some (view w s p v)) (λ h. seen.1 (both.0 h), λ h. both.1 (seen.0 h)) ∙ sym (contains_versions w s p v)
-
-  pub paths_whole : AddsPaths w s set.empty mid → AddsPaths w common mid new → new ≡ paths_seen w s
-  paths_whole first next = same_set texts_total texts_exact new (paths_seen w s) (λ p. each p)
-    where
-      each : (p : List ℕ) → set.contains new p ≡ set.contains (paths_seen w s) p
-      each p =
-          let both = twice _ _ mid new first next p in
-          let seen = λ (v : List ℕ). some_seen (map.get w.entries (place s p v)) (map.get w.entries (place common p v)) s common in
-          let is = contains_paths w s p in
-          same_truth (set.contains new p) (set.contains (paths_seen w s) p) (
-            λ h. is.1 (elim (both.0 h) [ inl it ↦ (it.0, (seen it.0).1 (inl (it.1, it.2))) | inr it ↦ (it.0, (seen it.0).1 (inr (it.1, it.2))) ]),
-            λ h. let it = is.0 h in both.1 (elim ((seen it.0).0 it.1) [ inl e ↦ inl (it.0, e.0, e.1) | inr e ↦ inr (it.0, e.0, e.1) ]),
-          )

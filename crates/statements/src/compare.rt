@@ -1,19 +1,16 @@
 //! How an entry that is handed in stands to those in the tables. A zip that is there is compared where
 //! its rows have it.
 
-ghost use Rattle.std.specs.Prelude.{◌≡◌, IfOk, IsTrue};
-ghost use Rattle.std.specs.FinMap as map;
+ghost use Rattle.std.specs.Prelude.{◌≡◌, IfOk};
 ghost use Rattle.sqlite.specs.Held.{state};
-ghost use Rattle.world.specs.Standing.{standing, standing_to};
-ghost use Rattle.world.specs.World.{place};
+ghost use Rattle.world.specs.Standing.{standing};
 ghost use Rattle.statements.specs.Calls.{InEachWorld, Spares};
 ghost use Rattle.statements.specs.Reading.{same_heading};
 
-use crate::entries::row_at;
+use crate::entries::row_seen;
 use crate::pieces::has_zip;
 use sqlite::{Alter, Connection, Error};
 use world::entry::{EntryRef, Heading};
-use world::names::COMMON;
 use world::standing::{Standing, standing_to};
 
 /// Whether an entry has this go.mod and this time.
@@ -33,32 +30,6 @@ fn has_heading(heading: &Heading, entry: &EntryRef) -> bool
     standing_to(&there, &here) == Standing::Same
 }
 
-/// How an entry stands to that of a version on a shelf.
-fn standing_at<S: Alter>(
-    conn: &mut Connection<S>,
-    shelf: &str,
-    path: &str,
-    version: &str,
-    entry: &EntryRef,
-) -> Result<Standing, Error>
-    ensures spares { Spares (state S.Store conn.old) (state S.Store conn.new) }
-    ensures answer { InEachWorld (state S.Store conn.old) (state S.Store conn.new) (λ old new w.
-        IfOk result (λ found. IsTrue old.is_open × IsTrue new.is_open
-        × (found ≡ standing_to (map.get w.entries (place shelf.now path.now version.now)) entry.now))) }
-{
-    let Some(row) = row_at(conn, shelf, path, version)? else {
-        return Ok(Standing::Absent);
-    };
-    if !has_heading(&row.heading, entry) {
-        return Ok(Standing::Other);
-    }
-    if has_zip(conn, row.id, entry.zip)? {
-        Ok(Standing::Same)
-    } else {
-        Ok(Standing::Other)
-    }
-}
-
 /// How an entry stands to what a shelf sees of a version: to its own entry, or else to that of `common`.
 pub fn find_standing<S: Alter>(
     conn: &mut Connection<S>,
@@ -71,8 +42,15 @@ pub fn find_standing<S: Alter>(
     ensures answer { InEachWorld (state S.Store conn.old) (state S.Store conn.new) (λ _ _ w.
         IfOk result (λ found. found ≡ standing w shelf.now path.now version.now entry.now)) }
 {
-    match standing_at(conn, shelf, path, version, entry)? {
-        Standing::Absent => standing_at(conn, COMMON, path, version, entry),
-        found => Ok(found),
+    let Some(row) = row_seen(conn, shelf, path, version)? else {
+        return Ok(Standing::Absent);
+    };
+    if !has_heading(&row.heading, entry) {
+        return Ok(Standing::Other);
+    }
+    if has_zip(conn, row.id, entry.zip)? {
+        Ok(Standing::Same)
+    } else {
+        Ok(Standing::Other)
     }
 }

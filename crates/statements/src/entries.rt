@@ -1,6 +1,6 @@
 //! Entries over SQL tables.
 
-ghost use Rattle.std.specs.Prelude.{◌≡◌, ◌≤◌, pos, true, string_bytes, option_map, IfOk, OnOk, is_ok, IsTrue};
+ghost use Rattle.std.specs.Prelude.{◌≡◌, ◌≤◌, [], ◌∷◌, pos, true, string_bytes, option_map, IfOk, OnOk, is_ok, IsTrue};
 ghost use Rattle.std.specs.FinMap as map;
 ghost use Rattle.sqlite.specs.declared.types.Value.TheVariants.{Int, Text as StoredText, Blob};
 ghost use Rattle.sqlite.specs.Order.{column};
@@ -9,7 +9,7 @@ ghost use Rattle.sqlite.specs.Held.{state};
 ghost use Rattle.sqlite.specs.State.{KeepsCommit, Survives};
 ghost use Rattle.sqlite_trees.specs.View.{doubt};
 ghost use Rattle.modver.specs.SemanticVersion.{version_text};
-ghost use Rattle.world.specs.World.{place, seen_at, view, heading_of, heading, count, with_entry};
+ghost use Rattle.world.specs.World.{place, first_on, view, heading, count, with_entry};
 ghost use Rattle.tables.specs.Schema.{version_table};
 ghost use Rattle.tables.specs.Means.{StandsFor};
 ghost use Rattle.tables.specs.Inserted.{Inserted};
@@ -79,7 +79,7 @@ fn read_version(row: &Row) -> Result<VersionRow, Error>
 }
 
 /// The row of a version on a shelf.
-pub(crate) fn row_at<S: Alter>(
+fn row_at<S: Alter>(
     conn: &mut Connection<S>,
     shelf: &str,
     path: &str,
@@ -90,7 +90,7 @@ pub(crate) fn row_at<S: Alter>(
         OnOk result (new.now ≡ old.now)) }
     ensures answer { InEachWorld (state S.Store conn.old) (state S.Store conn.new) (λ old new w.
         IfOk result (λ found. IsTrue old.is_open × IsTrue new.is_open
-        × HasRow old.now.trees w (place shelf.now path.now version.now) found)) }
+        × HasRow old.now.trees (first_on w (shelf.now ∷ []) path.now version.now) found)) }
 {
     match find_row(
         conn,
@@ -102,31 +102,23 @@ pub(crate) fn row_at<S: Alter>(
     }
 }
 
-/// The entry of a version on a shelf, with the shelf.
-fn entry_at<S: Alter>(
-    alloc: Global,
+/// The row of the version that a shelf sees: its own, or else that of `common`.
+pub(crate) fn row_seen<S: Alter>(
     conn: &mut Connection<S>,
     shelf: &str,
     path: &str,
     version: &str,
-) -> Result<Option<Seen>, Error>
+) -> Result<Option<VersionRow>, Error>
     ensures spares { Spares (state S.Store conn.old) (state S.Store conn.new) }
+    ensures same { InEachWorld (state S.Store conn.old) (state S.Store conn.new) (λ old new _.
+        OnOk result (new.now ≡ old.now)) }
     ensures answer { InEachWorld (state S.Store conn.old) (state S.Store conn.new) (λ old new w.
-        IfOk result (λ found. IsTrue old.is_open × IsTrue new.is_open
-        × (found ≡ seen_at (map.get w.entries (place shelf.now path.now version.now)) shelf.now))) }
+        IfOk result (λ found. HasRow old.now.trees (view w shelf.now path.now version.now) found)) }
 {
-    let Some(row) = row_at(conn, shelf, path, version)? else {
-        return Ok(None);
-    };
-    let zip = find_zip(alloc, conn, row.id)?;
-    Ok(Some(Seen {
-        shelf: row.shelf,
-        entry: Entry {
-            gomod: row.heading.gomod,
-            zip,
-            time: row.heading.time,
-        },
-    }))
+    match row_at(conn, shelf, path, version)? {
+        Some(row) => Ok(Some(row)),
+        None => row_at(conn, COMMON, path, version),
+    }
 }
 
 /// The entry that a shelf sees: its own, or else that of `common`.
@@ -141,28 +133,18 @@ pub fn find_entry<S: Alter>(
     ensures answer { InEachWorld (state S.Store conn.old) (state S.Store conn.new) (λ _ _ w.
         IfOk result (λ found. found ≡ view w shelf.now path.now version.now)) }
 {
-    match entry_at(alloc, conn, shelf, path, version)? {
-        Some(seen) => Ok(Some(seen)),
-        None => entry_at(alloc, conn, COMMON, path, version),
-    }
-}
-
-/// What a version on a shelf shows without its zip, which is not read.
-fn heading_at<S: Alter>(
-    conn: &mut Connection<S>,
-    shelf: &str,
-    path: &str,
-    version: &str,
-) -> Result<Option<Heading>, Error>
-    ensures spares { Spares (state S.Store conn.old) (state S.Store conn.new) }
-    ensures answer { InEachWorld (state S.Store conn.old) (state S.Store conn.new) (λ old new w.
-        IfOk result (λ found. IsTrue old.is_open × IsTrue new.is_open
-        × (found ≡ option_map heading_of (map.get w.entries (place shelf.now path.now version.now))))) }
-{
-    match row_at(conn, shelf, path, version)? {
-        Some(row) => Ok(Some(row.heading)),
-        None => Ok(None),
-    }
+    let Some(row) = row_seen(conn, shelf, path, version)? else {
+        return Ok(None);
+    };
+    let zip = find_zip(alloc, conn, row.id)?;
+    Ok(Some(Seen {
+        shelf: row.shelf,
+        entry: Entry {
+            gomod: row.heading.gomod,
+            zip,
+            time: row.heading.time,
+        },
+    }))
 }
 
 /// What a shelf sees of a version without its zip: of its own, or else of that of `common`.
@@ -177,9 +159,9 @@ pub fn find_heading<S: Alter>(
     ensures answer { InEachWorld (state S.Store conn.old) (state S.Store conn.new) (λ _ _ w.
         IfOk result (λ found. found ≡ heading w shelf.now path.now version.now)) }
 {
-    match heading_at(conn, shelf, path, version)? {
-        Some(heading) => Ok(Some(heading)),
-        None => heading_at(conn, COMMON, path, version),
+    match row_seen(conn, shelf, path, version)? {
+        Some(row) => Ok(Some(row.heading)),
+        None => Ok(None),
     }
 }
 

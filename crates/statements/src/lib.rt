@@ -14,7 +14,7 @@
 //! | `entries::find_entry` | the row of `version` on the own shelf, or else on `common`, then the last of its rows of `piece`, and in one walk all of them, one after the other |
 //! | `entries::find_heading` | the row of `version` on the own shelf, or else on `common`, and no row of `piece` |
 //! | `compare::find_standing` | those of `find_heading`, then each row of `piece` by its number, up to the first piece that is another |
-//! | `visible::find_versions`, `find_paths` | the rows of `version` on the own shelf, then those on `common` |
+//! | `visible::find_versions`, `find_paths` | the rows of `version` on `common`, then those on the own shelf |
 //! | `entries::count_entries` | how many rows of `version` the path has on the shelf |
 //! | `entries::add_entry` | the row of `version` that has the last number, and where there is one, that of the lowest; then in one transaction a row of `version`, with the keys of its version, and a row of `piece` for each piece of the zip |
 //! | `registry::add_team` | that of `has_shelf`, then a row of `shelf` |

@@ -1,11 +1,13 @@
 //! Which versions of a path, and which paths, a shelf sees, over SQL tables.
 
 ghost use Rattle.std.specs.Prelude.{◌≡◌, IfOk, OnOk};
+ghost use Rattle.std.specs.FinMap as map;
+ghost use Rattle.std.specs.FinSet as set;
 ghost use Rattle.sqlite.specs.Held.{state};
 ghost use Rattle.world.specs.Versions.{versions_of};
-ghost use Rattle.world.specs.Visible.{paths_seen};
+ghost use Rattle.world.specs.Visible.{versions_among, paths_among, paths_seen};
 ghost use Rattle.statements.specs.Calls.{InEachWorld, Spares};
-ghost use Rattle.statements.specs.Lists.{AddsTexts, AddsVersions, AddsPaths};
+ghost use Rattle.statements.specs.Lists.{AddsTexts};
 
 use crate::query::find_rows;
 use sqlite::{Alter, Connection, Error, Row, params};
@@ -35,7 +37,7 @@ fn add_versions<S: Alter>(
 ) -> Result<(), Error>
     ensures spares { Spares (state S.Store conn.old) (state S.Store conn.new) }
     ensures adds { InEachWorld (state S.Store conn.old) (state S.Store conn.new) (λ _ _ w.
-        OnOk result (AddsVersions w shelf.now path.now texts.old texts.new)) }
+        OnOk result (texts.new ≡ set.union (versions_among shelf.now path.now (map.entries w.entries)) texts.old)) }
 {
     let rows = find_rows(
         conn,
@@ -53,7 +55,7 @@ fn add_paths<S: Alter>(
 ) -> Result<(), Error>
     ensures spares { Spares (state S.Store conn.old) (state S.Store conn.new) }
     ensures adds { InEachWorld (state S.Store conn.old) (state S.Store conn.new) (λ _ _ w.
-        OnOk result (AddsPaths w shelf.now texts.old texts.new)) }
+        OnOk result (texts.new ≡ set.union (paths_among shelf.now (map.entries w.entries)) texts.old)) }
 {
     let rows = find_rows(
         conn,
@@ -76,8 +78,8 @@ pub fn find_versions<S: Alter>(
         IfOk result (λ versions. versions ≡ versions_of w shelf.now path.now)) }
 {
     let mut texts = TextSet::new(alloc);
-    add_versions(conn, shelf, path, &mut texts)?;
     add_versions(conn, COMMON, path, &mut texts)?;
+    add_versions(conn, shelf, path, &mut texts)?;
     Ok(ascending(alloc, &texts)?)
 }
 
@@ -92,7 +94,7 @@ pub fn find_paths<S: Alter>(
         IfOk result (λ texts. texts ≡ paths_seen w shelf.now)) }
 {
     let mut texts = TextSet::new(alloc);
-    add_paths(conn, shelf, &mut texts)?;
     add_paths(conn, COMMON, &mut texts)?;
+    add_paths(conn, shelf, &mut texts)?;
     Ok(texts)
 }

@@ -1,22 +1,34 @@
-use Rattle.std.proofs.Common.{sym, ◌∙◌}
+use Rattle.std.proofs.Common.{sym, subst, to_z-of_z, w64, SFits, rules}
 use Rattle.sqlite.specs.Held.{state}
+use Rattle.sqlite.specs.Effect.{Database}
+use Rattle.world.specs.World.{view}
+use Rattle.statements.specs.Reading.{HasRow, IsZip}
 use Rattle.tables.proofs.FailureLemmas.{was_clean}
 use Rattle.statements.proofs.CallLemmas.{spares_then}
-use Rattle.statements.proofs.HeadingLemmas.{view_own, view_common}
-use Rattle.statements.proofs.ChangeLemmas.{weaker}
+use Rattle.statements.proofs.HeadingLemmas.{entry_of_row}
 use Rattle.statements.proofs.entries.find_entry.Goals as goal
 
-pub returns-in-Some-clause-answer : goal.returns-in-Some-clause-answer
-returns-in-Some-clause-answer g c clean w stands =
-    let h = c.in_ok-seen.ensures.answer clean w stands in view_own w c.args.shelf.now c.args.path.now c.args.version.now c.in-Some.seen (sym c.in-Some.is ∙ h.2)
+pub returns-in_default-clause-answer : goal.returns-in_default-clause-answer
+returns-in_default-clause-answer g c clean w stands =
+    let old = state g.S.Store c.args.conn.now in
+    let seen = view w c.args.shelf.now c.args.path.now c.args.version.now in
+    sym (subst (HasRow old.now.trees seen) c.in_default.is (c.in_ok-row.ensures.answer clean w stands))
 
-pub returns-in-None-clause-spares : goal.returns-in-None-clause-spares
-returns-in-None-clause-spares g c = spares_then _ _ _ c.entry_at.ensures.spares c.entry_at-in-None.ensures.spares
+pub returns-in_err-zip-clause-spares : goal.returns-in_err-zip-clause-spares
+returns-in_err-zip-clause-spares g c = spares_then _ _ _ c.row_seen.ensures.spares c.find_zip.ensures.spares
 
-pub returns-in-None-clause-answer : goal.returns-in-None-clause-answer
-returns-in-None-clause-answer g c clean w stands =
-    let mid = state g.S.Store c.entry_at.new.conn in
-    let new = state g.S.Store c.entry_at-in-None.new.conn in
-    let h = c.in_ok-seen.ensures.answer (was_clean mid new c.entry_at-in-None.ensures.spares.clean clean) w stands in
-    let k = c.entry_at-in-None.ensures.answer clean w (c.entry_at.ensures.spares.stays w stands) in
-    weaker c.entry_at-in-None.result (λ found it. view_common w c.args.shelf.now c.args.path.now c.args.version.now found (sym c.in-None.is ∙ h.2) it.2) k
+pub returns-clause-spares : goal.returns-clause-spares
+returns-clause-spares g c = spares_then _ _ _ c.row_seen.ensures.spares c.find_zip.ensures.spares
+
+pub returns-clause-answer : goal.returns-clause-answer
+returns-clause-answer g c clean w stands =
+    let old = state g.S.Store c.args.conn.now in
+    let mid = state g.S.Store c.row_seen.new.conn in
+    let new = state g.S.Store c.find_zip.new.conn in
+    let seen = view w c.args.shelf.now c.args.path.now c.args.version.now in
+    let was = was_clean mid new c.find_zip.ensures.spares.clean clean in
+    let range : SFits w64 c.in-Some.row.id = search rules in
+    let z = rw (to_z-of_z {w = w64} {z = c.in-Some.row.id} range) at (c.in_ok-zip.ensures.answer clean w (c.row_seen.ensures.spares.stays w stands)) in
+    let same = c.in_ok-row.ensures.same was w stands in
+    let it = subst (HasRow old.now.trees seen) c.in-Some.is (c.in_ok-row.ensures.answer was w stands) in
+    entry_of_row old.now.trees seen c.in-Some.row c.in_ok-zip.zip it (z.1 it.entry.zip (subst (λ (d : Database). IsZip d.trees c.in-Some.row.id it.entry.zip) (sym same) it.zip))

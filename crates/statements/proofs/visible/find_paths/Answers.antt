@@ -1,7 +1,8 @@
+use Rattle.std.proofs.Common.{◌∙◌, ap}
+use Rattle.std.specs.FinSet as set
 use Rattle.sqlite.specs.Held.{state}
 use Rattle.tables.proofs.FailureLemmas.{was_clean}
 use Rattle.statements.proofs.CallLemmas.{spares_then}
-use Rattle.statements.proofs.VisibleLemmas.{paths_whole}
 use Rattle.statements.proofs.visible.find_paths.Goals as goal
 
 pub returns-in_err-add_paths-2-clause-spares : goal.returns-in_err-add_paths-2-clause-spares
@@ -14,6 +15,6 @@ pub returns-clause-answer : goal.returns-clause-answer
 returns-clause-answer g c clean w stands =
     let mid = state g.S.Store c.add_paths.new.conn in
     let new = state g.S.Store c.add_paths-2.new.conn in
-    let first = rw c.new-texts.ensures at (c.in_ok-add_paths.ensures.adds (was_clean mid new c.add_paths-2.ensures.spares.clean clean) w stands) in
+    let first = c.in_ok-add_paths.ensures.adds (was_clean mid new c.add_paths-2.ensures.spares.clean clean) w stands in
     let next = c.in_ok-add_paths-2.ensures.adds clean w (c.add_paths.ensures.spares.stays w stands) in
-    paths_whole w c.args.shelf.now c.add_paths.new.texts c.add_paths-2.new.texts first next
+    next ∙ ap (set.union _) (first ∙ ap (set.union _) c.new-texts.ensures)

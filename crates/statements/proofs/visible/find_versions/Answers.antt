@@ -1,10 +1,10 @@
 use Rattle.std.proofs.Common.{◌∙◌, ap}
+use Rattle.std.specs.FinSet as set
 use Rattle.sqlite.specs.Held.{state}
 use Rattle.tables.proofs.FailureLemmas.{was_clean}
 use Rattle.world.specs.Lines.{in_order}
 use Rattle.world.specs.Versions.{named, by_precedence}
 use Rattle.statements.proofs.CallLemmas.{spares_then}
-use Rattle.statements.proofs.VisibleLemmas.{versions_whole}
 use Rattle.statements.proofs.visible.find_versions.Goals as goal
 
 pub returns-in_err-add_versions-2-clause-spares : goal.returns-in_err-add_versions-2-clause-spares
@@ -20,7 +20,7 @@ pub returns-clause-answer : goal.returns-clause-answer
 returns-clause-answer g c clean w stands =
     let mid = state g.S.Store c.add_versions.new.conn in
     let new = state g.S.Store c.add_versions-2.new.conn in
-    let first = rw c.new-texts.ensures at (c.in_ok-add_versions.ensures.adds (was_clean mid new c.add_versions-2.ensures.spares.clean clean) w stands) in
+    let first = c.in_ok-add_versions.ensures.adds (was_clean mid new c.add_versions-2.ensures.spares.clean clean) w stands in
     let next = c.in_ok-add_versions-2.ensures.adds clean w (c.add_versions.ensures.spares.stays w stands) in
-    let texts = versions_whole w c.args.shelf.now c.add_versions.new.texts c.add_versions-2.new.texts c.args.path.now first next in
+    let texts = next ∙ ap (set.union _) (first ∙ ap (set.union _) c.new-texts.ensures) in
     c.in_ok-ascending.ensures ∙ ap (λ ts. in_order (by_precedence (named (in_order ts)))) texts

@@ -33,11 +33,12 @@ use Rattle.tables.specs.Means.{Means, IsAccess, StandFor}
 use Rattle.statements.specs.Lookup.{lookup, passes as found_by, AreFound}
 use Rattle.tables.specs.Walks.{Pass}
 use Rattle.tables.specs.Inserted.{Inserted}
-use Rattle.statements.specs.Rows.{Filling}
+use Rattle.statements.specs.Rows.{Filling, IsOfAny}
 use Rattle.statements.specs.Extract.{ShowsKey, IsKeyShown, AddsKey, PutsKey, AddsKeys, CopiesKeys}
 use Rattle.tables.proofs.ValueLemmas.{equals_text, equals_itself, fresh_before}
 use Rattle.statements.proofs.DifferLemmas.{differ_is}
 use Rattle.statements.proofs.LookupLemmas.{asks, all_found, begun_found}
+use Rattle.statements.proofs.RowLemmas.{adds_of_none, adds_of_more}
 use Rattle.tables.proofs.FitTests.{at_place}
 use Rattle.tables.proofs.OneWorld.{texts_same, rights_same}
 use Rattle.tables.proofs.Maps.{put_keeps, put_splits}
@@ -95,44 +96,38 @@ key_same row a b one two =
     let right = rights_same (column row 2) a.1.right b.1.right one.2 two.2 in
     λ i. (key i, record { shelf = shelf i; right = right i })
 
--- ---- rows that were put one after the other
+-- ---- keys that were put one after the other
+
+module _ {E : Type 0} (IsOf : E → List ℕ × Holder → Type 0) where
+  pub keys_of_none : (x : World) → AddsKeys (λ it. IsOfAny [] (λ e. IsOf e it)) x x
+  keys_of_none x = record { shelves = refl; entries = refl; keys = adds_of_none IsOf (λ it. map.get x.keys it.0 ≡ Some it.1) }
+
+  pub keys_of_more : (e : E) (es : List E) (x y z : World) → AddsKeys (IsOf e) x y → AddsKeys (λ it. IsOfAny es (λ e. IsOf e it)) y z → AddsKeys (λ it. IsOfAny (e ∷ es) (λ e. IsOf e it)) x z
+  keys_of_more e es x y z one rest = record {
+    shelves = rest.shelves ∙ one.shelves;
+    entries = rest.entries ∙ one.entries;
+    keys = adds_of_more IsOf e es (λ it. map.get x.keys it.0 ≡ Some it.1) (λ it. map.get y.keys it.0 ≡ Some it.1) (λ it. map.get z.keys it.0 ≡ Some it.1) one.keys rest.keys;
+  }
 
 abbrev IsAmong : List Row → List ℕ × Holder → Type 0
-IsAmong rows it = (row : Row) × Has rows row × ShowsKey row it
+IsAmong rows it = IsOfAny rows (λ row. ShowsKey row it)
+
+one_put : (x y : World) (row : Row) → AddsKey row x y → AddsKeys (ShowsKey row) x y
+one_put x y row put = subst (AddsKeys (ShowsKey row) x) (sym put.3) (record {
+  shelves = refl;
+  entries = refl;
+  keys = λ it. (
+    (λ h. elim (put_splits texts_total texts_exact x.keys put.0.0 put.0.1 it h) [ inl here ↦ inr (subst (ShowsKey row) (sym here) put.1) | inr before ↦ inl before ]),
+    (λ h. elim h [
+      | inl was ↦ put_keeps texts_total texts_exact x.keys put.0.0 put.0.1 put.2 it.0 it.1 was
+      | inr shows ↦ subst (λ (p : List ℕ × Holder). map.get (with_key x put.0.0 put.0.1).keys p.0 ≡ Some p.1) (sym (key_same row put.0 it put.1 shows)) (get_put texts_total x.keys put.0.0 put.0.1)
+    ]),
+  );
+})
 
 pub put_all : (x y : World) (rows : List Row) → Pass (λ _ row. IsKeyShown row) (λ u row v. AddsKey row u v) x rows y → AddsKeys (IsAmong rows) x y
-put_all x y [] passed = record {
-  shelves = ap (λ (u : World). u.shelves) passed;
-  entries = ap (λ (u : World). u.entries) passed;
-  keys = λ it. ((λ h. inl (subst (λ (u : World). map.get u.keys it.0 ≡ Some it.1) passed h)), (λ h. elim h [ inl was ↦ subst (λ (u : World). map.get u.keys it.0 ≡ Some it.1) (sym passed) was | inr none ↦ absurd none.1 ]));
-}
-put_all x y (row ∷ rows) passed =
-    let mid : World = passed.1 in
-    let put : AddsKey row x mid = passed.2 in
-    let rest = put_all mid y rows passed.3 in
-    let after : mid ≡ with_key x put.0.0 put.0.1 = put.3 in
-    record {
-      shelves = rest.shelves ∙ ap (λ (u : World). u.shelves) after;
-      entries = rest.entries ∙ ap (λ (u : World). u.entries) after;
-      keys = λ it. (
-        (λ h. elim ((rest.keys it).0 h) [
-          | inl was ↦ elim (put_splits texts_total texts_exact x.keys put.0.0 put.0.1 it (subst (λ (u : World). map.get u.keys it.0 ≡ Some it.1) after was)) [
-            | inl here ↦ inr (row, inl refl, subst (ShowsKey row) (sym here) put.1)
-            | inr before ↦ inl before
-          ]
-          | inr later ↦ inr (later.0, inr later.1, later.2)
-        ]),
-        (λ h. elim h [
-          | inl was ↦ (rest.keys it).1 (inl (subst (λ (u : World). map.get u.keys it.0 ≡ Some it.1) (sym after) (put_keeps texts_total texts_exact x.keys put.0.0 put.0.1 put.2 it.0 it.1 was)))
-          | inr among ↦ elim among.1 [
-            | inl here ↦
-                let same : it ≡ put.0 = key_same row put.0 it put.1 (subst (λ r. ShowsKey r it) here among.2) in
-                (rest.keys it).1 (inl (subst (λ (u : World). map.get u.keys it.0 ≡ Some it.1) (sym after) (subst (λ (p : List ℕ × Holder). map.get (with_key x put.0.0 put.0.1).keys p.0 ≡ Some p.1) (sym same) (get_put texts_total x.keys put.0.0 put.0.1))))
-            | inr later ↦ (rest.keys it).1 (inr (among.0, later, among.2))
-          ]
-        ]),
-      );
-    }
+put_all x y [] passed = subst (AddsKeys (IsAmong []) x) (sym passed) (keys_of_none ShowsKey x)
+put_all x y (row ∷ rows) passed = keys_of_more ShowsKey row rows x passed.1 y (one_put x passed.1 row passed.2) (put_all passed.1 y rows passed.3)
 
 -- the keys of a shelf
 pub keys_copied : (shelf : List ℕ) (db : Database) (w x y : World) (rows : List Row) → Means db.trees w → Reads (asks keys_on_query) db (Text shelf ∷ []) rows

@@ -1,5 +1,5 @@
 -- Copies of the rows of versions, and of the pieces of their zips.
-use Rattle.std.proofs.Common.{◌≡◌, ◌⊎◌, ◌++◌, ℕ, ℤ, true, not, List, [], ◌∷◌, Ok, inl, inr, refl, sym, ap, subst, ◌∙◌, true≢false}
+use Rattle.std.proofs.Common.{◌≡◌, ◌++◌, ℕ, ℤ, true, not, List, [], ◌∷◌, Ok, inl, inr, refl, sym, ap, subst, ◌∙◌, true≢false}
 use Rattle.std.proofs.lemmas.Bool.{and_parts, and_from}
 use Rattle.sqlite.specs.declared.types.Value.TheVariants.{Int, Text, Blob}
 use Rattle.sqlite.specs.Collation.TheVariants.{Binary}
@@ -33,12 +33,12 @@ use Rattle.tables.proofs.ValueLemmas.{equals_text, equals_itself, equals_own, fr
 use Rattle.tables.proofs.FitTests.{at_place}
 use Rattle.statements.specs.Lookup.{lookup}
 use Rattle.statements.specs.Pairs.{pairs}
-use Rattle.statements.specs.Rows.{Filling, PutsPiece, piece_of, piece_read, AddsRows, IsElseSame, PutsVersion, version_of, version_read, AreApart}
-use Rattle.statements.specs.Extract.{ShowsVersion, IsVersionShown, CopiesVersions, CopiesPieces}
+use Rattle.statements.specs.Rows.{Filling, PutsPiece, piece_of, piece_read, AddsRows, PutsRows, PutsVersion, version_of, version_read}
+use Rattle.statements.specs.Extract.{ShowsVersion, IsVersionShown, CopiesVersions, CopiesPieces, Along}
 use Rattle.statements.proofs.DifferLemmas.{differ_is}
 use Rattle.statements.proofs.LookupLemmas.{asks, all_found, begun_found}
 use Rattle.statements.proofs.PairLemmas.{all_paired}
-use Rattle.statements.proofs.RowLemmas.{adds_one, adds_none, adds_then, adds_as, else_itself, else_then}
+use Rattle.statements.proofs.RowLemmas.{adds_one, adds_as, puts_along}
 use Rattle.statements.proofs.TabulateLemmas.{put_apart}
 use Rattle.statements.proofs.AddEntryLemmas.{version_insert, version_params, version_put}
 
@@ -135,41 +135,6 @@ other_number : (rows : List Row) (id : ℤ) (new : Row) → rowid new ≡ Int id
 other_number rows id new is fresh row there it =
     rw is (differ_is (rowid row) (Int id) (ap is_null it.1) refl ∙ ap not (fresh_before id new rows is fresh row there))
 
-version_apart : (values : Row) (db after : Trees) → PutsVersion values db after → AreApart IsEachPlaceOnce (db 6) → AreApart IsEachPlaceOnce (after 6)
-version_apart values db after put apart =
-    let new = version_of values in
-    let here : Has (after 6) new = rw put.put.rows (put_all_adds (new ∷ []) (db 6) new put.put.fresh (inl refl)) in
-    let still = λ (r : Row) (there : Has (db 6) r). subst (λ l. Has l r) (sym put.put.rows) (put_all_keeps (new ∷ []) (db 6) r put.put.fresh there) in
-    record {
-      numbers = subst (λ l. (row : Row) → Has l row → (n : ℤ) × (rowid row ≡ Int n)) (sym put.put.rows) (numbers_more (db 6) put.id new put.number apart.numbers);
-      once = subst IsEachPlaceOnce (sym put.put.rows) (put_apart (λ a b. (q : Place) → IsAt a q → IsAt b q → ⊥) (λ a b other q ofb ofa. other q ofa ofb) new (db 6)
-          (all_from _ (db 6) (λ r there q at also. place_alone after put.sound new r q here (still r there) at also (other_number (db 6) put.id new put.number put.put.fresh r there (apart.numbers r there)))) apart.once);
-    }
-
-piece_apart : (values : Row) (db after : Trees) → PutsPiece values db after → AreApart IsEachPieceOnce (db 8) → AreApart IsEachPieceOnce (after 8)
-piece_apart values db after put apart =
-    let new = piece_of put.id values in
-    let here : Has (after 8) new = rw put.put.rows (put_all_adds (new ∷ []) (db 8) new put.put.fresh (inl refl)) in
-    let still = λ (r : Row) (there : Has (db 8) r). subst (λ l. Has l r) (sym put.put.rows) (put_all_keeps (new ∷ []) (db 8) r put.put.fresh there) in
-    record {
-      numbers = subst (λ l. (row : Row) → Has l row → (n : ℤ) × (rowid row ≡ Int n)) (sym put.put.rows) (numbers_more (db 8) put.id new refl apart.numbers);
-      once = subst IsEachPieceOnce (sym put.put.rows) (put_apart (λ a b. column a 1 ≡ column b 1 → column a 2 ≡ column b 2 → ⊥) (λ a b other one two. other (sym one) (sym two)) new (db 8)
-          (all_from _ (db 8) (λ r there one two. piece_alone after put.sound new r put.version put.number here (still r there) put.of_version put.numbered one two (other_number (db 8) put.id new refl put.put.fresh r there (apart.numbers r there)))) apart.once);
-    }
-
--- ---- rows that were put in one after the other
-
--- what is read of a row that has the values of one of these
-abbrev HasValues : (Row → Row) → List Row → Row → Type 0
-HasValues cut rows values = (row : Row) × Has rows row × (values ≡ cut row)
-
-first_or_later : (cut : Row → Row) (row : Row) (rows : List Row) (values : Row) → ((values ≡ cut row) ⊎ HasValues cut rows values) → HasValues cut (row ∷ rows) values
-first_or_later cut row rows values (inl is) = (row, inl refl, is)
-first_or_later cut row rows values (inr it) = (it.0, inr it.1, it.2)
-
-either_of : (cut : Row → Row) (row : Row) (rows : List Row) (values : Row) → HasValues cut (row ∷ rows) values → (values ≡ cut row) ⊎ HasValues cut rows values
-either_of cut row rows values it = elim it.1 [ inl same ↦ inl (it.2 ∙ ap cut same) | inr later ↦ inr (it.0, later, it.2) ]
-
 -- the values that the row of a version is put in with
 abbrev version_cut : Row → Row
 version_cut values = version_read (version_of values)
@@ -177,49 +142,41 @@ version_cut values = version_read (version_of values)
 abbrev piece_cut : Row → Row
 piece_cut values = column values 0 ∷ column values 1 ∷ column values 2 ∷ []
 
-pub record PutsVersions (rows : List Row) (db after : Trees) : Type 0 where
-  pub read : AddsRows version_read (HasValues version_cut rows) (db 6) (after 6)
-  pub apart : AreApart IsEachPlaceOnce (db 6) → AreApart IsEachPlaceOnce (after 6)
-  pub tables : IsElseSame version_table db after
-
-pub versions_passed : (db after : Trees) (rows : List Row) → Pass (λ _ row. IsVersionShown row) (λ t row u. PutsVersion row t u) db rows after → PutsVersions rows db after
-versions_passed db after [] passed = subst (PutsVersions [] db) (sym passed) (record {
-  read = adds_as version_read _ _ (db 6) (db 6) (λ values none. absurd none) (λ values it. it.1) (adds_none version_read (db 6));
-  apart = λ apart. apart;
-  tables = else_itself version_table db;
-})
-versions_passed db after (row ∷ rows) passed =
-    let mid : Trees = passed.1 in
-    let put : PutsVersion row db mid = passed.2 in
-    let rest = versions_passed mid after rows passed.3 in
-    let one = subst (AddsRows version_read (λ values. values ≡ version_cut row) (db 6)) (sym put.put.rows) (adds_one version_read (db 6) (version_of row) put.put.fresh) in
+version_puts : (values : Row) (db after : Trees) → PutsVersion values db after → PutsRows version_table version_read IsEachPlaceOnce (λ read. read ≡ version_cut values) db after
+version_puts values db after put =
+    let new = version_of values in
+    let here : Has (after 6) new = rw put.put.rows (put_all_adds (new ∷ []) (db 6) new put.put.fresh (inl refl)) in
+    let still = λ (r : Row) (there : Has (db 6) r). subst (λ l. Has l r) (sym put.put.rows) (put_all_keeps (new ∷ []) (db 6) r put.put.fresh there) in
     record {
-      read = adds_as version_read _ _ (db 6) (after 6) (first_or_later version_cut row rows) (either_of version_cut row rows) (adds_then version_read _ _ (db 6) (mid 6) (after 6) one rest.read);
-      apart = λ apart. rest.apart (version_apart row db mid put apart);
-      tables = else_then version_table db mid after put.put.tables rest.tables;
+      rows = subst (AddsRows version_read (λ read. read ≡ version_cut values) (db 6)) (sym put.put.rows) (adds_one version_read (db 6) new put.put.fresh);
+      apart = λ apart. record {
+        numbers = subst (λ l. (row : Row) → Has l row → (n : ℤ) × (rowid row ≡ Int n)) (sym put.put.rows) (numbers_more (db 6) put.id new put.number apart.numbers);
+        once = subst IsEachPlaceOnce (sym put.put.rows) (put_apart (λ a b. (q : Place) → IsAt a q → IsAt b q → ⊥) (λ a b other q ofb ofa. other q ofa ofb) new (db 6)
+            (all_from _ (db 6) (λ r there q at also. place_alone after put.sound new r q here (still r there) at also (other_number (db 6) put.id new put.number put.put.fresh r there (apart.numbers r there)))) apart.once);
+      };
+      tables = put.put.tables;
     }
 
-pub record PutsPieces (rows : List Row) (db after : Trees) : Type 0 where
-  pub read : AddsRows piece_read (HasValues piece_cut rows) (db 8) (after 8)
-  pub apart : AreApart IsEachPieceOnce (db 8) → AreApart IsEachPieceOnce (after 8)
-  pub tables : IsElseSame piece_table db after
-
-pub pieces_passed : (Fits : Trees → Row → Type 0) (db after : Trees) (rows : List Row) → Pass Fits (λ t row u. PutsPiece row t u) db rows after → PutsPieces rows db after
-pieces_passed Fits db after [] passed = subst (PutsPieces [] db) (sym passed) (record {
-  read = adds_as piece_read _ _ (db 8) (db 8) (λ values none. absurd none) (λ values it. it.1) (adds_none piece_read (db 8));
-  apart = λ apart. apart;
-  tables = else_itself piece_table db;
-})
-pieces_passed Fits db after (row ∷ rows) passed =
-    let mid : Trees = passed.1 in
-    let put : PutsPiece row db mid = passed.2 in
-    let rest = pieces_passed Fits mid after rows passed.3 in
-    let one = subst (AddsRows piece_read (λ values. values ≡ piece_cut row) (db 8)) (sym put.put.rows) (adds_one piece_read (db 8) (piece_of put.id row) put.put.fresh) in
+piece_puts : (values : Row) (db after : Trees) → PutsPiece values db after → PutsRows piece_table piece_read IsEachPieceOnce (λ read. read ≡ piece_cut values) db after
+piece_puts values db after put =
+    let new = piece_of put.id values in
+    let here : Has (after 8) new = rw put.put.rows (put_all_adds (new ∷ []) (db 8) new put.put.fresh (inl refl)) in
+    let still = λ (r : Row) (there : Has (db 8) r). subst (λ l. Has l r) (sym put.put.rows) (put_all_keeps (new ∷ []) (db 8) r put.put.fresh there) in
     record {
-      read = adds_as piece_read _ _ (db 8) (after 8) (first_or_later piece_cut row rows) (either_of piece_cut row rows) (adds_then piece_read _ _ (db 8) (mid 8) (after 8) one rest.read);
-      apart = λ apart. rest.apart (piece_apart row db mid put apart);
-      tables = else_then piece_table db mid after put.put.tables rest.tables;
+      rows = subst (AddsRows piece_read (λ read. read ≡ piece_cut values) (db 8)) (sym put.put.rows) (adds_one piece_read (db 8) new put.put.fresh);
+      apart = λ apart. record {
+        numbers = subst (λ l. (row : Row) → Has l row → (n : ℤ) × (rowid row ≡ Int n)) (sym put.put.rows) (numbers_more (db 8) put.id new refl apart.numbers);
+        once = subst IsEachPieceOnce (sym put.put.rows) (put_apart (λ a b. column a 1 ≡ column b 1 → column a 2 ≡ column b 2 → ⊥) (λ a b other one two. other (sym one) (sym two)) new (db 8)
+            (all_from _ (db 8) (λ r there one two. piece_alone after put.sound new r put.version put.number here (still r there) put.of_version put.numbered one two (other_number (db 8) put.id new refl put.put.fresh r there (apart.numbers r there)))) apart.once);
+      };
+      tables = put.put.tables;
     }
+
+-- rows that were put in one after the other
+passed_along : {X : Type 0} (Fits : X → Row → Type 0) (Puts : Row → X → X → Type 0) (P : Row → X → X → X → Type 0) → ((row : Row) (w x y : X) → Puts row x y → P row w x y)
+    → (rows : List Row) (w x z : X) → Pass Fits (λ x row y. Puts row x y) x rows z → Along P rows w x z
+passed_along Fits Puts P each [] w x z passed = sym passed
+passed_along Fits Puts P each (row ∷ rows) w x z passed = (passed.1, each row w x passed.1 passed.2, passed_along Fits Puts P each rows w passed.1 z passed.3)
 
 -- ---- the copies
 
@@ -227,7 +184,8 @@ pub versions_copied : (shelf : List ℕ) (db : Database) (fresh after : Trees) (
     → Pass (λ _ row. IsVersionShown row) (λ t row u. PutsVersion row t u) fresh rows after → CopiesVersions shelf db.trees fresh after
 versions_copied shelf db fresh after rows read passed =
     let found = all_found (Text shelf ∷ []) db 6 by_shelf version_shown [] (λ _. refl) rows read in
-    let puts = versions_passed fresh after rows passed in
+    let puts = puts_along version_table version_read IsEachPlaceOnce (λ row _ values. values ≡ version_cut row) rows fresh fresh after
+    (passed_along (λ _ row. IsVersionShown row) PutsVersion _ (λ row _. version_puts row) rows fresh fresh after passed) in
     record {
       rows = adds_as version_read _ _ (fresh 6) (after 6)
           (λ values it.
@@ -238,7 +196,7 @@ versions_copied shelf db fresh after rows read passed =
           let from = on.0 in
           let at : column from.0 2 ≡ Text shelf = sym (ap (λ (r : Row). column r 1) from.2) ∙ on.1 in
           (version_read from.0, found.complete from.0 from.1 (and_from _ _ (ap (λ v. equal Binary v (Text shelf)) at ∙ equals_itself shelf) refl), from.2))
-          puts.read;
+          puts.rows;
       apart = puts.apart;
       tables = puts.tables;
     }
@@ -247,7 +205,8 @@ pub pieces_copied : (Fits : Trees → Row → Type 0) (shelf : List ℕ) (db : D
     → Pass Fits (λ t row u. PutsPiece row t u) fresh rows after → CopiesPieces shelf db.trees fresh after
 pieces_copied Fits shelf db fresh after rows read passed =
     let found = all_paired (Text shelf ∷ []) db 6 8 on_shelf piece_shown (λ _. refl) (λ _. refl) rows read in
-    let puts = pieces_passed Fits fresh after rows passed in
+    let puts = puts_along piece_table piece_read IsEachPieceOnce (λ row _ values. values ≡ piece_cut row) rows fresh fresh after
+    (passed_along Fits PutsPiece _ (λ row _. piece_puts row) rows fresh fresh after passed) in
     record {
       rows = adds_as piece_read _ _ (fresh 8) (after 8)
           (λ values it.
@@ -257,7 +216,7 @@ pieces_copied Fits shelf db fresh after rows read passed =
           (λ values on.
           let kept = has_filtered (is_of on.0) (db.trees 8) on.3.0 on.3.1 in
           (piece_read on.3.0, found.complete on.0 on.3.0 on.1 kept.0 (and_from _ _ kept.1 (and_from _ _ (ap (λ v. equal Binary v (Text shelf)) on.2 ∙ equals_itself shelf) refl)), on.3.2))
-          puts.read;
+          puts.rows;
       apart = puts.apart;
       tables = puts.tables;
     }

@@ -1,5 +1,5 @@
 -- Rows that are handed on from one store to another.
-use Rattle.std.proofs.Common.{◌≡◌, ◌≤◌, Bool, true, false, ℕ, List, Result, inl, refl, sym, subst, arith, IsTrue, is_ok, OnOk, true≢false}
+use Rattle.std.proofs.Common.{◌≡◌, ◌≤◌, Bool, true, false, ℕ, List, [], ◌∷◌, ◌++◌, Result, Ok, Err, IsErr, inl, refl, sym, subst, arith, IsTrue, is_ok, OnOk, true≢false}
 use Rattle.sqlite_trees.specs.View.{doubt}
 use Rattle.sqlite.specs.Order.{Row}
 use Rattle.sqlite.specs.Tree.{Trees}
@@ -16,10 +16,10 @@ use Rattle.tables.proofs.FailureLemmas.{was_clean}
 use Rattle.tables.proofs.WalkLemmas.{unchanged_schema, kept_then}
 use Rattle.statements.specs.Calls.{Spares}
 use Rattle.statements.specs.Rows.{Filling, GoesOn}
-use Rattle.statements.specs.Extract.{IsReady, IsReadBy, Copies, OfWorlds, PutsShelf, AddsShelf, Then}
+use Rattle.statements.specs.Extract.{IsReady, IsReadBy, Copies, OfWorlds, PutsShelf, AddsShelf, Then, Along}
 use Rattle.statements.proofs.CallLemmas.{kept_stands}
 use Rattle.statements.proofs.ChangeLemmas.{when_ok}
-use Rattle.statements.proofs.GoingLemmas.{goes_on_then}
+use Rattle.statements.proofs.GoingLemmas.{goes_on_itself, goes_on_then}
 
 -- ---- a query with parameters, one row at a time
 
@@ -58,17 +58,29 @@ copied r Makes s t a b looks same goes_on makes =
 unchanged_itself : (s : State) → IsTrue s.is_open → IsUnchanged s s
 unchanged_itself s is = (record { was_open = is; is_open = is; now_is = refl; committed_is = refl; mode = refl }, record { changes = refl; last_rowid = refl }, refl)
 
--- a shelf is put in, and the source is not touched
-pub put_copied : {A E : Type 0} (r : Result A E) (name : List ℕ) (s a b : State) → GoesOn a b (is_ok r) → (HasCleanDisk b → Filling a → OnOk r (PutsShelf name a.now.trees b.now.trees × Filling b))
-    → Copies (OfWorlds (AddsShelf name)) s s a b (is_ok r)
-put_copied r name s a b goes_on puts = record {
+untouched : (s : State) (done : Bool) → IsReady s → IsReadBy s s done
+untouched s done ready = record {
+  left = λ _ db may. may;
+  kept = λ clean. inl (unchanged_itself s (ready clean).0);
+  same = λ clean _. unchanged_itself s (ready clean).0;
+}
+
+-- nothing is copied
+pub copies_none : (s a : State) → Copies (λ _ db after. db ≡ after) s s a a true
+copies_none s a = record {
   clean = omega arith;
-  reads = λ ready. record {
-    left = λ _ db may. may;
-    kept = λ clean. inl (unchanged_itself s (ready clean).0);
-    same = λ clean _. unchanged_itself s (ready clean).0;
-  };
-  goes_on = goes_on;
+  reads = untouched s true;
+  goes_on = goes_on_itself a;
+  makes = λ _ _ _ _ _ filling _. (refl, filling);
+}
+
+-- a shelf is put in, and the source is not touched
+pub put_copied : {A E : Type 0} (r : Result A E) (name : List ℕ) (s a b : State) → Survives a b (λ _. ⊥) → (HasCleanDisk b → IsTrue a.in_transaction → KeepsCommit a b)
+    → (HasCleanDisk b → IsTrue a.in_transaction → OnOk r (IsTrue b.in_transaction)) → (HasCleanDisk b → Filling a → OnOk r (PutsShelf name a.now.trees b.now.trees × Filling b)) → Copies (OfWorlds (AddsShelf name)) s s a b (is_ok r)
+put_copied r name s a b survives kept inside puts = record {
+  clean = omega arith;
+  reads = untouched s (is_ok r);
+  goes_on = goes_on_if r a b survives kept inside;
   makes = λ clean good ready w means filling done.
       let it = when_ok r done (puts good filling) in
       (λ v x meant stand. (with_team x name, refl, it.0 x stand), it.1);
@@ -108,9 +120,15 @@ copies_weaker P Q s t a b done less p = record {
   makes = λ clean good ready w means filling all. let it = p.makes clean good ready w means filling all in (less s.now.trees a.now.trees b.now.trees it.0, it.1);
 }
 
+-- so for some, and then for one more
+pub along_more : {E X : Type 0} (P : E → X → X → X → Type 0) (es : List E) (e : E) (w x z : X) → Then (Along P es) (P e) w x z → Along P (es ++ e ∷ []) w x z
+along_more P [] e w x z it = (z, subst (λ u. P e w u z) (sym it.1) it.2, refl)
+along_more P (d ∷ es) e w x z it = (it.1.0, it.1.1, along_more P es e w it.1.0 z (it.0, it.1.2, it.2))
+
 -- where not all was done, nothing is said of what it makes
-pub copies_part : (P Q : Trees → Trees → Trees → Type 0) (s t a b : State) → Copies P s t a b false → Copies Q s t a b false
-copies_part P Q s t a b p = record {
+pub copies_part : {A E : Type 0} (r : Result A E) (P Q : Trees → Trees → Trees → Type 0) (s t a b : State) → IsErr r → Copies P s t a b false → Copies Q s t a b (is_ok r)
+copies_part (Ok x) P Q s t a b failed p = absurd (true≢false (sym failed))
+copies_part (Err e) P Q s t a b failed p = record {
   clean = p.clean;
   reads = p.reads;
   goes_on = p.goes_on;

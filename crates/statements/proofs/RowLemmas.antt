@@ -1,5 +1,5 @@
 -- What is read of rows of which one more is put in.
-use Rattle.std.proofs.Common.{◌≡◌, ◌⊎◌, ℕ, true, List, [], ◌∷◌, filter, inl, inr, refl, ap, ◌∙◌}
+use Rattle.std.proofs.Common.{◌≡◌, ◌⊎◌, ℕ, true, List, [], ◌∷◌, filter, inl, inr, refl, ap, subst, ◌∙◌}
 use Rattle.sqlite.specs.Order.{Row, column}
 use Rattle.sqlite.specs.Tree.{Trees, rowid}
 use Rattle.sqlite.specs.Table.{Table}
@@ -12,7 +12,8 @@ use Rattle.sqlite_rules.proofs.ListLemmas.{has_filtered, has_kept}
 use Rattle.sqlite_rules.proofs.TableLemmas.{put_all_has, put_all_keeps, put_all_adds}
 use Rattle.world.specs.World.{World}
 use Rattle.tables.specs.Means.{Means, ArePieces, IsPiece, is_of}
-use Rattle.statements.specs.Rows.{Filling, Writing, AddsRows, IsElseSame, piece_read}
+use Rattle.statements.specs.Rows.{Filling, Writing, Adds, AddsRows, IsOfAny, IsElseSame, IsRead, PutsRows, piece_read}
+use Rattle.statements.specs.Extract.{Along}
 
 -- ---- what is read
 
@@ -60,6 +61,43 @@ else_itself table db = ((λ _. refl), ((λ _. refl), ((λ _. refl), ((λ _. refl
 pub else_then : (table : Table) (a b c : Trees) → IsElseSame table a b → IsElseSame table b c → IsElseSame table a c
 else_then table a b c p q =
     ((λ e. q.0 e ∙ p.0 e), ((λ e. q.1.0 e ∙ p.1.0 e), ((λ e. q.1.1.0 e ∙ p.1.1.0 e), ((λ e. q.1.1.1.0 e ∙ p.1.1.1.0 e), ((λ e. q.1.1.1.1.0 e ∙ p.1.1.1.1.0 e), tt)))))
+
+-- ---- along a list
+
+module _ {E A : Type 0} (IsOf : E → A → Type 0) where
+  pub adds_of_none : (Was : A → Type 0) → Adds (λ a. IsOfAny [] (λ e. IsOf e a)) Was Was
+  adds_of_none Was a = ((λ was. inl was), (λ it. elim it [ inl was ↦ was | inr of ↦ absurd of.1 ]))
+
+  pub adds_of_more : (e : E) (es : List E) (Was Mid Is : A → Type 0) → Adds (IsOf e) Was Mid → Adds (λ a. IsOfAny es (λ e. IsOf e a)) Mid Is → Adds (λ a. IsOfAny (e ∷ es) (λ e. IsOf e a)) Was Is
+  adds_of_more e es Was Mid Is one rest a = (
+    (λ is. elim ((rest a).0 is) [
+      | inl mid ↦ elim ((one a).0 mid) [ inl was ↦ inl was | inr here ↦ inr (e, inl refl, here) ]
+      | inr later ↦ inr (later.0, inr later.1, later.2)
+    ]),
+    (λ it. elim it [
+      | inl was ↦ (rest a).1 (inl ((one a).1 (inl was)))
+      | inr of ↦ elim of.1 [
+        | inl here ↦ (rest a).1 (inl ((one a).1 (inr (subst (λ x. IsOf x a) here of.2))))
+        | inr later ↦ (rest a).1 (inr (of.0, later, of.2))
+      ]
+    ]),
+  )
+
+pub puts_along : {E : Type 0} (table : Table) (read : Row → Row) (Once : List Row → Type 0) (IsOf : E → Trees → Row → Type 0) (es : List E) (source db after : Trees)
+    → Along (λ e source. PutsRows table read Once (IsOf e source)) es source db after → PutsRows table read Once (λ values. IsOfAny es (λ e. IsOf e source values)) db after
+puts_along table read Once IsOf [] source db after same = subst (PutsRows table read Once (λ values. IsOfAny [] (λ e. IsOf e source values)) db) same (record {
+  rows = adds_of_none (λ e. IsOf e source) (IsRead read (db table.tree));
+  apart = λ apart. apart;
+  tables = else_itself table db;
+})
+puts_along table read Once IsOf (e ∷ es) source db after it =
+    let one : PutsRows table read Once (IsOf e source) db it.0 = it.1 in
+    let rest = puts_along table read Once IsOf es source it.0 after it.2 in
+    record {
+      rows = adds_of_more (λ e. IsOf e source) e es (IsRead read (db table.tree)) (IsRead read (it.0 table.tree)) (IsRead read (after table.tree)) one.rows rest.rows;
+      apart = λ apart. rest.apart (one.apart apart);
+      tables = else_then table db it.0 after one.tables rest.tables;
+    }
 
 -- ---- pieces
 

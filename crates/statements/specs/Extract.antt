@@ -1,5 +1,5 @@
 -- Rows of one store that are handed on to another, within a transaction of it.
-use Rattle.std.specs.Prelude.{ℕ, ◌≡◌, ◌≤◌, ◌⊎◌, ◌↔◌, List, [], ◌∷◌, ◌++◌, filter, Bool, Some, None, IsTrue, pos, if◌then◌else◌}
+use Rattle.std.specs.Prelude.{ℕ, ◌≡◌, ◌≤◌, ◌⊎◌, List, [], ◌∷◌, ◌++◌, filter, Bool, Some, None, IsTrue, pos, if◌then◌else◌}
 use Rattle.std.specs.FinMap as map
 use Rattle.sqlite.specs.declared.types.Value.TheVariants.{Int, Text, Blob}
 use Rattle.sqlite.specs.Order.{Row, column}
@@ -13,12 +13,12 @@ use Rattle.sqlite_trees.specs.View.{doubt}
 use Rattle.world.specs.declared.entry.Holder.{Holder}
 use Rattle.world.specs.declared.entry.Place.{Place}
 use Rattle.world.specs.declared.entry.Heading.{Heading}
-use Rattle.world.specs.World.{World, common, with_key, with_team}
+use Rattle.world.specs.World.{World, with_key, with_team}
 use Rattle.sqlite_rules.specs.Lists.{Has}
 use Rattle.tables.specs.Means.{may_publish, Means, StandFor, IsEachPlaceOnce, IsEachPieceOnce, is_of}
 use Rattle.tables.specs.Schema.{store_schema, version_table, piece_table}
 use Rattle.tables.specs.VersionKeys.{order_key_at, rank_key_at}
-use Rattle.statements.specs.Rows.{Filling, GoesOn, AddsRows, IsElseSame, IsRead, AreApart, version_read, piece_read}
+use Rattle.statements.specs.Rows.{Filling, GoesOn, Adds, IsRead, PutsRows, version_read, piece_read}
 
 -- an open connection over tables of the schema, as far as no answer of the disk was wrong
 abbrev pub IsReady : State → Type 0
@@ -70,7 +70,7 @@ PutsKey row db after = (x : World) → StandFor db x → (y : World) × AddsKey 
 pub record AddsKeys (IsSo : List ℕ × Holder → Type 0) (x y : World) : Type 0 where
   pub shelves : y.shelves ≡ x.shelves
   pub entries : y.entries ≡ x.entries
-  pub keys : (it : List ℕ × Holder) → (map.get y.keys it.0 ≡ Some it.1) ↔ ((map.get x.keys it.0 ≡ Some it.1) ⊎ IsSo it)
+  pub keys : Adds IsSo (λ it. map.get x.keys it.0 ≡ Some it.1) (λ it. map.get y.keys it.0 ≡ Some it.1)
 
 -- it has the keys of one shelf of w beside its own
 abbrev pub CopiesKeys : List ℕ → World → World → World → Type 0
@@ -100,17 +100,13 @@ abbrev pub IsPieceOn : List ℕ → Trees → Row → Type 0
 IsPieceOn shelf db values =
     (version : Row) × Has (db version_table.tree) version × (column version 2 ≡ Text shelf) × IsRead piece_read (filter (is_of version) (db piece_table.tree)) values
 
--- the versions of one shelf are put in, beside those that were there
-pub record CopiesVersions (shelf : List ℕ) (source db after : Trees) : Type 0 where
-  pub rows : AddsRows version_read (IsVersionOn shelf source) (db version_table.tree) (after version_table.tree)
-  pub apart : AreApart IsEachPlaceOnce (db version_table.tree) → AreApart IsEachPlaceOnce (after version_table.tree)
-  pub tables : IsElseSame version_table db after
+-- the versions of one shelf are put in
+abbrev pub CopiesVersions : List ℕ → Trees → Trees → Trees → Type 0
+CopiesVersions shelf source = PutsRows version_table version_read IsEachPlaceOnce (IsVersionOn shelf source)
 
--- the pieces of its zips are put in, beside those that were there
-pub record CopiesPieces (shelf : List ℕ) (source db after : Trees) : Type 0 where
-  pub rows : AddsRows piece_read (IsPieceOn shelf source) (db piece_table.tree) (after piece_table.tree)
-  pub apart : AreApart IsEachPieceOnce (db piece_table.tree) → AreApart IsEachPieceOnce (after piece_table.tree)
-  pub tables : IsElseSame piece_table db after
+-- the pieces of its zips are put in
+abbrev pub CopiesPieces : List ℕ → Trees → Trees → Trees → Type 0
+CopiesPieces shelf source = PutsRows piece_table piece_read IsEachPieceOnce (IsPieceOn shelf source)
 
 -- ---- one after another
 
@@ -126,6 +122,7 @@ AddsShelf name w x y = y ≡ with_team x name
 abbrev pub Then : {X : Type 0} → (X → X → X → Type 0) → (X → X → X → Type 0) → X → X → X → Type 0
 Then {X} P Q w x z = (y : X) × P w x y × Q w y z
 
--- the versions of a team and of `common`, and then the pieces of both
-abbrev pub CopiesEntries : List ℕ → Trees → Trees → Trees → Type 0
-CopiesEntries team = Then (Then (Then (CopiesVersions team) (CopiesVersions common)) (CopiesPieces team)) (CopiesPieces common)
+-- so for each of these, one after the other
+abbrev pub Along : {E X : Type 0} → (E → X → X → X → Type 0) → List E → X → X → X → Type 0
+Along P [] w x z = x ≡ z
+Along P (e ∷ es) w x z = Then (P e) (Along P es) w x z

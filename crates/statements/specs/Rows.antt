@@ -74,9 +74,17 @@ piece_read row = column row 1 ∷ column row 2 ∷ column row 3 ∷ []
 abbrev pub IsRead : (Row → Row) → List Row → Row → Type 0
 IsRead read rows values = (row : Row) × Has rows row × (values ≡ read row)
 
+-- those of another kind are those of one, and beside them what is so
+abbrev pub Adds : {A : Type 0} → (A → Type 0) → (A → Type 0) → (A → Type 0) → Type 0
+Adds IsSo Was Is = (a : _) → Is a ↔ (Was a ⊎ IsSo a)
+
 -- of the rows is read what is read of others, and beside it what is so
 abbrev pub AddsRows : (Row → Row) → (Row → Type 0) → List Row → List Row → Type 0
-AddsRows read IsSo rows more = (values : Row) → IsRead read more values ↔ (IsRead read rows values ⊎ IsSo values)
+AddsRows read IsSo rows more = Adds IsSo (IsRead read rows) (IsRead read more)
+
+-- it is so of one of these
+abbrev pub IsOfAny : {A : Type 0} → List A → (A → Type 0) → Type 0
+IsOfAny xs IsSo = (x : _) × Has xs x × IsSo x
 
 -- each other table is as it was
 abbrev pub IsElseSame : Table → Trees → Trees → Type 0
@@ -86,3 +94,9 @@ IsElseSame table db after = AllByRecursion (λ t. t.tree ≢ table.tree → afte
 pub record AreApart (Once : List Row → Type 0) (rows : List Row) : Type 0 where
   pub numbers : (row : Row) → Has rows row → (n : ℤ) × (rowid row ≡ Int n)
   pub once : Once rows
+
+-- rows of one table are put in, of which is read what is so, beside those that were there
+pub record PutsRows (table : Table) (read : Row → Row) (Once : List Row → Type 0) (IsSo : Row → Type 0) (db after : Trees) : Type 0 where
+  pub rows : AddsRows read IsSo (db table.tree) (after table.tree)
+  pub apart : AreApart Once (db table.tree) → AreApart Once (after table.tree)
+  pub tables : IsElseSame table db after

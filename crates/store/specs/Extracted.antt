@@ -5,7 +5,7 @@ use Rattle.std.specs.FinSet as set
 use Rattle.sqlite.specs.State.{State, HasCleanDisk}
 use Rattle.sqlite.specs.Tree.{Trees}
 use Rattle.tables.specs.Means.{Means, StandFor, StandsFor}
-use Rattle.statements.specs.Extract.{Then, AddsShelf, CopiesKeys}
+use Rattle.statements.specs.Extract.{OfWorlds, CopiesKeys, CopiesVersions, CopiesPieces}
 use Rattle.world.specs.declared.entry.Entry.{Entry}
 use Rattle.world.specs.declared.entry.Holder.{Holder}
 use Rattle.world.specs.declared.entry.Place.{Place}
@@ -14,6 +14,8 @@ use Rattle.world.specs.Store.{Shown, GrewOrFull}
 use Rattle.world.specs.World.{World, IsWorld, common, only_common}
 use Rattle.store.specs.declared.extract_judge.Judged.{Judged}
 use Rattle.store.specs.declared.extract_judge.Judged.TheVariants as judged
+use Rattle.store.specs.declared.extract_part.Rows.{Rows}
+use Rattle.store.specs.declared.extract_part.Rows.TheVariants as rows
 use Rattle.statements.specs.declared.extract_rows.CopyError.{CopyError}
 use Rattle.store.specs.declared.refusal.Refusal.{Refusal}
 use Rattle.store.specs.declared.refusal.Refusal.TheVariants as refusal
@@ -37,9 +39,11 @@ IsJudged w x team judged.NotEmpty = IsTeam w team × (x ≢ only_common)
 
 -- ---- the part of a team
 
--- the team's shelf is put in, and the keys of it and of `common`
-abbrev pub MakesRegistry : List ℕ → World → World → World → Type 0
-MakesRegistry team = Then (Then (AddsShelf team) (CopiesKeys team)) (CopiesKeys common)
+-- some rows of one shelf are put in, beside those that were there
+abbrev pub CopiesRows : Rows → List ℕ → Trees → Trees → Trees → Type 0
+CopiesRows rows.Keys shelf = OfWorlds (CopiesKeys shelf)
+CopiesRows rows.Versions shelf = CopiesVersions shelf
+CopiesRows rows.Pieces shelf = CopiesPieces shelf
 
 -- of tables that stand for `common` alone those of the part are made
 abbrev pub MakesPart : List ℕ → Trees → Trees → Trees → Type 0

@@ -1,6 +1,6 @@
 //! One team's part of a store, put into a fresh one in one transaction.
 
-ghost use Rattle.std.specs.Prelude.{◌≡◌, ◌≤◌, true, OnOk, is_ok, IsTrue};
+ghost use Rattle.std.specs.Prelude.{◌≡◌, ◌≤◌, true, map, OnOk, is_ok, IsTrue};
 ghost use Rattle.std.specs.FinSet as set;
 ghost use Rattle.sqlite.specs.Held.{state};
 ghost use Rattle.sqlite.specs.State.{HasCleanDisk, KeepsCommit, Survives};
@@ -11,13 +11,24 @@ ghost use Rattle.tables.specs.Means.{Stands};
 ghost use Rattle.statements.specs.Calls.{IsOpenIfHonest, Spares, ChangesAt};
 ghost use Rattle.tables.specs.Calls.{Honestly};
 ghost use Rattle.statements.specs.Rows.{Filling};
-ghost use Rattle.statements.specs.Extract.{IsReady, Copies, OfWorlds, PutsShelf, CopiesEntries};
-ghost use Rattle.store.specs.Extracted.{MakesRegistry, MakesPart};
+ghost use Rattle.statements.specs.Extract.{IsReady, Copies, PutsShelf, Along};
+ghost use Rattle.store.specs.Extracted.{CopiesRows, MakesPart};
 
 use sqlite::{Alter, Connection, Error, ErrorCode, Transaction, params};
 use statements::extract_rows::{CopyError, copy_keys, copy_pieces, copy_versions};
 use statements::transaction::commit_if;
 use world::names::COMMON;
+
+/// Rows that a shelf has.
+#[derive(Clone, Copy, Drop)]
+enum Rows {
+    /// Its keys.
+    Keys,
+    /// The versions of its entries.
+    Versions,
+    /// The pieces of their zips.
+    Pieces,
+}
 
 /// Writes the row of a shelf.
 fn put_shelf<F: Alter>(tx: &mut Transaction<'_, F>, name: &str) -> Result<(), Error>
@@ -34,41 +45,43 @@ fn put_shelf<F: Alter>(tx: &mut Transaction<'_, F>, name: &str) -> Result<(), Er
     Ok(())
 }
 
-/// Writes the shelf of a team, and the keys of it and of `common`.
-fn fill_registry<S: Alter, F: Alter>(
+/// Copies some rows of one shelf.
+fn copy_rows<S: Alter, F: Alter>(
     source: &mut Connection<S>,
-    team: &str,
+    rows: Rows,
+    shelf: &str,
     tx: &mut Transaction<'_, F>,
 ) -> Result<(), CopyError>
     ensures same_reference { tx.new.conn.ghost_name ≡ tx.old.conn.ghost_name }
-    ensures fills { Copies (OfWorlds (MakesRegistry team.now)) (state S.Store source.old) (state S.Store source.new)
+    ensures copies { Copies (CopiesRows rows shelf.now) (state S.Store source.old) (state S.Store source.new)
         (state F.Store tx.old.conn.now) (state F.Store tx.new.conn.now) (is_ok result) }
 {
-    match put_shelf(tx, team) {
-        Ok(()) => {}
-        Err(error) => return Err(CopyError::Fresh(error)),
+    match rows {
+        Rows::Keys => copy_keys(source, tx, shelf),
+        Rows::Versions => copy_versions(source, tx, shelf),
+        Rows::Pieces => copy_pieces(source, tx, shelf),
     }
-    copy_keys(source, tx, team)?;
-    copy_keys(source, tx, COMMON)
 }
 
-/// Writes the rows of the entries of a team and of `common`: their versions, and then their zips.
-fn fill_entries<S: Alter, F: Alter>(
+/// Copies some rows of each of these shelves, one shelf after the other.
+fn copy_along<S: Alter, F: Alter>(
     source: &mut Connection<S>,
-    team: &str,
+    rows: Rows,
+    shelves: &[&str],
     tx: &mut Transaction<'_, F>,
 ) -> Result<(), CopyError>
     ensures same_reference { tx.new.conn.ghost_name ≡ tx.old.conn.ghost_name }
-    ensures fills { Copies (CopiesEntries team.now) (state S.Store source.old) (state S.Store source.new)
+    ensures copies { Copies (Along (CopiesRows rows) (map (λ shelf. shelf.now) shelves.now)) (state S.Store source.old) (state S.Store source.new)
         (state F.Store tx.old.conn.now) (state F.Store tx.new.conn.now) (is_ok result) }
 {
-    copy_versions(source, tx, team)?;
-    copy_versions(source, tx, COMMON)?;
-    copy_pieces(source, tx, team)?;
-    copy_pieces(source, tx, COMMON)
+    for shelf in shelves {
+        copy_rows(source, rows, shelf, tx)?;
+    }
+    Ok(())
 }
 
-/// Fills a store that has `common` alone with the part of a team: its shelf, then the keys and the entries of both.
+/// Fills a store that has `common` alone with the part of a team: its shelf, then the keys, the
+/// versions and the zips along the shelves that it sees.
 fn fill<S: Alter, F: Alter>(
     source: &mut Connection<S>,
     team: &str,
@@ -78,8 +91,14 @@ fn fill<S: Alter, F: Alter>(
     ensures fills { Copies (MakesPart team.now) (state S.Store source.old) (state S.Store source.new)
         (state F.Store tx.old.conn.now) (state F.Store tx.new.conn.now) (is_ok result) }
 {
-    fill_registry(source, team, tx)?;
-    fill_entries(source, team, tx)
+    match put_shelf(tx, team) {
+        Ok(()) => {}
+        Err(error) => return Err(CopyError::Fresh(error)),
+    }
+    let shelves = [team, COMMON];
+    copy_along(source, Rows::Keys, &shelves, tx)?;
+    copy_along(source, Rows::Versions, &shelves, tx)?;
+    copy_along(source, Rows::Pieces, &shelves, tx)
 }
 
 /// Writes the part of a team into a store that has `common` alone, whole or not at all.

@@ -20,7 +20,7 @@
 //! | `count` | `statements::entries::count_entries`; asked once, and then kept |
 //! | `insert` | `statements::entries::add_entry` |
 //! | `team_add`, `key_add`, `key_revoke` | `add_team`, `add_key` of `statements::registry`; `statements::revoke::revoke_key` |
-//! | `extract` | of the team and of `common` the rows of `access`, then those of `version`, then those of `piece`, one at a time (`statements::extract_rows`), into a fresh store in one transaction |
+//! | `extract` | along the shelves that the team sees, the rows of `access`, then those of `version`, then those of `piece`, one at a time (`statements::extract_rows`), into a fresh store in one transaction |
 //!
 //! What is said of values holds where each answer of the disk was what had been written. A fault is
 //! `Memory` where memory was wanted, and otherwise `Device`, which is counted.

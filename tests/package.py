@@ -333,6 +333,14 @@ def confined(suite, copy):
     suite.equal("freed memory returns", copy.prints(f"tr '\\0' '\\n' < {at}/environ | grep MALLOC"), "MALLOC_MMAP_THRESHOLD_=32768")
 
 
+def edited(suite, copy):
+    """`systemctl edit` changes a choice of the unit. It wants a terminal."""
+    copy.sh("printf '#!/bin/sh\\necho [Service] > $1\\necho RestartSec=7 >> $1\\n' > /root/editor; chmod 755 /root/editor")
+    suite.equal("an edit ends well", copy.sh("script -qec 'SYSTEMD_EDITOR=/root/editor systemctl edit goshelf' /dev/null")[0], 0)
+    suite.equal("it changes a choice", copy.prints("systemctl show -P RestartUSec goshelf"), "7s")
+    copy.sh("systemctl revert goshelf")
+
+
 def upgraded(suite, copy, first, second, version):
     """The commands of the page try another version on a copy, and put it over a running one, which restarts; and the first one again."""
     copy.sh("cd /usr/share/goshelf; install deploy/goshelf-backup /usr/local/bin/")
@@ -406,6 +414,7 @@ def on_a_copy(suite, tar, package, version, folder):
         installed(suite, copy, package, version)
         started(suite, copy)
         confined(suite, copy)
+        edited(suite, copy)
         restarted(suite, copy)
         upgraded(suite, copy, package, later(package, folder), version)
         removed(suite, copy, package)

@@ -29,11 +29,11 @@ def stream_of(*requests):
     return source
 
 
-def instructions(program, source, feed=None):
-    """How many instructions the program takes to answer what it reads."""
+def instructions(program, source, feed=None, words=WORDS):
+    """How many instructions the program takes to answer what it reads, in memory unless other words are given."""
     with tempfile.TemporaryDirectory() as folder:
-        words = ["valgrind", "--tool=callgrind", f"--callgrind-out-file={folder}/out", program, *WORDS]
-        child = subprocess.Popen(words, stdin=source, stdout=subprocess.DEVNULL, stderr=subprocess.PIPE)
+        line = ["valgrind", "--tool=callgrind", f"--callgrind-out-file={folder}/out", program, *words]
+        child = subprocess.Popen(line, stdin=source, stdout=subprocess.DEVNULL, stderr=subprocess.PIPE)
         if feed:
             feed()
         told = child.communicate()[1].decode()

@@ -30,7 +30,7 @@ CALL = re.compile(r"(?:\d+ +)?(\d+\.\d+) (.*?)(?: <(\d+\.\d+)>)?$")
 # at most as many versions of one path
 OF_A_PATH = 4000
 COPY = (
-    "INSERT INTO shelf SELECT name FROM whole.shelf WHERE name = ?1",
+    "INSERT INTO shelf SELECT name, parent FROM whole.shelf WHERE name = ?1",
     "INSERT INTO access SELECT * FROM whole.access WHERE shelf IN ('common', ?1)",
     "INSERT INTO version SELECT * FROM whole.version WHERE shelf IN ('common', ?1)",
     "INSERT INTO piece SELECT piece.* FROM whole.version JOIN whole.piece ON piece.version = version.id WHERE shelf IN ('common', ?1)",
@@ -52,7 +52,7 @@ def filled(file, entries):
     conn = made(file)
     conn.execute("BEGIN")
     for team in TEAMS:
-        conn.execute("INSERT INTO shelf VALUES (?)", (team,))
+        conn.execute("INSERT INTO shelf VALUES (?, 'common')", (team,))
         conn.execute("INSERT INTO access VALUES (?, ?, 1)", (f"{team}key0000000001", team))
     for n in range(entries):
         team, place = TEAMS[n % len(TEAMS)], n // len(TEAMS)

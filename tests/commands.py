@@ -29,6 +29,14 @@ serv
 serve
 init
 team-add --db none.db
+team-add --db none.db --group platform
+team-add --db none.db --team alpha --group
+team-add --db none.db --team alpha --group platform --group common
+group-add --db none.db
+group-add --group platform
+group-add --db none.db --team platform
+group-add --db none.db --group platform --team alpha
+group-add --db none.db --group platform --group other
 key-add --db none.db --shelf alpha
 publish --db none.db
 import --db none.db --key A
@@ -55,7 +63,8 @@ serve --db none.db --port 0 --connections x"""
 # each command with all of its options
 OPTIONS = """
 init --db
-team-add --db --team
+team-add --db --team --group
+group-add --db --group
 key-add --db --shelf --key --read-only
 key-revoke --db --key
 publish --db --key --module --version --mod --zip --time
@@ -113,6 +122,99 @@ key-add --db store.db --shelf beta --key A | 0
 answer --db store.db < A example.com/lib/@v/v1.0.0.mod | 0
     404 not found
 init --db store.db | 1 not-empty
+"""
+
+# a store with the team alpha and its key, and what is then refused and changes nothing: the name first, then whether it is taken, then
+# the group
+GROUPS = """
+team-add --db store.db --team alpha | 0
+key-add --db store.db --shelf alpha --key A | 0
+group-add --db store.db --group platform | 0
+team-add --db store.db --team gamma --group platform | 0
+"""
+REFUSED_GROUPS = """
+group-add --db store.db --group common | 1 name
+group-add --db store.db --group Platform | 1 name
+group-add --db store.db --group= | 1 name
+group-add --db store.db --group 1platform | 1 name
+group-add --db store.db --group a23456789012345678901234567890123 | 1 name
+group-add --db store.db --group platform | 1 taken
+group-add --db store.db --group alpha | 1 taken
+group-add --db store.db --group gamma | 1 taken
+team-add --db store.db --team platform | 1 taken
+team-add --db store.db --team platform --group platform | 1 taken
+team-add --db store.db --team platform --group nosuch | 1 taken
+team-add --db store.db --team alpha --group platform | 1 taken
+team-add --db store.db --team gamma | 1 taken
+team-add --db store.db --team gamma --group platform | 1 taken
+team-add --db store.db --team gamma --group nosuch | 1 taken
+team-add --db store.db --team common --group platform | 1 name
+team-add --db store.db --team common --group nosuch | 1 name
+team-add --db store.db --team Eps --group platform | 1 name
+team-add --db store.db --team Eps --group alpha | 1 name
+team-add --db store.db --team eps --group nosuch | 1 no-group
+team-add --db store.db --team eps --group eps | 1 no-group
+team-add --db store.db --team eps --group alpha | 1 no-group
+team-add --db store.db --team eps --group gamma | 1 no-group
+team-add --db store.db --team eps --group common | 1 no-group
+team-add --db store.db --team eps --group= | 1 no-group
+team-add --db store.db --team eps --group Platform | 1 no-group
+team-add --db store.db --team eps --group a23456789012345678901234567890123 | 1 no-group
+key-add --db store.db --shelf eps --key P | 1 no-team
+key-add --db store.db --shelf platform --key shortkey1234567 | 1 name
+key-add --db store.db --shelf platform --key A | 1 taken
+key-add --db store.db --shelf Platform --key A | 1 no-team
+"""
+GROUP_FILES = {"g.mod": "module example.com/g\n", "h.mod": "module example.com/h\n", "one": "X", "two": "YY", "three": "ZZZ"}
+# the shelf column of the inventory names a group; a key of a group reads or publishes as those of other shelves do
+GROUP_KEYS = """
+group-add --db store.db --group lib-32-bytes-long-12345678901234 | 0
+team-add --db store.db --team eps --group lib-32-bytes-long-12345678901234 | 0
+team-add --db store.db --team delta --group platform | 0
+key-add --db store.db --shelf platform --key P | 0
+key-add --db store.db --shelf platform --key R --read-only | 0
+key-add --db store.db --shelf platform --key P | 1 taken
+key-add --db store.db --shelf gamma --key M | 0
+key-add --db store.db --shelf delta --key D | 0
+key-add --db store.db --shelf common --key C | 0
+publish --db store.db --key R --module example.com/g --version v1.0.0 --mod g.mod --zip one | 1
+    403 forbidden
+publish --db store.db --key P --module example.com/g --version v1.0.0 --mod g.mod --zip one --time 2024-01-31T23:59:59Z | 0
+    201 published
+publish --db store.db --key M --module example.com/g --version v1.0.0 --mod g.mod --zip one | 1
+    409 conflict
+publish --db store.db --key M --module example.com/g --version v1.0.0 --mod g.mod --zip one --time 2024-01-31T23:59:59Z | 0
+    200 already published
+publish --db store.db --key M --module example.com/h --version v1.0.0 --mod h.mod --zip one | 0
+    201 published
+publish --db store.db --key P --module example.com/h --version v1.0.0 --mod h.mod --zip two | 0
+    201 published
+publish --db store.db --key C --module example.com/h --version v1.0.0 --mod h.mod --zip three | 0
+    201 published
+inventory --db store.db --key M | 0
+    path,version,shelf,class,time,mod_bytes,zip_bytes
+    example.com/g,v1.0.0,platform,release,2024-01-31T23:59:59Z,21,1
+    example.com/h,v1.0.0,gamma,release,,21,1
+inventory --db store.db --key D | 0
+    path,version,shelf,class,time,mod_bytes,zip_bytes
+    example.com/g,v1.0.0,platform,release,2024-01-31T23:59:59Z,21,1
+    example.com/h,v1.0.0,platform,release,,21,2
+inventory --db store.db --key R | 0
+    path,version,shelf,class,time,mod_bytes,zip_bytes
+    example.com/g,v1.0.0,platform,release,2024-01-31T23:59:59Z,21,1
+    example.com/h,v1.0.0,platform,release,,21,2
+inventory --db store.db --key A | 0
+    path,version,shelf,class,time,mod_bytes,zip_bytes
+    example.com/h,v1.0.0,common,release,,21,3
+inventory --db store.db --key C | 0
+    path,version,shelf,class,time,mod_bytes,zip_bytes
+    example.com/h,v1.0.0,common,release,,21,3
+requires --db store.db --key D --module example.com/g --version v1.0.0 | 0
+requires --db store.db --key A --module example.com/g --version v1.0.0 | 1 not-found
+key-revoke --db store.db --key P | 0
+inventory --db store.db --key P | 1 no-key
+group-add --db new.db --group platform | 0
+team-add --db new.db --team alpha --group platform | 0
 """
 
 HEADER = "path,version,time,mod,zip\n"
@@ -288,6 +390,16 @@ def seen(suite):
     suite.runs("what a shelf sees", SEEN)
 
 
+def groups(suite):
+    write(GROUP_FILES)
+    suite.runs("a group", GROUPS)
+    before = {name: read(name) for name in ("store.db", "store.db-wal")}
+    for line in REFUSED_GROUPS.strip().split("\n"):
+        suite.runs("a refused group", line)
+        suite.holds(f"nothing changed by: {line}", all(read(name) == content for name, content in before.items()))
+    suite.runs("what a group sees", GROUP_KEYS)
+
+
 def quick_start(suite):
     """The README's first command writes what the README says."""
     page = read(os.path.join(ROOT, "README.md")).decode()
@@ -348,4 +460,4 @@ def address(suite):
 
 
 if __name__ == "__main__":
-    sys.exit(in_new_folders(Suite(), quick_start, names, bad_usage, helped, one_store, imports, seen, new_store_told, serve, address))
+    sys.exit(in_new_folders(Suite(), quick_start, names, bad_usage, helped, one_store, imports, seen, groups, new_store_told, serve, address))

@@ -3,7 +3,8 @@
 
 The store is that of the worked rows, with versions of beta's own before those of the others. Each version that is there, and one that
 is not, is asked for in every way, by each key, of two stores: of the whole and of alpha's part, and of two stores of which one has
-100 versions of beta more. The bytes of the replies are compared. A table holds runs, as `harness.runs_of` reads them.
+100 versions of beta more. So it is of gamma, a team of the group platform, whose part has the group too, and of the group's other team,
+delta. The bytes of the replies are compared. A table holds runs, as `harness.runs_of` reads them.
 """
 
 import os
@@ -11,15 +12,19 @@ import sqlite3
 import sys
 from textwrap import indent
 
-from harness import KEYS, SHELVES, Suite, get, in_new_folders, new_store, raw_replies, read, reply, run, write
+from harness import KEYS, SHELVES, Suite, add_platform, answered, get, in_new_folders, new_store, raw_replies, read, reply, run, write
 
 HEADER = "path,version,time,mod,zip\n"
 FILES = {
     "none": "",
     "a": "a",
     "c": "c",
+    "d": "d",
+    "g": "g",
+    "h": "h",
+    "m": "m",
     "one": "X",
-    **{f"{name}.mod": f"module example.com/{name}\n" for name in ("own", "lib", "Lib", "ps", "ra", "rb", "rc", "rd", "x", "y")},
+    **{f"{name}.mod": f"module example.com/{name}\n" for name in ("own", "lib", "Lib", "ps", "ra", "rb", "rc", "rd", "x", "y", "g", "h", "s")},
     "ra-next.mod": "module example.com/ra\nretract [v1.0.5, v1.1.0]\n",
     "rb-next.mod": "module example.com/rb\nretract v1.1.0\n",
     "rd.mod": "module example.com/rd\nretract v1.0.0\n",
@@ -42,6 +47,12 @@ example.com/rb,v1.2.0-rc.1,,rb-next.mod,none
 example.com/rd,v1.0.0,,rd.mod,none
 """,
     "common.csv": HEADER + "example.com/x,v1.0.0,,x.mod,one\nexample.com/y,v1.0.0,,y.mod,c\n",
+    # group-publishes and chain-publishes, and a version of delta's own
+    "gamma.csv": HEADER + "example.com/h,v1.0.0,,h.mod,m\n",
+    "platform.csv": HEADER + "example.com/g,v1.0.0,,g.mod,g\nexample.com/h,v1.0.0,,h.mod,h\n",
+    "common-h.csv": HEADER + "example.com/h,v1.0.0,,h.mod,c\n",
+    "delta.csv": HEADER + "example.com/s,v1.0.0,,s.mod,d\n",
+    "many-delta.csv": HEADER + "".join(f"example.com/s,v1.{n}.0,,s.mod,one\n" for n in range(1, 101)),
 }
 
 # what alpha sees, of the whole and of its part
@@ -79,9 +90,58 @@ inventory --db whole.db --key B | 0
     example.com/y,v1.0.0,common,release,,21,1
 """
 
+# what a team's part has of its group, and what it has not of the group's other teams
+GROUP_PART = """
+extract --db whole.db --team platform --to part.db | 1 no-team
+extract --db whole.db --team common --to part.db | 1 no-team
+extract --db whole.db --team platform --to whole.db | 1 not-empty
+extract --db whole.db --team gamma --to part.db | 0
+extract --db whole.db --team gamma --to part.db | 1 not-empty
+extract --db whole.db --team platform --to part.db | 1 no-team
+inventory --db part.db --key M | 0
+    path,version,shelf,class,time,mod_bytes,zip_bytes
+    example.com/g,v1.0.0,platform,release,,21,1
+    example.com/h,v1.0.0,gamma,release,,21,1
+    example.com/x,v1.0.0,common,release,,21,1
+    example.com/y,v1.0.0,common,release,,21,1
+inventory --db part.db --key P | 0
+    path,version,shelf,class,time,mod_bytes,zip_bytes
+    example.com/g,v1.0.0,platform,release,,21,1
+    example.com/h,v1.0.0,platform,release,,21,1
+    example.com/x,v1.0.0,common,release,,21,1
+    example.com/y,v1.0.0,common,release,,21,1
+inventory --db part.db --key C | 0
+    path,version,shelf,class,time,mod_bytes,zip_bytes
+    example.com/h,v1.0.0,common,release,,21,1
+    example.com/x,v1.0.0,common,release,,21,1
+    example.com/y,v1.0.0,common,release,,21,1
+inventory --db part.db --key D | 1 no-key
+inventory --db part.db --key A | 1 no-key
+extract --db part.db --team gamma --to again.db | 0
+extract --db part.db --team platform --to other.db | 1 no-team
+extract --db part.db --team delta --to other.db | 1 no-team
+extract --db whole.db --team alpha --to alpha.db | 0
+inventory --db alpha.db --key P | 1 no-key
+group-add --db group.db --group tools | 0
+extract --db whole.db --team gamma --to group.db | 1 not-empty
+"""
+# the part's shelves are of their kinds there: the group takes teams, and the names that the part left out are free
+IN_PART = """
+group-add --db part.db --group platform | 1 taken
+group-add --db part.db --group gamma | 1 taken
+team-add --db part.db --team eps --group gamma | 1 no-group
+team-add --db part.db --team eps --group platform | 0
+team-add --db part.db --team delta --group platform | 0
+group-add --db alpha.db --group platform | 0
+"""
+# extract-gamma: the zip of h by each key, of the part
+OF_PART = [("M", 200, b"m"), ("P", 200, b"h"), ("C", 200, b"c"), ("D", 404, b"not found\n"), ("A", 404, b"not found\n")]
+
 # each version that is there, and lib v9.0.0, which is not, as targets have them
 VERSIONS = """\
 example.com/!lib v1.0.0
+example.com/g v1.0.0
+example.com/h v1.0.0
 example.com/lib v1.0.0
 example.com/lib v2.0.0%2Bincompatible
 example.com/lib v9.0.0
@@ -96,6 +156,7 @@ example.com/rc v1.0.0-rc.2
 example.com/rc v1.0.0-rc.10
 example.com/rc v1.0.0
 example.com/rd v1.0.0
+example.com/s v1.0.0
 example.com/x v1.0.0
 example.com/y v1.0.0"""
 TARGETS = ("{0}/@v/{1}.info", "{0}/@v/{1}.mod", "{0}/@v/{1}.zip", "-/gosum/{0}/@v/{1}", "{0}/@v/list", "{0}/@latest", "-/modules")
@@ -158,7 +219,18 @@ def published(count):
 def filled(suite, file, more=""):
     """Makes the store of the worked rows, behind another list of beta's where one is named."""
     new_store(file, *SHELVES)
-    for letter, name in filter(lambda it: it[1], (("B", more), ("B", "beta.csv"), ("A", "alpha.csv"), ("C", "common.csv"))):
+    imported(suite, file, ("B", more), ("B", "beta.csv"), ("A", "alpha.csv"), ("C", "common.csv"))
+
+
+def filled_group(suite, file, more=""):
+    """Adds the group platform and its versions, behind another list of delta's where one is named."""
+    add_platform(file)
+    imported(suite, file, ("D", more), ("D", "delta.csv"), ("M", "gamma.csv"), ("P", "platform.csv"), ("C", "common-h.csv"))
+
+
+def imported(suite, file, *lists):
+    """Imports lists, each by a key."""
+    for letter, name in filter(lambda it: it[1], lists):
         count = FILES[name].count("\n") - 1
         suite.runs("imports", f"import --db {file} --key {letter} --list {name} | 0\n{published(count)}")
 
@@ -173,9 +245,9 @@ def asked(file, letter):
     return list(zip(targets, found))
 
 
-def alike(suite, one, other):
-    """Adds a row for each key of alpha and of `common`: both stores answer it alike."""
-    for letter in "ARC":
+def alike(suite, one, other, letters="ARC"):
+    """Adds a row for each key, those of alpha and of `common` unless others are named: both stores answer it alike."""
+    for letter in letters:
         pairs = zip(asked(one, letter), asked(other, letter))
         suite.equal(f"{one} and {other} answer {letter} alike", [them for them in pairs if them[0] != them[1]], [])
 
@@ -198,6 +270,46 @@ def another_team(suite):
     suite.equal("beta sees its versions", changed, {"example.com/own/@v/list", "example.com/own/@latest"})
 
 
+def shelves(file):
+    """The shelves of a store, each with its parent, as sqlite3 reads them."""
+    conn = sqlite3.connect(file)
+    found = conn.execute("SELECT name, parent FROM shelf ORDER BY name").fetchall()
+    conn.close()
+    return found
+
+
+def group_part(suite):
+    write(FILES)
+    filled(suite, "whole.db")
+    filled_group(suite, "whole.db")
+    before = [read(f"whole.db{end}") for end in ("", "-wal")]
+    suite.runs("a part with a group", GROUP_PART)
+    suite.holds("the whole has its bytes after them", [read(f"whole.db{end}") for end in ("", "-wal")] == before)
+    for letter, status, body in OF_PART:
+        suite.equal(f"extract-gamma: h by {letter}", answered(["--db", "part.db"], [get("example.com/h/@v/v1.0.0.zip", KEYS[letter])]), [(status, body)])
+    alike(suite, "whole.db", "part.db", "MPC")
+    alike(suite, "part.db", "again.db", "MPCDA")
+    alike(suite, "whole.db", "alpha.db")
+    not_found = reply(404, b"not found\n")
+    for letter in "DABR":
+        suite.equal(f"the part finds nothing for {letter}", [it for it in asked("part.db", letter) if it[1] != not_found], [])
+    suite.runs("the shelves of a part", IN_PART)
+    of_group = [("common", None), ("delta", "platform"), ("eps", "platform"), ("gamma", "platform"), ("platform", None)]
+    suite.equal("the shelves of gamma's part and two more", shelves("part.db"), of_group)
+    suite.equal("the shelves of its part", shelves("again.db"), [("common", None), ("gamma", "platform"), ("platform", None)])
+    suite.equal("the shelves of alpha's part and a group", shelves("alpha.db"), [("alpha", "common"), ("common", None), ("platform", None)])
+
+
+def another_team_of_the_group(suite):
+    write(FILES)
+    for file, more in (("few.db", ""), ("more.db", "many-delta.csv")):
+        filled(suite, file)
+        filled_group(suite, file, more)
+    alike(suite, "few.db", "more.db", "MPCARB")
+    changed = {few[0] for few, more in zip(asked("few.db", "D"), asked("more.db", "D")) if few != more}
+    suite.equal("delta sees its versions", changed, {"example.com/s/@v/list", "example.com/s/@latest"})
+
+
 def faults(suite):
     os.mkdir("folder")
     os.symlink("whole.db", "link")
@@ -214,4 +326,4 @@ def faults(suite):
 
 
 if __name__ == "__main__":
-    sys.exit(in_new_folders(Suite(), part, another_team, faults))
+    sys.exit(in_new_folders(Suite(), part, another_team, group_part, another_team_of_the_group, faults))

@@ -1,5 +1,5 @@
 #!/usr/bin/env python3
-"""The go command against `goshelf serve`: what it downloads, lists, gets and builds from a store of two teams.
+"""The go command against `goshelf serve`: what it downloads, lists, gets and builds from a store of two teams, and of a third in a group.
 
 Versions are published by PUT. Expected values are Go's own rules (Go Modules Reference) and sums that are made here from the zips.
 """
@@ -19,6 +19,7 @@ from harness import PROGRAM, Suite, done, new_store, run
 
 NEEDS = ["go"]
 ALPHA, READER, BETA, COMMON = "alphakey00000001", "alphareader00001", "betakey000000001", "commonkey0000001"
+GROUP, MEMBER = "platformkey00001", "gammakey00000001"
 PSEUDO = "v0.0.0-20240131120000-abcdefabcdef"
 SUITE = Suite()
 check = SUITE.holds
@@ -265,6 +266,21 @@ def two_contents(server, alpha, beta):
         check(f"the next version, by {client.key}", status == 0 and "v1.5.1 h1:" in text and "v1.5.0" not in text, f"{text} {errors}")
 
 
+def group(server, member, of_group, alpha):
+    """A team sees the versions of its group beside its own and common's. The group sees none of the team's, and another team sees neither."""
+    path = "example.com/tools"
+    first, second, own = module(path, "v1.0.0"), module(path, "v1.1.0"), module(path, "v1.2.0")
+    told = [server.put(key, it)[0] for key, it in ((GROUP, first), (GROUP, second), (MEMBER, own), (MEMBER, (*first[:3], b"other bytes")))]
+    check("a group and its team publish", told == [201, 201, 201, 409], told)
+    downloads(member, [first, second, own, *ON_COMMON])
+    downloads(of_group, [first, second, *ON_COMMON])
+    member.tells("versions along a chain", f"{path} v1.0.0 v1.1.0 v1.2.0", "list", "-m", "-versions", f"{path}@latest")
+    of_group.tells("versions of the group", f"{path} v1.0.0 v1.1.0", "list", "-m", "-versions", f"{path}@latest")
+    is_not_found(of_group, f"{path}@v1.2.0")
+    is_not_found(alpha, f"{path}@v1.0.0")
+    is_not_found(member, "example.com/greet@v1.0.0")
+
+
 def publishes(server):
     """Each version is published by PUT, and a second time it is there."""
     for key, entries in ((ALPHA, ON_ALPHA), (COMMON, ON_COMMON), (BETA, ON_BETA)):
@@ -279,9 +295,9 @@ def publishes(server):
 
 
 def filled(folder):
-    """A store with two teams and their keys."""
+    """A store with two teams, a group and its team, and their keys."""
     store = os.path.join(folder, "shelves.db")
-    new_store(store, ("alpha", ALPHA, READER), ("beta", BETA), ("common", COMMON))
+    new_store(store, ("alpha", ALPHA, READER), ("beta", BETA), ("common", COMMON), ("gamma", MEMBER, "", "platform"), groups=[("platform", GROUP)])
     return store
 
 
@@ -300,6 +316,7 @@ def session(folder):
     builds(alpha)
     teams(alpha, beta)
     two_contents(server, alpha, beta)
+    group(server, Client(server, os.path.join(folder, "gamma"), MEMBER), Client(server, os.path.join(folder, "platform"), GROUP), alpha)
     server.stop()
     done("key-revoke", "--db", store, "--key", READER)
     server = Server(store)

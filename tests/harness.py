@@ -13,9 +13,14 @@ ROOT = os.path.dirname(os.path.dirname(os.path.abspath(__file__)))
 # GOSHELF names another program to test
 PROGRAM = os.path.abspath(os.environ.get("GOSHELF") or os.path.join(ROOT, "crates", "goshelf", "out", "goshelf"))
 KEY = "alphakey00000001"
-# the keys of the worked rows: alpha's, one that only reads there, beta's, that of `common`, and one that is nobody's
-KEYS = {"A": KEY, "R": "alphareader00001", "B": "betakey000000001", "C": "commonkey0000001", "N": "nosuchkey0000001"}
+# the keys of the worked rows: alpha's, one that only reads there, beta's, that of `common`, one that is nobody's, and those of the group
+# platform and of its teams gamma and delta
+KEYS = {
+    "A": KEY, "R": "alphareader00001", "B": "betakey000000001", "C": "commonkey0000001", "N": "nosuchkey0000001",
+    "P": "platformkey00001", "M": "gammakey00000001", "D": "deltakey00000001",
+}  # fmt: skip
 SHELVES = (("beta", KEYS["B"]), ("alpha", KEYS["A"], KEYS["R"]), ("common", KEYS["C"]))
+PLATFORM, MEMBERS = ("platform", KEYS["P"]), (("gamma", KEYS["M"], "", "platform"), ("delta", KEYS["D"], "", "platform"))
 MEMORY = ["--mem", "--team", "alpha", "--key", KEY]
 
 
@@ -133,20 +138,40 @@ def answered(words, requests, timeout=600):
     return replies(written)
 
 
-def new_store(file, *shelves):
-    """Makes a store with these shelves, each as `add_shelf` takes it."""
+def new_store(file, *shelves, groups=()):
+    """Makes a store with these groups, each as `add_group` takes it, and with these shelves, each as `add_shelf` takes it."""
     done("init", "--db", file)
+    for group in groups:
+        add_group(file, *group)
     for shelf in shelves:
         add_shelf(file, *shelf)
 
 
-def add_shelf(file, shelf, key, reader=""):
-    """Adds a team, unless the shelf is `common`, its key that publishes and, if there is one, its key that only reads."""
+def add_shelf(file, shelf, key, reader="", group=""):
+    """Adds a team, unless the shelf is `common`, in a group if one is named, and its keys, as `add_keys` takes them."""
     if shelf != "common":
-        done("team-add", "--db", file, "--team", shelf)
+        done("team-add", "--db", file, "--team", shelf, *(["--group", group] if group else []))
+    add_keys(file, shelf, key, reader)
+
+
+def add_group(file, group, key, reader=""):
+    """Adds a group and its keys, as `add_keys` takes them."""
+    done("group-add", "--db", file, "--group", group)
+    add_keys(file, group, key, reader)
+
+
+def add_keys(file, shelf, key, reader=""):
+    """Adds a key that publishes to the shelf and, if there is one, a key that only reads."""
     done("key-add", "--db", file, "--shelf", shelf, "--key", key)
     if reader:
         done("key-add", "--db", file, "--shelf", shelf, "--key", reader, "--read-only")
+
+
+def add_platform(file):
+    """Adds the group platform and its teams gamma and delta, each with its key that publishes."""
+    add_group(file, *PLATFORM)
+    for member in MEMBERS:
+        add_shelf(file, *member)
 
 
 def done(*words):

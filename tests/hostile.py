@@ -2,7 +2,7 @@
 """What hostile callers send, and the bytes that answer them: over shelves in memory and over a file.
 
 Build the program first (`./goshelf --version`). A publish that is cut at each byte; heads and lengths at their limits and beyond; what
-each key may do on each of seven shelves, and what it sees; zips that end where a piece ends; 100,000 messages, each in a read of its own.
+each key may do on each of eight shelves, of which one is a group, and what it sees; zips that end where a piece ends; 100,000 messages, each in a read of its own.
 Memory has one team with one key, so rows of other keys run over the file alone. tests/largest.py has the largest files and full shelves.
 """
 
@@ -108,16 +108,17 @@ PIECES = [
     *[(f"conflicts: {what}", [publish(version, zip_bytes)], [CONFLICT]) for what, version, zip_bytes in OTHER_ZIPS],
 ]
 
-# each shelf, its key that publishes, and its key that reads; common is the last
-SHELVES = [
+# each shelf, its key that publishes, and its key that reads: teams of no group, those of the group, the group, and common
+ALONE = [
     ("alpha", KEY, READER),
     ("beta", "betakey000000001", "betareader000001"),
-    ("gamma", "gammakey00000001", "gammareader00001"),
-    ("delta", "deltakey00000001", "deltareader00001"),
     ("a", "0000000000000000", "0000000000000001"),
     ("z-345678901234567890123456789012", "zzzzzzzzzzzzzzzz", "zzzzzzzzzzzzzzz0"),
-    ("common", "commonkey0000001", "commonreader0001"),
 ]
+MEMBERS = [("gamma", "gammakey00000001", "gammareader00001"), ("delta", "deltakey00000001", "deltareader00001")]
+GROUP = ("platform", "platformkey00001", "platformreader01")
+TOP = ("common", "commonkey0000001", "commonreader0001")
+SHELVES = [*ALONE, *MEMBERS, GROUP, TOP]
 OWN = "example.com/own"
 OWN_GOMOD = f"module {OWN}\n".encode()
 LIST = reply(200, b"v1.0.0\nv1.1.0-rc.1\nv3.0.0+incompatible\n")
@@ -165,9 +166,13 @@ def rights(shelf, key, reader):
 
 
 LATE = "1234567890123456789012345678901234567890123456789012345678901234"
-BETA, BETA_READER = SHELVES[1][1:]
-COMMON, COMMON_READER = SHELVES[-1][1:]
-# once common has published too, each team goes on seeing its own; a team that came last, with a key of 64 bytes, sees common
+MEMBER = "member1234567890123456789012345678901234567890123456789012345678"
+BETA, BETA_READER = ALONE[1][1:]
+GAMMA, GAMMA_READER = MEMBERS[0][1:]
+PLATFORM, PLATFORM_READER = GROUP[1:]
+COMMON, COMMON_READER = TOP[1:]
+# once common has published too, each shelf goes on seeing its own; of two teams that came last, each with a key of 64 bytes, `late` sees
+# common, and `member`, which is of the group, sees the group
 AFTER = [
     *[by_both(f"{shelf}: still sees its own", f"{OWN}/@v/v1.0.0.zip", keys, zipped(keys[0].encode())) for shelf, *keys in SHELVES],
     ("beta: sees its own list", [get(f"{OWN}/@v/list", BETA_READER)], [LIST]),
@@ -177,7 +182,17 @@ AFTER = [
     ("late: conflicts with common", [own("v1.0.0", LATE, b"another zip")], [CONFLICT]),
     ("late: repeats what common has", [own("v1.0.0", LATE, COMMON.encode())], [AGAIN]),
     ("late: publishes its own", [own("v1.0.1", LATE, b"Z"), get(f"{OWN}/@v/v1.0.1.zip", LATE)], [PUBLISHED, zipped(b"Z")]),
-    by_both("late: the others do not see it", f"{OWN}/@v/v1.0.1.zip", (BETA, COMMON, COMMON_READER), NOT_FOUND),
+    by_both("late: the others do not see it", f"{OWN}/@v/v1.0.1.zip", (BETA, COMMON, COMMON_READER, GAMMA, PLATFORM, MEMBER), NOT_FOUND),
+    ("member: sees the group", [get(f"{OWN}/@v/v1.0.0.zip", MEMBER), get(f"{OWN}/@v/list", MEMBER)], [zipped(PLATFORM.encode()), LIST]),
+    ("member: conflicts with the group", [own("v1.0.0", MEMBER, b"another zip")], [CONFLICT]),
+    ("member: conflicts with the group, by common's zip", [own("v1.0.0", MEMBER, COMMON.encode())], [CONFLICT]),
+    ("member: repeats what the group has", [own("v1.0.0", MEMBER, PLATFORM.encode())], [AGAIN]),
+    ("member: publishes its own", [own("v1.0.1", MEMBER, b"M"), get(f"{OWN}/@v/v1.0.1.zip", MEMBER)], [PUBLISHED, zipped(b"M")]),
+    by_both("member: the others do not see it", f"{OWN}/@v/v1.0.1.zip", (BETA, COMMON, GAMMA, GAMMA_READER, PLATFORM, PLATFORM_READER), NOT_FOUND),
+    ("member: the group publishes it too", [own("v1.0.1", PLATFORM, b"P"), get(f"{OWN}/@v/v1.0.1.zip", MEMBER)], [PUBLISHED, zipped(b"M")]),
+    by_both("gamma: sees the group's", f"{OWN}/@v/v1.0.1.zip", (GAMMA, GAMMA_READER, PLATFORM_READER), zipped(b"P")),
+    ("gamma: the reader publishes nothing", [own("v1.0.2", GAMMA_READER)], [FORBIDDEN]),
+    by_both("beta: does not", f"{OWN}/@v/v1.0.1.zip", (BETA, BETA_READER, COMMON), NOT_FOUND),
     ("an unknown key sees nothing", [get(f"{OWN}/@v/v1.0.0.zip", NOBODY)], [NOT_FOUND]),
 ]
 
@@ -202,10 +217,11 @@ def over_both(suite):
 
 def over_a_file(suite):
     """What each key may do and sees, which wants several keys."""
-    store = File("rights.db", *SHELVES)
+    store = File("rights.db", *ALONE, *((*it, GROUP[0]) for it in MEMBERS), TOP, groups=[GROUP])
     for shelf in SHELVES:
         answer_rows(suite, store, rights(*shelf))
     add_shelf(store.file, "late", LATE)
+    add_shelf(store.file, "member", MEMBER, group=GROUP[0])
     answer_rows(suite, store, AFTER)
 
 

@@ -8,12 +8,12 @@ bytes with a zip of 16,777,216, fetched back, and each a byte longer; go.mod fil
 
 import sys
 
-from harness import KEY, KEYS, SHELVES, Suite, get, in_new_folders, put, reply
+from harness import KEY, KEYS, PLATFORM, SHELVES, Suite, get, in_new_folders, put, reply
 from stores import AGAIN, CONFLICT, FULL, NO_MODULE, NOT_FOUND, PUBLISHED, TOO_LARGE
 from stores import File, Memory, answer_rows, gomod_sum, info, zipped
 
 GOMOD, ZIP = 1_048_576, 16_777_216
-READER, BETA, COMMON = KEYS["R"], KEYS["B"], KEYS["C"]
+READER, BETA, COMMON, GROUP = KEYS["R"], KEYS["B"], KEYS["C"], KEYS["P"]
 
 
 def filled(path, size):
@@ -139,17 +139,31 @@ SHELF_AMONG_OTHERS = [
     ("each sees its own", [file_of("v1.0.4096.zip"), file_of("v1.0.4096.zip", BETA)], [zipped(b"c"), zipped(b"b")]),
     ("the latest is that of common", [get(f"{F}/@latest")], [info("v1.0.4096")]),
     ("full, with one that nobody has", [f(4097), file_of("v1.0.4097.mod")], [FULL, NOT_FOUND]),
+    ("alpha's group has room, and alpha sees it", [f(4097, b"p", GROUP), file_of("v1.0.4097.zip")], [PUBLISHED, zipped(b"p")]),
+    ("full, with another zip than the group", [f(4097, b"a")], [CONFLICT]),
+    ("full, with the zip of the group", [f(4097, b"p")], [AGAIN]),
+    ("the latest is that of the group", [get(f"{F}/@latest")], [info("v1.0.4097")]),
+    ("full, with one that neither has", [f(4098)], [FULL]),
+]
+# alpha has room where its group is full
+ROOM_UNDER_GROUP = [
+    ("4,096 versions of a path on the group's shelf", [f(patch, key=GROUP) for patch in range(4096)], [PUBLISHED] * 4096),
+    ("the group's next is refused", [f(4096, key=GROUP)], [FULL]),
+    ("alpha has room", [f(4096), file_of("v1.0.4096.mod"), file_of("v1.0.4096.mod", GROUP)], [PUBLISHED, reply(200, f"module {F}\n".encode()), NOT_FOUND]),
+    ("alpha repeats the group's last", [f(4095)], [AGAIN]),
+    ("the latest is alpha's own", [get(f"{F}/@latest"), get(f"{F}/@latest", GROUP)], [info("v1.0.4096"), info("v1.0.4095")]),
 ]
 
 
 def over_both(suite):
     """The rows over each store, of which each table has a new one. The last is over a file that has a full shelf then."""
     assert [len(filled("example.com/m", size)) for size in (GOMOD - 1, GOMOD, GOMOD + 1)] == [GOMOD - 1, GOMOD, GOMOD + 1]
-    alpha, others = ("alpha", KEY, READER), [shelf for shelf in SHELVES if shelf[0] != "alpha"]
+    alpha, others = ("alpha", KEY, READER, PLATFORM[0]), [shelf for shelf in SHELVES if shelf[0] != "alpha"]
     for number, rows in enumerate((sizes, LONG, STREAM, SHELF)):
-        for store in (Memory(), File(f"{number}.db", alpha, *others)):
+        for store in (Memory(), File(f"{number}.db", alpha, *others, groups=[PLATFORM])):
             answer_rows(suite, store, rows(store.reader) if callable(rows) else rows)
     answer_rows(suite, store, SHELF_AMONG_OTHERS)
+    answer_rows(suite, File("group.db", alpha, groups=[PLATFORM]), ROOM_UNDER_GROUP)
 
 
 if __name__ == "__main__":

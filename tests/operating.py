@@ -15,10 +15,12 @@ import threading
 
 from harness import PROGRAM, ROOT, Suite, answered, done, get, new_store, read, run
 from machine import Machine, block
-from refusals import reordered
+from refusals import change, reordered
+from store_files import SCHEMA_2
 
 NEEDS = ["sqlite3", "openssl", "curl", "xxd"]
 ALPHA, READER, BETA, COMMON = "alphakey00000001", "alphareader00001", "betakey000000001", "commonkey0000001"
+GROUP, MEMBER = "platformkey00001", "gammakey00000001"
 SECRET = os.urandom(150_000)
 # shelf's key, path, version, and the zip
 PUBLISHED = [
@@ -53,7 +55,7 @@ def set_up(folder):
     machine = Machine(folder)
     machine.write("restarts", "0\n")
     machine.check_out()
-    new_store(machine.store, ("alpha", ALPHA, READER), ("beta", BETA), ("common", COMMON))
+    new_store(machine.store, ("alpha", ALPHA, READER), ("beta", BETA), ("common", COMMON), ("gamma", MEMBER, "", "platform"), groups=[("platform", GROUP)])
     told = [publish(machine, *it) for it in PUBLISHED]
     assert told == ["201 published"] * len(PUBLISHED), told
     for script in ("goshelf-backup", "goshelf-watch"):
@@ -162,7 +164,8 @@ def queries(suite, machine):
     for first, words in (
         ("ORDER BY id DESC LIMIT 20", [["common", "example.com/base", "v0.1.0"], ["beta", "example.com/lib", "v1.1.0"]]),
         ("AS zip_bytes", [["common", "1", "24", "200000"], ["alpha", "3", "69", str(3 + len(SECRET) + 5)], ["beta", "1", "23", "10"]]),
-        ("substr(token, 1, 4)", [["alpha", "publish", "alph"], ["alpha", "read", "alph"], ["beta", "publish", "beta"], ["common", "publish", "comm"]]),
+        ("substr(token, 1, 4)", [["alpha", "publish", "alph"], ["alpha", "read", "alph"], ["beta", "publish", "beta"], ["common", "publish", "comm"], ["gamma", "publish", "gamm"]]),
+        ("AS in_group", [["platform", "gamma"]]),
     ):
         printed = machine.does(block("sh", first).replace("COPY", copy))
         rows = [[it.strip() for it in line.strip("│\n").split("│")] for line in printed.splitlines() if line.startswith("│")]
@@ -185,6 +188,10 @@ class Health(http.server.BaseHTTPRequestHandler):
         pass
 
 
+# a command `df` that says how full a disk is, in per cent
+FULL = "#!/bin/sh\necho 'Use%'; echo ' {}%'\n"
+
+
 def watch(suite, machine):
     """Nothing is printed while all is well, and a line for each problem."""
     server = http.server.ThreadingHTTPServer(("127.0.0.1", 0), Health)
@@ -201,6 +208,7 @@ def watch(suite, machine):
         status, told, errors = machine.sh("goshelf-watch")
         suite.holds(name, (status, errors) == (1 if wanted else 0, "") and re.fullmatch(f"goshelf: .*{wanted}.*\n" if wanted else "", told), (status, told, errors))
 
+    machine.command("df", FULL.format(10))  # (however full the disk of this machine is)
     machine.write("var/log/nginx/goshelf.log", old * 50 + good * 300 + bad * 3)
     says("all is well", "")
     Health.status = 502
@@ -215,9 +223,9 @@ def watch(suite, machine):
     machine.command("ps", "#!/bin/sh\necho 900000\n")
     says("memory", "900000 KiB of memory")
     os.remove(f"{machine.folder}/usr/local/bin/ps")
-    machine.command("df", "#!/bin/sh\necho 'Use%'; echo ' 81%'\n")
+    machine.command("df", FULL.format(81))
     says("the disk", "full to 81 %")
-    os.remove(f"{machine.folder}/usr/local/bin/df")
+    machine.command("df", FULL.format(10))
     for it in copies(machine):
         os.utime(f"{machine.folder}/var/backups/goshelf/{it}", (0, 0))
     says("backups", "no backup")
@@ -272,6 +280,28 @@ def moved(suite, machine):
     suite.equal("it answers no other team", asked(own, f"{at}/list", key=BETA), [(404, b"not found\n")])
 
 
+def schema_2(suite, machine):
+    """The rows of a store of schema 2 are taken over: each team is then in no group, and sees what it saw."""
+    machine.does("systemctl stop goshelf")
+    for name in (machine.store, f"{machine.store}-wal"):
+        if os.path.exists(name):
+            os.remove(name)
+    change(machine.store, *([statement] for statement in filter(str.strip, SCHEMA_2.split(";"))))
+    before = read(machine.store)
+    suite.equal("a store of schema 2 is none", run(["inventory", "--db", machine.store, "--key", ALPHA])[2], "goshelf: bad-schema\n")
+    machine.does(block("sh", "mkdir schema-2"))
+    new, old = re.search(r"`(name, 'common')` in place of `(name, parent)`", PAGE).groups()
+    script = block("sh", "goshelf init --db NEW").replace("NEW", "shelves.db").replace("'F'", "'schema-2/shelves.db'").replace(old, new)
+    machine.does(f"cd /var/lib/goshelf\n{script}")
+    printed = machine.does(block("sh", "goshelf inventory --db /var/lib/goshelf").replace("KEY", ALPHA))
+    wanted = "path,version,shelf,class,time,mod_bytes,zip_bytes\nexample.com/lib,v1.0.0,common,release,,23,1\n"
+    suite.holds("its rows are taken over, and goshelf runs", printed == wanted and runs(machine), printed)
+    machine.does("systemctl stop goshelf")
+    suite.equal("a team of it is no group", run(["team-add", "--db", machine.store, "--team", "eps", "--group", "alpha"])[2], "goshelf: no-group\n")
+    suite.holds("the store of schema 2 has its bytes", read(f"{machine.folder}/var/lib/goshelf/schema-2/shelves.db") == before)
+    machine.does("systemctl start goshelf")
+
+
 def tables(suite, machine):
     """What sqlite3 does with the tables: a zip is read, rows are taken over from other tables, and the highest row number is moved."""
     machine.does("systemctl stop goshelf")
@@ -285,6 +315,7 @@ def tables(suite, machine):
     machine.does(block("sh", "goshelf init --db NEW").replace("NEW", new).replace("'F'", f"'{other}'"))
     lists = [run(["inventory", "--db", it, "--key", ALPHA]) for it in (new, machine.store)]
     suite.holds("their rows are taken over", lists[0] == lists[1] and lists[0][0] == 0, lists)
+    suite.equal("a group is taken over", run(["team-add", "--db", new, "--team", "eps", "--group", "platform"]), (0, b"", ""))
     ends = "UPDATE version SET id = {0} WHERE id = (SELECT {1}(id) FROM version); UPDATE piece SET version = {0} WHERE version = (SELECT {1}(version) FROM piece)"
     for number, which in ((2**63 - 1, "max"), (-(2**63), "min")):
         machine.does(f'sqlite3 {new} "{ends.format(number, which)}"')
@@ -303,7 +334,7 @@ def main():
     with tempfile.TemporaryDirectory(prefix="goshelf-operating-") as folder:
         machine = set_up(folder)
         try:
-            for part in (keys, cron, by_hand, backups, queries, watch, upgrade, leaked, moved, tables):
+            for part in (keys, cron, by_hand, backups, queries, watch, upgrade, leaked, moved, tables, schema_2):
                 part(suite, machine)
         finally:
             machine.close()

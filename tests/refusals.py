@@ -16,7 +16,8 @@ import sys
 import tempfile
 
 import harness
-from harness import KEY, KEYS, NOBODY, PROGRAM, ROOT, Suite, answered, can_be_nobody, mounted, put, run
+from harness import KEY, KEYS, NOBODY, PROGRAM, ROOT, Suite, add_platform, answered, can_be_nobody, mounted, put, run
+from store_files import SCHEMA_2
 
 ROW = f"--key {KEY} --module example.com/lib --version v1.0.0"
 HEADER = "path,version,time,mod,zip\n"
@@ -51,6 +52,9 @@ OUTCOMES = f"""\
 201 published            | a version of common               | example.com/base   v1.0.0 - - - C
 409 conflict             | common has it                     | example.com/base   v1.0.0 - other -
 201 published            | the next version                  | example.com/base   v1.0.1 - other -
+201 published            | a version of a group              | example.com/group  v1.0.0 - - - P
+409 conflict             | its group has it                  | example.com/group  v1.0.0 - other - M
+201 published            | the next version by its team      | example.com/group  v1.0.1 - other - M
 413 too large            | a large go.mod                    | example.com/lib    v1.1.0 LARGE - -
 422 major-mismatch       | v2 without a suffix               | example.com/lib    v2.0.0 - - -
 201 published            | with a suffix                     | example.com/lib/v2 v2.0.0 - - -
@@ -109,7 +113,7 @@ PIECE = 65_536
 # what docs/OPERATING.md has sqlite3 run in a new store, to take over the rows of a file f
 TAKE_OVER = (
     "BEGIN",
-    "INSERT INTO shelf SELECT name FROM f.shelf WHERE name <> 'common'",
+    "INSERT INTO shelf SELECT name, parent FROM f.shelf WHERE name <> 'common'",
     "INSERT INTO access (token, shelf, publish) SELECT token, shelf, publish FROM f.access",
     "INSERT INTO version (id, shelf, path, version, time, mod, order_key, rank_key) SELECT id, shelf, path, version, time, mod, order_key, rank_key FROM f.version",
     "INSERT INTO piece (version, number, bytes) SELECT version, number, bytes FROM f.piece",
@@ -206,7 +210,11 @@ def bad_schema(suite):
     suite.wants("a damaged file", "bad-schema", word("team-add --db cut.db --team beta"))
     change("tables.db", ["CREATE TABLE x (a INTEGER) STRICT"])
     suite.wants("other tables", "bad-schema", word("team-add --db tables.db --team beta"))
-    for cause, statement in (("a row that means no shelf", "INSERT INTO shelf VALUES ('No Team')"), ("ANALYZE", "ANALYZE")):
+    for cause, statement in (
+        ("a row that means no shelf", "INSERT INTO shelf VALUES ('No Team', 'common')"),
+        ("a parent that is no group", "INSERT INTO shelf VALUES ('beta', 'alpha')"),
+        ("ANALYZE", "ANALYZE"),
+    ):
         shutil.copy("b.db", "rows.db")
         change("rows.db", [statement])
         suite.wants(cause, "bad-schema", word("team-add --db rows.db --team beta"))
@@ -214,9 +222,13 @@ def bad_schema(suite):
     suite.wants("sqlite_stat1 was dropped", "", word("team-add --db rows.db --team beta"))
     reordered("order.db", "b.db")
     suite.wants("the tables in another order", "bad-schema", word("team-add --db order.db --team beta"))
-    assert word("init --db taken.db") == ""
-    change("taken.db", ["ATTACH 'order.db' AS f"], *([statement] for statement in TAKE_OVER))
-    suite.wants("a new store took the rows over", "taken", word("team-add --db taken.db --team alpha"))
+    change("two.db", *([statement] for statement in filter(str.strip, SCHEMA_2.split(";"))))
+    suite.wants("a store of schema 2", "bad-schema", word("team-add --db two.db --team beta"))
+    for name, column in (("order.db", "name, parent"), ("two.db", "name, 'common'")):
+        assert word(f"init --db taken-{name}") == ""
+        statements = [it.replace("name, parent", column) for it in TAKE_OVER]
+        change(f"taken-{name}", [f"ATTACH '{name}' AS f"], *([statement] for statement in statements))
+        suite.wants(f"a new store took the rows of {name} over", "taken", word(f"team-add --db taken-{name} --team alpha"))
 
 
 def numbers(suite):
@@ -276,10 +288,16 @@ def extracts(suite):
     suite.wants("extract: G is F", "not-empty", word("extract --db whole.db --team alpha --to whole.db"))
     suite.wants("extract: another file", "", word("extract --db whole.db --team alpha --to part.db"))
     suite.wants("extract: G has a team", "not-empty", word("extract --db whole.db --team alpha --to part.db"))
+    add_platform("whole.db")
+    suite.wants("extract: a group", "no-team", word("extract --db whole.db --team platform --to gamma.db"))
+    suite.wants("extract: a team of it", "", word("extract --db whole.db --team gamma --to gamma.db"))
+    assert word("group-add --db group.db --group platform") == ""
+    suite.wants("extract: G has a group", "not-empty", word("extract --db whole.db --team alpha --to group.db"))
 
 
 def outcomes(suite):
     harness.new_store("o.db", *harness.SHELVES)
+    add_platform("o.db")
     rows = [[it.strip() for it in line.split("|")] for line in OUTCOMES.splitlines()]
     more = [
         ("400 bad mod-length", "none", f"PUT /k/{KEY}/example.com/lib/@v/v1.2.0 HTTP/1.1\r\nContent-Length: 3\r\n\r\nzip"),
@@ -300,10 +318,18 @@ def names(suite):
     new_store("n.db")
     for cause, team in (("an upper-case letter", "Alpha"), ("a digit first", "1team"), ("33 bytes", "a" * 33), ("common", "common")):
         suite.wants(f"a team: {cause}", "name", word(f"team-add --db n.db --team {team}"))
+        suite.wants(f"a group: {cause}", "name", word(f"group-add --db n.db --group {team}"))
     for cause, key in (("15 bytes", "a" * 15), ("65 bytes", "a" * 65), ("a dash", "alpha-key-000000001")):
         suite.wants(f"a key: {cause}", "name", word(f"key-add --db n.db --shelf alpha --key {key}"))
     suite.wants("a team that is there", "taken", word("team-add --db n.db --team alpha"))
     suite.wants("a key that is there", "taken", word(f"key-add --db n.db --shelf common --key {KEY}"))
+    suite.wants("a group that is named as a team", "taken", word("group-add --db n.db --group alpha"))
+    for cause, group in (("no such group", "platform"), ("a team", "alpha"), ("common", "common")):
+        suite.wants(f"team-add --group: {cause}", "no-group", word(f"team-add --db n.db --team gamma --group {group}"))
+    suite.wants("the group was added", "", word("group-add --db n.db --group platform"))
+    suite.wants("and has a team", "", word("team-add --db n.db --team gamma --group platform"))
+    suite.wants("a team that is named as a group", "taken", word("team-add --db n.db --team platform"))
+    suite.wants("a group that is there", "taken", word("group-add --db n.db --group platform"))
     suite.wants("no such team", "no-team", word("key-add --db n.db --shelf beta --key betakey000000001"))
     suite.wants("no such key, key-revoke", "no-key", word("key-revoke --db n.db --key betakey000000001"))
     suite.wants("no such key, inventory", "no-key", word("inventory --db n.db --key betakey000000001"))

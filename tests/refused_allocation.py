@@ -17,7 +17,7 @@ import sys
 import tempfile
 
 import harness
-from harness import KEY, MEMORY, PROGRAM, Suite, new_store, put
+from harness import KEY, MEMORY, PLATFORM, PROGRAM, Suite, new_store, put
 
 NEEDS = ["cc"]
 # in the short form, one of so many allocations over a file
@@ -66,13 +66,13 @@ REQUESTS = [
 
 
 class Runs:
-    """Runs of the program over one kind of store, each on one that is new."""
+    """Runs of the program over one kind of store, each on one that is new. In a file, the team is in a group."""
 
     def __init__(self, folder, library, has_file):
         self.folder, self.library, self.has_file = folder, library, has_file
         self.file, self.fresh = os.path.join(folder, "run.db"), os.path.join(folder, "fresh.db")
         if has_file and not os.path.exists(self.fresh):
-            new_store(self.fresh, ("alpha", KEY))
+            new_store(self.fresh, ("alpha", KEY, "", PLATFORM[0]), groups=[PLATFORM])
 
     def again(self, requests, **more):
         """Runs on the store as the last run left it."""

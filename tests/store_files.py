@@ -24,6 +24,16 @@ answer --db a.db < A example.com/lib/@v/v1.0.0.mod | 0
 answer --db a.db < A example.com/lib/@v/v1.0.0.zip | 0
     200 Z
 team-add --db a.db --team alpha | 1 taken
+group-add --db a.db --group platform | 0
+team-add --db a.db --team gamma --group platform | 0
+key-add --db a.db --shelf gamma --key M | 0
+key-add --db a.db --shelf platform --key P | 0
+publish --db a.db --key P --module example.com/lib --version v1.0.0 --mod go.mod --zip Z | 0
+    201 published
+answer --db a.db < M example.com/lib/@v/v1.0.0.zip | 0
+    200 Z
+group-add --db a.db --group platform | 1 taken
+team-add --db a.db --team platform | 1 taken
 """
 
 # bytes of a piece of a zip but for its last; the largest zip, of 256 of them, is in tables.py and largest.py
@@ -34,6 +44,7 @@ PATH, GOMOD = "example.com/z", b"module example.com/z\n"
 # the commands that open a store F, and the word of each where F is none; the last makes F of a store
 COMMANDS = """
 team-add --db F --team beta | bad-schema
+group-add --db F --group platform | bad-schema
 key-add --db F --shelf common --key C | bad-schema
 key-revoke --db F --key A | bad-schema
 publish --db F --key A --module example.com/lib --version v1.0.0 --mod none --zip none | bad-schema
@@ -61,11 +72,27 @@ INSERT INTO version VALUES (7, 'common', 'example.com/lib', 'v1.0.0', NULL, X'6d
 INSERT INTO body VALUES (7, X'5A');
 """
 
-# a team and a version in a store, with the keys of v1.0.0
+# the keys of v1.0.0
 ORDER_KEY = "00000000000000010000000000000000000000000000000003"
 RANK_KEY = "03" + ORDER_KEY
+
+# the tables of schema 2, whose shelves have no parents, with their rows
+SCHEMA_2 = f"""
+CREATE TABLE meta (name TEXT PRIMARY KEY, value INTEGER NOT NULL) STRICT;
+CREATE TABLE shelf (name TEXT PRIMARY KEY) STRICT;
+CREATE TABLE access (token TEXT PRIMARY KEY, shelf TEXT NOT NULL REFERENCES shelf (name), publish INTEGER NOT NULL CHECK (publish IN (0, 1))) STRICT;
+CREATE TABLE version (id INTEGER PRIMARY KEY, shelf TEXT NOT NULL REFERENCES shelf (name), path TEXT NOT NULL, version TEXT NOT NULL, time TEXT, mod BLOB NOT NULL, order_key BLOB NOT NULL, rank_key BLOB NOT NULL, UNIQUE (shelf, path, version)) STRICT;
+CREATE TABLE piece (version INTEGER NOT NULL REFERENCES version (id), number INTEGER NOT NULL CHECK (number >= 0), bytes BLOB NOT NULL, PRIMARY KEY (version, number)) STRICT;
+INSERT INTO meta VALUES ('schema', 2);
+INSERT INTO shelf VALUES ('common'), ('alpha');
+INSERT INTO access VALUES ('alphakey00000001', 'alpha', 1);
+INSERT INTO version VALUES (7, 'common', 'example.com/lib', 'v1.0.0', NULL, X'6d6f64756c65206578616d706c652e636f6d2f6c69620a', X'{ORDER_KEY}', X'{RANK_KEY}');
+INSERT INTO piece VALUES (7, 0, X'5A');
+"""
+
+# a team and a version in a store
 FILL = f"""
-INSERT INTO shelf VALUES ('alpha');
+INSERT INTO shelf VALUES ('alpha', 'common');
 INSERT INTO access VALUES ('alphakey00000001', 'alpha', 1);
 INSERT INTO version VALUES (7, 'alpha', 'example.com/lib', 'v1.0.0', NULL, X'6d6f64756c65206578616d706c652e636f6d2f6c69620a', X'{ORDER_KEY}', X'{RANK_KEY}');
 INSERT INTO piece VALUES (7, 0, X'5A');
@@ -136,13 +163,15 @@ def zips(suite):
 def refused(suite):
     new_store("good.db")
     good = changed("good.db", FILL)
-    foreign, old = changed("foreign.db", "CREATE TABLE x (a INTEGER) STRICT"), changed("old.db", SCHEMA_1)
+    foreign = changed("foreign.db", "CREATE TABLE x (a INTEGER) STRICT")
     for cause, content in (
         ("a file that is cut off", good[:5000]),
         ("a file with a damaged page", flipped(good, 4096)),
         ("a file with a damaged head", flipped(good, 0)),
         ("a file with a damaged head and page", flipped(good, 0, 4096)),
-        ("a file of schema 1", old),
+        ("a file of schema 1", changed("schema-1.db", SCHEMA_1)),
+        ("a file of schema 2", changed("schema-2.db", SCHEMA_2)),
+        ("a file of schema 2 that says 3", changed("says-3.db", SCHEMA_2 + "UPDATE meta SET value = 3;")),
         ("a file with another table", foreign),
         ("a text", b"This is a text and no database."),
     ):

@@ -62,13 +62,13 @@ class Memory:
 
 
 class File:
-    """A store in a file, made with these shelves, each as `add_shelf` takes it. Each run opens it."""
+    """A store in a file, made with these groups and shelves, as `new_store` takes them; the first has a reader. Each run opens it."""
 
     name = "--db"
 
-    def __init__(self, file, *shelves):
-        self.file, self.words, self.reader = file, ["--db", file], shelves[0][-1]
-        new_store(file, *shelves)
+    def __init__(self, file, *shelves, groups=()):
+        self.file, self.words, self.reader = file, ["--db", file], shelves[0][2]
+        new_store(file, *shelves, groups=groups)
 
     def answer(self, requests):
         """The bytes that answer these requests."""

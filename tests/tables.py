@@ -1,7 +1,7 @@
 #!/usr/bin/env python3
-"""The tables of a store as sqlite3 reads and writes them: keys of order, and zips in pieces.
+"""The tables of a store as sqlite3 reads and writes them: shelves and their parents, keys of order, and zips in pieces.
 
-The program publishes, and Python's sqlite3 finds the tables whole, the pieces of each zip
+The program publishes, and Python's sqlite3 finds the tables whole, the parent of each shelf, the pieces of each zip
 and the keys of each version, which are made here by their own rules. Then sqlite3 changes rows, also such as break a reference, and the
 program refuses each file as `bad-schema` and leaves its bytes as they were. At last sqlite3 makes the rows, and the program serves them.
 """
@@ -14,7 +14,7 @@ import sys
 import tempfile
 
 import harness
-from harness import KEY, Suite, answered, get, run
+from harness import KEY, KEYS, Suite, add_platform, answered, get, read, run
 
 PATH = "example.com/m"
 GOMOD = f"module {PATH}\n".encode()
@@ -34,6 +34,27 @@ VERSIONS = {
     "v1.1.0-2": 3,
     "v0.0.0-20240131120000-0123456789ab": 4,
 }
+# each shelf with its parent
+SHELVES = [("alpha", "common"), ("common", None), ("delta", "platform"), ("gamma", "platform"), ("platform", None)]
+# each table with its columns: the name, the type, whether it may be null, and its place in the primary key
+COLUMNS = {
+    "meta": [("name", "TEXT", 1, 1), ("value", "INTEGER", 1, 0)],
+    "shelf": [("name", "TEXT", 1, 1), ("parent", "TEXT", 0, 0)],
+    "access": [("token", "TEXT", 1, 1), ("shelf", "TEXT", 1, 0), ("publish", "INTEGER", 1, 0)],
+    "version": [
+        ("id", "INTEGER", 0, 1), ("shelf", "TEXT", 1, 0), ("path", "TEXT", 1, 0), ("version", "TEXT", 1, 0), ("time", "TEXT", 0, 0),
+        ("mod", "BLOB", 1, 0), ("order_key", "BLOB", 1, 0), ("rank_key", "BLOB", 1, 0),
+    ],
+    "piece": [("version", "INTEGER", 1, 1), ("number", "INTEGER", 1, 2), ("bytes", "BLOB", 1, 0)],
+}  # fmt: skip
+# the foreign keys of each table that has some: the column, and the table and column that it refers to
+FOREIGN = {
+    "shelf": [("parent", "shelf", "name")],
+    "access": [("shelf", "shelf", "name")],
+    "version": [("shelf", "shelf", "name")],
+    "piece": [("version", "version", "id")],
+}
+
 
 def zip_of(version):
     """Bytes that differ from piece to piece and from version to version."""
@@ -90,7 +111,7 @@ def read_by_sqlite(suite):
     conn = opened("f.db")
     suite.equal("integrity_check", conn.execute("PRAGMA integrity_check").fetchall(), [("ok",)])
     suite.equal("foreign_key_check", conn.execute("PRAGMA foreign_key_check").fetchall(), [])
-    suite.equal("schema 2", conn.execute("SELECT name, value FROM meta").fetchall(), [("schema", 2)])
+    suite.equal("schema 3", conn.execute("SELECT name, value FROM meta").fetchall(), [("schema", 3)])
     for version, length in VERSIONS.items():
         rows = conn.execute("SELECT id, order_key, rank_key FROM version WHERE path = ? AND version = ?", (PATH, version)).fetchall()
         suite.equal(f"the keys of {version}", [row[1:] for row in rows], [(order_key(version), rank_key(version))])
@@ -105,6 +126,146 @@ def read_by_sqlite(suite):
     releases = [f"v1.0.{n}" for n in range(7)]
     suite.equal("order_key goes by precedence", by_order, ["v0.0.0-20240131120000-0123456789ab", *releases, "v1.1.0-2", "v1.1.0-rc.10"])
     suite.equal("rank_key goes by rank", by_rank, ["v0.0.0-20240131120000-0123456789ab", "v1.1.0-2", "v1.1.0-rc.10", *releases])
+
+
+# what each shelf publishes, by its key
+PUBLISHED = "APMC"
+
+
+def get_by(letter, of):
+    """A GET, by a key, of what another key published."""
+    return get(f"example.com/{of.lower()}/@v/v1.0.0.zip", KEYS[letter])
+
+
+def seen(file, letter):
+    """The letters of the keys whose versions a key sees."""
+    told = answered(["--db", file], [get_by(letter, of) for of in PUBLISHED])
+    return "".join(of for of, (status, body) in zip(PUBLISHED, told) if (status, body) == (200, of.encode()))
+
+
+def shelves_read(suite):
+    """Tables, columns and the parents of shelves, as sqlite3 tells them."""
+    harness.new_store("shelves.db", ("alpha", KEY), ("common", KEYS["C"]))
+    add_platform("shelves.db")
+    puts = [harness.put(f"example.com/{it.lower()}", "v1.0.0", f"module example.com/{it.lower()}\n".encode(), it.encode(), KEYS[it]) for it in PUBLISHED]
+    suite.equal("each shelf publishes", [status for status, _ in answered(["--db", "shelves.db"], puts)], [201] * len(puts))
+    conn = opened("shelves.db")
+    suite.equal("each shelf has its parent", conn.execute("SELECT name, parent FROM shelf ORDER BY name").fetchall(), SHELVES)
+    suite.equal("foreign_key_check of shelves", conn.execute("PRAGMA foreign_key_check").fetchall(), [])
+    suite.equal("integrity_check of shelves", conn.execute("PRAGMA integrity_check").fetchall(), [("ok",)])
+    tables = {row[1]: row[5] for row in conn.execute("PRAGMA table_list") if not row[1].startswith("sqlite_")}
+    suite.equal("the tables, each STRICT", tables, {name: 1 for name in COLUMNS})
+    for name, wanted in COLUMNS.items():
+        found = [(row[1], row[2], row[3], row[5]) for row in conn.execute(f"PRAGMA table_info({name})")]
+        suite.equal(f"the columns of {name}", found, wanted)
+        found = [(row[3], row[2], row[4]) for row in conn.execute(f"PRAGMA foreign_key_list({name})")]
+        suite.equal(f"the foreign keys of {name}", found, FOREIGN.get(name, []))
+    conn.execute("PRAGMA wal_checkpoint(TRUNCATE)")
+    conn.close()
+
+
+def changed(file, statements):
+    """Copies shelves.db to a file and runs statements there."""
+    for name in (file, file + "-wal"):
+        if os.path.exists(name):
+            os.remove(name)
+    shutil.copy("shelves.db", file)
+    conn = opened(file)
+    for statement in statements.split(";"):
+        conn.execute(statement)
+    conn.execute("PRAGMA wal_checkpoint(TRUNCATE)")
+    conn.close()
+
+
+def second_row(file, parent, is_in_index):
+    """Gives `alpha` a second row, which its primary key forbids: without the key the row is added, and then the key is put back, either
+    over an index that has both rows, or over the one that has the first alone."""
+    key, table = "sqlite_autoindex_shelf_1", "CREATE TABLE shelf (name TEXT, parent TEXT) STRICT"
+    changed(file, "SELECT 1")
+    conn = opened(file)
+    rows = conn.execute("SELECT rowid, type, name, tbl_name, rootpage, sql FROM sqlite_schema WHERE tbl_name = 'shelf'").fetchall()
+    conn.executescript(f"PRAGMA writable_schema = ON; DELETE FROM sqlite_schema WHERE name = '{key}'; UPDATE sqlite_schema SET sql = '{table}' WHERE name = 'shelf'")
+    conn.close()
+    conn = opened(file)
+    conn.execute("INSERT INTO shelf VALUES ('alpha', ?)", (parent,))
+    if is_in_index:
+        conn.execute("CREATE INDEX both ON shelf (name)")
+    conn.execute("PRAGMA writable_schema = ON")
+    roots = dict(conn.execute("SELECT 'root', rootpage FROM sqlite_schema WHERE name = 'both'"))
+    conn.execute("DELETE FROM sqlite_schema WHERE tbl_name = 'shelf'")
+    for number, kind, name, of, root, sql in rows:
+        conn.execute("INSERT INTO sqlite_schema (rowid, type, name, tbl_name, rootpage, sql) VALUES (?, ?, ?, ?, ?, ?)",
+                     (number, kind, name, of, roots.get("root", root) if name == key else root, sql))
+    conn.close()
+
+
+# shelves that are those of no world
+UNFIT_SHELVES = (
+    ("a parent that is no shelf", "UPDATE shelf SET parent = 'nosuch' WHERE name = 'gamma'"),
+    ("a new team of a group that is not there", "INSERT INTO shelf VALUES ('eps', 'nosuch')"),
+    ("a new team whose parent is itself", "INSERT INTO shelf VALUES ('eps', 'eps')"),
+    ("an empty parent", "UPDATE shelf SET parent = '' WHERE name = 'gamma'"),
+    ("a parent in other letters", "UPDATE shelf SET parent = 'Platform' WHERE name = 'gamma'"),
+    ("a team as a parent", "UPDATE shelf SET parent = 'alpha' WHERE name = 'gamma'"),
+    ("a team of the group as a parent", "UPDATE shelf SET parent = 'delta' WHERE name = 'gamma'"),
+    ("a team that is its own parent", "UPDATE shelf SET parent = name WHERE name = 'alpha'"),
+    ("a team of a group that is its own parent", "UPDATE shelf SET parent = name WHERE name = 'gamma'"),
+    ("a group that is its own parent", "UPDATE shelf SET parent = name WHERE name = 'platform'"),
+    ("a cycle of two teams", "UPDATE shelf SET parent = iif(name = 'gamma', 'delta', 'gamma') WHERE name IN ('gamma', 'delta')"),
+    ("a cycle of a group and its team", "UPDATE shelf SET parent = 'gamma' WHERE name = 'platform'"),
+    ("a cycle of three", "UPDATE shelf SET parent = iif(name = 'gamma', 'alpha', 'gamma') WHERE name IN ('gamma', 'platform'); UPDATE shelf SET parent = 'platform' WHERE name = 'alpha'"),
+    ("a group of teams whose parent is common", "UPDATE shelf SET parent = 'common' WHERE name = 'platform'"),
+    ("a group in a group", "INSERT INTO shelf VALUES ('tools', NULL); UPDATE shelf SET parent = 'tools' WHERE name = 'platform'"),
+    ("common in a group", "UPDATE shelf SET parent = 'platform' WHERE name = 'common'"),
+    ("common as a team", "UPDATE shelf SET parent = 'alpha' WHERE name = 'common'"),
+    ("common that is its own parent", "UPDATE shelf SET parent = name WHERE name = 'common'"),
+    ("common with a parent that is no shelf", "UPDATE shelf SET parent = 'nosuch' WHERE name = 'common'"),
+    ("no common", "DELETE FROM shelf WHERE name = 'common'"),
+    ("no common, and nothing that names it", "DELETE FROM shelf WHERE name = 'common'; UPDATE shelf SET parent = NULL WHERE parent = 'common'; UPDATE access SET shelf = 'alpha' WHERE shelf = 'common'; UPDATE version SET shelf = 'alpha' WHERE shelf = 'common'"),
+    ("no shelf at all", "DELETE FROM shelf"),
+    ("the group is gone", "DELETE FROM shelf WHERE name = 'platform'"),
+    ("the group is gone, and its key and version", "DELETE FROM shelf WHERE name = 'platform'; DELETE FROM access WHERE shelf = 'platform'; DELETE FROM piece WHERE version = (SELECT id FROM version WHERE shelf = 'platform'); DELETE FROM version WHERE shelf = 'platform'"),
+    ("a team that is gone, with a key", "DELETE FROM shelf WHERE name = 'delta'"),
+    ("a team's name that is none", "INSERT INTO shelf VALUES ('No Team', 'common')"),
+    ("a group's name that is none", "INSERT INTO shelf VALUES ('No Group', NULL)"),
+    ("a group's name of 33 bytes", "INSERT INTO shelf VALUES ('a23456789012345678901234567890123', NULL)"),
+    ("an empty name", "INSERT INTO shelf VALUES ('', NULL)"),
+    ("a group's name that is none, and its team", "INSERT INTO shelf VALUES ('No Group', NULL); UPDATE shelf SET parent = 'No Group' WHERE name = 'gamma'"),
+)  # fmt: skip
+# shelves of a world, with a group that is there, and what the keys of alpha, the group, gamma, delta and common see of `PUBLISHED`
+FIT_SHELVES = (
+    ("the shelves as they are", "SELECT 1", "platform", {"A": "AC", "P": "PC", "M": "PMC", "D": "PC", "C": "C"}),
+    ("a team that joined the group", "UPDATE shelf SET parent = 'platform' WHERE name = 'alpha'", "platform", {"A": "APC", "P": "PC", "M": "PMC", "D": "PC", "C": "C"}),
+    ("a team that left it", "UPDATE shelf SET parent = 'common' WHERE name = 'gamma'", "platform", {"A": "AC", "P": "PC", "M": "MC", "D": "PC", "C": "C"}),
+    ("a team that became a group", "UPDATE shelf SET parent = NULL WHERE name = 'alpha'; UPDATE shelf SET parent = 'alpha' WHERE name = 'delta'", "alpha", {"A": "AC", "P": "PC", "M": "PMC", "D": "AC", "C": "C"}),
+    ("another group, made behind its team", "UPDATE shelf SET parent = 'tools' WHERE name = 'delta'; INSERT INTO shelf VALUES ('tools', NULL)", "tools", {"A": "AC", "P": "PC", "M": "PMC", "D": "C", "C": "C"}),
+    ("a group that became a team, since it has none", "UPDATE shelf SET parent = 'common' WHERE parent = 'platform'; UPDATE shelf SET parent = 'common' WHERE name = 'platform'", "", {"A": "AC", "P": "PC", "M": "MC", "D": "C", "C": "C"}),
+)  # fmt: skip
+
+
+def is_refused(suite, cause, file):
+    """Adds two rows: a file is refused, and its bytes stay."""
+    before = read(file)
+    status, _, told = run(["team-add", "--db", file, "--team", "beta"], timeout=300)
+    suite.equal(cause, (status, told), (1, "goshelf: bad-schema\n"))
+    suite.holds(f"{cause}: nothing was changed", read(file) == before)
+
+
+def shelves_changed(suite):
+    for cause, statements in UNFIT_SHELVES:
+        changed("unfit.db", statements)
+        is_refused(suite, cause, "unfit.db")
+    for parent in ("common", "platform", None):
+        for is_in_index in (True, False):
+            second_row("twice.db", parent, is_in_index)
+            is_refused(suite, f"a second row of alpha, with the parent {parent}{'' if is_in_index else ', which its index lacks'}", "twice.db")
+    for cause, statements, group, wanted in FIT_SHELVES:
+        changed("fit.db", statements)
+        suite.equal(f"{cause}: what each key sees", {letter: seen("fit.db", letter) for letter in wanted}, wanted)
+        if group:
+            suite.equal(f"{cause}: a team of {group}", run(["team-add", "--db", "fit.db", "--team", "eps", "--group", group]), (0, b"", ""))
+        else:
+            suite.equal(f"{cause}: no group is left", run(["team-add", "--db", "fit.db", "--team", "eps", "--group", "platform"]), (1, b"", "goshelf: no-group\n"))
 
 
 def refused(suite):
@@ -124,6 +285,8 @@ def refused(suite):
         ("an order_key of another version", f"UPDATE version SET order_key = X'{order_key('v1.0.4').hex()}' WHERE version = 'v1.0.5'"),
         ("a rank_key that is the order_key", "UPDATE version SET rank_key = order_key WHERE version = 'v1.0.5'"),
         ("schema 1 by its number", "UPDATE meta SET value = 1"),
+        ("schema 2 by its number", "UPDATE meta SET value = 2"),
+        ("schema 4 by its number", "UPDATE meta SET value = 4"),
     ):
         shutil.copy("f.db", "bad.db")
         conn = opened("bad.db")
@@ -134,16 +297,18 @@ def refused(suite):
             continue
         conn.execute("PRAGMA wal_checkpoint(TRUNCATE)")
         conn.close()
-        before = open("bad.db", "rb").read()
-        status, _, told = run(["team-add", "--db", "bad.db", "--team", "beta"], timeout=300)
-        suite.equal(cause, (status, told), (1, "goshelf: bad-schema\n"))
-        suite.holds(f"{cause}: nothing was changed", open("bad.db", "rb").read() == before)
+        is_refused(suite, cause, "bad.db")
 
 
 def made_by_sqlite(suite):
     new_store("made.db")
     conn = opened("made.db")
     conn.execute("BEGIN")
+    # the team first, and then its group: the order of rows means nothing
+    conn.execute("INSERT INTO shelf (name, parent) VALUES ('gamma', 'platform'), ('platform', NULL)")
+    conn.execute("INSERT INTO access (token, shelf, publish) VALUES (?, 'gamma', 0)", (KEYS["M"],))
+    row = (b"module example.com/p\n", order_key("v1.0.0"), rank_key("v1.0.0"))
+    conn.execute("INSERT INTO version (id, shelf, path, version, mod, order_key, rank_key) VALUES (-5, 'platform', 'example.com/p', 'v1.0.0', ?, ?, ?)", row)
     for number, version in enumerate(VERSIONS, 7):
         time = stamp_time(version) if PSEUDO.match(version) else None
         row = (number, "alpha", PATH, version, time, GOMOD, order_key(version), rank_key(version))
@@ -158,13 +323,15 @@ def made_by_sqlite(suite):
     zips = served("made.db")
     for version in VERSIONS:
         suite.holds(f"the zip of {version}, whose rows sqlite3 made, is served", zips[version] == zip_of(version))
+    told = answered(["--db", "made.db"], [get("example.com/p/@v/v1.0.0.mod", key) for key in (KEYS["M"], KEY)])
+    suite.equal("a group's version, whose rows sqlite3 made, is served to its team alone", told, [(200, b"module example.com/p\n"), (404, b"not found\n")])
 
 
 def main():
     suite = Suite()
     with tempfile.TemporaryDirectory() as folder:
         os.chdir(folder)
-        for part in (read_by_sqlite, refused, made_by_sqlite):
+        for part in (read_by_sqlite, shelves_read, shelves_changed, refused, made_by_sqlite):
             part(suite)
         os.chdir("/")
     return suite.end()

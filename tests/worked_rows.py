@@ -1,5 +1,5 @@
 #!/usr/bin/env python3
-"""The worked rows: requests and the bytes of their replies, over a file by runs of their own and in one stream, and over `--mem`.
+"""The worked rows: requests and the bytes of their replies, over a file by runs, in one stream and by `serve`, and over `--mem`.
 
 A line `# NAME` names the rows below it. A row has a method, the letter of a key and a target; the status and the body of the reply;
 of a PUT also its go.mod, its zip and further lines of its head. A PUT without a go.mod sends `module PATH` and a newline. A stream is
@@ -11,9 +11,12 @@ import base64
 import hashlib
 import itertools
 import re
+import shutil
+import socket
+import subprocess
 import sys
 
-from harness import KEYS, MEMORY, SHELVES, Suite, columns, get, in_new_folders, new_store, put, raw_replies, reply, run
+from harness import KEYS, MEMORY, PROGRAM, SHELVES, Suite, add_platform, columns, get, in_new_folders, new_store, put, raw_replies, reply, run
 
 REQUESTS = """
 # empty-modules
@@ -112,6 +115,121 @@ PUT A example.com/t/@v/v1.1.0 | 422 bad-time; | | | Version-Time: 2024-01-01T00:
 PUT A example.com/t/@v/v1.1.0 | 422 bad-time; | | | Version-Time:;
 # a PUT whose body ends one byte early
 PUT /k/alphakey00000001/example.com/q/@v/v1.0.0 HTTP/1.1;Mod-Length: 21;Content-Length: 21;;module example.com/q | 400 bad request;
+"""
+
+# on the store that REQUESTS leave, with the group platform and its teams gamma and delta
+GROUP_REQUESTS = """
+# a group that sees common alone
+GET P -/modules | 200 example.com/x;example.com/y;
+GET M -/modules | 200 example.com/x;example.com/y;
+GET M example.com/y/@v/v1.0.0.zip | 200 c
+GET M example.com/lib/@v/v1.0.0.zip | 404 not found;
+# group-publishes
+PUT P example.com/g/@v/v1.0.0 | 201 published; | | g
+# group-seen-by-members
+GET M example.com/g/@v/v1.0.0.zip | 200 g
+GET D example.com/g/@v/v1.0.0.zip | 200 g
+GET A example.com/g/@v/v1.0.0.zip | 404 not found;
+GET C example.com/g/@v/v1.0.0.zip | 404 not found;
+GET B example.com/g/@v/list | 404 not found;
+GET N example.com/g/@v/v1.0.0.zip | 404 not found;
+# member-under-group
+PUT M example.com/g/@v/v1.0.0 | 409 conflict; | | m
+# a member with the bytes of its group, and with another time
+PUT M example.com/g/@v/v1.0.0 | 200 already published; | | g
+PUT M example.com/g/@v/v1.0.0 | 409 conflict; | | g | Version-Time: 2024-01-01T00:00:00Z;
+# a team of no group
+GET A example.com/g/@v/v1.0.0.mod | 404 not found;
+GET A example.com/g/@v/list | 404 not found;
+GET A -/gosum/example.com/g/@v/v1.0.0 | 404 not found;
+PUT A example.com/g/@v/v1.0.0 | 201 published; | | a
+GET A example.com/g/@v/v1.0.0.zip | 200 a
+PUT A example.com/g/@v/v1.0.0 | 409 conflict; | | g
+GET N example.com/g/@v/v1.0.0.zip | 404 not found;
+# which changes nothing for the group
+GET M example.com/g/@v/v1.0.0.zip | 200 g
+# a group under common
+PUT P example.com/x/@v/v1.0.0 | 409 conflict; | | p
+PUT P example.com/x/@v/v1.0.0 | 200 already published; | | X
+PUT D example.com/x/@v/v1.0.0 | 409 conflict; | | d
+# chain-publishes
+PUT M example.com/h/@v/v1.0.0 | 201 published; | | m
+PUT P example.com/h/@v/v1.0.0 | 201 published; | | h
+PUT C example.com/h/@v/v1.0.0 | 201 published; | | c
+# chain-view
+GET M example.com/h/@v/v1.0.0.zip | 200 m
+GET D example.com/h/@v/v1.0.0.zip | 200 h
+GET P example.com/h/@v/v1.0.0.zip | 200 h
+GET A example.com/h/@v/v1.0.0.zip | 200 c
+GET C example.com/h/@v/v1.0.0.zip | 200 c
+# each of them again
+PUT M example.com/h/@v/v1.0.0 | 200 already published; | | m
+PUT M example.com/h/@v/v1.0.0 | 409 conflict; | | h
+PUT D example.com/h/@v/v1.0.0 | 200 already published; | | h
+PUT D example.com/h/@v/v1.0.0 | 409 conflict; | | c
+PUT P example.com/h/@v/v1.0.0 | 409 conflict; | | m
+PUT A example.com/h/@v/v1.0.0 | 200 already published; | | c
+# a team's version, which neither its group nor another team sees
+PUT D example.com/s/@v/v1.0.0 | 201 published; | | d
+GET D example.com/s/@v/v1.0.0.zip | 200 d
+GET M example.com/s/@v/v1.0.0.zip | 404 not found;
+GET P example.com/s/@v/v1.0.0.zip | 404 not found;
+GET M example.com/s/@v/v1.0.0.mod | 404 not found;
+GET M example.com/s/@v/v1.0.0.info | 404 not found;
+GET M -/gosum/example.com/s/@v/v1.0.0 | 404 not found;
+GET M example.com/s/@v/list | 404 not found;
+GET M example.com/s/@latest | 404 not found;
+PUT M example.com/s/@v/v1.0.0 | 201 published; | | m
+PUT P example.com/s/@v/v1.0.0 | 201 published; | | p
+GET D example.com/s/@v/v1.0.0.zip | 200 d
+# lists, which have each version once, and the latest
+PUT C example.com/l/@v/v1.9.0 | 201 published;
+PUT P example.com/l/@v/v1.10.0 | 201 published;
+PUT M example.com/l/@v/v1.2.0 | 201 published;
+PUT D example.com/l/@v/v1.3.0-rc.1 | 201 published;
+PUT M example.com/l/@v/v0.0.0-20240101000000-aaaaaaaaaaaa | 201 published;
+GET M example.com/l/@v/list | 200 v1.2.0;v1.9.0;v1.10.0;
+GET D example.com/l/@v/list | 200 v1.3.0-rc.1;v1.9.0;v1.10.0;
+GET P example.com/l/@v/list | 200 v1.9.0;v1.10.0;
+GET A example.com/l/@v/list | 200 v1.9.0;
+GET M example.com/h/@v/list | 200 v1.0.0;
+GET M example.com/l/@latest | 200 {"Version":"v1.10.0"}
+GET A example.com/l/@latest | 200 {"Version":"v1.9.0"}
+GET D example.com/l/@v/v1.2.0.info | 404 not found;
+GET M example.com/l/@v/v0.0.0-20240101000000-aaaaaaaaaaaa.info | 200 {"Time":"2024-01-01T00:00:00Z","Version":"v0.0.0-20240101000000-aaaaaaaaaaaa"}
+# the group's highest version retracts for its teams
+PUT P example.com/l/@v/v1.11.0 | 201 published; | module example.com/l;retract [v1.10.0, v1.11.0];
+GET P example.com/l/@latest | 200 {"Version":"v1.9.0"}
+GET M example.com/l/@latest | 200 {"Version":"v1.9.0"}
+GET C example.com/l/@latest | 200 {"Version":"v1.9.0"}
+GET D example.com/l/@v/list | 200 v1.3.0-rc.1;v1.9.0;v1.10.0;v1.11.0;
+# one version on three shelves: gamma's own retracts nothing
+PUT M example.com/r/@v/v1.1.0 | 201 published;
+PUT P example.com/r/@v/v1.1.0 | 201 published; | module example.com/r;retract v1.1.0;
+PUT C example.com/r/@v/v1.1.0 | 201 published; | module example.com/r;retract [v1.0.0, v1.1.0];
+PUT C example.com/r/@v/v1.0.0 | 201 published;
+GET M example.com/r/@latest | 200 {"Version":"v1.1.0"}
+GET D example.com/r/@latest | 200 {"Version":"v1.0.0"}
+GET P example.com/r/@latest | 200 {"Version":"v1.0.0"}
+GET A example.com/r/@latest | 404 not found;
+# times and sums
+PUT P example.com/t/@v/v1.5.0 | 201 published; | | | Version-Time: 2024-02-29T23:59:59Z;
+GET M example.com/t/@v/v1.5.0.info | 200 {"Time":"2024-02-29T23:59:59Z","Version":"v1.5.0"}
+GET D example.com/t/@latest | 200 {"Time":"2024-02-29T23:59:59Z","Version":"v1.5.0"}
+GET A example.com/t/@v/v1.5.0.info | 404 not found;
+GET M -/gosum/example.com/t/@v/v1.5.0 | 200 example.com/t v1.5.0/go.mod h1:4dgp24NRz8ybNwCIaamZKrYhbHMjugRv5LSi2una/Ks=;
+GET A -/gosum/example.com/t/@v/v1.5.0 | 404 not found;
+# modules, each once
+GET M -/modules | 200 example.com/g;example.com/h;example.com/l;example.com/r;example.com/s;example.com/t;example.com/x;example.com/y;
+GET D -/modules | 200 example.com/g;example.com/h;example.com/l;example.com/r;example.com/s;example.com/t;example.com/x;example.com/y;
+GET P -/modules | 200 example.com/g;example.com/h;example.com/l;example.com/r;example.com/s;example.com/t;example.com/x;example.com/y;
+GET B -/modules | 200 example.com/h;example.com/l;example.com/r;example.com/x;example.com/y;
+GET C -/modules | 200 example.com/h;example.com/l;example.com/r;example.com/x;example.com/y;
+"""
+# team-is-no-group and name-shared
+GROUP_COMMANDS = """
+team-add --db groups.db --team eps --group alpha | 1 no-group
+group-add --db groups.db --group gamma | 1 taken
 """
 
 # each is asked with in a run of its own
@@ -216,6 +334,18 @@ def in_one_stream(suite, where, words, rows):
         suite.equal(f"{where}, {name}: {row}", raw, wanted)
 
 
+def by_serve(suite, where, words, rows):
+    """Asks `serve` for each row, on a connection of its own."""
+    rows = list(rows)
+    serve = subprocess.Popen([PROGRAM, "serve", *words, "--port", "0", "--connections", str(len(rows))], stdout=subprocess.PIPE)
+    port = int(serve.stdout.readline().rpartition(b":")[2])
+    for name, row, request, wanted in rows:
+        with socket.create_connection(("127.0.0.1", port), timeout=60) as stream:
+            stream.sendall(request)
+            suite.equal(f"{where}, {name}: {row}", b"".join(iter(lambda: stream.recv(65_536), b"")), wanted)
+    suite.equal(f"{where}: it ends well", serve.wait(60), 0)
+
+
 def over_files(suite):
     for name, table in (("requests", REQUESTS), ("streams", STREAMS), ("sums", SUMS)):
         new_store(f"{name}.db", *SHELVES)
@@ -225,19 +355,31 @@ def over_files(suite):
         in_one_stream(suite, "a file, one stream", ["--db", f"{name}-once.db"], rows_of(table))
 
 
+def groups(suite):
+    new_store("groups.db", *SHELVES)
+    run(["answer", "--db", "groups.db"], b"".join(request for _, _, request, _ in rows_of(REQUESTS)))
+    add_platform("groups.db")
+    suite.runs("groups", GROUP_COMMANDS)
+    for where, ask in (("a run each", in_own_runs), ("one stream", in_one_stream), ("serve", by_serve)):
+        for end in ("", "-wal"):
+            shutil.copy(f"groups.db{end}", f"asked.db{end}")
+        ask(suite, f"groups, {where}", ["--db", "asked.db"], rows_of(GROUP_REQUESTS))
+
+
 def over_memory(suite):
-    for table in (REQUESTS, SUMS):
+    for table in (REQUESTS, GROUP_REQUESTS, SUMS):
         in_one_stream(suite, "--mem", MEMORY, of_alpha(table))
     in_own_runs(suite, "--mem", MEMORY, rows_of(STREAMS))
 
 
 def sums(suite):
-    for path, version in (("example.com/lib", "v1.0.0"), ("example.com/x", "v1.0.0"), ("example.com/Lib", "v1.0.0-a.mod")):
+    summed = (("example.com/lib", "v1.0.0"), ("example.com/x", "v1.0.0"), ("example.com/Lib", "v1.0.0-a.mod"), ("example.com/t", "v1.5.0"))
+    for path, version in summed:
         hash_of_gomod = hashlib.sha256(f"module {path}\n".encode()).hexdigest()
         hash_of_list = hashlib.sha256(f"{hash_of_gomod}  go.mod\n".encode()).digest()
         line = f"{path} {version}/go.mod h1:{base64.b64encode(hash_of_list).decode()};"
-        suite.holds(f"the sum of {path} {version} is that of hashlib", f" | 200 {line}\n" in SUMS, line)
+        suite.holds(f"the sum of {path} {version} is that of hashlib", f" | 200 {line}\n" in SUMS + GROUP_REQUESTS, line)
 
 
 if __name__ == "__main__":
-    sys.exit(in_new_folders(Suite(), over_files, over_memory, sums))
+    sys.exit(in_new_folders(Suite(), over_files, groups, over_memory, sums))

@@ -52,7 +52,7 @@ enum Needed {
 }
 
 /// The commands, in the order of the help.
-static COMMANDS: [CommandRow; 11] = [
+static COMMANDS: [CommandRow; 12] = [
     CommandRow {
         name: "init",
         about: "Makes a store with the shelf common alone, in a file that has no bytes",
@@ -64,6 +64,13 @@ static COMMANDS: [CommandRow; 11] = [
         name: "team-add",
         about: "Adds a team, with a shelf of its own",
         options: &TEAM_ADD,
+        forms: None,
+        example: "",
+    },
+    CommandRow {
+        name: "group-add",
+        about: "Adds a group, with a shelf of its own",
+        options: &GROUP_ADD,
         forms: None,
         example: "",
     },
@@ -111,7 +118,7 @@ static COMMANDS: [CommandRow; 11] = [
     },
     CommandRow {
         name: "extract",
-        about: "Makes a store of one team's part: its shelf and common, with their versions and keys",
+        about: "Makes a store of one team's part: its shelf, its group's and common, with their versions and keys",
         options: &EXTRACT,
         forms: None,
         example: "",
@@ -170,13 +177,29 @@ const DB: OptionRow = OptionRow {
 
 const INIT: [OptionRow; 1] = [DB];
 
-const TEAM_ADD: [OptionRow; 2] = [
+const TEAM_ADD: [OptionRow; 3] = [
     DB,
     OptionRow {
         name: "team",
         value: Value::Text("T"),
         needed: Needed::Always,
         help: "The team: 1 to 32 bytes of a-z, 0-9 and -, the first a letter, not common",
+    },
+    OptionRow {
+        name: "group",
+        value: Value::Text("G"),
+        needed: Needed::Never,
+        help: "The group that the team is a member of, for good; without this it is of none",
+    },
+];
+
+const GROUP_ADD: [OptionRow; 2] = [
+    DB,
+    OptionRow {
+        name: "group",
+        value: Value::Text("G"),
+        needed: Needed::Always,
+        help: "The group: 1 to 32 bytes of a-z, 0-9 and -, the first a letter, not common",
     },
 ];
 
@@ -186,7 +209,7 @@ const KEY_ADD: [OptionRow; 4] = [
         name: "shelf",
         value: Value::Text("S"),
         needed: Needed::Always,
-        help: "The shelf that the key belongs to: a team, or common",
+        help: "The shelf that the key belongs to: a team, a group, or common",
     },
     OptionRow {
         name: "key",
@@ -306,7 +329,7 @@ const EXTRACT: [OptionRow; 3] = [
         name: "team",
         value: Value::Text("T"),
         needed: Needed::Always,
-        help: "The team; common is none",
+        help: "The team; common and groups are none",
     },
     OptionRow {
         name: "to",

@@ -44,6 +44,10 @@ fn work_of<'a>(name: &str, matches: &ArgMatches<'a>) -> Option<Work<'a>> {
     match name {
         "team-add" => Some(Work::TeamAdd {
             team: text(matches, "team"),
+            group: matches.get_str("group"),
+        }),
+        "group-add" => Some(Work::GroupAdd {
+            group: text(matches, "group"),
         }),
         "key-add" => Some(Work::KeyAdd {
             shelf: text(matches, "shelf"),

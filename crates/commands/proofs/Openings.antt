@@ -1,11 +1,8 @@
 -- The first team and its key are accepted.
-use Rattle.std.proofs.Common.{◌≡◌, ℕ, List, true, false, ◌∙◌, ap, subst, Ok, Option, Result}
+use Rattle.std.proofs.Common.{◌≡◌, ℕ, List, true, false, refl, ◌∙◌, ap, subst, Ok, Option, Some, None, Result}
 use Rattle.std.specs.Prelude.{◌&&◌, ◌||◌, not, nat_le, nat_eq, length, bytes_eq, is_some}
 use Rattle.std.specs.List.{list_all}
-use Rattle.std.specs.Cmp.{tied_itself}
-use Rattle.std.specs.Ordering.{is_eq}
 use Rattle.std.specs.FinMap as map
-use Rattle.std.specs.FinSet as set
 use Rattle.std.proofs.lemmas.Bool.{and_parts, false_from_ne_true, not-true}
 use Rattle.world.specs.InMemory.{in_memory}
 use Rattle.world.specs.Registry.{team_added, after_team_add, key_added, after_key_add}
@@ -19,7 +16,7 @@ use Rattle.world.proofs.MapsDone.{team_done, key_done}
 use Rattle.world.proofs.OnlyCommon.{only_common_stands, has_nothing_else}
 use Rattle.shelf.proofs.Sound.{sound}
 use Rattle.shelf.specs.declared.ask.Event.TheVariants.{TeamAdd}
-use Rattle.world.proofs.Orders.{texts_total, text_apart}
+use Rattle.world.proofs.Orders.{texts_total, text_apart, get_put}
 use Rattle.engine.specs.Served.{Serves}
 use Rattle.engine.specs.declared.fault.Io.{Io as Failure}
 use Rattle.commands.specs.Opening.{ServedFrom, opening}
@@ -30,34 +27,34 @@ not_common t named =
     let last = (and_parts (nat_le (length t) 32 && begins_lower t && list_all (λ c. is_lower c || is_digit c || nat_eq c 45) t) (not (bytes_eq t common)) named).1 in
     text_apart t common (not-true (bytes_eq t common) last)
 
-is_new : (t : List ℕ) → is_team_name t ≡ true → set.contains only_common.shelves t ≡ false
-is_new t named = false_from_ne_true (set.contains only_common.shelves t) (λ e. not_common t named (has_nothing_else common t e))
+is_new : (t : List ℕ) → is_team_name t ≡ true → map.contains_key only_common.shelves t ≡ false
+is_new t named = false_from_ne_true (map.contains_key only_common.shelves t) (λ e. not_common t named (has_nothing_else common None t e))
 
-team_is_added : (t : List ℕ) → is_team_name t ≡ true → team_added only_common t ≡ Done
-team_is_added t named = team_done only_common t named (is_new t named)
+team_is_added : (t : List ℕ) → is_team_name t ≡ true → team_added only_common t None ≡ Done
+team_is_added t named = team_done only_common t None named (is_new t named) refl
 
-stands_then : (t : List ℕ) → set.contains (with_team only_common t).shelves t ≡ true
-stands_then t = set.contains-insert texts_total only_common.shelves t t ∙ ap (λ o. is_eq o || set.contains only_common.shelves t) (tied_itself texts_total t)
+stands_then : (t : List ℕ) → map.contains_key (with_team only_common t None).shelves t ≡ true
+stands_then t = ap is_some (get_put texts_total only_common.shelves t (Some common))
 
-key_is_added : (t k : List ℕ) → is_key k ≡ true → key_added (with_team only_common t) t k ≡ Done
-key_is_added t k named = key_done (with_team only_common t) t k named (stands_then t) (ap is_some (map.get-empty text_cmp k))
+key_is_added : (t k : List ℕ) → is_key k ≡ true → key_added (with_team only_common t None) t k ≡ Done
+key_is_added t k named = key_done (with_team only_common t None) t k named (stands_then t) (ap is_some (map.get-empty text_cmp k))
 
 -- the world with one team
-one_team : (t : List ℕ) → is_team_name t ≡ true → IsWorld (with_team only_common t)
-one_team t named = subst IsWorld (ap (after_team_add only_common t) (team_is_added t named)) (sound only_common (TeamAdd t) only_common_stands)
+one_team : (t : List ℕ) → is_team_name t ≡ true → IsWorld (with_team only_common t None)
+one_team t named = subst IsWorld (ap (after_team_add only_common t None) (team_is_added t named)) (sound only_common (TeamAdd t None) only_common_stands)
 
 module _ (old new : World) (t : List ℕ) (r : Registered) where
-  pub team_stands : Does (in_memory old) (in_memory new) (Ok r) (λ w. team_added w t) (λ w. after_team_add w t (team_added w t))
-      → old ≡ only_common → is_team_name t ≡ true → new ≡ with_team only_common t
+  pub team_stands : Does (in_memory old) (in_memory new) (Ok r) (λ w. team_added w t None) (λ w. after_team_add w t None (team_added w t None))
+      → old ≡ only_common → is_team_name t ≡ true → new ≡ with_team only_common t None
   team_stands does begins named =
-      (does.at tt only_common (begins, only_common_stands) tt).ok.0 ∙ ap (after_team_add only_common t) (team_is_added t named)
+      (does.at tt only_common (begins, only_common_stands) tt).ok.0 ∙ ap (after_team_add only_common t None) (team_is_added t named)
 
   pub key_stands : (k : List ℕ)
       → Does (in_memory old) (in_memory new) (Ok r) (λ w. key_added w t k) (λ w. after_key_add w t k Publishes (key_added w t k))
-      → old ≡ with_team only_common t → is_team_name t ≡ true → is_key k ≡ true → new ≡ opening t k
+      → old ≡ with_team only_common t None → is_team_name t ≡ true → is_key k ≡ true → new ≡ opening t k
   key_stands k does begins team named =
-      (does.at tt (with_team only_common t) (begins, one_team t team) tt).ok.0
-      ∙ ap (after_key_add (with_team only_common t) t k Publishes) (key_is_added t k named)
+      (does.at tt (with_team only_common t None) (begins, one_team t team) tt).ok.0
+      ∙ ap (after_key_add (with_team only_common t None) t k Publishes) (key_is_added t k named)
 
 -- what holds of shelves that are those of the opening holds of the opening
 pub served_from : (start begin end : World) (unread unread_new written written_new : Option (List ℕ)) (result : Result (Unit {0}) Failure)

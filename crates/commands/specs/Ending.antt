@@ -15,6 +15,7 @@ word refusal.Name = codes "name"
 word refusal.Taken = codes "taken"
 word refusal.NoTeam = codes "no-team"
 word refusal.NoKey = codes "no-key"
+word refusal.NoGroup = codes "no-group"
 word refusal.Device = codes "device"
 word refusal.Memory = codes "memory"
 word refusal.BadSchema = codes "bad-schema"
@@ -30,6 +31,7 @@ ending (Ok registered.Name) = Err refusal.Name
 ending (Ok registered.Taken) = Err refusal.Taken
 ending (Ok registered.NoTeam) = Err refusal.NoTeam
 ending (Ok registered.NoKey) = Err refusal.NoKey
+ending (Ok registered.NoGroup) = Err refusal.NoGroup
 ending (Err fault.Device) = Err refusal.Device
 ending (Err fault.Memory) = Err refusal.Memory
 

@@ -1,5 +1,5 @@
 -- What a run over shelves in memory begins with, and how it ends.
-use Rattle.std.specs.Prelude.{ℕ, List, ◌≡◌, true, Option, Result, Ok, Err}
+use Rattle.std.specs.Prelude.{ℕ, List, ◌≡◌, true, Option, None, Result, Ok, Err}
 use Rattle.engine.specs.Served.{Serves}
 use Rattle.engine.specs.declared.fault.Io.{Io as Failure}
 use Rattle.world.specs.InMemory.{in_memory}
@@ -11,7 +11,7 @@ use Rattle.commands.specs.declared.refusal.Refusal.TheVariants.{Name, Memory, Io
 
 -- `common`, one team, and the team's publishing key
 abbrev pub opening : List ℕ → List ℕ → World
-opening team key = with_key (with_team only_common team) key (record { shelf = team; right = Publishes })
+opening team key = with_key (with_team only_common team None) key (record { shelf = team; right = Publishes })
 
 -- the team and the key keep the rules of their kinds
 pub record AreNames (team key : List ℕ) : Type 0 where

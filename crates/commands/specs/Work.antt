@@ -1,6 +1,6 @@
 -- What a work on a store does.
-use Rattle.std.specs.Prelude.{ℕ, List, ◌≡◌, if◌then◌else◌, true, Bool, Option, Result, Ok, Err}
-use Rattle.world.specs.Registry.{team_added, after_team_add, key_added, after_key_add, key_revoked, after_key_revoke}
+use Rattle.std.specs.Prelude.{ℕ, List, ◌≡◌, if◌then◌else◌, true, Bool, Option, option_copied, Result, Ok, Err}
+use Rattle.world.specs.Registry.{team_added, after_team_add, group_added, after_group_add, key_added, after_key_add, key_revoked, after_key_revoke}
 use Rattle.world.specs.Store.{Shown}
 use Rattle.world.specs.World.{World}
 use Rattle.world.specs.declared.entry.Right.TheVariants.{Publishes, Reads}
@@ -57,8 +57,11 @@ module _ {S : Type 0} (shown : S → Shown) (failures : S → ℕ) (old new : Mo
   -- requirements of a version are printed, all requests of the input are answered, or no more requests than there are connections.
   abbrev pub Works : Result Bool Refusal → Work → Type 0
   Works result work.Open = (new ≡ old) × (result ≡ Ok true)
-  Works result (work.TeamAdd team) =
-      RegistersAlone (λ w. team_added w team.now) (λ w. after_team_add w team.now (team_added w team.now)) result
+  Works result (work.TeamAdd team group) =
+      RegistersAlone (λ w. team_added w team.now (option_copied group))
+      (λ w. after_team_add w team.now (option_copied group) (team_added w team.now (option_copied group))) result
+  Works result (work.GroupAdd group) =
+      RegistersAlone (λ w. group_added w group.now) (λ w. after_group_add w group.now (group_added w group.now)) result
   Works result (work.KeyAdd shelf key read_only) =
       RegistersAlone (λ w. key_added w shelf.now key.now)
       (λ w. after_key_add w shelf.now key.now (if read_only then Reads else Publishes) (key_added w shelf.now key.now)) result

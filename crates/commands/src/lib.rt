@@ -2,7 +2,7 @@
 //!
 //! | command | what it does | where |
 //! |---|---|---|
-//! | `team-add`, `key-add`, `key-revoke` | one command of the registry, as the machine does it | [`registry`] |
+//! | `team-add`, `group-add`, `key-add`, `key-revoke` | one command of the registry, as the machine does it | [`registry`] |
 //! | `publish` | asks the machine to publish two files, and prints the line of its outcome | [`publish`] |
 //! | `import` | asks the machine to publish each row of a list, and prints a line for each | [`import`], [`import_file`] |
 //! | `inventory`, `requires` | prints what a shelf sees, and what a version requires | [`report`], [`inventory`], [`requirements`] |

@@ -1,5 +1,5 @@
 //! Shelves in memory, for one run of the program.
-ghost use Rattle.std.specs.Prelude.{◌≡◌, ◌⊎◌, true, OnOk, OnErr, IfOk, IfErr};
+ghost use Rattle.std.specs.Prelude.{◌≡◌, ◌⊎◌, true, None, OnOk, OnErr, IfOk, IfErr};
 ghost use Rattle.world.specs.World.{only_common, with_team, is_team_name, is_key};
 ghost use Rattle.commands.specs.Opening.{AnsweredFor, AreNames, opening};
 
@@ -16,10 +16,10 @@ use world::shelves::Shelves;
 fn add_first_team(shelves: &mut MapShelves, team: &str) -> Result<(), Refusal>
     requires begins { shelves.old ≡ only_common }
     requires named { is_team_name team.now ≡ true }
-    ensures ok { OnOk result (shelves.new ≡ with_team only_common team.now) }
+    ensures ok { OnOk result (shelves.new ≡ with_team only_common team.now None) }
     ensures err { IfErr result (λ e. e ≡ Refusal.Memory) }
 {
-    match shelves.team_add(team) {
+    match shelves.team_add(team, None) {
         Ok(_) => Ok(()),
         Err(_) => Err(Refusal::Memory),
     }
@@ -27,7 +27,7 @@ fn add_first_team(shelves: &mut MapShelves, team: &str) -> Result<(), Refusal>
 
 /// Adds the publishing key of the first team.
 fn add_first_key(shelves: &mut MapShelves, team: &str, key: &str) -> Result<(), Refusal>
-    requires begins { shelves.old ≡ with_team only_common team.now }
+    requires begins { shelves.old ≡ with_team only_common team.now None }
     requires team_named { is_team_name team.now ≡ true }
     requires named { is_key key.now ≡ true }
     ensures ok { OnOk result (shelves.new ≡ opening team.now key.now) }

@@ -8,14 +8,16 @@ use world::registry::{Registered, StoreFault};
 /// Why a command was refused, with exit status 1.
 #[derive(Clone, Copy, Debug, Drop, PartialEq, Eq)]
 pub enum Refusal {
-    /// A team or a key breaks the rule of its kind.
+    /// The name of a team or a group, or a key, breaks its rule.
     Name,
-    /// The team or the key is there already.
+    /// A shelf of that name, or the key, exists already.
     Taken,
-    /// There is no shelf of that name.
+    /// There is no shelf of that name; for `extract`, no team.
     NoTeam,
     /// There is no such key.
     NoKey,
+    /// There is no group of that name.
+    NoGroup,
     /// A disk failed, or a file can't be opened as a store.
     Device,
     /// A growth was refused.
@@ -42,6 +44,7 @@ impl Refusal {
             Refusal::Taken => "taken",
             Refusal::NoTeam => "no-team",
             Refusal::NoKey => "no-key",
+            Refusal::NoGroup => "no-group",
             Refusal::Device => "device",
             Refusal::Memory => "memory",
             Refusal::BadSchema => "bad-schema",
@@ -69,6 +72,7 @@ pub fn ending(told: Result<Registered, StoreFault>) -> Result<(), Refusal>
         Ok(Registered::Taken) => Err(Refusal::Taken),
         Ok(Registered::NoTeam) => Err(Refusal::NoTeam),
         Ok(Registered::NoKey) => Err(Refusal::NoKey),
+        Ok(Registered::NoGroup) => Err(Refusal::NoGroup),
         Err(StoreFault::Device) => Err(Refusal::Device),
         Err(StoreFault::Memory) => Err(Refusal::Memory),
     }

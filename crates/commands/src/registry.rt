@@ -1,18 +1,29 @@
-//! The commands of the registry: teams and keys.
-ghost use Rattle.std.specs.Prelude.{◌≡◌, true, if◌then◌else◌};
-ghost use Rattle.world.specs.Registry.{team_added, after_team_add, key_added, after_key_add, key_revoked, after_key_revoke};
+//! The commands of the registry: teams, groups and keys.
+ghost use Rattle.std.specs.Prelude.{◌≡◌, true, if◌then◌else◌, option_copied};
+ghost use Rattle.world.specs.Registry.{team_added, after_team_add, group_added, after_group_add, key_added, after_key_add, key_revoked, after_key_revoke};
 ghost use Rattle.commands.specs.Ending.{Registers};
 
 use crate::refusal::{Refusal, ending};
 use world::entry::Right;
 use world::shelves::Shelves;
 
-/// Adds a team, as the machine does. `Name`, `Taken`, or a fault of the store: then nothing is changed.
-pub fn add_team<S: Shelves>(shelves: &mut S, name: &str) -> Result<(), Refusal>
+/// Adds a team, as a member of a group or of none, as the machine does.
+/// `Name`, `Taken`, `NoGroup`, or a fault of the store: then nothing is changed.
+pub fn add_team<S: Shelves>(shelves: &mut S, name: &str, group: Option<&str>) -> Result<(), Refusal>
     ensures { Registers (S.shown shelves.old) (S.shown shelves.new) (S.failure_count shelves.old) (S.failure_count shelves.new)
-        (λ w. team_added w name.now) (λ w. after_team_add w name.now (team_added w name.now)) result }
+        (λ w. team_added w name.now (option_copied group.entry))
+        (λ w. after_team_add w name.now (option_copied group.entry) (team_added w name.now (option_copied group.entry))) result }
 {
-    let told = shelves.team_add(name);
+    let told = shelves.team_add(name, group);
+    ending(told)
+}
+
+/// Adds a group, as the machine does. `Name`, `Taken`, or a fault of the store: then nothing is changed.
+pub fn add_group<S: Shelves>(shelves: &mut S, name: &str) -> Result<(), Refusal>
+    ensures { Registers (S.shown shelves.old) (S.shown shelves.new) (S.failure_count shelves.old) (S.failure_count shelves.new)
+        (λ w. group_added w name.now) (λ w. after_group_add w name.now (group_added w name.now)) result }
+{
+    let told = shelves.group_add(name);
     ending(told)
 }
 

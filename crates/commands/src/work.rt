@@ -6,7 +6,7 @@ use crate::answer::answer_from;
 use crate::import_file::import_file;
 use crate::publish::{Files, Words, publish};
 use crate::refusal::Refusal;
-use crate::registry::{add_key, add_team, revoke_key};
+use crate::registry::{add_group, add_key, add_team, revoke_key};
 use crate::report::{Named, print_inventory, print_requirements};
 use crate::serve::serve;
 use std::io::{Read, Write};
@@ -18,9 +18,14 @@ use world::shelves::Shelves;
 pub enum Work<'a> {
     /// Nothing: the store is there once it was opened.
     Open,
-    /// `team-add`: adds a team.
+    /// `team-add`: adds a team, as a member of a group or of none.
     TeamAdd {
         team: &'a str,
+        group: Option<&'a str>,
+    },
+    /// `group-add`: adds a group.
+    GroupAdd {
+        group: &'a str,
     },
     /// `key-add`: adds a key to a shelf.
     KeyAdd {
@@ -73,7 +78,8 @@ pub fn work_on<S: Shelves, I: Read, O: Write>(
 {
     match work {
         Work::Open => Ok(true),
-        Work::TeamAdd { team } => acceptance(add_team(shelves, team)),
+        Work::TeamAdd { team, group } => acceptance(add_team(shelves, team, *group)),
+        Work::GroupAdd { group } => acceptance(add_group(shelves, group)),
         Work::KeyAdd {
             shelf,
             key,

@@ -1,27 +1,19 @@
 -- What was accepted is written for good: the law of runs, in bytes.
-use Rattle.std.proofs.Common.{◌≡◌, ◌⊎◌, ◌≤◌, ℕ, List, [], ◌∷◌, Some, refl, ◌∙◌, sym, ap, subst, inl, inr, arith}
-use Rattle.wire.specs.Message.{Request}
-use Rattle.wire.specs.declared.request.Query.{Query as Wanted}
-use Rattle.wire.specs.declared.request.Target.TheVariants as target
-use Rattle.world.specs.World.{World}
+use Rattle.std.proofs.Common.{◌≡◌, ◌⊎◌, ◌≤◌, ℕ, [], ◌∷◌, refl, ◌∙◌, ap, subst, inl, inr, arith}
 use Rattle.shelf.specs.declared.ask.Ask.TheVariants.{Get, Put}
-use Rattle.shelf.specs.declared.ask.Event.{Event}
 use Rattle.shelf.specs.declared.ask.Event.TheVariants.{Asked}
-use Rattle.shelf.specs.declared.ask.Publish.{Publish}
 use Rattle.shelf.specs.declared.reply.Answer.{Answer}
 use Rattle.shelf.specs.declared.reply.Answer.TheVariants.{Replied, Failed}
 use Rattle.shelf.specs.declared.reply.Decision.{Decision}
 use Rattle.shelf.specs.declared.reply.Decision.TheVariants as decision
-use Rattle.shelf.specs.declared.reply.Refusal.{Refusal}
 use Rattle.shelf.specs.declared.reply.Refusal.TheVariants as refusal
-use Rattle.shelf.specs.declared.reply.Reply.{Reply}
 use Rattle.shelf.specs.declared.reply.Reply.TheVariants as reply
 use Rattle.shelf.specs.Immutability.{IsAccepted}
 use Rattle.shelf.specs.Machine.{Run, put_decision}
 use Rattle.shelf.proofs.Served.{accepted_is_served}
 use Rattle.engine.specs.Ask as spec
-use Rattle.engine.specs.Exchange.{Exchange, event_of, answer_of}
-use Rattle.engine.specs.Reply.{page_for, page_status, fixed_of, bytes_of, status_of, text_of}
+use Rattle.engine.specs.Exchange.{event_of, answer_of}
+use Rattle.engine.specs.Reply.{page_for, page_status, fixed_of, bytes_of, text_of}
 use Rattle.wire.specs.Reply.{fixed_status}
 use Rattle.engine.specs.Accepted.{AcceptedIsWritten}
 use Rattle.engine.specs.Headline.{unavailable}

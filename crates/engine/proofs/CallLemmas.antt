@@ -12,6 +12,10 @@ use Rattle.world.specs.Store.{Shown}
 use Rattle.world.specs.World.{World, IsWorld, chain}
 use Rattle.shelf.specs.Machine.{Run}
 use Rattle.shelf.specs.Isolation.{kept, marked, Agree}
+use Rattle.shelf.specs.Parts.{AllAsked}
+use Rattle.shelf.proofs.Chains.{Later}
+use Rattle.shelf.proofs.Isolated.{ends_later}
+use Rattle.shelf.proofs.Parts.{later_than_asked}
 use Rattle.engine.specs.Exchange.{Exchange, message_of, event_of, answer_of}
 use Rattle.engine.specs.Reply.{text_of}
 use Rattle.engine.specs.Store.{world_at}
@@ -69,30 +73,44 @@ came_to_the_end old new before now bytes unread written written_new messages end
     }
 
 -- the texts of the messages that are kept of a stream
-texts_kept : (w : World) (s : List ℕ) (messages : List Request) (xs : List Exchange) (left : List Request) → messages ≡ map message_of xs ++ left
-    → marked (kept_for w s messages) (map text_of xs) ≡ kept_texts w (chain w s) xs
-texts_kept w s messages xs left is =
-    ap (λ ms. marked (kept_for w s ms) (map text_of xs)) is ∙ marks_front w (chain w s) xs left
+texts_kept : (w : World) (ss : List (List ℕ)) (messages : List Request) (xs : List Exchange) (left : List Request) → messages ≡ map message_of xs ++ left
+    → marked (kept_for w ss messages) (map text_of xs) ≡ kept_texts w ss xs
+texts_kept w ss messages xs left is =
+    ap (λ ms. marked (kept_for w ss ms) (map text_of xs)) is ∙ marks_front w ss xs left
 
-messages_kept : (w : World) (s : List ℕ) (messages : List Request) (xs : List Exchange) → map message_of xs ≡ messages
-    → marked (kept_for w s messages) messages ≡ kept_messages w (chain w s) xs
-messages_kept w s messages xs is =
-    ap (λ ms. marked (kept_for w s ms) ms) (sym is) ∙ ap (λ es. marked (kept w (chain w s) es) (map message_of xs)) (sym (events_are xs))
+messages_kept : (w : World) (ss : List (List ℕ)) (messages : List Request) (xs : List Exchange) → map message_of xs ≡ messages
+    → marked (kept_for w ss messages) messages ≡ kept_messages w ss xs
+messages_kept w ss messages xs is =
+    ap (λ ms. marked (kept_for w ss ms) ms) (sym is) ∙ ap (λ es. marked (kept w ss es) (map message_of xs)) (sym (events_are xs))
+
+all_asked : (xs : List Exchange) → AllAsked (map event_of xs)
+all_asked [] = tt
+all_asked (x ∷ xs) = all_asked xs
+
+-- what two calls told, for what s sees in a world that is later than their begin: a stream has no command of the registry
+told_alike : (w x one two later : World) (s : List ℕ) (full purged : List Exchange) → IsWorld w → Later w later → Agree w x (chain later s)
+    → Run w (map event_of full) (map answer_of full) one → Run x (map event_of purged) (map answer_of purged) two
+    → map message_of purged ≡ kept_messages w (chain later s) full → NoneUnavailable (kept_texts w (chain later s) full) → NoneUnavailable (map text_of purged)
+    → (map text_of purged ≡ kept_texts w (chain later s) full) × Agree one two (chain later s)
+told_alike w x one two later s full purged is then agree run again same others none =
+    exchanges_alike w x one two later s full purged is (later_than_asked w one later (map event_of full) (map answer_of full) (all_asked full) run then) agree run again same others none
 
 pub calls_tell_alike : (old new old_too new_too : Shown) → ((w : World) → old.stands w → IsWorld w) → CallsTellAlike old new old_too new_too
-calls_tell_alike old new old_too new_too sound w x s messages end calls other other_too others none =
-    let marks : List Bool = kept_for w s messages in
+calls_tell_alike old new old_too new_too sound w x later s events answers messages end leads calls other other_too others none =
+    let ss : List (List ℕ) = chain later s in
+    let marks : List Bool = kept_for w ss messages in
     let full = calls.full in
     let purged = calls.purged in
     let first = came_to_the_end old new _ _ (concat calls.pieces ++ calls.rest) _ _ _ messages end
     (messages_make_a_stream calls.pieces messages calls.rest end calls.are calls.ends) full other in
     let second = came_to_the_end old_too new_too _ _ (concat (marked marks calls.pieces) ++ calls.rest) _ _ _ (marked marks messages) end
     (messages_make_a_stream (marked marks calls.pieces) (marked marks messages) calls.rest end (marked_messages marks calls.pieces messages calls.are) calls.ends) purged other_too in
-    let kept_alike = texts_kept w s messages full.exchanges [] (sym first.all ∙ sym (append-nil (map message_of full.exchanges))) in
+    let kept_alike = texts_kept w ss messages full.exchanges [] (sym first.all ∙ sym (append-nil (map message_of full.exchanges))) in
     let run = full.through.runs.at calls.honest w calls.stands in
     let again = purged.through.runs.at calls.honest_too x calls.stands_too in
-    let alike = exchanges_alike w x _ _ s full.exchanges purged.exchanges (sound w calls.stands) calls.agree run.run again.run
-    (second.all ∙ messages_kept w s messages full.exchanges first.all) (subst NoneUnavailable kept_alike others) none in
+    let is = sound w calls.stands in
+    let alike = told_alike w x _ _ later s full.exchanges purged.exchanges is (ends_later w later events answers is leads) calls.agree run.run again.run
+    (second.all ∙ messages_kept w ss messages full.exchanges first.all) (subst NoneUnavailable kept_alike others) none in
     let same = alike.0 ∙ sym kept_alike in
     record {
       all = first.all;
@@ -127,34 +145,38 @@ first_messages old new before now bytes unread written written_new result messag
     stream_begins bytes (map message_of call.exchanges) messages (call.rest ++ begins.0) end
     (subst (λ all. ReadsMessages all (map message_of call.exchanges) (call.rest ++ begins.0)) (sym begins.1) reads) stream
 
-as_far : (w x one two : World) (s : List ℕ) → IsWorld w → Agree w x (chain w s) → (full purged : List Exchange)
-    → Run w (map event_of full) (map answer_of full) one → Run x (map event_of purged) (map answer_of purged) two → NoneUnavailable (kept_texts w (chain w s) full) → NoneUnavailable (map text_of purged)
-    → GoesAsFar w (chain w s) full purged ⊎ EndsBefore w (chain w s) full purged
-    → AgreeAsFar (kept_texts w (chain w s) full) (map text_of purged)
-as_far w x one two s is agree full purged run again others none (inl (front, more, cut, same)) =
+as_far : (w x one two later : World) (s : List ℕ) → IsWorld w → Later w later → Agree w x (chain later s) → (full purged : List Exchange)
+    → Run w (map event_of full) (map answer_of full) one → Run x (map event_of purged) (map answer_of purged) two
+    → NoneUnavailable (kept_texts w (chain later s) full) → NoneUnavailable (map text_of purged)
+    → GoesAsFar w (chain later s) full purged ⊎ EndsBefore w (chain later s) full purged
+    → AgreeAsFar (kept_texts w (chain later s) full) (map text_of purged)
+as_far w x one two later s is then agree full purged run again others none (inl (front, more, cut, same)) =
     let all = ap (map text_of) cut ∙ texts_front front more in
     let short = run_front x two front more (subst (λ xs. Run x (map event_of xs) (map answer_of xs) two) cut again) in
-    let alike = exchanges_alike w x one short.0 s full front is agree run short.1 same others (none_front (map text_of front) (map text_of more) (subst NoneUnavailable all none)) in
+    let alike = told_alike w x one short.0 later s full front is then agree run short.1 same others (none_front (map text_of front) (map text_of more) (subst NoneUnavailable all none)) in
     (map text_of more, inr (all ∙ ap (λ texts. texts ++ map text_of more) alike.0))
-as_far w x one two s is agree full purged run again others none (inr (front, more, cut, same)) =
-    let kept_so = kept_front w (chain w s) front more in
-    let all = ap (kept_texts w (chain w s)) cut ∙ kept_so.1 in
+as_far w x one two later s is then agree full purged run again others none (inr (front, more, cut, same)) =
+    let ss : List (List ℕ) = chain later s in
+    let kept_so = kept_front w ss front more in
+    let all = ap (kept_texts w ss) cut ∙ kept_so.1 in
     let short = run_front w one front more (subst (λ xs. Run w (map event_of xs) (map answer_of xs) one) cut run) in
-    let alike = exchanges_alike w x short.0 two s front purged is agree short.1 again same (none_front (kept_texts w (chain w s) front) kept_so.0 (subst NoneUnavailable all others)) none in
+    let alike = told_alike w x short.0 two later s front purged is then agree short.1 again same (none_front (kept_texts w ss front) kept_so.0 (subst NoneUnavailable all others)) none in
     (kept_so.0, inl (all ∙ ap (λ texts. texts ++ kept_so.0) (sym alike.0)))
 
 pub calls_tell_alike_as_far : (old new old_too new_too : Shown) → ((w : World) → old.stands w → IsWorld w) → CallsTellAlikeAsFar old new old_too new_too
-calls_tell_alike_as_far old new old_too new_too sound w x s messages end result result_too calls others none =
-    let marks : List Bool = kept_for w s messages in
+calls_tell_alike_as_far old new old_too new_too sound w x later s events answers messages end result result_too leads calls others none =
+    let ss : List (List ℕ) = chain later s in
+    let marks : List Bool = kept_for w ss messages in
     let full = calls.full in
     let purged = calls.purged in
     let first = first_messages old new _ _ (concat calls.pieces ++ calls.rest) _ _ _ result messages end
     (messages_make_a_stream calls.pieces messages calls.rest end calls.are calls.ends) full in
     let second = first_messages old_too new_too _ _ (concat (marked marks calls.pieces) ++ calls.rest) _ _ _ result_too (marked marks messages) end
     (messages_make_a_stream (marked marks calls.pieces) (marked marks messages) calls.rest end (marked_messages marks calls.pieces messages calls.are) calls.ends) purged in
-    let cut = either_ends w (chain w s) full.exchanges purged.exchanges first.0 second.0 (ap (λ ms. marked (kept_for w s ms) ms) (sym first.1) ∙ second.1) in
-    let same = texts_kept w s messages full.exchanges first.0 first.1 in
+    let cut = either_ends w ss full.exchanges purged.exchanges first.0 second.0 (ap (λ ms. marked (kept_for w ss ms) ms) (sym first.1) ∙ second.1) in
+    let same = texts_kept w ss messages full.exchanges first.0 first.1 in
     let run = full.through.runs.at calls.honest w calls.stands in
     let again = purged.through.runs.at calls.honest_too x calls.stands_too in
+    let is = sound w calls.stands in
     subst (λ texts. AgreeAsFar texts (map text_of purged.exchanges)) (sym same)
-    (as_far w x _ _ s (sound w calls.stands) calls.agree full.exchanges purged.exchanges run.run again.run (subst NoneUnavailable same others) none cut)
+    (as_far w x _ _ later s is (ends_later w later events answers is leads) calls.agree full.exchanges purged.exchanges run.run again.run (subst NoneUnavailable same others) none cut)

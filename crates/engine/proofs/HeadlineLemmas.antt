@@ -23,8 +23,8 @@ use Rattle.shelf.proofs.Isolated.{isolated}
 use Rattle.shelf.proofs.Latest.{latest_is_the_top, none_is_latest}
 use Rattle.shelf.proofs.Served.{stays_served}
 use Rattle.engine.specs.Ask as spec
-use Rattle.engine.specs.Exchange.{Exchange, event_of, answer_of}
-use Rattle.engine.specs.Happening.{Coming, event_in, coming_of, event_at, answer_at, text_at, told}
+use Rattle.engine.specs.Exchange.{event_of, answer_of}
+use Rattle.engine.specs.Happening.{Coming, event_in, coming_of, event_at, answer_at, told}
 use Rattle.engine.specs.Reply.{reply_page, page_of, page_for, page_bytes, page_status, bytes_of, text_of}
 use Rattle.engine.specs.Headline.{unavailable, CallersAreToldAlike, BytesStayServed, TellsLatest, LatestIsWritten}
 use Rattle.engine.proofs.ToldLemmas.{texts, events_are, told_events, told_texts, marked_events, marked_texts, IsExact, exact}

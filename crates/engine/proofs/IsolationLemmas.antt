@@ -1,5 +1,5 @@
 -- A caller is told what it is told in every world that is the same to it.
-use Rattle.std.proofs.Common.{◌≡◌, ◌≢◌, ℕ, List, [], ◌∷◌, Option, Some, None, Result, Ok, refl, sym, ap, ◌∙◌, subst}
+use Rattle.std.proofs.Common.{◌≡◌, ◌≢◌, ℕ, List, Option, Some, None, Result, Ok, refl, sym, ap, ◌∙◌, subst}
 use Rattle.std.specs.Io.KnownBytes.{Appends}
 use Rattle.wire.specs.Message.{Request, ReadsMessage, clean, too_large, bad}
 use Rattle.wire.specs.declared.reply.Fixed.{Fixed}

@@ -7,7 +7,8 @@ use Rattle.shelf.specs.declared.reply.Answer.{Answer}
 use Rattle.shelf.specs.declared.reply.Answer.TheVariants.{Replied, Failed}
 use Rattle.shelf.specs.Machine.{Run, after}
 use Rattle.shelf.specs.Isolation.{is_kept, kept, marked, Agree, IsAnsweredIfKept, KeptAnswered, IsReplied, AllReplied}
-use Rattle.shelf.proofs.Isolated.{purged_runs_agree}
+use Rattle.shelf.proofs.Chains.{Later}
+use Rattle.shelf.proofs.Isolated.{purged_runs_agree_so_far}
 use Rattle.engine.specs.Ask as spec
 use Rattle.engine.specs.Calls.{NoneUnavailable}
 use Rattle.engine.specs.Exchange.{Exchange, message_of, event_of, answer_of}
@@ -75,21 +76,21 @@ all_replied [] none = tt
 all_replied (x ∷ xs) none = (replied x.message (answer_of x) none.0, all_replied xs none.1)
 
 -- Of two runs from worlds that agree, one over all messages and one over those that are kept, these are written the same, where none of them
--- was answered by the 503; and the worlds after both agree.
-pub exchanges_alike : (old old_too new new_too : World) (s : List ℕ) (full purged : List Exchange) → IsWorld old → Agree old old_too (chain new s)
+-- was answered by the 503; and the worlds after both agree. So it is for what s sees in a later world.
+pub exchanges_alike : (old old_too new new_too later : World) (s : List ℕ) (full purged : List Exchange) → IsWorld old → Later new later → Agree old old_too (chain later s)
     → Run old (map event_of full) (map answer_of full) new → Run old_too (map event_of purged) (map answer_of purged) new_too
-    → map message_of purged ≡ kept_messages old (chain new s) full
-    → NoneUnavailable (kept_texts old (chain new s) full) → NoneUnavailable (map text_of purged)
-    → (map text_of purged ≡ kept_texts old (chain new s) full) × Agree new new_too (chain new s)
-exchanges_alike old old_too new new_too s full purged is agree run again same others none =
-    let marks : List Bool = are_kept old (chain new s) full in
+    → map message_of purged ≡ kept_messages old (chain later s) full
+    → NoneUnavailable (kept_texts old (chain later s) full) → NoneUnavailable (map text_of purged)
+    → (map text_of purged ≡ kept_texts old (chain later s) full) × Agree new new_too (chain later s)
+exchanges_alike old old_too new new_too later s full purged is then agree run again same others none =
+    let marks : List Bool = are_kept old (chain later s) full in
     let events : map event_of purged ≡ marked marks (map event_of full) =
     events_are purged ∙ ap (λ ms. map spec.event_of ms) same ∙ sym (marked_events marks (map message_of full)) ∙ ap (marked marks) (sym (events_are full)) in
-    let alike = purged_runs_agree old old_too new new_too s (map event_of full) (map answer_of full) (map answer_of purged) is agree run (kept_answered old (chain new s) full others)
+    let alike = purged_runs_agree_so_far old old_too new new_too later s (map event_of full) (map answer_of full) (map answer_of purged) is then agree run (kept_answered old (chain later s) full others)
     (subst (λ es. Run old_too es (map answer_of purged) new_too) events again) (all_replied purged none) in (
       texts_are purged
           ∙ ap (λ ms. texts_for ms (map answer_of purged)) same
-          ∙ ap (texts_for (kept_messages old (chain new s) full)) (sym alike.0)
+          ∙ ap (texts_for (kept_messages old (chain later s) full)) (sym alike.0)
           ∙ sym (marked_texts marks full),
       alike.1,
     )

@@ -7,7 +7,10 @@ use Rattle.wire.specs.Reply.{fixed_bytes}
 use Rattle.wire.specs.declared.reply.Fixed.TheVariants.{TooLarge, BadRequest, Unavailable}
 use Rattle.world.specs.Store.{Shown}
 use Rattle.world.specs.World.{World, chain}
+use Rattle.shelf.specs.declared.ask.Event.{Event}
+use Rattle.shelf.specs.declared.reply.Answer.{Answer}
 use Rattle.shelf.specs.Isolation.{kept, marked, Agree}
+use Rattle.shelf.specs.Machine.{Run}
 use Rattle.engine.specs.Ask.{event_of}
 use Rattle.engine.specs.Exchange.{Exchange, message_of}
 use Rattle.engine.specs.Headline.{unavailable}
@@ -19,9 +22,9 @@ use Rattle.engine.specs.declared.fault.Io.{Io}
 abbrev pub NoneUnavailable : List (List ℕ) → Type 0
 NoneUnavailable texts = AllByRecursion (λ text. text ≢ unavailable) texts
 
--- which messages of a stream are kept for s: not one whose key belongs, at its moment, to a shelf that s does not see
-abbrev pub kept_for : World → List ℕ → List Request → List Bool
-kept_for w s messages = kept w (chain w s) (map event_of messages)
+-- which messages of a stream are kept for these shelves: not one whose key belongs, at its moment, to another
+abbrev pub kept_for : World → List (List ℕ) → List Request → List Bool
+kept_for w ss messages = kept w ss (map event_of messages)
 
 -- what is written at the end of a stream: nothing, the 413, or the 400
 abbrev pub end_bytes : End → List ℕ
@@ -29,14 +32,14 @@ end_bytes clean = []
 end_bytes too_large = fixed_bytes TooLarge
 end_bytes bad = fixed_bytes BadRequest
 
--- Two calls of `answer_all` over stores whose worlds agreed on what s sees, each on an honest disk. The stream is these messages, the bytes
+-- Two calls of `answer_all` over stores whose worlds agreed on these shelves, each on an honest disk. The stream is these messages, the bytes
 -- of each a piece, and then a rest with this end. The one call was told all of it, the other all but the pieces of others' messages.
 pub record AreTwoCalls
-    (old new old_too new_too : Shown) (w x : World) (s : List ℕ) (messages : List Request) (end : End)
+    (old new old_too new_too : Shown) (w x : World) (ss : List (List ℕ)) (messages : List Request) (end : End)
     (result result_too : Result (Unit {0}) Io) : Type 0 where
   pub stands : old.stands w
   pub stands_too : old_too.stands x
-  pub agree : Agree w x (chain w s)
+  pub agree : Agree w x ss
   pub honest : new.is_honest
   pub honest_too : new_too.is_honest
   pub pieces : List (List ℕ)
@@ -55,13 +58,13 @@ pub record AreTwoCalls
   pub written_too_new : Option (List ℕ)
   pub full : Serves old new before now (Some (concat pieces ++ rest)) unread written written_new result
   pub purged :
-      Serves old_too new_too before_too now_too (Some (concat (marked (kept_for w s messages) pieces) ++ rest)) unread_too
+      Serves old_too new_too before_too now_too (Some (concat (marked (kept_for w ss messages) pieces) ++ rest)) unread_too
       written_too written_too_new result_too
 
 -- What two calls wrote, the one for these messages and the other for those that are marked: a text for each message, the same in both,
--- and then the same for the end. The stores stand for worlds that agree again on what s sees.
+-- and then the same for the end. The stores stand for worlds that agree again on these shelves.
 pub record WriteAlike
-    (new new_too : Shown) (s : List ℕ) (messages : List Request) (marks : List Bool) (end : End) (one two : List Exchange) (out out_too : List ℕ) : Type 0 where
+    (new new_too : Shown) (ss : List (List ℕ)) (messages : List Request) (marks : List Bool) (end : End) (one two : List Exchange) (out out_too : List ℕ) : Type 0 where
   pub all : map message_of one ≡ messages
   pub left : map message_of two ≡ marked marks messages
   pub texts : map text_of two ≡ marked marks (map text_of one)
@@ -71,16 +74,19 @@ pub record WriteAlike
   pub world_too : World
   pub stands : new.stands world
   pub stands_too : new_too.stands world_too
-  pub agree : Agree world world_too (chain world s)
+  pub agree : Agree world world_too ss
 
 -- Where both ended well and neither wrote the 503, not in the place of what was left, and not for a message that is kept, they wrote alike.
+-- The shelves are those that s sees now or after any events to come, which may add it to a group, so that calls with commands of the registry
+-- between them may follow each other.
 abbrev pub CallsTellAlike : Shown → Shown → Shown → Shown → Type 0
 CallsTellAlike old new old_too new_too =
-    (w x : World) (s : List ℕ) (messages : List Request) (end : End)
-    (calls : AreTwoCalls old new old_too new_too w x s messages end (Ok tt) (Ok tt)) → let marks : List Bool = kept_for w s messages in
+    (w x later : World) (s : List ℕ) (events : List Event) (answers : List Answer) (messages : List Request) (end : End) → Run w events answers later
+    → (calls : AreTwoCalls old new old_too new_too w x (chain later s) messages end (Ok tt) (Ok tt))
+    → let marks : List Bool = kept_for w (chain later s) messages in
     calls.full.ends.1.0 ≢ Some Unavailable → calls.purged.ends.1.0 ≢ Some Unavailable
     → NoneUnavailable (marked marks (map text_of calls.full.exchanges)) → NoneUnavailable (map text_of calls.purged.exchanges)
-    → WriteAlike new new_too s messages marks end calls.full.exchanges calls.purged.exchanges calls.full.out calls.purged.out
+    → WriteAlike new new_too (chain later s) messages marks end calls.full.exchanges calls.purged.exchanges calls.full.out calls.purged.out
 
 -- the one list begins with the other
 abbrev pub AgreeAsFar : List (List ℕ) → List (List ℕ) → Type 0
@@ -90,7 +96,8 @@ AgreeAsFar one two = (more : List (List ℕ)) × ((one ≡ two ++ more) ⊎ (two
 -- written for the kept messages is the 503, those of one call begin with those of the other.
 abbrev pub CallsTellAlikeAsFar : Shown → Shown → Shown → Shown → Type 0
 CallsTellAlikeAsFar old new old_too new_too =
-    (w x : World) (s : List ℕ) (messages : List Request) (end : End) (result result_too : Result (Unit {0}) Io)
-    (calls : AreTwoCalls old new old_too new_too w x s messages end result result_too) → let marks : List Bool = kept_for w s messages in
+    (w x later : World) (s : List ℕ) (events : List Event) (answers : List Answer) (messages : List Request) (end : End) (result result_too : Result (Unit {0}) Io)
+    → Run w events answers later → (calls : AreTwoCalls old new old_too new_too w x (chain later s) messages end result result_too)
+    → let marks : List Bool = kept_for w (chain later s) messages in
     NoneUnavailable (marked marks (map text_of calls.full.exchanges)) → NoneUnavailable (map text_of calls.purged.exchanges)
     → AgreeAsFar (marked marks (map text_of calls.full.exchanges)) (map text_of calls.purged.exchanges)

@@ -1,5 +1,4 @@
 -- A message, and what became of it.
-use Rattle.std.specs.Prelude.{List, [], ◌∷◌}
 use Rattle.wire.specs.Message.{Request}
 use Rattle.shelf.specs.declared.ask.Event.{Event}
 use Rattle.shelf.specs.declared.reply.Answer.{Answer}

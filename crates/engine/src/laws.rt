@@ -39,9 +39,10 @@ pub fn latest_version()
 /// Isolation also holds between two calls of [`answer_all`](crate::answer_all) over any two stores whose worlds agree on the
 /// registry and on what the shelf sees, on honest disks and with known bytes: if the second stream lacks the bytes of other
 /// teams' messages, the second call writes what the first writes without the texts for them, and the worlds after both agree
-/// again, so that what holds of one stream holds of many. Both have to end well and write no 503, neither for a kept message
-/// nor in place of what is left. However they end, the kept messages are written the same as far as both go and none of them
-/// is the 503.
+/// again, so that what holds of one stream holds of many. The shelf sees what it sees in any later world, as a command
+/// between two streams may add it as a member of a group. Both calls have to end well and write no 503, neither for a kept
+/// message nor in place of what is left. However they end, the kept messages are written the same as far as both go and none
+/// of them is the 503.
 pub fn isolation_of_calls<S: Shelves, T: Shelves>()
     ensures whole { (old new : S) (old_too new_too : T)
         → CallsTellAlike (S.shown old) (S.shown new) (T.shown old_too) (T.shown new_too) }
@@ -59,8 +60,8 @@ pub fn isolation_of_one_request<S: Shelves, T: Shelves>()
 {}
 
 /// Two runs, one from a world and one from a team's part of it, write the same texts if they answered the same messages,
-/// all with keys of the team or of `common`; faults are left out. For a key of another team, or for an unknown one, the
-/// second writes the 404 or the 503.
+/// all with keys of shelves that the team sees; faults are left out. For a key of another shelf, or for an unknown one,
+/// the second writes the 404 or the 503.
 pub fn parts()
     ensures own { PartWritesTheSame }
     ensures others { OthersAreWrittenNotFound }

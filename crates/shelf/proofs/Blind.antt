@@ -1,5 +1,5 @@
 -- A key of a shelf that s sees is answered alike in worlds that are the same to s.
-use Rattle.std.proofs.Common.{◌≡◌, ℕ, List, true, cond, refl, ◌∙◌, sym, ap, subst, Option, Some, None}
+use Rattle.std.proofs.Common.{◌≡◌, ℕ, List, true, cond, ◌∙◌, sym, ap, subst, Option, Some, None}
 use Rattle.std.specs.Prelude.{bytes_eq, is_some}
 use Rattle.std.specs.FinMap as map
 use Rattle.std.proofs.lemmas.Bool.{true≢false}
@@ -12,12 +12,13 @@ use Rattle.shelf.specs.declared.ask.Ask.TheVariants.{Unreadable, Get, Put}
 use Rattle.shelf.specs.declared.reply.Decision.{Decision}
 use Rattle.shelf.specs.declared.reply.Decision.TheVariants.{Published}
 use Rattle.shelf.specs.declared.reply.Reply.TheVariants as reply
-use Rattle.world.specs.World.{World, IsWorld, place, on_shelf}
+use Rattle.world.specs.World.{World, IsWorld, chain, place, on_shelf}
 use Rattle.shelf.specs.Machine.{decision, keyed_reply, after_decision, stored, offered, place_of, after_ask}
-use Rattle.shelf.specs.Isolation.{sees, belongs, Agree, Low, AgreeIsLow, IsBlind}
+use Rattle.shelf.specs.Isolation.{sees, belongs, Low, AgreeIsLow, IsBlind}
 use Rattle.world.proofs.Orders.{places_total, places_exact, get_put_both, text_self, text_same}
 use Rattle.shelf.proofs.Views.{SameOn, SameSeen, guarded, sees_through}
 use Rattle.world.proofs.Orders.{test_alike}
+use Rattle.world.proofs.Sees.{seen_chain}
 use Rattle.shelf.proofs.Alike.{decision_same, query_same}
 
 -- ---- the entries of one shelf, whole and place by place
@@ -79,19 +80,25 @@ low_decided w x s h p d low = low
 record Known (w x : World) (k : List ℕ) (h : Holder) : Type 0 where
   first : map.get w.keys k ≡ Some h
   second : map.get x.keys k ≡ Some h
+  chains : chain w h.shelf ≡ chain x h.shelf
   seen : SameSeen w x h.shelf
 
-known : (w x : World) (s t k : List ℕ) (own : belongs w k t) → IsWorld w → Low w x s → sees w s t ≡ true → Known w x k own.0
-known w x s t k own is low st =
+known : (w x : World) (s t k : List ℕ) (own : belongs w k t) → IsWorld w → IsWorld x → Low w x s → sees w s t ≡ true → Known w x k own.0
+known w x s t k own is is_x low st =
     let near : sees w s own.0.shelf ≡ true = ap (sees w s) own.2 ∙ st in
-    record { first = own.1; second = (low.keys k own.0 near).0 own.1; seen = low_seen w x s own.0.shelf is low near }
+    record {
+      first = own.1;
+      second = (low.keys k own.0 near).0 own.1;
+      chains = seen_chain w x is is_x s own.0.shelf low.chains near;
+      seen = low_seen w x s own.0.shelf is low near;
+    }
 
 get_known : (w x : World) (k : List ℕ) (h : Holder) (q : Query) → Known w x k h → keyed_reply w (map.get w.keys k) q ≡ keyed_reply x (map.get x.keys k) q
 get_known w x k h q both =
-    ap (λ o. keyed_reply w o q) both.first ∙ query_same w x h.shelf refl both.seen q ∙ sym (ap (λ o. keyed_reply x o q) both.second)
+    ap (λ o. keyed_reply w o q) both.first ∙ query_same w x h.shelf both.chains both.seen q ∙ sym (ap (λ o. keyed_reply x o q) both.second)
 
 put_known : (w x : World) (k : List ℕ) (h : Holder) (p : Publish) → Known w x k h → decision w (map.get w.keys k) p ≡ decision x (map.get x.keys k) p
-put_known w x k h p both = ap (λ o. decision w o p) both.first ∙ decision_same w x h p refl both.seen ∙ sym (ap (λ o. decision x o p) both.second)
+put_known w x k h p both = ap (λ o. decision w o p) both.first ∙ decision_same w x h p both.chains both.seen ∙ sym (ap (λ o. decision x o p) both.second)
 
 -- the world after a publish by a key that is known
 after_known : (w : World) (k : List ℕ) (h : Holder) (p : Publish) → map.get w.keys k ≡ Some h → after_ask w (Put k p) ≡ after_decision w (Some h) p (decision w (Some h) p)
@@ -101,7 +108,7 @@ low_put : (w x : World) (s k : List ℕ) (h : Holder) (p : Publish) → Low w x 
 low_put w x s k h p low both =
     subst (λ y. Low (after_ask w (Put k p)) y s) (sym (after_known x k h p both.second))
     (subst (λ y. Low y (after_decision x (Some h) p (decision x (Some h) p)) s) (sym (after_known w k h p both.first))
-    (subst (λ d. Low (after_decision w (Some h) p (decision w (Some h) p)) (after_decision x (Some h) p d) s) (decision_same w x h p refl both.seen)
+    (subst (λ d. Low (after_decision w (Some h) p (decision w (Some h) p)) (after_decision x (Some h) p d) s) (decision_same w x h p both.chains both.seen)
     (low_decided w x s h p (decision w (Some h) p) low)))
 
 same_key : (j k : List ℕ) → Some j ≡ Some k → k ≡ j
@@ -113,6 +120,6 @@ no_key k e = true≢false (sym (ap is_some e))
 pub blind : IsBlind
 blind w x s t k Unreadable is_w is_x low st own by = absurd (no_key k by)
 blind w x s t k (Get j q) is_w is_x low st own by =
-    let both = subst (λ y. Known w x y own.0) (same_key j k by) (known w x s t k own is_w low st) in (get_known w x j own.0 q both, low)
+    let both = subst (λ y. Known w x y own.0) (same_key j k by) (known w x s t k own is_w is_x low st) in (get_known w x j own.0 q both, low)
 blind w x s t k (Put j p) is_w is_x low st own by =
-    let both = subst (λ y. Known w x y own.0) (same_key j k by) (known w x s t k own is_w low st) in (ap reply.Decided (put_known w x j own.0 p both), low_put w x s j own.0 p low both)
+    let both = subst (λ y. Known w x y own.0) (same_key j k by) (known w x s t k own is_w is_x low st) in (ap reply.Decided (put_known w x j own.0 p both), low_put w x s j own.0 p low both)

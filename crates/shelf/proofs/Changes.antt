@@ -6,7 +6,7 @@ use Rattle.world.specs.declared.entry.Right.{Right}
 use Rattle.world.specs.declared.entry.Holder.{Holder}
 use Rattle.shelf.specs.declared.ask.Publish.{Publish}
 use Rattle.shelf.specs.declared.ask.Ask.TheVariants.{Unreadable, Get, Put}
-use Rattle.shelf.specs.declared.ask.Event.TheVariants.{Asked, TeamAdd, KeyAdd, KeyRevoke}
+use Rattle.shelf.specs.declared.ask.Event.TheVariants.{Asked, TeamAdd, GroupAdd, KeyAdd, KeyRevoke}
 use Rattle.shelf.specs.declared.reply.Decision.{Decision}
 use Rattle.shelf.specs.declared.reply.Decision.TheVariants.{Published}
 use Rattle.world.specs.declared.registry.Registered.{Registered}
@@ -15,7 +15,7 @@ use Rattle.shelf.specs.declared.reply.Reply.TheVariants as reply
 use Rattle.shelf.specs.declared.reply.Answer.TheVariants.{Replied, Failed}
 use Rattle.world.specs.World.{World}
 use Rattle.shelf.specs.Machine.{decision, after_decision, after}
-use Rattle.world.specs.Registry.{team_added, key_added, key_revoked, after_team_add, after_key_add, after_key_revoke}
+use Rattle.world.specs.Registry.{team_added, group_added, key_added, key_revoked, after_team_add, after_group_add, after_key_add, after_key_revoke}
 use Rattle.shelf.specs.Laws.{BodiesChangeNothing, IsChange, OnlyChangesChange, RunsAreCut, RunsAreJoined}
 use Rattle.shelf.proofs.Runs.{run_more}
 
@@ -29,9 +29,13 @@ put_changes w h p Published = inl tt
 put_changes w None p d = inr refl
 put_changes w (Some h) p d = inr refl
 
-team_changes : (w : World) (t : List ℕ) (r : Registered) → IsChange (reply.Registry r) ⊎ (after_team_add w t r ≡ w)
-team_changes w t Done = inl tt
-team_changes w t r = inr refl
+team_changes : (w : World) (t : List ℕ) (group : Option (List ℕ)) (r : Registered) → IsChange (reply.Registry r) ⊎ (after_team_add w t group r ≡ w)
+team_changes w t group Done = inl tt
+team_changes w t group r = inr refl
+
+group_changes : (w : World) (g : List ℕ) (r : Registered) → IsChange (reply.Registry r) ⊎ (after_group_add w g r ≡ w)
+group_changes w g Done = inl tt
+group_changes w g r = inr refl
 
 key_changes : (w : World) (s k : List ℕ) (right : Right) (r : Registered) → IsChange (reply.Registry r) ⊎ (after_key_add w s k right r ≡ w)
 key_changes w s k right Done = inl tt
@@ -45,7 +49,8 @@ pub only_changes_change : OnlyChangesChange
 only_changes_change w (Asked Unreadable) = inr refl
 only_changes_change w (Asked (Get k q)) = inr refl
 only_changes_change w (Asked (Put k p)) = put_changes w (map.get w.keys k) p (decision w (map.get w.keys k) p)
-only_changes_change w (TeamAdd t) = team_changes w t (team_added w t)
+only_changes_change w (TeamAdd t group) = team_changes w t group (team_added w t group)
+only_changes_change w (GroupAdd g) = group_changes w g (group_added w g)
 only_changes_change w (KeyAdd t k right) = key_changes w t k right (key_added w t k)
 only_changes_change w (KeyRevoke k) = revoke_changes w k (key_revoked w k)
 

@@ -4,7 +4,6 @@ use Rattle.std.specs.Prelude.{not, is_none, option_map, unwrap_or, nat_le}
 use Rattle.std.specs.List.{list_any}
 use Rattle.std.specs.Option.{option_or}
 use Rattle.std.specs.FinMap as map
-use Rattle.std.specs.FinSet as set
 use Rattle.std.proofs.lemmas.Bool.{true≢false, and_parts, or_parts, not-false, leb-false}
 use Rattle.modpath.specs.Path.{is_path}
 use Rattle.modver.specs.SemanticVersion.{has_text, version_text}
@@ -26,7 +25,7 @@ use Rattle.shelf.specs.declared.reply.Decision.{Decision}
 use Rattle.shelf.specs.declared.reply.Decision.TheVariants.{Published, Same, Conflict, Full}
 use Rattle.world.specs.Forms.{fits, suffix_of}
 use Rattle.world.specs.GoMods.{reading_of}
-use Rattle.world.specs.World.{World, IsEntry, common, seen_at, first_on, view, count, version_limit}
+use Rattle.world.specs.World.{World, IsEntry, group_of, above, seen_at, first_on, view, count, version_limit}
 use Rattle.shelf.specs.Machine.{first_failing, is_readable, may_publish, is_too_large, entry_time, entry_of, gomod_of, is_same, is_other, offered, request_checks, gomod_checks, shelf_checks, decided_by_shelf, decided, own_refusal, standing_if, standing_of, shelf_decision, decision, place_of}
 use Rattle.world.specs.Store.{IsRoomFor}
 use Rattle.world.specs.EntryTest.{is_small, is_time_of}
@@ -211,13 +210,13 @@ pub body_of : (p : Publish) (o : Option Body) (e : Entry) → option_map (entry_
 body_of p None e is = cc
 body_of p (Some b) e is = (b, refl, cc)
 
-pub room_for : (w : World) (h : Holder) (p : Publish) (e : Entry) → set.contains w.shelves h.shelf ≡ true → decision w (Some h) p ≡ Published → offered p ≡ Some e → IsRoomFor w (place_of h.shelf p) e
+pub room_for : (w : World) (h : Holder) (p : Publish) (e : Entry) → map.contains_key w.shelves h.shelf ≡ true → decision w (Some h) p ≡ Published → offered p ≡ Some e → IsRoomFor w (place_of h.shelf p) e
 room_for w h p e stands is_published is_offered =
     let is = accepted p (Some h.right) (gomod_of p) (standing_of w h.shelf p) (count w h.shelf p.path) is_published in
     let body = body_of p p.body e is_offered in
     record {
       stands = stands;
-      free = nothing_at (map.get w.entries (place_of h.shelf p)) h.shelf (first_on w (common ∷ []) p.path (version_text p.version)) (unseen w h p is_published);
+      free = nothing_at (map.get w.entries (place_of h.shelf p)) h.shelf (first_on w (above (group_of w h.shelf)) p.path (version_text p.version)) (unseen w h p is_published);
       room = is.room;
       entry = subst (IsEntry (place_of h.shelf p)) body.2 (entry_form h.shelf p (Some h.right) body.0 body.1 is.passing);
     }

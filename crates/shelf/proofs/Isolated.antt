@@ -11,9 +11,13 @@ use Rattle.shelf.specs.declared.reply.Answer.TheVariants.{Replied, Failed}
 use Rattle.world.specs.World.{World, IsWorld, chain}
 use Rattle.shelf.specs.Machine.{reply_to, after, after_all, replies, Run, answered, replies_of}
 use Rattle.shelf.specs.Isolation.{is_among, is_near, is_near_key, asking_key, is_kept, kept, marked, purge, IsAnsweredIfKept, KeptAnswered, AllReplied, Agree, IsIsolated, PurgeIsTheSame, PurgedRunsAgree, FaultyRunsAgree, MarksAreAsLong, MarksAreAtTheirMoment, OnlyOthersGo}
-use Rattle.shelf.proofs.Sound.{sound}
-use Rattle.shelf.proofs.Chains.{reaches}
+use Rattle.shelf.proofs.Sound.{sound, world_through}
+use Rattle.shelf.proofs.Chains.{Later, later_self, later_through, Reaches, reaches}
 use Rattle.shelf.proofs.Apart.{agree_self, agree_back, event_alike, event_far, kept_alike}
+
+-- where a run ends is later than where it begins
+pub ends_later : (w new : World) (es : List Event) (answers : List Answer) → IsWorld w → Run w es answers new → Later w new
+ends_later w new es answers is run = later_through w new new es answers run (later_self new (world_through w new es answers is run))
 
 -- ---- against the machine over the purged list
 
@@ -34,7 +38,7 @@ told_alike w x new s (e ∷ es) (Replied r ∷ answers) is agree run =
     let rest : List Event = answered es answers in
     elim (is_kept w ss e) as (λ b. is_kept w ss e ≡ b → ToldAlike (b ∷ marks) (e ∷ rest) (r ∷ told) x new s) [
       | true ↦ λ near.
-          let alike = event_alike w x ss e near is (reaches w new s (e ∷ es) (Replied r ∷ answers) is run) agree in
+          let alike = event_alike w x ss e near is (reaches w new s (ends_later w new (e ∷ es) (Replied r ∷ answers) is run)) agree in
           let more = told_alike (after w e) (after x e) new s es answers (sound w e is) alike.worlds run.1 in
           (ap (λ a. a ∷ marked marks told) (run.0 ∙ alike.reply) ∙ ap (λ rs. reply_to x e ∷ rs) more.0, more.1)
       | false ↦ λ far. told_alike (after w e) x new s es answers (sound w e is) (event_far w x ss e far agree) run.1
@@ -57,14 +61,12 @@ record Three (w x y : World) (ss : List (List ℕ)) : Type 0 where
   purged : Agree w y ss
 
 -- a kept event that was answered moves all three
-three_kept : (w x y new : World) (s : List ℕ) (e : Event) (r : Reply) (es : List Event) (answers : List Answer) → IsWorld w → Three w x y (chain new s)
-    → is_kept w (chain new s) e ≡ true → Run w (e ∷ es) (Replied r ∷ answers) new
-    → (r ≡ reply_to y e) × Three (after w e) (after x e) (after y e) (chain new s)
-three_kept w x y new s e r es answers is three near run =
-    let all = reaches w new s (e ∷ es) (Replied r ∷ answers) is run in
-    let to_all = event_alike w x (chain new s) e near is all three.all in
-    let to_purged = event_alike w y (chain new s) e near is all three.purged in
-    (run.0 ∙ to_purged.reply, record { all = to_all.worlds; purged = to_purged.worlds })
+three_kept : (w x y : World) (ss : List (List ℕ)) (e : Event) (r : Reply) → IsWorld w → Reaches w ss → Three w x y ss → is_kept w ss e ≡ true → r ≡ reply_to w e
+    → (r ≡ reply_to y e) × Three (after w e) (after x e) (after y e) ss
+three_kept w x y ss e r is all three near told =
+    let to_all = event_alike w x ss e near is all three.all in
+    let to_purged = event_alike w y ss e near is all three.purged in
+    (told ∙ to_purged.reply, record { all = to_all.worlds; purged = to_purged.worlds })
 
 -- another event moves the second, and the first where it was answered
 three_failed : (w x y : World) (ss : List (List ℕ)) (e : Event) → Three w x y ss → is_kept x ss e ≡ false → Three w (after x e) y ss
@@ -83,41 +85,51 @@ first_of y other e es (Replied r ∷ rest) run all = (r, rest, refl, run.0, run.
 first_of y other e es (Failed fault ∷ rest) run all = absurd all.0
 
 -- the kept events are answered alike, and the worlds after both runs agree
-abbrev PurgedTold : List Bool → List Answer → List Answer → World → World → List ℕ → Type 0
-PurgedTold marks answers purged new other s = (marked marks answers ≡ purged) × Agree new other (chain new s)
+abbrev PurgedTold : List Bool → List Answer → List Answer → World → World → List (List ℕ) → Type 0
+PurgedTold marks answers purged new other ss = (marked marks answers ≡ purged) × Agree new other ss
 
-purged_told : (w x y new other : World) (s : List ℕ) (es : List Event) (answers purged : List Answer) → IsWorld w → Three w x y (chain new s)
-    → Run w es answers new → KeptAnswered x (chain new s) es answers → Run y (marked (kept x (chain new s) es) es) purged other → AllReplied purged
-    → PurgedTold (kept x (chain new s) es) answers purged new other s
-purged_told w x y new other s [] [] [] is three run told again all =
-    (refl, subst (λ v. Agree v other (chain new s)) (sym run) (subst (λ v. Agree w v (chain new s)) (sym again) three.purged))
-purged_told w x y new other s [] [] (a ∷ purged) is three run told again all = absurd again
-purged_told w x y new other s [] (a ∷ answers) purged is three run told again all = absurd run
-purged_told w x y new other s (e ∷ es) [] purged is three run told again all = absurd run
-purged_told w x y new other s (e ∷ es) (Failed fault ∷ answers) purged is three run told again all =
-    let ss : List (List ℕ) = chain new s in
+purged_told : (w x y new other later : World) (s : List ℕ) (es : List Event) (answers purged : List Answer) → IsWorld w → Later new later → Three w x y (chain later s)
+    → Run w es answers new → KeptAnswered x (chain later s) es answers → Run y (marked (kept x (chain later s) es) es) purged other → AllReplied purged
+    → PurgedTold (kept x (chain later s) es) answers purged new other (chain later s)
+purged_told w x y new other later s [] [] [] is then three run told again all =
+    (refl, subst (λ v. Agree v other (chain later s)) (sym run) (subst (λ v. Agree w v (chain later s)) (sym again) three.purged))
+purged_told w x y new other later s [] [] (a ∷ purged) is then three run told again all = absurd again
+purged_told w x y new other later s [] (a ∷ answers) purged is then three run told again all = absurd run
+purged_told w x y new other later s (e ∷ es) [] purged is then three run told again all = absurd run
+purged_told w x y new other later s (e ∷ es) (Failed fault ∷ answers) purged is then three run told again all =
+    let ss : List (List ℕ) = chain later s in
     let marks : List Bool = kept (after x e) ss es in
-    elim (is_kept x ss e) as (λ b. is_kept x ss e ≡ b → IsAnsweredIfKept b (Failed fault) → Run y (marked (b ∷ marks) (e ∷ es)) purged other → PurgedTold (b ∷ marks) (Failed fault ∷ answers) purged new other s) [
+    elim (is_kept x ss e) as (λ b. is_kept x ss e ≡ b → IsAnsweredIfKept b (Failed fault) → Run y (marked (b ∷ marks) (e ∷ es)) purged other → PurgedTold (b ∷ marks) (Failed fault ∷ answers) purged new other ss) [
       | true ↦ λ near never _. absurd never
-      | false ↦ λ far _ rest. purged_told w (after x e) y new other s es answers purged is (three_failed w x y ss e three far) run told.1 rest all
+      | false ↦ λ far _ rest. purged_told w (after x e) y new other later s es answers purged is then (three_failed w x y ss e three far) run told.1 rest all
     ] refl told.0 again
-purged_told w x y new other s (e ∷ es) (Replied r ∷ answers) purged is three run told again all =
-    let ss : List (List ℕ) = chain new s in
+purged_told w x y new other later s (e ∷ es) (Replied r ∷ answers) purged is then three run told again all =
+    let ss : List (List ℕ) = chain later s in
     let marks : List Bool = kept (after x e) ss es in
-    elim (is_kept x ss e) as (λ b. is_kept x ss e ≡ b → Run y (marked (b ∷ marks) (e ∷ es)) purged other → PurgedTold (b ∷ marks) (Replied r ∷ answers) purged new other s) [
+    elim (is_kept x ss e) as (λ b. is_kept x ss e ≡ b → Run y (marked (b ∷ marks) (e ∷ es)) purged other → PurgedTold (b ∷ marks) (Replied r ∷ answers) purged new other ss) [
       | true ↦ λ near rest.
           let first = first_of y other e (marked marks es) purged rest all in
-          let step = three_kept w x y new s e r es answers is three (kept_alike w x ss e three.all ∙ near) run in
-          let more = purged_told (after w e) (after x e) (after y e) new other s es answers first.1 (sound w e is) step.1 run.1 told.1 first.4 first.5 in (
+          let sight = reaches w later s (later_through w new later (e ∷ es) (Replied r ∷ answers) run then) in
+          let step = three_kept w x y ss e r is sight three (kept_alike w x ss e three.all ∙ near) run.0 in
+          let more = purged_told (after w e) (after x e) (after y e) new other later s es answers first.1 (sound w e is) then step.1 run.1 told.1 first.4 first.5 in (
             ap (λ a. Replied a ∷ marked marks answers) (step.0 ∙ sym first.3) ∙ ap (λ told. Replied first.0 ∷ told) more.0 ∙ sym first.2,
             more.1,
           )
-      | false ↦ λ far rest. purged_told (after w e) (after x e) y new other s es answers purged (sound w e is) (three_far w x y ss e three far) run.1 told.1 rest all
+      | false ↦ λ far rest.
+          purged_told (after w e) (after x e) y new other later s es answers purged (sound w e is) then (three_far w x y ss e three far) run.1 told.1 rest all
     ] refl again
+
+-- for what s sees in a world that is later than the end of the run
+pub purged_runs_agree_so_far : (old old_too new new_too later : World) (s : List ℕ) (events : List Event) (answers purged : List Answer) → IsWorld old → Later new later
+    → Agree old old_too (chain later s) → Run old events answers new → KeptAnswered old (chain later s) events answers
+    → Run old_too (purge old (chain later s) events) purged new_too → AllReplied purged
+    → (marked (kept old (chain later s) events) answers ≡ purged) × Agree new new_too (chain later s)
+purged_runs_agree_so_far old old_too new new_too later s events answers purged is then agree run told again all =
+    purged_told old old old_too new new_too later s events answers purged is then (record { all = agree_self old (chain later s); purged = agree }) run told again all
 
 pub purged_runs_agree : PurgedRunsAgree
 purged_runs_agree old old_too new new_too s events answers purged is agree run told again all =
-    purged_told old old old_too new new_too s events answers purged is (record { all = agree_self old (chain new s); purged = agree }) run told again all
+    purged_runs_agree_so_far old old_too new new_too new s events answers purged is (later_self new (world_through old new events answers is run)) agree run told again all
 
 -- ---- the purge with the faults and without
 
@@ -138,7 +150,7 @@ purged_alike w x new s (e ∷ es) (Replied r ∷ answers) is agree run told =
     subst (λ m. marked (kept x ss (e ∷ es)) (e ∷ es) ≡ marked (m ∷ kept (after w e) ss rest) (e ∷ rest)) (sym (kept_alike w x ss e agree))
     (elim (is_kept x ss e) as (λ b. is_kept x ss e ≡ b → marked (b ∷ kept (after x e) ss es) (e ∷ es) ≡ marked (b ∷ kept (after w e) ss rest) (e ∷ rest)) [
       | true ↦ λ near.
-          let alike = event_alike w x ss e (kept_alike w x ss e agree ∙ near) is (reaches w new s (e ∷ es) (Replied r ∷ answers) is run) agree in
+          let alike = event_alike w x ss e (kept_alike w x ss e agree ∙ near) is (reaches w new s (ends_later w new (e ∷ es) (Replied r ∷ answers) is run)) agree in
           ap (λ more. e ∷ more) (purged_alike (after w e) (after x e) new s es answers (sound w e is) alike.worlds run.1 told.1)
       | false ↦ λ far.
           let moved = agree_back (after x e) w ss (event_far x w ss e far (agree_back w x ss agree)) in

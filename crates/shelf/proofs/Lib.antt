@@ -18,3 +18,4 @@ pub mod Told
 pub mod Latest
 pub mod Parts
 pub mod Profiles
+pub mod Ungrouped

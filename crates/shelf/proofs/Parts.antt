@@ -9,19 +9,21 @@ use Rattle.shelf.specs.declared.ask.Publish.{Publish}
 use Rattle.shelf.specs.declared.ask.Ask.{Ask}
 use Rattle.shelf.specs.declared.ask.Ask.TheVariants.{Unreadable, Get, Put}
 use Rattle.shelf.specs.declared.ask.Event.{Event}
-use Rattle.shelf.specs.declared.ask.Event.TheVariants.{Asked, TeamAdd, KeyAdd, KeyRevoke}
+use Rattle.shelf.specs.declared.ask.Event.TheVariants.{Asked, TeamAdd, GroupAdd, KeyAdd, KeyRevoke}
 use Rattle.shelf.specs.declared.reply.Decision.{Decision}
 use Rattle.shelf.specs.declared.reply.Decision.TheVariants.{Published}
 use Rattle.shelf.specs.declared.reply.Reply.TheVariants as reply
 use Rattle.shelf.specs.declared.reply.Answer.{Answer}
 use Rattle.shelf.specs.declared.reply.Answer.TheVariants.{Replied, Failed}
-use Rattle.world.specs.World.{World, IsWorld, chain, sees, place}
+use Rattle.world.specs.World.{World, IsWorld, group_in, above, chain, is_among, sees, place}
 use Rattle.world.specs.Part.{part, is_held}
-use Rattle.world.proofs.Parts.{part_is_world, key_at, entry_at, held_key}
+use Rattle.world.proofs.Parts.{part_is_world, parent_left, key_at, entry_at, held_key}
+use Rattle.world.proofs.Sees.{sees_itself, same_chain}
 use Rattle.shelf.specs.Machine.{decision, after_decision, stored, offered, place_of, ask_reply, after_ask, reply_to, after, after_all, replies, Run, answered, replies_of, is_readable}
 use Rattle.shelf.specs.Isolation.{key_of, Low}
 use Rattle.shelf.specs.Parts.{PartIsLow, IsOwn, AllOwn, IsBlindThroughout, PartTellsTheSame, IsNotFound, AllAsked, OthersAreNotFound}
 use Rattle.shelf.proofs.Blind.{blind, same_whole}
+use Rattle.shelf.proofs.Chains.{Later}
 use Rattle.shelf.proofs.Sound.{sound}
 
 -- ---- it is the same to the shelf
@@ -36,7 +38,7 @@ left_out false o e = refl
 
 pub part_is_low : PartIsLow
 part_is_low w s is = record {
-  chains = refl;
+  chains = same_chain w (part w s) s (sym (parent_left w s s (sees_itself w s)));
   entries = λ t seen. same_whole w (part w s) t (λ p v. sym (entry_at w s (place t p v) ∙ left (sees w s t) (map.get w.entries (place t p v)) seen));
   keys = λ k h seen. (
     (λ at. key_at w s k ∙ left (is_held (chain w s) (map.get w.keys k)) (map.get w.keys k) (ap (is_held (chain w s)) at ∙ seen) ∙ at),
@@ -66,7 +68,7 @@ kept_asked w (Put k p) = kept_decided w (map.get w.keys k) p (decision w (map.ge
 
 -- a world of the same shelves sees the same
 same_sight : (w x : World) (s t : List ℕ) → x.shelves ≡ w.shelves → sees x s t ≡ sees w s t
-same_sight w x s t e = refl
+same_sight w x s t e = ap (λ m. is_among (s ∷ above (group_in (map.get m s))) t) e
 
 still_own : (w x : World) (s : List ℕ) (es : List Event) → SameRegistry w x → AllOwn w s es → AllOwn x s es
 still_own w x s [] same own = tt
@@ -82,7 +84,8 @@ no_key k e = true≢false (sym (ap is_some e))
 own_blind : (w x : World) (s : List ℕ) (e : Event) → IsWorld w → IsWorld x → Low w x s → IsOwn w s e
     → (a : Ask) × (e ≡ Asked a) × (ask_reply w a ≡ ask_reply x a) × Low (after_ask w a) (after_ask x a) s
 own_blind w x s (Asked a) is_w is_x low own = let it = blind w x s own.1.shelf own.0 a is_w is_x low own.4 (own.1, own.3, refl) own.2 in (a, refl, it.0, it.1)
-own_blind w x s (TeamAdd t) is_w is_x low own = absurd (no_key own.0 own.2)
+own_blind w x s (TeamAdd t group) is_w is_x low own = absurd (no_key own.0 own.2)
+own_blind w x s (GroupAdd g) is_w is_x low own = absurd (no_key own.0 own.2)
 own_blind w x s (KeyAdd t k right) is_w is_x low own = absurd (no_key own.0 own.2)
 own_blind w x s (KeyRevoke k) is_w is_x low own = absurd (no_key own.0 own.2)
 
@@ -138,9 +141,33 @@ unknown_asked x k (Put j p) none by =
 kept_through : (x : World) (es : List Event) → AllAsked es → (after_all x es).keys ≡ x.keys
 kept_through x [] asked = refl
 kept_through x (Asked a ∷ es) asked = kept_through (after_ask x a) es asked ∙ (kept_asked x a).keys
-kept_through x (TeamAdd t ∷ es) asked = absurd asked
+kept_through x (TeamAdd t group ∷ es) asked = absurd asked
+kept_through x (GroupAdd g ∷ es) asked = absurd asked
 kept_through x (KeyAdd t k right ∷ es) asked = absurd asked
 kept_through x (KeyRevoke k ∷ es) asked = absurd asked
+
+-- a run of requests alone leaves the shelves
+shelves_through : (w new : World) (es : List Event) (answers : List Answer) → AllAsked es → Run w es answers new → new.shelves ≡ w.shelves
+shelves_through w new [] [] asked run = ap (λ (x : World). x.shelves) run
+shelves_through w new [] (a ∷ answers) asked run = absurd run
+shelves_through w new (e ∷ es) [] asked run = absurd run
+shelves_through w new (Asked a ∷ es) (Replied r ∷ answers) asked run = shelves_through (after_ask w a) new es answers asked run.1 ∙ (kept_asked w a).shelves
+shelves_through w new (Asked a ∷ es) (Failed fault ∷ answers) asked run = shelves_through w new es answers asked run
+shelves_through w new (TeamAdd t group ∷ es) (a ∷ answers) asked run = absurd asked
+shelves_through w new (GroupAdd g ∷ es) (a ∷ answers) asked run = absurd asked
+shelves_through w new (KeyAdd t k right ∷ es) (a ∷ answers) asked run = absurd asked
+shelves_through w new (KeyRevoke k ∷ es) (a ∷ answers) asked run = absurd asked
+
+-- so what is later than its begin is later than its end
+pub later_than_asked : (w new later : World) (es : List Event) (answers : List Answer) → AllAsked es → Run w es answers new → Later w later → Later new later
+later_than_asked w new later es answers asked run then =
+    let same = sym (shelves_through w new es answers asked run) in
+    record {
+      is = then.is;
+      same = λ s stands.
+          let it = then.same s (ap (λ m. map.contains_key m s) same ∙ stands) in
+          record { stands = it.stands; chains = it.chains ∙ same_chain w new s (ap (λ m. map.get m s) same) };
+    }
 
 pub others_are_not_found : OthersAreNotFound
 others_are_not_found w s k before a far by asked =

@@ -19,7 +19,7 @@ use Rattle.world.proofs.SeenVersions.{entry_by}
 use Rattle.shelf.specs.declared.ask.Ask.TheVariants.{Unreadable, Get, Put}
 use Rattle.shelf.specs.declared.ask.Body.{Body}
 use Rattle.shelf.specs.declared.ask.Event.{Event}
-use Rattle.shelf.specs.declared.ask.Event.TheVariants.{Asked, TeamAdd, KeyAdd, KeyRevoke}
+use Rattle.shelf.specs.declared.ask.Event.TheVariants.{Asked, TeamAdd, GroupAdd, KeyAdd, KeyRevoke}
 use Rattle.shelf.specs.declared.ask.Publish.{Publish}
 use Rattle.shelf.specs.declared.ask.Query.{Query}
 use Rattle.shelf.specs.declared.ask.Query.TheVariants as query
@@ -63,7 +63,8 @@ in_force w (Asked (Get k q)) = record { replies = keyed_in_force w (map.get w.ke
 in_force w (Asked (Put k p)) =
     let same = decision_in_force w (map.get w.keys k) p in
     record { replies = ap (λ (d : Decision). reply.Decided d) same; worlds = ap (after_decision w (map.get w.keys k) p) same }
-in_force w (TeamAdd t) = record { replies = refl; worlds = refl }
+in_force w (TeamAdd t group) = record { replies = refl; worlds = refl }
+in_force w (GroupAdd g) = record { replies = refl; worlds = refl }
 in_force w (KeyAdd s k right) = record { replies = refl; worlds = refl }
 in_force w (KeyRevoke k) = record { replies = refl; worlds = refl }
 
@@ -163,6 +164,7 @@ pub answers_kept : Profile2KeepsAnswers
 answers_kept w (Asked Unreadable) is = inl (record { replies = refl; worlds = refl })
 answers_kept w (Asked (Get k q)) is = inl (record { replies = same_keyed w is (map.get w.keys k) q; worlds = refl })
 answers_kept w (Asked (Put k p)) is = by_holder w is k p (map.get w.keys k) refl
-answers_kept w (TeamAdd t) is = inl (record { replies = refl; worlds = refl })
+answers_kept w (TeamAdd t group) is = inl (record { replies = refl; worlds = refl })
+answers_kept w (GroupAdd g) is = inl (record { replies = refl; worlds = refl })
 answers_kept w (KeyAdd s k right) is = inl (record { replies = refl; worlds = refl })
 answers_kept w (KeyRevoke k) is = inl (record { replies = refl; worlds = refl })

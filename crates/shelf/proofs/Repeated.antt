@@ -2,7 +2,6 @@
 use Rattle.std.proofs.Common.{◌≡◌, ℕ, List, [], ◌∷◌, true, cond, refl, ◌∙◌, sym, ap, subst, Option, Some, None, inl, inr}
 use Rattle.std.specs.Prelude.{option_map}
 use Rattle.std.specs.FinMap as map
-use Rattle.std.specs.FinSet as set
 use Rattle.std.proofs.lemmas.Bool.{and_from}
 use Rattle.world.specs.declared.entry.Place.{Place}
 use Rattle.world.specs.declared.entry.Entry.{Entry}
@@ -80,7 +79,7 @@ all_kept w mid s k (p ∷ ps) (Replied r ∷ answers) is own run all =
     let kept = kept_first w s k p first.0 own (sym first.1 ∙ run.0) first.2 in
     (kept_through (after w e) mid s p (puts k ps) answers stands run.1 kept, all_kept (after w e) mid s k ps answers (sound w e is) (belongs_after w s k k p own) run.1 all.1)
 
-all_through : (w new : World) (s : List ℕ) (ps : List Publish) (es : List Event) (answers : List Answer) → set.contains w.shelves s ≡ true → Run w es answers new → AllKept w s ps → AllKept new s ps
+all_through : (w new : World) (s : List ℕ) (ps : List Publish) (es : List Event) (answers : List Answer) → map.contains_key w.shelves s ≡ true → Run w es answers new → AllKept w s ps → AllKept new s ps
 all_through w new s [] es answers stands run kept = tt
 all_through w new s (p ∷ ps) es answers stands run kept = (kept_through w new s p es answers stands run kept.0, all_through w new s ps es answers stands run kept.1)
 

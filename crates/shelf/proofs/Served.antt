@@ -1,9 +1,8 @@
 -- What was served or accepted once is served for good.
-use Rattle.std.proofs.Common.{◌≡◌, ℕ, List, [], ◌∷◌, true, false, cond, refl, ◌∙◌, sym, ap, subst, Option, Some, None, inl, inr}
+use Rattle.std.proofs.Common.{◌≡◌, ℕ, List, true, false, cond, refl, ◌∙◌, sym, ap, subst, Option, Some, None, inl, inr}
 use Rattle.std.specs.Prelude.{bytes_eq, ◌&&◌, option_map}
 use Rattle.std.specs.Option.{option_or}
 use Rattle.std.specs.FinMap as map
-use Rattle.std.specs.FinSet as set
 use Rattle.std.proofs.lemmas.Bool.{true≢false, and_parts}
 use Rattle.modver.specs.SemanticVersion.{version_text}
 use Rattle.world.specs.declared.entry.Entry.{Entry}
@@ -23,7 +22,7 @@ use Rattle.shelf.specs.declared.reply.Reply.{Reply}
 use Rattle.shelf.specs.declared.reply.Reply.TheVariants as reply
 use Rattle.shelf.specs.declared.reply.Answer.{Answer}
 use Rattle.shelf.specs.declared.reply.Answer.TheVariants.{Replied, Failed}
-use Rattle.world.specs.World.{World, IsWorld, common, seen_at, first_on, view, without_zip, heading}
+use Rattle.world.specs.World.{World, IsWorld, group_of, above, seen_at, first_on, view, without_zip, heading}
 use Rattle.world.specs.Standing.{same_time, same_entry, standing_to, entry_seen}
 use Rattle.world.specs.declared.standing.Standing.TheVariants as standing
 use Rattle.shelf.specs.Machine.{decision, gomod_of, offered, entry_of, standing_if, standing_of, gomod_reply, zip_reply, info_reply, query_reply, keyed_reply, after_decision, stored, place_of, after, Run}
@@ -41,12 +40,12 @@ pub by_key : (w : World) (s k : List ℕ) (q : Query) → belongs w k s → keye
 by_key w s k q b = ap (λ h. keyed_reply w h q) b.1 ∙ ap (λ t. query_reply w t q) b.2
 
 -- the shelf of a key stands
-pub shelf_stands : (w : World) (s k : List ℕ) → IsWorld w → belongs w k s → set.contains w.shelves s ≡ true
-shelf_stands w s k is b = ap (set.contains w.shelves) (sym b.2) ∙ is.keys_stand k b.0 b.1
+pub shelf_stands : (w : World) (s k : List ℕ) → IsWorld w → belongs w k s → map.contains_key w.shelves s ≡ true
+shelf_stands w s k is b = ap (map.contains_key w.shelves) (sym b.2) ∙ is.keys_stand k b.0 b.1
 
 -- what a query found once it finds after a run
 found_again : (old mid : World) (s : List ℕ) (q : Query) (r : Reply) (events : List Event) (answers : List Answer)
-    → set.contains old.shelves s ≡ true → IsOfVersion q → IsFound r → r ≡ query_reply old s q → Run old events answers mid → query_reply mid s q ≡ r
+    → map.contains_key old.shelves s ≡ true → IsOfVersion q → IsFound r → r ≡ query_reply old s q → Run old events answers mid → query_reply mid s q ≡ r
 found_again old mid s (query.GoMod p v) r events answers stands single found is run =
     elim (view old s p (version_text v)) as (λ o. view old s p (version_text v) ≡ o → r ≡ gomod_reply (without_zip o) → gomod_reply (heading mid s p (version_text v)) ≡ r) [
       | None ↦ λ _ e. absurd (subst IsFound e found)
@@ -121,7 +120,7 @@ kept_published w h p is =
     let mine : Seen = record { shelf = h.shelf; entry = entry_of p b } in
     let after : World = stored w (place_of h.shelf p) (Some (entry_of p b)) in
     let here : view after h.shelf p.path (version_text p.version) ≡ Some mine =
-    ap (λ o. option_or (seen_at o h.shelf) (first_on after (common ∷ []) p.path (version_text p.version))) (get_put places_total w.entries (place_of h.shelf p) (entry_of p b)) in
+    ap (λ o. option_or (seen_at o h.shelf) (first_on after (above (group_of after h.shelf)) p.path (version_text p.version))) (get_put places_total w.entries (place_of h.shelf p) (entry_of p b)) in
     record {
       passing = passes_again p h.right (gomod_of p) checks.passing;
       seen = mine;
@@ -146,7 +145,7 @@ kept_accepted w h p Published is yes_it_is = kept_published w h p is
 kept_accepted w h p Same is yes_it_is = kept_same w h p is
 kept_accepted w h p d is yes_it_is = absurd yes_it_is
 
-pub kept_through : (w new : World) (s : List ℕ) (p : Publish) (es : List Event) (answers : List Answer) → set.contains w.shelves s ≡ true → Run w es answers new → Kept w s p → Kept new s p
+pub kept_through : (w new : World) (s : List ℕ) (p : Publish) (es : List Event) (answers : List Answer) → map.contains_key w.shelves s ≡ true → Run w es answers new → Kept w s p → Kept new s p
 kept_through w new s p es answers stands run kept = record {
   passing = kept.passing;
   seen = kept.seen;

@@ -3,7 +3,6 @@ use Rattle.std.proofs.Common.{◌≡◌, ℕ, List, [], ◌∷◌, true, false, 
 use Rattle.std.specs.Prelude.{bytes_eq, ◌||◌}
 use Rattle.std.specs.Option.{option_or}
 use Rattle.std.specs.FinMap as map
-use Rattle.std.specs.FinSet as set
 use Rattle.std.proofs.lemmas.Bool.{true≢false, or_right}
 use Rattle.modver.specs.SemanticVersion.{version_text}
 use Rattle.world.specs.declared.entry.Place.{Place}
@@ -14,16 +13,16 @@ use Rattle.world.specs.declared.entry.Right.{Right}
 use Rattle.shelf.specs.declared.ask.Publish.{Publish}
 use Rattle.shelf.specs.declared.ask.Ask.TheVariants.{Unreadable, Get, Put}
 use Rattle.shelf.specs.declared.ask.Event.{Event}
-use Rattle.shelf.specs.declared.ask.Event.TheVariants.{Asked, TeamAdd, KeyAdd, KeyRevoke}
+use Rattle.shelf.specs.declared.ask.Event.TheVariants.{Asked, TeamAdd, GroupAdd, KeyAdd, KeyRevoke}
 use Rattle.shelf.specs.declared.reply.Decision.{Decision}
 use Rattle.shelf.specs.declared.reply.Decision.TheVariants.{Published}
 use Rattle.world.specs.declared.registry.Registered.{Registered}
 use Rattle.world.specs.declared.registry.Registered.TheVariants.{Done}
 use Rattle.shelf.specs.declared.reply.Answer.{Answer}
 use Rattle.shelf.specs.declared.reply.Answer.TheVariants.{Replied, Failed}
-use Rattle.world.specs.World.{World, chain, place, seen_at, first_on, view, with_entry}
+use Rattle.world.specs.World.{World, chain, group_of, above, place, seen_at, first_on, view, with_entry}
 use Rattle.shelf.specs.Machine.{decision, after_decision, stored, offered, place_of, after, Run}
-use Rattle.world.specs.Registry.{team_added, key_added, key_revoked, after_team_add, after_key_add, after_key_revoke}
+use Rattle.world.specs.Registry.{team_added, group_added, key_added, key_revoked, after_team_add, after_group_add, after_key_add, after_key_revoke}
 use Rattle.shelf.specs.Isolation.{is_among, sees}
 use Rattle.world.proofs.Orders.{places_total, places_exact, get_elsewhere, text_self, text_same, text_apart}
 use Rattle.shelf.proofs.Views.{sees_itself, sees_common, only_common, view_same}
@@ -62,11 +61,19 @@ Nested : World → List ℕ → List (List ℕ) → Type 0
 Nested w t [] = Unit {0}
 Nested w t (u ∷ us) = ((u ≡ t) → (x : List ℕ) → is_among us x ≡ true → sees w t x ≡ true) × Nested w t us
 
+nested_above : (w : World) (t : List ℕ) (o : Option (List ℕ)) → Nested w t (above o)
+unfolding Nested
+nested_above w t None = ((λ _ x h. absurd (true≢false (sym h))), tt)
+nested_above w t (Some g) = (
+  (λ _ x h. subst (λ y. sees w t y ≡ true) (sym (only_common x h)) (sees_common w t)),
+  ((λ _ x h. absurd (true≢false (sym h))), tt),
+)
+
 nested_chain : (w : World) (t s : List ℕ) → Nested w t (chain w s)
 unfolding Nested
 nested_chain w t s = (
-  (λ _ x h. subst (λ y. sees w t y ≡ true) (sym (only_common x h)) (sees_common w t)),
-  ((λ _ x h. absurd (true≢false (sym h))), tt),
+  (λ same x h. subst (λ y. sees w y x ≡ true) same (or_right (bytes_eq x s) _ h)),
+  nested_above w t (group_of w s),
 )
 
 stays_on : (w : World) (ss : List (List ℕ)) (t p v : List ℕ) (e : Entry) (seen : Seen) → Nested w t ss → view w t p v ≡ None
@@ -136,9 +143,13 @@ stays_registry : (w x : World) (s p v : List ℕ) (seen : Seen) → w.entries �
 stays_registry w x s p v seen same chains found =
     view_same x w s p v chains (λ t h a b. ap (λ m. map.get m (place t a b)) (sym same)) ∙ found
 
-entries_team : (w : World) (t : List ℕ) (r : Registered) → w.entries ≡ (after_team_add w t r).entries
-entries_team w t Done = refl
-entries_team w t r = refl
+entries_team : (w : World) (t : List ℕ) (group : Option (List ℕ)) (r : Registered) → w.entries ≡ (after_team_add w t group r).entries
+entries_team w t group Done = refl
+entries_team w t group r = refl
+
+entries_group : (w : World) (g : List ℕ) (r : Registered) → w.entries ≡ (after_group_add w g r).entries
+entries_group w g Done = refl
+entries_group w g r = refl
 
 entries_key : (w : World) (t k : List ℕ) (right : Right) (r : Registered) → w.entries ≡ (after_key_add w t k right r).entries
 entries_key w t k right Done = refl
@@ -148,17 +159,19 @@ entries_revoke : (w : World) (k : List ℕ) (r : Registered) → w.entries ≡ (
 entries_revoke w k Done = refl
 entries_revoke w k r = refl
 
-pub stays_seen : (w : World) (s p v : List ℕ) (e : Event) (seen : Seen) → set.contains w.shelves s ≡ true → view w s p v ≡ Some seen → view (after w e) s p v ≡ Some seen
+pub stays_seen : (w : World) (s p v : List ℕ) (e : Event) (seen : Seen) → map.contains_key w.shelves s ≡ true → view w s p v ≡ Some seen → view (after w e) s p v ≡ Some seen
 stays_seen w s p v (Asked Unreadable) seen stands found = found
 stays_seen w s p v (Asked (Get k q)) seen stands found = found
 stays_seen w s p v (Asked (Put k a)) seen stands found = stays_put w s p v (map.get w.keys k) a seen found
-stays_seen w s p v (TeamAdd t) seen stands found = stays_registry w (after w (TeamAdd t)) s p v seen (entries_team w t (team_added w t)) (stands_after w s (TeamAdd t) stands).chains found
+stays_seen w s p v (TeamAdd t group) seen stands found =
+    stays_registry w (after w (TeamAdd t group)) s p v seen (entries_team w t group (team_added w t group)) (stands_after w s (TeamAdd t group) stands).chains found
+stays_seen w s p v (GroupAdd g) seen stands found = stays_registry w (after w (GroupAdd g)) s p v seen (entries_group w g (group_added w g)) (stands_after w s (GroupAdd g) stands).chains found
 stays_seen w s p v (KeyAdd t k right) seen stands found = stays_registry w (after w (KeyAdd t k right)) s p v seen (entries_key w t k right (key_added w t k)) (stands_after w s (KeyAdd t k right) stands).chains found
 stays_seen w s p v (KeyRevoke k) seen stands found = stays_registry w (after w (KeyRevoke k)) s p v seen (entries_revoke w k (key_revoked w k)) (stands_after w s (KeyRevoke k) stands).chains found
 
 -- ---- a run
 
-pub stays_through : (w new : World) (s p v : List ℕ) (es : List Event) (answers : List Answer) (seen : Seen) → set.contains w.shelves s ≡ true → Run w es answers new → view w s p v ≡ Some seen → view new s p v ≡ Some seen
+pub stays_through : (w new : World) (s p v : List ℕ) (es : List Event) (answers : List Answer) (seen : Seen) → map.contains_key w.shelves s ≡ true → Run w es answers new → view w s p v ≡ Some seen → view new s p v ≡ Some seen
 stays_through w new s p v [] [] seen stands run found = subst (λ x. view x s p v ≡ Some seen) (sym run) found
 stays_through w new s p v [] (a ∷ answers) seen stands run found = absurd run
 stays_through w new s p v (e ∷ es) [] seen stands run found = absurd run

@@ -1,5 +1,6 @@
 -- What each event keeps, and how runs are cut.
-use Rattle.std.specs.Prelude.{◌≡◌, ◌⊎◌, List, ◌++◌, length}
+use Rattle.std.specs.Prelude.{ℕ, ◌≡◌, ◌⊎◌, List, ◌++◌, length, true}
+use Rattle.std.specs.FinMap as map
 use Rattle.shelf.specs.declared.ask.Ask.{Ask}
 use Rattle.shelf.specs.declared.ask.Event.{Event}
 use Rattle.shelf.specs.declared.reply.Decision.TheVariants.{Published}
@@ -7,7 +8,7 @@ use Rattle.world.specs.declared.registry.Registered.TheVariants.{Done}
 use Rattle.shelf.specs.declared.reply.Reply.{Reply}
 use Rattle.shelf.specs.declared.reply.Reply.TheVariants as reply
 use Rattle.shelf.specs.declared.reply.Answer.{Answer}
-use Rattle.world.specs.World.{World, IsWorld}
+use Rattle.world.specs.World.{World, IsWorld, chain}
 use Rattle.shelf.specs.Machine.{ask_reply, after_ask, reply_to, after, HasBody, Run}
 
 -- Each event leads from a world to a world.
@@ -17,6 +18,12 @@ WorldStays = (w : World) (e : Event) → IsWorld w → IsWorld (after w e)
 -- And so does each run.
 abbrev pub RunsKeepWorlds : Type 0
 RunsKeepWorlds = (old new : World) (events : List Event) (answers : List Answer) → IsWorld old → Run old events answers new → IsWorld new
+
+-- A shelf that is there stays there, and sees the same shelves.
+abbrev pub ChainsStay : Type 0
+ChainsStay =
+    (old new : World) (s : List ℕ) (events : List Event) (answers : List Answer) → map.contains_key old.shelves s ≡ true → Run old events answers new
+    → (map.contains_key new.shelves s ≡ true) × (chain new s ≡ chain old s)
 
 -- A reply with a body of its own leaves the world as it was.
 abbrev pub BodiesChangeNothing : Type 0

@@ -8,3 +8,4 @@ pub mod Isolation
 pub mod Immutability
 pub mod Parts
 pub mod Profiles
+pub mod Ungrouped

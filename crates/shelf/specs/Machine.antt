@@ -18,7 +18,7 @@ use Rattle.shelf.specs.declared.ask.Publish.{Publish}
 use Rattle.shelf.specs.declared.ask.Ask.{Ask}
 use Rattle.shelf.specs.declared.ask.Ask.TheVariants.{Unreadable, Get, Put}
 use Rattle.shelf.specs.declared.ask.Event.{Event}
-use Rattle.shelf.specs.declared.ask.Event.TheVariants.{Asked, TeamAdd, KeyAdd, KeyRevoke}
+use Rattle.shelf.specs.declared.ask.Event.TheVariants.{Asked, TeamAdd, GroupAdd, KeyAdd, KeyRevoke}
 use Rattle.shelf.specs.declared.reply.Decision.{Decision}
 use Rattle.shelf.specs.declared.reply.Decision.TheVariants.{Published, Same, NotFound, Forbidden, BadLength, TooLarge, Refused, Conflict, Full}
 use Rattle.shelf.specs.declared.reply.Refusal.TheVariants as refusal
@@ -37,7 +37,7 @@ pub use Rattle.world.specs.EntryTest.{first_failing}
 use Rattle.world.specs.EntryTest.{is_small, is_time_of, has_fault, fault_line, names_other, has_more}
 use Rattle.world.specs.Forms.{is_path, has_text, is_time, fits, suffix_of}
 use Rattle.world.specs.GoMods.{reading_of}
-use Rattle.world.specs.Registry.{team_added, key_added, key_revoked, after_team_add, after_key_add, after_key_revoke}
+use Rattle.world.specs.Registry.{team_added, group_added, key_added, key_revoked, after_team_add, after_group_add, after_key_add, after_key_revoke}
 use Rattle.shelf.specs.Listed.{listed}
 use Rattle.world.specs.declared.standing.Standing.{Standing}
 use Rattle.world.specs.declared.standing.Standing.TheVariants as standing
@@ -273,13 +273,15 @@ after_ask w (Put k p) = after_put w k p
 -- What the machine replies to an event, and the world after it.
 abbrev pub reply_to : World → Event → Reply
 reply_to w (Asked a) = ask_reply w a
-reply_to w (TeamAdd t) = reply.Registry (team_added w t)
+reply_to w (TeamAdd t group) = reply.Registry (team_added w t group)
+reply_to w (GroupAdd g) = reply.Registry (group_added w g)
 reply_to w (KeyAdd s k right) = reply.Registry (key_added w s k)
 reply_to w (KeyRevoke k) = reply.Registry (key_revoked w k)
 
 abbrev pub after : World → Event → World
 after w (Asked a) = after_ask w a
-after w (TeamAdd t) = after_team_add w t (team_added w t)
+after w (TeamAdd t group) = after_team_add w t group (team_added w t group)
+after w (GroupAdd g) = after_group_add w g (group_added w g)
 after w (KeyAdd s k right) = after_key_add w s k right (key_added w s k)
 after w (KeyRevoke k) = after_key_revoke w k (key_revoked w k)
 

@@ -1,10 +1,10 @@
 -- What a call over a store does with a publish.
 use Rattle.std.specs.Prelude.{ℕ, ◌≡◌, List, Result, Some, true}
-use Rattle.std.specs.FinSet as set
 use Rattle.shelf.specs.Machine.{put_decision, after_put, decision, after_publish, after_decision, stored, place_of, offered}
 use Rattle.shelf.specs.declared.ask.Publish.{Publish}
 use Rattle.shelf.specs.declared.reply.Decision.{Decision}
 use Rattle.shelf.specs.declared.reply.Decision.TheVariants.{Published}
+use Rattle.std.specs.FinMap as map
 use Rattle.world.specs.Store.{Shown, Does, DoesWhere}
 use Rattle.world.specs.World.{World}
 use Rattle.world.specs.declared.entry.Holder.{Holder}
@@ -16,7 +16,7 @@ AnswersPut old new result k p = Does old new result (λ w. put_decision w k p) (
 
 -- the shelf of a key stands
 abbrev pub HasShelf : Holder → World → Type 0
-HasShelf h w = set.contains w.shelves h.shelf ≡ true
+HasShelf h w = map.contains_key w.shelves h.shelf ≡ true
 
 -- Where the shelf of a key stands, a call tells the decision on a publish by it, and stores what is published.
 abbrev pub PublishesTo : Shown → Shown → Result Decision StoreFault → Holder → Publish → Type 0

@@ -68,8 +68,13 @@ pub enum Ask {
 #[derive(Drop)]
 pub enum Event {
     Asked(Ask),
-    /// Adds a team, with a shelf of its own.
+    /// Adds a team, with a shelf of its own, as a member of a group or of none.
     TeamAdd {
+        name: Text,
+        group: Option<Text>,
+    },
+    /// Adds a group, with a shelf of its own.
+    GroupAdd {
         name: Text,
     },
     /// Adds a key to a shelf.

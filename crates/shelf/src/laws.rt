@@ -1,9 +1,10 @@
 //! What holds of the machine and of every run of it.
-ghost use Rattle.shelf.specs.Laws.{WorldStays, RunsKeepWorlds, OnlyChangesChange, BodiesChangeNothing, RunsAreCut, RunsAreJoined};
+ghost use Rattle.shelf.specs.Laws.{WorldStays, RunsKeepWorlds, ChainsStay, OnlyChangesChange, BodiesChangeNothing, RunsAreCut, RunsAreJoined};
 ghost use Rattle.shelf.specs.Immutability.{StaysServed, AcceptedIsServed, RepeatedListChangesNothing};
 ghost use Rattle.shelf.specs.PathLaws.{VersionsAreSeen, PathsAreSeen, PathsAreTold, ListIsTold, ListIsNotFound, LatestIsTheTop, NoneIsLatest, LatestIsTold, LatestIsNotFound};
 ghost use Rattle.shelf.specs.Isolation.{IsIsolated, PurgedRunsAgree, FaultyRunsAgree, MarksAreAsLong, MarksAreAtTheirMoment, OnlyOthersGo, PurgeIsTheSame, AgreeIsLow, IsBlind};
 ghost use Rattle.shelf.specs.Profiles.{ProfileInForceIsTheMachine, Profile2KeepsAnswers};
+ghost use Rattle.shelf.specs.Ungrouped.{EachIsOfOne, RepliesWithoutGroups, ListsWithoutGroups};
 ghost use Rattle.shelf.specs.Parts.{PartIsLow, IsBlindThroughout, PartTellsTheSame, OthersAreNotFound};
 
 /// Each event leads from a world to a world.
@@ -12,8 +13,14 @@ pub fn soundness()
     ensures run { RunsKeepWorlds }
 {}
 
-/// A shelf is told what it would be told if no request with a key of another team had come, in this world or in one that
-/// agrees with it on the registry and on what the shelf sees. The worlds after both agree again, so that it goes on.
+/// Runs take no shelf away, and a shelf sees the same shelves for good.
+pub fn chains()
+    ensures { ChainsStay }
+{}
+
+/// A shelf is told what it would be told if no request with a key of a shelf that it does not see had come, in this world
+/// or in one that agrees with it on the registry and on what the shelf sees. The worlds after both agree again, so that it
+/// goes on.
 pub fn isolation()
     ensures { IsIsolated }
 {}
@@ -40,8 +47,8 @@ pub fn blindness()
     ensures agree { AgreeIsLow }
 {}
 
-/// Keys of a team and of `common` get the same answers from a world and from the team's part of it, through whole runs.
-/// A key of another team is not found in the part.
+/// Keys of the shelves that a team sees get the same answers from a world and from the team's part of it, through whole
+/// runs. A key of another shelf is not found in the part.
 pub fn parts()
     ensures low { PartIsLow }
     ensures throughout { IsBlindThroughout }
@@ -106,4 +113,12 @@ pub fn latest_version()
 pub fn profile_2_keeps_answers()
     ensures in_force { ProfileInForceIsTheMachine }
     ensures kept { Profile2KeepsAnswers }
+{}
+
+/// Where there are no groups, and none is added, the machine replies as the one that knows none, to an event and to a list
+/// of them. There a shelf sees of each version its own entry if there is one, else that of `common`.
+pub fn without_groups()
+    ensures worlds { EachIsOfOne }
+    ensures event { RepliesWithoutGroups }
+    ensures list { ListsWithoutGroups }
 {}

@@ -1,9 +1,10 @@
 //! Shelves of module versions, and the machine that answers requests over any store of them.
 //!
-//! There is the shelf `common`, and one shelf for each team. An entry stands at a shelf, a module path and a
-//! version, and holds the go.mod and the zip as they were received. It is never changed and never taken away.
-//! A key belongs to one shelf, and may read, or read and publish. It reads what its shelf sees: of each version
-//! the shelf's own entry if there is one, else that of `common`. It publishes to its own shelf.
+//! There is the shelf `common`, and one shelf for each group and for each team, which may be a member of one group.
+//! An entry stands at a shelf, a module path and a version, and holds the go.mod and the zip as they were received.
+//! It is never changed and never taken away. A key belongs to one shelf, and may read, or read and publish. It reads
+//! what its shelf sees: of each version the shelf's own entry if there is one, else that of its group if it has one
+//! and that is there, else that of `common`. It publishes to its own shelf.
 //!
 //! A publish is tested in this order. The first test that fails gives the answer:
 //!

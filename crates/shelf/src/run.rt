@@ -1,5 +1,5 @@
 //! Lists of events over any store.
-ghost use Rattle.std.specs.Prelude.{◌≡◌, ◌≤◌, [], ◌∷◌, IfOk, OnErr};
+ghost use Rattle.std.specs.Prelude.{◌≡◌, ◌≤◌, [], ◌∷◌, IfOk, OnErr, option_copied};
 ghost use Rattle.shelf.specs.Machine.{reply_to, after, Run, MetDevice};
 ghost use Rattle.shelf.specs.Runs.{Runs};
 ghost use Rattle.world.specs.InMemory.{IsJust};
@@ -10,6 +10,7 @@ use crate::ask::Event;
 use crate::reply::{Answer, Reply};
 use crate::step::step;
 use std::alloc::{AllocError, Global};
+use text::Text;
 use world::map_shelves::MapShelves;
 use world::registry::StoreFault;
 use world::shelves::Shelves;
@@ -21,13 +22,27 @@ pub fn apply<S: Shelves>(alloc: Global, shelves: &mut S, event: &Event) -> Resul
 {
     match event {
         Event::Asked(ask) => step(alloc, shelves, ask),
-        Event::TeamAdd { name } => Ok(Reply::Registry(shelves.team_add(name.as_str())?)),
+        Event::TeamAdd { name, group } => Ok(Reply::Registry(shelves.team_add(
+            name.as_str(),
+            named(group),
+        )?)),
+        Event::GroupAdd { name } => Ok(Reply::Registry(shelves.group_add(name.as_str())?)),
         Event::KeyRevoke { key } => { Ok(Reply::Registry(shelves.key_revoke(key.as_str())?)) }
         Event::KeyAdd { shelf, key, right } => Ok(Reply::Registry(shelves.key_add(
             shelf.as_str(),
             key.as_str(),
             *right,
         )?)),
+    }
+}
+
+/// The name, if there is one.
+fn named(name: &Option<Text>) -> Option<&str>
+    ensures { option_copied result ≡ name.now }
+{
+    match name {
+        Some(name) => Some(name.as_str()),
+        None => None,
     }
 }
 

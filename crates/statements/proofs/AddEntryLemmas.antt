@@ -36,14 +36,14 @@ version_terms = col 0 0 ∷ lit Null ∷ col 0 1 ∷ col 0 2 ∷ col 0 3 ∷ col
 abbrev pub version_insert : Command
 version_insert = Insert 3 (Values version_terms version_width)
 
--- a time is bound as it is, and a column of texts takes it as it is
-pub time_bound : (time : Option (List ℕ)) → bound_value (or_null Text time) ≡ or_null Text time
-time_bound None = refl
-time_bound (Some t) = refl
+-- a text or none is bound as it is, and a column of texts takes it as it is
+pub text_bound : (text : Option (List ℕ)) → bound_value (or_null Text text) ≡ or_null Text text
+text_bound None = refl
+text_bound (Some t) = refl
 
-cast_time : (time : Option (List ℕ)) → cast kind.Text (or_null Text time) ≡ or_null Text time
-cast_time None = refl
-cast_time (Some t) = refl
+pub cast_text : (text : Option (List ℕ)) → cast kind.Text (or_null Text text) ≡ or_null Text text
+cast_text None = refl
+cast_text (Some t) = refl
 
 -- a number is bound as it is
 pub number_bound : (number : Option ℤ) → bound_value (or_null Int number) ≡ or_null Int number
@@ -63,10 +63,10 @@ module _ (limit : Option ℕ) (p : Place) (e : Entry) where
       → (after.schema ≡ store_schema) × Inserted db.trees after.trees version_table (version_row (number_of number (db.trees 6)) p e) × (tally.last ≡ Some (number_of number (db.trees 6)))
   version_added None db tally after has h =
       let it = inserted limit version_table refl (version_params None p e) version_terms version_width (Null ∷ Null ∷ version_values p e) refl (λ _. refl) 3 refl db [] tally after has h in
-      (it.0, rw (cast_null, cast_time e.time) at it.1, rw cast_null at it.2)
+      (it.0, rw (cast_null, cast_text e.time) at it.1, rw cast_null at it.2)
   version_added (Some n) db tally after has h =
       let it = inserted limit version_table refl (version_params (Some n) p e) version_terms version_width (Int n ∷ Null ∷ version_values p e) refl (λ _. refl) 3 refl db [] tally after has h in
-      (it.0, rw (cast_null, cast_int n, cast_time e.time) at it.1, rw (cast_int n) at it.2)
+      (it.0, rw (cast_null, cast_int n, cast_text e.time) at it.1, rw (cast_int n) at it.2)
 
 pub version_put : (sql : List ℕ) → command_of (understood store_schema sql) ≡ version_insert → IsPlain (understood store_schema sql)
     → (number : Option ℤ) (p : Place) (e : Entry) (old new : State) (count : ℕ) → Filling old → ExecutesInside 0 sql (version_params number p e) old new (Ok count)

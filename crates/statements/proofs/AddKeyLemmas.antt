@@ -13,11 +13,10 @@ use Rattle.sqlite.specs.Does.{Tally, Does}
 use Rattle.sqlite.specs.State.{State}
 use Rattle.tables.specs.Schema.{store_schema, access_table}
 use Rattle.std.specs.FinMap as map
-use Rattle.std.specs.FinSet as set
 use Rattle.world.specs.declared.entry.Holder.{Holder}
 use Rattle.world.specs.declared.entry.Right.{Right}
 use Rattle.world.specs.declared.registry.Registered.{Registered}
-use Rattle.world.specs.declared.registry.Registered.TheVariants.{Done, Name, Taken, NoTeam, NoKey}
+use Rattle.world.specs.declared.registry.Registered.TheVariants.{Done, Name, Taken, NoTeam, NoKey, NoGroup}
 use Rattle.world.specs.World.{World, with_key, is_key}
 use Rattle.world.specs.Registry.{key_added, after_key_add}
 use Rattle.world.proofs.Orders.{texts_total, texts_exact, get_put}
@@ -62,6 +61,7 @@ module _ (w : World) (token : List ℕ) (g : Holder) (unused : map.get w.keys to
     access = rw it.rows (tabulates_put IsAccess (db 4) _ (token, g) _ _ it.fresh (refl, refl, refl) (λ y. put_keeps texts_total texts_exact w.keys token g unused y.0 y.1) (get_put texts_total w.keys token g) (put_splits texts_total texts_exact w.keys token g) means.access);
     numbered = rw it.rows (numbered_put (db 4) (next_rowid (db 4)) _ refl it.fresh means.numbered);
     entries = rw (it.tables.1.1.1.0 (λ e. omega (arith, e)), it.tables.1.1.1.1.0 (λ e. omega (arith, e))) means.entries;
+    names = rw (it.tables.1.0 (λ e. omega (arith, e))) means.names;
     tokens = rw it.rows (put_apart (λ a b. (t : List ℕ) → column a 1 ≡ Text t → column b 1 ≡ Text t → ⊥) (λ a b apart t also is. apart t is also) _ (db 4) (all_from _ (db 4) (token_free (db 4) means.access (Int (next_rowid (db 4))))) means.tokens);
     places = rw (it.tables.1.1.1.0 (λ e. omega (arith, e))) means.places;
     pieces = rw (it.tables.1.1.1.1.0 (λ e. omega (arith, e))) means.pieces;
@@ -84,13 +84,14 @@ module _ (w : World) (shelf token : List ℕ) (right : Right) where
       go Taken other = refl
       go NoTeam other = refl
       go NoKey other = refl
+      go NoGroup other = refl
 
   pub added_new : key_added w shelf token ≡ Done → with_key_added shelf token right w ≡ with_key w token (record { shelf = shelf; right = right })
   added_new h = ap (λ (q : Registered). after_key_add w shelf token right q) h
 
   pub unused_from : key_added w shelf token ≡ Done → map.get w.keys token ≡ None
   unfolding is_done
-  unused_from h = go (is_key token) (set.contains w.shelves shelf) (map.get w.keys token) refl h
+  unused_from h = go (is_key token) (map.contains_key w.shelves shelf) (map.get w.keys token) refl h
     where
       go : (a b : Bool) (o : Option Holder) → map.get w.keys token ≡ o → cond (not a) Name (cond (not b) NoTeam (cond (is_some o) Taken Done)) ≡ Done → map.get w.keys token ≡ None
       go true true None is h = is

@@ -1,5 +1,5 @@
 -- Rows that are handed on from one store to another.
-use Rattle.std.proofs.Common.{◌≡◌, ◌≤◌, Bool, true, false, ℕ, List, [], ◌∷◌, ◌++◌, Result, Ok, Err, IsErr, inl, refl, sym, subst, arith, IsTrue, is_ok, OnOk, true≢false}
+use Rattle.std.proofs.Common.{◌≡◌, ◌≤◌, Bool, true, false, ℕ, List, [], ◌∷◌, ◌++◌, Option, Result, Ok, Err, IsErr, inl, refl, sym, subst, arith, IsTrue, is_ok, OnOk, true≢false}
 use Rattle.sqlite_trees.specs.View.{doubt}
 use Rattle.sqlite.specs.Order.{Row}
 use Rattle.sqlite.specs.Tree.{Trees}
@@ -8,7 +8,7 @@ use Rattle.sqlite.specs.Listing.{understood, reads_listing}
 use Rattle.sqlite.specs.State.{State, HasCleanDisk, IsUnchanged, Survives, KeepsCommit, CommitsShowing, Shown, Begins}
 use Rattle.sqlite.proofs.Callers.{IsPlain, never_commits, command_of, reads_as, begins_as, unchanged_then}
 use Rattle.sqlite.proofs.StateLemmas.{survives_weaker}
-use Rattle.world.specs.World.{World, with_team}
+use Rattle.world.specs.World.{World}
 use Rattle.tables.specs.Means.{Means, Stands}
 use Rattle.tables.specs.Schema.{store_schema}
 use Rattle.tables.specs.Walks.{Looks}
@@ -16,7 +16,7 @@ use Rattle.tables.proofs.FailureLemmas.{was_clean}
 use Rattle.tables.proofs.WalkLemmas.{unchanged_schema, kept_then}
 use Rattle.statements.specs.Calls.{Spares}
 use Rattle.statements.specs.Rows.{Filling, GoesOn}
-use Rattle.statements.specs.Extract.{IsReady, IsReadBy, Copies, OfWorlds, PutsShelf, AddsShelf, Then, Along}
+use Rattle.statements.specs.Extract.{IsReady, IsReadBy, Copies, PutsShelf, Then, Along}
 use Rattle.statements.proofs.CallLemmas.{kept_stands}
 use Rattle.statements.proofs.ChangeLemmas.{when_ok}
 use Rattle.statements.proofs.GoingLemmas.{goes_on_itself, goes_on_then}
@@ -75,15 +75,13 @@ copies_none s a = record {
 }
 
 -- a shelf is put in, and the source is not touched
-pub put_copied : {A E : Type 0} (r : Result A E) (name : List ℕ) (s a b : State) → Survives a b (λ _. ⊥) → (HasCleanDisk b → IsTrue a.in_transaction → KeepsCommit a b)
-    → (HasCleanDisk b → IsTrue a.in_transaction → OnOk r (IsTrue b.in_transaction)) → (HasCleanDisk b → Filling a → OnOk r (PutsShelf name a.now.trees b.now.trees × Filling b)) → Copies (OfWorlds (AddsShelf name)) s s a b (is_ok r)
-put_copied r name s a b survives kept inside puts = record {
+pub put_copied : {A E : Type 0} (r : Result A E) (name : List ℕ) (parent : Option (List ℕ)) (s a b : State) → Survives a b (λ _. ⊥) → (HasCleanDisk b → IsTrue a.in_transaction → KeepsCommit a b)
+    → (HasCleanDisk b → IsTrue a.in_transaction → OnOk r (IsTrue b.in_transaction)) → (HasCleanDisk b → Filling a → OnOk r (PutsShelf name parent a.now.trees b.now.trees × Filling b)) → Copies (λ _. PutsShelf name parent) s s a b (is_ok r)
+put_copied r name parent s a b survives kept inside puts = record {
   clean = omega arith;
   reads = untouched s (is_ok r);
   goes_on = goes_on_if r a b survives kept inside;
-  makes = λ clean good ready w means filling done.
-      let it = when_ok r done (puts good filling) in
-      (λ v x meant stand. (with_team x name, refl, it.0 x stand), it.1);
+  makes = λ clean good ready w means filling done. when_ok r done (puts good filling);
 }
 
 module _ (P Q : Trees → Trees → Trees → Type 0) (s t u a b c : State) (done : Bool) (p : Copies P s t a b true) (q : Copies Q t u b c done) where

@@ -1,5 +1,7 @@
 -- The row of a version that a shelf sees, and what it shows.
-use Rattle.std.proofs.Common.{◌≡◌, ℕ, true, List, [], ◌∷◌, filter, Option, Some, None, refl, sym, ap, subst, ◌∙◌, true≢false}
+use Rattle.std.proofs.Common.{◌≡◌, ◌+◌, ◌<◌, ◌≤◌, ℕ, true, List, [], ◌∷◌, length, get_or, drop, map as each, filter, Option, Some, None, refl, sym, ap, subst, ◌∙◌, true≢false}
+use Rattle.std.proofs.lemmas.List.{at_drop_more, drop_all}
+use Rattle.std.specs.Borrow.{Bor}
 use Rattle.std.specs.Option.{option_or}
 use Rattle.std.proofs.lemmas.Bool.{and_parts}
 use Rattle.std.specs.FinMap as map
@@ -21,7 +23,7 @@ use Rattle.world.specs.declared.entry.Heading.{Heading}
 use Rattle.world.specs.World.{World, place, seen_at, first_on, without_zip}
 use Rattle.statements.specs.declared.entries.VersionRow.{VersionRow}
 use Rattle.tables.specs.Means.{Means, IsAt, ArePieces}
-use Rattle.statements.specs.Reading.{IsRowOf, HasRow, entry_with}
+use Rattle.statements.specs.Reading.{IsRowOf, entry_with}
 use Rattle.statements.specs.Lookup.{lookup, passes, FirstFound}
 use Rattle.tables.proofs.ValueLemmas.{equals_text, equals_itself}
 use Rattle.statements.proofs.LookupLemmas.{Picks, picked_found}
@@ -93,20 +95,43 @@ module _ (p : Place) (db : Database) (w : World) (means : Means db.trees w) wher
 
 -- ---- along the shelves
 
-module _ (db : Trees) (w : World) (s : List ℕ) (ss : List (List ℕ)) (p v : List ℕ) where
+module _ (w : World) (s : List ℕ) (ss : List (List ℕ)) (p v : List ℕ) where
   -- what is found on a shelf is found on it and others behind it
-  pub row_here : (row : VersionRow) → IsRowOf db (first_on w (s ∷ []) p v) row → IsRowOf db (first_on w (s ∷ ss) p v) row
-  row_here row = elim (map.get w.entries (place s p v)) as (λ o. IsRowOf db (option_or (seen_at o s) None) row → IsRowOf db (option_or (seen_at o s) (first_on w ss p v)) row) [
+  row_here : (db : Trees) (row : VersionRow) → IsRowOf db (first_on w (s ∷ []) p v) row → IsRowOf db (first_on w (s ∷ ss) p v) row
+  row_here db row = elim (map.get w.entries (place s p v)) as (λ o. IsRowOf db (option_or (seen_at o s) None) row → IsRowOf db (option_or (seen_at o s) (first_on w ss p v)) row) [
     | Some e ↦ λ it. it
     | None ↦ λ it. absurd (let e = it.is in cc)
   ]
 
   -- where nothing is, it is what is found behind it
-  pub row_above : (found : Option VersionRow) → first_on w (s ∷ []) p v ≡ None → HasRow db (first_on w ss p v) found → HasRow db (first_on w (s ∷ ss) p v) found
-  row_above found = elim (map.get w.entries (place s p v)) as (λ o. option_or (seen_at o s) None ≡ None → HasRow db (first_on w ss p v) found → HasRow db (option_or (seen_at o s) (first_on w ss p v)) found) [
+  none_here : first_on w (s ∷ []) p v ≡ None → first_on w (s ∷ ss) p v ≡ first_on w ss p v
+  none_here = elim (map.get w.entries (place s p v)) as (λ o. option_or (seen_at o s) None ≡ None → option_or (seen_at o s) (first_on w ss p v) ≡ first_on w ss p v) [
     | Some e ↦ λ none. absurd (cc)
-    | None ↦ λ none it. it
+    | None ↦ λ none. refl
   ]
+
+abbrev pub texts_of : List (Bor (List ℕ)) → List (List ℕ)
+texts_of shelves = each (λ s. s.now) shelves
+
+abbrev no_shelf : Bor (List ℕ)
+no_shelf = record { ref_ptr = (0, 0); now = [] }
+
+-- what is found on the shelves that are left
+module _ (w : World) (shelves : List (Bor (List ℕ))) (i : ℕ) (p v : List ℕ) (seen : Option Seen) (left : first_on w (texts_of (drop i shelves)) p v ≡ seen) where
+  abbrev shelf : List ℕ
+  shelf = (get_or shelves i no_shelf).now
+
+  split : i < length shelves → first_on w (shelf ∷ texts_of (drop (i + 1) shelves)) p v ≡ seen
+  split within = sym (at_drop_more (λ ss. first_on w (texts_of ss) p v) shelves i no_shelf within) ∙ left
+
+  pub found_next : i < length shelves → (db : Trees) (row : VersionRow) → IsRowOf db (first_on w (shelf ∷ []) p v) row → IsRowOf db seen row
+  found_next within db row is = subst (λ o. IsRowOf db o row) (split within) (row_here w shelf (texts_of (drop (i + 1) shelves)) p v db row is)
+
+  pub none_next : i < length shelves → first_on w (shelf ∷ []) p v ≡ None → first_on w (texts_of (drop (i + 1) shelves)) p v ≡ seen
+  none_next within none = sym (none_here w shelf (texts_of (drop (i + 1) shelves)) p v none) ∙ split within
+
+  pub none_left : length shelves ≤ i → seen ≡ None
+  none_left past = sym left ∙ ap (λ ss. first_on w (texts_of ss) p v) (drop_all i shelves past)
 
 -- ---- what a row is of
 

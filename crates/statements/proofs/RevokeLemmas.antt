@@ -171,6 +171,7 @@ module _ (w : World) (token : List ℕ) where
           access = rw r.rows (access_left (old.now.trees 4) r.out means.access means.numbered r.found);
           numbered = rw r.rows (numbered_left (old.now.trees 4) r.out means.access means.numbered r.found);
           entries = rw (r.tables.1.1.1.0 (λ e. omega (arith, e)), r.tables.1.1.1.1.0 (λ e. omega (arith, e))) means.entries;
+          names = rw (r.tables.1.0 (λ e. omega (arith, e))) means.names;
           tokens = rw r.rows (ascending_left _ (ids_of r.out) (old.now.trees 4) means.tokens);
           places = rw (r.tables.1.1.1.0 (λ e. omega (arith, e))) means.places;
           pieces = rw (r.tables.1.1.1.1.0 (λ e. omega (arith, e))) means.pieces;

@@ -107,6 +107,7 @@ module _ (w : World) (p : Place) (e : Entry) (unused : map.get w.entries p ≡ N
         access = rw (a.zip.tables.1.1.0 (λ f. omega (arith, f)), a.version.tables.1.1.0 (λ f. omega (arith, f))) means.access;
         numbered = rw (a.zip.tables.1.1.0 (λ f. omega (arith, f)), a.version.tables.1.1.0 (λ f. omega (arith, f))) means.numbered;
         entries = rw (rows, a.version.rows) (tabulates_put (IsVersion (after 8)) (db 6) row (p, e) _ _ a.version.fresh new_is kept (get_put places_total w.entries p e) split wider);
+        names = rw (a.zip.tables.1.0 (λ f. omega (arith, f)), a.version.tables.1.0 (λ f. omega (arith, f))) means.names;
         tokens = rw (a.zip.tables.1.1.0 (λ f. omega (arith, f)), a.version.tables.1.1.0 (λ f. omega (arith, f))) means.tokens;
         places = rw (rows, a.version.rows) (put_apart (λ a b. (q : Place) → IsAt a q → IsAt b q → ⊥) (λ a b apart q ofb ofa. apart q ofa ofb) row (db 6) (all_from _ (db 6) (λ r there. place_free (db 8) (db 6) means.entries r there row (refl, refl, refl))) means.places);
         pieces = a.zip.once

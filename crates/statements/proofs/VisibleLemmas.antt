@@ -1,5 +1,5 @@
 -- What the queries of versions and of paths answer.
-use Rattle.std.proofs.Common.{◌≡◌, ◌⊎◌, ◌↔◌, ◌∙◌, ℕ, Bool, true, false, List, [], ◌∷◌, ◌++◌, Some, is_some, ◌+◌, ◌<◌, length, take, get_or, inl, inr, refl, sym, ap, subst}
+use Rattle.std.proofs.Common.{◌≡◌, ◌⊎◌, ◌↔◌, ◌∙◌, ◌||◌, ℕ, Bool, true, false, List, [], ◌∷◌, ◌++◌, Some, is_some, ◌+◌, ◌<◌, length, take, get_or, inl, inr, refl, sym, ap, subst}
 use Rattle.std.specs.FinMap as map
 use Rattle.std.specs.FinSet as set
 use Rattle.std.specs.FinSet.{same_set}
@@ -16,7 +16,7 @@ use Rattle.sqlite.specs.Effect.{Database, Reads}
 use Rattle.sqlite_rules.proofs.ListLemmas.{has_left, has_right, has_either}
 use Rattle.world.specs.declared.entry.Entry.{Entry}
 use Rattle.world.specs.World.{World, place, text_cmp}
-use Rattle.world.specs.Visible.{versions_among, paths_among}
+use Rattle.world.specs.Visible.{versions_among, versions_on, paths_among, paths_on}
 use Rattle.world.proofs.Orders.{texts_total, texts_exact}
 use Rattle.world.proofs.Sound.{still}
 use Rattle.world.proofs.Seen.{contains_among, path_among}
@@ -131,6 +131,28 @@ module _ (shelf : List ℕ) (db : Database) (w : World) (means : Means db.trees 
 
   pub paths_added : (old new : set.FinSet text_cmp) → Reads (asks paths_query) db (Text shelf ∷ []) out → AddsTexts out old new → new ≡ set.union paths old
   paths_added old new read = set_added out paths old new (paths_shown (found_paths read))
+
+-- ---- shelf by shelf
+
+or_swap : (x y z : Bool) → (x || (y || z)) ≡ (y || (x || z))
+or_swap true true z = refl
+or_swap true false z = refl
+or_swap false y z = refl
+
+-- it does not matter which set is added first
+swapped : (a b c : set.FinSet text_cmp) → set.union a (set.union b c) ≡ set.union b (set.union a c)
+swapped a b c = same_set texts_total texts_exact (set.union a (set.union b c)) (set.union b (set.union a c)) (λ t. member a b t ∙ (or_swap (set.contains a t) (set.contains b t) (set.contains c t) ∙ sym (member b a t)))
+  where
+    member : (x y : set.FinSet text_cmp) (t : List ℕ) → set.contains (set.union x (set.union y c)) t ≡ (set.contains x t || (set.contains y t || set.contains c t))
+    member x y t = set.contains-union texts_total x (set.union y c) t ∙ ap (λ h. set.contains x t || h) (set.contains-union texts_total y c t)
+
+pub versions_more : (w : World) (ss : List (List ℕ)) (s p : List ℕ) → versions_on w (ss ++ s ∷ []) p ≡ set.union (versions_among s p (map.entries w.entries)) (versions_on w ss p)
+versions_more w [] s p = refl
+versions_more w (a ∷ ss) s p = ap (set.union (versions_among a p (map.entries w.entries))) (versions_more w ss s p) ∙ swapped _ _ _
+
+pub paths_more : (w : World) (ss : List (List ℕ)) (s : List ℕ) → paths_on w (ss ++ s ∷ []) ≡ set.union (paths_among s (map.entries w.entries)) (paths_on w ss)
+paths_more w [] s = refl
+paths_more w (a ∷ ss) s = ap (set.union (paths_among a (map.entries w.entries))) (paths_more w ss s) ∙ swapped _ _ _
 
 -- ---- row by row
 

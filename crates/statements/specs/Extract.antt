@@ -1,5 +1,5 @@
 -- Rows of one store that are handed on to another, within a transaction of it.
-use Rattle.std.specs.Prelude.{ℕ, ◌≡◌, ◌≤◌, ◌⊎◌, List, [], ◌∷◌, ◌++◌, filter, Bool, Some, None, IsTrue, pos, if◌then◌else◌}
+use Rattle.std.specs.Prelude.{ℕ, ◌≡◌, ◌≤◌, ◌⊎◌, List, [], ◌∷◌, ◌++◌, filter, Bool, Option, Some, None, IsTrue, pos, if◌then◌else◌}
 use Rattle.std.specs.FinMap as map
 use Rattle.sqlite.specs.declared.types.Value.TheVariants.{Int, Text, Blob}
 use Rattle.sqlite.specs.Order.{Row, column}
@@ -13,7 +13,7 @@ use Rattle.sqlite_trees.specs.View.{doubt}
 use Rattle.world.specs.declared.entry.Holder.{Holder}
 use Rattle.world.specs.declared.entry.Place.{Place}
 use Rattle.world.specs.declared.entry.Heading.{Heading}
-use Rattle.world.specs.World.{World, with_key, with_team}
+use Rattle.world.specs.World.{World, with_key, with_shelf}
 use Rattle.sqlite_rules.specs.Lists.{Has}
 use Rattle.tables.specs.Means.{may_publish, Means, StandFor, IsEachPlaceOnce, IsEachPieceOnce, is_of}
 use Rattle.tables.specs.Schema.{store_schema, version_table, piece_table}
@@ -110,13 +110,9 @@ CopiesPieces shelf source = PutsRows piece_table piece_read IsEachPieceOnce (IsP
 
 -- ---- one after another
 
--- a shelf is put in
-abbrev pub PutsShelf : List ℕ → Trees → Trees → Type 0
-PutsShelf name db after = (x : World) → StandFor db x → StandFor after (with_team x name)
-
--- so it is of whatever world the source stands for
-abbrev pub AddsShelf : List ℕ → World → World → World → Type 0
-AddsShelf name w x y = y ≡ with_team x name
+-- a shelf is put in, with its parent, where its name is free
+abbrev pub PutsShelf : List ℕ → Option (List ℕ) → Trees → Trees → Type 0
+PutsShelf name parent db after = (x : World) → StandFor db x → map.get x.shelves name ≡ None → StandFor after (with_shelf x name parent)
 
 -- the one, and then the other
 abbrev pub Then : {X : Type 0} → (X → X → X → Type 0) → (X → X → X → Type 0) → X → X → X → Type 0

@@ -1,9 +1,10 @@
 //! How an entry that is handed in stands to those in the tables. A zip that is there is compared where
 //! its rows have it.
 
-ghost use Rattle.std.specs.Prelude.{◌≡◌, IfOk};
+ghost use Rattle.std.specs.Prelude.{◌≡◌, map as each, option_map, IfOk};
 ghost use Rattle.sqlite.specs.Held.{state};
-ghost use Rattle.world.specs.Standing.{standing};
+ghost use Rattle.world.specs.Standing.{standing_to};
+ghost use Rattle.world.specs.World.{first_on};
 ghost use Rattle.statements.specs.Calls.{InEachWorld, Spares};
 ghost use Rattle.statements.specs.Reading.{same_heading};
 
@@ -30,19 +31,20 @@ fn has_heading(heading: &Heading, entry: &EntryRef) -> bool
     standing_to(&there, &here) == Standing::Same
 }
 
-/// How an entry stands to what a shelf sees of a version: to its own entry, or else to that of `common`.
+/// How an entry stands to that of a version on the first of these shelves that has one.
 pub fn find_standing<S: Alter>(
     conn: &mut Connection<S>,
-    shelf: &str,
+    shelves: &[&str],
     path: &str,
     version: &str,
     entry: &EntryRef,
 ) -> Result<Standing, Error>
     ensures spares { Spares (state S.Store conn.old) (state S.Store conn.new) }
     ensures answer { InEachWorld (state S.Store conn.old) (state S.Store conn.new) (λ _ _ w.
-        IfOk result (λ found. found ≡ standing w shelf.now path.now version.now entry.now)) }
+        IfOk result (λ found. found ≡ standing_to (option_map (λ seen. seen.entry)
+        (first_on w (each (λ shelf. shelf.now) shelves.now) path.now version.now)) entry.now)) }
 {
-    let Some(row) = row_seen(conn, shelf, path, version)? else {
+    let Some(row) = row_seen(conn, shelves, path, version)? else {
         return Ok(Standing::Absent);
     };
     if !has_heading(&row.heading, entry) {

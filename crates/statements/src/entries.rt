@@ -1,6 +1,6 @@
 //! Entries over SQL tables.
 
-ghost use Rattle.std.specs.Prelude.{◌≡◌, ◌≤◌, [], ◌∷◌, pos, true, string_bytes, option_map, IfOk, OnOk, is_ok, IsTrue};
+ghost use Rattle.std.specs.Prelude.{◌≡◌, ◌≤◌, [], ◌∷◌, map as each, pos, true, string_bytes, option_map, IfOk, OnOk, is_ok, IsTrue};
 ghost use Rattle.std.specs.FinMap as map;
 ghost use Rattle.sqlite.specs.declared.types.Value.TheVariants.{Int, Text as StoredText, Blob};
 ghost use Rattle.sqlite.specs.Order.{column};
@@ -9,7 +9,7 @@ ghost use Rattle.sqlite.specs.Held.{state};
 ghost use Rattle.sqlite.specs.State.{KeepsCommit, Survives};
 ghost use Rattle.sqlite_trees.specs.View.{doubt};
 ghost use Rattle.modver.specs.SemanticVersion.{version_text};
-ghost use Rattle.world.specs.World.{place, first_on, view, heading, count, with_entry};
+ghost use Rattle.world.specs.World.{place, first_on, without_zip, count, with_entry};
 ghost use Rattle.tables.specs.Schema.{version_table};
 ghost use Rattle.tables.specs.Means.{StandsFor};
 ghost use Rattle.tables.specs.Inserted.{Inserted};
@@ -30,7 +30,6 @@ use std::alloc::Global;
 use text::Text;
 use world::bytes::Bytes;
 use world::entry::{Entry, EntryRef, Heading, Seen};
-use world::names::COMMON;
 
 /// What the row of a version shows, with its number.
 #[derive(Drop)]
@@ -102,10 +101,10 @@ fn row_at<S: Alter>(
     }
 }
 
-/// The row of the version that a shelf sees: its own, or else that of `common`.
+/// The row of a version on the first of these shelves that has one.
 pub(crate) fn row_seen<S: Alter>(
     conn: &mut Connection<S>,
-    shelf: &str,
+    shelves: &[&str],
     path: &str,
     version: &str,
 ) -> Result<Option<VersionRow>, Error>
@@ -113,27 +112,30 @@ pub(crate) fn row_seen<S: Alter>(
     ensures same { InEachWorld (state S.Store conn.old) (state S.Store conn.new) (λ old new _.
         OnOk result (new.now ≡ old.now)) }
     ensures answer { InEachWorld (state S.Store conn.old) (state S.Store conn.new) (λ old new w.
-        IfOk result (λ found. HasRow old.now.trees (view w shelf.now path.now version.now) found)) }
+        IfOk result (λ found. HasRow old.now.trees
+        (first_on w (each (λ shelf. shelf.now) shelves.now) path.now version.now) found)) }
 {
-    match row_at(conn, shelf, path, version)? {
-        Some(row) => Ok(Some(row)),
-        None => row_at(conn, COMMON, path, version),
+    for shelf in shelves {
+        if let Some(row) = row_at(conn, shelf, path, version)? {
+            return Ok(Some(row));
+        }
     }
+    Ok(None)
 }
 
-/// The entry that a shelf sees: its own, or else that of `common`.
+/// The entry of a version on the first of these shelves that has one.
 pub fn find_entry<S: Alter>(
     alloc: Global,
     conn: &mut Connection<S>,
-    shelf: &str,
+    shelves: &[&str],
     path: &str,
     version: &str,
 ) -> Result<Option<Seen>, Error>
     ensures spares { Spares (state S.Store conn.old) (state S.Store conn.new) }
     ensures answer { InEachWorld (state S.Store conn.old) (state S.Store conn.new) (λ _ _ w.
-        IfOk result (λ found. found ≡ view w shelf.now path.now version.now)) }
+        IfOk result (λ found. found ≡ first_on w (each (λ shelf. shelf.now) shelves.now) path.now version.now)) }
 {
-    let Some(row) = row_seen(conn, shelf, path, version)? else {
+    let Some(row) = row_seen(conn, shelves, path, version)? else {
         return Ok(None);
     };
     let zip = find_zip(alloc, conn, row.id)?;
@@ -147,19 +149,20 @@ pub fn find_entry<S: Alter>(
     }))
 }
 
-/// What a shelf sees of a version without its zip: of its own, or else of that of `common`.
+/// What the entry of a version shows without its zip, on the first of these shelves that has one.
 /// A zip may have 16 MiB, whose rows would push out the pages that the database keeps in memory.
 pub fn find_heading<S: Alter>(
     conn: &mut Connection<S>,
-    shelf: &str,
+    shelves: &[&str],
     path: &str,
     version: &str,
 ) -> Result<Option<Heading>, Error>
     ensures spares { Spares (state S.Store conn.old) (state S.Store conn.new) }
     ensures answer { InEachWorld (state S.Store conn.old) (state S.Store conn.new) (λ _ _ w.
-        IfOk result (λ found. found ≡ heading w shelf.now path.now version.now)) }
+        IfOk result (λ found. found
+        ≡ without_zip (first_on w (each (λ shelf. shelf.now) shelves.now) path.now version.now))) }
 {
-    match row_seen(conn, shelf, path, version)? {
+    match row_seen(conn, shelves, path, version)? {
         Some(row) => Ok(Some(row.heading)),
         None => Ok(None),
     }

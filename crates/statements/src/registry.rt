@@ -1,23 +1,24 @@
 //! Shelves and keys over SQL tables.
 
-ghost use Rattle.std.specs.Prelude.{◌≡◌, ◌≤◌, pos, true, false, not, None, IfOk, is_ok, IsTrue};
+ghost use Rattle.std.specs.Prelude.{◌≡◌, ◌≤◌, pos, true, false, not, None, option_copied, IfOk, OnOk, is_ok, IsTrue};
 ghost use Rattle.std.specs.Ordering.{int_eq};
 ghost use Rattle.std.specs.FinMap as map;
-ghost use Rattle.std.specs.FinSet as set;
 ghost use Rattle.sqlite.specs.declared.types.Value.TheVariants.{Int, Text as StoredText};
 ghost use Rattle.sqlite.specs.Order.{column};
+ghost use Rattle.sqlite.specs.Values.{or_null};
 ghost use Rattle.sqlite.specs.Held.{state};
 ghost use Rattle.sqlite_trees.specs.View.{doubt};
-ghost use Rattle.world.specs.World.{is_key, is_team_name, with_key, with_team};
-ghost use Rattle.world.specs.Registry.{key_added, team_added};
+ghost use Rattle.world.specs.World.{is_key, is_team_name, with_key, with_shelf};
+ghost use Rattle.world.specs.Registry.{is_group, key_added, team_added, group_added};
 ghost use Rattle.tables.specs.Means.{may_publish};
 ghost use Rattle.statements.specs.Calls.{InEachWorld, IsOpenIfHonest, Spares, ChangesAt, Changes};
-ghost use Rattle.statements.specs.Views.{with_key_added, with_team_added};
+ghost use Rattle.statements.specs.Views.{with_key_added, with_team_added, with_group_added};
 
 use crate::query::find_row;
 use sqlite::{Alter, Connection, Error, Row, params};
 use text::Text;
 use world::entry::{Holder, Right};
+use world::names::COMMON;
 use world::registry::Registered;
 
 fn may_publish(right: Right) -> bool
@@ -63,18 +64,48 @@ pub fn find_key<S: Alter>(conn: &mut Connection<S>, token: &str) -> Result<Optio
     }
 }
 
-/// Whether there is a shelf of this name.
-pub fn has_shelf<S: Alter>(conn: &mut Connection<S>, name: &str) -> Result<bool, Error>
+/// What a row of `shelf` shows of the parent.
+fn read_parent(row: &Row) -> Result<Option<Text>, Error>
+    ensures { IfOk result (λ parent. column row.now 0 ≡ or_null StoredText parent) }
+{
+    let parent: Option<String> = row.get(0)?;
+    match parent {
+        Some(parent) => Ok(Some(Text::new(parent))),
+        None => Ok(None),
+    }
+}
+
+/// The parent of a shelf, if there is a shelf of this name. `common` and a group have none.
+pub fn find_shelf<S: Alter>(
+    conn: &mut Connection<S>,
+    name: &str,
+) -> Result<Option<Option<Text>>, Error>
     ensures spares { Spares (state S.Store conn.old) (state S.Store conn.new) }
     ensures answer { InEachWorld (state S.Store conn.old) (state S.Store conn.new) (λ old new w.
-        IfOk result (λ found. IsTrue old.is_open × IsTrue new.is_open × (found ≡ set.contains w.shelves name.now))) }
+        IfOk result (λ found. IsTrue old.is_open × IsTrue new.is_open × (found ≡ map.get w.shelves name.now))) }
+    ensures same { InEachWorld (state S.Store conn.old) (state S.Store conn.new) (λ old new _.
+        OnOk result (new.now ≡ old.now)) }
 {
-    let found = find_row(
+    match find_row(
         conn,
-        "SELECT name FROM shelf WHERE name = ?1",
+        "SELECT parent FROM shelf WHERE name = ?1",
         params![name],
-    )?;
-    Ok(found.is_some())
+    )? {
+        Some(row) => Ok(Some(read_parent(&row)?)),
+        None => Ok(None),
+    }
+}
+
+/// Whether this is a group.
+fn is_group<S: Alter>(conn: &mut Connection<S>, name: &str) -> Result<bool, Error>
+    ensures spares { Spares (state S.Store conn.old) (state S.Store conn.new) }
+    ensures answer { InEachWorld (state S.Store conn.old) (state S.Store conn.new) (λ _ new w.
+        IfOk result (λ found. IsTrue new.is_open × (found ≡ is_group w name.now))) }
+{
+    match find_shelf(conn, name)? {
+        Some(None) => Ok(name != COMMON),
+        _ => Ok(false),
+    }
 }
 
 /// Writes the row of a key that has none.
@@ -111,7 +142,7 @@ fn judge_key<S: Alter>(
     ensures answer { InEachWorld (state S.Store conn.old) (state S.Store conn.new) (λ _ new w.
         IfOk result (λ r. IsTrue new.is_open × (r ≡ key_added w shelf.now token.now))) }
 {
-    if !has_shelf(conn, shelf)? {
+    if find_shelf(conn, shelf)?.is_none() {
         return Ok(Registered::NoTeam);
     }
     if find_key(conn, token)?.is_some() {
@@ -141,42 +172,93 @@ pub fn add_key<S: Alter>(
 }
 
 /// Writes the row of a shelf that is not there.
-fn insert_shelf<S: Alter>(conn: &mut Connection<S>, name: &str) -> Result<(), Error>
+fn insert_shelf<S: Alter>(
+    conn: &mut Connection<S>,
+    name: &str,
+    parent: Option<&str>,
+) -> Result<(), Error>
     ensures clean { doubt (state S.Store conn.old).is_clean ≤ doubt (state S.Store conn.new).is_clean }
     ensures changes { IsOpenIfHonest (state S.Store conn.old) → (w : _)
-        → set.contains w.shelves name.now ≡ false
-        → ChangesAt (state S.Store conn.old) (state S.Store conn.new) (is_ok result) w (with_team w name.now) }
+        → map.get w.shelves name.now ≡ None
+        → ChangesAt (state S.Store conn.old) (state S.Store conn.new) (is_ok result) w
+        (with_shelf w name.now (option_copied parent.entry)) }
 {
-    match conn.execute("INSERT INTO shelf (name) VALUES (?1)", params![name]) {
+    match conn.execute(
+        "INSERT INTO shelf (name, parent) VALUES (?1, ?2)",
+        params![name, parent],
+    ) {
         Ok(_) => Ok(()),
         Err(error) => Err(error),
     }
 }
 
 /// What becomes of adding a team whose name keeps the rule.
-fn judge_team<S: Alter>(conn: &mut Connection<S>, name: &str) -> Result<Registered, Error>
+fn judge_team<S: Alter>(
+    conn: &mut Connection<S>,
+    name: &str,
+    group: Option<&str>,
+) -> Result<Registered, Error>
     requires { is_team_name name.now ≡ true }
     ensures spares { Spares (state S.Store conn.old) (state S.Store conn.new) }
     ensures answer { InEachWorld (state S.Store conn.old) (state S.Store conn.new) (λ _ new w.
-        IfOk result (λ r. IsTrue new.is_open × (r ≡ team_added w name.now))) }
+        IfOk result (λ r. IsTrue new.is_open × (r ≡ team_added w name.now (option_copied group.entry)))) }
 {
-    if has_shelf(conn, name)? {
+    if find_shelf(conn, name)?.is_some() {
+        return Ok(Registered::Taken);
+    }
+    let Some(group) = group else {
+        return Ok(Registered::Done);
+    };
+    if !is_group(conn, group)? {
+        return Ok(Registered::NoGroup);
+    }
+    Ok(Registered::Done)
+}
+
+/// Adds a team whose name keeps the rule, as a member of a group or of none, unless the name is taken or
+/// there is no such group.
+pub fn add_team<S: Alter>(
+    conn: &mut Connection<S>,
+    name: &str,
+    group: Option<&str>,
+) -> Result<Registered, Error>
+    requires { is_team_name name.now ≡ true }
+    ensures changes { Changes (state S.Store conn.old) (state S.Store conn.new) (is_ok result)
+        (with_team_added name.now (option_copied group.entry)) }
+    ensures answer { InEachWorld (state S.Store conn.old) (state S.Store conn.new) (λ _ _ w.
+        IfOk result (λ r. r ≡ team_added w name.now (option_copied group.entry))) }
+{
+    let registered = judge_team(conn, name, group)?;
+    if registered == Registered::Done {
+        insert_shelf(conn, name, Some(group.unwrap_or(COMMON)))?;
+    }
+    Ok(registered)
+}
+
+/// What becomes of adding a group whose name keeps the rule.
+fn judge_group<S: Alter>(conn: &mut Connection<S>, name: &str) -> Result<Registered, Error>
+    requires { is_team_name name.now ≡ true }
+    ensures spares { Spares (state S.Store conn.old) (state S.Store conn.new) }
+    ensures answer { InEachWorld (state S.Store conn.old) (state S.Store conn.new) (λ _ new w.
+        IfOk result (λ r. IsTrue new.is_open × (r ≡ group_added w name.now))) }
+{
+    if find_shelf(conn, name)?.is_some() {
         return Ok(Registered::Taken);
     }
     Ok(Registered::Done)
 }
 
-/// Adds a team whose name keeps the rule, unless it is taken.
-pub fn add_team<S: Alter>(conn: &mut Connection<S>, name: &str) -> Result<Registered, Error>
+/// Adds a group whose name keeps the rule, unless the name is taken.
+pub fn add_group<S: Alter>(conn: &mut Connection<S>, name: &str) -> Result<Registered, Error>
     requires { is_team_name name.now ≡ true }
     ensures changes { Changes (state S.Store conn.old) (state S.Store conn.new) (is_ok result)
-        (with_team_added name.now) }
+        (with_group_added name.now) }
     ensures answer { InEachWorld (state S.Store conn.old) (state S.Store conn.new) (λ _ _ w.
-        IfOk result (λ r. r ≡ team_added w name.now)) }
+        IfOk result (λ r. r ≡ group_added w name.now)) }
 {
-    let registered = judge_team(conn, name)?;
+    let registered = judge_group(conn, name)?;
     if registered == Registered::Done {
-        insert_shelf(conn, name)?;
+        insert_shelf(conn, name, None)?;
     }
     Ok(registered)
 }

@@ -1,18 +1,18 @@
-//! Which versions of a path, and which paths, a shelf sees, over SQL tables.
+//! Which versions of a path, and which paths, stand on shelves, over SQL tables.
 
-ghost use Rattle.std.specs.Prelude.{◌≡◌, IfOk, OnOk};
+ghost use Rattle.std.specs.Prelude.{◌≡◌, map as each, IfOk, OnOk};
 ghost use Rattle.std.specs.FinMap as map;
 ghost use Rattle.std.specs.FinSet as set;
 ghost use Rattle.sqlite.specs.Held.{state};
-ghost use Rattle.world.specs.Versions.{versions_of};
-ghost use Rattle.world.specs.Visible.{versions_among, paths_among, paths_seen};
+ghost use Rattle.world.specs.Lines.{in_order};
+ghost use Rattle.world.specs.Versions.{named, by_precedence};
+ghost use Rattle.world.specs.Visible.{versions_among, versions_on, paths_among, paths_on};
 ghost use Rattle.statements.specs.Calls.{InEachWorld, Spares};
 ghost use Rattle.statements.specs.Lists.{AddsTexts};
 
 use crate::query::find_rows;
 use sqlite::{Alter, Connection, Error, Row, params};
 use std::alloc::Global;
-use world::names::COMMON;
 use world::text_set::TextSet;
 use world::version_list::Versions;
 use world::versions::ascending;
@@ -65,36 +65,39 @@ fn add_paths<S: Alter>(
     add_texts(texts, rows.as_slice())
 }
 
-/// The versions of a path that a shelf sees, its own and those of `common`, in ascending precedence.
+/// The versions of a path that stand on these shelves, in ascending precedence.
 /// It reads texts from the index alone. Ordering by `rank_key` would read whole rows, and so every go.mod of the path.
 pub fn find_versions<S: Alter>(
     alloc: Global,
     conn: &mut Connection<S>,
-    shelf: &str,
+    shelves: &[&str],
     path: &str,
 ) -> Result<Versions, Error>
     ensures spares { Spares (state S.Store conn.old) (state S.Store conn.new) }
     ensures answer { InEachWorld (state S.Store conn.old) (state S.Store conn.new) (λ _ _ w.
-        IfOk result (λ versions. versions ≡ versions_of w shelf.now path.now)) }
+        IfOk result (λ versions. versions ≡ in_order (by_precedence (named (in_order
+        (versions_on w (each (λ shelf. shelf.now) shelves.now) path.now)))))) }
 {
     let mut texts = TextSet::new(alloc);
-    add_versions(conn, COMMON, path, &mut texts)?;
-    add_versions(conn, shelf, path, &mut texts)?;
+    for shelf in shelves {
+        add_versions(conn, shelf, path, &mut texts)?;
+    }
     Ok(ascending(alloc, &texts)?)
 }
 
-/// The paths that a shelf sees: its own and those of `common`.
+/// The paths that stand on these shelves.
 pub fn find_paths<S: Alter>(
     alloc: Global,
     conn: &mut Connection<S>,
-    shelf: &str,
+    shelves: &[&str],
 ) -> Result<TextSet, Error>
     ensures spares { Spares (state S.Store conn.old) (state S.Store conn.new) }
     ensures answer { InEachWorld (state S.Store conn.old) (state S.Store conn.new) (λ _ _ w.
-        IfOk result (λ texts. texts ≡ paths_seen w shelf.now)) }
+        IfOk result (λ texts. texts ≡ paths_on w (each (λ shelf. shelf.now) shelves.now))) }
 {
     let mut texts = TextSet::new(alloc);
-    add_paths(conn, COMMON, &mut texts)?;
-    add_paths(conn, shelf, &mut texts)?;
+    for shelf in shelves {
+        add_paths(conn, shelf, &mut texts)?;
+    }
     Ok(texts)
 }

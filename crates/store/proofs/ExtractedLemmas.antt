@@ -1,10 +1,9 @@
 -- The part of a team, written whole or not at all, as a call of a store.
-use Rattle.std.proofs.Common.{◌≡◌, ◌≢◌, ◌≤◌, ℕ, List, Bool, true, false, IsTrue, Result, Ok, Err, IsErr, is_ok, inl, inr, refl, sym, subst, arith, true≢false}
+use Rattle.std.proofs.Common.{◌≡◌, ◌≢◌, ◌≤◌, ℕ, List, Bool, true, false, IsTrue, Option, Some, None, Result, Ok, Err, IsErr, is_ok, inl, inr, refl, sym, subst, arith, true≢false}
 use Rattle.sqlite_trees.specs.View.{doubt}
-use Rattle.sqlite.specs.State.{State, HasCleanDisk}
+use Rattle.sqlite.specs.State.{State, HasCleanDisk, KeepsCommit, Survives}
 use Rattle.world.specs.Part.{part, IsTeam}
-use Rattle.std.specs.FinSet as set
-use Rattle.world.specs.World.{World, IsWorld, common, only_common}
+use Rattle.world.specs.World.{World, IsWorld, group_of, only_common}
 use Rattle.world.proofs.Parts.{part_is_world}
 use Rattle.tables.specs.Means.{Stands, StandsFor}
 use Rattle.tables.proofs.FailureLemmas.{was_clean}
@@ -14,25 +13,17 @@ use Rattle.store.specs.Shown.{shown_of, shown_with}
 use Rattle.store.specs.declared.kept.Kept.{Kept}
 use Rattle.store.specs.Kept.{AreKept, IsNothing}
 use Rattle.store.proofs.KeptLemmas.{nothing_kept}
-use Rattle.statements.specs.Rows.{Writing}
-use Rattle.statements.specs.Extract.{IsReady, Copies}
+use Rattle.statements.specs.Rows.{Filling, GoesOn, Writing}
+use Rattle.statements.specs.Extract.{IsReady, Copies, PutsShelf}
+use Rattle.statements.proofs.ChangeLemmas.{when_ok}
+use Rattle.statements.proofs.ExtractLemmas.{copies_none}
 use Rattle.statements.proofs.RowLemmas.{filling_of, writing_of}
-use Rattle.store.specs.Extracted.{MakesPart, is_written, IsRead, IsUnfit, Tells, ExtractsAt, Extracts}
+use Rattle.store.specs.Extracted.{PutsTeam, MakesPart, is_written, IsRead, IsUnfit, Tells, ExtractsAt, Extracts}
 use Rattle.store.specs.declared.extract_judge.Judged.{Judged}
-use Rattle.store.specs.declared.extract_judge.Judged.TheVariants as judged
 use Rattle.statements.specs.declared.extract_rows.CopyError.{CopyError}
 use Rattle.store.specs.declared.refusal.Refusal.{Refusal}
 use Rattle.store.specs.declared.refusal.Refusal.TheVariants as refusal
 use Rattle.store.proofs.StoreLemmas.{narrow}
-
-pub common_is_none : (w : World) (team : List ℕ) → team ≡ common → ¬ IsTeam w team
-common_is_none w team same is = is.1 same
-
-pub no_team_is_not_fit : judged.NoTeam ≡ judged.Fit → ⊥
-no_team_is_not_fit e = cc
-
-pub not_empty_is_not_fit : judged.NotEmpty ≡ judged.Fit → ⊥
-not_empty_is_not_fit e = cc
 
 pub done_is_fit : IsUnfit (Ok tt) → ⊥
 done_is_fit (inl e) = cc
@@ -41,10 +32,6 @@ done_is_fit (inr e) = cc
 pub fault_is_fit : (r : Refusal) → r ≢ refusal.NotEmpty → r ≢ refusal.NoTeam → IsUnfit (Err r) → ⊥
 fault_is_fit r some none (inl e) = let it : r ≡ refusal.NoTeam = cc in none it
 fault_is_fit r some none (inr e) = let it : r ≡ refusal.NotEmpty = cc in some it
-
-pub err_is_not_ok : {A E : Type 0} (r : Result A E) (x : A) → IsErr r → r ≡ Ok x → ⊥
-err_is_not_ok (Ok y) x h e = true≢false (sym h)
-err_is_not_ok (Err f) x h e = cc
 
 -- what was only read where the tables stood for a world
 pub spares_when : (a b c : State) → Spares a b → doubt b.is_clean ≤ doubt c.is_clean → ((w : World) → Stands a w → Spares b c) → Spares a c
@@ -57,11 +44,6 @@ spares_when a b c p up then = record {
 pub not_written : (r : Result Judged CopyError) → IsErr r → is_written r ≡ false
 not_written (Ok x) h = absurd (true≢false (sym h))
 not_written (Err e) h = refl
-
-pub else_written : (j : Judged) → (j ≡ judged.Fit → ⊥) → is_written (Ok j) ≡ false
-else_written judged.Fit other = absurd (other refl)
-else_written judged.NoTeam other = refl
-else_written judged.NotEmpty other = refl
 
 -- nothing was written
 pub spared_at : (a b : State) (x next : World) → Spares a b → ChangesAt a b false x next
@@ -103,14 +85,41 @@ extracts_at old new w x team (Err e) clean stands is change tells = record {
   kept = λ _. tt;
 }
 
+-- the shelves are put in, and the source is not touched
+pub team_copied : {A E : Type 0} (r : Result A E) (team : List ℕ) (group : Option (List ℕ)) (s a b : State) → GoesOn a b (is_ok r) → (HasCleanDisk b → Filling a → OnOk r (PutsTeam team group a.now.trees b.now.trees × Filling b))
+    → Copies (λ _. PutsTeam team group) s s a b (is_ok r)
+team_copied r team group s a b goes_on puts = record {
+  clean = omega arith;
+  reads = λ ready. let read = (copies_none s a).reads ready in record { left = read.left; kept = read.kept; same = λ clean _. read.same clean refl };
+  goes_on = goes_on;
+  makes = λ clean good ready w means filling done. when_ok r done (puts good filling);
+}
+
+-- nothing is said of a transaction whose statement failed, but what it leaves
+pub goes_on_failed : {A E : Type 0} (r : Result A E) (a b : State) → IsErr r → Survives a b (λ _. ⊥) → (HasCleanDisk b → IsTrue a.in_transaction → KeepsCommit a b) → GoesOn a b (is_ok r)
+goes_on_failed (Ok x) a b failed survives kept = absurd (true≢false (sym failed))
+goes_on_failed (Err e) a b failed survives kept = record { survives = survives; kept = kept; inside = λ _ _ all. absurd (true≢false (sym all)) }
+
+-- a shelf is put in, and then another
+module _ {A E : Type 0} (r : Result A E) (team group : List ℕ) (a b c : State) (first : GoesOn a b true) (put : HasCleanDisk b → Filling a → PutsShelf group None a.now.trees b.now.trees × Filling b) where
+  pub team_put : GoesOn b c (is_ok r) → (HasCleanDisk c → Filling b → OnOk r (PutsShelf team (Some group) b.now.trees c.now.trees × Filling c)) → HasCleanDisk c → Filling a
+      → OnOk r (PutsTeam team (Some group) a.now.trees c.now.trees × Filling c)
+  team_put then puts clean filling =
+      let one = put (was_clean b c then.survives.clean clean) filling in
+      with_first r one.0 (puts clean one.1)
+    where
+      with_first : {A E : Type 0} (r : Result A E) → PutsShelf group None a.now.trees b.now.trees → OnOk r (PutsShelf team (Some group) b.now.trees c.now.trees × Filling c) → OnOk r (PutsTeam team (Some group) a.now.trees c.now.trees × Filling c)
+      with_first (Ok x) one two = ((b.now.trees, one, two.0), two.1)
+      with_first (Err e) one two = tt
+
 -- within the transaction the part is written
-pub part_written : (s t a b : State) (done : Bool) (w : World) (team : List ℕ) → Copies (MakesPart team) s t a b done → IsReady s → HasCleanDisk t → HasCleanDisk b → Stands s w → IsWorld w → set.contains w.shelves team ≡ true
-    → IsTrue done → Writing a only_common → Writing b (part w team)
-part_written s t a b done w team fills ready clean good stands is has all writing =
+pub part_written : (s t a b : State) (done : Bool) (w : World) (team : List ℕ) (group : Option (List ℕ)) → Copies (MakesPart team group) s t a b done → IsReady s → HasCleanDisk t → HasCleanDisk b → Stands s w → IsWorld w
+    → IsTeam w team → group_of w team ≡ group → IsTrue done → Writing a only_common → Writing b (part w team)
+part_written s t a b done w team group fills ready clean good stands is has of all writing =
     let was = was_clean s t fills.clean clean in
     let means = (stands was (ready was).0).trees.means in
     let it = fills.makes clean good ready w means (filling_of a only_common writing) all in
-    writing_of b (part w team) it.1 (it.0 w means is has writing.trees)
+    writing_of b (part w team) it.1 (it.0 w means is has of writing.trees)
 
 -- ---- with what the stores keep
 

@@ -1,8 +1,8 @@
 -- What was copied makes the part of a world that a team sees.
-use Rattle.std.proofs.Common.{◌≡◌, ℕ, List, [], ◌∷◌, filter, Bool, true, false, cond, Option, Some, None, inl, inr, refl, sym, ap, subst, ◌∙◌, arith, IsTrue, true≢false}
-use Rattle.std.specs.Prelude.{bytes_eq, ◌||◌}
+use Rattle.std.proofs.Common.{◌≡◌, ℕ, List, [], ◌∷◌, filter, Bool, true, false, cond, Option, Some, None, inl, inr, refl, sym, ap, subst, ◌∙◌, arith, true≢false}
+use Rattle.std.specs.Prelude.{bytes_eq, ◌||◌, unwrap_or}
 use Rattle.std.specs.FinMap as map
-use Rattle.std.specs.FinSet as set
+use Rattle.std.proofs.lemmas.Bool.{or_cases, false_from_ne_true}
 use Rattle.std.proofs.lemmas.Map.Text.{is_eq-slice_cmp}
 use Rattle.sqlite.specs.declared.types.Value.TheVariants.{Text}
 use Rattle.sqlite.specs.Collation.TheVariants.{Binary}
@@ -14,18 +14,19 @@ use Rattle.sqlite_rules.proofs.ListLemmas.{some_has, some_from, has_filtered, ha
 use Rattle.world.specs.declared.entry.Place.{Place}
 use Rattle.world.specs.declared.entry.Entry.{Entry}
 use Rattle.world.specs.declared.entry.Holder.{Holder}
-use Rattle.world.specs.World.{World, IsWorld, common, chain, sees, text_cmp, place_cmp, with_team, only_common}
+use Rattle.world.specs.World.{World, IsWorld, common, group_in, group_of, above, chain, is_among, sees, text_cmp, place_cmp, with_group, with_team, only_common}
 use Rattle.world.specs.Part.{part, is_held}
 use Rattle.world.proofs.Orders.{texts_total, texts_exact, text_self, text_same}
-use Rattle.world.proofs.Parts.{key_at, entry_at, held_key, held_entry, part_has_the_chain}
+use Rattle.world.proofs.Parts.{parent_at, key_at, entry_at, held_key, held_entry}
+use Rattle.world.proofs.Sees.{only_common as among_common}
 use Rattle.tables.specs.Means.{Means, StandFor, Tabulates, IsVersion, IsShelf, IsAccess, IsEachPlaceOnce, IsEachPieceOnce, ArePieces, is_of}
 use Rattle.tables.specs.Schema.{version_table, piece_table}
 use Rattle.tables.proofs.OneWorld.{same_got}
 use Rattle.tables.proofs.Maps.{none_in_empty}
 use Rattle.tables.proofs.SoundLemmas.{piece_version}
 use Rattle.statements.specs.Rows.{IsRead, IsOfAny, piece_read, AreApart, PutsRows, version_read}
-use Rattle.statements.specs.Extract.{AddsShelf, AddsKeys, Along, CopiesKeys, CopiesVersions, CopiesPieces, IsVersionOn, IsPieceOn, OfWorlds, Then}
-use Rattle.store.specs.Extracted.{MakesPart}
+use Rattle.statements.specs.Extract.{AddsKeys, Along, CopiesKeys, CopiesVersions, CopiesPieces, IsVersionOn, IsPieceOn, OfWorlds, Then}
+use Rattle.store.specs.Extracted.{PutsTeam, MakesPart}
 use Rattle.statements.proofs.CopyKeyLemmas.{keys_of_none, keys_of_more}
 use Rattle.statements.proofs.RowLemmas.{puts_along, of_as, same_pieces}
 
@@ -40,7 +41,7 @@ is_seen w t s h = some_from (bytes_eq s) (chain w t) s h (text_self s)
 has_seen : (w : World) (t s : List ℕ) → sees w t s ≡ true → Has (chain w t) s
 has_seen w t s seen = let it = some_has (bytes_eq s) (chain w t) seen in subst (Has (chain w t)) (sym (text_same s it.0 it.2)) it.1
 
--- ---- the registry
+-- ---- the keys of some shelves
 
 -- a key that belongs to a shelf, or to any of some
 abbrev IsKeyOf : World → List ℕ → List ℕ × Holder → Type 0
@@ -58,21 +59,93 @@ keys_along w (s ∷ ss) source db after means it x stand =
     let more = keys_along w ss source it.0 after means it.2 one.0 one.2 in
     (more.0, keys_of_more (IsKeyOf w) s ss x one.0 more.0 one.1 more.1, more.2)
 
-one_more : (shelves : set.FinSet text_cmp) (t s : List ℕ) → set.contains (set.insert shelves t) s ≡ (bytes_eq s t || set.contains shelves s)
-one_more shelves t s = set.contains-insert texts_total shelves t s ∙ ap (λ b. b || set.contains shelves s) (is_eq-slice_cmp s t)
+-- ---- the shelves
 
-module _ (w y : World) (t : List ℕ) (adds : AddsKeys (IsKeyOn w (chain w t)) (with_team only_common t) y) where
-  shelves_are : IsWorld w → set.contains w.shelves t ≡ true → y.shelves ≡ (part w t).shelves
-  shelves_are is stands = adds.shelves ∙ set.same_set texts_total texts_exact _ _ (λ s.
-      one_more (set.insert set.empty common) t s
-      ∙ ap (λ b. bytes_eq s t || b) (one_more set.empty common s ∙ ap (λ b. bytes_eq s common || b) (set.contains-empty text_cmp s))
-      ∙ sym (part_has_the_chain w t s is stands))
+-- some shelves, each with the parent that it has
+abbrev ArePut : World → List (List ℕ) → map.FinMap text_cmp (Option (List ℕ)) → Type 0
+ArePut w ss shelves = (s : List ℕ) → map.get shelves s ≡ cond (is_among ss s) (map.get w.shelves s) None
+
+-- these shelves of a world, and nothing else
+abbrev HasAlone : World → List (List ℕ) → World → Type 0
+HasAlone w ss x = ArePut w ss x.shelves × (x.keys ≡ map.empty) × (x.entries ≡ map.empty)
+
+-- what stands at a shelf once it is put before others, by the test of its name and theirs
+first_put : {X : Type 0} (b c : Bool) (o : X) (at : Option X) → (b ≡ true → at ≡ Some o) → cond b (Some o) (cond c at None) ≡ cond (b || c) at None
+first_put true c o at first = sym (first refl)
+first_put false c o at first = refl
+
+module _ (w : World) where
+  one_more : (ss : List (List ℕ)) (shelves : map.FinMap text_cmp (Option (List ℕ))) (t : List ℕ) (o : Option (List ℕ)) → map.get w.shelves t ≡ Some o → ArePut w ss shelves → ArePut w (t ∷ ss) (map.insert shelves t o)
+  one_more ss shelves t o at put s =
+      map.get-insert texts_total shelves t o s
+      ∙ (ap (λ b. cond b (Some o) (map.get shelves s)) (is_eq-slice_cmp s t)
+      ∙ (ap (cond (bytes_eq s t) (Some o)) (put s) ∙ first_put (bytes_eq s t) (is_among ss s) o (map.get w.shelves s) (λ same. ap (map.get w.shelves) (text_same s t same) ∙ at)))
+
+  not_put : (ss : List (List ℕ)) (shelves : map.FinMap text_cmp (Option (List ℕ))) (s : List ℕ) → ArePut w ss shelves → (is_among ss s ≡ true → ⊥) → map.get shelves s ≡ None
+  not_put ss shelves s put other = put s ∙ ap (λ b. cond b (map.get w.shelves s) None) (false_from_ne_true _ other)
+
+-- a group is not common
+not_common : (o : Option (Option (List ℕ))) (g : List ℕ) → group_in o ≡ Some g → is_among (common ∷ []) g ≡ true → ⊥
+not_common None g of among = cc of
+not_common (Some None) g of among = cc of
+not_common (Some (Some parent)) g of among =
+    elim (bytes_eq parent common) as (λ b. bytes_eq parent common ≡ b → cond b None (Some parent) ≡ Some g → ⊥) [
+      | true ↦ λ _ never. cc never
+      | false ↦ λ apart same. let it : parent ≡ g = cc same in true≢false (sym (ap (λ p. bytes_eq p common) (it ∙ among_common g among) ∙ text_self common) ∙ apart)
+    ] refl of
+
+-- the parent of a team is its group, or common
+its_parent : (parent : List ℕ) (group : Option (List ℕ)) → group_in (Some (Some parent)) ≡ group → parent ≡ unwrap_or group common
+its_parent parent group is =
+    elim (bytes_eq parent common) as (λ b. bytes_eq parent common ≡ b → cond b None (Some parent) ≡ group → parent ≡ unwrap_or group common) [
+      | true ↦ λ same none. text_same parent common same ∙ ap (λ o. unwrap_or o common) none
+      | false ↦ λ _ some. ap (λ o. unwrap_or o common) some
+    ] refl is
+
+module _ (w : World) (is : IsWorld w) (t : List ℕ) where
+  common_put : ArePut w (common ∷ []) only_common.shelves
+  common_put = one_more w [] map.empty common None is.has_common (map.get-empty text_cmp)
+
+  -- a team has a parent, and common and groups have none
+  team_apart : (s parent : List ℕ) → map.get w.shelves t ≡ Some (Some parent) → map.get w.shelves s ≡ Some None → t ≡ s → ⊥
+  team_apart s parent has top same = let never : ◌≡◌ {A = Option (Option (List ℕ))} (Some None) (Some (Some parent)) = sym (ap (map.get w.shelves) same ∙ top) ∙ has in cc never
+
+  apart_from_common : (parent : List ℕ) → map.get w.shelves t ≡ Some (Some parent) → is_among (common ∷ []) t ≡ true → ⊥
+  apart_from_common parent has among = team_apart common parent has is.has_common (among_common t among)
+
+  -- the shelves of a team are put in
+  team_put : (group : Option (List ℕ)) → map.get w.shelves t ≡ Some (Some (unwrap_or group common)) → group_of w t ≡ group → (db after : Trees) → PutsTeam t group db after → StandFor db only_common
+      → (x : World) × HasAlone w (t ∷ above group) x × StandFor after x
+  team_put None has of db after puts blank = (
+    with_team only_common t None,
+    (one_more w (common ∷ []) only_common.shelves t (Some common) has common_put, refl, refl),
+    puts only_common blank (not_put w (common ∷ []) only_common.shelves t common_put (apart_from_common common has)),
+  )
+  team_put (Some g) has of db after puts blank =
+      let top = is.parents t g has in
+      let middle = with_group only_common g in
+      let group_put = one_more w (common ∷ []) only_common.shelves g None top common_put in
+      let group_stands = puts.1 only_common blank (not_put w (common ∷ []) only_common.shelves g common_put (not_common (map.get w.shelves t) g of)) in
+      let free = not_put w (g ∷ common ∷ []) middle.shelves t group_put (λ among. elim (or_cases (bytes_eq t g) _ among) [
+        | inl same ↦ team_apart g g has top (text_same t g same)
+        | inr rest ↦ apart_from_common g has rest
+      ]) in (
+        with_team middle t (Some g),
+        (one_more w (g ∷ common ∷ []) middle.shelves t (Some g) has group_put, refl, refl),
+        puts.2 middle group_stands free,
+      )
+
+-- ---- the registry
+
+module _ (w x y : World) (t : List ℕ) (alone : HasAlone w (chain w t) x) (adds : AddsKeys (IsKeyOn w (chain w t)) x y) where
+  shelves_are : y.shelves ≡ (part w t).shelves
+  shelves_are = adds.shelves ∙ map.same_map texts_total texts_exact _ _ (λ s. alone.0 s ∙ sym (parent_at w t s))
 
   keys_are : y.keys ≡ (part w t).keys
   keys_are = map.same_map texts_total texts_exact _ _ (λ k.
       same_got y.keys (part w t).keys k
       (λ h at. elim ((adds.keys (k, h)).0 at) [
-        | inl none ↦ absurd (none_in_empty text_cmp k h none)
+        | inl none ↦ absurd (none_in_empty text_cmp k h (sym (ap (λ m. map.get m k) alone.1) ∙ none))
         | inr on ↦ key_at w t k ∙ kept_in (is_held (chain w t) (map.get w.keys k)) (map.get w.keys k) h (ap (is_held (chain w t)) on.2.0 ∙ (ap (sees w t) on.2.1 ∙ is_seen w t on.0 on.1)) on.2.0
       ])
       (λ h at. let it = held_key w t k h at in (adds.keys (k, h)).1 (inr (h.shelf, has_seen w t h.shelf it.1, (it.0, refl)))))
@@ -173,7 +246,8 @@ module _ (w : World) (t : List ℕ) (source db mid after : Trees) (means : Means
   pub filled : (y : World) → y.shelves ≡ (part w t).shelves → y.keys ≡ (part w t).keys → Means db y → Means after (part w t)
   filled y shelves keys was = record {
     named = rw meta_stays was.named;
-    shelves = rw shelf_stays (subst (λ s. Tabulates IsShelf (db 2) (λ name. IsTrue (set.contains s name))) shelves was.shelves);
+    shelves = rw shelf_stays (subst (λ m. Tabulates IsShelf (db 2) (λ it. map.get m it.0 ≡ Some it.1)) shelves was.shelves);
+    names = rw shelf_stays was.names;
     access = rw access_stays (subst (λ m. Tabulates IsAccess (db 4) (λ it. map.get m it.0 ≡ Some it.1)) keys was.access);
     numbered = rw access_stays was.numbered;
     entries = entries_are;
@@ -182,21 +256,30 @@ module _ (w : World) (t : List ℕ) (source db mid after : Trees) (means : Means
     pieces = pieces_are;
   }
 
--- the shelf of a team is put in, and then the keys, the versions and the pieces of these
-abbrev FillsAlong : List ℕ → List (List ℕ) → Trees → Trees → Trees → Type 0
-FillsAlong team ss = Then (Then (Then (OfWorlds (AddsShelf team)) (Along (λ s. OfWorlds (CopiesKeys s)) ss)) (Along CopiesVersions ss)) (Along CopiesPieces ss)
+-- tables of a world that has no entry have no version
+no_version_yet : (db : Trees) (x y : World) → Means db y → y.entries ≡ x.entries → x.entries ≡ map.empty → db 6 ≡ []
+no_version_yet db x y means same none = none_there (db 6) (λ row there. let of = means.entries.each row there in none_in_empty place_cmp of.0.0 of.0.1 (ap (λ m. map.get m of.0.0) (sym (same ∙ none)) ∙ of.2))
 
-pub makes_part : (team : List ℕ) (source db after : Trees) → FillsAlong team (team ∷ common ∷ []) source db after → MakesPart team source db after
-makes_part team source db after it w means is stands blank =
+-- the shelves of a team are put in, and then the keys, the versions and the pieces of these
+abbrev FillsAlong : List ℕ → Option (List ℕ) → List (List ℕ) → Trees → Trees → Trees → Type 0
+FillsAlong team group ss = Then (Then (Then (λ _. PutsTeam team group) (Along (λ s. OfWorlds (CopiesKeys s)) ss)) (Along CopiesVersions ss)) (Along CopiesPieces ss)
+
+pub makes_part : (team : List ℕ) (group : Option (List ℕ)) (source db after : Trees) → FillsAlong team group (team ∷ above group) source db after → MakesPart team group source db after
+makes_part team group source db after fills w means is stands of blank =
+    let along : team ∷ above group ≡ chain w team = ap (λ o. team ∷ above o) (sym of) in
+    let it = subst (λ ss. FillsAlong team group ss source db after) along fills in
     let with_keys : Trees = it.1.0 in
     let with_versions : Trees = it.0 in
-    let put = it.1.1.1 w only_common means blank in
-    let made = keys_along w (chain w team) source it.1.1.0 with_keys means it.1.1.2 put.0 put.2 in
+    let has = stands.1 ∙ ap (λ p. Some (Some p)) (its_parent stands.0 group (sym (ap group_in stands.1) ∙ of)) in
+    let put = team_put w is team group has of db it.1.1.0 it.1.1.1 blank in
+    let x : World = put.0 in
+    let alone = subst (λ ss. HasAlone w ss x) along put.1 in
+    let made = keys_along w (chain w team) source it.1.1.0 with_keys means it.1.1.2 x put.2 in
     let y : World = made.0 in
-    let adds : AddsKeys (IsKeyOn w (chain w team)) (with_team only_common team) y = subst (λ (u : World). AddsKeys (IsKeyOn w (chain w team)) u y) put.1 made.1 in
-    let no_version : with_keys 6 ≡ [] = none_there (with_keys 6) (λ row there. let of = made.2.means.entries.each row there in none_in_empty place_cmp of.0.0 of.0.1 (ap (λ m. map.get m of.0.0) (sym adds.entries) ∙ of.2)) in
+    let adds : AddsKeys (IsKeyOn w (chain w team)) x y = made.1 in
+    let no_version : with_keys 6 ≡ [] = no_version_yet with_keys x y made.2.means adds.entries alone.2 in
     let no_piece : with_keys 8 ≡ [] = none_there (with_keys 8) (λ row there. let of = piece_version with_keys made.2.sound row there in subst (λ l. Has l of.0) no_version of.1) in
     filled w team source with_keys with_versions after means no_version no_piece
     (puts_along version_table version_read IsEachPlaceOnce IsVersionOn (chain w team) source with_keys with_versions it.1.2)
     (puts_along piece_table piece_read IsEachPieceOnce IsPieceOn (chain w team) source with_versions after it.2)
-    y (shelves_are w y team adds is stands) (keys_are w y team adds) made.2.means
+    y (shelves_are w x y team alone adds) (keys_are w x y team alone adds) made.2.means

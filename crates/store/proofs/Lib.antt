@@ -1,4 +1,5 @@
 pub mod Texts
+pub mod GroupLemmas
 pub mod KeptLemmas
 pub mod StoreLemmas
 pub mod FileLemmas

@@ -1,20 +1,25 @@
 -- Calls on the tables as calls of a store.
-use Rattle.std.proofs.Common.{ℕ, List, ◌≡◌, ◌≤◌, Result, Ok, Err, inl, inr, refl, sym, subst, is_ok}
+use Rattle.std.proofs.Common.{ℕ, List, [], ◌∷◌, ◌≡◌, ◌≤◌, false, Option, None, Result, Ok, Err, IsErr, true≢false, inl, inr, refl, sym, ap, subst, ◌∙◌, is_ok}
+use Rattle.std.specs.FinMap as map
 use Rattle.std.specs.Prelude.{IfOk, if◌then◌else◌}
 use Rattle.sqlite_trees.specs.View.{doubt}
 use Rattle.sqlite.specs.State.{State, HasCleanDisk}
 use Rattle.world.specs.declared.registry.StoreFault.{StoreFault}
-use Rattle.world.specs.World.{World, IsWorld}
+use Rattle.world.specs.World.{World, IsWorld, group_of, above, chain, with_shelf}
+use Rattle.world.specs.declared.kept_lists.KeptList.{KeptList}
 use Rattle.world.specs.Store.{Shown, Does, DoesWhere, DoesAt, Reads}
 use Rattle.world.specs.declared.registry.Registered.{Registered}
-use Rattle.world.specs.declared.registry.Registered.TheVariants.{Done, Name, Taken, NoTeam, NoKey}
+use Rattle.world.specs.declared.registry.Registered.TheVariants.{Done, Name, Taken, NoTeam, NoKey, NoGroup}
 use Rattle.world.specs.declared.entry.Right.{Right}
-use Rattle.world.specs.Registry.{after_team_add, after_key_add, after_key_revoke}
-use Rattle.tables.specs.Means.{StandsFor}
+use Rattle.world.specs.Registry.{team_added, group_added, after_team_add, after_group_add, after_key_add, after_key_revoke}
+use Rattle.world.proofs.KeptListLemmas.{no_lists}
+use Rattle.world.proofs.Sound.{new_team, new_group}
+use Rattle.tables.specs.Means.{Stands, StandsFor}
 use Rattle.statements.specs.Calls.{Spares, LeavesOnly, ChangesAt}
 use Rattle.store.specs.Shown.{LeavesEither, shown_with}
 use Rattle.store.specs.declared.kept.Kept.{Kept}
 use Rattle.store.specs.Kept.{AreKept}
+use Rattle.store.proofs.GroupLemmas.{groups_still, lists_still}
 use Rattle.tables.proofs.FailureLemmas.{was_clean}
 
 pub narrow : (s : State) (w : World) → LeavesEither s w w → LeavesOnly s (λ x. x ≡ w)
@@ -83,6 +88,41 @@ reads_then start new kept after r value read right = record {
   at = λ clean w stands. let told = read.at clean w stands in record { answer = told.answer; stays = (told.stays.0, right clean w stands told.stays.1); left = told.left };
 }
 
+-- a read on the way failed, and with it the whole
+pub reads_failed : {T U : Type 0} (start end : Shown) (r : Result T StoreFault) (s : Result U StoreFault) (value : World → T) (other : World → U) → IsErr s → Reads start end r value → Reads start end s other
+reads_failed start end r s value other failed read = record {
+  honest = read.honest;
+  at = λ clean w stands. let told = read.at clean w stands in record { answer = none (λ x. x ≡ other w) s failed; stays = told.stays; left = told.left };
+}
+  where
+    none : {X : Type 0} (P : X → Type 0) (s : Result X StoreFault) → IsErr s → IfOk s P
+    none P (Ok x) failed = absurd (true≢false (sym failed))
+    none P (Err e) failed = tt
+
+-- less may be kept before a read
+pub reads_with_less : {T : Type 0} (old : State) (kept less : Kept) (end : Shown) (r : Result T StoreFault) (value : World → T) → ((w : World) → AreKept w kept → AreKept w less)
+    → Reads (shown_with old less) end r value → Reads (shown_with old kept) end r value
+reads_with_less old kept less end r value right read = record {
+  honest = read.honest;
+  at = λ clean w stands. let told = read.at clean w (stands.0, right w stands.1) in record { answer = told.answer; stays = told.stays; left = told.left };
+}
+
+-- once the group of a shelf is read, a read of the tables along its chain
+pub reads_along : {T : Type 0} (start : Shown) (mid new : State) (kept : Kept) (shelf : List ℕ) (group : Option (List ℕ)) (shelves : List (List ℕ)) (r : Result T StoreFault) (value : World → List (List ℕ) → T)
+    → shelves ≡ shelf ∷ above group → Reads start (shown_with mid kept) (Ok group) (λ w. group_of w shelf) → Spares mid new
+    → (HasCleanDisk new → (w : World) → Stands mid w → IfOk r (λ x. x ≡ value w shelves)) → Reads start (shown_with new kept) r (λ w. value w (chain w shelf))
+reads_along start mid new kept shelf group shelves r value along read spares answer = record {
+  honest = λ clean. read.honest (was_clean mid new spares.clean clean);
+  at = λ clean w stands.
+      let told = read.at (was_clean mid new spares.clean clean) w stands in
+      let same : shelves ≡ chain w shelf = along ∙ ap (λ o. shelf ∷ above o) told.answer in
+      record {
+        answer = subst (λ ss. IfOk r (λ x. x ≡ value w ss)) same (answer clean w told.stays.0.0);
+        stays = ((spares.stays w told.stays.0.0, told.stays.0.1), told.stays.1);
+        left = λ x y only db may. told.left x y only db (spares.left clean w told.stays.0.0 db may);
+      };
+}
+
 -- a change that is refused, with no call on the tables
 pub refused : {T : Type 0} (old : State) (kept : Kept) (x : T) (value : World → T) (next : World → World) → ((w : World) → (x ≡ value w) × (w ≡ next w)) → Does (shown_with old kept) (shown_with old kept) (Ok x) value next
 refused old kept x value next same = record {
@@ -98,15 +138,33 @@ refused old kept x value next same = record {
   };
 }
 
--- ---- the commands of the registry leave what is kept
+-- ---- the commands of the registry leave what is kept, but for the lists of versions where a team is made
 
 module _ (w : World) (kept : Kept) (right : AreKept w kept) where
-  pub kept_after_team : (name : List ℕ) (r : Registered) → AreKept (after_team_add w name r) kept
-  kept_after_team name Done = right
-  kept_after_team name Name = right
-  kept_after_team name Taken = right
-  kept_after_team name NoTeam = right
-  kept_after_team name NoKey = right
+  module _ (lists : List KeptList) (none : lists ≡ []) where
+    pub kept_but_lists : AreKept w (record kept { lists = lists })
+    kept_but_lists = (right.0, no_lists w lists none, right.2)
+
+    kept_with_shelf : (s : List ℕ) (parent : Option (List ℕ)) → map.contains_key w.shelves s ≡ false → AreKept (with_shelf w s parent) (record kept { lists = lists })
+    kept_with_shelf s parent free = (right.0, no_lists (with_shelf w s parent) lists none, groups_still w s parent kept.groups free right.2)
+
+    pub kept_after_team : (name : List ℕ) (group : Option (List ℕ)) (r : Registered) → team_added w name group ≡ r → AreKept (after_team_add w name group r) (record kept { lists = lists })
+    kept_after_team name group Done is = kept_with_shelf name _ (new_team w name group is).1
+    kept_after_team name group Name is = kept_but_lists
+    kept_after_team name group Taken is = kept_but_lists
+    kept_after_team name group NoTeam is = kept_but_lists
+    kept_after_team name group NoKey is = kept_but_lists
+    kept_after_team name group NoGroup is = kept_but_lists
+
+  pub kept_after_group : (name : List ℕ) (r : Registered) → group_added w name ≡ r → AreKept (after_group_add w name r) kept
+  kept_after_group name Done is =
+      let free = (new_group w name is).1 in
+      (right.0, lists_still w name free kept.lists right.1, groups_still w name None kept.groups free right.2)
+  kept_after_group name Name is = right
+  kept_after_group name Taken is = right
+  kept_after_group name NoTeam is = right
+  kept_after_group name NoKey is = right
+  kept_after_group name NoGroup is = right
 
   pub kept_after_key : (shelf key : List ℕ) (may : Right) (r : Registered) → AreKept (after_key_add w shelf key may r) kept
   kept_after_key shelf key may Done = right
@@ -114,6 +172,7 @@ module _ (w : World) (kept : Kept) (right : AreKept w kept) where
   kept_after_key shelf key may Taken = right
   kept_after_key shelf key may NoTeam = right
   kept_after_key shelf key may NoKey = right
+  kept_after_key shelf key may NoGroup = right
 
   pub kept_after_revoke : (key : List ℕ) (r : Registered) → AreKept (after_key_revoke w key r) kept
   kept_after_revoke key Done = right
@@ -121,3 +180,4 @@ module _ (w : World) (kept : Kept) (right : AreKept w kept) where
   kept_after_revoke key Taken = right
   kept_after_revoke key NoTeam = right
   kept_after_revoke key NoKey = right
+  kept_after_revoke key NoGroup = right

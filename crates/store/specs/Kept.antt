@@ -4,11 +4,12 @@ use Rattle.std.specs.FinMap as map
 use Rattle.world.specs.World.{World}
 use Rattle.world.specs.Counts.{AreCounts}
 use Rattle.world.specs.KeptLists.{AreLists}
+use Rattle.store.specs.Groups.{AreGroups}
 use Rattle.store.specs.declared.kept.Kept.{Kept}
 
 -- what is kept is so in a world
 abbrev pub AreKept : World → Kept → Type 0
-AreKept w kept = AreCounts w kept.counts × AreLists w kept.lists
+AreKept w kept = AreCounts w kept.counts × AreLists w kept.lists × AreGroups w kept.groups
 
 abbrev pub IsNothing : Kept → Type 0
-IsNothing kept = (kept.counts ≡ map.empty) × (kept.lists ≡ [])
+IsNothing kept = (kept.counts ≡ map.empty) × (kept.lists ≡ []) × (kept.groups ≡ map.empty)

@@ -1,3 +1,4 @@
+pub mod Groups
 pub mod Kept
 pub mod Shown
 pub mod Opened

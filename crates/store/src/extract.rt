@@ -1,12 +1,12 @@
 //! One team's part as a store of its own.
 
-ghost use Rattle.std.specs.Prelude.{◌≡◌, ◌≢◌, ◌≤◌, IfOk};
+ghost use Rattle.std.specs.Prelude.{◌≡◌, ◌≢◌, ◌≤◌, false, IfOk};
 ghost use Rattle.sqlite.specs.Held.{state};
 ghost use Rattle.sqlite_trees.specs.View.{doubt};
 ghost use Rattle.world.specs.Part.{part};
 ghost use Rattle.statements.specs.Calls.{Spares, ChangesAt};
 ghost use Rattle.store.specs.Shown.{shown_of, shown_with};
-ghost use Rattle.store.specs.Extracted.{IsJudged, is_written, InEachTwo, Extracts, HasCauseInEither};
+ghost use Rattle.store.specs.Extracted.{IsJudged, is_fit, is_written, InEachTwo, Extracts, HasCauseInEither};
 
 use crate::extract_judge::{Judged, judge};
 use crate::extract_part::write_part;
@@ -25,17 +25,22 @@ fn extract_part<S: Alter, F: Alter>(
 ) -> Result<Judged, CopyError>
     ensures reads { Spares (state S.Store source.old) (state S.Store source.new) }
     ensures clean { doubt (state F.Store fresh.old).is_clean ≤ doubt (state F.Store fresh.new).is_clean }
-    ensures spares { IfOk result (λ judged. judged ≢ Judged.Fit → Spares (state F.Store fresh.old) (state F.Store fresh.new)) }
+    ensures spares { IfOk result (λ judged. is_fit judged ≡ false
+        → Spares (state F.Store fresh.old) (state F.Store fresh.new)) }
     ensures verdict { InEachTwo (state S.Store source.old) (state S.Store source.new) (state F.Store fresh.old) (state F.Store fresh.new)
         (λ w x. IfOk result (IsJudged w x team.now)) }
     ensures changes { InEachTwo (state S.Store source.old) (state S.Store source.new) (state F.Store fresh.old) (state F.Store fresh.new)
         (λ w x. ChangesAt (state F.Store fresh.old) (state F.Store fresh.new) (is_written result) x (part w team.now)) }
 {
     let judged = judge(source, team, fresh)?;
-    if judged == Judged::Fit {
-        write_part(source, team, fresh)?;
+    match judged {
+        Judged::Fit(group) => {
+            write_part(source, team, group.as_ref(), fresh)?;
+            Ok(Judged::Fit(group))
+        }
+        Judged::NoTeam => Ok(Judged::NoTeam),
+        Judged::NotEmpty => Ok(Judged::NotEmpty),
     }
-    Ok(judged)
 }
 
 /// The refusal for a fault of a store.
@@ -50,11 +55,11 @@ fn told_as(fault: StoreFault) -> Refusal
 }
 
 impl<S: Alter> SqlShelves<S> {
-    /// Makes the fresh store one of a team's part: the shelves `common` and the team's, all their
-    /// entries, and the keys of both with their rights. The rows are read one at a time, and all are
+    /// Makes the fresh store one of a team's part: the shelves that the team sees, all their
+    /// entries, and their keys with their rights. The rows are read one at a time, and all are
     /// written in one transaction.
     ///
-    /// Fails with `NoTeam` if no team has the name (`common` is no team), otherwise with `NotEmpty` if
+    /// Fails with `NoTeam` if no team has the name (`common` and groups are no teams), otherwise with `NotEmpty` if
     /// the fresh store has another shelf, a key or an entry; with `Device` if a disk failed and with
     /// `Memory` if memory ran out. Then both stores are as they were; the source always is. With the first two, a crash leaves
     /// of the fresh store nothing that it did not leave before.
@@ -86,7 +91,7 @@ impl<S: Alter> SqlShelves<S> {
         ensures cause { HasCauseInEither self.old.failures self.new.failures fresh.old.failures fresh.new.failures result }
     {
         match extract_part(&mut self.conn, team, &mut fresh.conn) {
-            Ok(Judged::Fit) => Ok(()),
+            Ok(Judged::Fit(_)) => Ok(()),
             Ok(Judged::NoTeam) => Err(Refusal::NoTeam),
             Ok(Judged::NotEmpty) => Err(Refusal::NotEmpty),
             Err(CopyError::Source(error)) => Err(told_as(fault(&mut self.failures, error))),

@@ -1,24 +1,26 @@
 //! Whether a team's part may be made a store of its own: there is such a team, and the fresh store has `common` alone.
 
-ghost use Rattle.std.specs.Prelude.{◌≡◌, Decides, IfOk, IsTrue, Ok};
+ghost use Rattle.std.specs.Prelude.{◌≡◌, Decides, IfOk, IsTrue};
 ghost use Rattle.sqlite.specs.Held.{state};
 ghost use Rattle.sqlite.specs.State.{HasCleanDisk};
 ghost use Rattle.world.specs.World.{IsWorld, only_common};
 ghost use Rattle.tables.specs.Means.{Stands, StandsFor};
 ghost use Rattle.statements.specs.Calls.{InEachWorld, Spares};
-ghost use Rattle.store.specs.Extracted.{HasOtherShelf, HasKey, HasEntry, IsJudged};
+ghost use Rattle.store.specs.Extracted.{HasOtherShelf, HasKey, HasEntry, IsJudged, is_fit};
 
+use crate::groups::group_in;
 use sqlite::{Alter, Connection, Error, params};
 use statements::extract_rows::CopyError;
 use statements::query::find_row;
-use statements::registry::has_shelf;
+use statements::registry::find_shelf;
+use text::Text;
 use world::names::COMMON;
 
 /// What is to become of an extract.
-#[derive(Clone, Copy, Debug, Drop, PartialEq, Eq)]
+#[derive(Drop)]
 pub(crate) enum Judged {
-    /// The part is to be written.
-    Fit,
+    /// The part is to be written, of a team of this group, or of none.
+    Fit(Option<Text>),
     /// There is no such team.
     NoTeam,
     /// The fresh store has more than `common`.
@@ -84,19 +86,17 @@ pub(crate) fn judge<S: Alter, F: Alter>(
     ensures spares { Spares (state S.Store source.old) (state S.Store source.new) }
     ensures spares_too { Spares (state F.Store fresh.old) (state F.Store fresh.new) }
     ensures ready { InEachWorld (state S.Store source.old) (state S.Store source.new) (λ _ new _.
-        result ≡ Ok Judged.Fit → IsTrue new.is_open) }
+        IfOk result (λ judged. IsTrue (is_fit judged) → IsTrue new.is_open)) }
     ensures verdict { HasCleanDisk (state S.Store source.new) → HasCleanDisk (state F.Store fresh.new)
         → (w x : _) → Stands (state S.Store source.old) w → StandsFor (state F.Store fresh.old) x
-        → IfOk result (λ judged. IsJudged w x team.now judged × (judged ≡ Judged.Fit → IsTrue (state F.Store fresh.new).is_open)) }
+        → IfOk result (λ judged. IsJudged w x team.now judged
+        × (IsTrue (is_fit judged) → IsTrue (state F.Store fresh.new).is_open)) }
 {
-    if team == COMMON {
+    let Some(Some(parent)) = find_shelf(source, team)? else {
         return Ok(Judged::NoTeam);
-    }
-    if !has_shelf(source, team)? {
-        return Ok(Judged::NoTeam);
-    }
+    };
     match is_blank(fresh) {
-        Ok(true) => Ok(Judged::Fit),
+        Ok(true) => Ok(Judged::Fit(group_in(Some(parent)))),
         Ok(false) => Ok(Judged::NotEmpty),
         Err(error) => Err(CopyError::Fresh(error)),
     }

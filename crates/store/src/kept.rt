@@ -3,6 +3,7 @@
 ghost use Rattle.std.specs.Prelude.{◌≡◌};
 ghost use Rattle.store.specs.Kept.{IsNothing};
 
+use crate::groups::Groups;
 use std::alloc::Global;
 use world::counts::Counts;
 use world::kept_lists::KeptLists;
@@ -13,6 +14,7 @@ use world::kept_lists::KeptLists;
 pub(crate) struct Kept {
     pub(crate) counts: Counts,
     pub(crate) lists: KeptLists,
+    pub(crate) groups: Groups,
 }
 
 impl Kept {
@@ -23,6 +25,7 @@ impl Kept {
         Kept {
             counts: Counts::new(alloc),
             lists: KeptLists::new(alloc),
+            groups: Groups::new(alloc),
         }
     }
 }

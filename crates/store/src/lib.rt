@@ -12,25 +12,30 @@
 //! |---|---|
 //! | `adopt` | `tables::fit::stand_for_world`, or where there are no tables `tables::create::create` |
 //! | `key` | `statements::registry::find_key` |
-//! | `entry`, `heading` | `find_entry`, `find_heading` of `statements::entries` |
-//! | `compare` | `statements::compare::find_standing` |
-//! | `versions` | `statements::visible::find_versions`; asked once, and then kept until the path gets a version |
+//! | `entry`, `heading` | `find_entry`, `find_heading` of `statements::entries`, along the chain of the shelf |
+//! | `compare` | `statements::compare::find_standing`, along the chain |
+//! | `versions` | `statements::visible::find_versions`, along the chain; asked once, and then kept until the path gets a version or a team is added |
 //! | `latest` | `versions`, and `heading` of the highest |
-//! | `paths` | `statements::visible::find_paths` |
+//! | `paths` | `statements::visible::find_paths`, along the chain |
 //! | `count` | `statements::entries::count_entries`; asked once, and then kept |
 //! | `insert` | `statements::entries::add_entry` |
-//! | `team_add`, `key_add`, `key_revoke` | `add_team`, `add_key` of `statements::registry`; `statements::revoke::revoke_key` |
-//! | `extract` | along the shelves that the team sees, the rows of `access`, then those of `version`, then those of `piece`, one at a time (`statements::extract_rows`), into a fresh store in one transaction |
+//! | `team_add`, `group_add`, `key_add`, `key_revoke` | `add_team`, `add_group`, `add_key` of `statements::registry`; `statements::revoke::revoke_key` |
+//! | `extract` | the rows of the team and of its group, and along the shelves that the team sees, the rows of `access`, then those of `version`, then those of `piece`, one at a time (`statements::extract_rows`), into a fresh store in one transaction |
+//!
+//! The chain of a shelf is its own shelf, its group if it has one, and `common`. The group is found by
+//! `statements::registry::find_shelf`, once, and then kept, as it never changes.
 //!
 //! What is said of values holds where each answer of the disk was what had been written. A fault is
 //! `Memory` where memory was wanted, and otherwise `Device`, which is counted.
 #![tactic(auto)]
 
 mod adopt;
+mod chain;
 mod extract;
 mod extract_judge;
 mod extract_part;
 mod files;
+mod groups;
 mod kept;
 pub mod laws;
 pub mod open;

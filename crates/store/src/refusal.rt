@@ -17,7 +17,7 @@ pub enum Refusal {
     BadSchema,
     /// The fresh store has more than `common`: another shelf, a key or an entry.
     NotEmpty,
-    /// There is no such team. `common` is none.
+    /// There is no such team. `common` is none, nor is a group.
     NoTeam,
 }
 

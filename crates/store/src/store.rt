@@ -5,6 +5,7 @@ ghost use Rattle.sqlite.specs.Held.{state};
 ghost use Rattle.sqlite_trees.specs.View.{doubt};
 ghost use Rattle.world.specs.Store.{GrewOrFull, HasCause, Reads};
 ghost use Rattle.world.specs.Versions.{versions_of};
+ghost use Rattle.world.specs.World.{group_of};
 ghost use Rattle.store.specs.Shown.{shown_with};
 ghost use Rattle.store.specs.Kept.{IsNothing};
 ghost use Rattle.tables.specs.Calls.{Honestly};
@@ -12,6 +13,8 @@ ghost use Rattle.tables.specs.Causes.{IsHindered, IsVast};
 ghost use Rattle.store.specs.Opened.{Opens, IsBad, LeavesFirst, IsOfOpening};
 
 use crate::adopt::open_tables;
+use crate::chain::Chain;
+use crate::groups::{copied, group_in};
 use crate::kept::Kept;
 use crate::refusal::Refusal;
 use modpath::ModulePath;
@@ -19,11 +22,13 @@ use modver::Version;
 use sqlite::{Alter, Connection, Error, ErrorCode};
 use statements::compare::find_standing;
 use statements::entries::{add_entry, count_entries, find_entry, find_heading};
-use statements::registry::{add_key, add_team, find_key};
+use statements::registry::{add_group, add_key, add_team, find_key, find_shelf};
 use statements::revoke::revoke_key;
 use statements::visible::{find_paths, find_versions};
 use std::alloc::Global;
+use text::Text;
 use world::entry::{EntryRef, Heading, Holder, Right, Seen};
+use world::kept_lists::KeptLists;
 use world::names::{is_key, is_team_name};
 use world::reading::gomod_in;
 use world::registry::{Registered, StoreFault};
@@ -86,10 +91,12 @@ impl<S: Alter> Shelves for SqlShelves<S> {
         path: &ModulePath,
         version: &Version,
     ) -> Result<Option<Seen>, StoreFault> {
+        let group = self.group_of(shelf)?;
+        let chain = Chain::new(shelf, group.as_ref());
         match find_entry(
             self.alloc,
             &mut self.conn,
-            shelf,
+            chain.as_slice(),
             path.as_str(),
             version.as_str(),
         ) {
@@ -104,7 +111,14 @@ impl<S: Alter> Shelves for SqlShelves<S> {
         path: &ModulePath,
         version: &Version,
     ) -> Result<Option<Heading>, StoreFault> {
-        match find_heading(&mut self.conn, shelf, path.as_str(), version.as_str()) {
+        let group = self.group_of(shelf)?;
+        let chain = Chain::new(shelf, group.as_ref());
+        match find_heading(
+            &mut self.conn,
+            chain.as_slice(),
+            path.as_str(),
+            version.as_str(),
+        ) {
             Ok(found) => Ok(found),
             Err(error) => Err(fault(&mut self.failures, error)),
         }
@@ -117,9 +131,11 @@ impl<S: Alter> Shelves for SqlShelves<S> {
         version: &Version,
         entry: &EntryRef,
     ) -> Result<Standing, StoreFault> {
+        let group = self.group_of(shelf)?;
+        let chain = Chain::new(shelf, group.as_ref());
         match find_standing(
             &mut self.conn,
-            shelf,
+            chain.as_slice(),
             path.as_str(),
             version.as_str(),
             entry,
@@ -152,7 +168,9 @@ impl<S: Alter> Shelves for SqlShelves<S> {
     }
 
     fn paths(&mut self, shelf: &str) -> Result<TextSet, StoreFault> {
-        match find_paths(self.alloc, &mut self.conn, shelf) {
+        let group = self.group_of(shelf)?;
+        let chain = Chain::new(shelf, group.as_ref());
+        match find_paths(self.alloc, &mut self.conn, chain.as_slice()) {
             Ok(paths) => Ok(paths),
             Err(error) => Err(fault(&mut self.failures, error)),
         }
@@ -197,11 +215,23 @@ impl<S: Alter> Shelves for SqlShelves<S> {
         }
     }
 
-    fn team_add(&mut self, name: &str) -> Result<Registered, StoreFault> {
+    fn team_add(&mut self, name: &str, group: Option<&str>) -> Result<Registered, StoreFault> {
         if !is_team_name(name) {
             return Ok(Registered::Name);
         }
-        match add_team(&mut self.conn, name) {
+        // A list that was asked of this name before lacks what the group of the team has.
+        self.kept.lists = KeptLists::new(self.alloc);
+        match add_team(&mut self.conn, name, group) {
+            Ok(registered) => Ok(registered),
+            Err(error) => Err(fault(&mut self.failures, error)),
+        }
+    }
+
+    fn group_add(&mut self, name: &str) -> Result<Registered, StoreFault> {
+        if !is_team_name(name) {
+            return Ok(Registered::Name);
+        }
+        match add_group(&mut self.conn, name) {
             Ok(registered) => Ok(registered),
             Err(error) => Err(fault(&mut self.failures, error)),
         }
@@ -271,6 +301,26 @@ impl<S: Alter> SqlShelves<S> {
         }
     }
 
+    /// The group of a shelf, if it has one. Copies the kept name if there is one, and queries the tables otherwise.
+    fn group_of(&mut self, shelf: &str) -> Result<Option<Text>, StoreFault>
+        ensures reads { Reads (shown_with (state S.Store self.old.conn) self.old.kept)
+            (shown_with (state S.Store self.new.conn) self.new.kept) result (λ w. group_of w shelf.now) }
+        ensures cause { HasCause self.old.failures self.new.failures result }
+    {
+        if let Some(group) = self.kept.groups.get(shelf) {
+            return Ok(copied(self.alloc, group.as_ref())?);
+        }
+        match find_shelf(&mut self.conn, shelf) {
+            Ok(Some(parent)) => {
+                let group = group_in(parent);
+                self.kept.groups.keep(self.alloc, shelf, group.as_ref());
+                Ok(group)
+            }
+            Ok(None) => Ok(None),
+            Err(error) => Err(fault(&mut self.failures, error)),
+        }
+    }
+
     /// The versions of a path that a shelf sees, in ascending precedence. Takes the cached list if there is one, and
     /// queries the tables otherwise.
     fn take_versions(&mut self, shelf: &str, path: &str) -> Result<Versions, StoreFault>
@@ -281,7 +331,9 @@ impl<S: Alter> SqlShelves<S> {
         if let Some(versions) = self.kept.lists.take(shelf, path) {
             return Ok(versions);
         }
-        match find_versions(self.alloc, &mut self.conn, shelf, path) {
+        let group = self.group_of(shelf)?;
+        let chain = Chain::new(shelf, group.as_ref());
+        match find_versions(self.alloc, &mut self.conn, chain.as_slice(), path) {
             Ok(versions) => Ok(versions),
             Err(error) => Err(fault(&mut self.failures, error)),
         }

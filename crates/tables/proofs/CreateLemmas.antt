@@ -26,9 +26,12 @@ use Rattle.sqlite_tied.specs.Compute.{everything}
 use Rattle.tables.specs.Schema.{no_schema, store_schema, meta_table, shelf_table, access_table, version_table, piece_table, meta_text, shelf_text, access_text, version_text, piece_text}
 use Rattle.sqlite.specs.Order.{column}
 use Rattle.tables.specs.Means.{Means, schema_named}
-use Rattle.std.specs.FinSet as set
+use Rattle.std.specs.FinMap as map
+use Rattle.sqlite.specs.Values.{or_null}
+use Rattle.world.proofs.OnlyCommon.{only_one}
+use Rattle.world.proofs.Orders.{texts_total, get_put}
 use Rattle.world.specs.World.{only_common, common, text_cmp, place_cmp}
-use Rattle.tables.proofs.Maps.{none_in_empty, text_put, text_splits, no_text}
+use Rattle.tables.proofs.Maps.{none_in_empty}
 use Rattle.tables.specs.Made.{IsMade}
 use Rattle.tables.proofs.InsertLemmas.{went, same_value, inserted, cast_null, cast_int}
 
@@ -89,7 +92,7 @@ abbrev pub first5 : List ℕ
 first5 = piece_text ++ codes ";"
 
 abbrev pub first6 : List ℕ
-first6 = codes "INSERT INTO meta (name, value) VALUES ('schema', 2);"
+first6 = codes "INSERT INTO meta (name, value) VALUES ('schema', 3);"
 
 abbrev pub first7 : List ℕ
 first7 = codes "INSERT INTO shelf (name) VALUES ('common')"
@@ -192,7 +195,7 @@ pub put6 : (command_of (understood store_schema first6) ≡ Insert 0 (Values met
 unfolding understood everything
 put6 = (refl, (refl, refl))
 
-pub put7 : (command_of (understood store_schema first7) ≡ Insert 1 (Values (lit Null ∷ lit (Text (codes "common")) ∷ []) 2)) × IsPlain (understood store_schema first7)
+pub put7 : (command_of (understood store_schema first7) ≡ Insert 1 (Values (lit Null ∷ lit (Text (codes "common")) ∷ lit Null ∷ []) 3)) × IsPlain (understood store_schema first7)
 unfolding understood everything
 put7 = (refl, (refl, refl))
 
@@ -200,7 +203,7 @@ abbrev pub meta_row : Row
 meta_row = Int (pos 1) ∷ Text (codes "schema") ∷ Int schema_named.1 ∷ []
 
 abbrev pub common_row : Row
-common_row = Int (pos 1) ∷ Text (codes "common") ∷ []
+common_row = Int (pos 1) ∷ Text (codes "common") ∷ Null ∷ []
 
 record Rows (db : Trees) : Type 0 where
   meta : db 0 ≡ meta_row ∷ []
@@ -216,19 +219,17 @@ means db r = record {
     found = λ it same. (meta_row, inl refl, (ap (λ (x : List ℕ × ℤ). Text x.0) (sym same), ap (λ (x : List ℕ × ℤ). Int x.1) (sym same)));
   });
   shelves = rw r.shelf (record {
-    each = λ row there. elim there [ inl same ↦ (codes "common", ap (λ (x : Row). column x 1) same, text_put set.empty common) | inr none ↦ absurd none ];
-    found = λ name holds. (common_row, inl refl, ap Text (only_name name holds));
+    each = λ row there. elim there [ inl same ↦ ((codes "common", None), (ap (λ (x : Row). column x 1) same, ap (λ (x : Row). column x 2) same), get_put texts_total map.empty common None) | inr none ↦ absurd none ];
+    found = λ it holds. let same = only_one common None it.0 it.1 holds in (common_row, inl refl, (ap Text (sym same.0), ap (or_null Text) same.1));
   });
   access = rw r.access (record { each = λ row none. absurd none; found = λ x some. absurd (none_in_empty text_cmp x.0 x.1 some) });
   numbered = rw r.access (record { number = λ row none. absurd none; own = λ a b none. absurd none });
   entries = rw r.version (record { each = λ row none. absurd none; found = λ x some. absurd (none_in_empty place_cmp x.0 x.1 some) });
+  names = rw r.shelf (tt, tt);
   tokens = rw r.access tt;
   places = rw r.version tt;
   pieces = rw r.piece tt;
 }
-  where
-    only_name : (name : List ℕ) → IsTrue (set.contains only_common.shelves name) → codes "common" ≡ name
-    only_name name holds = elim (text_splits set.empty common name holds) [ inl same ↦ sym same | inr none ↦ absurd (no_text name none) ]
 
 pub put_meta : (old new : State) (count : ℕ) → old.now.schema ≡ store_schema → old.now.trees 0 ≡ [] → ExecutesIn true first6 [] old new (Ok count)
     → (new.now.schema ≡ store_schema) × (new.now.trees 0 ≡ meta_row ∷ []) × (new.now.trees 2 ≡ old.now.trees 2) × (new.now.trees 4 ≡ old.now.trees 4) × (new.now.trees 6 ≡ old.now.trees 6)
@@ -243,7 +244,7 @@ put_common : (old new : State) (count : ℕ) → old.now.schema ≡ store_schema
     × (new.now.trees 0 ≡ old.now.trees 0) × IsDatabase new.now × IsTrue new.is_open × (new.now.trees 8 ≡ old.now.trees 8)
 put_common old new count has none h =
     let w = ran_as first7 old new store_schema has _ put7.0 put7.1 count h in
-    let it = inserted old.step_limit shelf_table refl [] (lit Null ∷ lit (Text (codes "common")) ∷ []) 2 (Null ∷ Text (codes "common") ∷ []) refl (λ _. refl) 1 refl old.now [] w.tally new.now has w.changed in
+    let it = inserted old.step_limit shelf_table refl [] (lit Null ∷ lit (Text (codes "common")) ∷ lit Null ∷ []) 3 (Null ∷ Text (codes "common") ∷ Null ∷ []) refl (λ _. refl) 1 refl old.now [] w.tally new.now has w.changed in
     (it.0, rw none at (rw cast_null at it.1.rows), it.1.tables.1.1.0 (λ e. omega (arith, e)), it.1.tables.1.1.1.0 (λ e. omega (arith, e)), it.1.tables.0 (λ e. omega (arith, e)), w.sound, w.shown.is_open, it.1.tables.1.1.1.1.0 (λ e. omega (arith, e)))
 
 module _ {S : Type 0} (g : Ghosts S) (old new : Held S) where

@@ -1,12 +1,16 @@
 -- What the walks over the rows of the tables tell.
 use Rattle.std.proofs.Common.{◌≡◌, ◌≤◌, ◌++◌, ◌||◌, ◌⊎◌, ℕ, Bool, true, false, List, [], ◌∷◌, map, Option, Some, None, Ok, Err, Result, OnOk, IfOk, inl, inr, refl, sym, ap, subst, ◌∙◌, arith, Decides, true≢false, append_assoc, Less, Equal, IsPermutation}
+use Rattle.std.specs.Prelude.{Contains}
+use Rattle.std.specs.List.{list_all}
+use Rattle.std.specs.FinSet as set
 use Rattle.std.specs.Ordering.{is_lt, ordering_then, int_cmp}
+use Rattle.std.proofs.lemmas.Bool.{and_parts, and_from}
 use Rattle.std.specs.declared.cmp.Ordering.{Ordering}
 use Rattle.std.specs.Cmp.{IsTotalOrder, tied_itself, int_cmp_total}
 use Rattle.std.specs.FinMap.{IsAntisymmetric, int_cmp-IsAntisymmetric}
 use Rattle.std.proofs.lemmas.List.Sorted.{IsPermutation-sym}
 use Rattle.sqlite.specs.declared.types.Value.{Value}
-use Rattle.sqlite.specs.declared.types.Value.TheVariants.{Text}
+use Rattle.sqlite.specs.declared.types.Value.TheVariants.{Null, Int, Real, Text, Blob}
 use Rattle.sqlite.specs.Order.{Row, column}
 use Rattle.sqlite.specs.Tree.{Trees}
 use Rattle.sqlite.specs.Effect.{Database}
@@ -21,7 +25,11 @@ use Rattle.sqlite_trees.proofs.ListLemmas.{ascending_weaker}
 use Rattle.sqlite_rules.specs.Lists.{Has}
 use Rattle.sqlite_rules.proofs.ListLemmas.{has_left, has_right}
 use Rattle.world.specs.declared.entry.Place.{Place}
-use Rattle.world.specs.World.{text_cmp, place_cmp, version_limit}
+use Rattle.world.specs.Lines.{in_order}
+use Rattle.world.specs.World.{common, text_cmp, place_cmp, version_limit}
+use Rattle.world.proofs.Members.{no_member, first_member, later_member, member_cases, in_order_of, in_set_of}
+use Rattle.world.proofs.Sound.{still}
+use Rattle.tables.proofs.Maps.{text_put, text_splits}
 use Rattle.world.proofs.Orders.{texts_total, texts_exact, places_total, places_exact}
 use Rattle.tables.specs.Schema.{store_schema}
 use Rattle.tables.specs.Walks.{Looks, Tests, Pass, Walks, MayFollow, run_with}
@@ -33,7 +41,7 @@ use Rattle.tables.specs.declared.fit.NumberRows.{NumberRows}
 use Rattle.tables.specs.declared.fit.EntryRows.{EntryRows}
 use Rattle.tables.proofs.Texts.{meta_rows_text, shelf_rows_text, key_rows_text, number_rows_text, entry_rows_text}
 use Rattle.tables.proofs.Ascending.{has_permuted, Adjacent, adjacent_both, adjacent_among, ascends, ascends_permuted, across, apart_below, filter_permuted}
-use Rattle.tables.proofs.ListingLemmas.{all_listed, first_listed, meta_rows_is, shelf_rows_is, key_rows_is, number_rows_is, entry_rows_is, meta_listed, shelves_listed, keys_listed, numbers_listed, entries_listed, InOrder, keys_in_order, numbers_in_order, entries_in_order, place_columns}
+use Rattle.tables.proofs.ListingLemmas.{all_listed, first_listed, meta_rows_is, shelf_rows_is, key_rows_is, number_rows_is, entry_rows_is, meta_listed, shelves_listed, keys_listed, numbers_listed, entries_listed, InOrder, shelves_in_order, keys_in_order, numbers_in_order, entries_in_order, place_columns}
 use Rattle.tables.proofs.RunLemmas.{adjacent_apart, last_of, many_on, many_more, push_on, run_within, few_in_all}
 
 -- ---- a walk as a test
@@ -104,60 +112,6 @@ module _ (db : Database) (start end : MetaRows) where
   meta_false w fit =
       let first = first_listed meta_rows_text _ _ _ _ meta_rows_is db (w.0 ++ w.1 ∷ []) w.3 in
       let same = meta_listed db.trees _ first.1 in
-      w.5 (fit.each w.1 (has_permuted _ _ w.1 same (at_place w.0 first.0 w.1)))
-
--- ---- shelf
-
-abbrev pub ShelfFits : ShelfRows → Row → Type 0
-ShelfFits rows row = Fit.IsShelfRow row
-
-abbrev pub ShelfKeeps : ShelfRows → Row → ShelfRows → Type 0
-ShelfKeeps rows row next = next.has_common ≡ (rows.has_common || Fit.is_common (column row 0))
-
-or_true : (a b : Bool) → (a || b) ≡ true → (a ≡ true) ⊎ (b ≡ true)
-or_true true b h = inl refl
-or_true false b h = inr h
-
-or_first : (a b : Bool) → a ≡ true → (a || b) ≡ true
-or_first true b h = refl
-or_first false b h = absurd (true≢false (sym h))
-
-or_second : (a b : Bool) → b ≡ true → (a || b) ≡ true
-or_second true b h = refl
-or_second false b h = h
-
-common_stays : (start : ShelfRows) (rows : List Row) (end : ShelfRows) → Pass ShelfFits ShelfKeeps start rows end → start.has_common ≡ true → end.has_common ≡ true
-common_stays start [] end p h = ap (λ (x : ShelfRows). x.has_common) p ∙ h
-common_stays start (r ∷ rows) end p h = common_stays p.1 rows end p.3 (p.2 ∙ or_first start.has_common _ h)
-
-common_met : (start : ShelfRows) (rows : List Row) (end : ShelfRows) → Pass ShelfFits ShelfKeeps start rows end → end.has_common ≡ true → (start.has_common ≡ true) ⊎ ((r : Row) × Has rows r × (Fit.is_common (column r 0) ≡ true))
-common_met start [] end p h = inl (ap (λ (x : ShelfRows). x.has_common) (sym p) ∙ h)
-common_met start (r ∷ rows) end p h = elim (common_met p.1 rows end p.3 h) [
-  | inl here ↦ elim (or_true start.has_common (Fit.is_common (column r 0)) (sym p.2 ∙ here)) [ inl before ↦ inl before | inr now ↦ inr (r, inl refl, now) ]
-  | inr later ↦ inr (later.0, inr later.1, later.2)
-]
-
-common_noted : (start : ShelfRows) (rows : List Row) (end : ShelfRows) → Pass ShelfFits ShelfKeeps start rows end → (r : Row) → Has rows r → Fit.is_common (column r 0) ≡ true → end.has_common ≡ true
-common_noted start [] end p r there h = absurd there
-common_noted start (x ∷ rows) end p r (inl same) h = common_stays p.1 rows end p.3 (p.2 ∙ or_second start.has_common _ (ap (λ y. Fit.is_common (column y 0)) (sym same) ∙ h))
-common_noted start (x ∷ rows) end p r (inr later) h = common_noted p.1 rows end p.3 r later h
-
-module _ (db : Database) (start end : ShelfRows) where
-  pub shelves_true : start.has_common ≡ false → Walks ShelfFits ShelfKeeps shelf_rows_text db start end true → Decides end.has_common (Fit.AreShelvesFit (map Fit.name_shown (db.trees 2)))
-  shelves_true new w =
-      let same = shelves_listed db.trees w.0 (all_listed shelf_rows_text _ _ _ _ shelf_rows_is db w.0 w.1) in
-      let back = λ (r : Row) (there : Has (map Fit.name_shown (db.trees 2)) r). has_permuted w.0 _ r (IsPermutation-sym _ _ same) there in (
-        λ has. record {
-          each = λ row there. (pass_each ShelfFits ShelfKeeps start w.0 end w.2 row (back row there)).1;
-          has_common = elim (common_met start w.0 end w.2 has) [ inl old ↦ absurd (true≢false (sym old ∙ new)) | inr it ↦ (it.0, has_permuted _ w.0 it.0 same it.1, it.2) ];
-        },
-        λ fit. common_noted start w.0 end w.2 fit.has_common.0 (back fit.has_common.0 fit.has_common.1) fit.has_common.2,
-      )
-
-  pub shelves_false : Walks ShelfFits ShelfKeeps shelf_rows_text db start end false → Fit.AreShelvesFit (map Fit.name_shown (db.trees 2)) → ⊥
-  shelves_false w fit =
-      let first = first_listed shelf_rows_text _ _ _ _ shelf_rows_is db (w.0 ++ w.1 ∷ []) w.3 in
-      let same = shelves_listed db.trees _ first.1 in
       w.5 (fit.each w.1 (has_permuted _ _ w.1 same (at_place w.0 first.0 w.1)))
 
 -- ---- access: rows in the order of a key, each with a key of its own
@@ -244,6 +198,153 @@ module _ (db : Database) where
   numbers_false start end new w =
       let first = first_listed number_rows_text _ _ _ _ number_rows_is db (w.0 ++ w.1 ∷ []) w.3 in
       once_false int_cmp_total int_cmp-IsAntisymmetric Fit.IsNumberRow Fit.number_in (λ (x : NumberRows). x.last) ints_in_order start w.2 new w.0 w.1 first.0 _ (numbers_listed db.trees _ first.1) w.4 w.5
+
+-- ---- shelf
+
+shelf_names_in_order : (a b : Row) → Fit.IsShelfRow a → Fit.IsShelfRow b → key_cmp 0 (ascending Binary ∷ []) (column a 0 ∷ []) (column b 0 ∷ []) ≡ text_cmp (Fit.key_in a) (Fit.key_in b)
+shelf_names_in_order a b one two = rw (one.2, two.2) (then-Equal _ ∙ value_cmp-Text one.0 two.0)
+
+abbrev pub ShelfFits : ShelfRows → Row → Type 0
+ShelfFits rows row = Fit.IsShelfRow row × (rows.last ≡ Some (Fit.key_in row) → ⊥)
+
+abbrev pub ShelfKeeps : ShelfRows → Row → ShelfRows → Type 0
+ShelfKeeps rows row next = (next.last ≡ Some (Fit.key_in row))
+    × ((next.tops ≡ Fit.top_put (column row 1) (Fit.key_in row) rows.tops) × (next.parents ≡ Fit.parent_put (column row 1) rows.parents))
+
+abbrev ShelfKeepsLast : ShelfRows → Row → ShelfRows → Type 0
+ShelfKeepsLast rows row next = next.last ≡ Some (Fit.key_in row)
+
+shelf_last : (start : ShelfRows) (rows : List Row) (end : ShelfRows) → Pass ShelfFits ShelfKeeps start rows end → Pass ShelfFits ShelfKeepsLast start rows end
+shelf_last start [] end p = p
+shelf_last start (r ∷ rows) end p = (p.0, p.1, p.2.0, shelf_last p.1 rows end p.3)
+
+name_held : (row : Row) → Fit.IsShelfRow row → column row 0 ≡ Text (Fit.key_in row)
+name_held row is = is.2 ∙ ap (λ v. Text (Fit.text_in v)) (sym is.2)
+
+-- the shelves without a parent that are noted
+
+top_from : (v : Value) (t u : List ℕ) (s : set.FinSet text_cmp) → set.contains (Fit.top_put v t s) u ≡ true → ((u ≡ t) × (v ≡ Null)) ⊎ (set.contains s u ≡ true)
+top_from Null t u s h = elim (text_splits s t u h) [ inl same ↦ inl (same, refl) | inr old ↦ inr old ]
+top_from (Int n) t u s h = inr h
+top_from (Real x) t u s h = inr h
+top_from (Text x) t u s h = inr h
+top_from (Blob x) t u s h = inr h
+
+top_stays : (v : Value) (t u : List ℕ) (s : set.FinSet text_cmp) → set.contains s u ≡ true → set.contains (Fit.top_put v t s) u ≡ true
+top_stays Null t u s h = still s t u h
+top_stays (Int n) t u s h = h
+top_stays (Real x) t u s h = h
+top_stays (Text x) t u s h = h
+top_stays (Blob x) t u s h = h
+
+tops_from : (start : ShelfRows) (rows : List Row) (end : ShelfRows) → Pass ShelfFits ShelfKeeps start rows end → (u : List ℕ) → set.contains end.tops u ≡ true → (set.contains start.tops u ≡ true) ⊎ Fit.HasTop rows u
+tops_from start [] end p u h = inl (ap (λ (x : ShelfRows). set.contains x.tops u) (sym p) ∙ h)
+tops_from start (r ∷ rows) end p u h = elim (tops_from p.1 rows end p.3 u h) [
+  | inl here ↦ elim (top_from (column r 1) (Fit.key_in r) u start.tops (sym (ap (λ s. set.contains s u) p.2.1.0) ∙ here)) [
+    | inl it ↦ inr (r, inl refl, name_held r p.0.0 ∙ ap Text (sym it.0), it.1)
+    | inr old ↦ inl old
+  ]
+  | inr later ↦ inr (later.0, inr later.1, later.2, later.3)
+]
+
+tops_stay : (start : ShelfRows) (rows : List Row) (end : ShelfRows) → Pass ShelfFits ShelfKeeps start rows end → (u : List ℕ) → set.contains start.tops u ≡ true → set.contains end.tops u ≡ true
+tops_stay start [] end p u h = ap (λ (x : ShelfRows). set.contains x.tops u) p ∙ h
+tops_stay start (r ∷ rows) end p u h = tops_stay p.1 rows end p.3 u (ap (λ s. set.contains s u) p.2.1.0 ∙ top_stays (column r 1) (Fit.key_in r) u start.tops h)
+
+tops_noted : (start : ShelfRows) (rows : List Row) (end : ShelfRows) → Pass ShelfFits ShelfKeeps start rows end → (u : List ℕ) (r : Row) → Has rows r → column r 0 ≡ Text u → column r 1 ≡ Null → set.contains end.tops u ≡ true
+tops_noted start [] end p u r there named none = absurd there
+tops_noted start (x ∷ rows) end p u r (inl same) named none =
+    let name : Fit.key_in x ≡ u = ap (λ y. Fit.key_in y) (sym same) ∙ ap Fit.text_in named in
+    let null : column x 1 ≡ Null = ap (λ y. column y 1) (sym same) ∙ none in
+    let put : set.contains (Fit.top_put (column x 1) (Fit.key_in x) start.tops) u ≡ true = rw (null, name) (text_put start.tops u) in
+    tops_stay p.1 rows end p.3 u (ap (λ s. set.contains s u) p.2.1.0 ∙ put)
+tops_noted start (x ∷ rows) end p u r (inr later) named none = tops_noted p.1 rows end p.3 u r later named none
+
+-- the parents that are noted
+
+abbrev HasParent : List Row → List ℕ → Type 0
+HasParent rows u = (row : Row) × Has rows row × (column row 1 ≡ Text u)
+
+put_from : (v : Value) (u : List ℕ) (s : set.FinSet text_cmp) → set.contains (Fit.parent_put v s) u ≡ true → (v ≡ Text u) ⊎ (set.contains s u ≡ true)
+put_from Null u s h = inr h
+put_from (Int n) u s h = inr h
+put_from (Real x) u s h = inr h
+put_from (Text t) u s h = elim (text_splits s t u h) [ inl same ↦ inl (ap Text (sym same)) | inr old ↦ inr old ]
+put_from (Blob x) u s h = inr h
+
+put_stays : (v : Value) (u : List ℕ) (s : set.FinSet text_cmp) → set.contains s u ≡ true → set.contains (Fit.parent_put v s) u ≡ true
+put_stays Null u s h = h
+put_stays (Int n) u s h = h
+put_stays (Real x) u s h = h
+put_stays (Text t) u s h = still s t u h
+put_stays (Blob x) u s h = h
+
+parents_from : (start : ShelfRows) (rows : List Row) (end : ShelfRows) → Pass ShelfFits ShelfKeeps start rows end → (u : List ℕ) → set.contains end.parents u ≡ true → (set.contains start.parents u ≡ true) ⊎ HasParent rows u
+parents_from start [] end p u h = inl (ap (λ (x : ShelfRows). set.contains x.parents u) (sym p) ∙ h)
+parents_from start (r ∷ rows) end p u h = elim (parents_from p.1 rows end p.3 u h) [
+  | inl here ↦ elim (put_from (column r 1) u start.parents (sym (ap (λ s. set.contains s u) p.2.1.1) ∙ here)) [ inl it ↦ inr (r, inl refl, it) | inr old ↦ inl old ]
+  | inr later ↦ inr (later.0, inr later.1, later.2)
+]
+
+parents_stay : (start : ShelfRows) (rows : List Row) (end : ShelfRows) → Pass ShelfFits ShelfKeeps start rows end → (u : List ℕ) → set.contains start.parents u ≡ true → set.contains end.parents u ≡ true
+parents_stay start [] end p u h = ap (λ (x : ShelfRows). set.contains x.parents u) p ∙ h
+parents_stay start (r ∷ rows) end p u h = parents_stay p.1 rows end p.3 u (ap (λ s. set.contains s u) p.2.1.1 ∙ put_stays (column r 1) u start.parents h)
+
+parents_noted : (start : ShelfRows) (rows : List Row) (end : ShelfRows) → Pass ShelfFits ShelfKeeps start rows end → (u : List ℕ) (r : Row) → Has rows r → column r 1 ≡ Text u → set.contains end.parents u ≡ true
+parents_noted start [] end p u r there is = absurd there
+parents_noted start (x ∷ rows) end p u r (inl same) is =
+    let at : column x 1 ≡ Text u = ap (λ y. column y 1) (sym same) ∙ is in
+    let put : set.contains (Fit.parent_put (column x 1) start.parents) u ≡ true = rw at (text_put start.parents u) in
+    parents_stay p.1 rows end p.3 u (ap (λ s. set.contains s u) p.2.1.1 ∙ put)
+parents_noted start (x ∷ rows) end p u r (inr later) is = parents_noted p.1 rows end p.3 u r later is
+
+-- tests of all of a list
+
+all_at : {A : Type 0} (f : A → Bool) (xs : List A) → list_all f xs ≡ true → (x : A) → Contains xs x → f x ≡ true
+all_at f [] all x at = absurd (no_member x at)
+all_at f (y ∷ xs) all x at =
+    let both = and_parts (f y) (list_all f xs) all in
+    elim (member_cases y x xs at) [ inl same ↦ subst (λ z. f z ≡ true) same both.0 | inr later ↦ all_at f xs both.1 x later ]
+
+all_of : {A : Type 0} (f : A → Bool) (xs : List A) → ((x : A) → Contains xs x → f x ≡ true) → list_all f xs ≡ true
+all_of f [] each = refl
+all_of f (y ∷ xs) each = and_from (f y) (list_all f xs) (each y (first_member y xs)) (all_of f xs (λ x at. each x (later_member y x xs at)))
+
+module _ (db : Database) (start end : ShelfRows) (new : (u : List ℕ) → set.contains start.tops u ≡ true → ⊥) (none : (u : List ℕ) → set.contains start.parents u ≡ true → ⊥) where
+  shelves_pass : (rows : List Row) → IsPermutation (map Fit.shelf_shown (db.trees 2)) rows → InOrder rows → Pass ShelfFits ShelfKeeps start rows end
+      → Decides (Fit.are_whole end.tops end.parents) (Fit.AreShelvesFit (map Fit.shelf_shown (db.trees 2)))
+  shelves_pass rows same sorted p =
+      let back = λ (r : Row) (there : Has (map Fit.shelf_shown (db.trees 2)) r). has_permuted rows _ r (IsPermutation-sym _ _ same) there in
+      let top : (u : List ℕ) → set.contains end.tops u ≡ true → Fit.HasTop (map Fit.shelf_shown (db.trees 2)) u = λ u h. elim (tops_from start rows end p u h) [
+        | inl old ↦ absurd (new u old)
+        | inr it ↦ (it.0, has_permuted _ rows it.0 same it.1, it.2, it.3)
+      ] in
+      let topped : (u : List ℕ) → Fit.HasTop (map Fit.shelf_shown (db.trees 2)) u → set.contains end.tops u ≡ true = λ u it. tops_noted start rows end p u it.0 (back it.0 it.1) it.2 it.3 in (
+        λ whole.
+            let both = and_parts (set.contains end.tops common) _ whole in
+            record {
+              shelves = once_true texts_total texts_exact Fit.IsShelfRow Fit.key_in (λ (x : ShelfRows). x.last) shelf_names_in_order start end rows _ same sorted (shelf_last start rows end p);
+              has_common = top common both.0;
+              parents = λ row u there is.
+                  let noted = parents_noted start rows end p u row (back row there) is in
+                  top u (all_at (λ t. set.contains end.tops t) (in_order end.parents) both.1 u (in_order_of texts_total texts_exact end.parents u noted));
+            },
+        λ fit. and_from _ _ (topped common fit.has_common) (all_of (λ t. set.contains end.tops t) (in_order end.parents) (λ u at.
+            elim (parents_from start rows end p u (in_set_of texts_total texts_exact end.parents u at)) [
+              | inl old ↦ absurd (none u old)
+              | inr it ↦ topped u (fit.parents it.0 u (has_permuted _ rows it.0 same it.1) it.2)
+            ])),
+      )
+
+  pub shelves_true : Walks ShelfFits ShelfKeeps shelf_rows_text db start end true → Decides (Fit.are_whole end.tops end.parents) (Fit.AreShelvesFit (map Fit.shelf_shown (db.trees 2)))
+  shelves_true w =
+      let it = all_listed shelf_rows_text _ _ _ _ shelf_rows_is db w.0 w.1 in
+      shelves_pass w.0 (shelves_listed db.trees w.0 it) (shelves_in_order db.trees w.0 it) w.2
+
+  pub shelves_false : start.last ≡ None → Walks ShelfFits ShelfKeeps shelf_rows_text db start end false → Fit.AreShelvesFit (map Fit.shelf_shown (db.trees 2)) → ⊥
+  shelves_false fresh w fit =
+      let first = first_listed shelf_rows_text _ _ _ _ shelf_rows_is db (w.0 ++ w.1 ∷ []) w.3 in
+      once_false texts_total texts_exact Fit.IsShelfRow Fit.key_in (λ (x : ShelfRows). x.last) shelf_names_in_order start w.2 fresh w.0 w.1 first.0 _ (shelves_listed db.trees _ first.1) (shelf_last start w.0 w.2 w.4) w.5 fit.shelves
 
 -- ---- version
 

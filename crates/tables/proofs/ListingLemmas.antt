@@ -21,7 +21,7 @@ use Rattle.sqlite_trees.proofs.ListLemmas.{map-map}
 use Rattle.sqlite_rules.specs.Lists.{Has}
 use Rattle.sqlite_rules.proofs.ProbeLemmas.{has_mapped}
 use Rattle.tables.specs.Schema.{store_schema}
-use Rattle.tables.specs.Fit.{meta_shown, name_shown, number_shown, entry_shown, piece_shown}
+use Rattle.tables.specs.Fit.{shelf_shown, meta_shown, name_shown, number_shown, entry_shown, piece_shown}
 use Rattle.tables.proofs.Texts.{meta_rows_text, shelf_rows_text, key_rows_text, number_rows_text, entry_rows_text, piece_rows_text}
 use Rattle.tables.proofs.Ascending.{has_permuted, Adjacent, adjacent_map, adjacent_among, sorted_adjacent}
 
@@ -65,7 +65,16 @@ pub meta_rows_tables : reads_listing store_schema meta_rows_text ≡ false
 unfolding understood everything
 meta_rows_tables = refl
 
-pub shelf_rows_is : command_of (understood store_schema shelf_rows_text) ≡ Select (record { lets = []; body = listing (inner 2 end) (col 1 1 ∷ []) [] }) (codes "name" ∷ [])
+abbrev pub shelf_columns : List Term
+shelf_columns = col 1 1 ∷ col 1 2 ∷ []
+
+abbrev pub shelf_names : List (List ℕ)
+shelf_names = codes "name" ∷ codes "parent" ∷ []
+
+abbrev pub by_name : List (Term × Key)
+by_name = (col 1 1, ascending Binary) ∷ []
+
+pub shelf_rows_is : command_of (understood store_schema shelf_rows_text) ≡ Select (record { lets = []; body = listing (inner 2 end) shelf_columns by_name }) shelf_names
 unfolding understood everything
 shelf_rows_is = refl
 
@@ -197,8 +206,11 @@ listed_in_order q db out it key told =
 pub meta_listed : (db : Trees) (out : List Row) → IsListing (listing (inner 0 end) (col 1 1 ∷ col 1 2 ∷ []) []) (overlay db []) out → IsPermutation (map meta_shown (db 0)) out
 meta_listed db out it = subst (λ l. IsPermutation l out) (of_table 0 (col 1 1 ∷ col 1 2 ∷ []) (overlay db [])) (listed_rows (inner 0 end) (col 1 1 ∷ col 1 2 ∷ []) [] (overlay db []) out it)
 
-pub shelves_listed : (db : Trees) (out : List Row) → IsListing (listing (inner 2 end) (col 1 1 ∷ []) []) (overlay db []) out → IsPermutation (map name_shown (db 2)) out
-shelves_listed db out it = subst (λ l. IsPermutation l out) (of_table 2 (col 1 1 ∷ []) (overlay db [])) (listed_rows (inner 2 end) (col 1 1 ∷ []) [] (overlay db []) out it)
+abbrev pub ShelvesListed : Trees → List Row → Type 0
+ShelvesListed db out = IsListing (listing (inner 2 end) shelf_columns by_name) (overlay db []) out
+
+pub shelves_listed : (db : Trees) (out : List Row) → ShelvesListed db out → IsPermutation (map shelf_shown (db 2)) out
+shelves_listed db out it = subst (λ l. IsPermutation l out) (of_table 2 shelf_columns (overlay db [])) (listed_rows (inner 2 end) shelf_columns by_name (overlay db []) out it)
 
 abbrev pub KeysListed : Trees → List Row → Type 0
 KeysListed db out = IsListing (listing (inner 4 end) (col 1 1 ∷ []) by_token) (overlay db []) out
@@ -229,6 +241,9 @@ abbrev pub InOrder : List Row → Type 0
 InOrder = Adjacent (λ a b. is_lt (key_cmp 0 (ascending Binary ∷ []) (column b 0 ∷ []) (column a 0 ∷ [])) ≡ false)
 
 -- the keys come in their order
+pub shelves_in_order : (db : Trees) (out : List Row) → ShelvesListed db out → InOrder out
+shelves_in_order db out it = listed_in_order (listing (inner 2 end) shelf_columns by_name) (overlay db []) out it (λ row. column row 0 ∷ []) (λ env. refl)
+
 pub keys_in_order : (db : Trees) (out : List Row) → KeysListed db out → InOrder out
 keys_in_order db out it = listed_in_order (listing (inner 4 end) (col 1 1 ∷ []) by_token) (overlay db []) out it (λ row. column row 0 ∷ []) (λ env. refl)
 

@@ -24,7 +24,8 @@ use lib.Ieee.{is_nan}
 use Rattle.sqlite.specs.Edit.{put_all}
 use Rattle.sqlite_trees.specs.Sound.{fits_kind, begins, same_name, is_free_name}
 use Rattle.sqlite_value.specs.Order.{value_cmp, number, bytes}
-use Rattle.sqlite_value.specs.Keys.{first_key}
+use Rattle.sqlite_schema.specs.Names.{same_name as names_same}
+use Rattle.sqlite_value.specs.Keys.{joined as key_joined, first_key}
 use Rattle.sqlite_catalog.specs.Listing.{is_fit}
 use Rattle.sqlite.specs.declared.types.Value.TheVariants.{Text}
 use Rattle.sqlite.specs.Listing.{understood}
@@ -212,6 +213,10 @@ meta_fine db a b e NoRowid h = true≢false h
 meta_fine db a b e BadReference h = true≢false h
 meta_fine db a b e TooDeep h = h
 
+common_referred : (db : Trees) → IsRefused store_schema Enforced db (record { table = shelf_table; gone = []; news = common_row ∷ [] }) BadReference → ⊥
+unfolding names_same key_joined first_key
+common_referred db h = true≢false h
+
 common_fine : (db : Trees) → db 0 ≡ meta_row ∷ [] → db 2 ≡ [] → AreEmpty db → (why : Refusal) → IsRefused store_schema Enforced db (record { table = shelf_table; gone = []; news = common_row ∷ [] }) why → ⊥
 common_fine db a b e (Violates Datatype) h = true≢false h
 common_fine db a b e (Violates NotNull) h = true≢false h
@@ -221,7 +226,7 @@ common_fine db a b e (Violates Unique) h = h (rw b (common_unique db a e))
 common_fine db a b e (Violates ForeignKey) h = h
 common_fine db a b e Mismatch h = true≢false h
 common_fine db a b e NoRowid h = true≢false h
-common_fine db a b e BadReference h = true≢false h
+common_fine db a b e BadReference h = common_referred db h
 common_fine db a b e TooDeep h = h
 
 meta_fits : IsOversized store_schema meta_table meta_row → ⊥
@@ -236,7 +241,7 @@ meta_fits (inr (i, inr (inr (inr (inr (inr none)))), of, big)) = none
 
 common_fits : IsOversized store_schema shelf_table common_row → ⊥
 unfolding is_nan
-common_fits (inl big) = big (storable_pair _ _ tt tt (lit≤ tt), lit< tt)
+common_fits (inl big) = big (storable _ _ _ tt tt tt (lit≤ tt), lit< tt)
 common_fits (inr (i, inl is, of, big)) = let e : 0 ≡ 2 = ap (λ (x : Index). x.table) (sym is) ∙ of in omega (arith, e)
 common_fits (inr (i, inr (inl is), of, big)) = big (subst (λ (x : Index). IsStorable (index_reals 0 x.columns) (entry_of x.columns common_row)) (sym is) (storable_pair _ _ tt tt (lit≤ tt)))
 common_fits (inr (i, inr (inr (inl is)), of, big)) = let e : 4 ≡ 2 = ap (λ (x : Index). x.table) (sym is) ∙ of in omega (arith, e)
@@ -244,19 +249,22 @@ common_fits (inr (i, inr (inr (inr (inl is))), of, big)) = let e : 6 ≡ 2 = ap 
 common_fits (inr (i, inr (inr (inr (inr (inl is)))), of, big)) = let e : 8 ≡ 2 = ap (λ (x : Index). x.table) (sym is) ∙ of in omega (arith, e)
 common_fits (inr (i, inr (inr (inr (inr (inr none)))), of, big)) = none
 
--- no row refers to another yet
-none_refer : (after : Trees) (rows names : List Row) → after 0 ≡ rows → after 2 ≡ names → AreEmpty after → Refers All store_schema after
-none_refer after rows names a b e = rw (e.access, e.version, e.piece) (each_whole (after 0), (each_whole (after 2), (tt, (tt, (tt, tt)))))
-  where
-    each_whole : (rows : List Row) → AllByRecursion (λ row. true ≡ true) rows
-    each_whole [] = tt
-    each_whole (r ∷ rows) = (refl, each_whole rows)
+-- no row refers to another yet: the row of common has no parent
+each_whole : (rows : List Row) → AllByRecursion (λ row. true ≡ true) rows
+each_whole [] = tt
+each_whole (r ∷ rows) = (refl, each_whole rows)
+
+none_refer : (after : Trees) → after 2 ≡ [] → AreEmpty after → Refers All store_schema after
+none_refer after b e = rw (b, e.access, e.version, e.piece) (each_whole (after 0), (tt, (tt, (tt, (tt, tt)))))
+
+common_refers : (after : Trees) → after 2 ≡ common_row ∷ [] → AreEmpty after → Refers All store_schema after
+common_refers after b e = rw (b, e.access, e.version, e.piece) (each_whole (after 0), ((refl, tt), (tt, (tt, (tt, tt)))))
 
 pub puts_meta : (db : Trees) → db 0 ≡ [] → db 2 ≡ [] → AreEmpty db → IsPuttable meta_table db meta_row
 puts_meta db a b e = record {
   fine = meta_fine db a b e;
   fits = meta_fits;
-  refers = λ after put. none_refer after _ _ refl refl (record {
+  refers = λ after put. none_refer after (put.tables.1.0 (λ x. omega (arith, x)) ∙ b) (record {
     access = put.tables.1.1.0 (λ x. omega (arith, x)) ∙ e.access;
     version = put.tables.1.1.1.0 (λ x. omega (arith, x)) ∙ e.version;
     piece = put.tables.1.1.1.1.0 (λ x. omega (arith, x)) ∙ e.piece;
@@ -267,7 +275,7 @@ pub puts_common : (db : Trees) → db 0 ≡ meta_row ∷ [] → db 2 ≡ [] → 
 puts_common db a b e = record {
   fine = common_fine db a b e;
   fits = common_fits;
-  refers = λ after put. none_refer after _ _ refl refl (record {
+  refers = λ after put. common_refers after (rw b at put.rows) (record {
     access = put.tables.1.1.0 (λ x. omega (arith, x)) ∙ e.access;
     version = put.tables.1.1.1.0 (λ x. omega (arith, x)) ∙ e.version;
     piece = put.tables.1.1.1.1.0 (λ x. omega (arith, x)) ∙ e.piece;

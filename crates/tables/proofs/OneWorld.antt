@@ -2,7 +2,6 @@
 use Rattle.std.proofs.Common.{◌≡◌, ℕ, Bool, true, false, pos, cond, List, length, filter, Option, Some, None, refl, sym, ap, subst, ◌∙◌, IsTrue, nat_lt, ltb-true, ltb-false}
 use Rattle.std.specs.declared.cmp.Ordering.{Ordering}
 use Rattle.std.specs.FinMap as map
-use Rattle.std.specs.FinSet as set
 use Rattle.sqlite.specs.declared.types.Value.{Value}
 use Rattle.sqlite.specs.declared.types.Value.TheVariants.{Int, Text, Blob}
 use Rattle.sqlite.specs.Order.{Row, column}
@@ -87,15 +86,18 @@ one_version pieces row x y one two =
     let time : y.1.time ≡ x.1.time = time_told (column row 5) y.1.time two.time ∙ sym (time_told (column row 5) x.1.time one.time) in
     λ i. (place i, record { gomod = gomod i; zip = zip i; time = time i })
 
-one_shelf : (row : Row) (x y : List ℕ) → IsShelf row x → IsShelf row y → y ≡ x
-one_shelf row = texts_same (column row 1)
+one_shelf : (row : Row) (x y : List ℕ × Option (List ℕ)) → IsShelf row x → IsShelf row y → y ≡ x
+one_shelf row x y one two =
+    let name = texts_same (column row 1) x.0 y.0 one.0 two.0 in
+    let parent : y.1 ≡ x.1 = time_told (column row 2) y.1 two.1 ∙ sym (time_told (column row 2) x.1 one.1) in
+    λ i. (name i, parent i)
 
 pub stand_for_one : StandForOne
 stand_for_one db w x one two =
     let keys = map.same_map texts_total texts_exact w.keys x.keys (λ k. same_got w.keys x.keys k (λ h. carried IsAccess (db 4) (λ it. map.get w.keys it.0 ≡ Some it.1) (λ it. map.get x.keys it.0 ≡ Some it.1) one_access one.access two.access (k, h))
     (λ h. carried IsAccess (db 4) (λ it. map.get x.keys it.0 ≡ Some it.1) (λ it. map.get w.keys it.0 ≡ Some it.1) one_access two.access one.access (k, h))) in
-    let shelves = set.same_set texts_total texts_exact w.shelves x.shelves (λ s. same_test _ _ (carried IsShelf (db 2) (λ s. IsTrue (set.contains w.shelves s)) (λ s. IsTrue (set.contains x.shelves s)) one_shelf one.shelves two.shelves s)
-    (carried IsShelf (db 2) (λ s. IsTrue (set.contains x.shelves s)) (λ s. IsTrue (set.contains w.shelves s)) one_shelf two.shelves one.shelves s)) in
+    let shelves = map.same_map texts_total texts_exact w.shelves x.shelves (λ s. same_got w.shelves x.shelves s (λ o. carried IsShelf (db 2) (λ it. map.get w.shelves it.0 ≡ Some it.1) (λ it. map.get x.shelves it.0 ≡ Some it.1) one_shelf one.shelves two.shelves (s, o))
+    (λ o. carried IsShelf (db 2) (λ it. map.get x.shelves it.0 ≡ Some it.1) (λ it. map.get w.shelves it.0 ≡ Some it.1) one_shelf two.shelves one.shelves (s, o))) in
     let entries = map.same_map places_total places_exact w.entries x.entries
     (λ q. same_got w.entries x.entries q (λ e. carried (IsVersion (db 8)) (db 6) (λ it. map.get w.entries it.0 ≡ Some it.1) (λ it. map.get x.entries it.0 ≡ Some it.1) (one_version (db 8)) one.entries two.entries (q, e))
     (λ e. carried (IsVersion (db 8)) (db 6) (λ it. map.get x.entries it.0 ≡ Some it.1) (λ it. map.get w.entries it.0 ≡ Some it.1) (one_version (db 8)) two.entries one.entries (q, e))) in

@@ -1,5 +1,5 @@
 -- What a row that fits has in its columns.
-use Rattle.std.proofs.Common.{◌≡◌, Bool, false, true≢false, List, [], ℕ, Option, Some, None, Ok, Err, Result, IfOk, IfSome, Decides, sym, ap, subst, subst₂, ◌∙◌}
+use Rattle.std.proofs.Common.{◌≡◌, Bool, false, true≢false, List, [], ℕ, Option, Some, None, Ok, Err, Result, IfOk, IfSome, Decides, sym, ap, subst, subst₂, ◌∙◌, inr}
 use Rattle.std.specs.Str.{IsUtf8}
 use Rattle.sqlite.specs.declared.types.Value.{Value}
 use Rattle.sqlite.specs.declared.types.Value.TheVariants.{Null, Int, Real, Text, Blob}
@@ -10,7 +10,7 @@ use Rattle.world.specs.declared.entry.Place.{Place}
 use Rattle.world.specs.declared.entry.Entry.{Entry}
 use Rattle.world.specs.EntryTest.{fitting_version}
 use Rattle.world.specs.World.{place, IsEntry}
-use Rattle.tables.specs.Fit.{IsShelfRow, IsKeyRow, IsEntryRow, ShowsAt, ShowsFiles, ShowsKeys, text_in, place_in}
+use Rattle.tables.specs.Fit.{IsNamed, IsShelfRow, IsKeyRow, IsEntryRow, ShowsAt, ShowsFiles, ShowsKeys, text_in, place_in}
 use Rattle.modver.specs.Keys.{order_key_of, rank_key_of}
 use Rattle.modver.specs.SemanticVersion.{SemanticVersion}
 use Rattle.modver.specs.Time.{IsTime}
@@ -21,8 +21,16 @@ use Rattle.tables.proofs.AsciiLemmas.{shelf_utf8, key_utf8, path_utf8, version_u
 abbrev pub HasNoText : Row → ℕ → Type 0
 HasNoText row at = (t : List ℕ) → column row at ≡ Text t → IsUtf8 t → ⊥
 
+-- a name of a shelf is text, and so is its parent's
+pub named_utf8 : (name : List ℕ) (parent : Option (List ℕ)) → IsNamed name parent → IsUtf8 name × IfSome parent IsUtf8
+named_utf8 name None named = (shelf_utf8 name named, tt)
+named_utf8 name (Some parent) named = (shelf_utf8 name (inr named.0), shelf_utf8 parent named.1)
+
 pub no_shelf : (row : Row) → HasNoText row 0 → IsShelfRow row → ⊥
-no_shelf row none fits = none fits.0 fits.1 (shelf_utf8 fits.0 fits.2)
+no_shelf row none fits = none fits.0 fits.2 (named_utf8 fits.0 fits.1 fits.4).0
+
+pub no_parent : (row : Row) → ((t : Option (List ℕ)) → column row 1 ≡ or_null Text t → IfSome t IsUtf8 → ⊥) → IsShelfRow row → ⊥
+no_parent row none fits = none fits.1 fits.3 (named_utf8 fits.0 fits.1 fits.4).1
 
 pub no_key : (row : Row) → HasNoText row 0 → IsKeyRow row → ⊥
 no_key row none fits = none fits.0 fits.1 (key_utf8 fits.0 fits.2)
@@ -51,6 +59,14 @@ time_in (Blob b) = None
 pub time_told : (v : Value) (time : Option (List ℕ)) → v ≡ or_null Text time → time ≡ time_in v
 time_told v None is = ap time_in (sym is)
 time_told v (Some t) is = ap time_in (sym is)
+
+-- what a row shows of a shelf it shows of one
+text_one : (v : Value) (s t : List ℕ) → v ≡ Text s → v ≡ Text t → s ≡ t
+text_one v s t one two = let e = sym one ∙ two in cc
+
+pub shelf_one : (row : Row) (name : List ℕ) (parent : Option (List ℕ)) → column row 0 ≡ Text name → column row 1 ≡ or_null Text parent → IsShelfRow row → IsNamed name parent
+shelf_one row name parent first second fits =
+    subst₂ IsNamed (text_one (column row 0) fits.0 name fits.2 first) (time_told (column row 1) fits.1 fits.3 ∙ sym (time_told (column row 1) parent second)) fits.4
 
 pub same_entry : (row : Row) (d e : Entry) → ShowsFiles row d → ShowsFiles row e → d ≡ e
 same_entry row d e one two =

@@ -5,7 +5,7 @@ abbrev pub meta_rows_text : List ℕ
 meta_rows_text = codes "SELECT name, value FROM meta"
 
 abbrev pub shelf_rows_text : List ℕ
-shelf_rows_text = codes "SELECT name FROM shelf"
+shelf_rows_text = codes "SELECT name, parent FROM shelf ORDER BY name"
 
 abbrev pub key_rows_text : List ℕ
 key_rows_text = codes "SELECT token FROM access ORDER BY token"

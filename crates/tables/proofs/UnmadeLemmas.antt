@@ -26,7 +26,7 @@ module _ {S : Type 0} (g : Ghosts S) (start new : Held S) (e : Error) where
       → RunInTurn g (Some 0) (suc most) text7 mid new (Err e) → Fault
   last_step mid most way inside has a b empty run = elim (turn_or_stop g mid new e text7 first7 [] (lit< tt) cut7.0 cut7.1 inside store_schema has _ put7.0 tt most run) [
     | inl stop ↦ excused_since (state g start) (state g mid) (state g new) e way (
-        put_excused first7 1 shelf_table refl refl (lit Null ∷ lit (Text (codes "common")) ∷ []) 2 (Null ∷ Text (codes "common") ∷ []) refl (λ _. refl) (λ limit db x r. elim r [ inl (is, no') ↦ absurd (true≢false no') | inr (is, some) ↦ some ])
+        put_excused first7 1 shelf_table refl refl (lit Null ∷ lit (Text (codes "common")) ∷ lit Null ∷ []) 3 (Null ∷ Text (codes "common") ∷ Null ∷ []) refl (λ _. refl) (λ limit db x r. elim r [ inl (is, no') ↦ absurd (true≢false no') | inr (is, some) ↦ some ])
         put7.0 put7.1 alone7 (state g mid) (state g new) e has common_row (rw (b, cast_null) refl) (puts_common (state g mid).now.trees a b empty) stop)
     | inr (next, count, step, rest, within) ↦ (let d = rest.0 in absurd (cc))
   ]

@@ -35,7 +35,7 @@ use Rattle.tables.proofs.Ascending.{has_permuted}
 use Rattle.tables.proofs.FitTests.{at_place}
 use Rattle.tables.proofs.WalkLemmas.{unchanged_schema, some_walked}
 use Rattle.tables.proofs.CauseLemmas.{unrun, IsOnItsWay, excused_since, on_its_way}
-use Rattle.tables.proofs.ListingLemmas.{listing, listed_rows, first_listed, IsListing, of_table, entry_columns, entry_names, piece_columns, piece_names, by_token, by_number, by_place, by_piece, meta_rows_is, shelf_rows_is, key_rows_is, number_rows_is, entry_rows_is, piece_rows_is}
+use Rattle.tables.proofs.ListingLemmas.{listing, listed_rows, first_listed, IsListing, of_table, shelf_columns, shelf_names, by_name, entry_columns, entry_names, piece_columns, piece_names, by_token, by_number, by_place, by_piece, meta_rows_is, shelf_rows_is, key_rows_is, number_rows_is, entry_rows_is, piece_rows_is}
 
 -- ---- one query
 
@@ -130,7 +130,7 @@ meta_walkable = is_walkable meta_rows_text (inner 0 end) (col 1 1 ∷ col 1 2 �
 pub meta_vast : (db : Database) → db.schema ≡ store_schema → ShowsTooMany meta_rows_text db → IsVast db
 meta_vast db has h = record { schema = has; table = meta_table; listed = inl refl; rows = many_rows meta_rows_text 0 (col 1 1 ∷ col 1 2 ∷ []) [] (codes "name" ∷ codes "value" ∷ []) meta_rows_is db refl h }
 
-shelf_typed : (db : Database) → db.schema ≡ store_schema → RefusesQuery None db (record { lets = []; body = listing (inner 2 end) (col 1 1 ∷ []) [] }) [] (SqliteFailure TypeMismatch) → ⊥
+shelf_typed : (db : Database) → db.schema ≡ store_schema → RefusesQuery None db (record { lets = []; body = listing (inner 2 end) shelf_columns by_name }) [] (SqliteFailure TypeMismatch) → ⊥
 unfolding understood everything
 shelf_typed db has h = elim h [ inl (same, wrong) ↦ true≢false (rw has at wrong) | inr (inl (other, over)) ↦ absurd (cc) | inr (inr (other, some)) ↦ true≢false (sym some) ]
 
@@ -138,11 +138,11 @@ shelf_alone : IsAlone shelf_rows_text (understood store_schema shelf_rows_text)
 unfolding understood everything
 shelf_alone = (lit≤ tt, refl)
 
-pub shelf_walkable : IsWalkable shelf_rows_text 1
-shelf_walkable = is_walkable shelf_rows_text (inner 2 end) (col 1 1 ∷ []) [] (codes "name" ∷ []) shelf_rows_is refl shelf_typed shelf_alone
+pub shelf_walkable : IsWalkable shelf_rows_text 2
+shelf_walkable = is_walkable shelf_rows_text (inner 2 end) shelf_columns by_name shelf_names shelf_rows_is refl shelf_typed shelf_alone
 
 pub shelf_vast : (db : Database) → db.schema ≡ store_schema → ShowsTooMany shelf_rows_text db → IsVast db
-shelf_vast db has h = record { schema = has; table = shelf_table; listed = inr (inl refl); rows = many_rows shelf_rows_text 2 (col 1 1 ∷ []) [] (codes "name" ∷ []) shelf_rows_is db refl h }
+shelf_vast db has h = record { schema = has; table = shelf_table; listed = inr (inl refl); rows = many_rows shelf_rows_text 2 shelf_columns by_name shelf_names shelf_rows_is db refl h }
 
 key_typed : (db : Database) → db.schema ≡ store_schema → RefusesQuery None db (record { lets = []; body = listing (inner 4 end) (col 1 1 ∷ []) by_token }) [] (SqliteFailure TypeMismatch) → ⊥
 unfolding understood everything

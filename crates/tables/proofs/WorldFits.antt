@@ -1,5 +1,6 @@
 -- Rows that stand for a world fit.
-use Rattle.std.proofs.Common.{◌≡◌, ◌≤◌, ◌+◌, ◌==◌, ℕ, ℤ, pos, true, List, [], ◌∷◌, length, map as mapped, filter, inl, inr, refl, sym, ap, subst, ◌∙◌, arith, eq-eqb}
+use Rattle.std.proofs.Common.{◌≡◌, ◌≤◌, ◌+◌, ◌==◌, ℕ, ℤ, pos, true, Option, Some, None, is_some, List, [], ◌∷◌, length, map as mapped, filter, inl, inr, refl, sym, ap, subst, ◌∙◌, arith, eq-eqb}
+use Rattle.std.specs.FinMap as map
 use Rattle.sqlite.specs.declared.types.Value.TheVariants.{Int, Text}
 use Rattle.sqlite.specs.Order.{Row, column}
 use Rattle.sqlite.specs.Tree.{Trees}
@@ -14,11 +15,12 @@ use Rattle.world.proofs.Orders.{text_self}
 use Rattle.tables.specs.Schema.{store_schema}
 use Rattle.tables.specs.Pieces.{piece_size, piece, HasPiece}
 use Rattle.tables.specs.Means.{Means, IsMeta, IsAt, IsPiece, ArePieces, is_of, schema_named}
-use Rattle.tables.specs.Fit.{text_in, int_in, nat_in, blob_in, key_in, number_in, place_in, piece_in, piece_key, full_piece, is_on, is_common, entry_shown, piece_shown, meta_shown, name_shown, number_shown}
-use Rattle.tables.specs.Fit.{IsSchemaRow, IsShelfRow, IsKeyRow, IsNumberRow, IsEntryRow, IsPieceRow, IsMetaFit, AreShelvesFit, AreKeysFit, AreNumbersFit, AreEntriesFit, ArePiecesFit, AreFit}
+use Rattle.tables.specs.Fit.{text_in, int_in, nat_in, blob_in, key_in, number_in, place_in, piece_in, piece_key, full_piece, is_on, entry_shown, piece_shown, meta_shown, shelf_shown, name_shown, number_shown}
+use Rattle.tables.specs.Fit.{IsSchemaRow, IsNamed, HasTop, IsShelfRow, IsKeyRow, IsNumberRow, IsEntryRow, IsPieceRow, IsMetaFit, AreShelvesFit, AreKeysFit, AreNumbersFit, AreEntriesFit, ArePiecesFit, AreFit}
 use Rattle.tables.proofs.AsciiLemmas.{shelf_utf8}
 use Rattle.tables.proofs.CountedRows.{all_counted}
 use Rattle.tables.proofs.EntryTests.{with_zip}
+use Rattle.tables.proofs.RowFits.{time_in, time_told}
 use Rattle.tables.proofs.PieceLemmas.{piece_some, piece_most, piece_full, piece_before}
 use Rattle.tables.proofs.SoundLemmas.{piece_number, piece_version, one_version}
 use Rattle.tables.proofs.WorldOf.{length_mapped, held_text}
@@ -42,10 +44,36 @@ module _ (db : Trees) (w : World) (sound : IsSound store_schema db) (means : Mea
     some = let it = means.named.found schema_named refl in (meta_shown it.0, mapped_has meta_shown (db 0) it.0 it.1);
   }
 
-  shelves_fit : AreShelvesFit (mapped name_shown (db 2))
+  named : (name : List ℕ) (parent : Option (List ℕ)) → map.get w.shelves name ≡ Some parent → IsNamed name parent
+  named name None at = is.team_names name (ap is_some at)
+  named name (Some parent) at = (
+    elim (is.team_names name (ap is_some at)) [
+      | inl same ↦ let never : ◌≡◌ {A = Option (Option (List ℕ))} (Some None) (Some (Some parent)) = sym is.has_common ∙ (ap (map.get w.shelves) (sym same) ∙ at) in absurd (cc)
+      | inr team ↦ team
+    ],
+    is.team_names parent (ap is_some (is.parents name parent at)),
+  )
+
+  -- the row of a shelf without a parent
+  top_row : (name : List ℕ) → map.get w.shelves name ≡ Some None → HasTop (mapped shelf_shown (db 2)) name
+  top_row name at = let it = means.shelves.found (name, None) at in (shelf_shown it.0, mapped_has shelf_shown (db 2) it.0 it.1, it.2.0, it.2.1)
+
+  shelf_key : (row : Row) → Has (db 2) row → column row 1 ≡ Text (key_in (shelf_shown row))
+  shelf_key row there = let it = means.shelves.each row there in held_text (column row 1) it.0.0 it.1.0
+
+  shelves_fit : AreShelvesFit (mapped shelf_shown (db 2))
   shelves_fit = record {
-    each = each_shown IsShelfRow name_shown (db 2) (λ row there. let it = means.shelves.each row there in (it.0, it.1, is.team_names it.0 it.2));
-    has_common = let it = means.shelves.found common is.has_common in (name_shown it.0, mapped_has name_shown (db 2) it.0 it.1, ap is_common it.2 ∙ text_self common);
+    shelves = record {
+      each = each_shown IsShelfRow shelf_shown (db 2) (λ row there. let it = means.shelves.each row there in (it.0.0, it.0.1, it.1.0, it.1.1, named it.0.0 it.0.1 it.2));
+      once = ascending_shown _ (λ a b. key_in a ≡ key_in b → ⊥) shelf_shown (db 2) (λ a b here there apart same. apart (key_in (shelf_shown b)) (shelf_key a here ∙ ap Text same) (shelf_key b there)) means.names;
+    };
+    has_common = top_row common is.has_common;
+    parents = λ row parent there shown.
+        let from = has_mapped shelf_shown (db 2) row there in
+        let it = means.shelves.each from.0 from.1 in
+        let own : column from.0 2 ≡ Text parent = ap (λ (r : Row). column r 1) (sym from.2) ∙ shown in
+        let same : it.0.1 ≡ Some parent = time_told (column from.0 2) it.0.1 it.1.1 ∙ ap time_in own in
+        top_row parent (is.parents it.0.0 parent (it.2 ∙ ap Some same));
   }
 
   own_key : (row : Row) → Has (db 4) row → column row 1 ≡ Text (key_in (name_shown row))

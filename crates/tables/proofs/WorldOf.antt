@@ -1,9 +1,6 @@
 -- Rows that fit stand for a world.
-use Rattle.std.proofs.Common.{◌≡◌, ◌≤◌, ◌==◌, ◌⊎◌, ℕ, suc, pos, negsuc, Bool, true, false, cond, List, [], ◌∷◌, length, map as mapped, filter, refl, sym, ap, subst, subst₂, ◌∙◌, arith}
-use Rattle.std.specs.Ordering.{is_eq, eq_by_cmp}
-use Rattle.std.specs.Cmp.{tied_itself}
-use Rattle.std.specs.FinSet as set
-use Rattle.std.proofs.lemmas.Map.Views.{tells_apart}
+use Rattle.std.proofs.Common.{◌≡◌, ◌≤◌, ◌==◌, ◌⊎◌, ℕ, suc, pos, negsuc, Bool, true, false, true≢false, cond, Option, Some, None, is_some, inr, List, [], ◌∷◌, length, map as mapped, filter, refl, sym, ap, subst, subst₂, ◌∙◌, arith}
+use Rattle.std.specs.FinMap as map
 use Rattle.sqlite.specs.declared.types.Value.{Value}
 use Rattle.sqlite.specs.declared.types.Value.TheVariants.{Null, Int, Real, Text, Blob}
 use Rattle.sqlite.specs.Order.{Row, column}
@@ -13,7 +10,6 @@ use Rattle.sqlite_catalog.specs.Listing.{IsSound}
 use Rattle.sqlite_trees.specs.Tree.{IsAscending}
 use Rattle.sqlite_trees.proofs.ListLemmas.{ascending_weaker}
 use Rattle.sqlite_rules.specs.Lists.{Has}
-use Rattle.sqlite_rules.proofs.ListLemmas.{some_has, some_from}
 use Rattle.sqlite_rules.proofs.ProbeLemmas.{has_mapped, mapped_has}
 use Rattle.world.specs.declared.entry.Place.{Place}
 use Rattle.world.specs.declared.entry.Entry.{Entry}
@@ -24,8 +20,8 @@ use Rattle.world.specs.World.{World, IsWorld, IsEntry, common, count, text_cmp, 
 use Rattle.world.proofs.Orders.{texts_total, texts_exact, places_total, places_exact, text_same}
 use Rattle.tables.specs.Schema.{store_schema}
 use Rattle.tables.specs.Means.{may_publish}
-use Rattle.tables.specs.Means.{Means, IsMeta, IsAccess, IsNumbered, IsVersion, HasKeys, schema_named}
-use Rattle.tables.specs.Fit.{text_in, int_in, nat_in, blob_in, place_in, is_on, entry_shown, piece_shown, meta_shown, name_shown, number_shown, ShowsEntry, AreFit}
+use Rattle.tables.specs.Means.{Means, IsMeta, IsShelf, IsAccess, IsNumbered, IsVersion, HasKeys, schema_named}
+use Rattle.tables.specs.Fit.{text_in, int_in, nat_in, blob_in, place_in, is_on, entry_shown, piece_shown, meta_shown, shelf_shown, name_shown, number_shown, IsShelfName, IsNamed, IsShelfRow, HasTop, ShowsEntry, AreFit}
 use Rattle.tables.proofs.Ascending.{ascending_from_map, one_by_key}
 use Rattle.tables.proofs.EntryTests.{with_zip}
 use Rattle.tables.proofs.ZipOf.{zip_of, zip_pieces, zip_small}
@@ -69,6 +65,9 @@ flag_in v false is = ap is_one is
 abbrev shelf_of : Row → List ℕ
 shelf_of row = text_in (column row 1)
 
+abbrev parent_of : Row → Option (List ℕ)
+parent_of row = time_in (column row 2)
+
 abbrev token_of : Row → List ℕ
 token_of row = text_in (column row 1)
 
@@ -84,7 +83,7 @@ entry_of pieces row = record { gomod = blob_in (column row 6); zip = zip_of piec
 pub world_of : Trees → World
 world_of db = record {
   keys = made_of texts_total texts_exact token_of holder_of (db 4);
-  shelves = set.from_list (mapped shelf_of (db 2));
+  shelves = made_of texts_total texts_exact shelf_of parent_of (db 2);
   entries = made_of places_total places_exact place_of (entry_of (db 8)) (db 6);
 }
 
@@ -95,28 +94,44 @@ held_blob : (v : Value) (b : List ℕ) → v ≡ Blob b → v ≡ Blob (blob_in 
 held_blob v b is = is ∙ ap (λ x. Blob (blob_in x)) (sym is)
 
 module _ (db : Trees) (sound : IsSound store_schema db) (fit : AreFit db) where
-  abbrev names : List (List ℕ)
-  names = mapped shelf_of (db 2)
+  abbrev shelves_of : map.FinMap text_cmp (Option (List ℕ))
+  shelves_of = made_of texts_total texts_exact shelf_of parent_of (db 2)
 
   -- ---- shelves
 
-  shelf_named : (row : Row) → Has (db 2) row → (name : List ℕ) × (column row 1 ≡ Text name) × ((name ≡ common) ⊎ (is_team_name name ≡ true))
-  shelf_named row there = fit.shelves.each (name_shown row) (mapped_has name_shown (db 2) row there)
+  names_once : IsAscending (λ a b. shelf_of a ≡ shelf_of b → ⊥) (db 2)
+  names_once = ascending_from_map _ shelf_shown (db 2) fit.shelves.shelves.once
 
-  shelf_text : (row : Row) → Has (db 2) row → column row 1 ≡ Text (shelf_of row)
-  shelf_text row there = let it = shelf_named row there in held_text (column row 1) it.0 it.1
+  shelf_row : (row : Row) → Has (db 2) row → IsShelfRow (shelf_shown row)
+  shelf_row row there = fit.shelves.shelves.each (shelf_shown row) (mapped_has shelf_shown (db 2) row there)
 
-  has_name : (row : Row) → Has (db 2) row → set.contains (set.from_list {R = text_cmp} names) (shelf_of row) ≡ true
-  has_name row there = set.contains-from_list texts_total names (shelf_of row) ∙ some_from (eq_by_cmp text_cmp (shelf_of row)) names (shelf_of row) (mapped_has shelf_of (db 2) row there) (ap is_eq (tied_itself texts_total (shelf_of row)))
+  shelf_is : (row : Row) → Has (db 2) row → IsShelf row (shelf_of row, parent_of row)
+  shelf_is row there = let it = shelf_row row there in (held_text (column row 1) it.0 it.2, it.3 ∙ ap (or_null Text) (time_told (column row 2) it.1 it.3))
 
-  name_from : (s : List ℕ) → set.contains (set.from_list {R = text_cmp} names) s ≡ true → (row : Row) × Has (db 2) row × (s ≡ shelf_of row)
-  name_from s h =
-      let it = some_has (eq_by_cmp text_cmp s) names (sym (set.contains-from_list texts_total names s) ∙ h) in
-      let from = has_mapped shelf_of (db 2) it.0 it.1 in
-      (from.0, from.1, tells_apart texts_exact s it.0 it.2 ∙ from.2)
+  shelf_got : (row : Row) → Has (db 2) row → map.get shelves_of (shelf_of row) ≡ Some (parent_of row)
+  shelf_got row there = made_has texts_total texts_exact shelf_of parent_of (db 2) (one_by_key shelf_of (db 2) names_once) row there
 
-  shelf_stands : (t : List ℕ) → ((shelf : Row) × Has (db 2) shelf × (column shelf 1 ≡ Text t)) → set.contains (set.from_list {R = text_cmp} names) t ≡ true
-  shelf_stands t it = subst (λ s. set.contains (set.from_list {R = text_cmp} names) s ≡ true) (ap text_in it.2) (has_name it.0 it.1)
+  shelf_stands : (t : List ℕ) → ((shelf : Row) × Has (db 2) shelf × (column shelf 1 ≡ Text t)) → map.contains_key shelves_of t ≡ true
+  shelf_stands t it = subst (λ s. map.contains_key shelves_of s ≡ true) (ap text_in it.2) (ap is_some (shelf_got it.0 it.1))
+
+  good_name : (name : List ℕ) (parent : Option (List ℕ)) → IsNamed name parent → IsShelfName name
+  good_name name None named = named
+  good_name name (Some parent) named = inr named.0
+
+  name_good : (s : List ℕ) (o : Option (Option (List ℕ))) → map.get shelves_of s ≡ o → is_some o ≡ true → IsShelfName s
+  name_good s None at there = absurd (true≢false (sym there))
+  name_good s (Some parent) at there =
+      let it = made_from texts_total texts_exact shelf_of parent_of (db 2) s parent at in
+      let row = shelf_row it.0 it.1 in
+      subst IsShelfName (ap text_in (sym row.2) ∙ sym it.2) (good_name row.0 row.1 row.4)
+
+  -- a row without a parent is of a shelf without one
+  top_got : (t : List ℕ) → HasTop (mapped shelf_shown (db 2)) t → map.get shelves_of t ≡ Some None
+  top_got t top =
+      let from = has_mapped shelf_shown (db 2) top.0 top.1 in
+      let name : shelf_of from.0 ≡ t = ap (λ (row : Row). text_in (column row 0)) (sym from.2) ∙ ap text_in top.2 in
+      let none : parent_of from.0 ≡ None = ap (λ (row : Row). time_in (column row 1)) (sym from.2) ∙ ap time_in top.3 in
+      subst₂ (λ s o. map.get shelves_of s ≡ Some o) name none (shelf_got from.0 from.1)
 
   -- ---- keys
 
@@ -182,8 +197,11 @@ module _ (db : Trees) (sound : IsSound store_schema db) (fit : AreFit db) where
       found = λ x holds. let some = has_mapped meta_shown (db 0) fit.named.some.0 fit.named.some.1 in (some.0, some.1, subst (IsMeta some.0) (sym holds) (meta_is some.0 some.1));
     };
     shelves = record {
-      each = λ row there. (shelf_of row, shelf_text row there, has_name row there);
-      found = λ s holds. let it = name_from s holds in (it.0, it.1, shelf_text it.0 it.1 ∙ ap Text (sym it.2));
+      each = λ row there. ((shelf_of row, parent_of row), shelf_is row there, shelf_got row there);
+      found = λ x holds.
+          let it = made_from texts_total texts_exact shelf_of parent_of (db 2) x.0 x.1 holds in
+          let same : (shelf_of it.0, parent_of it.0) ≡ x = λ i. (sym it.2 i, sym it.3 i) in
+          (it.0, it.1, subst (IsShelf it.0) same (shelf_is it.0 it.1));
     };
     access = record {
       each = λ row there. ((token_of row, holder_of row), access_is row there, made_has texts_total texts_exact token_of holder_of (db 4) (one_by_key token_of (db 4) tokens_once) row there);
@@ -200,6 +218,7 @@ module _ (db : Trees) (sound : IsSound store_schema db) (fit : AreFit db) where
           (it.0, it.1, subst (IsVersion (db 8) it.0) same (version_is it.0 it.1));
     };
     numbered = numbers_own;
+    names = ascending_weaker _ _ (λ a b apart name one two. apart (ap text_in (one ∙ sym two))) (db 2) names_once;
     tokens = ascending_weaker _ _ (λ a b apart token one two. apart (ap text_in (one ∙ sym two))) (db 4) tokens_once;
     places = ascending_weaker _ _ (λ a b apart p at by. apart (λ i. record { shelf = ap text_in (at.0 ∙ sym by.0) i; path = ap text_in (at.1 ∙ sym by.1) i; version = ap text_in (at.2 ∙ sym by.2) i })) (db 6) places_once;
     pieces = ascending_weaker _ _ (λ a b apart version number. apart (λ i. (int_in (version i), nat_in (number i)))) (db 8) (ascending_from_map _ piece_shown (db 8) fit.pieces.pieces.once);
@@ -216,27 +235,24 @@ module _ (db : Trees) (sound : IsSound store_schema db) (fit : AreFit db) where
   pub fit_world : IsWorld (world_of db)
   unfolding world_of
   fit_world = record {
-    has_common =
-        let it = fit.shelves.has_common in
-        let from = has_mapped name_shown (db 2) it.0 it.1 in
-        let is : shelf_of from.0 ≡ common = ap (λ row. text_in (column row 0)) (sym from.2) ∙ text_same _ common it.2 in
-        subst (λ s. set.contains (set.from_list {R = text_cmp} names) s ≡ true) is (has_name from.0 from.1);
-    team_names = λ s h.
-        let it = name_from s h in
-        let named = shelf_named it.0 it.1 in
-        subst (λ t. (t ≡ common) ⊎ (is_team_name t ≡ true)) (ap text_in (sym named.1) ∙ sym it.2) named.2;
+    has_common = top_got common fit.shelves.has_common;
+    team_names = λ s h. name_good s _ refl h;
+    parents = λ s parent h.
+        let it = made_from texts_total texts_exact shelf_of parent_of (db 2) s (Some parent) h in
+        let shown : column it.0 2 ≡ Text parent = (shelf_is it.0 it.1).1 ∙ ap (or_null Text) (sym it.3) in
+        top_got parent (fit.shelves.parents (shelf_shown it.0) parent (mapped_has shelf_shown (db 2) it.0 it.1) shown);
     key_names = λ k h is.
         let it = made_from texts_total texts_exact token_of holder_of (db 4) k h is in
         let named = key_named it.0 it.1 in
         subst (λ t. is_key t ≡ true) (ap text_in (sym named.1) ∙ sym it.2) named.2;
     keys_stand = λ k h is.
         let it = made_from texts_total texts_exact token_of holder_of (db 4) k h is in
-        subst (λ (x : Holder). set.contains (set.from_list {R = text_cmp} names) x.shelf ≡ true) (sym it.3) (shelf_stands _ (key_shelf db sound it.0 it.1 _ (access_is it.0 it.1).1));
+        subst (λ (x : Holder). map.contains_key shelves_of x.shelf ≡ true) (sym it.3) (shelf_stands _ (key_shelf db sound it.0 it.1 _ (access_is it.0 it.1).1));
     entries_fit = λ q e is.
         let it = made_from places_total places_exact place_of (entry_of (db 8)) (db 6) q e is in
         subst₂ IsEntry (sym it.2) (sym it.3) (may_stand it.0 it.1);
     entries_stand = λ q e is.
         let it = made_from places_total places_exact place_of (entry_of (db 8)) (db 6) q e is in
-        subst (λ (x : Place). set.contains (set.from_list {R = text_cmp} names) x.shelf ≡ true) (sym it.2) (shelf_stands _ (version_shelf db sound it.0 it.1 _ (version_is it.0 it.1).place.0));
+        subst (λ (x : Place). map.contains_key shelves_of x.shelf ≡ true) (sym it.2) (shelf_stands _ (version_shelf db sound it.0 it.1 _ (version_is it.0 it.1).place.0));
     few = few_at;
   }

@@ -1,5 +1,7 @@
 -- What the rows of the tables have to be to stand for a world.
-use Rattle.std.specs.Prelude.{◌≡◌, ◌≤◌, ◌<◌, ◌⊎◌, ◌&&◌, ◌==◌, ◌+◌, ℕ, ℤ, pos, negsuc, Bool, true, List, [], ◌∷◌, length, map, filter, bytes_eq, codes, IsUtf8}
+use Rattle.std.specs.Prelude.{◌≡◌, ◌≤◌, ◌<◌, ◌⊎◌, ◌&&◌, ◌==◌, ◌+◌, ℕ, ℤ, pos, negsuc, Bool, true, List, [], ◌∷◌, length, map, filter, bytes_eq, codes, IsUtf8, Option, Some, None}
+use Rattle.std.specs.List.{list_all}
+use Rattle.std.specs.FinSet as set
 use Rattle.sqlite.specs.declared.types.Value.{Value}
 use Rattle.sqlite.specs.declared.types.Value.TheVariants.{Null, Int, Real, Text, Blob}
 use Rattle.sqlite.specs.Order.{Row, column}
@@ -9,7 +11,8 @@ use Rattle.sqlite_trees.specs.Tree.{IsAscending}
 use Rattle.sqlite_rules.specs.Lists.{Has}
 use Rattle.world.specs.declared.entry.Place.{Place}
 use Rattle.world.specs.declared.entry.Entry.{Entry}
-use Rattle.world.specs.World.{IsEntry, place, common, is_team_name, is_key, version_limit}
+use Rattle.world.specs.World.{IsEntry, place, common, text_cmp, is_team_name, is_key, version_limit}
+use Rattle.world.specs.Lines.{in_order}
 use Rattle.tables.specs.declared.pieces.LastPiece.{LastPiece}
 use Rattle.tables.specs.Pieces.{piece_size, piece_limit}
 use Rattle.tables.specs.VersionKeys.{order_key_at, rank_key_at}
@@ -52,6 +55,9 @@ meta_shown row = column row 1 ∷ column row 2 ∷ []
 abbrev pub name_shown : Row → Row
 name_shown row = column row 1 ∷ []
 
+abbrev pub shelf_shown : Row → Row
+shelf_shown row = column row 1 ∷ column row 2 ∷ []
+
 abbrev pub number_shown : Row → Row
 number_shown row = column row 0 ∷ []
 
@@ -72,13 +78,39 @@ piece_width = 3
 -- ---- one row
 
 abbrev pub IsSchemaRow : Row → Type 0
-IsSchemaRow row = (column row 0 ≡ Text (codes "schema")) × (column row 1 ≡ Int (pos 2))
+IsSchemaRow row = (column row 0 ≡ Text (codes "schema")) × (column row 1 ≡ Int (pos 3))
+
+-- a shelf may have this name
+abbrev pub IsShelfName : List ℕ → Type 0
+IsShelfName name = (name ≡ common) ⊎ (is_team_name name ≡ true)
+
+-- a shelf may have this name and this parent: common has none
+abbrev pub IsNamed : List ℕ → Option (List ℕ) → Type 0
+IsNamed name None = IsShelfName name
+IsNamed name (Some parent) = (is_team_name name ≡ true) × IsShelfName parent
 
 abbrev pub IsShelfRow : Row → Type 0
-IsShelfRow row = (name : List ℕ) × (column row 0 ≡ Text name) × ((name ≡ common) ⊎ (is_team_name name ≡ true))
+IsShelfRow row = (name : List ℕ) × (parent : Option (List ℕ)) × (column row 0 ≡ Text name) × (column row 1 ≡ or_null Text parent) × IsNamed name parent
 
-abbrev pub is_common : Value → Bool
-is_common v = bytes_eq (text_in v) common
+-- one more name, where a row shows that the shelf of this name has no parent
+abbrev pub top_put : Value → List ℕ → set.FinSet text_cmp → set.FinSet text_cmp
+top_put Null name tops = set.insert tops name
+top_put (Int n) name tops = tops
+top_put (Real x) name tops = tops
+top_put (Text t) name tops = tops
+top_put (Blob b) name tops = tops
+
+-- one more name, where a row shows that a shelf has this parent
+abbrev pub parent_put : Value → set.FinSet text_cmp → set.FinSet text_cmp
+parent_put Null parents = parents
+parent_put (Int n) parents = parents
+parent_put (Real x) parents = parents
+parent_put (Text t) parents = set.insert parents t
+parent_put (Blob b) parents = parents
+
+-- common is among the shelves without a parent, and so is each parent
+abbrev pub are_whole : set.FinSet text_cmp → set.FinSet text_cmp → Bool
+are_whole tops parents = set.contains tops common && list_all (λ t. set.contains tops t) (in_order parents)
 
 abbrev pub IsKeyRow : Row → Type 0
 IsKeyRow row = (key : List ℕ) × (column row 0 ≡ Text key) × (is_key key ≡ true)
@@ -160,14 +192,20 @@ pub record IsMetaFit (rows : List Row) : Type 0 where
   pub each : (row : Row) → Has rows row → IsSchemaRow row
   pub some : (row : Row) × Has rows row
 
-pub record AreShelvesFit (rows : List Row) : Type 0 where
-  pub each : (row : Row) → Has rows row → IsShelfRow row
-  pub has_common : (row : Row) × Has rows row × (is_common (column row 0) ≡ true)
-
 -- each row is so, and no two have one key
 pub record AreOnce {K : Type 0} (IsRow : Row → Type 0) (key : Row → K) (rows : List Row) : Type 0 where
   pub each : (row : Row) → Has rows row → IsRow row
   pub once : IsAscending (λ a b. key a ≡ key b → ⊥) rows
+
+-- a row shows that a shelf of this name has no parent
+abbrev pub HasTop : List Row → List ℕ → Type 0
+HasTop rows name = (row : Row) × Has rows row × (column row 0 ≡ Text name) × (column row 1 ≡ Null)
+
+-- each name once; common has no parent, and no parent has one
+pub record AreShelvesFit (rows : List Row) : Type 0 where
+  pub shelves : AreOnce IsShelfRow key_in rows
+  pub has_common : HasTop rows common
+  pub parents : (row : Row) (parent : List ℕ) → Has rows row → column row 1 ≡ Text parent → HasTop rows parent
 
 abbrev pub AreKeysFit : List Row → Type 0
 AreKeysFit = AreOnce IsKeyRow key_in
@@ -190,7 +228,7 @@ pub record ArePiecesFit (rows : List Row) : Type 0 where
 -- What the rows of all tables have to be to stand for a world.
 pub record AreFit (db : Trees) : Type 0 where
   pub named : IsMetaFit (map meta_shown (db meta_table.tree))
-  pub shelves : AreShelvesFit (map name_shown (db shelf_table.tree))
+  pub shelves : AreShelvesFit (map shelf_shown (db shelf_table.tree))
   pub access : AreKeysFit (map name_shown (db access_table.tree))
   pub numbers : AreNumbersFit (map number_shown (db access_table.tree))
   pub entries : AreEntriesFit (map entry_shown (db version_table.tree))

@@ -1,5 +1,5 @@
 -- The world that the tables stand for. No order of rows occurs here, and a row's number only ties a version to its pieces.
-use Rattle.std.specs.Prelude.{ℕ, ℤ, Bool, true, false, pos, if◌then◌else◌, List, Some, IsTrue, codes, filter, ◌≡◌}
+use Rattle.std.specs.Prelude.{ℕ, ℤ, Bool, true, false, pos, if◌then◌else◌, List, Option, Some, IsTrue, codes, filter, ◌≡◌}
 use Rattle.sqlite.specs.declared.types.Value.TheVariants.{Int, Text, Blob}
 use Rattle.sqlite.specs.Order.{Row, column}
 use Rattle.sqlite.specs.Values.{or_null}
@@ -12,7 +12,6 @@ use Rattle.sqlite_catalog.specs.Listing.{IsSound}
 use Rattle.sqlite.specs.Effect.{Database}
 use Rattle.sqlite.specs.State.{State, HasCleanDisk}
 use Rattle.std.specs.FinMap as map
-use Rattle.std.specs.FinSet as set
 use Rattle.world.specs.declared.entry.Holder.{Holder}
 use Rattle.world.specs.declared.entry.Right.{Right}
 use Rattle.world.specs.declared.entry.Right.TheVariants.{Reads, Publishes}
@@ -30,13 +29,14 @@ pub record Tabulates {X : Type 0} (IsRow : Row → X → Type 0) (rows : List Ro
 
 -- the schema is named by its number
 abbrev pub schema_named : List ℕ × ℤ
-schema_named = (codes "schema", pos 2)
+schema_named = (codes "schema", pos 3)
 
 abbrev pub IsMeta : Row → List ℕ × ℤ → Type 0
 IsMeta row it = (column row 1 ≡ Text it.0) × (column row 2 ≡ Int it.1)
 
-abbrev pub IsShelf : Row → List ℕ → Type 0
-IsShelf row name = column row 1 ≡ Text name
+-- a shelf by its name, with its parent
+abbrev pub IsShelf : Row → List ℕ × Option (List ℕ) → Type 0
+IsShelf row it = (column row 1 ≡ Text it.0) × (column row 2 ≡ or_null Text it.1)
 
 -- whether a key may publish, as its row tells it
 abbrev pub may_publish : Right → Bool
@@ -57,6 +57,10 @@ pub record IsNumbered (rows : List Row) : Type 0 where
 -- the place that a row of `version` names
 abbrev pub IsAt : Row → Place → Type 0
 IsAt row p = (column row 2 ≡ Text p.shelf) × (column row 3 ≡ Text p.path) × (column row 4 ≡ Text p.version)
+
+-- no two rows of `shelf` have one name
+abbrev pub IsEachNameOnce : List Row → Type 0
+IsEachNameOnce = IsAscending (λ a b. (name : List ℕ) → column a 1 ≡ Text name → column b 1 ≡ Text name → ⊥)
 
 -- no two rows of `access` are of one key
 abbrev pub IsEachTokenOnce : List Row → Type 0
@@ -99,11 +103,12 @@ pub record IsVersion (pieces : List Row) (row : Row) (it : Place × Entry) : Typ
 -- The tables mean the world: each row is one fact of it, and each fact has a row.
 pub record Means (db : Trees) (w : World) : Type 0 where
   pub named : Tabulates IsMeta (db meta_table.tree) (λ it. it ≡ schema_named)
-  pub shelves : Tabulates IsShelf (db shelf_table.tree) (λ name. IsTrue (set.contains w.shelves name))
+  pub shelves : Tabulates IsShelf (db shelf_table.tree) (λ it. map.get w.shelves it.0 ≡ Some it.1)
   pub access : Tabulates IsAccess (db access_table.tree) (λ it. map.get w.keys it.0 ≡ Some it.1)
   pub numbered : IsNumbered (db access_table.tree)
   pub entries : Tabulates (IsVersion (db piece_table.tree)) (db version_table.tree) (λ it. map.get w.entries it.0 ≡ Some it.1)
-  -- each key, each place and each piece has one row
+  -- each shelf, each key, each place and each piece has one row
+  pub names : IsEachNameOnce (db shelf_table.tree)
   pub tokens : IsEachTokenOnce (db access_table.tree)
   pub places : IsEachPlaceOnce (db version_table.tree)
   pub pieces : IsEachPieceOnce (db piece_table.tree)

@@ -1,6 +1,9 @@
 //! Whether the rows of the tables stand for a world.
 
-ghost use Rattle.std.specs.Prelude.{◌≡◌, ◌≤◌, ◌||◌, ◌⊎◌, pos, map, length, true, false, IfOk, IfErr, IfSome, OnOk, IsTrue, Decides, MatchOption, IsUtf8, Some};
+ghost use Rattle.std.specs.Prelude.{◌≡◌, ◌≤◌, ◌⊎◌, option_copied, pos, map, length, true, false, IfOk, IfErr, IfSome, OnOk, IsTrue, Decides, MatchOption, IsUtf8, Some};
+ghost use Rattle.std.specs.List.{list_all};
+ghost use Rattle.std.specs.FinSet as set;
+ghost use Rattle.world.specs.Lines.{in_order};
 ghost use Rattle.modver.specs.Keys.{order_key_of, rank_key_of};
 ghost use Rattle.modver.specs.Time.{IsTime};
 ghost use Rattle.sqlite.specs.declared.types.Value.TheVariants.{Int, Text as StoredText, Blob};
@@ -13,7 +16,7 @@ ghost use Rattle.tables.specs.Means.{IsSettled, StandsForSome, StandsForNone};
 ghost use Rattle.tables.specs.Calls.{Honestly, FailsWithReason};
 ghost use Rattle.tables.specs.Causes.{HasReason};
 ghost use Rattle.tables.specs.Walks.{Tests, MayFollow, run_with};
-ghost use Rattle.tables.specs.Fit.{IsSchemaRow, IsShelfRow, IsKeyRow, IsNumberRow, IsEntryRow, ShowsAt, entry_width, is_common, key_in, number_in, place_in, is_on, IsMetaFit, AreShelvesFit, AreKeysFit, AreNumbersFit, AreEntriesFit, AreFit, meta_shown, name_shown, number_shown, entry_shown};
+ghost use Rattle.tables.specs.Fit.{IsSchemaRow, IsShelfName, IsNamed, IsShelfRow, top_put, parent_put, are_whole, IsKeyRow, IsNumberRow, IsEntryRow, ShowsAt, entry_width, key_in, number_in, place_in, is_on, IsMetaFit, AreShelvesFit, AreKeysFit, AreNumbersFit, AreEntriesFit, AreFit, meta_shown, shelf_shown, name_shown, number_shown, entry_shown};
 
 use crate::columns::{blob_at, int_at, is_blob_at, text_at};
 use crate::pieces::has_pieces;
@@ -22,11 +25,12 @@ use crate::walk::{RowTest, rows_pass};
 use modver::{TimeText, Version, order_key, rank_key, read_time};
 use sqlite::types::ValueRef;
 use sqlite::{Alter, Connection, Error, ErrorCode, Row};
-use std::alloc::Global;
+use std::alloc::{AllocError, Global};
 use text::Text;
 use world::entry::{EntryRef, MAX_VERSIONS, Place};
 use world::entry_test::fitting_version;
 use world::names::{COMMON, is_key, is_team_name};
+use world::text_set::TextSet;
 
 /// The time that bytes are, if they are one.
 fn time_of(bytes: &[u8]) -> Option<TimeText>
@@ -57,13 +61,13 @@ fn time_at(row: &Row, at: usize) -> Result<Option<Option<TimeText>>, Error>
 
 /// Whether a column is the number of the schema.
 fn is_schema_at(row: &Row, at: usize) -> Result<bool, Error>
-    ensures found { IfOk result (λ b. Decides b (column row.now at ≡ Int (pos 2))) }
+    ensures found { IfOk result (λ b. Decides b (column row.now at ≡ Int (pos 3))) }
     ensures past { IfErr result (λ _. length row.now ≤ at) }
 {
-    Ok(matches!(row.get_ref(at)?, ValueRef::Int(2)))
+    Ok(matches!(row.get_ref(at)?, ValueRef::Int(3)))
 }
 
-/// The rows of `meta`: each names schema 2.
+/// The rows of `meta`: each names schema 3.
 #[derive(Drop)]
 struct MetaRows {
     has_row: bool,
@@ -85,28 +89,106 @@ impl RowTest for MetaRows {
     }
 }
 
-/// The rows of `shelf`: each is `common` or a team.
+/// The text of a column, or none where it is NULL, if it is one of the two.
+fn parent_at(row: &Row, at: usize) -> Result<Option<Option<&str>>, Error>
+    ensures found { IfOk result (λ found. MatchOption found
+        ((t : _) → column row.now at ≡ or_null StoredText t → IfSome t IsUtf8 → ⊥)
+        (λ t. column row.now at ≡ or_null StoredText (option_copied t))) }
+    ensures past { IfErr result (λ _. length row.now ≤ at) }
+{
+    match row.get_ref(at)? {
+        ValueRef::Null => Ok(Some(None)),
+        ValueRef::Text(bytes) => match std::str::from_utf8(bytes) {
+            Ok(text) => Ok(Some(Some(text))),
+            Err(_) => Ok(None),
+        },
+        _ => Ok(None),
+    }
+}
+
+/// Whether a shelf may have this name.
+fn is_shelf_name(name: &str) -> bool
+    ensures { Decides result (IsShelfName name.now) }
+{
+    name == COMMON || is_team_name(name)
+}
+
+/// Whether a shelf may have this name and this parent.
+fn is_named(name: &str, parent: Option<&str>) -> bool
+    ensures { Decides result (IsNamed name.now (option_copied parent.entry)) }
+{
+    match parent {
+        None => is_shelf_name(name),
+        Some(parent) => is_team_name(name) && is_shelf_name(parent),
+    }
+}
+
+/// The rows of `shelf` in the order of their names: each is `common`, a group or a team, and comes once.
 #[derive(Drop)]
 struct ShelfRows {
-    has_common: bool,
+    alloc: Global,
+    last: Option<Text>,
+    /// The shelves that have no parent.
+    tops: TextSet,
+    /// The parents.
+    parents: TextSet,
+}
+
+impl ShelfRows {
+    /// Notes a shelf.
+    fn note(&mut self, name: &str, parent: Option<&str>) -> Result<(), AllocError>
+        ensures { OnOk result ((self.new.last ≡ Some name.now)
+            × ((self.new.tops ≡ top_put (or_null StoredText (option_copied parent.entry)) name.now self.old.tops)
+            × (self.new.parents ≡ parent_put (or_null StoredText (option_copied parent.entry)) self.old.parents))) }
+    {
+        match parent {
+            None => self.tops.insert(String::from_str(self.alloc, name)?)?,
+            Some(parent) => self.parents.insert(String::from_str(self.alloc, parent)?)?,
+        }
+        self.last = Some(Text::copy_of(self.alloc, name)?);
+        Ok(())
+    }
+
+    /// Whether `common` is among those that have no parent, and each parent too.
+    fn are_whole(&self) -> bool
+        ensures { result ≡ are_whole self.now.tops self.now.parents }
+    {
+        self.tops.contains(COMMON) && are_among(&self.parents, &self.tops)
+    }
+}
+
+/// Whether each text of a set is in another.
+fn are_among(texts: &TextSet, others: &TextSet) -> bool
+    ensures { result ≡ list_all (λ t. set.contains others.now t) (in_order texts.now) }
+{
+    for text in texts.iter() {
+        if !others.contains(text.as_str()) {
+            return false;
+        }
+    }
+    true
 }
 
 impl RowTest for ShelfRows {
-    ghost width = { 1 };
+    ghost width = { 2 };
 
-    ghost Fits = { λ _ row. IsShelfRow row };
+    ghost Fits = { λ rows row. IsShelfRow row × (rows.last ≡ Some (key_in row) → ⊥) };
 
-    ghost Keeps = { λ rows row next. next.has_common ≡ (rows.has_common || is_common (column row 0)) };
+    ghost Keeps = { λ rows row next. (next.last ≡ Some (key_in row))
+        × ((next.tops ≡ top_put (column row 1) (key_in row) rows.tops) × (next.parents ≡ parent_put (column row 1) rows.parents)) };
 
     fn passes(&mut self, row: &Row) -> Result<bool, Error> {
         let Some(name) = text_at(row, 0)? else {
             return Ok(false);
         };
-        if name == COMMON {
-            self.has_common = true;
-            return Ok(true);
+        let Some(parent) = parent_at(row, 1)? else {
+            return Ok(false);
+        };
+        if !is_named(name, parent) || is_last(&self.last, name) {
+            return Ok(false);
         }
-        Ok(is_team_name(name))
+        self.note(name, parent)?;
+        Ok(true)
     }
 }
 
@@ -279,7 +361,7 @@ fn run_up_to(last: &Option<Place>, many: u64, place: &Place) -> Option<u64>
     }
 }
 
-/// Whether `meta` names schema 2 and nothing else.
+/// Whether `meta` names schema 3 and nothing else.
 fn has_schema<S: Alter>(conn: &mut Connection<S>) -> Result<bool, Error>
     ensures tests { Tests (state S.Store conn.old) (state S.Store conn.new) result
         (λ db. IsMetaFit (map meta_shown (db 0))) }
@@ -292,17 +374,26 @@ fn has_schema<S: Alter>(conn: &mut Connection<S>) -> Result<bool, Error>
     Ok(rows.has_row)
 }
 
-/// Whether each shelf has a good name, and `common` is there.
-fn has_shelves<S: Alter>(conn: &mut Connection<S>) -> Result<bool, Error>
+/// Whether each shelf has a good name and comes once, `common` is there without a parent, and no parent has one.
+fn has_shelves<S: Alter>(alloc: Global, conn: &mut Connection<S>) -> Result<bool, Error>
     ensures tests { Tests (state S.Store conn.old) (state S.Store conn.new) result
-        (λ db. AreShelvesFit (map name_shown (db 2))) }
+        (λ db. AreShelvesFit (map shelf_shown (db 2))) }
     ensures cause { FailsWithReason (state S.Store conn.old) (state S.Store conn.new) result }
 {
-    let mut rows = ShelfRows { has_common: false };
-    if !rows_pass(conn, "SELECT name FROM shelf", &mut rows)? {
+    let mut rows = ShelfRows {
+        alloc,
+        last: None,
+        tops: TextSet::new(alloc),
+        parents: TextSet::new(alloc),
+    };
+    if !rows_pass(
+        conn,
+        "SELECT name, parent FROM shelf ORDER BY name",
+        &mut rows,
+    )? {
         return Ok(false);
     }
-    Ok(rows.has_common)
+    Ok(rows.are_whole())
 }
 
 /// Whether each key is well formed, and comes once.
@@ -352,7 +443,7 @@ fn is_fit<S: Alter>(alloc: Global, conn: &mut Connection<S>) -> Result<bool, Err
     if !has_schema(conn)? {
         return Ok(false);
     }
-    if !has_shelves(conn)? {
+    if !has_shelves(alloc, conn)? {
         return Ok(false);
     }
     if !has_keys(alloc, conn)? {

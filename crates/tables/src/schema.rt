@@ -71,7 +71,10 @@ fn is_shelf_table(table: &Table) -> bool
     ensures { Decides result (table.now ≡ shelf_table) }
 {
     let is_shaped = match table.columns.as_slice() {
-        [name] => is_column(name, "name", Kind::Text, true),
+        [name, parent] => {
+            is_column(name, "name", Kind::Text, true)
+                && is_column(parent, "parent", Kind::Text, false)
+        }
         _ => false,
     };
     is_shaped
@@ -81,7 +84,7 @@ fn is_shelf_table(table: &Table) -> bool
         && is_place(table.primary.as_slice(), 1)
         && has_first_key(table.uniques.as_slice(), table.orders.as_slice())
         && has_no_terms(&table.checks)
-        && table.references.is_empty()
+        && is_reference(table.references.as_slice(), 2, "shelf", "name")
         && table.computed.is_empty()
         && has_no_stamps(&table.stamps)
         && !table.is_counted
@@ -342,7 +345,7 @@ fn are_indexes(indexes: &[Index]) -> bool
     }
 }
 
-/// Whether a connection has the tables of schema 2 and nothing else.
+/// Whether a connection has the tables of schema 3 and nothing else.
 pub(crate) fn is_store_schema(schema: &Schema) -> bool
     ensures { Decides result (schema.now ≡ store_schema) }
 {

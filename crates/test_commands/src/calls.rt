@@ -4,7 +4,7 @@ use crate::rows::{column, with_lines};
 use commands::import::{Ending, import};
 use commands::inventory::inventory;
 use commands::refusal::Refusal;
-use commands::registry::{add_key, add_team};
+use commands::registry::{add_group, add_key, add_team};
 use commands::requirements::requirements;
 use commands::sources::Sources;
 use engine::Io;
@@ -15,7 +15,7 @@ use std::test::Fail;
 use world::shelves::Shelves;
 
 /// The first row of a script that is answered otherwise; empty where each has its own answer. A row is a command, a key, what it asks
-/// for, and the answer, in which `;` stands for a newline. The store is let go then.
+/// for, and the answer, in which `;` stands for a newline. In place of a key, `member-add` has the group. The store is let go then.
 pub fn wrong_row<'a, S: Shelves + Drop, F: Sources>(
     alloc: Global,
     mut shelves: S,
@@ -53,7 +53,9 @@ fn answered<S: Shelves, F: Sources>(
         "import" => import_file(alloc, shelves, files, key, asked),
         "inventory" => seen_by(alloc, shelves, key),
         "requires" => required(alloc, shelves, key, asked),
-        "team-add" => ended(alloc, add_team(shelves, asked)),
+        "team-add" => ended(alloc, add_team(shelves, asked, None)),
+        "member-add" => ended(alloc, add_team(shelves, asked, Some(key))),
+        "group-add" => ended(alloc, add_group(shelves, asked)),
         "key-add" => ended(alloc, add_key(shelves, asked, key, false)),
         "reader-add" => ended(alloc, add_key(shelves, asked, key, true)),
         _ => Ok(String::from_str(alloc, "no such command")?),

@@ -86,6 +86,36 @@ requires | alphareader00001 | example.com//y@v1.9.0 | none
 requires | alphareader00001 | example.com/y@1.9.0 | none
 ";
 
+/// A group with a member: why others are not added, and what its shelf and those of teams see.
+const GROUPS: &str = "\
+group-add | | common | name
+group-add | | Platform | name
+group-add | | alpha | taken
+group-add | | platform | done
+group-add | | platform | taken
+team-add | | platform | taken
+member-add | platform | gamma | done
+group-add | | gamma | taken
+member-add | nosuch | gamma | taken
+member-add | nosuch | Eps | name
+member-add | nosuch | eps | no-group
+member-add | common | eps | no-group
+member-add | alpha | eps | no-group
+member-add | gamma | eps | no-group
+key-add | epskey0000000001 | eps | no-team
+key-add | platformkey00001 | platform | done
+key-add | gammakey00000001 | gamma | done
+key-add | commonkey0000001 | common | done
+import | commonkey0000001 | of-common | 1 201 published;2 201 published;all in
+import | platformkey00001 | one-row | 1 201 published;all in
+import | gammakey00000001 | two | 1 200 already published;2 201 published;all in
+import | gammakey00000001 | others | 1 409 conflict;2 409 conflict;3 409 conflict;some out
+import | alphakey00000001 | others | 1 201 published;2 409 conflict;3 409 conflict;some out
+inventory | platformkey00001 | | path,version,shelf,class,time,mod_bytes,zip_bytes;example.com/i,v1.0.0,platform,release,,21,0;example.com/x,v1.0.0,common,release,,21,1;example.com/y,v1.0.0,common,release,,21,1;
+inventory | gammakey00000001 | | path,version,shelf,class,time,mod_bytes,zip_bytes;example.com/i,v1.0.0,platform,release,,21,0;example.com/i,v1.1.0,gamma,release,2024-01-01T00:00:00Z,21,0;example.com/x,v1.0.0,common,release,,21,1;example.com/y,v1.0.0,common,release,,21,1;
+inventory | alphakey00000001 | | path,version,shelf,class,time,mod_bytes,zip_bytes;example.com/i,v1.0.0,alpha,release,,21,1;example.com/x,v1.0.0,common,release,,21,1;example.com/y,v1.0.0,common,release,,21,1;
+";
+
 /// The files, and one that is a byte longer than a go.mod may be.
 fn files(alloc: Global) -> Result<FilesInMemory, AllocError> {
     let mut files = FilesInMemory::new(alloc);
@@ -104,7 +134,7 @@ fn wrong_in<'a, F: Sources>(alloc: Global, files: &F, script: &'a str) -> Result
 #[test]
 fn each_command_has_its_answer(rt: HostRuntime) -> Result<(), Fail> {
     let files = files(rt.alloc())?;
-    for script in [TWICE, CHECKS, REPORTS] {
+    for script in [TWICE, CHECKS, REPORTS, GROUPS] {
         assert_eq!(rt; wrong_in(rt.alloc(), &files, script)?, "");
     }
     Ok(())

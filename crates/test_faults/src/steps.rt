@@ -6,9 +6,10 @@ use world::entry::Right;
 use world::registry::Registered;
 use world::shelves::Shelves;
 
-/// What the files hold before: two teams and three keys, a version of alpha and one of `common`.
+/// What the files hold before: a group, two teams and three keys, a version of alpha and one of `common`.
 pub const SETUP: &str = "\
-team-add|alpha
+group-add|platform
+team-add|alpha|platform
 team-add|beta
 key-add|alpha|alphakey00000001
 key-add|beta|betakey000000001
@@ -17,20 +18,30 @@ PUT A example.com/lib/@v/v1.0.0|module example.com/lib;|Z
 PUT C example.com/x/@v/v1.0.0|module example.com/x;|X
 ";
 
-/// The bits of seven steps.
-pub const ALL: u8 = 127;
+/// The bits of eight steps.
+pub const ALL: u8 = 255;
 
 /// Whether a step is done: a command of the registry, or the request of a publish that is answered 201.
 fn is_done<S: Shelves>(alloc: Global, shelves: &mut S, step: &str) -> Result<bool, Fail> {
     let (first, second) = (column(step, 1), column(step, 2));
     let told = match column(step, 0) {
-        "team-add" => shelves.team_add(first),
+        "team-add" => shelves.team_add(first, group_in(second)),
+        "group-add" => shelves.group_add(first),
         "key-add" => shelves.key_add(first, second, Right::Publishes),
         "reader-add" => shelves.key_add(first, second, Right::Reads),
         "key-revoke" => shelves.key_revoke(first),
         _ => return is_published(alloc, shelves, step),
     };
     Ok(told == Ok(Registered::Done))
+}
+
+/// The group that a column names; an empty one names none.
+fn group_in(column: &str) -> Option<&str> {
+    if column.is_empty() {
+        None
+    } else {
+        Some(column)
+    }
 }
 
 /// Whether a publish is answered 201.

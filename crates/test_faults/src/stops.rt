@@ -168,8 +168,8 @@ fn a_stopped_publish_leaves_all_or_nothing(rt: HostRuntime) -> Result<(), Fail> 
 
 #[test]
 fn a_stopped_command_leaves_all_or_nothing(rt: HostRuntime) -> Result<(), Fail> {
-    let steps = "team-add|gamma\nkey-add|beta|gammakey00000001";
-    assert_eq!(rt; wrong_job(rt.alloc(), Kind::Steps, steps, 3)?, "");
+    let steps = "team-add|gamma|platform\ngroup-add|tools\nkey-add|beta|gammakey00000001";
+    assert_eq!(rt; wrong_job(rt.alloc(), Kind::Steps, steps, 7)?, "");
     Ok(())
 }
 

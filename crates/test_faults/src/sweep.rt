@@ -16,6 +16,7 @@ GET B example.com/lib/@v/v1.1.0.zip = 404
 PUT C example.com/new/@v/v1.0.0|module example.com/new;|zip = 201
 PUT A example.com/lib/@v/v1.1.0|module example.com/lib;|zip = 200
 PUT B example.com/lib/@v/v1.0.0|module example.com/lib;|other = 201
+GET A example.com/new/@v/list = 200
 GET A -/modules = 200
 ";
 
@@ -23,7 +24,7 @@ GET A -/modules = 200
 const MOST: u64 = 2000;
 
 /// How many they are.
-const COUNT: u8 = 7;
+const COUNT: u8 = 8;
 
 /// Lets a file fail from each call on that comes after the opening, one after another until none fails. What came out: nothing, where
 /// each request was answered right, and the last run answered all.

@@ -12,11 +12,11 @@ use world::shelves::Shelves;
 
 /// The names that the rows know.
 const KEYS: &str =
-    "alphakey00000001 alphareader00001 betakey000000001 commonkey0000001 gammakey00000001";
+    "alphakey00000001 alphareader00001 betakey000000001 commonkey0000001 gammakey00000001 platformkey00001";
 
-const TEAMS: &str = "alpha beta gamma";
+const TEAMS: &str = "alpha beta gamma platform tools";
 
-const SHELVES: &str = "alpha beta";
+const SHELVES: &str = "alpha beta gamma platform";
 
 const PATHS: &str = "example.com/lib example.com/new example.com/x";
 
@@ -80,10 +80,11 @@ fn tell_shelf<S: Shelves>(
     Ok(())
 }
 
-/// Tells of each team whether it is there. It adds those that are not.
+/// Tells of each shelf whether it is there and may be a team's group. It adds those that are not there, and a member of each group.
 fn tell_teams<S: Shelves>(shelves: &mut S, told: &mut String) -> Result<(), Fail> {
     for team in TEAMS.split(' ') {
-        write!(told, "{team} {:?}\n", shelves.team_add(team)?)?;
+        write!(told, "{team} {:?}\n", shelves.team_add(team, None)?)?;
+        write!(told, "{:?}\n", shelves.team_add("member", Some(team))?)?;
     }
     Ok(())
 }

@@ -59,6 +59,27 @@ reader-add|nosuch|alphakey00000001 = NoTeam
 reader-add|alpha|alphakey00000001 = Done
 reader-add|common|alphakey00000001 = Taken
 reader-add|nosuch|alphakey00000001 = NoTeam
+====
+group-add|Platform = Name
+group-add|platform = Done
+group-add|platform = Taken
+team-add|alpha = Done
+team-add|gamma|alpha = NoGroup
+team-add|gamma|platform = Done
+team-add|delta|platform = Done
+team-add|delta|nosuch = Taken
+----
+key-add|platform|platformkey00001 = Done
+key-add|gamma|gammakey00000001 = Done
+key-add|delta|deltakey00000001 = Done
+key-add|alpha|alphakey00000001 = Done
+put|gammakey00000001|example.com/h|module example.com/h;|m = Published
+put|platformkey00001|example.com/h|module example.com/h;|h = Published
+put|deltakey00000001|example.com/h|module example.com/h;|d = Conflict
+zip|gammakey00000001|example.com/h = zip m
+zip|deltakey00000001|example.com/h = zip h
+zip|platformkey00001|example.com/h = zip h
+zip|alphakey00000001|example.com/h = not found
 ";
 
 /// The files of a version are asked for.
@@ -103,10 +124,22 @@ fn event(alloc: Global, call: &str) -> Result<Event, Fail> {
         "mod" => get(alloc, call, false),
         "key-add" => Ok(key_add(alloc, call, Right::Publishes)?),
         "reader-add" => Ok(key_add(alloc, call, Right::Reads)?),
-        _ => Ok(Event::TeamAdd {
+        "group-add" => Ok(Event::GroupAdd {
             name: Text::copy_of(alloc, column(call, 1))?,
         }),
+        _ => Ok(Event::TeamAdd {
+            name: Text::copy_of(alloc, column(call, 1))?,
+            group: given(alloc, column(call, 2))?,
+        }),
     }
+}
+
+/// The text of a column that may be empty.
+fn given(alloc: Global, column: &str) -> Result<Option<Text>, AllocError> {
+    if column.is_empty() {
+        return Ok(None);
+    }
+    Ok(Some(Text::copy_of(alloc, column)?))
 }
 
 fn events(alloc: Global, script: &str) -> Result<Vec<Event>, Fail> {

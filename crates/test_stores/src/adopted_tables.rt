@@ -9,16 +9,16 @@ use test_support::calls::wrong_row_of;
 /// The tables of the schema.
 const TABLES: &str = "\
 CREATE TABLE meta (name TEXT PRIMARY KEY, value INTEGER NOT NULL) STRICT;
-CREATE TABLE shelf (name TEXT PRIMARY KEY) STRICT;
+CREATE TABLE shelf (name TEXT PRIMARY KEY, parent TEXT REFERENCES shelf (name)) STRICT;
 CREATE TABLE access (token TEXT PRIMARY KEY, shelf TEXT NOT NULL REFERENCES shelf (name), publish INTEGER NOT NULL CHECK (publish IN (0, 1))) STRICT;
 CREATE TABLE version (id INTEGER PRIMARY KEY, shelf TEXT NOT NULL REFERENCES shelf (name), path TEXT NOT NULL, version TEXT NOT NULL, time TEXT, mod BLOB NOT NULL, order_key BLOB NOT NULL, rank_key BLOB NOT NULL, UNIQUE (shelf, path, version)) STRICT;
 CREATE TABLE piece (version INTEGER NOT NULL REFERENCES version (id), number INTEGER NOT NULL CHECK (number >= 0), bytes BLOB NOT NULL, PRIMARY KEY (version, number)) STRICT;
 ";
 
-/// A team with a key, and a version of `common`.
+/// A team with a key, a group with a team, and a version of `common`.
 const ROWS: &str = "\
-INSERT INTO meta VALUES ('schema', 2);
-INSERT INTO shelf VALUES ('common'), ('alpha');
+INSERT INTO meta VALUES ('schema', 3);
+INSERT INTO shelf VALUES ('common', NULL), ('alpha', 'common'), ('platform', NULL), ('gamma', 'platform');
 INSERT INTO access VALUES ('alphakey00000001', 'alpha', 1);
 INSERT INTO version VALUES (7, 'common', 'example.com/lib', 'v1.0.0', NULL, X'6d6f64756c65206578616d706c652e636f6d2f6c69620a', X'00000000000000010000000000000000000000000000000003', X'0300000000000000010000000000000000000000000000000003');
 INSERT INTO piece VALUES (7, 0, X'5A');
@@ -30,8 +30,12 @@ CREATE TABLE x (a INTEGER) STRICT
 CREATE TABLE body (id INTEGER PRIMARY KEY, zip BLOB NOT NULL) STRICT
 ";
 
-/// What makes others of the tables, the last two in another order and by another text.
+/// What makes others of the tables, the first four those of shelves with other columns, the last two in another order and by another text.
 const OTHERS: &str = "\
+DROP TABLE piece;DROP TABLE version;DROP TABLE access;DROP TABLE shelf;CREATE TABLE shelf (name TEXT PRIMARY KEY) STRICT;CREATE TABLE access (token TEXT PRIMARY KEY, shelf TEXT NOT NULL REFERENCES shelf (name), publish INTEGER NOT NULL CHECK (publish IN (0, 1))) STRICT;CREATE TABLE version (id INTEGER PRIMARY KEY, shelf TEXT NOT NULL REFERENCES shelf (name), path TEXT NOT NULL, version TEXT NOT NULL, time TEXT, mod BLOB NOT NULL, order_key BLOB NOT NULL, rank_key BLOB NOT NULL, UNIQUE (shelf, path, version)) STRICT;CREATE TABLE piece (version INTEGER NOT NULL REFERENCES version (id), number INTEGER NOT NULL CHECK (number >= 0), bytes BLOB NOT NULL, PRIMARY KEY (version, number)) STRICT
+DROP TABLE piece;DROP TABLE version;DROP TABLE access;DROP TABLE shelf;CREATE TABLE shelf (name TEXT PRIMARY KEY, parent TEXT) STRICT;CREATE TABLE access (token TEXT PRIMARY KEY, shelf TEXT NOT NULL REFERENCES shelf (name), publish INTEGER NOT NULL CHECK (publish IN (0, 1))) STRICT;CREATE TABLE version (id INTEGER PRIMARY KEY, shelf TEXT NOT NULL REFERENCES shelf (name), path TEXT NOT NULL, version TEXT NOT NULL, time TEXT, mod BLOB NOT NULL, order_key BLOB NOT NULL, rank_key BLOB NOT NULL, UNIQUE (shelf, path, version)) STRICT;CREATE TABLE piece (version INTEGER NOT NULL REFERENCES version (id), number INTEGER NOT NULL CHECK (number >= 0), bytes BLOB NOT NULL, PRIMARY KEY (version, number)) STRICT
+DROP TABLE piece;DROP TABLE version;DROP TABLE access;DROP TABLE shelf;CREATE TABLE shelf (name TEXT PRIMARY KEY, parent TEXT NOT NULL REFERENCES shelf (name)) STRICT;CREATE TABLE access (token TEXT PRIMARY KEY, shelf TEXT NOT NULL REFERENCES shelf (name), publish INTEGER NOT NULL CHECK (publish IN (0, 1))) STRICT;CREATE TABLE version (id INTEGER PRIMARY KEY, shelf TEXT NOT NULL REFERENCES shelf (name), path TEXT NOT NULL, version TEXT NOT NULL, time TEXT, mod BLOB NOT NULL, order_key BLOB NOT NULL, rank_key BLOB NOT NULL, UNIQUE (shelf, path, version)) STRICT;CREATE TABLE piece (version INTEGER NOT NULL REFERENCES version (id), number INTEGER NOT NULL CHECK (number >= 0), bytes BLOB NOT NULL, PRIMARY KEY (version, number)) STRICT
+DROP TABLE piece;DROP TABLE version;DROP TABLE access;DROP TABLE shelf;CREATE TABLE shelf (name TEXT PRIMARY KEY, parent TEXT REFERENCES shelf (name), kind TEXT) STRICT;CREATE TABLE access (token TEXT PRIMARY KEY, shelf TEXT NOT NULL REFERENCES shelf (name), publish INTEGER NOT NULL CHECK (publish IN (0, 1))) STRICT;CREATE TABLE version (id INTEGER PRIMARY KEY, shelf TEXT NOT NULL REFERENCES shelf (name), path TEXT NOT NULL, version TEXT NOT NULL, time TEXT, mod BLOB NOT NULL, order_key BLOB NOT NULL, rank_key BLOB NOT NULL, UNIQUE (shelf, path, version)) STRICT;CREATE TABLE piece (version INTEGER NOT NULL REFERENCES version (id), number INTEGER NOT NULL CHECK (number >= 0), bytes BLOB NOT NULL, PRIMARY KEY (version, number)) STRICT
 DROP TABLE piece;DROP TABLE version;CREATE TABLE version (id INTEGER PRIMARY KEY, shelf TEXT NOT NULL REFERENCES shelf (name), path TEXT NOT NULL, version TEXT NOT NULL, time TEXT, mod BLOB NOT NULL, order_key BLOB NOT NULL, rank_key BLOB, UNIQUE (shelf, path, version)) STRICT;CREATE TABLE piece (version INTEGER NOT NULL REFERENCES version (id), number INTEGER NOT NULL CHECK (number >= 0), bytes BLOB NOT NULL, PRIMARY KEY (version, number)) STRICT
 CREATE TABLE x (a INTEGER) STRICT
 CREATE INDEX by_path ON version (path)
@@ -53,11 +57,21 @@ DROP TABLE piece;DROP TABLE version;DROP TABLE access;CREATE TABLE access (token
 /// What makes rows that stand for no world.
 const UNFIT: &str = "\
 DELETE FROM meta
-UPDATE meta SET value = 1
+UPDATE meta SET value = 2
 UPDATE meta SET name = 'Schema'
-INSERT INTO meta VALUES ('other', 2)
-UPDATE version SET shelf = 'alpha';DELETE FROM shelf WHERE name = 'common'
-INSERT INTO shelf VALUES ('Beta')
+INSERT INTO meta VALUES ('other', 3)
+DELETE FROM access;DELETE FROM shelf WHERE name = 'alpha';UPDATE version SET shelf = 'gamma';DELETE FROM shelf WHERE name = 'common'
+INSERT INTO shelf VALUES ('Beta', 'common')
+INSERT INTO shelf VALUES ('Beta', NULL)
+INSERT INTO shelf VALUES ('beta', 'alpha')
+INSERT INTO shelf VALUES ('beta', 'gamma')
+INSERT INTO shelf VALUES ('beta', 'beta')
+UPDATE shelf SET parent = 'platform' WHERE name = 'common'
+UPDATE shelf SET parent = 'common' WHERE name = 'common'
+UPDATE shelf SET parent = 'common' WHERE name = 'platform'
+UPDATE shelf SET parent = 'platform' WHERE name = 'platform'
+UPDATE shelf SET parent = 'gamma' WHERE name = 'platform'
+UPDATE shelf SET parent = 'gamma' WHERE name = 'alpha';UPDATE shelf SET parent = 'alpha' WHERE name = 'gamma'
 INSERT INTO access VALUES ('shortkey1234567', 'common', 0)
 INSERT INTO access VALUES ('UPPERKEY00000001', 'common', 0)
 UPDATE version SET path = 'example.com//lib'
@@ -88,8 +102,17 @@ UPDATE version SET version = 'v1.0.1'
 const MADE_AGAIN: &str =
     "DROP TABLE piece;CREATE TABLE piece (version INTEGER NOT NULL REFERENCES version (id), number INTEGER NOT NULL CHECK (number >= 0), bytes BLOB NOT NULL, PRIMARY KEY (version, number)) STRICT;INSERT INTO piece VALUES (7, 0, X'5A')";
 
-/// What keeps the rows those of a world: another version, an empty zip, and zips of a full piece and of a byte more.
+/// What keeps the rows those of a world: other shelves and parents, a key of a group, another version, an empty zip, and zips of a full
+/// piece and of a byte more.
 const FIT: &str = "\
+INSERT INTO shelf VALUES ('beta', 'common')
+INSERT INTO shelf VALUES ('beta', 'platform')
+INSERT INTO shelf VALUES ('beta', NULL)
+UPDATE shelf SET parent = NULL WHERE name = 'alpha'
+UPDATE shelf SET parent = 'platform' WHERE name = 'alpha'
+UPDATE shelf SET parent = 'common' WHERE name = 'gamma'
+DELETE FROM shelf WHERE name = 'gamma'
+UPDATE access SET shelf = 'platform'
 UPDATE version SET version = 'v0.0.0-20240229123456-0123456789ab', time = '2024-02-29T12:34:56Z', order_key = X'0000000000000000000000000000000000000000000000000232303234303232393132333435362d3031323334353637383961620000', rank_key = X'0132303234303232393132333435360000000000000000000000000000000000000000000000000232303234303232393132333435362d3031323334353637383961620000'
 DELETE FROM piece
 UPDATE piece SET bytes = X'FULL'
@@ -133,6 +156,11 @@ GET A example.com/lib/@v/v1.0.0.zip | 200 OK | zip | Z
 /// What stands in the tables and rows, as the store tells it.
 const KEPT: &str = "\
 key|alphakey00000001 = alpha Publishes
+entry|alpha|example.com/lib|v1.0.0 = common|module example.com/lib;|Z|
+group-add|platform = Taken
+team-add|delta|alpha = NoGroup
+insert|platform|example.com/lib|v1.0.0|module example.com/lib;|H = ()
+entry|gamma|example.com/lib|v1.0.0 = platform|module example.com/lib;|H|
 entry|alpha|example.com/lib|v1.0.0 = common|module example.com/lib;|Z|
 failures = 0
 ";

@@ -74,37 +74,131 @@ versions|alpha|example.com/lib = v1.0.0;
 failures = 0
 ";
 
-/// A store with all of that.
-fn whole<S: Extracts>(alloc: Global) -> Result<S, Fail> {
+/// A store that did what a script says.
+fn whole<S: Extracts>(alloc: Global, script: &str) -> Result<S, Fail> {
     let mut whole = S::opened(alloc)?;
-    if wrong_row(alloc, &mut whole, WHOLE)? != "" {
+    if wrong_row(alloc, &mut whole, script)? != "" {
         return Err(Fail::from("the whole"));
     }
     Ok(whole)
 }
 
-/// Extracts alpha's part. The first row that the part or the whole then answers otherwise; empty where there is none.
-fn wrong_row_of_part<S: Extracts>(alloc: Global) -> Result<&'static str, Fail> {
-    let mut whole = whole::<S>(alloc)?;
+/// The scripts of an extract: what the whole did before it, and what the part and the whole then answer.
+#[derive(Clone, Copy, Drop)]
+struct Scripts {
+    whole: &'static str,
+    part: &'static str,
+    kept: &'static str,
+}
+
+/// Extracts a team's part. The first row that the part or the whole then answers otherwise; empty where there is none.
+fn wrong_row_of_part<S: Extracts>(
+    alloc: Global,
+    team: &str,
+    scripts: Scripts,
+) -> Result<&'static str, Fail> {
+    let mut whole = whole::<S>(alloc, scripts.whole)?;
     let mut part = S::opened(alloc)?;
-    whole.extract_into("alpha", &mut part)?;
-    let row = wrong_row(alloc, &mut part, PART)?;
+    whole.extract_into(team, &mut part)?;
+    let row = wrong_row(alloc, &mut part, scripts.part)?;
     if row != "" {
         return Ok(row);
     }
-    wrong_row(alloc, &mut whole, KEPT)
+    wrong_row(alloc, &mut whole, scripts.kept)
 }
 
 #[test]
 fn a_part_has_its_shelves_alone(rt: HostRuntime) -> Result<(), Fail> {
-    let row = wrong_row_of_part::<SqlShelves<MemStore>>(rt.alloc())?;
+    let scripts = Scripts {
+        whole: WHOLE,
+        part: PART,
+        kept: KEPT,
+    };
+    let row = wrong_row_of_part::<SqlShelves<MemStore>>(rt.alloc(), "alpha", scripts)?;
     assert_eq!(rt; row, "");
+    Ok(())
+}
+
+/// Two teams of a group and one of none, each with a key, and keys of the group and of `common`; a version that stands on more shelves,
+/// one of the group and one of the other member.
+const GROUPED: &str = "\
+group-add|platform = Done
+team-add|delta|platform = Done
+team-add|gamma|platform = Done
+team-add|alpha = Done
+key-add|platform|platformkey00001 = Done
+key-add|gamma|gammakey00000001 = Done
+key-add|delta|deltakey00000001 = Done
+key-add|alpha|alphakey00000001 = Done
+key-add|common|commonkey0000001 = Done
+PUT P example.com/g/@v/v1.0.0 | 201 Created | plain | published; | module example.com/g; | g
+PUT M example.com/h/@v/v1.0.0 | 201 Created | plain | published; | module example.com/h; | m
+PUT P example.com/h/@v/v1.0.0 | 201 Created | plain | published; | module example.com/h; | h
+PUT C example.com/h/@v/v1.0.0 | 201 Created | plain | published; | module example.com/h; | c
+PUT D example.com/d/@v/v1.0.0 | 201 Created | plain | published; | module example.com/d; | d
+PUT A example.com/h/@v/v1.1.0 | 201 Created | plain | published; | module example.com/h; | a
+";
+
+/// What gamma's part has of it, and that it goes on as a store.
+const PART_OF_GAMMA: &str = "\
+GET M example.com/h/@v/v1.0.0.zip | 200 OK | zip | m
+GET P example.com/h/@v/v1.0.0.zip | 200 OK | zip | h
+GET C example.com/h/@v/v1.0.0.zip | 200 OK | zip | c
+GET D example.com/h/@v/v1.0.0.zip | 404 Not Found | plain | not found;
+GET A example.com/h/@v/v1.0.0.zip | 404 Not Found | plain | not found;
+GET M example.com/g/@v/v1.0.0.zip | 200 OK | zip | g
+GET M example.com/h/@v/list | 200 OK | plain | v1.0.0;
+GET M -/modules | 200 OK | plain | example.com/g;example.com/h;
+GET P -/modules | 200 OK | plain | example.com/g;example.com/h;
+GET C -/modules | 200 OK | plain | example.com/h;
+team-add|gamma = Taken
+group-add|platform = Taken
+team-add|eps|gamma = NoGroup
+team-add|delta|platform = Done
+key-add|delta|deltakey00000001 = Done
+GET D -/modules | 200 OK | plain | example.com/g;example.com/h;
+group-add|alpha = Done
+failures = 0
+";
+
+/// That the whole has what it had.
+const KEPT_OF_GROUPED: &str = "\
+GET D example.com/d/@v/v1.0.0.zip | 200 OK | zip | d
+GET D example.com/h/@v/v1.0.0.zip | 200 OK | zip | h
+GET A example.com/h/@v/v1.0.0.zip | 200 OK | zip | c
+GET M example.com/h/@v/v1.0.0.zip | 200 OK | zip | m
+failures = 0
+";
+
+#[test]
+fn a_part_of_a_member_has_its_group(rt: HostRuntime) -> Result<(), Fail> {
+    let scripts = Scripts {
+        whole: GROUPED,
+        part: PART_OF_GAMMA,
+        kept: KEPT_OF_GROUPED,
+    };
+    let row = wrong_row_of_part::<SqlShelves<MemStore>>(rt.alloc(), "gamma", scripts)?;
+    assert_eq!(rt; row, "");
+    Ok(())
+}
+
+/// Whether a group has no part.
+fn group_has_no_part<S: Extracts>(alloc: Global) -> Result<bool, Fail> {
+    let mut whole = whole::<S>(alloc, GROUPED)?;
+    let mut part = S::opened(alloc)?;
+    Ok(whole.extract_into("platform", &mut part) == Err(Refusal::NoTeam))
+}
+
+#[test]
+fn a_group_is_no_team(rt: HostRuntime) -> Result<(), Fail> {
+    assert!(rt; group_has_no_part::<SqlShelves<MemStore>>(rt.alloc())?);
     Ok(())
 }
 
 /// What each makes of a store that has more than `common`: another shelf, a key, an entry.
 const MORE: &str = "\
 team-add|gamma = Done
+group-add|gamma = Done
 reader-add|common|commonkey0000001 = Done
 insert|common|example.com/x|v1.0.0|module example.com/x; = ()
 ";
@@ -124,7 +218,7 @@ fn is_refused<S: Extracts>(alloc: Global, whole: &mut S, more: &str) -> Result<b
 
 /// The first of these rows that makes a store which is taken, or which the whole answers otherwise then; empty where there is none.
 fn wrong_row_of_more<S: Extracts>(alloc: Global) -> Result<&'static str, Fail> {
-    let mut whole = whole::<S>(alloc)?;
+    let mut whole = whole::<S>(alloc, WHOLE)?;
     for row in MORE.lines() {
         if !is_refused(alloc, &mut whole, row)? {
             return Ok(row);
@@ -143,7 +237,7 @@ fn a_store_that_has_more_is_refused(rt: HostRuntime) -> Result<(), Fail> {
 /// Extracts into a store that was refused before, and once more. The first row that the part then answers otherwise; empty where there
 /// is none.
 fn wrong_row_of_refused<S: Extracts>(alloc: Global) -> Result<&'static str, Fail> {
-    let mut whole = whole::<S>(alloc)?;
+    let mut whole = whole::<S>(alloc, WHOLE)?;
     let mut part = S::opened(alloc)?;
     if whole.extract_into("gamma", &mut part) != Err(Refusal::NoTeam) {
         return Ok("a team that is not there");

@@ -9,8 +9,8 @@ use world::shelves::Shelves;
 
 /// Adds the teams alpha and beta, and their keys.
 fn registered<S: Shelves + Drop>(mut shelves: S) -> Result<S, StoreFault> {
-    shelves.team_add("alpha")?;
-    shelves.team_add("beta")?;
+    shelves.team_add("alpha", None)?;
+    shelves.team_add("beta", None)?;
     shelves.key_add("alpha", "alphakey00000001", Right::Publishes)?;
     shelves.key_add("alpha", "alphareader00001", Right::Reads)?;
     shelves.key_add("beta", "betakey000000001", Right::Publishes)?;

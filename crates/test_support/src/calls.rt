@@ -11,6 +11,96 @@ use world::shelves::Shelves;
 
 /// Scripts of calls, with `====` between them, that each store answers alike.
 pub const CALLS: &str = "\
+group-add|common = Name
+group-add|Platform = Name
+group-add|platform = Done
+group-add|platform = Taken
+team-add|platform = Taken
+team-add|alpha = Done
+group-add|alpha = Taken
+team-add|delta|nosuch = NoGroup
+team-add|delta|common = NoGroup
+team-add|delta|alpha = NoGroup
+team-add|delta|delta = NoGroup
+team-add|Delta|nosuch = Name
+team-add|alpha|nosuch = Taken
+key-add|delta|deltakey00000001 = NoTeam
+key-add|platform|platformkey00001 = Done
+key|platformkey00001 = platform Publishes
+reader-add|alpha|platformkey00001 = Taken
+team-add|gamma|platform = Done
+team-add|delta|gamma = NoGroup
+group-add|gamma = Taken
+team-add|gamma = Taken
+team-add|delta|platform = Done
+key-add|delta|deltakey00000001 = Done
+key|deltakey00000001 = delta Publishes
+====
+group-add|platform = Done
+versions|gamma|example.com/x = 
+latest|gamma|example.com/x = none
+paths|gamma = 
+insert|platform|example.com/x|v1.1.0|module example.com/x; = ()
+insert|common|example.com/x|v1.0.0|module example.com/x; = ()
+versions|gamma|example.com/x = v1.0.0;
+latest|gamma|example.com/x = v1.0.0
+heading|gamma|example.com/x|v1.1.0 = none
+count|gamma|example.com/x = 0
+team-add|gamma|platform = Done
+versions|gamma|example.com/x = v1.0.0;v1.1.0;
+latest|gamma|example.com/x = v1.1.0
+heading|gamma|example.com/x|v1.1.0 = module example.com/x;|
+count|gamma|example.com/x = 0
+paths|gamma = example.com/x;
+failures = 0
+====
+group-add|platform = Done
+team-add|gamma|platform = Done
+team-add|delta|platform = Done
+team-add|alpha = Done
+insert|platform|example.com/x|v1.0.0|module example.com/x; = ()
+insert|common|example.com/x|v1.1.0|module example.com/x; = ()
+versions|gamma|example.com/x = v1.0.0;v1.1.0;
+versions|platform|example.com/x = v1.0.0;v1.1.0;
+versions|alpha|example.com/x = v1.1.0;
+insert|platform|example.com/x|v1.2.0|module example.com/x; = ()
+insert|delta|example.com/x|v1.3.0|module example.com/x; = ()
+versions|gamma|example.com/x = v1.0.0;v1.1.0;v1.2.0;
+versions|delta|example.com/x = v1.0.0;v1.1.0;v1.2.0;v1.3.0;
+versions|platform|example.com/x = v1.0.0;v1.1.0;v1.2.0;
+versions|alpha|example.com/x = v1.1.0;
+latest|gamma|example.com/x = v1.2.0
+latest|delta|example.com/x = v1.3.0
+latest|alpha|example.com/x = v1.1.0
+insert|gamma|example.com/x|v1.4.0|module example.com/x;retract [v1.2.0, v1.4.0]; = ()
+latest|gamma|example.com/x = v1.1.0
+latest|platform|example.com/x = v1.2.0
+count|gamma|example.com/x = 1
+count|delta|example.com/x = 1
+count|platform|example.com/x = 2
+insert|delta|example.com/own|v1.0.0|module example.com/own; = ()
+insert|platform|example.com/group|v1.0.0|module example.com/group; = ()
+paths|gamma = example.com/group;example.com/x;
+paths|delta = example.com/group;example.com/own;example.com/x;
+paths|platform = example.com/group;example.com/x;
+paths|alpha = example.com/x;
+paths|common = example.com/x;
+compare|gamma|example.com/x|v1.0.0|module example.com/x; = Same
+compare|gamma|example.com/x|v1.0.0|module example.com/x;|zip = Other
+compare|gamma|example.com/x|v1.3.0|module example.com/x; = Absent
+compare|platform|example.com/x|v1.4.0|module example.com/x; = Absent
+compare|alpha|example.com/x|v1.0.0|module example.com/x; = Absent
+entry|gamma|example.com/x|v1.0.0 = platform|module example.com/x;||
+entry|alpha|example.com/x|v1.0.0 = none
+insert|common|example.com/x|v1.0.0|module example.com/x;|zip = ()
+entry|gamma|example.com/x|v1.0.0 = platform|module example.com/x;||
+entry|alpha|example.com/x|v1.0.0 = common|module example.com/x;|zip|
+insert|gamma|example.com/x|v1.0.0|module example.com/x;|own = ()
+entry|gamma|example.com/x|v1.0.0 = gamma|module example.com/x;|own|
+entry|delta|example.com/x|v1.0.0 = platform|module example.com/x;||
+versions|gamma|example.com/x = v1.0.0;v1.1.0;v1.2.0;v1.4.0;
+failures = 0
+====
 team-add|alpha = Done
 team-add|alpha = Taken
 team-add|common = Name
@@ -193,13 +283,23 @@ fn answered<S: Shelves>(alloc: Global, shelves: &mut S, call: &str) -> Result<St
     let (first, second) = (column(call, 1), column(call, 2));
     match column(call, 0) {
         "failures" => Ok(named(alloc, Ok(shelves.failures()))?),
-        "team-add" => Ok(named(alloc, shelves.team_add(first))?),
+        "team-add" => Ok(named(alloc, shelves.team_add(first, given(second)))?),
+        "group-add" => Ok(named(alloc, shelves.group_add(first))?),
         "key-add" => Ok(named(alloc, shelves.key_add(first, second, Right::Publishes))?),
         "reader-add" => Ok(named(alloc, shelves.key_add(first, second, Right::Reads))?),
         "key-revoke" => Ok(named(alloc, shelves.key_revoke(first))?),
         "key" => key(alloc, shelves, first),
         "paths" => paths(alloc, shelves, first),
         _ => of_path(alloc, shelves, call),
+    }
+}
+
+/// A column that may be empty.
+fn given(column: &str) -> Option<&str> {
+    if column.is_empty() {
+        None
+    } else {
+        Some(column)
     }
 }
 

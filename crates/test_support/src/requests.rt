@@ -157,6 +157,60 @@ GET B -/gosum/example.com/x/@v/v1.0.0 | 200 OK | plain | example.com/x v1.0.0/go
 PUT A example.com/!lib/@v/v1.0.0-a.mod | 201 Created | plain | published; | module example.com/Lib; |
 GET A -/gosum/example.com/!lib/@v/v1.0.0-a.mod | 200 OK | plain | example.com/Lib v1.0.0-a.mod/go.mod h1:QCLwax7NYDdQrhhEO5lFRKWPJgpb1/PsD0HlPYhcfdU=;
 GET A -/gosum/example.com/Lib/@v/v1.0.0-a.mod | 404 Not Found | plain | not found;
+====
+team-add|alpha = Done
+team-add|beta = Done
+key-add|alpha|alphakey00000001 = Done
+key-add|beta|betakey000000001 = Done
+key-add|common|commonkey0000001 = Done
+group-add|platform = Done
+team-add|gamma|platform = Done
+team-add|delta|platform = Done
+key-add|platform|platformkey00001 = Done
+key-add|gamma|gammakey00000001 = Done
+key-add|delta|deltakey00000001 = Done
+team-is-no-group
+team-add|eps|alpha = NoGroup
+name-shared
+group-add|gamma = Taken
+group-publishes
+PUT P example.com/g/@v/v1.0.0 | 201 Created | plain | published; | module example.com/g; | g
+group-seen-by-members
+GET M example.com/g/@v/v1.0.0.zip | 200 OK | zip | g
+GET D example.com/g/@v/v1.0.0.zip | 200 OK | zip | g
+GET A example.com/g/@v/v1.0.0.zip | 404 Not Found | plain | not found;
+GET C example.com/g/@v/v1.0.0.zip | 404 Not Found | plain | not found;
+member-under-group
+PUT M example.com/g/@v/v1.0.0 | 409 Conflict | plain | conflict; | module example.com/g; | m
+PUT M example.com/g/@v/v1.0.0 | 200 OK | plain | already published; | module example.com/g; | g
+chain-publishes
+PUT M example.com/h/@v/v1.0.0 | 201 Created | plain | published; | module example.com/h; | m
+PUT P example.com/h/@v/v1.0.0 | 201 Created | plain | published; | module example.com/h; | h
+PUT C example.com/h/@v/v1.0.0 | 201 Created | plain | published; | module example.com/h; | c
+chain-view
+GET M example.com/h/@v/v1.0.0.zip | 200 OK | zip | m
+GET D example.com/h/@v/v1.0.0.zip | 200 OK | zip | h
+GET P example.com/h/@v/v1.0.0.zip | 200 OK | zip | h
+GET A example.com/h/@v/v1.0.0.zip | 200 OK | zip | c
+chain-lists
+PUT D example.com/h/@v/v1.1.0 | 201 Created | plain | published; | module example.com/h; | d
+PUT P example.com/h/@v/v1.2.0 | 201 Created | plain | published; | module example.com/h;retract [v1.1.0, v1.2.0]; | p
+GET M example.com/h/@v/list | 200 OK | plain | v1.0.0;v1.2.0;
+GET D example.com/h/@v/list | 200 OK | plain | v1.0.0;v1.1.0;v1.2.0;
+GET A example.com/h/@v/list | 200 OK | plain | v1.0.0;
+GET M example.com/h/@latest | 200 OK | json | {\"Version\":\"v1.0.0\"}
+GET D example.com/h/@latest | 200 OK | json | {\"Version\":\"v1.0.0\"}
+PUT D example.com/h/@v/v1.3.0 | 201 Created | plain | published; | module example.com/h; |
+GET D example.com/h/@latest | 200 OK | json | {\"Version\":\"v1.3.0\"}
+GET M example.com/h/@latest | 200 OK | json | {\"Version\":\"v1.0.0\"}
+GET P example.com/h/@v/list | 200 OK | plain | v1.0.0;v1.2.0;
+PUT D example.com/own/@v/v1.0.0 | 201 Created | plain | published; | module example.com/own; |
+GET M -/modules | 200 OK | plain | example.com/g;example.com/h;
+GET D -/modules | 200 OK | plain | example.com/g;example.com/h;example.com/own;
+GET P -/modules | 200 OK | plain | example.com/g;example.com/h;
+GET A -/modules | 200 OK | plain | example.com/h;
+GET M -/gosum/example.com/g/@v/v1.0.0 | 200 OK | plain | example.com/g v1.0.0/go.mod h1:OJ1klDEevVKLkxk3UnEX/d9Uk3DpmjQKYxb0X6M2RS0=;
+GET A -/gosum/example.com/g/@v/v1.0.0 | 404 Not Found | plain | not found;
 ";
 
 /// A column of a row.
@@ -171,6 +225,9 @@ fn key_of(letter: &str) -> &'static str {
         "R" => "alphareader00001",
         "B" => "betakey000000001",
         "C" => "commonkey0000001",
+        "P" => "platformkey00001",
+        "M" => "gammakey00000001",
+        "D" => "deltakey00000001",
         _ => "nosuchkey0000001",
     }
 }

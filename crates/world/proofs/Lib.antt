@@ -27,3 +27,4 @@ pub mod Sees
 pub mod Parts
 pub mod Places
 pub mod Profiles
+pub mod Groups

@@ -1,10 +1,9 @@
 -- A change of a store in memory, which stands for one world.
-use Rattle.std.proofs.Common.{◌≡◌, ◌⊎◌, ◌∙◌, ℕ, List, true, false, refl, Ok, inl, inr}
+use Rattle.std.proofs.Common.{◌≡◌, ◌⊎◌, ◌∙◌, ℕ, List, true, false, refl, Ok, inl, inr, Option}
 use Rattle.std.specs.FinMap as map
-use Rattle.std.specs.FinSet as set
 use Rattle.world.specs.declared.registry.Registered.TheVariants.{Done}
 use Rattle.world.specs.World.{World, IsWorld, is_team_name, is_key}
-use Rattle.world.specs.Registry.{team_added, key_added, key_revoked}
+use Rattle.world.specs.Registry.{lacks_group, team_added, group_added, key_added, key_revoked}
 use Rattle.world.specs.Store.{DoesAt, ReadsAt}
 use Rattle.world.specs.InMemory.{in_memory}
 
@@ -33,10 +32,13 @@ told m w x value is answer = record { answer = answer; stays = is; left = λ x y
 pub told_of : {T : Type 0} (old new w : World) (x value : T) → new ≡ old → ((old ≡ w) × IsWorld w) → x ≡ value → ReadsAt (in_memory old) (in_memory new) w (Ok x) value
 told_of old new w x value same is answer = record { answer = answer; stays = (same ∙ is.0, is.1); left = λ x y left. still same left }
 
-pub team_done : (w : World) (t : List ℕ) → is_team_name t ≡ true → set.contains w.shelves t ≡ false → team_added w t ≡ Done
-team_done w t named free = rw (named, free) refl
+pub team_done : (w : World) (t : List ℕ) (group : Option (List ℕ)) → is_team_name t ≡ true → map.contains_key w.shelves t ≡ false → lacks_group w group ≡ false → team_added w t group ≡ Done
+team_done w t group named free has = rw (named, free, has) refl
 
-pub key_done : (w : World) (s k : List ℕ) → is_key k ≡ true → set.contains w.shelves s ≡ true → map.contains_key w.keys k ≡ false → key_added w s k ≡ Done
+pub group_done : (w : World) (g : List ℕ) → is_team_name g ≡ true → map.contains_key w.shelves g ≡ false → group_added w g ≡ Done
+group_done w g named free = rw (named, free) refl
+
+pub key_done : (w : World) (s k : List ℕ) → is_key k ≡ true → map.contains_key w.shelves s ≡ true → map.contains_key w.keys k ≡ false → key_added w s k ≡ Done
 key_done w s k named there free = rw (named, there, free) refl
 
 pub key_gone : (w : World) (k : List ℕ) → map.contains_key w.keys k ≡ true → key_revoked w k ≡ Done

@@ -35,6 +35,13 @@ contains_more s (x ∷ ts) t =
     ∙ ap (λ b. b || list_any (eq_by_cmp text_cmp t) ts) (set.contains-insert texts_total s x t)
     ∙ regroup (eq_by_cmp text_cmp t x) (set.contains s t) _
 
+-- the keys of a map, as a set
+pub has_keys : {X : Type 0} (m : map.FinMap text_cmp X) (t : List ℕ) → set.contains (with_texts set.empty (map.keys m)) t ≡ is_some (map.get m t)
+has_keys m t =
+    contains_more set.empty (map.keys m) t
+    ∙ ap (λ b. b || list_any (eq_by_cmp text_cmp t) (map.keys m)) (set.contains-empty text_cmp t)
+    ∙ sym (map.contains_key-keys m t)
+
 -- a set that gets the texts of a map becomes its union with one that has the same
 more_keys : {X : Type 0} (s u : set.FinSet text_cmp) (m : map.FinMap text_cmp X) → ((t : List ℕ) → set.contains u t ≡ is_some (map.get m t)) → with_texts s (map.keys m) ≡ set.union s u
 more_keys s u m same = set.same_set texts_total texts_exact _ _ (λ t.
@@ -43,17 +50,23 @@ more_keys s u m same = set.same_set texts_total texts_exact _ _ (λ t.
 no_more : (s u : set.FinSet text_cmp) → ((t : List ℕ) → set.contains u t ≡ false) → s ≡ set.union s u
 no_more s u none = set.same_set texts_total texts_exact _ _ (λ t. sym (set.contains-union texts_total s u t ∙ ap (λ b. set.contains s t || b) (none t) ∙ or_false (set.contains s t)))
 
-same_union : (a b : Bool) → ((false || a) || b) ≡ (a || (b || false))
-same_union true b = refl
-same_union false true = refl
-same_union false false = refl
+or_or : (a b c : Bool) → ((a || b) || c) ≡ (a || (b || c))
+or_or true b c = refl
+or_or false b c = refl
 
--- two sets put into an empty one
-pub both_sets : (s t : set.FinSet text_cmp) → set.union (set.union set.empty s) t ≡ set.union s (set.union t set.empty)
-both_sets s t = set.same_set texts_total texts_exact _ _ (λ q.
-    set.contains-union texts_total (set.union set.empty s) t q ∙ ap (λ b. b || set.contains t q) (set.contains-union texts_total set.empty s q ∙ ap (λ b. b || set.contains s q) (set.contains-empty text_cmp q))
-    ∙ same_union (set.contains s q) (set.contains t q)
-    ∙ sym (set.contains-union texts_total s (set.union t set.empty) q ∙ ap (λ b. set.contains s q || b) (set.contains-union texts_total t set.empty q ∙ ap (λ b. set.contains t q || b) (set.contains-empty text_cmp q))))
+-- two sets put into a third, one after the other
+pub both_sets : (s t u : set.FinSet text_cmp) → set.union (set.union s t) u ≡ set.union s (set.union t u)
+both_sets s t u = set.same_set texts_total texts_exact _ _ (λ q.
+    set.contains-union texts_total (set.union s t) u q ∙ ap (λ b. b || set.contains u q) (set.contains-union texts_total s t q)
+    ∙ or_or (set.contains s q) (set.contains t q) (set.contains u q)
+    ∙ sym (set.contains-union texts_total s (set.union t u) q ∙ ap (λ b. set.contains s q || b) (set.contains-union texts_total t u q)))
+
+-- nothing put into a set, and a set put into an empty one
+pub none_put : (s : set.FinSet text_cmp) → set.union s set.empty ≡ s
+none_put s = sym (no_more s set.empty (λ q. set.contains-empty text_cmp q))
+
+pub put_first : (s : set.FinSet text_cmp) → set.union set.empty s ≡ s
+put_first s = set.same_set texts_total texts_exact _ _ (λ q. set.contains-union texts_total set.empty s q ∙ ap (λ b. b || set.contains s q) (set.contains-empty text_cmp q))
 
 -- ---- versions
 

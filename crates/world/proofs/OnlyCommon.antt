@@ -1,16 +1,14 @@
 -- The shelf `common` alone is a world.
 use Rattle.std.proofs.Common.{◌≡◌, ℕ, List, Bool, true, false, cond, refl, ◌∙◌, sym, ap, Option, Some, None, inl, arith, true≢false}
-use Rattle.std.specs.Prelude.{◌||◌, is_some, bytes_eq, ◌&&◌}
-use Rattle.std.specs.Ordering.{eq_by_cmp, is_eq}
+use Rattle.std.specs.Prelude.{is_some, bytes_eq, ◌&&◌}
+use Rattle.std.specs.Ordering.{eq_by_cmp}
 use Rattle.std.specs.declared.cmp.Ordering.{Ordering}
-use Rattle.std.specs.Cmp.{tied_itself}
 use Rattle.std.specs.FinMap as map
-use Rattle.std.specs.FinSet as set
 use Rattle.std.proofs.lemmas.Map.Views.{tells_apart}
 use Rattle.world.specs.declared.entry.Place.{Place}
 use Rattle.world.specs.declared.entry.Entry.{Entry}
 use Rattle.world.specs.World.{IsWorld, only_common, common, text_cmp, place_cmp}
-use Rattle.world.proofs.Orders.{texts_total, texts_exact, places_total, places_exact}
+use Rattle.world.proofs.Orders.{texts_total, texts_exact, places_total, places_exact, get_put}
 
 none_is_none : {X : Type 0} (x : X) → ◌≡◌ {A = Option X} None (Some x) → ⊥
 none_is_none x e = true≢false (sym (ap is_some e))
@@ -18,15 +16,22 @@ none_is_none x e = true≢false (sym (ap is_some e))
 none_in_empty : {K X : Type 0} (R : K → K → Ordering) (q : K) (x : X) → map.get (map.empty {X = X} {R = R}) q ≡ Some x → ⊥
 none_in_empty R q x e = none_is_none x (sym (map.get-empty R q) ∙ e)
 
-first_true : (a b : Bool) → b ≡ false → (a || b) ≡ true → a ≡ true
-first_true true b none h = refl
-first_true false b none h = absurd (true≢false (sym h ∙ none))
+-- of one text a map has what was put there, and nothing of another
+one_text : {X : Type 0} (b : Bool) (x y : X) → cond b (Some x) None ≡ Some y → (b ≡ true) × (x ≡ y)
+one_text true x y e = (refl, cc e)
+one_text false x y e = cc e
 
-has_itself : (t : List ℕ) → set.contains (set.insert (set.empty {R = text_cmp}) t) t ≡ true
-has_itself t = set.contains-insert texts_total set.empty t t ∙ ap (λ o. is_eq o || set.contains (set.empty {R = text_cmp}) t) (tied_itself texts_total t)
+pub only_one : {X : Type 0} (t : List ℕ) (x : X) (u : List ℕ) (y : X) → map.get (map.insert (map.empty {R = text_cmp}) t x) u ≡ Some y → (u ≡ t) × (x ≡ y)
+only_one t x u y e =
+    let at = one_text (eq_by_cmp text_cmp u t) x y (sym (map.get-insert texts_total map.empty t x u ∙ ap (cond (eq_by_cmp text_cmp u t) (Some x)) (map.get-empty text_cmp u)) ∙ e) in
+    (tells_apart texts_exact u t at.0, at.1)
 
-pub has_nothing_else : (t x : List ℕ) → set.contains (set.insert (set.empty {R = text_cmp}) t) x ≡ true → x ≡ t
-has_nothing_else t x h = tells_apart texts_exact x t (first_true (eq_by_cmp text_cmp x t) (set.contains (set.empty {R = text_cmp}) x) (set.contains-empty text_cmp x) (sym (set.contains-insert texts_total set.empty t x) ∙ h))
+some_there : {X : Type 0} (o : Option X) → is_some o ≡ true → (x : X) × (o ≡ Some x)
+some_there None e = absurd (true≢false (sym e))
+some_there (Some x) e = (x, refl)
+
+pub has_nothing_else : {X : Type 0} (t : List ℕ) (x : X) (u : List ℕ) → map.contains_key (map.insert (map.empty {R = text_cmp}) t x) u ≡ true → u ≡ t
+has_nothing_else t x u h = let at = some_there _ h in (only_one t x u at.0 at.1).0
 
 neither : {X : Type 0} (b : Bool) → ◌≡◌ {A = Option X} (cond b None None) None
 neither true = refl
@@ -42,8 +47,9 @@ none_retained p =
 -- the shelf `common` alone is a world
 pub only_common_stands : IsWorld only_common
 only_common_stands = record {
-  has_common = has_itself common;
-  team_names = λ s h. inl (has_nothing_else common s h);
+  has_common = get_put texts_total map.empty common None;
+  team_names = λ s h. inl (has_nothing_else common None s h);
+  parents = λ s parent e. let never : ◌≡◌ {A = Option (List ℕ)} None (Some parent) = (only_one common None s (Some parent) e).1 in cc never;
   key_names = λ k h e. absurd (none_in_empty text_cmp k h e);
   keys_stand = λ k h e. absurd (none_in_empty text_cmp k h e);
   entries_fit = λ q e at. absurd (none_in_empty place_cmp q e at);

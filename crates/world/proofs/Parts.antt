@@ -1,8 +1,7 @@
 -- What a shelf sees of a world is a world.
 use Rattle.std.proofs.Common.{◌≡◌, ℕ, ◌≤◌, List, Bool, true, false, cond, refl, ◌∙◌, sym, ap, Option, Some, None, arith}
-use Rattle.std.specs.Prelude.{bytes_eq, ◌&&◌}
+use Rattle.std.specs.Prelude.{bytes_eq, ◌&&◌, is_some}
 use Rattle.std.specs.FinMap as map
-use Rattle.std.specs.FinSet as set
 use Rattle.std.specs.declared.cmp.Ordering.TheVariants.{Equal}
 use Rattle.std.proofs.lemmas.Bool.{true≢false, and_parts}
 use Rattle.world.specs.declared.entry.Place.{Place}
@@ -11,15 +10,28 @@ use Rattle.world.specs.declared.entry.Holder.{Holder}
 use Rattle.world.specs.World.{World, common, chain, is_among, sees, text_cmp, place_cmp, count, version_limit}
 use Rattle.world.specs.Part.{part, is_held, PartIsWorld, PartHasTheChain}
 use Rattle.world.proofs.Orders.{texts_exact, places_total, places_exact, text_same, test_alike}
-use Rattle.world.proofs.Sees.{sees_common, seen_stands}
+use Rattle.world.proofs.Sees.{sees_common, sees_parent, sees_through, seen_stands}
 
 text_alike : (f : List ℕ → Bool) (q x : List ℕ) → text_cmp q x ≡ Equal → f x ≡ f q
 text_alike f q x e = ap f (sym (texts_exact q x e))
 
 -- ---- what it has
 
-pub shelf_at : (w : World) (t s : List ℕ) → set.contains (part w t).shelves s ≡ (set.contains w.shelves s && sees w t s)
-shelf_at w t s = set.contains-retain w.shelves (is_among (chain w t)) s (text_alike (is_among (chain w t)) s)
+pub parent_at : (w : World) (t s : List ℕ) → map.get (part w t).shelves s ≡ cond (sees w t s) (map.get w.shelves s) None
+parent_at w t s = map.get-retain_keys w.shelves (is_among (chain w t)) s (text_alike (is_among (chain w t)) s)
+
+some_left : {X : Type 0} (b : Bool) (o : Option X) → is_some (cond b o None) ≡ (is_some o && b)
+some_left true None = refl
+some_left true (Some x) = refl
+some_left false None = refl
+some_left false (Some x) = refl
+
+pub shelf_at : (w : World) (t s : List ℕ) → map.contains_key (part w t).shelves s ≡ (map.contains_key w.shelves s && sees w t s)
+shelf_at w t s = ap is_some (parent_at w t s) ∙ some_left (sees w t s) (map.get w.shelves s)
+
+-- a shelf that it sees has its parent
+pub parent_left : (w : World) (t s : List ℕ) → sees w t s ≡ true → map.get (part w t).shelves s ≡ map.get w.shelves s
+parent_left w t s seen = parent_at w t s ∙ ap (λ b. cond b (map.get w.shelves s) None) seen
 
 pub key_at : (w : World) (t k : List ℕ) → map.get (part w t).keys k ≡ cond (is_held (chain w t) (map.get w.keys k)) (map.get w.keys k) None
 key_at w t k = let test : List ℕ → Bool = λ j. is_held (chain w t) (map.get w.keys j) in map.get-retain_keys w.keys test k (text_alike test k)
@@ -84,8 +96,11 @@ few_left w t s p few =
 
 pub part_is_world : PartIsWorld
 part_is_world w t is = record {
-  has_common = shelf_at w t common ∙ both _ _ is.has_common (sees_common w t);
-  team_names = λ s at. is.team_names s (and_parts (set.contains w.shelves s) (sees w t s) (sym (shelf_at w t s) ∙ at)).0;
+  has_common = parent_left w t common (sees_common w t) ∙ is.has_common;
+  team_names = λ s at. is.team_names s (and_parts (map.contains_key w.shelves s) (sees w t s) (sym (shelf_at w t s) ∙ at)).0;
+  parents = λ s parent at.
+      let it = passed (sees w t s) (map.get w.shelves s) (Some parent) (sym (parent_at w t s) ∙ at) in
+      parent_left w t parent (sees_through w is t s parent it.0 (sees_parent w s parent it.1)) ∙ is.parents s parent it.1;
   key_names = λ k h at. is.key_names k h (held_key w t k h at).0;
   keys_stand = λ k h at. let it = held_key w t k h at in shelf_at w t h.shelf ∙ both _ _ (is.keys_stand k h it.0) it.1;
   entries_fit = λ q e at. is.entries_fit q e (held_entry w t q e at).0;

@@ -40,6 +40,7 @@ pub world_still : Profile2KeepsWorlds
 world_still w is = record {
   has_common = is.has_common;
   team_names = is.team_names;
+  parents = is.parents;
   key_names = is.key_names;
   keys_stand = is.keys_stand;
   entries_fit = λ q e at. entry_still q e (is.entries_fit q e at);

@@ -16,9 +16,9 @@ use Rattle.modpath.specs.Path.{suffix_of}
 use Rattle.world.specs.declared.entry.Seen.{Seen}
 use Rattle.world.specs.Latest.{AllOf}
 use Rattle.world.specs.Lines.{in_order, EachToNext}
-use Rattle.world.specs.Versions.{with_version, named, version_cmp, by_precedence, versions_of, VersionsAscend}
-use Rattle.world.specs.Visible.{IsSeen, seen_versions, versions_among, versions_seen}
-use Rattle.world.specs.World.{World, IsWorld, IsWorldBy, IsEntry, IsEntryBy, chain, common, place, text_cmp, seen_at, first_on, view}
+use Rattle.world.specs.Versions.{with_version, named, named_on, version_cmp, by_precedence, versions_of, VersionsAscend}
+use Rattle.world.specs.Visible.{IsSeen, seen_versions, versions_among, versions_on, versions_seen}
+use Rattle.world.specs.World.{World, IsWorld, IsWorldBy, IsEntry, IsEntryBy, chain, place, text_cmp, seen_at, first_on, view}
 use Rattle.world.proofs.Orders.{texts_total, texts_exact}
 use Rattle.world.proofs.Members.{no_member, first_member, later_member, member_cases, in_order_rises, in_order_of, in_set_of}
 use Rattle.world.proofs.Precedence.{same_versions, sorted_members, below_next}
@@ -74,41 +74,35 @@ module _ (v : SemanticVersion) where
     λ h. (named_by (in_order ts) v).1 (h.0, in_order_of texts_total texts_exact ts h.0 h.1, h.2),
   )
 
-  -- two sets name what the texts of both name
-  module _ (a b : set.FinSet text_cmp) where
-    abbrev both : set.FinSet text_cmp
-    both = set.union a (set.union b set.empty)
+-- ---- the versions of a path that a shelf sees
 
-    either : (t : List ℕ) → set.contains both t ≡ (set.contains a t || (set.contains b t || false))
-    either t = set.contains-union texts_total a (set.union b set.empty) t ∙ ap (λ x. set.contains a t || x) (set.contains-union texts_total b set.empty t ∙ ap (λ x. set.contains b t || x) (set.contains-empty text_cmp t))
-
-    in_one : (t : List ℕ) → set.contains both t ≡ true → (set.contains a t ≡ true) ⊎ (set.contains b t ≡ true)
-    in_one t at = elim (or_cases (set.contains a t) _ (sym (either t) ∙ at)) [
-      | inl one ↦ inl one
-      | inr rest ↦ elim (or_cases (set.contains b t) false rest) [ inl other ↦ inr other | inr never ↦ absurd (true≢false (sym never)) ]
-    ]
-
-    pub named_in_both : Contains (named (in_order a) ++ named (in_order b)) v ↔ Contains (named (in_order both)) v
-    named_in_both = (
-      λ at. elim (Contains-append_cases (named (in_order a)) (named (in_order b)) v at) [
-        | inl one ↦ let by = (named_in a).0 one in (named_in both).1 (by.0, either by.0 ∙ or_left _ _ by.1, by.2)
-        | inr other ↦ let by = (named_in b).0 other in (named_in both).1 (by.0, either by.0 ∙ or_right (set.contains a by.0) _ (or_left _ false by.1), by.2)
+-- those that the texts on some shelves name, shelf by shelf, are those that all of them name
+named_on_members : (w : World) (ss : List (List ℕ)) (p : List ℕ) (v : SemanticVersion) → Contains (named_on w ss p) v ↔ Contains (named (in_order (versions_on w ss p))) v
+named_on_members w [] p v = (
+  λ at. absurd (no_member v at),
+  λ at. let by = (named_in v set.empty).0 at in absurd (true≢false (sym by.1 ∙ set.contains-empty text_cmp by.0)),
+)
+named_on_members w (s ∷ ss) p v =
+    let here = versions_among s p (map.entries w.entries) in
+    let behind = versions_on w ss p in
+    let all = set.union here behind in
+    let rest = named_on_members w ss p v in
+    let either = λ (t : List ℕ). set.contains-union texts_total here behind t in (
+      λ at. elim (Contains-append_cases (named (in_order here)) (named_on w ss p) v at) [
+        | inl one ↦ let by = (named_in v here).0 one in (named_in v all).1 (by.0, either by.0 ∙ or_left _ _ by.1, by.2)
+        | inr other ↦ let by = (named_in v behind).0 (rest.0 other) in (named_in v all).1 (by.0, either by.0 ∙ or_right (set.contains here by.0) _ by.1, by.2)
       ],
       λ at.
-          let by = (named_in both).0 at in
-          elim (in_one by.0 by.1) [
-            | inl one ↦ Contains-append_left (named (in_order a)) (named (in_order b)) v ((named_in a).1 (by.0, one, by.2))
-            | inr other ↦ Contains-append_right (named (in_order a)) (named (in_order b)) v ((named_in b).1 (by.0, other, by.2))
+          let by = (named_in v all).0 at in
+          elim (or_cases (set.contains here by.0) _ (sym (either by.0) ∙ by.1)) [
+            | inl one ↦ Contains-append_left (named (in_order here)) (named_on w ss p) v ((named_in v here).1 (by.0, one, by.2))
+            | inr other ↦ Contains-append_right (named (in_order here)) (named_on w ss p) v (rest.1 ((named_in v behind).1 (by.0, other, by.2)))
           ],
     )
 
--- ---- the versions of a path that a shelf sees
-
--- those on its own shelf and those on common, in whatever order
-pub on_both_shelves : (w : World) (s p : List ℕ)
-    → in_order (by_precedence (named (in_order (versions_among s p (map.entries w.entries))) ++ named (in_order (versions_among common p (map.entries w.entries))))) ≡ versions_of w s p
-on_both_shelves w s p =
-    ap in_order (same_versions _ _ (λ v. named_in_both v (versions_among s p (map.entries w.entries)) (versions_among common p (map.entries w.entries))))
+-- so those of its chain, in whatever order, are those that a shelf sees
+pub on_chain : (w : World) (s p : List ℕ) → in_order (by_precedence (named_on w (chain w s) p)) ≡ versions_of w s p
+on_chain w s p = ap in_order (same_versions _ _ (λ v. named_on_members w (chain w s) p v))
 
 -- what is seen stands on a shelf
 stands_on : (w : World) (ss : List (List ℕ)) (p v : List ℕ) (e : Seen) → first_on w ss p v ≡ Some e → map.get w.entries (place e.shelf p v) ≡ Some e.entry

@@ -1,23 +1,23 @@
 -- Each change of a world leads to a world.
 use Rattle.std.proofs.Common.{◌≡◌, ℕ, ◌+◌, ◌≤◌, ◌<◌, List, Bool, true, false, cond, refl, ◌∙◌, sym, ap, subst, Option, Some, None, inl, inr, ◌⊎◌, arith}
-use Rattle.std.specs.Prelude.{bytes_eq, ◌&&◌, not, if◌then◌else◌}
+use Rattle.std.specs.Prelude.{bytes_eq, ◌&&◌, ◌||◌, not, is_some, if◌then◌else◌, unwrap_or}
 use Rattle.std.specs.Ordering.{eq_by_cmp}
 use Rattle.std.specs.declared.cmp.Ordering.{Ordering}
 use Rattle.std.specs.Cmp.{IsTotalOrder}
 use Rattle.std.specs.FinMap as map
 use Rattle.std.specs.FinSet as set
-use Rattle.std.proofs.lemmas.Bool.{true≢false, and_parts, or_cases, or_right}
+use Rattle.std.proofs.lemmas.Bool.{true≢false, and_parts, not-false, or_cases, or_right}
 use Rattle.std.proofs.lemmas.Map.Views.{tells_apart}
 use Rattle.world.specs.declared.entry.Place.{Place}
 use Rattle.world.specs.declared.entry.Entry.{Entry}
 use Rattle.world.specs.declared.entry.Holder.{Holder}
 use Rattle.world.specs.declared.entry.Right.{Right}
 use Rattle.world.specs.declared.registry.Registered.{Registered}
-use Rattle.world.specs.declared.registry.Registered.TheVariants.{Done, Name, Taken, NoTeam}
-use Rattle.world.specs.World.{World, IsWorld, IsEntry, common, is_team_name, is_key, version_limit, text_cmp, count, with_entry, with_key, without_key, with_team}
-use Rattle.world.specs.Registry.{team_added, key_added, after_team_add, after_key_add, after_key_revoke}
+use Rattle.world.specs.declared.registry.Registered.TheVariants.{Done, Name, Taken, NoTeam, NoGroup}
+use Rattle.world.specs.World.{World, IsWorld, IsEntry, common, is_team_name, is_key, version_limit, text_cmp, count, with_entry, with_key, without_key, with_shelf, with_team, with_group}
+use Rattle.world.specs.Registry.{is_top, is_group, lacks_group, team_added, group_added, key_added, after_team_add, after_group_add, after_key_add, after_key_revoke}
 use Rattle.world.specs.Store.{IsRoomFor}
-use Rattle.world.proofs.Orders.{texts_total, texts_exact, places_total, places_exact, text_same}
+use Rattle.world.proofs.Orders.{texts_total, texts_exact, places_total, places_exact, text_same, get_elsewhere}
 use Rattle.world.proofs.Retained.{stays, goes}
 
 -- ---- one more
@@ -40,6 +40,53 @@ still s t x stands = set.contains-insert texts_total s t x ∙ or_right (eq_by_c
 -- what is among the old or is the new
 new_or_old : (s : set.FinSet text_cmp) (t x : List ℕ) → set.contains (set.insert s t) x ≡ true → (x ≡ t) ⊎ (set.contains s x ≡ true)
 new_or_old s t x at = elim (or_cases (eq_by_cmp text_cmp x t) _ (sym (set.contains-insert texts_total s t x) ∙ at)) [ inl here ↦ inl (tells_apart texts_exact x t here) | inr old ↦ inr old ]
+
+-- ---- one more shelf
+
+-- what stands where a shelf is put, by the test of its name
+some_put : {X : Type 0} (b : Bool) (x : X) (o : Option X) → is_some (cond b (Some x) o) ≡ (b || is_some o)
+some_put true x o = refl
+some_put false x o = refl
+
+module _ (w : World) (s : List ℕ) (parent : Option (List ℕ)) where
+  pub has_put : (x : List ℕ) → map.contains_key (with_shelf w s parent).shelves x ≡ (eq_by_cmp text_cmp x s || map.contains_key w.shelves x)
+  has_put x = ap is_some (map.get-insert texts_total w.shelves s parent x) ∙ some_put (eq_by_cmp text_cmp x s) parent (map.get w.shelves x)
+
+  -- a shelf that is there stays there
+  pub stands_still : (x : List ℕ) → map.contains_key w.shelves x ≡ true → map.contains_key (with_shelf w s parent).shelves x ≡ true
+  stands_still x stands = has_put x ∙ or_right (eq_by_cmp text_cmp x s) _ stands
+
+  -- what is there is the new one or was there before
+  pub new_or_stood : (x : List ℕ) → map.contains_key (with_shelf w s parent).shelves x ≡ true → (x ≡ s) ⊎ (map.contains_key w.shelves x ≡ true)
+  new_or_stood x at = elim (or_cases (eq_by_cmp text_cmp x s) _ (sym (has_put x) ∙ at)) [ inl here ↦ inl (tells_apart texts_exact x s here) | inr old ↦ inr old ]
+
+  module _ (fresh : map.contains_key w.shelves s ≡ false) where
+    -- and keeps its parent
+    pub parent_still : (x : List ℕ) → map.contains_key w.shelves x ≡ true → map.get (with_shelf w s parent).shelves x ≡ map.get w.shelves x
+    parent_still x stands = get_elsewhere texts_total texts_exact w.shelves s parent x (λ same. true≢false (sym stands ∙ ap (map.contains_key w.shelves) same ∙ fresh))
+
+    put_still : (x : List ℕ) (o : Option (List ℕ)) → map.get w.shelves x ≡ Some o → map.get (with_shelf w s parent).shelves x ≡ Some o
+    put_still x o at = parent_still x (ap is_some at) ∙ at
+
+    pub shelf_stands : IsWorld w → is_team_name s ≡ true → ((g : List ℕ) → parent ≡ Some g → map.get w.shelves g ≡ Some None) → IsWorld (with_shelf w s parent)
+    shelf_stands is named tops = record {
+      has_common = put_still common None is.has_common;
+      team_names = λ x at. elim (new_or_stood x at) [
+        | inl here ↦ inr (ap is_team_name here ∙ named)
+        | inr old ↦ is.team_names x old
+      ];
+      parents = λ x g at. elim (at_or_before texts_total texts_exact w.shelves s x parent (Some g) at) [
+        | inl here ↦ put_still g None (tops g here.1)
+        | inr before ↦ put_still g None (is.parents x g before)
+      ];
+      key_names = is.key_names;
+      keys_stand = λ k h at. stands_still h.shelf (is.keys_stand k h at);
+      entries_fit = is.entries_fit;
+      entries_stand = λ q e at. stands_still q.shelf (is.entries_stand q e at);
+      few = is.few;
+    }
+
+-- ---- one more entry, one key more or less
 
 at_most_one_more : (b : Bool) (n : ℕ) → cond b n (n + 1) ≤ n + 1
 at_most_one_more true n = omega arith
@@ -66,6 +113,7 @@ pub entry_added : (w : World) (q : Place) (e : Entry) → IsWorld w → IsRoomFo
 entry_added w q e is room = record {
   has_common = is.has_common;
   team_names = is.team_names;
+  parents = is.parents;
   key_names = is.key_names;
   keys_stand = is.keys_stand;
   entries_fit = λ r x at. elim (at_or_before places_total places_exact w.entries q r e x at) [
@@ -73,22 +121,23 @@ entry_added w q e is room = record {
     | inr before ↦ is.entries_fit r x before
   ];
   entries_stand = λ r x at. elim (at_or_before places_total places_exact w.entries q r e x at) [
-    | inl here ↦ ap (λ (y : Place). set.contains w.shelves y.shelf) (sym here.0) ∙ room.stands
+    | inl here ↦ ap (λ (y : Place). map.contains_key w.shelves y.shelf) (sym here.0) ∙ room.stands
     | inr before ↦ is.entries_stand r x before
   ];
   few = λ s p. count_after w q e s p room.room (is.few s p);
 }
 
-pub key_stands : (w : World) (k : List ℕ) (h : Holder) → IsWorld w → is_key k ≡ true → set.contains w.shelves h.shelf ≡ true → IsWorld (with_key w k h)
+pub key_stands : (w : World) (k : List ℕ) (h : Holder) → IsWorld w → is_key k ≡ true → map.contains_key w.shelves h.shelf ≡ true → IsWorld (with_key w k h)
 key_stands w k h is named stands = record {
   has_common = is.has_common;
   team_names = is.team_names;
+  parents = is.parents;
   key_names = λ j g at. elim (at_or_before texts_total texts_exact w.keys k j h g at) [
     | inl here ↦ ap is_key (sym here.0) ∙ named
     | inr before ↦ is.key_names j g before
   ];
   keys_stand = λ j g at. elim (at_or_before texts_total texts_exact w.keys k j h g at) [
-    | inl here ↦ ap (λ (y : Holder). set.contains w.shelves y.shelf) (sym here.1) ∙ stands
+    | inl here ↦ ap (λ (y : Holder). map.contains_key w.shelves y.shelf) (sym here.1) ∙ stands
     | inr before ↦ is.keys_stand j g before
   ];
   entries_fit = is.entries_fit;
@@ -108,24 +157,11 @@ pub key_gone : (w : World) (k : List ℕ) → IsWorld w → IsWorld (without_key
 key_gone w k is = record {
   has_common = is.has_common;
   team_names = is.team_names;
+  parents = is.parents;
   key_names = λ j h at. is.key_names j h (key_before w k j h at);
   keys_stand = λ j h at. is.keys_stand j h (key_before w k j h at);
   entries_fit = is.entries_fit;
   entries_stand = is.entries_stand;
-  few = is.few;
-}
-
-pub team_stands : (w : World) (t : List ℕ) → IsWorld w → is_team_name t ≡ true → IsWorld (with_team w t)
-team_stands w t is named = record {
-  has_common = still w.shelves t common is.has_common;
-  team_names = λ s at. elim (new_or_old w.shelves t s at) [
-    | inl here ↦ inr (ap is_team_name here ∙ named)
-    | inr old ↦ is.team_names s old
-  ];
-  key_names = is.key_names;
-  keys_stand = λ k h at. still w.shelves t h.shelf (is.keys_stand k h at);
-  entries_fit = is.entries_fit;
-  entries_stand = λ q e at. still w.shelves t q.shelf (is.entries_stand q e at);
   few = is.few;
 }
 
@@ -142,22 +178,52 @@ key_is_fit true true c e = (refl, refl)
 key_is_fit true false c e = absurd (true≢false (sym (ap is_done e)))
 key_is_fit false b c e = absurd (true≢false (sym (ap is_done e)))
 
-team_is_fit : (a b : Bool) → (if not a then Name else if b then Taken else Done) ≡ Done → (a ≡ true) × (b ≡ false)
+shelf_is_fit : (a b : Bool) → (if not a then Name else if b then Taken else Done) ≡ Done → (a ≡ true) × (b ≡ false)
 unfolding is_done
-team_is_fit true false e = (refl, refl)
-team_is_fit true true e = absurd (true≢false (sym (ap is_done e)))
-team_is_fit false b e = absurd (true≢false (sym (ap is_done e)))
+shelf_is_fit true false e = (refl, refl)
+shelf_is_fit true true e = absurd (true≢false (sym (ap is_done e)))
+shelf_is_fit false b e = absurd (true≢false (sym (ap is_done e)))
 
-pub new_team : (w : World) (t : List ℕ) → team_added w t ≡ Done → (is_team_name t ≡ true) × (set.contains w.shelves t ≡ false)
-new_team w t e = team_is_fit (is_team_name t) (set.contains w.shelves t) e
+team_is_fit : (a b c : Bool) → (if not a then Name else if b then Taken else if c then NoGroup else Done) ≡ Done → (a ≡ true) × (b ≡ false) × (c ≡ false)
+unfolding is_done
+team_is_fit true false false e = (refl, refl, refl)
+team_is_fit true false true e = absurd (true≢false (sym (ap is_done e)))
+team_is_fit true true c e = absurd (true≢false (sym (ap is_done e)))
+team_is_fit false b c e = absurd (true≢false (sym (ap is_done e)))
 
-pub sound_team : (w : World) (t : List ℕ) (r : Registered) → IsWorld w → team_added w t ≡ r → IsWorld (after_team_add w t r)
-sound_team w t Done is e = team_stands w t is (new_team w t e).0
-sound_team w t r is e = is
+pub new_team : (w : World) (t : List ℕ) (group : Option (List ℕ)) → team_added w t group ≡ Done → (is_team_name t ≡ true) × (map.contains_key w.shelves t ≡ false) × (lacks_group w group ≡ false)
+new_team w t group e = team_is_fit (is_team_name t) (map.contains_key w.shelves t) (lacks_group w group) e
+
+pub new_group : (w : World) (g : List ℕ) → group_added w g ≡ Done → (is_team_name g ≡ true) × (map.contains_key w.shelves g ≡ false)
+new_group w g e = shelf_is_fit (is_team_name g) (map.contains_key w.shelves g) e
+
+-- a shelf that is there and has no parent
+top_is : (o : Option (Option (List ℕ))) → is_top o ≡ true → o ≡ Some None
+top_is None e = absurd (true≢false (sym e))
+top_is (Some None) e = refl
+top_is (Some (Some parent)) e = absurd (true≢false (sym e))
+
+-- below which a team is made has no parent
+pub below_top : (w : World) (group : Option (List ℕ)) → IsWorld w → lacks_group w group ≡ false → map.get w.shelves (unwrap_or group common) ≡ Some None
+below_top w None is has = is.has_common
+below_top w (Some g) is has = top_is (map.get w.shelves g) (and_parts (is_top (map.get w.shelves g)) (not (bytes_eq g common)) (not-false (is_group w g) has)).0
+
+same_parent : (a g : List ℕ) → Some a ≡ Some g → a ≡ g
+same_parent a g e = cc e
+
+pub sound_team : (w : World) (t : List ℕ) (group : Option (List ℕ)) (r : Registered) → IsWorld w → team_added w t group ≡ r → IsWorld (after_team_add w t group r)
+sound_team w t group Done is e =
+    let new = new_team w t group e in
+    shelf_stands w t (Some (unwrap_or group common)) new.1 is new.0 (λ g at. ap (map.get w.shelves) (sym (same_parent (unwrap_or group common) g at)) ∙ below_top w group is new.2)
+sound_team w t group r is e = is
+
+pub sound_group : (w : World) (g : List ℕ) (r : Registered) → IsWorld w → group_added w g ≡ r → IsWorld (after_group_add w g r)
+sound_group w g Done is e = let new = new_group w g e in shelf_stands w g None new.1 is new.0 (λ p never. cc never)
+sound_group w g r is e = is
 
 pub sound_key : (w : World) (t k : List ℕ) (right : Right) (r : Registered) → IsWorld w → key_added w t k ≡ r → IsWorld (after_key_add w t k right r)
 sound_key w t k right Done is e =
-    let fit = key_is_fit (is_key k) (set.contains w.shelves t) (map.contains_key w.keys k) e in key_stands w k (record { shelf = t; right = right }) is fit.0 fit.1
+    let fit = key_is_fit (is_key k) (map.contains_key w.shelves t) (map.contains_key w.keys k) e in key_stands w k (record { shelf = t; right = right }) is fit.0 fit.1
 sound_key w t k right r is e = is
 
 pub sound_revoke : (w : World) (k : List ℕ) (r : Registered) → IsWorld w → IsWorld (after_key_revoke w k r)

@@ -2,7 +2,6 @@
 use Rattle.std.specs.Prelude.{ℕ, List, Bool, true, false, refl, ◌≡◌, Option}
 use Rattle.std.specs.Coded.{Coded, code_by, coded×, coded_ℕ, coded_list, coded_bool, coded_option}
 use Rattle.std.specs.FinMap as map
-use Rattle.std.specs.FinSet as set
 use Rattle.modver.specs.SemanticVersion.{SemanticVersion}
 use Rattle.world.specs.declared.entry.Place.{Place}
 use Rattle.world.specs.declared.entry.Entry.{Entry}
@@ -48,6 +47,6 @@ place_code = code_by (List ℕ × (List ℕ × List ℕ)) (coded× text_code (co
 
 abbrev pub world_code : Coded World
 world_code =
-    code_by (map.FinMap text_cmp Holder × (set.FinSet text_cmp × map.FinMap place_cmp Entry))
-    (coded× (map.code text_code holder_code) (coded× (set.code text_code) (map.code place_code entry_code)))
+    code_by (map.FinMap text_cmp Holder × (map.FinMap text_cmp (Option (List ℕ)) × map.FinMap place_cmp Entry))
+    (coded× (map.code text_code holder_code) (coded× (map.code text_code (coded_option text_code)) (map.code place_code entry_code)))
     (λ w. (w.keys, (w.shelves, w.entries))) (λ p. record { keys = p.0; shelves = p.1.0; entries = p.1.1 }) (λ _. refl)

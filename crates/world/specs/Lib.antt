@@ -19,3 +19,4 @@ pub mod KeptLists
 pub mod Part
 pub mod Places
 pub mod Profiles
+pub mod Groups

@@ -1,7 +1,6 @@
 -- What a call of a store does in each world that the store stands for, and to what a crash may leave.
 use Rattle.std.specs.Prelude.{ℕ, ◌≡◌, ◌<◌, ◌≤◌, ◌-◌, ◌^◌, ◌⊎◌, Result, OnOk, OnErr, IfOk, IsErrOf, None, true}
 use Rattle.std.specs.FinMap as map
-use Rattle.std.specs.FinSet as set
 use Rattle.world.specs.declared.entry.Place.{Place}
 use Rattle.world.specs.declared.entry.Entry.{Entry}
 use Rattle.world.specs.declared.registry.StoreFault.{StoreFault}
@@ -55,7 +54,7 @@ pub record Reads {T : Type 0} (old new : Shown) (result : Result T StoreFault) (
 
 -- an entry may be put there: its shelf stands, the place is free, and the shelf has room
 pub record IsRoomFor (w : World) (q : Place) (e : Entry) : Type 0 where
-  pub stands : set.contains w.shelves q.shelf ≡ true
+  pub stands : map.contains_key w.shelves q.shelf ≡ true
   pub free : map.get w.entries q ≡ None
   pub room : count w q.shelf q.path < version_limit
   pub entry : IsEntry q e

@@ -1,8 +1,9 @@
 -- Versions in the order of their precedence, and those of a path that a shelf sees.
-use Rattle.std.specs.Prelude.{ℕ, ◌↔◌, List, [], ◌∷◌, Contains, Option, Some, None}
+use Rattle.std.specs.Prelude.{ℕ, ◌↔◌, List, [], ◌∷◌, ◌++◌, Contains, Option, Some, None}
 use Rattle.std.proofs.lemmas.Cmp.{nat_list_cmp_total, on_total, then_total}
 use Rattle.std.specs.Cmp.{IsTotalOrder}
 use Rattle.std.specs.Cmp.Lexicographic.{slice_cmp}
+use Rattle.std.specs.FinMap as map
 use Rattle.std.specs.FinSet as set
 use Rattle.std.specs.Ordering.{nat_cmp, on, then_cmp}
 use Rattle.std.specs.declared.cmp.Ordering.{Ordering}
@@ -11,7 +12,7 @@ use Rattle.modver.specs.Precedence.{IsBelow, precedence}
 use Rattle.modver.specs.Reading.{version_of}
 use Rattle.modver.specs.SemanticVersion.{SemanticVersion, version_text}
 use Rattle.world.specs.Lines.{in_order, EachToNext}
-use Rattle.world.specs.Visible.{seen_versions, versions_seen}
+use Rattle.world.specs.Visible.{seen_versions, versions_among, versions_seen}
 use Rattle.world.specs.World.{World, IsWorld}
 
 -- ---- what texts name
@@ -39,6 +40,11 @@ versions_total = then_total precedence_total (on_total version_text nat_list_cmp
 abbrev pub by_precedence : List SemanticVersion → set.FinSet version_cmp
 by_precedence [] = set.empty
 by_precedence (v ∷ vs) = set.insert (by_precedence vs) v
+
+-- the versions of a path that the texts on these shelves name, shelf by shelf
+abbrev pub named_on : World → List (List ℕ) → List ℕ → List SemanticVersion
+named_on w [] p = []
+named_on w (s ∷ ss) p = named (in_order (versions_among s p (map.entries w.entries))) ++ named_on w ss p
 
 -- the versions of a path that a shelf sees, in ascending precedence
 abbrev pub versions_of : World → List ℕ → List ℕ → List SemanticVersion

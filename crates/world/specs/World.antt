@@ -1,12 +1,11 @@
 -- What stands on the shelves, and what each shelf sees of it.
-use Rattle.std.specs.Prelude.{ℕ, List, [], ◌∷◌, Bool, true, ◌&&◌, Option, Some, None, bytes_eq, ◌≡◌, ◌≤◌, ◌⊎◌, length, option_map}
+use Rattle.std.specs.Prelude.{ℕ, List, [], ◌∷◌, Bool, true, ◌&&◌, if◌then◌else◌, Option, Some, None, bytes_eq, ◌≡◌, ◌≤◌, ◌⊎◌, length, option_map, unwrap_or}
 use Rattle.std.specs.List.{list_any}
 use Rattle.std.specs.Option.{option_or}
 use Rattle.std.specs.Ordering.{nat_cmp, ordering_then}
 use Rattle.std.specs.Cmp.Lexicographic.{slice_cmp}
 use Rattle.std.specs.declared.cmp.Ordering.{Ordering}
 use Rattle.std.specs.FinMap as map
-use Rattle.std.specs.FinSet as set
 use Rattle.world.specs.declared.entry.Place.{Place}
 use Rattle.world.specs.declared.entry.Entry.{Entry}
 use Rattle.world.specs.declared.entry.Heading.{Heading}
@@ -32,17 +31,33 @@ place_cmp a b = ordering_then (text_cmp a.shelf b.shelf) (ordering_then (text_cm
 abbrev pub place : List ℕ → List ℕ → List ℕ → Place
 place s p v = record { shelf = s; path = p; version = v }
 
--- the keys with their shelf and right, the names of the shelves, and the entries
+-- the keys with their shelf and right, the shelves by their names, each with its parent, and the entries.
+-- Common and groups have no parent; that of a team is its group, or common.
 pub record World : Type 0 where
   pub keys : map.FinMap text_cmp Holder
-  pub shelves : set.FinSet text_cmp
+  pub shelves : map.FinMap text_cmp (Option (List ℕ))
   pub entries : map.FinMap place_cmp Entry
 
 -- ---- what a shelf sees
 
--- the shelves that a shelf sees, the nearest first: its own, and common
+-- the group of a shelf by its parent, if it is there and has one: a parent that is not common
+abbrev pub group_in : Option (Option (List ℕ)) → Option (List ℕ)
+group_in None = None
+group_in (Some None) = None
+group_in (Some (Some parent)) = if bytes_eq parent common then None else Some parent
+
+-- the group of a shelf, if it has one
+abbrev pub group_of : World → List ℕ → Option (List ℕ)
+group_of w s = group_in (map.get w.shelves s)
+
+-- the shelves above one of this group, or of none
+abbrev pub above : Option (List ℕ) → List (List ℕ)
+above None = common ∷ []
+above (Some group) = group ∷ common ∷ []
+
+-- the shelves that a shelf sees, the nearest first: its own, its group if it has one, and common
 abbrev pub chain : World → List ℕ → List (List ℕ)
-chain w s = s ∷ common ∷ []
+chain w s = s ∷ above (group_of w s)
 
 -- whether a shelf is among these
 abbrev pub is_among : List (List ℕ) → List ℕ → Bool
@@ -62,7 +77,7 @@ abbrev pub first_on : World → List (List ℕ) → List ℕ → List ℕ → Op
 first_on w [] p v = None
 first_on w (s ∷ ss) p v = option_or (seen_at (map.get w.entries (place s p v)) s) (first_on w ss p v)
 
--- what a shelf sees of a version: its own entry if it has one, else that of common
+-- what a shelf sees of a version: the entry of the nearest shelf of its chain that has one
 abbrev pub view : World → List ℕ → List ℕ → List ℕ → Option Seen
 view w s p v = first_on w (chain w s) p v
 
@@ -100,13 +115,21 @@ with_key w k h = record { keys = map.insert w.keys k h; shelves = w.shelves; ent
 abbrev pub without_key : World → List ℕ → World
 without_key w k = record { keys = map.remove w.keys k; shelves = w.shelves; entries = w.entries }
 
--- one more team
-abbrev pub with_team : World → List ℕ → World
-with_team w s = record { keys = w.keys; shelves = set.insert w.shelves s; entries = w.entries }
+-- one more shelf, with its parent
+abbrev pub with_shelf : World → List ℕ → Option (List ℕ) → World
+with_shelf w s parent = record { keys = w.keys; shelves = map.insert w.shelves s parent; entries = w.entries }
+
+-- one more team, of a group or of none
+abbrev pub with_team : World → List ℕ → Option (List ℕ) → World
+with_team w s group = with_shelf w s (Some (unwrap_or group common))
+
+-- one more group
+abbrev pub with_group : World → List ℕ → World
+with_group w s = with_shelf w s None
 
 -- the shelf `common`, and nothing on it
 abbrev pub only_common : World
-only_common = record { keys = map.empty; shelves = set.insert set.empty common; entries = map.empty }
+only_common = record { keys = map.empty; shelves = map.insert map.empty common None; entries = map.empty }
 
 -- ---- what every world keeps
 
@@ -145,15 +168,17 @@ IsEntry q e = IsEntryBy profile_in_force q e
 
 -- What every world keeps whose go.mods are read by these keywords.
 pub record IsWorldBy (known : Keywords) (w : World) : Type 0 where
-  -- common is there, and each other shelf has the name of a team
-  pub has_common : set.contains w.shelves common ≡ true
-  pub team_names : (s : List ℕ) → set.contains w.shelves s ≡ true → (s ≡ common) ⊎ (is_team_name s ≡ true)
+  -- common is there and has no parent, and each other shelf has the name of a team
+  pub has_common : map.get w.shelves common ≡ Some None
+  pub team_names : (s : List ℕ) → map.contains_key w.shelves s ≡ true → (s ≡ common) ⊎ (is_team_name s ≡ true)
+  -- each parent is there and has none: it is common or a group
+  pub parents : (s parent : List ℕ) → map.get w.shelves s ≡ Some (Some parent) → map.get w.shelves parent ≡ Some None
   -- each key is well formed, and its shelf is there
   pub key_names : (k : List ℕ) (h : Holder) → map.get w.keys k ≡ Some h → is_key k ≡ true
-  pub keys_stand : (k : List ℕ) (h : Holder) → map.get w.keys k ≡ Some h → set.contains w.shelves h.shelf ≡ true
+  pub keys_stand : (k : List ℕ) (h : Holder) → map.get w.keys k ≡ Some h → map.contains_key w.shelves h.shelf ≡ true
   -- each entry may stand at its place, and its shelf is there
   pub entries_fit : (q : Place) (e : Entry) → map.get w.entries q ≡ Some e → IsEntryBy known q e
-  pub entries_stand : (q : Place) (e : Entry) → map.get w.entries q ≡ Some e → set.contains w.shelves q.shelf ≡ true
+  pub entries_stand : (q : Place) (e : Entry) → map.get w.entries q ≡ Some e → map.contains_key w.shelves q.shelf ≡ true
   -- no shelf has more versions of a path than the limit
   pub few : (s p : List ℕ) → count w s p ≤ version_limit
 

@@ -47,6 +47,21 @@ pub struct Seen {
     pub entry: Entry,
 }
 
+/// An entry with the shelf that it stands on, both borrowed.
+#[derive(Drop)]
+pub struct SeenRef<'a> {
+    pub shelf: &'a str,
+    pub entry: &'a Entry,
+}
+
+impl<'a> Model for SeenRef<'a> {
+    ghost use Rattle.world.specs.declared.entry.Seen.{Seen};
+
+    ghost Value = { Seen };
+
+    ghost view = { λ s. record { shelf = s.shelf.now; entry = s.entry.now } };
+}
+
 /// An entry whose files are borrowed from whoever holds them.
 #[derive(Drop)]
 pub struct EntryRef<'a> {
@@ -92,6 +107,17 @@ impl Place {
             path,
             version,
         })
+    }
+}
+
+impl<'a> SeenRef<'a> {
+    /// A copy of both.
+    pub fn copy(&self, alloc: Global) -> Result<Seen, AllocError>
+        ensures { IfOk result (λ s. s ≡ self.now) }
+    {
+        let shelf = Text::copy_of(alloc, self.shelf)?;
+        let entry = Entry::copy_of(alloc, &self.entry.as_ref())?;
+        Ok(Seen { shelf, entry })
     }
 }
 

@@ -1,5 +1,6 @@
 //! What holds of worlds by their definitions alone.
 ghost use Rattle.world.specs.EntryTest.{EntryTestIsExact};
+ghost use Rattle.world.specs.Groups.{EachHasAKind, SeesItsGroup, SeesItselfAndCommon};
 ghost use Rattle.world.specs.Part.{PartIsWorld, PartHasTheChain};
 ghost use Rattle.world.specs.Places.{PlacesRead, SeenPlacesRead};
 ghost use Rattle.world.specs.Profiles.{Profile2KeepsWorlds};
@@ -8,6 +9,14 @@ ghost use Rattle.world.specs.Versions.{VersionsAscend};
 /// The test of an entry passes exactly those that may stand at their place.
 pub fn entry_tests()
     ensures { EntryTestIsExact }
+{}
+
+/// A shelf is `common`, a group or a team, and sees itself, `common`, and the group that it is a member of. Without groups
+/// it sees itself and `common`.
+pub fn groups()
+    ensures kinds { EachHasAKind }
+    ensures sight { SeesItsGroup }
+    ensures alone { SeesItselfAndCommon }
 {}
 
 /// What a shelf sees of a world is a world, with the shelves that it sees, each of them.

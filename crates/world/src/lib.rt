@@ -1,15 +1,17 @@
 //! What stands on the shelves and whose the keys are; what a store of them has to do; and the store in memory.
 //!
-//! There is the shelf `common`, and one shelf for each team. An entry stands at a shelf, a module path and a
-//! version, and holds the go.mod and the zip as they were received, and a time where it has one. A key belongs to
-//! one shelf, and may read, or read and publish. A shelf sees of each version its own entry if there is one, else
-//! that of `common`.
+//! There is the shelf `common`, and one shelf for each group and for each team, which may be a member of one group, for
+//! good. An entry stands at a shelf, a module path and a version, and holds the go.mod and the zip as they were
+//! received, and a time where it has one. A key belongs to one shelf, and may read, or read and publish. A shelf sees
+//! of each version its own entry if there is one, else that of its group if it has one and that is there, else that of
+//! `common`.
 //!
-//! | on the shelves | `alpha` sees | `beta` sees |
-//! |---|---|---|
-//! | nothing of `example.com/y` `v1.0.0` | nothing | nothing |
-//! | `alpha` has it with the zip `a` | `a` | nothing |
-//! | `common` has it too, with the zip `c` | `a` | `c` |
+//! | on the shelves | `gamma`, of the group `platform`, sees | `platform` sees | `alpha`, of no group, sees |
+//! |---|---|---|---|
+//! | nothing of `example.com/y` `v1.0.0` | nothing | nothing | nothing |
+//! | `gamma` has it with the zip `m` | `m` | nothing | nothing |
+//! | `platform` has it too, with the zip `h` | `m` | `h` | nothing |
+//! | `common` has it too, with the zip `c` | `m` | `h` | `c` |
 //!
 //! Nothing here knows of requests: the crate `shelf` answers them over any [`shelves::Shelves`]. A contract says
 //! what a call does in each world that the store stands for, and to what a crash may leave.

@@ -1,14 +1,17 @@
 //! Shelves in memory.
-ghost use Rattle.std.specs.Prelude.{◌≡◌, option_copied, option_map, IfOk, IsOk};
+ghost use Rattle.std.specs.Prelude.{◌≡◌, ◌++◌, option_copied, unwrap_or, IfOk, IsOk, OnOk, OnErr};
 ghost use Rattle.std.specs.FinMap as map;
+ghost use Rattle.std.specs.FinSet as set;
 ghost use Rattle.modver.specs.SemanticVersion.{version_text};
 ghost use Rattle.world.specs.Latest.{latest_of};
 ghost use Rattle.world.specs.Lines.{in_order};
+ghost use Rattle.world.specs.Registry.{is_group, lacks_group};
 ghost use Rattle.world.specs.Standing.{standing};
-ghost use Rattle.world.specs.Versions.{by_precedence, versions_of};
-ghost use Rattle.world.specs.World.{IsWorld, only_common, place, seen_at, heading_of, heading, count};
+ghost use Rattle.world.specs.Versions.{by_precedence, named_on, versions_of};
+ghost use Rattle.world.specs.Visible.{paths_on};
+ghost use Rattle.world.specs.World.{IsWorld, common, only_common, place, group_of, above, seen_at, first_on, view, heading, count, with_shelf};
 
-use crate::entry::{Entry, EntryRef, Heading, Holder, Right, Seen};
+use crate::entry::{Entry, EntryRef, Heading, Holder, Right, Seen, SeenRef};
 use crate::kept_lists::KeptLists;
 use crate::maps::entry_map::EntryMap;
 use crate::maps::text_map::TextMap;
@@ -31,7 +34,7 @@ use text::Text;
 pub struct MapShelves {
     alloc: Global,
     keys: TextMap<Holder>,
-    shelves: TextSet,
+    shelves: TextMap<Option<Text>>,
     entries: EntryMap,
     lists: KeptLists,
 }
@@ -55,8 +58,8 @@ impl MapShelves {
     pub fn new(alloc: Global) -> Result<MapShelves, AllocError>
         ensures { IfOk result (λ m. m ≡ only_common) }
     {
-        let mut shelves = TextSet::new(alloc);
-        shelves.insert(String::from_str(alloc, COMMON)?)?;
+        let mut shelves = TextMap::new(alloc);
+        shelves.insert(String::from_str(alloc, COMMON)?, None)?;
         Ok(MapShelves {
             alloc,
             keys: TextMap::new(alloc),
@@ -66,23 +69,105 @@ impl MapShelves {
         })
     }
 
-    /// What stands on a shelf.
-    fn entry_on(&self, shelf: &str, path: &ModulePath, version: &Version) -> Option<&Entry>
-        ensures { option_copied result ≡ map.get self.now.entries (place shelf.now path.now (version_text version.now)) }
+    /// The group of a shelf, if it has one.
+    fn group_of(&self, shelf: &str) -> Option<&str>
+        ensures { option_copied result ≡ group_of self.now shelf.now }
     {
-        self.entries.get(shelf, path.as_str(), version.as_str())
+        let Some(Some(parent)) = self.shelves.get(shelf) else {
+            return None;
+        };
+        if parent.as_str() == COMMON {
+            return None;
+        }
+        Some(parent.as_str())
     }
 
-    /// The versions of a path that a shelf sees, in no order; one that stands on both shelves is there twice.
+    /// What stands on a shelf.
+    fn seen_on<'a>(
+        &'a self,
+        shelf: &'a str,
+        path: &ModulePath,
+        version: &Version,
+    ) -> Option<SeenRef<'a>>
+        ensures { result ≡ seen_at (map.get self.now.entries (place shelf.now path.now (version_text version.now))) shelf.now }
+    {
+        let entry = self.entries.get(shelf, path.as_str(), version.as_str())?;
+        Some(SeenRef { shelf, entry })
+    }
+
+    /// What is seen above a shelf of this group, or of none.
+    fn seen_above<'a>(
+        &'a self,
+        group: Option<&'a str>,
+        path: &ModulePath,
+        version: &Version,
+    ) -> Option<SeenRef<'a>>
+        ensures { result ≡ first_on self.now (above (option_copied group.entry)) path.now (version_text version.now) }
+    {
+        let Some(group) = group else {
+            return self.seen_on(COMMON, path, version);
+        };
+        match self.seen_on(group, path, version) {
+            Some(seen) => Some(seen),
+            None => self.seen_on(COMMON, path, version),
+        }
+    }
+
+    /// What a shelf sees of a version.
+    fn seen<'a>(
+        &'a self,
+        shelf: &'a str,
+        path: &ModulePath,
+        version: &Version,
+    ) -> Option<SeenRef<'a>>
+        ensures { result ≡ view self.now shelf.now path.now (version_text version.now) }
+    {
+        match self.seen_on(shelf, path, version) {
+            Some(own) => Some(own),
+            None => self.seen_above(self.group_of(shelf), path, version),
+        }
+    }
+
+    /// Adds the versions of a path above a shelf of this group, or of none, to others.
+    fn add_versions_above(
+        &self,
+        group: Option<&str>,
+        path: &str,
+        versions: &mut Vec<Version>,
+    ) -> Result<(), AllocError>
+        ensures { OnOk result (versions.new.items ≡ versions.old.items ++ named_on self.now (above (option_copied group.entry)) path.now) }
+    {
+        let Some(group) = group else {
+            return self
+                .entries
+                .add_versions(self.alloc, COMMON, path, versions);
+        };
+        self.entries
+            .add_versions(self.alloc, group, path, versions)?;
+        self.entries
+            .add_versions(self.alloc, COMMON, path, versions)
+    }
+
+    /// The versions of a path that a shelf sees, in no order; one that stands on more of its shelves is there as often.
     fn versions_seen(&self, shelf: &str, path: &str) -> Result<Vec<Version>, AllocError>
         ensures { IfOk result (λ vs. in_order (by_precedence vs.items) ≡ versions_of self.now shelf.now path.now) }
     {
         let mut versions = Vec::new(self.alloc);
         self.entries
             .add_versions(self.alloc, shelf, path, &mut versions)?;
-        self.entries
-            .add_versions(self.alloc, COMMON, path, &mut versions)?;
+        self.add_versions_above(self.group_of(shelf), path, &mut versions)?;
         Ok(versions)
+    }
+
+    /// Puts the paths above a shelf of this group, or of none, into a set.
+    fn add_paths_above(&self, group: Option<&str>, paths: &mut TextSet) -> Result<(), AllocError>
+        ensures { OnOk result (paths.new ≡ set.union paths.old (paths_on self.now (above (option_copied group.entry)))) }
+    {
+        let Some(group) = group else {
+            return self.entries.add_paths(self.alloc, COMMON, paths);
+        };
+        self.entries.add_paths(self.alloc, group, paths)?;
+        self.entries.add_paths(self.alloc, COMMON, paths)
     }
 
     /// The versions of a path that a shelf sees, in ascending precedence: those that are kept, which
@@ -97,40 +182,6 @@ impl MapShelves {
         sorted(self.alloc, self.versions_seen(shelf, path)?)
     }
 
-    /// A copy of what stands on a shelf.
-    fn seen_on(
-        &self,
-        shelf: &str,
-        path: &ModulePath,
-        version: &Version,
-    ) -> Result<Option<Seen>, AllocError>
-        ensures { IfOk result (λ seen. seen ≡ seen_at (map.get self.now.entries (place shelf.now path.now (version_text version.now))) shelf.now) }
-    {
-        match self.entry_on(shelf, path, version) {
-            None => Ok(None),
-            Some(entry) => {
-                let shelf = Text::copy_of(self.alloc, shelf)?;
-                let entry = Entry::copy_of(self.alloc, &entry.as_ref())?;
-                Ok(Some(Seen { shelf, entry }))
-            }
-        }
-    }
-
-    /// A copy of what stands on a shelf, without its zip.
-    fn heading_on(
-        &self,
-        shelf: &str,
-        path: &ModulePath,
-        version: &Version,
-    ) -> Result<Option<Heading>, AllocError>
-        ensures { IfOk result (λ h. h ≡ option_map heading_of (map.get self.now.entries (place shelf.now path.now (version_text version.now)))) }
-    {
-        match self.entry_on(shelf, path, version) {
-            None => Ok(None),
-            Some(entry) => Ok(Some(entry.heading(self.alloc)?)),
-        }
-    }
-
     /// A copy of what a shelf sees of a version, without its zip.
     fn heading_seen(
         &self,
@@ -140,11 +191,10 @@ impl MapShelves {
     ) -> Result<Option<Heading>, AllocError>
         ensures { IfOk result (λ h. h ≡ heading self.now shelf.now path.now (version_text version.now)) }
     {
-        let own = self.heading_on(shelf, path, version)?;
-        if own.is_some() {
-            return Ok(own);
+        match self.seen(shelf, path, version) {
+            None => Ok(None),
+            Some(seen) => Ok(Some(seen.entry.heading(self.alloc)?)),
         }
-        self.heading_on(COMMON, path, version)
     }
 
     /// The latest of the versions of a path that a shelf sees, which are given.
@@ -163,6 +213,49 @@ impl MapShelves {
         let heading = self.heading_seen(shelf, path, newest)?;
         let gomod = gomod_in(self.alloc, heading)?;
         latest_left(self.alloc, versions, gomod)
+    }
+}
+
+impl MapShelves {
+    /// Whether this is a group.
+    fn is_group(&self, name: &str) -> bool
+        ensures { result ≡ is_group self.now name.now }
+    {
+        match self.shelves.get(name) {
+            Some(None) => name != COMMON,
+            _ => false,
+        }
+    }
+
+    /// Whether a group is named that is none.
+    fn lacks_group(&self, group: Option<&str>) -> bool
+        ensures { result ≡ lacks_group self.now (option_copied group.entry) }
+    {
+        match group {
+            None => false,
+            Some(group) => !self.is_group(group),
+        }
+    }
+
+    /// Puts in a shelf that is not there. All lists of versions are forgotten, as one that was asked of
+    /// it before may have more now.
+    fn add_shelf(&mut self, name: &str, parent: Option<Text>) -> Result<(), AllocError>
+        ensures ok { OnOk result (self.new ≡ with_shelf self.old name.now parent) }
+        ensures err { OnErr result (self.new ≡ self.old) }
+    {
+        self.lists = KeptLists::new(self.alloc);
+        self.shelves
+            .insert(String::from_str(self.alloc, name)?, parent)
+    }
+}
+
+/// The parent of a team of this group, or of none.
+fn parent_of(group: Option<&str>) -> &str
+    ensures { result.now ≡ unwrap_or (option_copied group.entry) common }
+{
+    match group {
+        None => COMMON,
+        Some(group) => group,
     }
 }
 
@@ -197,11 +290,10 @@ impl Shelves for MapShelves {
         path: &ModulePath,
         version: &Version,
     ) -> Result<Option<Seen>, StoreFault> {
-        let own = self.seen_on(shelf, path, version)?;
-        if own.is_some() {
-            return Ok(own);
+        match self.seen(shelf, path, version) {
+            None => Ok(None),
+            Some(seen) => Ok(Some(seen.copy(self.alloc)?)),
         }
-        Ok(self.seen_on(COMMON, path, version)?)
     }
 
     fn heading(
@@ -226,12 +318,9 @@ impl Shelves for MapShelves {
         ensures cause { HasCause 0 0 result }
         ensures answers { IsOk result }
     {
-        if let Some(own) = self.entry_on(shelf, path, version) {
-            return Ok(standing_to(&own.as_ref(), entry));
-        }
-        match self.entry_on(COMMON, path, version) {
-            Some(of_common) => Ok(standing_to(&of_common.as_ref(), entry)),
+        match self.seen(shelf, path, version) {
             None => Ok(Standing::Absent),
+            Some(seen) => Ok(standing_to(&seen.entry.as_ref(), entry)),
         }
     }
 
@@ -252,7 +341,7 @@ impl Shelves for MapShelves {
     fn paths(&mut self, shelf: &str) -> Result<TextSet, StoreFault> {
         let mut paths = TextSet::new(self.alloc);
         self.entries.add_paths(self.alloc, shelf, &mut paths)?;
-        self.entries.add_paths(self.alloc, COMMON, &mut paths)?;
+        self.add_paths_above(self.group_of(shelf), &mut paths)?;
         Ok(paths)
     }
 
@@ -280,14 +369,29 @@ impl Shelves for MapShelves {
         Ok(())
     }
 
-    fn team_add(&mut self, name: &str) -> Result<Registered, StoreFault> {
+    fn team_add(&mut self, name: &str, group: Option<&str>) -> Result<Registered, StoreFault> {
         if !is_team_name(name) {
             return Ok(Registered::Name);
         }
-        if self.shelves.contains(name) {
+        if self.shelves.contains_key(name) {
             return Ok(Registered::Taken);
         }
-        self.shelves.insert(String::from_str(self.alloc, name)?)?;
+        if self.lacks_group(group) {
+            return Ok(Registered::NoGroup);
+        }
+        let parent = Text::copy_of(self.alloc, parent_of(group))?;
+        self.add_shelf(name, Some(parent))?;
+        Ok(Registered::Done)
+    }
+
+    fn group_add(&mut self, name: &str) -> Result<Registered, StoreFault> {
+        if !is_team_name(name) {
+            return Ok(Registered::Name);
+        }
+        if self.shelves.contains_key(name) {
+            return Ok(Registered::Taken);
+        }
+        self.add_shelf(name, None)?;
         Ok(Registered::Done)
     }
 
@@ -295,7 +399,7 @@ impl Shelves for MapShelves {
         if !is_key(key) {
             return Ok(Registered::Name);
         }
-        if !self.shelves.contains(shelf) {
+        if !self.shelves.contains_key(shelf) {
             return Ok(Registered::NoTeam);
         }
         if self.keys.contains_key(key) {

@@ -16,6 +16,8 @@ pub enum Registered {
     NoTeam,
     /// There is no such key.
     NoKey,
+    /// There is no such group.
+    NoGroup,
 }
 
 /// Why a store could not do what it was asked. The world is as before.

@@ -10,11 +10,11 @@ use modver::Version;
 /// A store. What a call does is said in each world that the store stands for before it, as far as
 /// no answer of a disk was wrong. After a call that fails the store stands for the same world; a crash may leave the change, whole.
 pub trait Shelves {
-    ghost use Rattle.std.specs.Prelude.{ℕ, ◌≡◌};
+    ghost use Rattle.std.specs.Prelude.{ℕ, ◌≡◌, option_copied};
     ghost use Rattle.std.specs.FinMap as map;
     ghost use Rattle.modver.specs.SemanticVersion.{version_text};
     ghost use Rattle.world.specs.World.{World, IsWorld, place, view, heading, count, with_entry};
-    ghost use Rattle.world.specs.Registry.{team_added, after_team_add, key_added, after_key_add, key_revoked, after_key_revoke};
+    ghost use Rattle.world.specs.Registry.{team_added, after_team_add, group_added, after_group_add, key_added, after_key_add, key_revoked, after_key_revoke};
     ghost use Rattle.world.specs.Standing.{standing};
     ghost use Rattle.world.specs.Latest.{latest_of};
     ghost use Rattle.world.specs.Versions.{versions_of};
@@ -100,9 +100,15 @@ pub trait Shelves {
             (shown self.old) (shown self.new) result (λ _. tt) (λ w. with_entry w (place shelf.now path.now (version_text version.now)) entry.now) }
         ensures cause { HasCause (failure_count self.old) (failure_count self.new) result };
 
-    /// Adds a team.
-    fn team_add(&mut self, name: &str) -> Result<Registered, StoreFault>
-        ensures does { Does (shown self.old) (shown self.new) result (λ w. team_added w name.now) (λ w. after_team_add w name.now (team_added w name.now)) }
+    /// Adds a team, as a member of a group or of none.
+    fn team_add(&mut self, name: &str, group: Option<&str>) -> Result<Registered, StoreFault>
+        ensures does { Does (shown self.old) (shown self.new) result (λ w. team_added w name.now (option_copied group.entry))
+            (λ w. after_team_add w name.now (option_copied group.entry) (team_added w name.now (option_copied group.entry))) }
+        ensures cause { HasCause (failure_count self.old) (failure_count self.new) result };
+
+    /// Adds a group.
+    fn group_add(&mut self, name: &str) -> Result<Registered, StoreFault>
+        ensures does { Does (shown self.old) (shown self.new) result (λ w. group_added w name.now) (λ w. after_group_add w name.now (group_added w name.now)) }
         ensures cause { HasCause (failure_count self.old) (failure_count self.new) result };
 
     /// Adds a key to a shelf.

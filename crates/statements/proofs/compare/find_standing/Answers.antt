@@ -1,8 +1,8 @@
-use Rattle.std.proofs.Common.{true, false, sym, ap, subst, ◌∙◌, to_z-of_z, w64, SFits, rules}
+use Rattle.std.proofs.Common.{map, true, false, sym, ap, subst, ◌∙◌, to_z-of_z, w64, SFits, rules}
 use Rattle.sqlite.specs.Held.{state}
 use Rattle.sqlite.specs.Effect.{Database}
 use Rattle.world.specs.declared.entry.Entry.{Entry}
-use Rattle.world.specs.World.{view}
+use Rattle.world.specs.World.{first_on}
 use Rattle.statements.specs.Reading.{HasRow, IsZip}
 use Rattle.tables.proofs.FailureLemmas.{was_clean}
 use Rattle.statements.proofs.CallLemmas.{spares_then}
@@ -12,13 +12,13 @@ use Rattle.statements.proofs.compare.find_standing.Goals as goal
 pub returns-in_default-clause-answer : goal.returns-in_default-clause-answer
 returns-in_default-clause-answer g c clean w stands =
     let old = state g.S.Store c.args.conn.now in
-    let seen = view w c.args.shelf.now c.args.path.now c.args.version.now in
+    let seen = first_on w (map (λ s. s.now) c.args.shelves.now) c.args.path.now c.args.version.now in
     standing_lacks seen c.args.entry.now (subst (HasRow old.now.trees seen) c.in_default.is (c.in_ok-row.ensures.answer clean w stands))
 
 pub returns-then-not-has_heading-clause-answer : goal.returns-then-not-has_heading-clause-answer
 returns-then-not-has_heading-clause-answer g c clean w stands =
     let old = state g.S.Store c.args.conn.now in
-    let seen = view w c.args.shelf.now c.args.path.now c.args.version.now in
+    let seen = first_on w (map (λ s. s.now) c.args.shelves.now) c.args.path.now c.args.version.now in
     let it = subst (HasRow old.now.trees seen) c.in-Some.is (c.in_ok-row.ensures.answer clean w stands) in
     standing_other old.now.trees seen c.in-Some.row c.args.entry.now it (sym c.has_heading.ensures ∙ c.if-not-has_heading.true)
 
@@ -33,7 +33,7 @@ returns-then-branch-clause-answer g c clean w stands =
     let old = state g.S.Store c.args.conn.now in
     let mid = state g.S.Store c.row_seen.new.conn in
     let new = state g.S.Store c.has_zip.new.conn in
-    let seen = view w c.args.shelf.now c.args.path.now c.args.version.now in
+    let seen = first_on w (map (λ s. s.now) c.args.shelves.now) c.args.path.now c.args.version.now in
     let was = was_clean mid new c.has_zip.ensures.spares.clean clean in
     let range : SFits w64 c.in-Some.row.id = search rules in
     let z = rw (to_z-of_z {w = w64} {z = c.in-Some.row.id} range, ap (λ (x : Entry). x.zip) c.entry.view_is) at (c.in_ok-has_zip.ensures.answer clean w (c.row_seen.ensures.spares.stays w stands)) in
@@ -50,7 +50,7 @@ returns-clause-answer g c clean w stands =
     let old = state g.S.Store c.args.conn.now in
     let mid = state g.S.Store c.row_seen.new.conn in
     let new = state g.S.Store c.has_zip.new.conn in
-    let seen = view w c.args.shelf.now c.args.path.now c.args.version.now in
+    let seen = first_on w (map (λ s. s.now) c.args.shelves.now) c.args.path.now c.args.version.now in
     let was = was_clean mid new c.has_zip.ensures.spares.clean clean in
     let range : SFits w64 c.in-Some.row.id = search rules in
     let z = rw (to_z-of_z {w = w64} {z = c.in-Some.row.id} range, ap (λ (x : Entry). x.zip) c.entry.view_is) at (c.in_ok-has_zip.ensures.answer clean w (c.row_seen.ensures.spares.stays w stands)) in

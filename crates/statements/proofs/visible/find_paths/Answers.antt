@@ -1,20 +1,36 @@
-use Rattle.std.proofs.Common.{◌∙◌, ap}
+use Rattle.std.proofs.Common.{ℕ, List, [], map, take_all, sym, ap, ◌∙◌}
+use Rattle.std.proofs.lemmas.List.{map_more}
+use Rattle.std.specs.Borrow.{Bor}
 use Rattle.std.specs.FinSet as set
 use Rattle.sqlite.specs.Held.{state}
 use Rattle.tables.proofs.FailureLemmas.{was_clean}
+use Rattle.world.specs.Visible.{paths_on}
 use Rattle.statements.proofs.CallLemmas.{spares_then}
+use Rattle.statements.proofs.ExtractLemmas.{spares_itself}
+use Rattle.statements.proofs.VisibleLemmas.{paths_more}
 use Rattle.statements.proofs.visible.find_paths.Goals as goal
 
-pub returns-in_err-add_paths-2-clause-spares : goal.returns-in_err-add_paths-2-clause-spares
-returns-in_err-add_paths-2-clause-spares g c = spares_then _ _ _ c.add_paths.ensures.spares c.add_paths-2.ensures.spares
+pub loop-shelf-init : goal.loop-shelf-init
+loop-shelf-init g c = (spares_itself (state g.S.Store c.args.conn.now), λ clean w stands. c.new-texts.ensures)
 
-pub returns-clause-spares : goal.returns-clause-spares
-returns-clause-spares g c = spares_then _ _ _ c.add_paths.ensures.spares c.add_paths-2.ensures.spares
+pub loop-shelf-preserved : goal.loop-shelf-preserved
+loop-shelf-preserved g c =
+    let mid = state g.S.Store c.loop-shelf.conn in
+    let new = state g.S.Store c.add_paths.new.conn in
+    let nothing : Bor (List ℕ) = record { ref_ptr = (0, 0); now = [] } in (
+      spares_then _ _ _ c.loop-shelf.invariant.0 c.add_paths.ensures.spares,
+      λ clean w stands.
+          let before = c.loop-shelf.invariant.1 (was_clean mid new c.add_paths.ensures.spares.clean clean) w stands in
+          let added = c.in_ok-add_paths.ensures.adds clean w (c.loop-shelf.invariant.0.stays w stands) in
+          let more = map_more (λ (s : Bor (List ℕ)). s.now) c.args.shelves.now c.loop-shelf.shelf-index nothing c.loop-shelf-test.true in
+          added ∙ (ap (set.union _) before ∙ (sym (paths_more w _ _) ∙ ap (paths_on w) (sym more))),
+    )
+
+pub returns-in_err-add_paths-clause-spares : goal.returns-in_err-add_paths-clause-spares
+returns-in_err-add_paths-clause-spares g c = spares_then _ _ _ c.loop-shelf.invariant.0 c.add_paths.ensures.spares
 
 pub returns-clause-answer : goal.returns-clause-answer
 returns-clause-answer g c clean w stands =
-    let mid = state g.S.Store c.add_paths.new.conn in
-    let new = state g.S.Store c.add_paths-2.new.conn in
-    let first = c.in_ok-add_paths.ensures.adds (was_clean mid new c.add_paths-2.ensures.spares.clean clean) w stands in
-    let next = c.in_ok-add_paths-2.ensures.adds clean w (c.add_paths.ensures.spares.stays w stands) in
-    next ∙ ap (set.union _) (first ∙ ap (set.union _) c.new-texts.ensures)
+    let texts = c.loop-shelf.invariant.1 clean w stands in
+    let whole = take_all c.loop-shelf.shelf-index c.args.shelves.now c.loop-shelf-test.false in
+    texts ∙ ap (λ ss. paths_on w (map (λ (s : Bor (List ℕ)). s.now) ss)) whole

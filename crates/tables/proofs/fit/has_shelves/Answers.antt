@@ -1,14 +1,17 @@
-use Rattle.std.proofs.Common.{false, Err, refl}
-use Rattle.tables.proofs.Texts.{shelf_rows_text}
+use Rattle.std.proofs.Common.{◌≡◌, false, true, Err, refl, sym, ap, subst, ◌∙◌, ℕ, List, map, Decides}
+use Rattle.std.specs.FinSet as set
 use Rattle.sqlite.specs.Held.{state}
-use Rattle.tables.specs.declared.fit.ShelfRows.{ShelfRows}
+use Rattle.world.specs.World.{text_cmp}
+use Rattle.tables.specs.Fit.{AreShelvesFit, shelf_shown}
+use Rattle.tables.proofs.Texts.{shelf_rows_text}
 use Rattle.tables.proofs.ListingLemmas.{shelf_rows_plain, shelf_rows_tables}
 use Rattle.tables.proofs.FitTests.{told, refused, shelves_true, shelves_false}
+use Rattle.tables.proofs.Maps.{no_text}
 use Rattle.tables.proofs.WalkCauses.{shelf_walkable, shelf_vast, walk_reason, told_error}
 use Rattle.tables.proofs.fit.has_shelves.Goals as goal
 
-abbrev start : ShelfRows
-start = record { has_common = false }
+none_of : (s : set.FinSet text_cmp) → s ≡ set.empty → (u : List ℕ) → set.contains s u ≡ true → ⊥
+none_of s is u h = no_text u (ap (λ x. set.contains x u) (sym is) ∙ h)
 
 pub rows_pass-requires-clause-plain : goal.rows_pass-requires-clause-plain
 rows_pass-requires-clause-plain g c = shelf_rows_plain
@@ -23,13 +26,14 @@ pub returns-then-not-branch-clause-tests : goal.returns-then-not-branch-clause-t
 returns-then-not-branch-clause-tests g c =
     let old = state g.S.Store c.args.conn.now in
     told old (state g.S.Store c.rows_pass.new.conn) false _ c.rows_pass.ensures.looks c.in_ok-rows_pass.ensures.same
-    (λ clean has. refused (shelves_false old.now start c.rows_pass.new.test (rw c.if-not-branch.true at (c.in_ok-rows_pass.ensures.answer clean has))))
+    (λ clean has. refused (shelves_false old.now _ c.rows_pass.new.test (none_of _ c.new.ensures) (none_of _ c.new-2.ensures) refl (rw c.if-not-branch.true at (c.in_ok-rows_pass.ensures.answer clean has))))
 
 pub returns-clause-tests : goal.returns-clause-tests
 returns-clause-tests g c =
     let old = state g.S.Store c.args.conn.now in
-    told old (state g.S.Store c.rows_pass.new.conn) c.rows_pass.new.test.has_common _ c.rows_pass.ensures.looks c.in_ok-rows_pass.ensures.same
-    (λ clean has. shelves_true old.now start c.rows_pass.new.test refl (rw c.if-not-branch.false at (c.in_ok-rows_pass.ensures.answer clean has)))
+    told old (state g.S.Store c.rows_pass.new.conn) c.are_whole.result _ c.rows_pass.ensures.looks c.in_ok-rows_pass.ensures.same
+    (λ clean has. subst (λ b. Decides b (AreShelvesFit (map shelf_shown (old.now.trees 2)))) (sym c.are_whole.ensures)
+    (shelves_true old.now _ c.rows_pass.new.test (none_of _ c.new.ensures) (none_of _ c.new-2.ensures) (rw c.if-not-branch.false at (c.in_ok-rows_pass.ensures.answer clean has))))
 
 pub returns-in_err-rows_pass-clause-cause : goal.returns-in_err-rows_pass-clause-cause
 returns-in_err-rows_pass-clause-cause g c clean has =

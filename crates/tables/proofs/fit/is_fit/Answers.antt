@@ -2,7 +2,7 @@ use Rattle.std.proofs.Common.{Ok, Err, true, map}
 use Rattle.sqlite.specs.Held.{state}
 use Rattle.sqlite.specs.Tree.{Trees}
 use Rattle.tables.specs.Walks.{Tests}
-use Rattle.tables.specs.Fit.{IsMetaFit, AreShelvesFit, AreKeysFit, AreNumbersFit, AreEntriesFit, ArePiecesFit, AreFit, meta_shown, name_shown, number_shown, entry_shown, piece_shown}
+use Rattle.tables.specs.Fit.{shelf_shown, IsMetaFit, AreShelvesFit, AreKeysFit, AreNumbersFit, AreEntriesFit, ArePiecesFit, AreFit, meta_shown, name_shown, number_shown, entry_shown, piece_shown}
 use Rattle.tables.proofs.WalkLemmas.{tests_same, then_tests}
 use Rattle.tables.proofs.WalkCauses.{then_reason, told_error}
 use Rattle.tables.proofs.fit.is_fit.Goals as goal
@@ -11,7 +11,7 @@ abbrev Named : Trees → Type 0
 Named db = IsMetaFit (map meta_shown (db 0))
 
 abbrev Shelved : Trees → Type 0
-Shelved db = AreShelvesFit (map name_shown (db 2))
+Shelved db = AreShelvesFit (map shelf_shown (db 2))
 
 abbrev Keyed : Trees → Type 0
 Keyed db = AreKeysFit (map name_shown (db 4))

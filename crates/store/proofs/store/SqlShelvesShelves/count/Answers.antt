@@ -12,9 +12,9 @@ pub returns-in-Ok-clause-reads : goal.returns-in-Ok-clause-reads
 returns-in-Ok-clause-reads g c =
     let answer = rw c.as_str-2.ensures.value at c.in-Ok.ensures.answer in
     let kept = rw c.as_str-in-Ok.ensures.value at c.keep.ensures.counts in
-    reads_keeping (state g.S.Store c.args.self.now.conn) (state g.S.Store c.count_entries.new.conn) c.args.self.now.kept (record { counts = c.keep.new.self; lists = c.args.self.now.kept.lists }) (Ok c.in-Ok.count) _
+    reads_keeping (state g.S.Store c.args.self.now.conn) (state g.S.Store c.count_entries.new.conn) c.args.self.now.kept (record c.args.self.now.kept { counts = c.keep.new.self }) (Ok c.in-Ok.count) _
     c.count_entries.ensures.spares
-    (λ clean w stands right. let is = answer clean w stands in (is, (kept w right.0 is, right.1)))
+    (λ clean w stands right. let is = answer clean w stands in (is, (kept w right.0 is, right.1, right.2)))
 
 pub returns-in-Err-clause-reads : goal.returns-in-Err-clause-reads
 returns-in-Err-clause-reads g c =

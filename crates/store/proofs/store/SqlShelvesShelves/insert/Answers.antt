@@ -1,5 +1,7 @@
-use Rattle.std.proofs.Common.{Ok, Err, refl}
+use Rattle.std.proofs.Common.{Ok, Err, refl, subst}
 use Rattle.sqlite.specs.Held.{state}
+use Rattle.world.specs.KeptLists.{AreLists}
+use Rattle.world.specs.World.{World, place, with_entry}
 use Rattle.modver.specs.SemanticVersion.{version_text}
 use Rattle.world.proofs.Sound.{entry_added}
 use Rattle.store.proofs.StoreLemmas.{changes}
@@ -9,10 +11,11 @@ pub returns-in-Ok-clause-does : goal.returns-in-Ok-clause-does
 returns-in-Ok-clause-does g c =
     let told = rw c.as_str.ensures.value at c.in-Ok.ensures.changes in
     let raised = rw c.as_str-in-Ok.ensures.value at c.raise.ensures in
-    let forgot = rw c.as_str-in-Ok-2.ensures.value at c.forget.ensures in
-    changes (state g.S.Store c.args.self.now.conn) (state g.S.Store c.add_entry.new.conn) c.args.self.now.kept (record { counts = c.raise.new.self; lists = c.forget.new.self }) (Ok tt) _ (λ _. tt) _ c.add_entry.ensures.clean
+    let forgot = λ (w : World) (right : AreLists w c.args.self.now.kept.lists).
+    subst (λ p. AreLists (with_entry w (place c.args.shelf.now p (version_text c.args.version.now)) c.args.entry.now) c.forget.new.self) c.as_str-in-Ok-2.ensures.value (c.forget.ensures w c.args.shelf.now (version_text c.args.version.now) c.args.entry.now right) in
+    changes (state g.S.Store c.args.self.now.conn) (state g.S.Store c.add_entry.new.conn) c.args.self.now.kept (record c.args.self.now.kept { counts = c.raise.new.self; lists = c.forget.new.self }) (Ok tt) _ (λ _. tt) _ c.add_entry.ensures.clean
     (λ clean w stands room. (refl, told clean w stands.0 room.free, entry_added w _ _ stands.1 room))
-    (λ w room right. (raised w (version_text c.args.version.now) c.args.entry.now room.free right.0, forgot w c.args.shelf.now (version_text c.args.version.now) c.args.entry.now right.1))
+    (λ w room right. (raised w (version_text c.args.version.now) c.args.entry.now room.free right.0, forgot w right.1, right.2))
 
 pub returns-in-Err-clause-does : goal.returns-in-Err-clause-does
 returns-in-Err-clause-does g c =

@@ -22,8 +22,8 @@ returns-clause-reads g c =
     let kept = rw c.as_str-2.ensures.value at c.keep.ensures in
     let start = shown_with (state g.S.Store c.args.self.now.conn) c.args.self.now.kept in
     let all = latest_read start _ (λ w stands. stands.0.1) c.args.shelf.now c.args.path.now vs read _ c.in-Some.newest.now c.in_ok-heading.heading c.in_ok-gomod.gomod _ top c.in_ok-heading.ensures.reads c.in_ok-gomod.ensures left in
-    reads_then start (state g.S.Store c.heading.new.self.conn) c.heading.new.self.kept (record { counts = c.heading.new.self.kept.counts; lists = c.keep.new.self }) (Ok c.in_ok-latest.latest) _ all
-    (λ clean w stands right. (right.0, kept w right.1 (read.at (c.in_ok-heading.ensures.reads.honest clean) w stands).answer))
+    reads_then start (state g.S.Store c.heading.new.self.conn) c.heading.new.self.kept (record c.heading.new.self.kept { lists = c.keep.new.self }) (Ok c.in_ok-latest.latest) _ all
+    (λ clean w stands right. (right.0, kept w right.1 (read.at (c.in_ok-heading.ensures.reads.honest clean) w stands).answer, right.2))
 
 pub returns-in_err-versions-clause-reads : goal.returns-in_err-versions-clause-reads
 returns-in_err-versions-clause-reads g c =

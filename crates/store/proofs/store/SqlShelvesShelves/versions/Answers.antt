@@ -9,8 +9,8 @@ returns-clause-reads g c =
     let read = rw c.as_str.ensures.value at c.in_ok-found.ensures.reads in
     let kept = rw (c.as_str-2.ensures.value, c.as_slice.ensures) at c.keep_copy.ensures in
     reads_then (shown_with (state g.S.Store c.args.self.now.conn) c.args.self.now.kept) (state g.S.Store c.take_versions.new.self.conn) c.take_versions.new.self.kept
-    (record { counts = c.take_versions.new.self.kept.counts; lists = c.keep_copy.new.self }) (Ok c.in_ok-found.found) _ read
-    (λ clean w stands right. (right.0, kept w right.1 (read.at clean w stands).answer))
+    (record c.take_versions.new.self.kept { lists = c.keep_copy.new.self }) (Ok c.in_ok-found.found) _ read
+    (λ clean w stands right. (right.0, kept w right.1 (read.at clean w stands).answer, right.2))
 
 pub returns-in_err-found-clause-reads : goal.returns-in_err-found-clause-reads
 returns-in_err-found-clause-reads g c =

@@ -1,6 +1,5 @@
 use Rattle.std.proofs.Common.{◌≡◌, ◌∙◌, ap, sym, refl, rules, true, false}
 use Rattle.std.specs.FinMap as map
-use Rattle.std.specs.FinSet as set
 use Rattle.world.specs.declared.entry.Holder.{Holder}
 use Rattle.world.specs.declared.registry.Registered.{Registered}
 use Rattle.world.specs.declared.registry.Registered.TheVariants.{Done}
@@ -21,7 +20,7 @@ returns-clause-does c = record {
       let was : World = inside c.self.inside.keys in
       let same : was ≡ w = c.self.view_is ∙ is.0 in
       let named : is_key k ≡ true = search rules in
-      let there : set.contains was.shelves s ≡ true = search rules in
+      let there : map.contains_key was.shelves s ≡ true = search rules in
       let free : map.contains_key was.keys k ≡ false = search rules in
       let added : key_added w s k ≡ Done = ap (λ x. key_added x s k) (sym same) ∙ key_done was s k named there free in
       done _ _ w Done (key_added w s k) (after_key_add w s k c.args.right (key_added w s k)) (sym added)

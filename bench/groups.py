@@ -1,0 +1,201 @@
+#!/usr/bin/env python3
+"""What groups cost: instructions of a request over a file by a team in a group, beside a team in none, and beside an older program.
+
+Build the program first (`./goshelf --version`); it wants valgrind. With --program FILE it measures that program. With --beside FILE it
+also measures a program from before groups, whose stores have schema 2; each program makes its own store, by the same requests. The
+opening of a store does not count. A list that is asked again is kept by the store, one that is asked first is not.
+"""
+
+import functools
+import os
+import shutil
+import sqlite3
+import subprocess
+import sys
+import tempfile
+
+sys.path.insert(0, os.path.dirname(os.path.abspath(__file__)))
+from cost import PROGRAM, instructions, stream_of
+
+KEYS = {"alpha": "alphakey00000001", "gamma": "gammakey00000001", "platform": "platformkey00001", "common": "commonkey0000001"}
+PATHS, VERSIONS = 20, 4
+ZIP = bytes(1024)
+
+
+def get(shelf, rest):
+    yield f"GET /k/{KEYS[shelf]}/{rest} HTTP/1.1\r\n\r\n".encode()
+
+
+def put(shelf, path, version):
+    gomod = f"module {path}\n".encode()
+    head = f"PUT /k/{KEYS[shelf]}/{path}/@v/{version} HTTP/1.1\r\nMod-Length: {len(gomod)}\r\nContent-Length: {len(gomod) + len(ZIP)}\r\n\r\n"
+    yield head.encode() + gomod + ZIP
+
+
+def path_of(shelf, n):
+    """The nth path that only this shelf has."""
+    return f"example.com/{shelf}{n}"
+
+
+def done(program, *words):
+    subprocess.run([program, *words], check=True)
+
+
+def answered(program, file, requests):
+    """Sends requests, each of which has to be answered 200 or 201."""
+    with stream_of(*requests) as source:
+        ran = subprocess.run([program, "answer", "--db", file], stdin=source, stdout=subprocess.PIPE, check=True)
+    bad = [line for line in ran.stdout.split(b"\r\n") if line.startswith(b"HTTP/1.1 ") and line[9:12] not in (b"200", b"201")]
+    assert not bad, bad[0]
+
+
+def copied_in(file):
+    """Has sqlite3 copy a store's log into its file, so that an opening reads no log."""
+    conn = sqlite3.connect(file)
+    conn.execute("PRAGMA wal_checkpoint(TRUNCATE)")
+    conn.close()
+
+
+def made(program, file, groups):
+    """A store whose shelves have their paths, made by the program. With groups there are also platform, and gamma in it."""
+    done(program, "init", "--db", file)
+    done(program, "team-add", "--db", file, "--team", "alpha")
+    if groups:
+        done(program, "group-add", "--db", file, "--group", "platform")
+        done(program, "team-add", "--db", file, "--team", "gamma", "--group", "platform")
+    shelves = KEYS if groups else ("alpha", "common")
+    for shelf in shelves:
+        done(program, "key-add", "--db", file, "--shelf", shelf, "--key", KEYS[shelf])
+    answered(program, file, (put(shelf, path_of(shelf, n), f"v1.{v}.0") for shelf in shelves for n in range(PATHS) for v in range(VERSIONS)))
+    copied_in(file)
+
+
+def removed(file):
+    """Takes a store away, with its log."""
+    for name in (file, f"{file}-wal"):
+        if os.path.exists(name):
+            os.remove(name)
+
+
+def copied(file):
+    """The name of a copy of a store, in the place of the last one."""
+    removed(f"{file}.copy")
+    for end in ("", "-wal"):
+        if os.path.exists(file + end):
+            shutil.copy(file + end, f"{file}.copy{end}")
+    return f"{file}.copy"
+
+
+@functools.cache
+def opened(program, file):
+    """Instructions of an opening."""
+    with stream_of() as source:
+        return instructions(program, source, words=["answer", "--db", copied(file)])
+
+
+def cost(program, file, count, request):
+    """Instructions of one of so many requests, the nth of which is `request(n)`, without the opening."""
+    return counted(program, file, tuple(b"".join(request(n)) for n in range(count)))
+
+
+@functools.cache
+def counted(program, file, requests):
+    """Instructions of one of these requests, without the opening."""
+    answered(program, copied(file), ([it] for it in requests))
+    with stream_of(requests) as source:
+        whole = instructions(program, source, words=["answer", "--db", copied(file)])
+    return (whole - opened(program, file)) // len(requests)
+
+
+def questions(team, at):
+    """Each question of a team about what a shelf has: its name, a number of requests, and the nth of them."""
+    yield "a GET of a .mod", 200, lambda n: get(team, f"{path_of(at, n % PATHS)}/@v/v1.{n // PATHS % VERSIONS}.0.mod")
+    yield "`list`, asked again", 200, lambda n: get(team, f"{path_of(at, 0)}/@v/list")
+    yield "`list`, asked first", PATHS, lambda n: get(team, f"{path_of(at, n)}/@v/list")
+    yield "`@latest`, asked again", 200, lambda n: get(team, f"{path_of(at, 0)}/@latest")
+    yield "`@latest`, asked first", PATHS, lambda n: get(team, f"{path_of(at, n)}/@latest")
+
+
+def publishes(team):
+    """Publishes by a team, as `questions` yields them."""
+    yield "a publish of a new path", PATHS, lambda n: put(team, f"example.com/new{n}", "v1.0.0")
+    yield "a publish of a next version", PATHS, lambda n: put(team, path_of(team, n), f"v1.{VERSIONS}.0")
+
+
+def opening(program, folder, rows, what):
+    """Instructions of an opening for each row of a kind that a store has more."""
+    counts = []
+    for count in (rows, 2 * rows):
+        file = os.path.join(folder, f"rows{count}.db")
+        done(program, "init", "--db", file)
+        done(program, "team-add", "--db", file, "--team", "alpha")
+        done(program, "key-add", "--db", file, "--shelf", "alpha", "--key", KEYS["alpha"])
+        what(program, file, count)
+        copied_in(file)
+        with stream_of() as source:
+            counts.append(instructions(program, source, words=["answer", "--db", file]))
+        removed(file)
+    return (counts[1] - counts[0]) // rows
+
+
+def more_versions(program, file, count):
+    answered(program, file, (put("alpha", path_of("alpha", n // 100), f"v1.0.{n % 100}") for n in range(count)))
+
+
+def more_teams(program, file, count):
+    for n in range(count):
+        done(program, "team-add", "--db", file, "--team", f"team{n}")
+
+
+def more_keys(program, file, count):
+    for n in range(count):
+        done(program, "key-add", "--db", file, "--shelf", "alpha", "--key", f"{n:016}")
+
+
+ROWS = (("a version with its zip", 200, more_versions), ("a team", 50, more_teams), ("a key", 50, more_keys))
+
+
+def told(name, found, beside, whose):
+    print(f"{name}: {found:,} instructions, {found / beside:.3f} times the {beside:,} {whose}", flush=True)
+
+
+def beside_another(program, other, folder):
+    """A team in no group, on stores of the same requests, each by its program."""
+    files = [os.path.join(folder, name) for name in ("ours.db", "theirs.db")]
+    for it, file in zip((program, other), files):
+        made(it, file, False)
+    asked = [(f"{name}, {'own' if at == 'alpha' else 'on common'}", *rest) for at in ("alpha", "common") for name, *rest in questions("alpha", at)]
+    for name, count, request in [*asked, *publishes("alpha")]:
+        found = [cost(it, file, count, request) for it, file in zip((program, other), files)]
+        told(name, *found, "before")
+    for name, rows, what in ROWS:
+        found = [opening(it, folder, rows, what) for it in (program, other)]
+        told(f"an opening, for {name}", *found, "before")
+
+
+def beside_no_group(program, folder):
+    """A team in a group beside a team in none, on one store."""
+    file = os.path.join(folder, "groups.db")
+    made(program, file, True)
+    for at, beside in (("gamma", "alpha"), ("common", "common"), ("platform", "common")):
+        where = {"gamma": "own", "common": "on common", "platform": "on the group, beside one on common"}[at]
+        pairs = zip(questions("gamma", at), questions("alpha", beside))
+        for (name, count, of_member), (_, _, of_alone) in pairs:
+            told(f"{name}, {where}", *(cost(program, file, count, it) for it in (of_member, of_alone)), "by a team in no group")
+    for (name, count, of_member), (_, _, of_alone) in zip(publishes("gamma"), publishes("alpha")):
+        told(name, *(cost(program, file, count, it) for it in (of_member, of_alone)), "by a team in no group")
+
+
+def main():
+    words = dict(zip(sys.argv[1::2], sys.argv[2::2]))
+    program = os.path.abspath(words.get("--program", PROGRAM))
+    with tempfile.TemporaryDirectory(prefix="goshelf-groups-") as folder:
+        print("a team in a group, beside a team in none:", flush=True)
+        beside_no_group(program, folder)
+        if "--beside" in words:
+            print("a team in no group, beside the older program:", flush=True)
+            beside_another(program, os.path.abspath(words["--beside"]), folder)
+
+
+if __name__ == "__main__":
+    main()

@@ -1,0 +1,91 @@
+//! Groups of shelves that are kept.
+
+ghost use Rattle.std.specs.Prelude.{◌≡◌, Some, option_copied, IfOk, OnOk};
+ghost use Rattle.std.specs.FinMap as map;
+ghost use Rattle.world.specs.World.{World, group_in};
+ghost use Rattle.store.specs.Groups.{IsGroupOf, AreGroups};
+
+use std::alloc::{AllocError, Global};
+use std::collections::BTreeMap;
+use std::marker::Model;
+use text::Text;
+use world::names::COMMON;
+
+/// The groups of some shelves, of each its group if it has one, so that a store need not ask for them again.
+/// A shelf's group never changes, so none is ever wrong. Contracts see the map of them.
+#[derive(Drop)]
+pub(crate) struct Groups {
+    shelves: BTreeMap<String, Option<Text>>,
+}
+
+impl Model for Groups {
+    ghost use Rattle.std.specs.Coded.{coded_option};
+    ghost use Rattle.std.specs.FinMap as map;
+    ghost use Rattle.world.specs.Code.{text_code};
+    ghost use Rattle.world.specs.Kept.{by_text};
+    ghost use Rattle.store.specs.Groups.{Grouping};
+
+    ghost Value = { Grouping };
+
+    ghost coded = { map.code text_code (coded_option text_code) };
+
+    ghost view = { λ g. by_text g.shelves.entries };
+}
+
+impl Groups {
+    /// No group. It takes no memory.
+    pub(crate) fn new(alloc: Global) -> Groups
+        ensures { result ≡ map.empty }
+    {
+        Groups {
+            shelves: BTreeMap::new(alloc),
+        }
+    }
+
+    /// The group of a shelf, if it is kept.
+    pub(crate) fn get(&self, shelf: &str) -> Option<&Option<Text>>
+        ensures { option_copied result ≡ map.get self.now shelf.now }
+    {
+        self.shelves.get(shelf)
+    }
+
+    /// Keeps the group of a shelf that is there. Without memory it forgets all groups.
+    pub(crate) fn keep(&mut self, alloc: Global, shelf: &str, group: Option<&Text>)
+        ensures { (w : World) → AreGroups w self.old → IsGroupOf w shelf.now (option_copied group.entry)
+            → AreGroups w self.new }
+    {
+        if self.add(alloc, shelf, group).is_err() {
+            *self = Groups::new(alloc);
+        }
+    }
+
+    /// Puts in the group of a shelf.
+    fn add(&mut self, alloc: Global, shelf: &str, group: Option<&Text>) -> Result<(), AllocError>
+        ensures { OnOk result (self.new ≡ map.insert self.old shelf.now (option_copied group.entry)) }
+    {
+        let group = copied(alloc, group)?;
+        self.shelves.insert(String::from_str(alloc, shelf)?, group)?;
+        Ok(())
+    }
+}
+
+/// A copy of the name of a group, if there is one.
+pub(crate) fn copied(alloc: Global, group: Option<&Text>) -> Result<Option<Text>, AllocError>
+    ensures { IfOk result (λ copy. copy ≡ option_copied group.entry) }
+{
+    match group {
+        None => Ok(None),
+        Some(group) => Ok(Some(Text::copy_of(alloc, group.as_str())?)),
+    }
+}
+
+/// The group of a shelf that is there and has this parent, or none.
+pub(crate) fn group_in(parent: Option<Text>) -> Option<Text>
+    ensures { result ≡ group_in (Some parent) }
+{
+    let parent = parent?;
+    if parent.as_str() == COMMON {
+        return None;
+    }
+    Some(parent)
+}

@@ -1,0 +1,311 @@
+#!/usr/bin/env python3
+"""A synthetic company asks as the go command does: answers a second, processor time of an answer at each hop, and latencies.
+
+One goshelf is asked alone, and then 1, 2 and 4 of them behind nginx by tools/shards and deploy/nginx (without TLS), the teams shared out
+among them, without and with nginx's cache. Each is asked three times: with publishes and an empty cache, where every answer is compared with that
+of the one goshelf; by other builds, as fast as it answers; and at --load of that rate, in bursts, for the latencies. Build the program first
+(`./goshelf --version`); nginx and a C compiler are on the path (Debian: nginx-light, gcc).
+"""
+
+import argparse
+import base64
+import os
+import random
+import re
+import shutil
+import socket
+import struct
+import subprocess
+import sys
+import tempfile
+import time
+
+from company_plan import Company, Plan
+from company_plot import plot
+
+ROOT = os.path.dirname(os.path.dirname(os.path.abspath(__file__)))
+PROGRAM = os.path.abspath(os.environ.get("GOSHELF") or os.path.join(ROOT, "crates", "goshelf", "out", "goshelf"))
+OUTCOME = struct.Struct("=IIQQ")
+TICK = os.sysconf("SC_CLK_TCK")
+QUANTILES = (0.5, 0.99, 0.999)
+NGINX = """
+daemon off; worker_processes {workers}; pid {folder}/pid; error_log {folder}/errors crit; worker_rlimit_nofile 16384;
+events {{ worker_connections 4096; }}
+http {{
+    client_body_temp_path {folder}/body; proxy_temp_path {folder}/proxy; fastcgi_temp_path {folder}/fastcgi; uwsgi_temp_path {folder}/uwsgi;
+    scgi_temp_path {folder}/scgi; map_hash_max_size 65536; map_hash_bucket_size 256; keepalive_requests 10000;
+    include {folder}/goshelf.conf;
+}}
+"""
+
+
+class Direct:
+    """goshelf is asked itself, by a key in the target."""
+
+    def __init__(self, company, store):
+        self.company, self.store = company, store
+
+    def port(self, _):
+        return self.store.port
+
+    def head(self, method, shelf, target, publishes):
+        key = (self.company.key if publishes else self.company.reader)(shelf)
+        return f"{method} /k/{key}{target} HTTP/1.1\r\n".encode()
+
+
+class Front:
+    """nginx is asked, by a login."""
+
+    def __init__(self, company, port):
+        self.listens, self.users, self.random = port, company.sizes.users, random.Random(company.sizes.seed)
+
+    def port(self, _):
+        return self.listens
+
+    def head(self, method, shelf, target, publishes):
+        login = basic(user_of(shelf, "publish" if publishes else "read", self.random.randrange(self.users)))
+        return f"{method} {target} HTTP/1.1\r\nHost: localhost\r\nAuthorization: {login}\r\n".encode()
+
+
+def user_of(shelf, right, number):
+    return f"{shelf}-{right}-{number}"
+
+
+def basic(user):
+    return "Basic " + base64.b64encode(f"{user}:{user}password00000000".encode()).decode()
+
+
+class Store:
+    """goshelf over a store with common and some groups and teams, as it was when it was filled."""
+
+    def __init__(self, company, folder, shelves):
+        self.file = os.path.join(folder, "shelves.db")
+        run("init", "--db", self.file)
+        for shelf in shelves:
+            member = ["--group", company.group[shelf]] if shelf in company.group else []
+            run(*(["group-add", "--group", shelf] if shelf in company.groups else ["team-add", "--team", shelf, *member]), "--db", self.file)
+        for shelf in ("common", *shelves):
+            run("key-add", "--db", self.file, "--shelf", shelf, "--key", company.key(shelf))
+            run("key-add", "--db", self.file, "--shelf", shelf, "--key", company.reader(shelf), "--read-only")
+        self.fill(company, shelves)
+        for end in ("", "-wal"):
+            shutil.copyfile(self.file + end, f"{self.file}{end}.filled")
+
+    def fill(self, company, shelves):
+        with tempfile.TemporaryFile() as stream:
+            for shelf, module, version in company.versions_of(["common", *shelves]):
+                path = company.modules[shelf][module]
+                # a version has the same bytes in each store
+                company.random.seed(f"{company.sizes.seed} {path} {version}")
+                headers, body = company.publish(path, version, company.sizes.zip)
+                stream.write(f"PUT /k/{company.key(shelf)}/{path}/@v/{version} HTTP/1.1\r\n".encode() + headers + b"\r\n" + body)
+            stream.seek(0)
+            told = subprocess.run([PROGRAM, "answer", "--db", self.file], stdin=stream, capture_output=True, check=True).stdout
+        company.random.seed(company.sizes.seed)
+        if told.count(b"HTTP/1.1 201 ") != told.count(b"HTTP/1.1 "):
+            sys.exit(f"a store was not filled: {told[:300]}")
+
+    def start(self):
+        for end in ("", "-wal"):
+            shutil.copyfile(f"{self.file}{end}.filled", self.file + end)
+        self.child = subprocess.Popen([PROGRAM, "serve", "--db", self.file, "--port", "0"], stdout=subprocess.PIPE, text=True)
+        self.port = int(self.child.stdout.readline().rsplit(":", 1)[1])
+        return self
+
+    def stop(self):
+        self.child.terminate()
+        self.child.wait()
+
+
+def run(*words):
+    subprocess.run([PROGRAM, *words], check=True)
+
+
+def free_port():
+    with socket.socket() as held:
+        held.bind(("127.0.0.1", 0))
+        return held.getsockname()[1]
+
+
+def config(company, folder, port, stores, is_cached):
+    """nginx's file by tools/shards, without TLS and limits."""
+    write_shards(company, stores, f"{folder}/shards.conf")
+    with open(os.path.join(ROOT, "deploy", "nginx", "goshelf.conf"), "rb") as file:
+        told = subprocess.run([os.path.join(ROOT, "tools", "shards"), "conf", f"{folder}/shards.conf"], stdin=file, capture_output=True, check=True).stdout.decode()
+    text = "\n".join(it for it in told.split("\n") if not re.match(r"\s*(ssl_|limit_)", it))
+    text = text.replace("listen 443 ssl;", f"listen 127.0.0.1:{port} backlog=4096;").replace("/var/log/nginx/", f"{folder}/")
+    text = text.replace("/etc/nginx/goshelf/", f"{folder}/").replace("/var/cache/nginx/goshelf", f"{folder}/cache")
+    return text if is_cached else text.replace("proxy_cache goshelf;", "proxy_cache off;")
+
+
+def write_shards(company, stores, name):
+    """The file of tools/shards."""
+    with open(name, "w", encoding="utf-8") as file:
+        for number, (store, shelves) in enumerate(zip(stores, company.share(len(stores)))):
+            file.write(f"shard store{number} 127.0.0.1:{store.port}\n")
+            for shelf in shelves:
+                members = [it for it in company.teams if company.group.get(it) == shelf]
+                if shelf not in company.group:
+                    file.write(f"{'group' if shelf in company.groups else 'team'} {' '.join([shelf, *members])}\n")
+
+
+def maps(company):
+    """users.map and keys.map."""
+    users = [(user_of(shelf, right, number), shelf, right) for shelf in company.shelves for right in ("read", "publish") for number in range(company.sizes.users)]
+    lines = "".join(f'"~^{basic(user)}$" "{user} {shelf} {right}";\n' for user, shelf, right in users)
+    keys = "".join(f'"{it} read" {company.reader(it)};\n"{it} publish" {company.key(it)};\n' for it in company.shelves)
+    return {"users.map": lines, "keys.map": keys}
+
+
+class Nginx:
+    """nginx over stores."""
+
+    def __init__(self, company, folder, stores, is_cached):
+        self.listens = free_port()
+        os.makedirs(f"{folder}/cache")
+        files = {"goshelf.conf": config(company, folder, self.listens, stores, is_cached), **maps(company)}
+        files["nginx.conf"] = NGINX.format(folder=folder, workers=company.sizes.workers)
+        for name, text in files.items():
+            with open(f"{folder}/{name}", "w", encoding="utf-8") as file:
+                file.write(text)
+        for name in (folder, f"{folder}/cache"):
+            os.chmod(name, 0o777)
+        command = shutil.which("nginx") or "/usr/sbin/nginx"
+        self.folder, self.child = folder, subprocess.Popen([command, "-c", f"{folder}/nginx.conf", "-e", f"{folder}/start.log"])
+        for _ in range(600):
+            with socket.socket() as probe:
+                if probe.connect_ex(("127.0.0.1", self.listens)) == 0:
+                    return
+            time.sleep(0.05)
+        sys.exit(f"nginx does not start: {read(f'{folder}/start.log')}")
+
+    def workers(self):
+        told = subprocess.run(["pgrep", "-P", str(self.child.pid), "-f", "worker process"], capture_output=True, text=True).stdout
+        return list(map(int, told.split()))
+
+    def looked_up(self):
+        """HIT, or why not, of each request that nginx looked up in its cache."""
+        ends = [line.rsplit(None, 1)[1] for line in read(f"{self.folder}/goshelf.log").splitlines()]
+        return [it for it in ends if it != "-"]
+
+    def stop(self):
+        self.child.terminate()
+        self.child.wait()
+
+
+def read(name):
+    with open(name, encoding="utf-8", errors="replace") as file:
+        return file.read()
+
+
+def seconds_of(processes):
+    """Seconds of processor time that processes have used."""
+    fields = [read(f"/proc/{it}/stat").rsplit(")", 1)[1].split() for it in processes]
+    return sum(int(it[11]) + int(it[12]) for it in fields) / TICK
+
+
+def ask(folder, plan, lanes):
+    """Has the client ask what a plan says. Returns the outcomes, the seconds, and the client's processor time."""
+    with open(f"{folder}/plan", "wb") as file:
+        file.write(plan.bytes())
+    with open(f"{folder}/outcome", "wb") as file:
+        child = subprocess.Popen([f"{folder}/client", f"{folder}/plan", str(lanes)], stdout=file, stderr=subprocess.PIPE)
+        told = child.stderr.read()
+        _, status, usage = os.wait4(child.pid, 0)
+    if status:
+        sys.exit(f"the client failed: {told.decode()}")
+    with open(f"{folder}/outcome", "rb") as file:
+        return list(OUTCOME.iter_unpack(file.read())), float(told), usage.ru_utime + usage.ru_stime
+
+
+def measured(sizes, folder, name, stores, is_cached):
+    """Asks one deployment, or a store itself where is_cached is None. Returns its row, and the answers to the first requests."""
+    company, nginx = Company(sizes), None
+    for it in stores:
+        it.start()
+    try:
+        if is_cached is not None:
+            nginx = Nginx(company, tempfile.mkdtemp(dir=folder), stores, is_cached)
+        front = Front(company, nginx.listens) if nginx else Direct(company, stores[0])
+        answers, _, _ = ask(folder, Plan(company, front).fill(0), sizes.lanes)
+        row = {"name": name, **flat_out(sizes, folder, front, stores, nginx)}
+        row["latencies"] = at_load(sizes, folder, front, row["rate"] * sizes.load)
+        return row, [it[:1] + it[2:] for it in answers]
+    finally:
+        for it in [*stores, *([nginx] if nginx else [])]:
+            it.stop()
+
+
+def others(sizes, front, rate):
+    """What other builds of the company ask for."""
+    return Plan(Company(argparse.Namespace(**{**vars(sizes), "seed": sizes.seed + 1, "publishes": 0})), front).fill(rate)
+
+
+def flat_out(sizes, folder, front, stores, nginx):
+    """The highest rate, and microseconds of processor time of an answer at each hop."""
+    groups = {"goshelf": [it.child.pid for it in stores], "nginx": nginx.workers() if nginx else []}
+    plan, begun = others(sizes, front, 0), nginx.looked_up() if nginx else ()
+    before = {it: seconds_of(numbers) for it, numbers in groups.items()}
+    _, seconds, own = ask(folder, plan, sizes.lanes)
+    row = {it: (seconds_of(numbers) - before[it]) / plan.count * 1e6 for it, numbers in groups.items()}
+    looked = nginx.looked_up()[len(begun) :] if nginx else []
+    return {**row, "rate": plan.count / seconds, "client": own / plan.count * 1e6, "busy": own / seconds, "hits": looked.count("HIT") / max(1, len(looked))}
+
+
+def at_load(sizes, folder, front, rate):
+    """The latencies in milliseconds, in order, of builds that come at a rate."""
+    outcomes, _, _ = ask(folder, others(sizes, front, rate), 16 * sizes.lanes)
+    return sorted(it[1] / 1000 for it in outcomes)
+
+
+def quantile(row, share):
+    return row["latencies"][min(len(row["latencies"]) - 1, int(share * len(row["latencies"])))]
+
+
+def table(rows, wrong):
+    """The rows as a table of Markdown."""
+    heads = ["deployment", "answers a second", "goshelf", "nginx", "client", "client busy", "hits", "p50", "p99", "p99.9", "differ"]
+    lines = [heads, ["---"] * len(heads)]
+    for row in rows:
+        hops = [f"{row[it]:.0f} µs" for it in ("goshelf", "nginx", "client")]
+        lines.append([row["name"], f"{row['rate']:,.0f}", *hops, f"{row['busy']:.0%}", f"{row['hits']:.0%}", *(f"{quantile(row, it):.2f} ms" for it in QUANTILES), str(wrong[row["name"]])])
+    return "\n".join("| " + " | ".join(it) + " |" for it in lines)
+
+
+def options():
+    parser = argparse.ArgumentParser(description=__doc__, formatter_class=argparse.RawDescriptionHelpFormatter)
+    for name, default, text in (("seed", 1, "another one makes another company"), ("teams", 8, "teams"), ("groups", 4, "groups that share them out"), ("modules", 30, "modules of a shelf"),
+                                ("versions", 4, "versions of a module"), ("needs", 30, "modules that a build needs at most"), ("builds", 1_500, "builds"),
+                                ("publishes", 40, "publishes"), ("zip", 8_000, "bytes of a zip, on average"), ("users", 10, "users of each shelf and right"),
+                                ("lanes", 32, "connections at once"), ("workers", 1, "processes of nginx")):
+        parser.add_argument(f"--{name}", type=int, default=default, help=f"{text} ({default:,})")
+    parser.add_argument("--load", type=float, default=0.5, help="the share of the highest rate at which latencies are measured (0.5)")
+    parser.add_argument("--stores", default="1,2,4", help="how many stores to share the teams among (1,2,4)")
+    parser.add_argument("--plot", default="company.svg", help="the file of the plot (company.svg)")
+    return parser.parse_args()
+
+
+def main():
+    sizes = options()
+    with tempfile.TemporaryDirectory(prefix="goshelf-company-") as folder:
+        os.chmod(folder, 0o755)
+        subprocess.run(["cc", "-O2", "-D_GNU_SOURCE", "-o", f"{folder}/client", os.path.join(ROOT, "bench", "company.c")], check=True)
+        rows, wrong, first = [], {}, None
+        for count in map(int, sizes.stores.split(",")):
+            company = Company(sizes)
+            stores = [Store(company, tempfile.mkdtemp(dir=folder), shelves) for shelves in company.share(count)]
+            ways = [(f"{count} behind nginx", False), (f"{count} behind a cache", True)]
+            for name, is_cached in ([("1 alone", None)] if count == 1 else []) + ways:
+                row, outcomes = measured(sizes, folder, name, stores, is_cached)
+                first = first or outcomes
+                wrong[name] = sum(one != other for one, other in zip(first, outcomes)) + abs(len(first) - len(outcomes))
+                rows.append(row)
+                print(f"{name}: {row['rate']:,.0f} answers a second", file=sys.stderr, flush=True)
+    print(f"{len(first):,} requests; statuses {({it: sum(one[0] == it for one in first) for it in sorted({one[0] for one in first})})}")
+    print(table(rows, wrong))
+    with open(sizes.plot, "w", encoding="utf-8") as file:
+        file.write(plot([(row["name"], row["latencies"]) for row in rows]))
+
+
+if __name__ == "__main__":
+    main()

@@ -1,0 +1,64 @@
+#!/usr/bin/env python3
+"""Seconds in which tools/shards finds and mends what a shard missed of `common`, and in which it compares two shards whole.
+
+Build the program first (`./goshelf --version`). With a number: how many versions common has (1,000, four to a path).
+"""
+
+import argparse
+import http.client
+import os
+import subprocess
+import sys
+import tempfile
+import time
+
+from company import ROOT, Store, write_shards
+from company_plan import Company
+
+ROUNDS = 5
+
+
+def tool(folder, command):
+    """The seconds that tools/shards takes, and its last line."""
+    begun = time.monotonic()
+    told = subprocess.run([os.path.join(ROOT, "tools", "shards"), command, f"{folder}/shards.conf", f"{folder}/keys.map"], capture_output=True, text=True)
+    return time.monotonic() - begun, (told.stdout or told.stderr).splitlines()[-1]
+
+
+def write_files(folder, company, stores):
+    write_shards(company, stores, f"{folder}/shards.conf")
+    keys = [f'"{it} {right}" {key};' for it in company.shelves for right, key in (("read", company.reader(it)), ("publish", company.key(it)))]
+    with open(f"{folder}/keys.map", "w", encoding="utf-8") as file:
+        file.write("\n".join(keys) + "\n")
+
+
+def publish(company, store, number):
+    """A publish to common that only the first shard gets."""
+    path = "example.com/common/missed"
+    headers, body = company.publish(path, f"v1.{number}.0", company.sizes.zip)
+    told = dict(it.split(": ") for it in headers.decode().strip().split("\r\n"))
+    conn = http.client.HTTPConnection("127.0.0.1", store.port)
+    conn.request("PUT", f"/k/{company.key('common')}/{path}/@v/v1.{number}.0", body, told)
+    if conn.getresponse().status != 201:
+        sys.exit("the publish failed")
+    conn.close()
+
+
+def main():
+    count = int(sys.argv[1]) if sys.argv[1:] else 1_000
+    company = Company(argparse.Namespace(seed=1, teams=2, groups=0, modules=max(1, count // 4), versions=4, zip=8_000))
+    with tempfile.TemporaryDirectory(prefix="goshelf-shards-") as folder:
+        stores = [Store(company, tempfile.mkdtemp(dir=folder), shelves).start() for shelves in company.share(2)]
+        try:
+            write_files(folder, company, stores)
+            for number in range(ROUNDS):
+                publish(company, stores[0], number)
+                print("send: {:.2f} s, {}".format(*tool(folder, "send")), flush=True)
+            print("check: {:.2f} s, {}".format(*tool(folder, "check")))
+        finally:
+            for it in stores:
+                it.stop()
+
+
+if __name__ == "__main__":
+    main()

@@ -1,0 +1,309 @@
+#!/usr/bin/env python3
+"""tools/shards: two goshelfs behind one nginx, compared with one that has it all; missed publishes, two publishers, and files that are wrong."""
+
+import base64
+import http.client
+import os
+import random
+import ssl
+import subprocess
+import sys
+import tempfile
+from concurrent.futures import ThreadPoolExecutor
+
+from harness import PROGRAM, ROOT, Suite, done, new_store, run
+from machine import Machine, wait_for
+
+NEEDS = ["nginx", "openssl"]
+# gamma is a team of the group platform
+TEAMS = {"first": ("alpha", "beta"), "second": ("platform", "gamma", "delta")}
+SHELVES = ("common", "alpha", "beta", "platform", "gamma", "delta")
+SEED = random.Random(11)
+PSEUDO = "v0.0.0-20240131120000-abcdefabcdef"
+RELEASES = ("v1.0.0", "v1.1.0-RC.1")
+CERTIFICATE = "openssl req -x509 -newkey ec -pkeyopt ec_paramgen_curve:P-256 -nodes -days 2 -subj /CN=localhost -out /etc/ssl/goshelf.pem -keyout /etc/ssl/goshelf.key"
+SHARDS = "shard first 127.0.0.1:{first}\nteam alpha\nteam beta\nshard second 127.0.0.1:{second}\ngroup platform gamma\nteam delta\n"
+# a file of shards, and what is said of it; keys are those of GOOD
+WRONG_FILES = {
+    "": "it names no team",
+    "shard first 127.0.0.1:1\n": "it names no team",
+    "team alpha\n": ":1: no shard is named above",
+    "shard first 127.0.0.1:1\nteam alpha\nshard second 127.0.0.1:2\nteam alpha\n": ":4: alpha is also at ",
+    "shard first 127.0.0.1:1\nteam alpha\ngroup big beta alpha\n": ":3: alpha is also at ",
+    "shard first 127.0.0.1:1\nteam alpha\nshard first 127.0.0.1:2\nteam beta\n": "first is the name of two shards",
+    "shard first 127.0.0.1:1\nteam alpha\nshard second 127.0.0.1:1\nteam beta\n": "127.0.0.1:1 is the address of two shards",
+    "shard first 127.0.0.1:1\nteam alpha\nshard second 127.0.0.1:2\n": "second has no team",
+    "shard first 127.0.0.1:1\nteam common\n": ":2: every shard has common",
+    "shard first 127.0.0.1:1\nteam alpha beta\n": ":2: neither `shard NAME HOST:PORT`",
+    "shard first 127.0.0.1\nteam alpha\n": ":1: neither `shard NAME HOST:PORT`",
+    "shard first 127.0.0.1:1; }\nteam alpha\n": ":1: neither `shard NAME HOST:PORT`",
+    "shard first 127.0.0.1:1\nteam Alpha;\n": ":2: neither `shard NAME HOST:PORT`",
+    "shard first 127.0.0.1:1\nteam alpha\nteam omega\n": 'it has no line for "omega read"',
+    "shard first 127.0.0.1:1\nteam alpha\nteam beta\ngroup platform gamma\n": "delta is at no shard",
+}
+
+
+def key(shelf, right="publish"):
+    return f"{shelf}{right}key0000000000"[:20]
+
+
+def login(shelf, right="publish"):
+    return "Basic " + base64.b64encode(f"{shelf}-{right}:password".encode()).decode()
+
+
+def add(file, shelf):
+    """Adds a group, a team of it, or a team."""
+    if shelf == "platform":
+        done("group-add", "--db", file, "--group", shelf)
+    else:
+        done("team-add", "--db", file, "--team", shelf, *(["--group", "platform"] if shelf == "gamma" else []))
+
+
+class Goshelf:
+    """`goshelf serve` over a store with common and some teams."""
+
+    def __init__(self, file, teams):
+        self.file, self.port = file, 0
+        new_store(file)
+        for shelf in teams:
+            add(file, shelf)
+        for shelf in ("common", *teams):
+            done("key-add", "--db", file, "--shelf", shelf, "--key", key(shelf))
+            done("key-add", "--db", file, "--shelf", shelf, "--key", key(shelf, "read"), "--read-only")
+        self.start()
+
+    def start(self):
+        self.child = subprocess.Popen([PROGRAM, "serve", "--db", self.file, "--port", str(self.port)], stdout=subprocess.PIPE, text=True)
+        self.port = int(self.child.stdout.readline().rsplit(":", 1)[1])
+
+    def stop(self):
+        self.child.terminate()
+        self.child.wait()
+
+    def ask(self, method, shelf, target, body=None, headers=None, right="publish"):
+        conn = http.client.HTTPConnection("127.0.0.1", self.port, timeout=60)
+        return asked(conn, method, f"/k/{key(shelf, right)}{target}", body, headers or {})
+
+
+def asked(conn, method, target, body, headers):
+    conn.request(method, target, body, headers)
+    reply = conn.getresponse()
+    told = reply.status, reply.read()
+    conn.close()
+    return told
+
+
+class Company:
+    """One goshelf that has it all, two that share the teams, and nginx before these."""
+
+    def __init__(self, folder):
+        self.machine, self.folder, self.published = Machine(f"{folder}/machine"), folder, []
+        self.one = Goshelf(f"{folder}/one.db", SHELVES[1:])
+        self.shards = {name: Goshelf(f"{folder}/{name}.db", teams) for name, teams in TEAMS.items()}
+        self.file, self.keys = f"{folder}/shards.conf", f"{self.machine.folder}/etc/nginx/goshelf/keys.map"
+        with open(self.file, "w", encoding="utf-8") as file:
+            file.write(SHARDS.format(**{name: it.port for name, it in self.shards.items()}))
+        self.start_nginx()
+
+    def start_nginx(self):
+        machine, rights = self.machine, ("read", "publish")
+        machine.check_out()
+        machine.does(CERTIFICATE)
+        for name in ("etc/nginx/goshelf", "var/cache/nginx/goshelf"):
+            os.makedirs(f"{machine.folder}/{name}")
+        os.chmod(f"{machine.folder}/var/cache/nginx/goshelf", 0o777)
+        machine.write("etc/nginx/goshelf/keys.map", "".join(f'"{it} {right}" {key(it, right)};\n' for it in SHELVES for right in rights))
+        machine.write("etc/nginx/goshelf/users.map", "".join(f'"~^{login(it, right)}$" "{it}-{right} {it} {right}";\n' for it in SHELVES for right in rights))
+        machine.does(f"{ROOT}/tools/shards conf {self.file} < deploy/nginx/goshelf.conf > /etc/nginx/conf.d/goshelf.conf")
+        machine.does("nginx")
+        wait_for(machine.front)
+        self.context = ssl.create_default_context(cafile=f"{machine.folder}/etc/ssl/goshelf.pem")
+        self.context.check_hostname = False
+
+    def ask(self, method, shelf, target, body=None, headers=None, right="publish"):
+        """What nginx answers."""
+        conn = http.client.HTTPSConnection("127.0.0.1", self.machine.front, timeout=60, context=self.context)
+        return asked(conn, method, target, body, {"Authorization": login(shelf, right), **(headers or {})})
+
+    def put(self, shelf, path, version, content=None, at=None):
+        """Publishes by nginx, or at a goshelf."""
+        head = f"module {path}\n".encode()
+        headers = {"Mod-Length": str(len(head)), **({} if version == PSEUDO else {"Version-Time": "2024-01-31T12:00:00Z"})}
+        target = f"/{path}/@v/{version}".replace("RC", "!r!c")
+        return (at or self).ask("PUT", shelf, target, head + (content or SEED.randbytes(3_000)), headers)
+
+    def put_both(self, shelf, path, version):
+        """Publishes by nginx and at the one goshelf."""
+        content = SEED.randbytes(3_000)
+        told, own = self.put(shelf, path, version, content), self.put(shelf, path, version, content, self.one)
+        assert told == own, (told, own)
+        self.published.append((path, version.replace("RC", "!r!c")))
+        return told
+
+    def targets(self):
+        files = [f"/{path}/@v/{version}.{it}" for path, version in sorted(set(self.published)) for it in ("info", "mod", "zip")]
+        paths = sorted({path for path, _ in self.published})
+        return [*files, *(f"/{path}/{it}" for path in paths for it in ("@v/list", "@latest")), "/-/modules", "/example.com/none/@v/list"]
+
+    def differing(self):
+        """The answers of nginx, asked twice, that are not the one goshelf's."""
+        asks = [(it, target, right) for it in SHELVES for target in self.targets() for right in ("read", "publish")]
+        own = {it: self.one.ask("GET", *it[:2], right=it[2]) for it in asks}
+        return [(it, found[0], own[it][0]) for it in asks for found in (self.ask("GET", *it[:2], right=it[2]),) if found != own[it]]
+
+    def tool(self, command, *words, file=None, keys=None):
+        """The status, the lines and the errors of tools/shards."""
+        ran = subprocess.run([f"{ROOT}/tools/shards", command, file or self.file, keys or self.keys, *words], capture_output=True, text=True)
+        return ran.returncode, ran.stdout.splitlines(), ran.stderr
+
+    def close(self):
+        self.machine.close()
+        for it in (self.one, *self.shards.values()):
+            it.stop()
+
+
+def alike(suite, company):
+    """What teams publish is there at once, and what common publishes once it is sent on."""
+    for shelf in SHELVES:
+        for version in RELEASES:
+            suite.equal(f"{shelf} publishes {version}", company.put_both(shelf, f"example.com/{shelf}", version), (201, b"published\n"))
+            if shelf in ("platform", "gamma"):
+                suite.equal(f"{shelf} publishes {version} of what its chain has", company.put_both(shelf, "example.com/chain", version)[0], 201 if shelf == "platform" else 409)
+    late = {(it[0], found, wanted) for it, found, wanted in company.differing() if "/@v/list" not in it[1] and "/@latest" not in it[1]}
+    suite.holds("before it is sent on, the second shard's teams lack common, and nothing else differs", {it[0] for it in late} == set(TEAMS["second"]), late)
+    status, lines, _ = company.tool("check")
+    suite.equal("check names what is missing", (status, lines[-1], len([it for it in lines if " lacks " in it])), (1, "2 compared, 2 wrong", 2))
+    suite.equal("and sends nothing", company.tool("check")[1][-1], "2 compared, 2 wrong")
+    suite.equal("it is sent on", (company.tool("send")[1])[-1], "2 sent, 0 wrong")
+    suite.equal("and sent again", company.tool("send"), (0, ["0 sent, 0 wrong"], ""))
+    suite.equal("all shards agree", company.tool("check"), (0, ["2 compared, 0 wrong"], ""))
+    suite.equal("no answer differs from the one goshelf's", company.differing(), [])
+
+
+def shard_down(suite, company):
+    """A shard is down while common is published."""
+    company.shards["second"].stop()
+    company.put_both("common", "example.com/common", "v1.2.0")
+    status, lines, _ = company.tool("send")
+    suite.holds("a shard that is down is named", status == 1 and lines[0].startswith("second at ") and lines[-1] == "0 sent, 1 wrong", lines)
+    suite.equal("its teams get a 502, others all that they had", (company.ask("GET", "gamma", "/-/modules")[0], company.ask("GET", "alpha", "/-/modules")[0]), (502, 200))
+    company.shards["second"].start()
+    suite.equal("it is back, and gets what it missed", company.tool("send")[1][-1], "1 sent, 0 wrong")
+    suite.equal("no answer differs once it is back", company.differing(), [])
+    company.shards["first"].stop()
+    status, _, errors = company.tool("send")
+    suite.holds("the first shard is down", status == 1 and "first at " in errors, errors)
+    company.shards["first"].start()
+
+
+def two_publishers(suite, company):
+    """Two publish one version of common at once, by nginx."""
+    contents = [SEED.randbytes(200_000) for _ in range(2)]
+    for number in range(5):
+        version = f"v1.10.{number}"
+        with ThreadPoolExecutor(2) as pool:
+            told = list(pool.map(lambda it: company.put("common", "example.com/common", version, it)[0], contents))
+        suite.equal("one of two publishers is first", sorted(told), [201, 409])
+        winner = contents[told.index(201)]
+        company.put("common", "example.com/common", version, winner, company.one)
+        company.published.append(("example.com/common", version))
+    suite.equal("what they published is sent on", company.tool("send")[1][-1], "5 sent, 0 wrong")
+    suite.equal("no answer differs after that", company.differing(), [])
+
+
+def pseudo_versions(suite, company):
+    """A pseudo-version is in no list; the inventory of a copy has it."""
+    company.put_both("common", "example.com/common", PSEUDO)
+    suite.equal("without an inventory it is not found", company.tool("send")[1][-1], "0 sent, 0 wrong")
+    first, name = company.shards["first"], f"{company.folder}/inventory.csv"
+    first.stop()
+    with open(name, "wb") as file:
+        file.write(run(["inventory", "--db", first.file, "--key", key("common")])[1])
+    first.start()
+    suite.equal("with one it is", company.tool("send", "--inventory", name)[1][-1], "1 sent, 0 wrong")
+    suite.equal("and agrees", company.tool("check", "--inventory", name)[0], 0)
+    suite.equal("no answer differs, pseudo-versions too", company.differing(), [])
+    status, _, errors = company.tool("send", "--inventory", company.file)
+    suite.holds("what is no inventory", status == 2 and "not an inventory" in errors, errors)
+
+
+def ran_ahead(suite, company):
+    """A team publishes a version that common has, before it came to its shard."""
+    path = "example.com/ahead"
+    company.put("common", path, "v1.0.0", b"common's")
+    suite.equal("the team publishes it too", company.put("delta", path, "v1.0.0", b"delta's")[0], 201)
+    status, lines, _ = company.tool("send")
+    suite.equal("the team is named", (status, lines[1:]), (1, [f"second: delta has other bytes than common as {path} v1.0.0", "1 sent, 1 wrong"]))
+    suite.equal("check with --teams names it too", company.tool("check", "--teams")[1][:-1], [f"second: delta has other bytes than common as {path} v1.0.0"])
+    found = {it: company.ask("GET", it, f"/{path}/@v/v1.0.0.zip")[1] for it in SHELVES}
+    suite.equal("it keeps its own, and all others have common's", found, {**dict.fromkeys(SHELVES, b"common's"), "delta": b"delta's"})
+
+
+def past_nginx(suite, company):
+    """Somebody publishes to common at the second shard himself: named for good, and nothing is overwritten."""
+    path = "example.com/race"
+    company.put("common", path, "v1.0.0", b"first")
+    company.put("common", path, "v1.0.0", b"second", company.shards["second"])
+    company.put("common", path, "v1.1.0", b"alone", company.shards["second"])
+    status, lines, _ = company.tool("send")
+    suite.equal("what the second alone has is named", (status, lines), (1, [f"second has {path} v1.1.0 on common, and first does not", "0 sent, 1 wrong"]))
+    status, lines, _ = company.tool("check")
+    wanted = [f"second has {path} v1.1.0 on common, and first does not", f"second has other bytes than first as {path} v1.0.0 of common"]
+    suite.equal("and so are other bytes", (status, lines[:-1]), (1, wanted))
+    found = [company.ask("GET", it, f"/{path}/@v/v1.0.0.zip")[1] for it in ("alpha", "gamma")]
+    suite.equal("both keep theirs", found, [b"first", b"second"])
+
+
+def other_keys(suite, company):
+    """A shard that does not know the key of common, or the key of a team."""
+    second = company.shards["second"]
+    second.stop()
+    done("key-revoke", "--db", second.file, "--key", key("common"))
+    second.start()
+    status, lines, _ = company.tool("send")
+    suite.equal("a shard without the key of common is named", (status, lines[0]), (1, "second does not know the key that publishes to common"))
+    second.stop()
+    done("key-add", "--db", second.file, "--shelf", "common", "--key", key("common"))
+    second.start()
+
+
+def wrong_files(suite, company):
+    """Files that are wrong: a status of 2, one line that says so, and nothing is sent."""
+    name = f"{company.folder}/wrong"
+    for text, said in WRONG_FILES.items():
+        with open(name, "w", encoding="utf-8") as file:
+            file.write(text)
+        status, lines, errors = company.tool("send", file=name)
+        suite.holds(f"{text!r}: {said}", (status, lines) == (2, []) and said in errors and errors.count("\n") == 1, (status, errors))
+    for drop in ('"common publish"', '"delta read"'):
+        with open(company.keys, encoding="utf-8") as file:
+            lines = [it for it in file if not it.startswith(drop)]
+        with open(name, "w", encoding="utf-8") as file:
+            file.writelines(lines)
+        status, _, errors = company.tool("send", keys=name)
+        suite.holds(f"keys without {drop}", status == 2 and f"it has no line for {drop}" in errors, errors)
+    for words in ([], ["send"], ["conf"], ["send", company.file], ["other", company.file, company.keys]):
+        status = subprocess.run([f"{ROOT}/tools/shards", *words], capture_output=True, stdin=subprocess.DEVNULL).returncode
+        suite.equal(f"the words {[it[:5] for it in words]}", status, 2)
+    status = subprocess.run([f"{ROOT}/tools/shards", "conf", company.file], input=b"server { }", capture_output=True).returncode
+    suite.equal("conf of another file", status, 2)
+
+
+def main():
+    suite = Suite()
+    if os.geteuid() != 0:
+        suite.skip("nginx", "its users and folders need root")
+        return suite.end()
+    with tempfile.TemporaryDirectory(prefix="goshelf-shards-") as folder:
+        os.chmod(folder, 0o755)
+        company = Company(folder)
+        try:
+            for part in (alike, shard_down, two_publishers, pseudo_versions, wrong_files, ran_ahead, other_keys, past_nginx):
+                part(suite, company)
+        finally:
+            company.close()
+    return suite.end()
+
+
+if __name__ == "__main__":
+    sys.exit(main())

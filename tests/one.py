@@ -104,6 +104,10 @@ class Company:
         return [(at, user, target, found[0], wanted[user, target][0]) for at, user, target, found in told
                 if found != wanted[user, target] and found[0] not in failures]
 
+    def back(self, status=200):
+        """Waits until the first host answers at each site, as it does again some seconds after it failed."""
+        wait_until(lambda: all(self.desk.ask(at, "ann", "/-/modules")[0] == status for at in (SITE, OTHER)))
+
     def forget(self):
         """Waits until a site asks again who may log in."""
         time.sleep(FORGOTTEN)
@@ -247,7 +251,7 @@ def store_down(suite, company):
     suite.equal("nor does who has not logged in before", company.desk.ask(SITE, "rob", "/example.com/lib/@v/v1.0.0.zip")[0], 502)
     suite.holds("a publish fails", company.put("pub", "example.com/lib", "v1.4.0")[0] in (502, 504))
     company.first.link(True)
-    wait_until(lambda: company.desk.ask(SITE, "ann", "/-/modules")[0] == 200)
+    company.back()
     equal(suite, company, "the first host is back")
 
 
@@ -261,6 +265,7 @@ def cut_publish(suite, company):
         company.hosts[SITE].link(False)
         time.sleep(0.5)
         company.hosts[SITE].link(True)
+    company.back()
     suite.equal("half of a publish leaves nothing", company.own("ann", "/example.com/cut/@v/v1.0.0.mod")[0], 404)
     suite.equal("it is published again", company.put("pub", "example.com/cut", "v1.0.0", body=body), (201, b"published\n"))
     suite.equal("and again", company.put("pub", "example.com/cut", "v1.0.0", body=body, at=OTHER), (200, b"already published\n"))
@@ -288,7 +293,7 @@ def revoked(suite, company):
     company.first.reload()
     suite.equal("removed while sites are cut off: what is kept is answered", company.desk.ask(SITE, "ann", zip_file)[0], 200)
     company.first.link(True)
-    wait_until(lambda: company.desk.ask(SITE, "ann", "/-/modules")[0] == 401)
+    company.back(401)
     company.forget()
     suite.equal("and refused once they are back", [company.desk.ask(at, "ann", zip_file)[0] for at in FRONTS], [401] * 3)
     company.desk.add(company.first, "ann", "alpha", "read")

@@ -33,7 +33,7 @@ daemon off; worker_processes {workers}; pid {folder}/pid; error_log {folder}/err
 events {{ worker_connections 4096; }}
 http {{
     client_body_temp_path {folder}/body; proxy_temp_path {folder}/proxy; fastcgi_temp_path {folder}/fastcgi; uwsgi_temp_path {folder}/uwsgi;
-    scgi_temp_path {folder}/scgi; map_hash_max_size 65536; map_hash_bucket_size 256; keepalive_requests 10000;
+    scgi_temp_path {folder}/scgi; keepalive_requests 10000;
     include {folder}/goshelf.conf;
 }}
 """
@@ -152,7 +152,7 @@ def write_shards(company, stores, name):
 def maps(company):
     """users.map and keys.map."""
     users = [(user_of(shelf, right, number), shelf, right) for shelf in company.shelves for right in ("read", "publish") for number in range(company.sizes.users)]
-    lines = "".join(f'"~^{basic(user)}$" "{user} {shelf} {right}";\n' for user, shelf, right in users)
+    lines = "".join(f'"{basic(user)}" "{basic(user).split()[1]} {user} {shelf} {right}";\n' for user, shelf, right in users)
     keys = "".join(f'"{it} read" {company.reader(it)};\n"{it} publish" {company.key(it)};\n' for it in company.shelves)
     return {"users.map": lines, "keys.map": keys}
 

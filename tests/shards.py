@@ -51,6 +51,11 @@ def login(shelf, right="publish"):
     return "Basic " + base64.b64encode(f"{shelf}-{right}:password".encode()).decode()
 
 
+def user_line(shelf, right):
+    """The line of nginx's users.map for a shelf's user."""
+    return f'"{login(shelf, right)}" "{login(shelf, right).split()[1]} {shelf}-{right} {shelf} {right}";\n'
+
+
 def add(file, shelf):
     """Adds a group, a team of it, or a team."""
     if shelf == "platform":
@@ -113,7 +118,7 @@ class Company:
             os.makedirs(f"{machine.folder}/{name}")
         os.chmod(f"{machine.folder}/var/cache/nginx/goshelf", 0o777)
         machine.write("etc/nginx/goshelf/keys.map", "".join(f'"{it} {right}" {key(it, right)};\n' for it in SHELVES for right in rights))
-        machine.write("etc/nginx/goshelf/users.map", "".join(f'"~^{login(it, right)}$" "{it}-{right} {it} {right}";\n' for it in SHELVES for right in rights))
+        machine.write("etc/nginx/goshelf/users.map", "".join(user_line(it, right) for it in SHELVES for right in rights))
         machine.does(f"{ROOT}/tools/shards conf {self.file} < deploy/nginx/goshelf.conf > /etc/nginx/conf.d/goshelf.conf")
         machine.does("nginx")
         wait_for(machine.front)

@@ -1,0 +1,35 @@
+-- What a crash leaves after more turns.
+use Rattle.std.proofs.Common.{◌≡◌, List, [], ◌∷◌, ◌++◌, refl, sym, subst, Ok, Err}
+use Rattle.world.specs.World.{World}
+use Rattle.world.specs.Store.{Shown}
+use Rattle.wire.specs.Message.{Request}
+use Rattle.engine.specs.Exchange.{Outcome, Unserved, Met, Told}
+use Rattle.control.specs.Turns.{Turn, Asked, Ordered, LeavesTwo, AllCalm, world_at}
+
+-- what holds of the store's worlds before holds of its worlds now
+pub leaves_kept : (mid new : Shown) → ((w x : World) → mid.leaves w x → new.leaves w x) → (w : World) (ts : List Turn)
+    → LeavesTwo mid w ts → LeavesTwo new w ts
+leaves_kept mid new kept w [] leaves = kept w w leaves
+leaves_kept mid new kept w (t ∷ []) leaves = kept w _ leaves
+leaves_kept mid new kept w (t ∷ u ∷ more) leaves = λ calm. leaves_kept mid new kept (world_at w (t ∷ [])) (u ∷ more) (leaves calm)
+
+step_asked : (w : World) (m : Request) (o : Outcome) (ts : List Turn)
+    → world_at (world_at w (Asked (record { message = m; outcome = o }) ∷ [])) ts ≡ world_at w (Asked (record { message = m; outcome = o }) ∷ ts)
+step_asked w m Unserved ts = refl
+step_asked w m (Met fault) ts = refl
+step_asked w m (Told reply) ts = refl
+
+pub world_step : (w : World) (t : Turn) (ts : List Turn) → world_at (world_at w (t ∷ [])) ts ≡ world_at w (t ∷ ts)
+world_step w (Asked x) ts = step_asked w x.message x.outcome ts
+world_step w (Ordered order (Ok r)) ts = refl
+world_step w (Ordered order (Err fault)) ts = refl
+
+-- after turns that met no fault, more turns
+pub leaves_more : (new : Shown) (w : World) (ts : List Turn) (u : Turn) (us : List Turn)
+    → (AllCalm w ts → LeavesTwo new (world_at w ts) (u ∷ us)) → LeavesTwo new w (ts ++ u ∷ us)
+leaves_more new w [] u us next = next tt
+leaves_more new w (t ∷ []) u us next = λ calm. next (calm, tt)
+leaves_more new w (t ∷ t' ∷ more) u us next =
+    λ calm.
+    leaves_more new (world_at w (t ∷ [])) (t' ∷ more) u us
+    (λ all. subst (λ v. LeavesTwo new v (u ∷ us)) (sym (world_step w t (t' ∷ more))) (next (calm, all)))

@@ -1,0 +1,39 @@
+-- What an operator's line came to.
+use Rattle.std.proofs.Common.{◌≡◌, ℕ, List, [], Option, Result, Ok, Err, sym, subst}
+use Rattle.std.specs.Io.KnownBytes.{Keeps}
+use Rattle.world.specs.Store.{Shown}
+use Rattle.engine.specs.Written.{Writes}
+use Rattle.engine.specs.declared.fault.Io.{Io}
+use Rattle.engine.specs.declared.fault.Io.TheVariants as io
+use Rattle.control.specs.Hearing.{Heard, Carried, NoOrder, NoMemory, IsHeard, IsHeardIn, Heeds, Hears, Obeys}
+use Rattle.control.specs.Line.{ReadsLine}
+use Rattle.control.specs.Outcome.{line_of}
+use Rattle.control.specs.Turns.{GoesThroughTurns}
+use Rattle.control.specs.declared.outcome.Outcome.{Outcome}
+
+module _ (old new : Shown) (before now : ℕ) (u u' : Option (List ℕ)) where
+  was_heard : (got : List ℕ) → ReadsLine u u' got → (heard : Heard) → IsHeardIn got heard → IsHeard u u' heard
+  was_heard got reads (Carried order told) sent = (got, reads, sent)
+  was_heard got reads NoOrder none = (got, reads, none)
+  was_heard got reads NoMemory never = absurd never
+
+  -- the line that was read
+  pub hears_line : (got : List ℕ) (told : Outcome) → ReadsLine u u' got → Heeds old new before now got told
+      → Hears old new before now u u' told
+  hears_line got told reads heeds = record {
+    heard = heeds.heard;
+    from = was_heard got reads heeds.heard heeds.from;
+    tells = heeds.tells;
+    through = heeds.through;
+  }
+
+  module _ (w w' : Option (List ℕ)) where
+    pub obeys_told : (told : Outcome) (result : Result (Unit {0}) Io) → Hears old new before now u u' told → Writes w w' (line_of told) result
+        → Obeys old new before now u u' w w' result
+    obeys_told told (Ok done) hears writes = (told, hears, writes)
+    obeys_told told (Err io.Write) hears writes = (told, hears, writes.1)
+    obeys_told told (Err io.Read) hears (wrong, part) = cc
+
+    pub obeys_unread : (e : Io) → e ≡ io.Read → GoesThroughTurns old new before now [] → Keeps w w'
+        → Obeys old new before now u u' w w' (Err e)
+    obeys_unread e is through keeps = subst (λ x. Obeys old new before now u u' w w' (Err x)) (sym is) (through, keeps)

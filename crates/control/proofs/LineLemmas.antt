@@ -1,0 +1,56 @@
+-- Lines among bytes.
+use Rattle.std.proofs.Common.{◌≡◌, ◌≢◌, ℕ, ◌-◌, ◌+◌, ◌<◌, ◌≤◌, nat_eq, Bool, true, false, List, [], ◌∷◌, ◌++◌, length, get_or, take, drop, arith, sym, subst, ◌∙◌, Option, Some, None, MatchOption}
+use denote.Ref.{Bor}
+use Rattle.std.specs.List.{Contains, IsAnyAnswer}
+use Rattle.std.proofs.Math.Dec.{eqb}
+use Rattle.std.proofs.lemmas.Bool.{false≢true, eqb-true}
+use Rattle.std.specs.Cmp.{unsigned_Decides}
+use Rattle.std.specs.Cmp.Lexicographic.{pointwise}
+use Rattle.std.proofs.lemmas.Slice.Eq.{strip_suffix_is}
+use Rattle.std.specs.Str.{IsUtf8}
+use Rattle.std.proofs.lemmas.List.{append_cancel_right}
+use Rattle.control.specs.Line.{longest, IsLine, HoldsNoLine, IsNoOrder}
+use Rattle.control.specs.Order.{Orders, OrdersNothing}
+use Rattle.control.specs.Words.{line_end}
+
+-- ---- the end of a line is cut off
+
+abbrev Stripped : List ℕ → List ℕ → Option (Bor (List ℕ)) → Type 0
+Stripped s p r =
+    MatchOption r (pointwise nat_eq (drop (length s - length p) s) p ≡ false)
+    (λ x. (pointwise nat_eq (drop (length s - length p) s) p ≡ true) × (x.now ≡ take (length s - length p) s) × (length x.now + length p ≡ length s))
+
+pub end_cut : (s p : List ℕ) (r : Option (Bor (List ℕ))) (x : Bor (List ℕ)) → r ≡ Some x → Stripped s p r → s ≡ x.now ++ p
+end_cut s p r x is cases = subst (λ o. MatchOption o ((front : List ℕ) → s ≢ front ++ p) (λ y. s ≡ y.now ++ p)) is (strip_suffix_is unsigned_Decides s p r cases)
+
+pub no_end_cut : (s p : List ℕ) (r : Option (Bor (List ℕ))) → r ≡ None → Stripped s p r → (front : List ℕ) → s ≢ front ++ p
+no_end_cut s p r is cases = subst (λ o. MatchOption o ((front : List ℕ) → s ≢ front ++ p) (λ y. s ≡ y.now ++ p)) is (strip_suffix_is unsigned_Decides s p r cases)
+
+-- ---- lines
+
+-- the line of bytes is one
+pub one_line : (got line other : List ℕ) → got ≡ line ++ line_end ∷ [] → IsLine got other → other ≡ line
+one_line got line other is holds = append_cancel_right other line (line_end ∷ []) (sym holds.is ∙ is)
+
+pub no_end : (got : List ℕ) → ((front : List ℕ) → got ≢ front ++ line_end ∷ []) → HoldsNoLine got
+no_end got none line holds = none line holds.is
+
+pub too_long : (got line : List ℕ) → got ≡ line ++ line_end ∷ [] → longest < length line → HoldsNoLine got
+too_long got line is long other holds =
+    let few = subst (λ l. length l ≤ longest) (one_line got line other is holds) holds.few in omega (arith, few, long)
+
+pub no_text : (got line : List ℕ) → got ≡ line ++ line_end ∷ [] → ¬ IsUtf8 line → HoldsNoLine got
+no_text got line is none other holds = none (subst IsUtf8 (one_line got line other is holds) holds.text)
+
+-- the order of bytes that hold a line is that line's
+pub no_order : (got line : List ℕ) → IsLine got line → OrdersNothing line → IsNoOrder got
+no_order got line holds nothing order sent =
+    nothing order (subst (λ l. Orders l order) (one_line got line sent.line holds.is sent.ends) sent.orders)
+
+pub no_line : (got : List ℕ) → HoldsNoLine got → IsNoOrder got
+no_line got none order sent = none sent.line sent.ends
+
+-- a byte that a search found
+pub has_byte : (x : ℕ) (bytes : List ℕ) (r : Bool) → IsAnyAnswer (λ y b. eqb y x ≡ b) bytes r → r ≡ true → Contains bytes x
+has_byte x bytes true found is = (found.0, found.1, eqb-true (get_or bytes found.0 x) x (found.2 x))
+has_byte x bytes false found is = absurd (false≢true is)

@@ -1,0 +1,66 @@
+-- What words say no order.
+use Rattle.std.proofs.Common.{◌≡◌, ◌≢◌, ℕ, List, [], Bool, true, false, Option, Some, None, MatchOption, refl, sym, ap, ◌∙◌, subst}
+use Rattle.std.specs.Prelude.{codes, bytes_eq, if◌then◌else◌, unwrap_or}
+use Rattle.std.proofs.lemmas.Bool.{false≢true}
+use Rattle.shelf.specs.declared.ask.Event.{Event}
+use Rattle.shelf.specs.declared.ask.Event.TheVariants as event
+use Rattle.world.specs.declared.entry.Right.TheVariants.{Reads, Publishes}
+use Rattle.control.specs.Words.{Said, IsTextOf}
+use Rattle.control.specs.Order.{two, three, said_in, SaysNoOrder, AddsNoKey, Orders, OrdersNothing, event_of}
+use Rattle.control.specs.declared.order.Order.{Order}
+use Rattle.control.specs.declared.order.Order.TheVariants.{TeamAdd, GroupAdd, KeyAdd, KeyRevoke}
+use Rattle.control.proofs.WordLemmas.{one_saying}
+
+abbrev verb_of : Said → List ℕ
+verb_of s = s.verb
+
+abbrev has_more : Option (List ℕ) → Bool
+has_more None = false
+has_more (Some word) = true
+
+abbrev is_longer : Said → Bool
+is_longer s = has_more s.second
+
+pub shorter_none : (verb name : List ℕ) → verb ≢ codes "team-add" → verb ≢ codes "group-add" → verb ≢ codes "key-revoke"
+    → SaysNoOrder (two verb name)
+shorter_none verb name no_team no_group no_revoke (TeamAdd n group) e = no_team (ap verb_of e)
+shorter_none verb name no_team no_group no_revoke (GroupAdd n) e = no_group (ap verb_of e)
+shorter_none verb name no_team no_group no_revoke (KeyAdd shelf key right) e = false≢true (ap is_longer e)
+shorter_none verb name no_team no_group no_revoke (KeyRevoke key) e = no_revoke (ap verb_of e)
+
+pub longer_none : (verb first second : List ℕ) → verb ≢ codes "team-add" → AddsNoKey verb → SaysNoOrder (three verb first second)
+longer_none verb first second no_team no_key (TeamAdd n group) e = no_team (ap verb_of e)
+longer_none verb first second no_team no_key (GroupAdd n) e = false≢true (sym (ap is_longer e))
+longer_none verb first second no_team no_key (KeyAdd shelf key right) e = no_key right (ap verb_of e)
+longer_none verb first second no_team no_key (KeyRevoke key) e = false≢true (sym (ap is_longer e))
+
+-- where the words of a line say no order, it is no order's
+pub orders_nothing : (line : List ℕ) (s : Said) → IsTextOf line s → SaysNoOrder s → OrdersNothing line
+orders_nothing line s told none order orders = none order (one_saying line s (said_in order) told orders)
+
+pub order_told : (line : List ℕ) (s : Said) → IsTextOf line s → (r : Option Order) → MatchOption r (SaysNoOrder s) (λ o. s ≡ said_in o)
+    → MatchOption r (OrdersNothing line) (λ o. Orders line o)
+order_told line s told None none = orders_nothing line s told none
+order_told line s told (Some o) same = subst (IsTextOf line) same told
+
+-- ---- the event of an order
+
+-- what words order, if they order anything
+abbrev ordered_by : Said → Event
+ordered_by s =
+    if bytes_eq s.verb (codes "team-add") then event.TeamAdd s.first s.second
+    else if bytes_eq s.verb (codes "group-add") then event.GroupAdd s.first
+    else if bytes_eq s.verb (codes "key-revoke") then event.KeyRevoke s.first
+    else if bytes_eq s.verb (codes "key-add") then event.KeyAdd s.first (unwrap_or s.second []) Publishes
+    else event.KeyAdd s.first (unwrap_or s.second []) Reads
+
+orders_itself : (order : Order) → ordered_by (said_in order) ≡ event_of order
+orders_itself (TeamAdd name group) = refl
+orders_itself (GroupAdd name) = refl
+orders_itself (KeyAdd shelf key Publishes) = refl
+orders_itself (KeyAdd shelf key Reads) = refl
+orders_itself (KeyRevoke key) = refl
+
+pub one_event : (line : List ℕ) (one two : Order) → Orders line one → Orders line two → event_of one ≡ event_of two
+one_event line one two first next =
+    sym (orders_itself one) ∙ (ap ordered_by (one_saying line (said_in one) (said_in two) first next) ∙ orders_itself two)

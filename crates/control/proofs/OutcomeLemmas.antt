@@ -1,0 +1,35 @@
+-- What lines tell.
+use Rattle.std.proofs.Common.{◌≡◌, ℕ, List, refl, sym, ap, ◌∙◌}
+use Rattle.std.specs.Prelude.{codes, bytes_eq, if◌then◌else◌}
+use Rattle.world.specs.declared.registry.Registered.TheVariants as registered
+use Rattle.world.specs.declared.registry.StoreFault.TheVariants as fault
+use Rattle.control.specs.Outcome.{line_of}
+use Rattle.control.specs.declared.outcome.Outcome.{Outcome}
+use Rattle.control.specs.declared.outcome.Outcome.TheVariants as outcome
+
+-- what a line tells
+abbrev told_by : List ℕ → Outcome
+told_by line =
+    if bytes_eq line (codes "done\n") then outcome.Registered registered.Done
+    else if bytes_eq line (codes "name\n") then outcome.Registered registered.Name
+    else if bytes_eq line (codes "taken\n") then outcome.Registered registered.Taken
+    else if bytes_eq line (codes "no-team\n") then outcome.Registered registered.NoTeam
+    else if bytes_eq line (codes "no-group\n") then outcome.Registered registered.NoGroup
+    else if bytes_eq line (codes "no-key\n") then outcome.Registered registered.NoKey
+    else if bytes_eq line (codes "device\n") then outcome.Failed fault.Device
+    else if bytes_eq line (codes "memory\n") then outcome.Failed fault.Memory
+    else outcome.Bad
+
+tells_itself : (told : Outcome) → told_by (line_of told) ≡ told
+tells_itself (outcome.Registered registered.Done) = refl
+tells_itself (outcome.Registered registered.Name) = refl
+tells_itself (outcome.Registered registered.Taken) = refl
+tells_itself (outcome.Registered registered.NoTeam) = refl
+tells_itself (outcome.Registered registered.NoGroup) = refl
+tells_itself (outcome.Registered registered.NoKey) = refl
+tells_itself (outcome.Failed fault.Device) = refl
+tells_itself (outcome.Failed fault.Memory) = refl
+tells_itself outcome.Bad = refl
+
+pub one_outcome : (one two : Outcome) → line_of one ≡ line_of two → one ≡ two
+one_outcome one two same = sym (tells_itself one) ∙ (ap told_by same ∙ tells_itself two)

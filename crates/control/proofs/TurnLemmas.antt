@@ -1,0 +1,164 @@
+-- A store goes through turns: none, one, and more after others.
+use Rattle.std.proofs.Common.{◌≡◌, ℕ, ◌+◌, ◌≤◌, List, [], ◌∷◌, ◌++◌, length, map, refl, sym, subst, ap, ◌∙◌, inl, inr, Result, Ok, Err, arith, append-nil}
+use Rattle.std.proofs.lemmas.List.{map-append}
+use Rattle.world.specs.World.{World}
+use Rattle.world.specs.Store.{Shown, Does, DoesAt, HasCause}
+use Rattle.world.specs.declared.registry.Registered.{Registered}
+use Rattle.world.specs.declared.registry.StoreFault.{StoreFault}
+use Rattle.shelf.specs.Machine.{after, reply_to}
+use Rattle.shelf.specs.declared.reply.Reply.{Reply}
+use Rattle.shelf.specs.declared.reply.Reply.TheVariants.{Registry}
+use Rattle.shelf.proofs.Runs.{runs_none, runs_replied, runs_failed, runs_joined, grown_more, grown_before}
+use Rattle.engine.specs.Exchange.{Exchange}
+use Rattle.engine.specs.Store.{GoesThrough}
+use Rattle.engine.proofs.RunLemmas.{world_more, met_either}
+use Rattle.control.specs.Order.{event_of, outcome_in}
+use Rattle.control.specs.Turns.{Turn, Asked, Ordered, turn_event, turn_answer, messages, AllCalm, LeavesTwo, world_at, GoesThroughTurns}
+use Rattle.control.specs.declared.order.Order.{Order}
+use Rattle.control.specs.declared.order.Order.TheVariants.{TeamAdd, GroupAdd, KeyAdd, KeyRevoke}
+use Rattle.control.proofs.CrashLemmas.{leaves_kept, leaves_more, world_step}
+
+-- ---- none
+
+pub turns_none : (shown : Shown) (count : ℕ) → GoesThroughTurns shown shown count count []
+turns_none shown count = record {
+  runs = record {
+    honest = λ h. h;
+    at = λ h w stands. runs_none shown w stands;
+  };
+  left = λ h w stands was. was;
+  settled = λ h w stands calm was. was;
+  untouched = λ none h w x was. was;
+  no_fewer = omega arith;
+  device = λ met. absurd met;
+}
+
+-- ---- one
+
+-- what the messages of one connection went through
+pub turns_asked : (old new : Shown) (before now : ℕ) (xs : List Exchange) → length xs ≤ 1 → GoesThrough old new before now xs
+    → GoesThroughTurns old new before now (map Asked xs)
+turns_asked old new before now [] few through = record {
+  runs = through.runs;
+  left = through.left;
+  settled = λ h w stands calm was. through.settled h w stands tt was;
+  untouched = λ none. through.untouched refl;
+  no_fewer = through.no_fewer;
+  device = through.device;
+}
+turns_asked old new before now (x ∷ []) few through = record {
+  runs = through.runs;
+  left = through.left;
+  settled = λ h w stands calm was. through.settled h w stands calm was;
+  untouched = λ none. cc;
+  no_fewer = through.no_fewer;
+  device = through.device;
+}
+turns_asked old new before now (x ∷ y ∷ more) few through = absurd (omega (arith, few))
+
+module _ (old new : Shown) (w : World) where
+  -- in one world, of the order's event
+  by_event : (o : Order) (told : Result Registered StoreFault) → DoesAt old new w told (outcome_in w o) (after w (event_of o))
+      → (outcome : Registered) × (reply_to w (event_of o) ≡ Registry outcome) × DoesAt old new w told outcome (after w (event_of o))
+  by_event (TeamAdd name group) told does = (_, refl, does)
+  by_event (GroupAdd name) told does = (_, refl, does)
+  by_event (KeyAdd shelf key right) told does = (_, refl, does)
+  by_event (KeyRevoke key) told does = (_, refl, does)
+
+  -- the machine's reply to it
+  pub replied : (o : Order) (r : Registered) → DoesAt old new w (Ok r) (outcome_in w o) (after w (event_of o))
+      → DoesAt {T = Reply} old new w (Ok (Registry r)) (reply_to w (event_of o)) (after w (event_of o))
+  replied o r does = let so = by_event o (Ok r) does in record {
+    answer = ap Registry so.2.answer ∙ sym so.1;
+    ok = does.ok;
+    err = tt;
+    left = does.left;
+    kept = does.kept;
+    settled = does.settled;
+    failed = tt;
+  }
+
+pub turns_ordered : (old new : Shown) (before now : ℕ) (o : Order) (told : Result Registered StoreFault)
+    → Does old new told (λ w. outcome_in w o) (λ w. after w (event_of o)) → HasCause before now told
+    → GoesThroughTurns old new before now (Ordered o told ∷ [])
+turns_ordered old new before now o (Ok r) does cause = record {
+  runs = record {
+    honest = λ h. does.honest h;
+    at = λ h w stands. runs_replied old new w (event_of o) (Registry r) (replied old new w o r (does.at h w stands tt));
+  };
+  left = λ h w stands was. (does.at h w stands tt).left was;
+  settled = λ h w stands calm was. (does.at h w stands tt).kept was;
+  untouched = λ none. cc;
+  no_fewer = cause.no_fewer;
+  device = λ met. elim met [ inl same ↦ cc | inr never ↦ absurd never ];
+}
+turns_ordered old new before now o (Err fault) does cause = record {
+  runs = record {
+    honest = λ h. does.honest h;
+    at = λ h w stands. runs_failed old new w (event_of o) fault (outcome_in w o) (does.at h w stands tt);
+  };
+  left = λ h w stands was. (does.at h w stands tt).left was;
+  settled = λ h w stands calm was. elim calm.0 [
+    | inl never ↦ absurd never
+    | inr idle ↦ subst (λ x. new.leaves w x) idle ((does.at h w stands tt).left was)
+  ];
+  untouched = λ none. cc;
+  no_fewer = cause.no_fewer;
+  device = λ met. elim met [ inl same ↦ cause.device cc | inr never ↦ absurd never ];
+}
+
+-- ---- more after others
+
+calm_parts : (w : World) (ts us : List Turn) → AllCalm w (ts ++ us) → AllCalm w ts × AllCalm (world_at w ts) us
+calm_parts w [] us all = (tt, all)
+calm_parts w (t ∷ ts) us all =
+    let parts = calm_parts (world_at w (t ∷ [])) ts us all.1 in ((all.0, parts.0), subst (λ v. AllCalm v us) (world_step w t ts) parts.1)
+
+none_of : (ts us : List Turn) → ts ++ us ≡ [] → (ts ≡ []) × (us ≡ [])
+none_of [] us e = (refl, e)
+none_of (t ∷ ts) us e = cc
+
+pub messages_append : (ts us : List Turn) → messages (ts ++ us) ≡ messages ts + messages us
+messages_append [] us = omega arith
+messages_append (Asked x ∷ ts) us = let e = messages_append ts us in omega (arith, e)
+messages_append (Ordered o told ∷ ts) us = messages_append ts us
+
+module _ (old mid new : Shown) (before between now : ℕ) (ts : List Turn) (first : GoesThroughTurns old mid before between ts) where
+  -- a crash after both, by whether there are more
+  leaves_after : (us : List Turn) → GoesThroughTurns mid new between now us → new.is_honest → (w : World) → old.stands w → old.leaves w w
+      → LeavesTwo new w (ts ++ us)
+  leaves_after [] next h w stands was =
+      subst (LeavesTwo new w) (sym (append-nil ts))
+      (leaves_kept mid new (next.untouched refl h) w ts (first.left (next.runs.honest h) w stands was))
+  leaves_after (u ∷ us) next h w stands was =
+      let honest = next.runs.honest h in
+      leaves_more new w ts u us (λ all. next.left h _ (first.runs.at honest w stands).ends (first.settled honest w stands all was))
+
+  module _ (us : List Turn) where
+    same_world : mid.is_honest → (w : World) → old.stands w → world_at (world_at w ts) us ≡ world_at w (ts ++ us)
+    same_world h w stands =
+        rw (map-append turn_event ts us, map-append turn_answer ts us)
+        (world_more w _ (map turn_event ts) (map turn_event us) (map turn_answer ts) (map turn_answer us) (first.runs.at h w stands).run)
+
+    pub turns_more : GoesThroughTurns mid new between now us → GoesThroughTurns old new before now (ts ++ us)
+    turns_more next = record {
+      runs = rw (map-append turn_event ts us, map-append turn_answer ts us)
+          (runs_joined old mid new (map turn_event ts) (map turn_event us) (map turn_answer ts) (map turn_answer us) first.runs next.runs);
+      left = leaves_after us next;
+      settled = λ h w stands calm was.
+          let parts = calm_parts w ts us calm in
+          let honest = next.runs.honest h in
+          let there = (first.runs.at honest w stands).ends in
+          subst (λ x. new.leaves x x) (same_world honest w stands)
+          (next.settled h _ there parts.1 (first.settled honest w stands parts.0 was));
+      untouched = λ none h w x was.
+          let parts = none_of ts us none in
+          next.untouched parts.1 h w x (first.untouched parts.0 (next.runs.honest h) w x was);
+      no_fewer = omega (arith, first.no_fewer, next.no_fewer);
+      device = λ met.
+          let either = met_either (map turn_answer ts) (map turn_answer us) (rw (map-append turn_answer ts us) at met) in
+          elim either [
+            | inl earlier ↦ grown_more _ _ _ (first.device earlier) next.no_fewer
+            | inr later ↦ grown_before _ _ _ first.no_fewer (next.device later)
+          ];
+    }

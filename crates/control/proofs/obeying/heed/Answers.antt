@@ -1,0 +1,20 @@
+use Rattle.std.proofs.Common.{refl}
+use Rattle.control.specs.Hearing.{Carried, NoOrder}
+use Rattle.control.proofs.TurnLemmas.{turns_none, turns_ordered}
+use Rattle.control.proofs.obeying.heed.Goals as goal
+
+pub returns-in-Some : goal.returns-in-Some
+returns-in-Some g c = record {
+  heard = Carried c.in-Some.order c.carry_out.result;
+  from = c.in-Some.ensures;
+  tells = c.outcome_of.ensures;
+  through = turns_ordered _ _ _ _ _ _ c.carry_out.ensures.does c.carry_out.ensures.cause;
+}
+
+pub returns-in-None : goal.returns-in-None
+returns-in-None g c = record {
+  heard = NoOrder;
+  from = c.in-None.ensures;
+  tells = refl;
+  through = turns_none _ _;
+}

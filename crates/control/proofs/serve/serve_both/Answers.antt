@@ -1,0 +1,32 @@
+use Rattle.std.proofs.Common.{arith}
+use Rattle.control.proofs.ServeLemmas.{each_zero, each_peer, each_operator, each_same, each_goes}
+use Rattle.control.proofs.serve.serve_both.Goals as goal
+use Rattle.control.proofs.serve.serve_both.Goals.{in-Ok-Operator, in-Ok-Peer, in-Err}
+
+pub loop-init : goal.loop-init
+loop-init g c = record { some = omega arith; each = each_zero _ _ _ _ _ _ _ _ (omega arith) }
+
+pub loop-preserved : goal.loop-preserved
+loop-preserved g c =
+    let left_is = c.if-left-eq0.false in
+    let kept = c.loop.invariant in
+    elim c.match-next.branch [
+      | in-Ok-Operator w ↦ rw (w.left-is, w.shelves-is) (record {
+        some = kept.some;
+        each = each_operator _ _ _ _ _ _ _ _ _ _ _ _ _ _ _ kept.each _ (rw w.in-Ok-Operator.field-0-is at w.in-Ok-Operator.ensures) w.obey_on.ensures (omega arith);
+      })
+      | in-Ok-Peer w ↦ rw (w.left-is, w.shelves-is) (record {
+        some = omega (arith, kept.some);
+        each = each_peer _ _ _ _ _ _ _ _ _ _ _ _ _ _ _ kept.each _ (rw w.in-Ok-Peer.field-0-is at w.in-Ok-Peer.ensures) w.answer_on.ensures (omega (arith, kept.some, left_is));
+      })
+      | in-Err w ↦ rw (w.left-is, w.shelves-is) (record {
+        some = omega (arith, kept.some);
+        each = each_same _ _ _ _ _ _ _ _ _ _ _ _ _ w.in-Err.ensures kept.each (omega (arith, kept.some, left_is));
+      })
+    ]
+
+pub returns-then-left-eq0-clause-goes : goal.returns-then-left-eq0-clause-goes
+returns-then-left-eq0-clause-goes g c = each_goes _ _ _ _ _ _ _ _ _ _ _ _ c.loop.invariant.each (omega arith)
+
+pub returns-clause-goes : goal.returns-clause-goes
+returns-clause-goes g c = each_goes _ _ _ _ _ _ _ _ _ _ _ _ c.loop.invariant.each (omega arith)

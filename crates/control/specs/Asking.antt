@@ -1,0 +1,38 @@
+-- What an operator sends, and what is told.
+use Rattle.std.specs.Prelude.{ℕ, ◌≡◌, ◌⊎◌, List, Option, Result, Ok, Err}
+use Rattle.std.specs.Io.KnownBytes.{Consumes, Appends, Keeps}
+use Rattle.engine.specs.Written.{WritesPart}
+use Rattle.control.specs.Line.{IsSent}
+use Rattle.control.specs.Outcome.{line_of}
+use Rattle.control.specs.declared.client.Untold.{Untold}
+use Rattle.control.specs.declared.client.Untold.TheVariants.{Words, Memory, Nobody, Io}
+use Rattle.control.specs.declared.order.Order.{Order}
+use Rattle.control.specs.declared.outcome.Outcome.{Outcome}
+
+-- no bytes are the order's line
+abbrev pub IsUnsayable : Order → Type 0
+IsUnsayable order = (sent : List ℕ) → ¬ IsSent sent order
+
+-- why no line was made of the order
+abbrev pub IsUnsent : Order → Untold → Type 0
+IsUnsent order Words = IsUnsayable order
+IsUnsent order Memory = Unit {0}
+IsUnsent order Nobody = ⊥
+IsUnsent order Io = ⊥
+
+-- the line of the outcome was read
+abbrev pub TellsOutcome : Option (List ℕ) → Option (List ℕ) → Result Outcome Untold → Type 0
+TellsOutcome unread unread_new (Ok told) = Consumes unread unread_new (line_of told)
+TellsOutcome unread unread_new (Err e) = e ≡ Io
+
+-- The line of the order was sent, and the line of the outcome came. Or nothing was sent, since the order has no line, or for want of
+-- memory. Or the line was sent, or a beginning of it, and no outcome came.
+abbrev pub Asks :
+    Option (List ℕ) → Option (List ℕ) → Option (List ℕ) → Option (List ℕ) → Order → Result Outcome Untold → Type 0
+Asks unread unread_new written written_new order (Ok told) =
+    (sent : List ℕ) × IsSent sent order × Appends written written_new sent × Consumes unread unread_new (line_of told)
+Asks unread unread_new written written_new order (Err Words) = IsUnsayable order × Keeps written written_new
+Asks unread unread_new written written_new order (Err Memory) = Keeps written written_new
+Asks unread unread_new written written_new order (Err Nobody) = ⊥
+Asks unread unread_new written written_new order (Err Io) =
+    (sent : List ℕ) × IsSent sent order × (WritesPart written written_new sent ⊎ Appends written written_new sent)

@@ -1,0 +1,9 @@
+pub mod Asking
+pub mod Hearing
+pub mod Laws
+pub mod Line
+pub mod Order
+pub mod Outcome
+pub mod Turns
+pub mod Visits
+pub mod Words

@@ -1,0 +1,50 @@
+-- A line among the bytes that were read.
+use Rattle.std.specs.Prelude.{ℕ, ◌≡◌, ◌<◌, ◌≤◌, ◌⊎◌, ◌++◌, ◌∷◌, Bool, IsTrue, List, [], length, Contains, Option}
+use Rattle.std.specs.Str.{IsUtf8}
+use Rattle.std.specs.Io.KnownBytes.{Consumes, IsAtEnd}
+use Rattle.control.specs.Order.{Orders}
+use Rattle.control.specs.Words.{line_end}
+use Rattle.control.specs.declared.order.Order.{Order}
+
+-- the most bytes of a line without its end
+abbrev pub longest : ℕ
+longest = 127
+
+-- The bytes are a text that is not too long, and the end of its line.
+pub record IsLine (got line : List ℕ) : Type 0 where
+  pub is : got ≡ line ++ line_end ∷ []
+  pub few : length line ≤ longest
+  pub text : IsUtf8 line
+
+abbrev pub HoldsNoLine : List ℕ → Type 0
+HoldsNoLine got = (line : List ℕ) → ¬ IsLine got line
+
+-- The bytes are the line of an order.
+pub record IsSent (got : List ℕ) (order : Order) : Type 0 where
+  pub line : List ℕ
+  pub ends : IsLine got line
+  pub orders : Orders line order
+
+-- they are no order's
+abbrev pub IsNoOrder : List ℕ → Type 0
+IsNoOrder got = (order : Order) → ¬ IsSent got order
+
+-- a line ends in the bytes, or would be too long
+abbrev pub HasEnough : List ℕ → Type 0
+HasEnough got = Contains got line_end ⊎ (longest < length got)
+
+-- No more has to be read, or nothing comes.
+abbrev pub IsEnough : List ℕ → Option (List ℕ) → Type 0
+IsEnough got unread = HasEnough got ⊎ IsAtEnd unread
+
+-- these bytes were read, behind others, and whether no more has to be
+pub record ReadsOn (unread unread_new : Option (List ℕ)) (got got_new : List ℕ) (done : Bool) : Type 0 where
+  pub bytes : List ℕ
+  pub consumed : Consumes unread unread_new bytes
+  pub behind : got_new ≡ got ++ bytes
+  pub enough : IsTrue done → IsEnough got_new unread_new
+
+-- These bytes were read, and no more has to be.
+pub record ReadsLine (unread unread_new : Option (List ℕ)) (got : List ℕ) : Type 0 where
+  pub consumed : Consumes unread unread_new got
+  pub enough : IsEnough got unread_new

@@ -1,0 +1,32 @@
+-- What is told of an order, and its line.
+use Rattle.std.specs.Prelude.{ℕ, ◌≢◌, List, [], ◌∷◌, ◌++◌, codes, Result, Ok, Err}
+use Rattle.world.specs.declared.registry.Registered.{Registered}
+use Rattle.world.specs.declared.registry.Registered.TheVariants as registered
+use Rattle.world.specs.declared.registry.StoreFault.{StoreFault}
+use Rattle.world.specs.declared.registry.StoreFault.TheVariants as fault
+use Rattle.control.specs.Words.{line_end}
+use Rattle.control.specs.declared.outcome.Outcome.{Outcome}
+use Rattle.control.specs.declared.outcome.Outcome.TheVariants as outcome
+
+abbrev pub outcome_of : Result Registered StoreFault → Outcome
+outcome_of (Ok r) = outcome.Registered r
+outcome_of (Err f) = outcome.Failed f
+
+abbrev pub word_of : Outcome → List ℕ
+word_of (outcome.Registered registered.Done) = codes "done"
+word_of (outcome.Registered registered.Name) = codes "name"
+word_of (outcome.Registered registered.Taken) = codes "taken"
+word_of (outcome.Registered registered.NoTeam) = codes "no-team"
+word_of (outcome.Registered registered.NoGroup) = codes "no-group"
+word_of (outcome.Registered registered.NoKey) = codes "no-key"
+word_of (outcome.Failed fault.Device) = codes "device"
+word_of (outcome.Failed fault.Memory) = codes "memory"
+word_of outcome.Bad = codes "bad"
+
+-- the word, and the end of the line
+abbrev pub line_of : Outcome → List ℕ
+line_of told = word_of told ++ line_end ∷ []
+
+-- the word tells nothing
+abbrev pub TellsNothing : List ℕ → Type 0
+TellsNothing word = (told : Outcome) → word ≢ word_of told

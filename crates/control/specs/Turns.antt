@@ -1,0 +1,90 @@
+-- What a store goes through while peers ask and operators order.
+use Rattle.std.specs.Prelude.{ℕ, ◌≡◌, ◌≤◌, ◌+◌, ◌⊎◌, List, [], ◌∷◌, map, Result, Ok, Err}
+use Rattle.shelf.specs.declared.ask.Event.{Event}
+use Rattle.shelf.specs.declared.reply.Answer.{Answer}
+use Rattle.shelf.specs.declared.reply.Answer.TheVariants.{Replied, Failed}
+use Rattle.shelf.specs.declared.reply.Reply.TheVariants.{Registry}
+use Rattle.shelf.specs.Machine.{after, world_after, MetDevice}
+use Rattle.shelf.specs.Runs.{Runs}
+use Rattle.world.specs.World.{World}
+use Rattle.world.specs.Store.{Shown, GrewOrFull}
+use Rattle.world.specs.declared.registry.Registered.{Registered}
+use Rattle.world.specs.declared.registry.StoreFault.{StoreFault}
+use Rattle.engine.specs.Exchange.{Exchange, IsUnmet, answer_of as answer_to_message}
+use Rattle.engine.specs.Happening.{Happening, Message, Command, event_at, answer_at}
+use Rattle.control.specs.Order.{event_of}
+use Rattle.control.specs.declared.order.Order.{Order}
+
+-- a message was answered, or an order carried out
+pub data Turn : Type 0 where
+  Asked : Exchange → Turn
+  Ordered : Order → Result Registered StoreFault → Turn
+
+abbrev pub answer_to_order : Result Registered StoreFault → Answer
+answer_to_order (Ok r) = Replied (Registry r)
+answer_to_order (Err fault) = Failed fault
+
+-- what came to the store, and what became of it
+abbrev pub happening_of : Turn → Happening
+happening_of (Asked x) = record { coming = Message x.message; answer = answer_to_message x }
+happening_of (Ordered order told) = record { coming = Command (event_of order); answer = answer_to_order told }
+
+abbrev pub turn_event : Turn → Event
+turn_event t = event_at (happening_of t)
+
+abbrev pub turn_answer : Turn → Answer
+turn_answer t = answer_at (happening_of t)
+
+-- how many of them are messages
+abbrev pub messages : List Turn → ℕ
+messages [] = 0
+messages (Asked x ∷ ts) = messages ts + 1
+messages (Ordered order told ∷ ts) = messages ts
+
+-- the store met no fault
+abbrev pub IsUnmetOrder : Result Registered StoreFault → Type 0
+IsUnmetOrder (Ok r) = Unit {0}
+IsUnmetOrder (Err fault) = ⊥
+
+abbrev pub IsUnmetTurn : Turn → Type 0
+IsUnmetTurn (Asked x) = IsUnmet x.outcome
+IsUnmetTurn (Ordered order told) = IsUnmetOrder told
+
+-- where the machine is after the turns
+abbrev pub world_at : World → List Turn → World
+world_at w turns = world_after w (map turn_event turns) (map turn_answer turns)
+
+-- the store met no fault, or the turn changes nothing
+abbrev pub IsCalm : World → Turn → Type 0
+IsCalm w t = IsUnmetTurn t ⊎ (after w (turn_event t) ≡ w)
+
+-- so it is of each, at its moment
+abbrev pub AllCalm : World → List Turn → Type 0
+AllCalm w [] = Unit {0}
+AllCalm w (t ∷ ts) = IsCalm w t × AllCalm (world_at w (t ∷ [])) ts
+
+-- As long as no turn but the last met a fault, a crash leaves the world before the last or the world after it.
+abbrev pub LeavesTwo : Shown → World → List Turn → Type 0
+LeavesTwo shown w [] = shown.leaves w w
+LeavesTwo shown w (t ∷ []) = shown.leaves w (after w (turn_event t))
+LeavesTwo shown w (t ∷ u ∷ more) = IsCalm w t → LeavesTwo shown (world_at w (t ∷ [])) (u ∷ more)
+
+-- From old to new the store went through the turns, with these counts of device failures before and now.
+pub record GoesThroughTurns (old new : Shown) (before now : ℕ) (turns : List Turn) : Type 0 where
+  -- in one run of the machine the messages were answered and the orders carried out
+  pub runs : Runs old new (map turn_event turns) (map turn_answer turns)
+  -- where a crash left the world of the begin alone: two worlds at most, and that of the end alone if no turn met a fault
+  pub left : new.is_honest → (w : World) → old.stands w → old.leaves w w → LeavesTwo new w turns
+  pub settled : new.is_honest → (w : World) → old.stands w → AllCalm w turns → old.leaves w w
+      → new.leaves (world_at w turns) (world_at w turns)
+  -- without turns nothing changes
+  pub untouched : turns ≡ [] → new.is_honest → (w x : World) → old.leaves w x → new.leaves w x
+  -- a failed device is told only where one failed
+  pub no_fewer : before ≤ now
+  pub device : MetDevice (map turn_answer turns) → GrewOrFull before now
+
+-- so it did, with so many messages at most
+pub record GoesOn (old new : Shown) (before now most : ℕ) : Type 0 where
+  pub turns : List Turn
+  pub few : messages turns ≤ most
+  pub through : GoesThroughTurns old new before now turns

@@ -1,0 +1,146 @@
+//! Who comes: peers that ask, and operators that order.
+use crate::obeying::obey;
+use crate::patience::Timed;
+use engine::Io;
+use mio::unix::SourceFd;
+use mio::{Events, Interest, Poll, Token};
+use std::alloc::Global;
+use std::io::{self, ErrorKind};
+use std::net::{TcpListener, TcpStream};
+use std::os::fd::AsRawFd;
+use std::os::unix::net::{UnixListener, UnixStream};
+use std::rt::HostRuntime;
+use std::time::Clock;
+use world::shelves::Shelves;
+
+/// One who came.
+#[derive(Drop)]
+pub enum Caller<P, O> {
+    /// Sends a request.
+    Peer(P),
+    /// Sends an order.
+    Operator(O),
+}
+
+/// An operator who has connected.
+pub trait Operator {
+    ghost use Rattle.std.specs.Prelude.{ℕ, List, Option};
+    ghost use Rattle.control.specs.Hearing.{Obeys};
+
+    /// The bytes that it sends from here on, where they are known.
+    ghost unread: { Self → Option (List ℕ) };
+
+    /// The bytes that were sent to it, where they are known.
+    ghost written: { Self → Option (List ℕ) };
+
+    /// Carries out its order, as `obey` does.
+    fn obeyed<C: Clock, S: Shelves>(
+        &mut self,
+        alloc: Global,
+        clock: &C,
+        shelves: &mut S,
+    ) -> Result<(), Io>
+        ensures { Obeys (S.shown shelves.old) (S.shown shelves.new) (S.failure_count shelves.old) (S.failure_count shelves.new)
+            (unread self.old) (unread self.new) (written self.old) (written self.new) result };
+}
+
+/// A socket tells no bytes.
+impl Operator for UnixStream {
+    ghost use Rattle.std.specs.Prelude.{None};
+
+    ghost unread = { λ _. None };
+
+    ghost written = { λ _. None };
+
+    /// An operator has 2 seconds for the whole line, and so has the write of the outcome.
+    fn obeyed<C: Clock, S: Shelves>(
+        &mut self,
+        alloc: Global,
+        clock: &C,
+        shelves: &mut S,
+    ) -> Result<(), Io> {
+        let stream: &UnixStream = self;
+        let mut reader = Timed::new(stream, clock);
+        let mut writer = Timed::new(stream, clock);
+        obey(alloc, &mut reader, &mut writer, shelves)
+    }
+}
+
+/// What takes the connections of both.
+pub trait Callers<P, O> {
+    ghost use Rattle.std.specs.Prelude.{List, Option};
+    ghost use Rattle.socket.specs.Connections.{Accepts};
+    ghost use Rattle.control.specs.declared.callers.Caller.{Caller};
+
+    /// Those who connect from here on, in their order, where they are known.
+    ghost waiting: { Self → Option (List (Caller P O)) };
+
+    /// Takes the next connection, and waits for it as long as it takes.
+    fn next(&mut self) -> io::Result<Caller<P, O>>
+        ensures { Accepts (waiting self.old) (waiting self.new) result };
+}
+
+/// A port for peers and a socket for operators, which one thread waits on.
+#[derive(Drop)]
+pub struct Doors {
+    poll: Poll,
+    events: Events<Global>,
+    peers: TcpListener,
+    operators: UnixListener,
+}
+
+impl Doors {
+    /// Waits on both. It fails if the system refuses to wait on one of them.
+    pub fn new(rt: &HostRuntime, peers: TcpListener, operators: UnixListener) -> io::Result<Doors> {
+        peers.set_nonblocking(true)?;
+        operators.set_nonblocking(true)?;
+        let poll = Poll::new(rt)?;
+        let events = Events::with_capacity(rt.alloc(), 2)?;
+        watch(&poll, peers.as_raw_fd(), 0)?;
+        watch(&poll, operators.as_raw_fd(), 1)?;
+        Ok(Doors {
+            poll,
+            events,
+            peers,
+            operators,
+        })
+    }
+
+    /// Takes a connection that has come, an operator's before a peer's. None if there is none.
+    fn accept(&self) -> io::Result<Option<Caller<TcpStream, UnixStream>>> {
+        match self.operators.accept() {
+            Ok((stream, _)) => return Ok(Some(Caller::Operator(stream))),
+            Err(e) if e.kind() == ErrorKind::WouldBlock => {}
+            Err(e) => return Err(e),
+        }
+        match self.peers.accept() {
+            Ok((stream, _)) => Ok(Some(Caller::Peer(stream))),
+            Err(e) if e.kind() == ErrorKind::WouldBlock => Ok(None),
+            Err(e) => Err(e),
+        }
+    }
+}
+
+/// Nobody knows who connects.
+impl Callers<TcpStream, UnixStream> for Doors {
+    ghost use Rattle.std.specs.Prelude.{None};
+
+    ghost waiting = { λ _. None };
+
+    /// An operator comes before a peer. The system is waited for only where nobody has come: a wait returns once for each that
+    /// comes, so both are asked until there is nobody.
+    fn next(&mut self) -> io::Result<Caller<TcpStream, UnixStream>> {
+        for _ in 0..u64::MAX {
+            if let Some(caller) = self.accept()? {
+                return Ok(caller);
+            }
+            self.poll.poll(&mut self.events, None)?;
+        }
+        Err(io::Error::from(ErrorKind::Other))
+    }
+}
+
+fn watch(poll: &Poll, fd: i32, token: usize) -> io::Result<()> {
+    poll.registry()
+        .register(&mut SourceFd(&fd), Token(token), Interest::READABLE)
+}

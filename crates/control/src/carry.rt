@@ -1,0 +1,25 @@
+//! Carrying an order out.
+ghost use Rattle.shelf.specs.Machine.{after};
+ghost use Rattle.world.specs.Store.{Does, HasCause};
+ghost use Rattle.control.specs.Order.{event_of, outcome_in};
+
+use crate::order::Order;
+use world::registry::{Registered, StoreFault};
+use world::shelves::Shelves;
+
+/// Carries an order out: just its event happens, or none if the store met a fault.
+pub(crate) fn carry_out<S: Shelves>(
+    shelves: &mut S,
+    order: &Order,
+) -> Result<Registered, StoreFault>
+    ensures does { Does (S.shown shelves.old) (S.shown shelves.new) result
+        (λ w. outcome_in w order.now) (λ w. after w (event_of order.now)) }
+    ensures cause { HasCause (S.failure_count shelves.old) (S.failure_count shelves.new) result }
+{
+    match order {
+        Order::TeamAdd { name, group } => shelves.team_add(name, *group),
+        Order::GroupAdd { name } => shelves.group_add(name),
+        Order::KeyAdd { shelf, key, right } => shelves.key_add(shelf, key, *right),
+        Order::KeyRevoke { key } => shelves.key_revoke(key),
+    }
+}

@@ -1,0 +1,154 @@
+//! The operator's side.
+ghost use Rattle.std.specs.Prelude.{◌≡◌, ◌++◌, ◌∷◌, [], IfOk, IfErr, IfSome, OnOk, option_copied};
+ghost use Rattle.control.specs.Asking.{Asks, IsUnsent, TellsOutcome};
+ghost use Rattle.control.specs.Line.{IsSent};
+ghost use Rattle.control.specs.Order as spec;
+ghost use Rattle.control.specs.Order.{said_in};
+ghost use Rattle.control.specs.Outcome.{line_of};
+ghost use Rattle.control.specs.Words.{said, text_of, behind, line_end};
+
+use crate::line::{line_in, read_line};
+use crate::order::Order;
+use crate::outcome::Outcome;
+use crate::words::{Words, are_words};
+use engine::write::write_bytes;
+use std::alloc::{AllocError, Global};
+use std::io::{Read, Write};
+use world::entry::Right;
+
+/// Why an operator was told nothing.
+#[derive(Clone, Copy, Debug, Drop, PartialEq, Eq)]
+pub enum Untold {
+    /// A name or the key can't stand in a line: it has a space or the end of a line, or it is too long. Nothing was sent.
+    Words,
+    /// There was no memory for the line. Nothing was sent.
+    Memory,
+    /// Nobody listens at the socket, or the system lets nobody connect. Nothing was sent.
+    Nobody,
+    /// The line could not be sent, or no outcome came. Whether the order was carried out is not known.
+    Io,
+}
+
+impl From<AllocError> for Untold {
+    ghost use Rattle.control.specs.declared.client.Untold.TheVariants.{Memory};
+
+    ghost from_gives = { λ _ untold. untold ≡ Memory };
+
+    fn from(_error: AllocError) -> Untold {
+        Untold::Memory
+    }
+}
+
+/// Sends an order and returns the outcome that it is answered with: never `Untold::Nobody`.
+pub fn ask<R: Read, W: Write>(
+    alloc: Global,
+    reader: &mut R,
+    writer: &mut W,
+    order: &Order,
+) -> Result<Outcome, Untold>
+    ensures { Asks (R.remaining reader.old) (R.remaining reader.new) (W.contents writer.old) (W.contents writer.new) order.now result }
+{
+    let line = line_to_send(alloc, order)?;
+    match write_bytes(writer, &line) {
+        Ok(()) => hear_outcome(alloc, reader),
+        Err(_) => Err(Untold::Io),
+    }
+}
+
+/// The line of an order with its end.
+fn line_to_send(alloc: Global, order: &Order) -> Result<Vec<u8>, Untold>
+    ensures ok { IfOk result (λ line. IsSent line.items order.now) }
+    ensures err { IfErr result (λ why. IsUnsent order.now why) }
+{
+    let words = words_in(order);
+    if !are_words(&words) {
+        return Err(Untold::Words);
+    }
+    let line = line_with(alloc, &words)?;
+    if line_in(&line).is_none() {
+        return Err(Untold::Words);
+    }
+    Ok(line)
+}
+
+/// The words of an order.
+fn words_in<'a>(order: &Order<'a>) -> Words<'a>
+    ensures { said result ≡ said_in order.now }
+{
+    match order {
+        Order::TeamAdd { name, group } => Words {
+            verb: "team-add",
+            first: name,
+            second: *group,
+        },
+        Order::GroupAdd { name } => Words {
+            verb: "group-add",
+            first: name,
+            second: None,
+        },
+        Order::KeyAdd { shelf, key, right } => Words {
+            verb: add_word(*right),
+            first: shelf,
+            second: Some(key),
+        },
+        Order::KeyRevoke { key } => Words {
+            verb: "key-revoke",
+            first: key,
+            second: None,
+        },
+    }
+}
+
+/// The word that adds a key with this right.
+fn add_word(right: Right) -> &'static str
+    ensures { result.now ≡ spec.add_word right }
+{
+    match right {
+        Right::Publishes => "key-add",
+        Right::Reads => "reader-add",
+    }
+}
+
+/// The line of words, with its end.
+fn line_with(alloc: Global, words: &Words) -> Result<Vec<u8>, AllocError>
+    ensures { IfOk result (λ line. line.items ≡ text_of (said words.now) ++ line_end ∷ []) }
+{
+    let mut line = Vec::new(alloc);
+    line.extend_from_slice(words.verb.as_bytes())?;
+    push_word(&mut line, Some(words.first))?;
+    push_word(&mut line, words.second)?;
+    line.push(b'\n')?;
+    Ok(line)
+}
+
+/// One more word behind others, if there is one.
+fn push_word(line: &mut Vec<u8>, word: Option<&str>) -> Result<(), AllocError>
+    ensures { OnOk result (line.new.items ≡ line.old.items ++ behind (option_copied word.entry)) }
+{
+    let Some(word) = word else {
+        return Ok(());
+    };
+    line.push(b' ')?;
+    line.extend_from_slice(word.as_bytes())
+}
+
+/// Reads the line of an outcome.
+fn hear_outcome<R: Read>(alloc: Global, reader: &mut R) -> Result<Outcome, Untold>
+    ensures { TellsOutcome (R.remaining reader.old) (R.remaining reader.new) result }
+{
+    let Ok(got) = read_line(alloc, reader) else {
+        return Err(Untold::Io);
+    };
+    match outcome_in(&got) {
+        Some(told) => Ok(told),
+        None => Err(Untold::Io),
+    }
+}
+
+/// The outcome that the bytes tell, if they are the line of one.
+fn outcome_in(got: &[u8]) -> Option<Outcome>
+    ensures { IfSome result (λ told. got.now ≡ line_of told) }
+{
+    let word = line_in(got)?;
+    Outcome::of_word(word)
+}

@@ -1,0 +1,31 @@
+//! Changes to a store while it is served: an operator sends an order over a socket of the machine, and is told what came of it.
+//!
+//! | what | where |
+//! |---|---|
+//! | the orders, and the line that each is | [`Order`], [`order_of`] |
+//! | what came of an order, and the line that tells it | [`Outcome`] |
+//! | carrying an operator's order out | [`obey`] |
+//! | peers of a port and operators of a socket, one after another | [`serve_both`], [`Callers`], [`Doors`] |
+//! | the socket, and the operator's side | [`operators_at`], [`ask_at`], [`ask`] |
+#![tactic(auto)]
+
+mod callers;
+mod carry;
+mod client;
+pub mod laws;
+mod line;
+mod obeying;
+mod order;
+mod outcome;
+mod patience;
+mod place;
+mod serve;
+mod words;
+
+pub use callers::{Caller, Callers, Doors, Operator};
+pub use client::{Untold, ask};
+pub use obeying::obey;
+pub use order::{Order, order_of};
+pub use outcome::Outcome;
+pub use place::{ask_at, operators_at};
+pub use serve::serve_both;

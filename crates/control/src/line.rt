@@ -1,0 +1,87 @@
+//! Lines, read and told apart.
+ghost use Rattle.std.specs.Prelude.{◌≡◌, MatchOption, IfOk, IsTrue};
+ghost use Rattle.control.specs.Line as spec;
+
+use crate::order::{Order, order_of};
+use std::alloc::{AllocError, Global};
+use std::io::{ErrorKind, Read};
+
+/// The most bytes of a line without its end.
+const LONGEST: usize = 127;
+
+/// How often a read is made at most, since one may be interrupted.
+const TRIES: u32 = 1_000;
+
+/// Why no line was read.
+#[derive(Clone, Copy, Debug, Drop, PartialEq, Eq)]
+pub(crate) enum Unread {
+    /// A read failed.
+    Io,
+    /// There was no memory.
+    Memory,
+}
+
+impl From<AllocError> for Unread {
+    fn from(_error: AllocError) -> Unread {
+        Unread::Memory
+    }
+}
+
+/// Reads to the end of a line, and no further than what comes with it in one read: fewer bytes only if nothing more comes, or the
+/// line is too long.
+pub(crate) fn read_line<R: Read>(alloc: Global, reader: &mut R) -> Result<Vec<u8>, Unread>
+    ensures { IfOk result (λ got. spec.ReadsLine (R.remaining reader.old) (R.remaining reader.new) got.items) }
+{
+    let mut got = Vec::with_capacity(alloc, LONGEST + 1)?;
+    for _ in 0..TRIES {
+        if read_on(reader, &mut got)? {
+            return Ok(got);
+        }
+    }
+    Err(Unread::Io)
+}
+
+/// Reads once, behind what was read, and returns whether no more has to be read. A read that is interrupted reads nothing.
+fn read_on<R: Read>(reader: &mut R, got: &mut Vec<u8>) -> Result<bool, Unread>
+    ensures { IfOk result (λ done. spec.ReadsOn (R.remaining reader.old) (R.remaining reader.new) got.old.items got.new.items done) }
+{
+    let mut chunk = [0; LONGEST + 1];
+    match reader.read(&mut chunk) {
+        Ok(0) => Ok(true),
+        Ok(n) => {
+            got.extend_from_slice(&chunk[..n])?;
+            Ok(is_enough(got))
+        }
+        Err(e) if e.kind() == ErrorKind::Interrupted => Ok(false),
+        Err(_) => Err(Unread::Io),
+    }
+}
+
+/// Whether a line ends in these bytes, or would be too long.
+fn is_enough(bytes: &[u8]) -> bool
+    ensures { IsTrue result → spec.HasEnough bytes.now }
+{
+    bytes.len() > LONGEST || bytes.contains(&b'\n')
+}
+
+/// The line that the bytes are, without its end, or None if they are none: it has no end, or it is too long, or no text.
+pub(crate) fn line_in(got: &[u8]) -> Option<&str>
+    ensures { MatchOption result (spec.HoldsNoLine got.now) (λ line. spec.IsLine got.now line.now) }
+{
+    let line = got.strip_suffix(b"\n")?;
+    if line.len() > LONGEST {
+        return None;
+    }
+    match str::from_utf8(line) {
+        Ok(line) => Some(line),
+        Err(_) => None,
+    }
+}
+
+/// The order whose line the bytes are, or None if they are no order's.
+pub(crate) fn order_in(got: &[u8]) -> Option<Order<'_>>
+    ensures { MatchOption result (spec.IsNoOrder got.now) (λ order. spec.IsSent got.now order) }
+{
+    let line = line_in(got)?;
+    order_of(line)
+}

@@ -1,0 +1,95 @@
+//! What an operator orders, as a line.
+ghost use Rattle.std.specs.Prelude.{◌≡◌, MatchOption};
+ghost use Rattle.control.specs.Order as spec;
+ghost use Rattle.control.specs.Words.{said};
+
+use crate::words::{Words, words_of};
+use world::entry::Right;
+
+/// A command of the registry.
+#[derive(Clone, Copy, Drop)]
+pub enum Order<'a> {
+    /// `team-add NAME` or `team-add NAME GROUP`: adds a team, as a member of a group or of none.
+    TeamAdd {
+        name: &'a str,
+        group: Option<&'a str>,
+    },
+    /// `group-add NAME`: adds a group.
+    GroupAdd {
+        name: &'a str,
+    },
+    /// `key-add SHELF KEY`, or `reader-add SHELF KEY`: adds a key that may publish, or one that may only read.
+    KeyAdd {
+        shelf: &'a str,
+        key: &'a str,
+        right: Right,
+    },
+    /// `key-revoke KEY`: takes a key away.
+    KeyRevoke {
+        key: &'a str,
+    },
+}
+
+/// The order that a line is, without its end, or None if it is no order's line. Whether the names and the key keep their rules is
+/// told by the store that the order is carried out on.
+pub fn order_of<'a>(line: &'a str) -> Option<Order<'a>>
+    ensures { MatchOption result (spec.OrdersNothing line.now) (λ order. spec.Orders line.now order) }
+{
+    let words = words_of(line)?;
+    order_in(&words)
+}
+
+/// The order that words say.
+fn order_in<'a>(words: &Words<'a>) -> Option<Order<'a>>
+    ensures { MatchOption result (spec.SaysNoOrder (said words.now)) (λ order. said words.now ≡ spec.said_in order) }
+{
+    match words.second {
+        Some(second) => longer(words.verb, words.first, second),
+        None => shorter(words.verb, words.first),
+    }
+}
+
+/// The order that three words say.
+fn longer<'a>(verb: &'a str, first: &'a str, second: &'a str) -> Option<Order<'a>>
+    ensures { MatchOption result (spec.SaysNoOrder (spec.three verb.now first.now second.now))
+        (λ order. spec.three verb.now first.now second.now ≡ spec.said_in order) }
+{
+    if verb == "team-add" {
+        let group = Some(second);
+        return Some(Order::TeamAdd { name: first, group });
+    }
+    let right = right_of(verb)?;
+    Some(Order::KeyAdd {
+        shelf: first,
+        key: second,
+        right,
+    })
+}
+
+/// The right of the keys that a word adds.
+fn right_of(verb: &str) -> Option<Right>
+    ensures { MatchOption result (spec.AddsNoKey verb.now) (λ right. verb.now ≡ spec.add_word right) }
+{
+    if verb == "key-add" {
+        Some(Right::Publishes)
+    } else if verb == "reader-add" {
+        Some(Right::Reads)
+    } else {
+        None
+    }
+}
+
+/// The order that two words say.
+fn shorter<'a>(verb: &'a str, name: &'a str) -> Option<Order<'a>>
+    ensures { MatchOption result (spec.SaysNoOrder (spec.two verb.now name.now)) (λ order. spec.two verb.now name.now ≡ spec.said_in order) }
+{
+    if verb == "team-add" {
+        Some(Order::TeamAdd { name, group: None })
+    } else if verb == "group-add" {
+        Some(Order::GroupAdd { name })
+    } else if verb == "key-revoke" {
+        Some(Order::KeyRevoke { key: name })
+    } else {
+        None
+    }
+}

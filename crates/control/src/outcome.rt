@@ -1,0 +1,63 @@
+//! What came of an order, and the line that tells it.
+ghost use Rattle.std.specs.Prelude.{◌≡◌, MatchOption};
+ghost use Rattle.control.specs.Outcome as spec;
+
+use world::registry::{Registered, StoreFault};
+
+/// What an operator is told.
+#[derive(Clone, Copy, Debug, Drop, PartialEq, Eq)]
+pub enum Outcome {
+    /// The machine's reply to the order; only `Done` changed anything.
+    Registered(Registered),
+    /// The store met a fault, and the order changed nothing.
+    Failed(StoreFault),
+    /// What came is no order's line, and nothing was done.
+    Bad,
+}
+
+/// What came of an order that was carried out.
+pub(crate) fn outcome_of(told: Result<Registered, StoreFault>) -> Outcome
+    ensures { result ≡ spec.outcome_of told }
+{
+    match told {
+        Ok(registered) => Outcome::Registered(registered),
+        Err(fault) => Outcome::Failed(fault),
+    }
+}
+
+impl Outcome {
+    /// The line that tells it, with its end.
+    pub fn line(self) -> &'static str
+        ensures { result.now ≡ spec.line_of self }
+    {
+        match self {
+            Outcome::Registered(Registered::Done) => "done\n",
+            Outcome::Registered(Registered::Name) => "name\n",
+            Outcome::Registered(Registered::Taken) => "taken\n",
+            Outcome::Registered(Registered::NoTeam) => "no-team\n",
+            Outcome::Registered(Registered::NoGroup) => "no-group\n",
+            Outcome::Registered(Registered::NoKey) => "no-key\n",
+            Outcome::Failed(StoreFault::Device) => "device\n",
+            Outcome::Failed(StoreFault::Memory) => "memory\n",
+            Outcome::Bad => "bad\n",
+        }
+    }
+
+    /// What a word tells, or None if it tells nothing.
+    pub fn of_word(word: &str) -> Option<Outcome>
+        ensures { MatchOption result (spec.TellsNothing word.now) (λ outcome. word.now ≡ spec.word_of outcome) }
+    {
+        match word {
+            "done" => Some(Outcome::Registered(Registered::Done)),
+            "name" => Some(Outcome::Registered(Registered::Name)),
+            "taken" => Some(Outcome::Registered(Registered::Taken)),
+            "no-team" => Some(Outcome::Registered(Registered::NoTeam)),
+            "no-group" => Some(Outcome::Registered(Registered::NoGroup)),
+            "no-key" => Some(Outcome::Registered(Registered::NoKey)),
+            "device" => Some(Outcome::Failed(StoreFault::Device)),
+            "memory" => Some(Outcome::Failed(StoreFault::Memory)),
+            "bad" => Some(Outcome::Bad),
+            _ => None,
+        }
+    }
+}

@@ -1,0 +1,68 @@
+//! One caller after another.
+ghost use Rattle.socket.specs.Connections.{Answers};
+ghost use Rattle.control.specs.Turns.{GoesOn};
+ghost use Rattle.control.specs.Visits.{ObeysOne, ServesEach};
+
+use crate::callers::{Caller, Callers, Operator};
+use socket::Peer;
+use std::alloc::Global;
+use std::time::Clock;
+use world::shelves::Shelves;
+
+/// Takes so many connections of peers, one after another, and answers on each the first message that comes over it; the orders of
+/// operators who come between them are carried out, and do not count. It returns after the last of the peers, and waits for each
+/// caller as long as it takes.
+///
+/// A connection of a peer that fails counts, and so does one that can't be taken, so a server without descriptors ends.
+pub fn serve_both<C: Clock, P: Peer + Drop, O: Operator + Drop, L: Callers<P, O>, S: Shelves>(
+    alloc: Global,
+    clock: &C,
+    callers: &mut L,
+    shelves: &mut S,
+    connections: u32,
+)
+    // One run of the machine: its events are the messages, at most one on each connection, and the orders.
+    ensures goes { GoesOn (S.shown shelves.old) (S.shown shelves.new) (S.failure_count shelves.old) (S.failure_count shelves.new)
+        connections }
+    // Each message is answered on the connection that it came over, and the outcome of each order is told on its own.
+    ensures each { ServesEach O.unread O.written P.unread P.written (L.waiting callers.old) (L.waiting callers.new)
+        (S.shown shelves.old) (S.shown shelves.new) (S.failure_count shelves.old) (S.failure_count shelves.new) connections }
+{
+    let mut left = connections;
+    for _ in 0..u64::MAX {
+        if left == 0 {
+            return;
+        }
+        match callers.next() {
+            Ok(Caller::Operator(mut operator)) => obey_on(alloc, clock, &mut operator, shelves),
+            Ok(Caller::Peer(mut peer)) => {
+                left -= 1;
+                answer_on(alloc, clock, &mut peer, shelves);
+            }
+            Err(_) => left -= 1,
+        }
+    }
+}
+
+/// Answers one request of a peer, and ends its connection. What fails on it is told to nobody.
+fn answer_on<C: Clock, P: Peer, S: Shelves>(alloc: Global, clock: &C, peer: &mut P, shelves: &mut S)
+    ensures { Answers P.unread P.written peer.old (S.shown shelves.old) (S.shown shelves.new) (S.failure_count shelves.old)
+        (S.failure_count shelves.new) }
+{
+    if let Ok(Some(status)) = peer.answer(alloc, clock, shelves) {
+        peer.end(clock, status);
+    }
+}
+
+/// Carries out one order of an operator. What fails on the connection is told to nobody.
+fn obey_on<C: Clock, O: Operator, S: Shelves>(
+    alloc: Global,
+    clock: &C,
+    operator: &mut O,
+    shelves: &mut S,
+)
+    ensures { ObeysOne O.unread O.written operator.old (S.shown shelves.old) (S.shown shelves.new) (S.failure_count shelves.old)
+        (S.failure_count shelves.new) }
+{
+    let _ = operator.obeyed(alloc, clock, shelves);
+}

@@ -1,0 +1,69 @@
+//! The words of a line.
+ghost use Rattle.std.specs.Prelude.{◌≡◌, MatchOption, option_copied};
+ghost use Rattle.control.specs.Words as spec;
+
+/// The words of a line that has two or three.
+#[derive(Clone, Copy, Drop)]
+pub(crate) struct Words<'a> {
+    /// What is to be done.
+    pub(crate) verb: &'a str,
+    /// What it is done to.
+    pub(crate) first: &'a str,
+    pub(crate) second: Option<&'a str>,
+}
+
+/// The words of a line with one space between them, or None if there are fewer than two or more than three, or a line ends in it.
+pub(crate) fn words_of(line: &str) -> Option<Words<'_>>
+    ensures { MatchOption result (spec.HasNoWords line.now) (λ words. spec.IsTextOf line.now (spec.said words)) }
+{
+    let Some((verb, rest)) = line.split_once(' ') else {
+        return None;
+    };
+    let (first, second) = cut(rest);
+    let words = Words {
+        verb,
+        first,
+        second,
+    };
+    if are_words(&words) { Some(words) } else { None }
+}
+
+/// Whether each of them is a word.
+pub(crate) fn are_words(words: &Words) -> bool
+    ensures { result ≡ spec.are_words (spec.said words.now) }
+{
+    is_word(words.verb) && is_word(words.first) && is_word_if(words.second)
+}
+
+/// The text before the first space, and the text behind it if there is one.
+fn cut(text: &str) -> (&str, Option<&str>)
+    ensures { spec.IsCut text.now result.0.now (option_copied result.1) }
+{
+    match text.split_once(' ') {
+        Some((first, second)) => (first, Some(second)),
+        None => (text, None),
+    }
+}
+
+/// Whether a text has no space and no end of a line.
+fn is_word(text: &str) -> bool
+    ensures { result ≡ spec.is_word text.now }
+{
+    text.as_bytes().iter().all(|b| is_word_byte(*b))
+}
+
+/// Whether there is no text, or it is a word.
+fn is_word_if(text: Option<&str>) -> bool
+    ensures { result ≡ spec.is_word_if (option_copied text.entry) }
+{
+    match text {
+        Some(text) => is_word(text),
+        None => true,
+    }
+}
+
+fn is_word_byte(byte: u8) -> bool
+    ensures { result ≡ spec.is_word_byte byte }
+{
+    byte != b' ' && byte != b'\n'
+}

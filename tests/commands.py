@@ -45,6 +45,10 @@ requires --db none.db --key A --module example.com/lib
 extract --db none.db --team alpha
 extract --db none.db --to other.db
 extract --team alpha --to other.db
+migrate --from none.db
+migrate --to other.db
+migrate --db none.db --to other.db
+migrate --from none.db --to other.db --team alpha
 answer
 answer --mem --team alpha
 answer --team alpha --key A
@@ -72,6 +76,7 @@ import --db --key --list
 inventory --db --key
 requires --db --key --module --version
 extract --db --team --to
+migrate --from --to
 answer --db --mem --team --key
 serve --db --port --connections
 """

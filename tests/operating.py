@@ -16,7 +16,7 @@ import threading
 from harness import PROGRAM, ROOT, Suite, answered, done, get, new_store, read, run
 from machine import Machine, block
 from refusals import change, reordered
-from store_files import SCHEMA_2
+from store_files import SCHEMA_1, SCHEMA_2
 
 NEEDS = ["sqlite3", "openssl", "curl", "xxd"]
 ALPHA, READER, BETA, COMMON = "alphakey00000001", "alphareader00001", "betakey000000001", "commonkey0000001"
@@ -280,25 +280,26 @@ def moved(suite, machine):
     suite.equal("it answers no other team", asked(own, f"{at}/list", key=BETA), [(404, b"not found\n")])
 
 
-def schema_2(suite, machine):
-    """The rows of a store of schema 2 are taken over: each team is then in no group, and sees what it saw."""
+def older(suite, machine, schema, tables):
+    """A store of an older schema is migrated: each team is then in no group, and sees what it saw."""
     machine.does("systemctl stop goshelf")
     for name in (machine.store, f"{machine.store}-wal"):
         if os.path.exists(name):
             os.remove(name)
-    change(machine.store, *([statement] for statement in filter(str.strip, SCHEMA_2.split(";"))))
+    change(machine.store, *([statement] for statement in filter(str.strip, tables.split(";"))))
     before = read(machine.store)
-    suite.equal("a store of schema 2 is none", run(["inventory", "--db", machine.store, "--key", ALPHA])[2], "goshelf: bad-schema\n")
-    machine.does(block("sh", "mkdir schema-2"))
-    new, old = re.search(r"`(name, 'common')` in place of `(name, parent)`", PAGE).groups()
-    script = block("sh", "goshelf init --db NEW").replace("NEW", "shelves.db").replace("'F'", "'schema-2/shelves.db'").replace(old, new)
-    machine.does(f"cd /var/lib/goshelf\n{script}")
+    suite.equal(f"a store of schema {schema} is none", run(["inventory", "--db", machine.store, "--key", ALPHA])[2], "goshelf: bad-schema\n")
+    commands = block("sh", "goshelf migrate")
+    suite.equal("the upgrade has three commands", len(commands.splitlines()), 3)
+    machine.does(commands)
+    suite.holds("goshelf runs after the upgrade", runs(machine))
+    machine.does("systemctl stop goshelf")
     printed = machine.does(block("sh", "goshelf inventory --db /var/lib/goshelf").replace("KEY", ALPHA))
     wanted = "path,version,shelf,class,time,mod_bytes,zip_bytes\nexample.com/lib,v1.0.0,common,release,,23,1\n"
-    suite.holds("its rows are taken over, and goshelf runs", printed == wanted and runs(machine), printed)
-    machine.does("systemctl stop goshelf")
+    suite.equal("its versions are there", printed, wanted)
     suite.equal("a team of it is no group", run(["team-add", "--db", machine.store, "--team", "eps", "--group", "alpha"])[2], "goshelf: no-group\n")
-    suite.holds("the store of schema 2 has its bytes", read(f"{machine.folder}/var/lib/goshelf/schema-2/shelves.db") == before)
+    suite.holds("the old store has its bytes", read(f"{machine.folder}/var/lib/goshelf/older/shelves.db") == before)
+    shutil.rmtree(f"{machine.folder}/var/lib/goshelf/older")
     machine.does("systemctl start goshelf")
 
 
@@ -334,8 +335,10 @@ def main():
     with tempfile.TemporaryDirectory(prefix="goshelf-operating-") as folder:
         machine = set_up(folder)
         try:
-            for part in (keys, cron, by_hand, backups, queries, watch, upgrade, leaked, moved, tables, schema_2):
+            for part in (keys, cron, by_hand, backups, queries, watch, upgrade, leaked, moved, tables):
                 part(suite, machine)
+            for schema, tables_of in ((1, SCHEMA_1), (2, SCHEMA_2)):
+                older(suite, machine, schema, tables_of)
         finally:
             machine.close()
     return suite.end()

@@ -17,7 +17,7 @@ import tempfile
 
 import harness
 from harness import KEY, KEYS, NOBODY, PROGRAM, ROOT, Suite, add_platform, answered, can_be_nobody, mounted, put, run
-from store_files import SCHEMA_2
+from store_files import SCHEMA_1, SCHEMA_2
 
 ROW = f"--key {KEY} --module example.com/lib --version v1.0.0"
 HEADER = "path,version,time,mod,zip\n"
@@ -223,12 +223,18 @@ def bad_schema(suite):
     reordered("order.db", "b.db")
     suite.wants("the tables in another order", "bad-schema", word("team-add --db order.db --team beta"))
     change("two.db", *([statement] for statement in filter(str.strip, SCHEMA_2.split(";"))))
-    suite.wants("a store of schema 2", "bad-schema", word("team-add --db two.db --team beta"))
-    for name, column in (("order.db", "name, parent"), ("two.db", "name, 'common'")):
-        assert word(f"init --db taken-{name}") == ""
-        statements = [it.replace("name, parent", column) for it in TAKE_OVER]
-        change(f"taken-{name}", [f"ATTACH '{name}' AS f"], *([statement] for statement in statements))
-        suite.wants(f"a new store took the rows of {name} over", "taken", word(f"team-add --db taken-{name} --team alpha"))
+    change("one.db", *([statement] for statement in filter(str.strip, SCHEMA_1.split(";"))))
+    for name in ("one", "two"):
+        suite.wants(f"a store of schema {name}", "bad-schema", word(f"team-add --db {name}.db --team beta"))
+        suite.wants(f"schema {name} is migrated", "", word(f"migrate --from {name}.db --to migrated-{name}.db"))
+        suite.wants(f"schema {name} was migrated", "", word(f"team-add --db migrated-{name}.db --team beta"))
+    suite.wants("migrate: a store of schema 3", "bad-schema", word("migrate --from migrated-one.db --to none.db"))
+    suite.wants("migrate: a missing file", "bad-schema", word("migrate --from missing.db --to none.db"))
+    open("empty", "w").close()
+    suite.wants("migrate: an empty file", "bad-schema", word("migrate --from empty --to none.db"))
+    assert word("init --db taken.db") == ""
+    change("taken.db", ["ATTACH 'order.db' AS f"], *([statement] for statement in TAKE_OVER))
+    suite.wants("a new store took the rows over", "taken", word("team-add --db taken.db --team alpha"))
 
 
 def numbers(suite):
@@ -293,6 +299,15 @@ def extracts(suite):
     suite.wants("extract: a team of it", "", word("extract --db whole.db --team gamma --to gamma.db"))
     assert word("group-add --db group.db --group platform") == ""
     suite.wants("extract: G has a group", "not-empty", word("extract --db whole.db --team alpha --to group.db"))
+
+
+def migrations(suite):
+    change("older.db", *([statement] for statement in filter(str.strip, SCHEMA_2.split(";"))))
+    suite.wants("migrate: G is no store", "not-empty", word("migrate --from older.db --to text"))
+    suite.wants("migrate: G is F", "not-empty", word("migrate --from older.db --to older.db"))
+    suite.wants("migrate: G has a group", "not-empty", word("migrate --from older.db --to group.db"))
+    suite.wants("migrate: another file", "", word("migrate --from older.db --to newer.db"))
+    suite.wants("migrate: G has a version", "not-empty", word("migrate --from older.db --to newer.db"))
 
 
 def outcomes(suite):
@@ -361,7 +376,7 @@ def main():
     suite = Refusals()
     with tempfile.TemporaryDirectory() as folder:
         os.chdir(folder)
-        for part in (device, rights, full_disk, bad_schema, numbers, files, outcomes, extracts, names, memory):
+        for part in (device, rights, full_disk, bad_schema, numbers, files, outcomes, extracts, migrations, names, memory):
             part(suite)
         os.chdir("/")
     return suite.end()

@@ -41,7 +41,7 @@ PIECE = 65_536
 SIZES = {"v1.0.0": 0, "v1.0.1": 1, "v1.0.2": PIECE, "v1.0.3": PIECE + 1}
 PATH, GOMOD = "example.com/z", b"module example.com/z\n"
 
-# the commands that open a store F, and the word of each where F is none; the last makes F of a store
+# the commands that open a store F, and the word of each where F is none; the last two make F of a store
 COMMANDS = """
 team-add --db F --team beta | bad-schema
 group-add --db F --group platform | bad-schema
@@ -56,6 +56,7 @@ answer --db F | bad-schema
 serve --db F --port 0 --connections 0 | bad-schema
 init --db F | not-empty
 extract --db good.db --team alpha --to F | not-empty
+migrate --from good.db --to F | not-empty
 """
 
 # the tables of schema 1, which have no keys of order, with their rows

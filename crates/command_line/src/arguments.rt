@@ -52,7 +52,7 @@ enum Needed {
 }
 
 /// The commands, in the order of the help.
-static COMMANDS: [CommandRow; 12] = [
+static COMMANDS: [CommandRow; 13] = [
     CommandRow {
         name: "init",
         about: "Makes a store with the shelf common alone, in a file that has no bytes",
@@ -120,6 +120,13 @@ static COMMANDS: [CommandRow; 12] = [
         name: "extract",
         about: "Makes a store of one team's part: its shelf, its group's and common, with their versions and keys",
         options: &EXTRACT,
+        forms: None,
+        example: "",
+    },
+    CommandRow {
+        name: "migrate",
+        about: "Makes a store of a file of an older schema, which other commands refuse as bad-schema",
+        options: &MIGRATE,
         forms: None,
         example: "",
     },
@@ -323,6 +330,14 @@ const REQUIRES: [OptionRow; 4] = [
     },
 ];
 
+/// The file of a new store.
+const TO: OptionRow = OptionRow {
+    name: "to",
+    value: Value::Text("G"),
+    needed: Needed::Always,
+    help: "The file of the new store: missing, empty, or a store with common alone and no key or version",
+};
+
 const EXTRACT: [OptionRow; 3] = [
     DB,
     OptionRow {
@@ -331,12 +346,17 @@ const EXTRACT: [OptionRow; 3] = [
         needed: Needed::Always,
         help: "The team; common and groups are none",
     },
+    TO,
+];
+
+const MIGRATE: [OptionRow; 2] = [
     OptionRow {
-        name: "to",
-        value: Value::Text("G"),
+        name: "from",
+        value: Value::Text("F"),
         needed: Needed::Always,
-        help: "The file of the new store: missing, empty, or a store with common alone and no key or version",
+        help: "The file of a store of schema 1 or 2, which is only read",
     },
+    TO,
 ];
 
 const ANSWER: [OptionRow; 4] = [

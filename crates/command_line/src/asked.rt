@@ -18,6 +18,10 @@ pub fn task_of<'a>(matches: &ArgMatches<'a>) -> Option<Task<'a>> {
             team: text(matches, "team"),
             to: text(matches, "to"),
         }),
+        "migrate" => Some(Task::Migrate {
+            from: text(matches, "from"),
+            to: text(matches, "to"),
+        }),
         _ => Some(Task::OnStore {
             db: text(matches, "db"),
             work: work_of(name, matches)?,

@@ -1,7 +1,8 @@
 //! What does the tasks of a run.
 use commands::files::is_empty_file;
 use commands::refusal::Refusal;
-use sqlite::{Start, Unknown};
+use sqlite::{File, FileStore, Start, Unknown};
+use sqlite_trees::store::Store;
 use std::fs;
 use std::io::{ErrorKind, Read, Write};
 use std::rt::HostRuntime;
@@ -33,6 +34,9 @@ pub trait Performer {
 /// The store of files as they are found: nothing here names what they held.
 pub type Found = FileShelves<Unknown>;
 
+/// The tables of files as they are found.
+pub type FoundFiles = FileStore<File>;
+
 /// The files of the system.
 #[derive(Clone, Copy, Drop)]
 pub struct SystemStores<'a> {
@@ -40,11 +44,12 @@ pub struct SystemStores<'a> {
 }
 
 impl<'a> Performer for SystemStores<'a> {
+    ghost use Rattle.sqlite.specs.Held.{state};
     ghost use Rattle.sqlite_wal.specs.Files.{image_at};
     ghost use Rattle.tasks.specs.Task.{Performs};
 
     ghost performed = { λ _ _.
-        Performs ⟦<Found as Shelves>⟧.shown ⟦<Found as Shelves>⟧.failure_count (image_at ⟦<Unknown as Start>⟧)
+        Performs (state ⟦<FoundFiles as Store>⟧) ⟦<Found as Shelves>⟧.shown ⟦<Found as Shelves>⟧.failure_count (image_at ⟦<Unknown as Start>⟧)
         ⟦<Found as Shelves>⟧.shown ⟦<Found as Shelves>⟧.failure_count (image_at ⟦<Unknown as Start>⟧) };
 
     fn is_new(&self, db: &str) -> bool {

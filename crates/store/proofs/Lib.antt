@@ -7,3 +7,5 @@ pub mod OpenLemmas
 pub mod FilledLemmas
 pub mod BlankLemmas
 pub mod ExtractedLemmas
+pub mod MigratedLemmas
+pub mod OlderLemmas

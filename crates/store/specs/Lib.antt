@@ -4,3 +4,5 @@ pub mod Shown
 pub mod Opened
 pub mod Restart
 pub mod Extracted
+pub mod Migrated
+pub mod Older

@@ -44,7 +44,7 @@ fn extract_part<S: Alter, F: Alter>(
 }
 
 /// The refusal for a fault of a store.
-fn told_as(fault: StoreFault) -> Refusal
+pub(crate) fn told_as(fault: StoreFault) -> Refusal
     ensures device { result ≡ Refusal.Device → fault ≡ StoreFault.Device }
     ensures named { (result ≢ Refusal.BadSchema) × (result ≢ Refusal.NotEmpty) × (result ≢ Refusal.NoTeam) }
 {

@@ -62,7 +62,7 @@ fn has_entry<F: Alter>(conn: &mut Connection<F>) -> Result<bool, Error>
 }
 
 /// Whether a store has `common` alone.
-fn is_blank<F: Alter>(conn: &mut Connection<F>) -> Result<bool, Error>
+pub(crate) fn is_blank<F: Alter>(conn: &mut Connection<F>) -> Result<bool, Error>
     ensures spares { Spares (state F.Store conn.old) (state F.Store conn.new) }
     ensures answer { InEachWorld (state F.Store conn.old) (state F.Store conn.new) (λ _ new x.
         IsWorld x → IfOk result (λ blank. IsTrue new.is_open × Decides blank (x ≡ only_common))) }

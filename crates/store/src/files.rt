@@ -1,6 +1,6 @@
 //! The files of a store that are opened, with room in memory for the pages of a zip.
 
-ghost use Rattle.std.specs.Prelude.{◌≡◌, ◌⊎◌, ◌↔◌, false, codes, IfOk, IfErr, IsErrAnd, IsSomeAnd, IsTrue};
+ghost use Rattle.std.specs.Prelude.{◌≡◌, ◌⊎◌, ◌↔◌, true, false, codes, IfOk, IfErr, IsErrAnd, IsSomeAnd, IsTrue};
 ghost use Rattle.sqlite.specs.Files.{file_state, image_of, IsOpened, IsCleanLeft, Finds};
 ghost use Rattle.sqlite.specs.Start.{FindsIn};
 ghost use Rattle.sqlite.specs.State.{HasCleanDisk};
@@ -22,7 +22,7 @@ use std::io::ErrorKind;
 /// The kit keeps 2,000, with which each `.zip` reads all its pages from the system and digests them again.
 const KEPT_PAGES: usize = 8_192;
 
-/// A connection to the files at a path, which are made where there are none. `:memory:` and a URI name none.
+/// A connection to the files at a path, which are made where there are none. `:memory:`, a URI and the empty name are none of a file's.
 ///
 /// It is refused as `BadSchema` where the files hold no database, as `Memory` where memory was wanted, and as `Device`
 /// where the disk failed, another process has them open, or the system or the name does not let them be opened. The files
@@ -41,7 +41,7 @@ pub(crate) fn connect<T: Start>(
     ensures bad { IfErr result (λ e. e.0 ≡ Refusal.BadSchema
         → IsSomeAnd e.1 (λ left. IsCleanLeft left → HoldsNoDatabase (image_at T.Start))) }
 {
-    if path == ":memory:" || path.starts_with("file:") {
+    if names_no_file(path) {
         return Err((Refusal::Device, None));
     }
     let files = match sqlite_std_file::open(rt, path, start) {
@@ -59,6 +59,13 @@ pub(crate) fn connect<T: Start>(
         Ok(conn) => Ok(conn),
         Err((refusal, left)) => Err((refusal, Some(left))),
     }
+}
+
+/// Whether a name is none of a file's for sqlite: `:memory:`, a URI, or the empty name.
+pub fn names_no_file(path: &str) -> bool
+    ensures { path.now ≡ codes ":memory:" → result ≡ true }
+{
+    path.is_empty() || path == ":memory:" || path.starts_with("file:")
 }
 
 /// A connection to two files. A read that fails the test of its digest is a failure of the disk, and no sign of what the

@@ -21,6 +21,7 @@
 //! | `insert` | `statements::entries::add_entry` |
 //! | `team_add`, `group_add`, `key_add`, `key_revoke` | `add_team`, `add_group`, `add_key` of `statements::registry`; `statements::revoke::revoke_key` |
 //! | `extract` | the rows of the team and of its group, and along the shelves that the team sees, the rows of `access`, then those of `version`, then those of `piece`, one at a time (`statements::extract_rows`), into a fresh store in one transaction |
+//! | `migrate` | `older::schema::format_of`, and `migration::write::write_world`, into a fresh store in one transaction |
 //!
 //! The chain of a shelf is its own shelf, its group if it has one, and `common`. The group is found by
 //! `statements::registry::find_shelf`, once, and then kept, as it never changes.
@@ -34,10 +35,12 @@ mod chain;
 mod extract;
 mod extract_judge;
 mod extract_part;
-mod files;
+pub mod files;
 mod groups;
 mod kept;
 pub mod laws;
+pub mod migrate;
 pub mod open;
+pub mod open_older;
 pub mod refusal;
 pub mod store;

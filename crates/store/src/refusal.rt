@@ -5,7 +5,7 @@ ghost use Rattle.store.specs.Opened.{IsOfOpening};
 
 use sqlite::{Error, ErrorCode};
 
-/// Why a store is not opened, or not made of a team's part of another.
+/// Why a store is not opened, or not made of a team's part of another or of an older one.
 #[derive(Clone, Copy, Debug, PartialEq, Eq)]
 pub enum Refusal {
     /// A disk failed, the system or the name does not let a file be opened, the connection is shut, in a
@@ -13,7 +13,7 @@ pub enum Refusal {
     Device,
     /// Memory was wanted.
     Memory,
-    /// The tables are not those of the schema, or stand for no world.
+    /// The tables are not those of the schema (of a migration, those of an older schema), or stand for no world.
     BadSchema,
     /// The fresh store has more than `common`: another shelf, a key or an entry.
     NotEmpty,

@@ -1,3 +1,4 @@
 pub mod Extract
+pub mod Migrate
 pub mod Opened
 pub mod Task

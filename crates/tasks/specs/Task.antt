@@ -1,6 +1,7 @@
 -- What is done for a task.
 use Rattle.std.specs.Prelude.{ℕ, List, ◌≡◌, ◌⊎◌, Bool, Option, Result, Ok, Err}
 use Rattle.sqlite_wal.specs.Recovery.{Image}
+use Rattle.sqlite.specs.State.{State}
 use Rattle.world.specs.Store.{Shown}
 use Rattle.store.specs.declared.refusal.Refusal.{Refusal as Unopened}
 use Rattle.commands.specs.Opening.{AnsweredFor}
@@ -10,6 +11,7 @@ use Rattle.commands.specs.declared.refusal.Refusal.TheVariants.{NotEmpty}
 use Rattle.commands.specs.declared.work.Work.{Work}
 use Rattle.commands.specs.declared.work.Work.TheVariants.{Open}
 use Rattle.tasks.specs.Extract.{ExtractsFile}
+use Rattle.tasks.specs.Migrate.{MigratesFile}
 use Rattle.tasks.specs.Opened.{unopened, unmade, HasBegun}
 use Rattle.tasks.specs.declared.Task.{Task}
 use Rattle.tasks.specs.declared.Task.TheVariants as task
@@ -55,12 +57,19 @@ module _ {S : Type 0} (shown : S → Shown) (failures : S → ℕ) (held : Image
       TellsAlone unread unread_new written written_new result (Err NotEmpty)
       ⊎ ((opened : Result Bool Refusal) × WorksOnFile unread unread_new written written_new Open opened × (result ≡ made opened))
 
-module _ {S F : Type 0} (shown : S → Shown) (failures : S → ℕ) (held : Image) (shown_too : F → Shown) (failures_too : F → ℕ) (held_too : Image)
+module _ {C S F : Type 0} (state_of : C → State) (shown : S → Shown) (failures : S → ℕ) (held : Image)
+    (shown_too : F → Shown) (failures_too : F → ℕ) (held_too : Image)
     (unread unread_new written written_new : Option (List ℕ)) (result : Result Bool Refusal) where
   -- a team's part of the store of a file was put into that of another or was not, and nothing was read or written
   pub record ExtractsAlone (team : List ℕ) : Type 0 where
     pub ended : Result (Unit {0}) Refusal
     pub extracts : ExtractsFile shown failures held shown_too failures_too held_too team ended
+    pub tells : TellsAlone unread unread_new written written_new result (acceptance ended)
+
+  -- the store of a file was made one of the older file, or was not, and nothing was read or written
+  pub record MigratesAlone : Type 0 where
+    pub ended : Result (Unit {0}) Refusal
+    pub migrates : MigratesFile state_of held shown_too failures_too held_too ended
     pub tells : TellsAlone unread unread_new written written_new result (acceptance ended)
 
   -- What is done, by the kind of task, where the first file of the task held this and its log, and the second file that.
@@ -69,3 +78,4 @@ module _ {S F : Type 0} (shown : S → Shown) (failures : S → ℕ) (held : Ima
   Performs (task.AnswerInMemory team key) = AnswersInMemory unread unread_new written written_new result team.now key.now
   Performs (task.OnStore db work) = WorksOnFile shown failures held unread unread_new written written_new work result
   Performs (task.Extract db team to) = ExtractsAlone team.now
+  Performs (task.Migrate from to) = MigratesAlone

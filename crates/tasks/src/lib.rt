@@ -6,25 +6,31 @@
 //! | [`Task::AnswerInMemory`] | answers requests from shelves in memory |
 //! | [`Task::OnStore`] | opens the store of a file and does one work of `commands` on it |
 //! | [`Task::Extract`] | opens the stores of two files and puts a team's part of the one into the other |
+//! | [`Task::Migrate`] | opens a file of an older schema and the store of another file, and makes the second one of the first |
 //!
-//! A store of a file is held by one function for each kind of task: that of a work, that of what is extracted from, that of what
-//! is extracted into. Each ends it by `close`. Nothing here reads the words of a command line.
+//! A store of a file is held by one function for each kind of task: that of a work, that of what is extracted or migrated from, that
+//! of what this is put into. Each ends it by `close`. Nothing here reads the words of a command line.
 #![tactic(auto)]
 
 ghost use Rattle.std.specs.Prelude.{◌≡◌};
+ghost use Rattle.sqlite.specs.Held.{state};
 ghost use Rattle.sqlite_wal.specs.Files.{image_at};
 ghost use Rattle.commands.specs.Work as told;
 ghost use Rattle.tasks.specs.Opened as spec;
 ghost use Rattle.tasks.specs.Task.{Performs, Inits, WorksOnFile};
 
 mod extract;
+mod migrate;
+mod old_file;
 
 use crate::extract::extract_file;
+use crate::migrate::migrate_file;
 use commands::files::holds_bytes;
 use commands::memory::answer_in_memory;
 use commands::refusal::Refusal;
 use commands::work::{Work, work_on};
-use sqlite::Start;
+use sqlite::{FileFrom, FileStore, Start};
+use sqlite_trees::store::Store;
 use std::io::{Read, Write};
 use std::rt::HostRuntime;
 use store::open::FileShelves;
@@ -54,12 +60,17 @@ pub enum Task<'a> {
         team: &'a str,
         to: &'a str,
     },
+    /// `migrate --from F --to G`: makes the store of G that of F, whose tables have an older schema.
+    Migrate {
+        from: &'a str,
+        to: &'a str,
+    },
 }
 
 /// Does a task and returns whether it was accepted; only a publish and an import can be done and not accepted.
 ///
-/// `T` stands for what the file of the task and its log hold, and `U` for that of the file that `extract` writes. It is proved
-/// for all contents: a task goes on from the world that they hold.
+/// `T` stands for what the file of the task and its log hold, and `U` for that of the file that `extract` and `migrate` write. It
+/// is proved for all contents: a task goes on from the world that they hold.
 pub fn perform<T: Start, U: Start, I: Read, O: Write>(
     rt: &HostRuntime,
     task: &Task,
@@ -68,7 +79,7 @@ pub fn perform<T: Start, U: Start, I: Read, O: Write>(
     input: &mut I,
     output: &mut O,
 ) -> Result<bool, Refusal>
-    ensures { Performs
+    ensures { Performs (state ⟦<FileStore<FileFrom<T>> as Store>⟧)
         ⟦<FileShelves<T> as Shelves>⟧.shown ⟦<FileShelves<T> as Shelves>⟧.failure_count (image_at T.Start)
         ⟦<FileShelves<U> as Shelves>⟧.shown ⟦<FileShelves<U> as Shelves>⟧.failure_count (image_at U.Start)
         (I.remaining input.old) (I.remaining input.new) (O.contents output.old) (O.contents output.new)
@@ -82,6 +93,7 @@ pub fn perform<T: Start, U: Start, I: Read, O: Write>(
         }
         Task::OnStore { db, work } => on_file(rt, db, start, work, input, output),
         Task::Extract { db, team, to } => acceptance(extract_file(rt, db, start, team, to, target)),
+        Task::Migrate { from, to } => acceptance(migrate_file(rt, from, start, to, target)),
     }
 }
 

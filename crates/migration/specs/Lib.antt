@@ -1,0 +1,5 @@
+pub mod Visits
+pub mod Registry
+pub mod Entries
+pub mod Zips
+pub mod Filled

@@ -1,0 +1,207 @@
+//! The rows of `version`, tested and put in.
+
+ghost use Rattle.std.specs.Prelude.{◌≡◌, IfOk, IfSome, IsTrue, MatchOption, Some};
+ghost use Rattle.sqlite.specs.declared.types.Value.TheVariants.{Text, Blob};
+ghost use Rattle.sqlite.specs.Order.{column};
+ghost use Rattle.sqlite.specs.Values.{or_null};
+ghost use Rattle.world.specs.World.{place};
+ghost use Rattle.tables.specs.Walks.{MayFollow, run_with};
+ghost use Rattle.migration.specs.Entries.{ShowsEntry, ShowsZip, ShowsKeys, IsFitRow, IsKeyed, PutsEntry};
+
+use crate::columns::{blob_at, int_at, text_at};
+use crate::put::{Keyed, Shown, put_entry};
+use crate::walk::Visit;
+use modver::{TimeText, order_key, rank_key, read_time};
+use older::schema::Format;
+use sqlite::types::ValueRef;
+use sqlite::{Alter, Error, Row, Transaction};
+use std::alloc::{AllocError, Global};
+use world::entry::{EntryRef, MAX_VERSIONS, Place};
+use world::entry_test::fitting_version;
+
+/// The time that bytes are, if they are one.
+fn time_of(bytes: &[u8]) -> Option<TimeText>
+    ensures { IfSome result (λ t. t ≡ bytes.now) }
+{
+    match std::str::from_utf8(bytes) {
+        Ok(text) => read_time(text).ok(),
+        Err(_) => None,
+    }
+}
+
+/// The time of a column, or none where it is NULL, if it is one of the two.
+fn time_at(row: &Row, at: usize) -> Result<Option<Option<TimeText>>, Error>
+    ensures { IfOk result (λ found. IfSome found (λ t. column row.now at ≡ or_null Text t)) }
+{
+    match row.get_ref(at)? {
+        ValueRef::Null => Ok(Some(None)),
+        ValueRef::Text(bytes) => match time_of(bytes) {
+            Some(time) => Ok(Some(Some(time))),
+            None => Ok(None),
+        },
+        _ => Ok(None),
+    }
+}
+
+/// The entry that a row shows, with this zip.
+fn entry_at<'r>(row: &'r Row, zip: &'r [u8]) -> Result<Option<Shown<'r>>, Error>
+    ensures { IfOk result (λ found. IfSome found (λ s.
+        ShowsEntry row.now (place s.shelf.now s.path.now s.version.now) s.entry × (s.entry.zip ≡ zip.now))) }
+{
+    let Some(shelf) = text_at(row, 0)? else {
+        return Ok(None);
+    };
+    let Some(path) = text_at(row, 1)? else {
+        return Ok(None);
+    };
+    let Some(version) = text_at(row, 2)? else {
+        return Ok(None);
+    };
+    let Some(time) = time_at(row, 3)? else {
+        return Ok(None);
+    };
+    let Some(gomod) = blob_at(row, 4)? else {
+        return Ok(None);
+    };
+    let entry = EntryRef { gomod, zip, time };
+    Ok(Some(Shown {
+        shelf,
+        path,
+        version,
+        entry,
+    }))
+}
+
+/// The zip that a row shows, if it shows one. In schema 2 zips are rows of their own, so it is empty here.
+fn zip_at(format: Format, row: &Row) -> Result<Option<&[u8]>, Error>
+    ensures { IfOk result (λ found. IfSome found (λ zip. ShowsZip format row.now zip.now)) }
+{
+    match format {
+        Format::One => blob_at(row, 6),
+        Format::Two => Ok(Some(&[])),
+    }
+}
+
+fn is_blob_at(row: &Row, at: usize, bytes: &[u8]) -> Result<bool, Error>
+    ensures { IfOk result (λ b. IsTrue b → column row.now at ≡ Blob bytes.now) }
+{
+    Ok(matches!(row.get_ref(at)?, ValueRef::Blob(found) if found == bytes))
+}
+
+/// Whether a row shows these keys of order. In schema 1 it has none.
+fn shows_keys(format: Format, row: &Row, order: &[u8], rank: &[u8]) -> Result<bool, Error>
+    ensures { IfOk result (λ shows. IsTrue shows → ShowsKeys format row.now order.now rank.now) }
+{
+    match format {
+        Format::One => Ok(true),
+        Format::Two => Ok(is_blob_at(row, 6, order)? && is_blob_at(row, 7, rank)?),
+    }
+}
+
+/// What a row shows of an entry with its number and its keys, if the entry may stand at its place.
+fn fit_row<'r>(alloc: Global, format: Format, row: &'r Row) -> Result<Option<Keyed<'r>>, Error>
+    ensures { IfOk result (λ found. IfSome found (λ k. IsKeyed k × IsFitRow format row.now k.id
+        (place k.shown.shelf.now k.shown.path.now k.shown.version.now) k.shown.entry)) }
+{
+    let Some(zip) = zip_at(format, row)? else {
+        return Ok(None);
+    };
+    let Some(shown) = entry_at(row, zip)? else {
+        return Ok(None);
+    };
+    let Some(version) = fitting_version(alloc, shown.path, shown.version, &shown.entry)? else {
+        return Ok(None);
+    };
+    let order = order_key(alloc, &version)?;
+    let rank = rank_key(alloc, &version)?;
+    if !shows_keys(format, row, &order, &rank)? {
+        return Ok(None);
+    }
+    let Some(id) = int_at(row, 5)? else {
+        return Ok(None);
+    };
+    Ok(Some(Keyed {
+        id,
+        shown,
+        order,
+        rank,
+    }))
+}
+
+/// How many of a path on its shelf have come with this place, if it may follow the last one.
+fn run_up_to(last: &Option<Place>, many: u64, place: &Place) -> Option<u64>
+    ensures { MatchOption result
+        (MayFollow last.now many place.now → ⊥)
+        (λ n. MayFollow last.now many place.now × (n ≡ run_with last.now many place.now)) }
+{
+    let Some(last) = last else {
+        return Some(1);
+    };
+    if *last == *place {
+        return None;
+    }
+    if place.shelf != last.shelf || place.path != last.path {
+        return Some(1);
+    }
+    if many < MAX_VERSIONS {
+        Some(many + 1)
+    } else {
+        None
+    }
+}
+
+/// The rows of `version` in the order of their places: each entry may stand at its place, no place comes twice, and no
+/// path too often on a shelf.
+#[derive(Drop)]
+pub(crate) struct EntryRows {
+    pub(crate) alloc: Global,
+    pub(crate) format: Format,
+    pub(crate) last: Option<Place>,
+    pub(crate) many: u64,
+}
+
+impl EntryRows {
+    /// Whether an entry may follow the last one. It is then the last one.
+    fn follows(&mut self, shown: &Shown) -> Result<bool, AllocError>
+        ensures { IfOk result (λ may. IsTrue may
+            → MayFollow self.old.last self.old.many (place shown.now.shelf.now shown.now.path.now shown.now.version.now)
+            × ((self.new.format ≡ self.old.format)
+            × ((self.new.last ≡ Some (place shown.now.shelf.now shown.now.path.now shown.now.version.now))
+            × (self.new.many ≡ run_with self.old.last self.old.many
+            (place shown.now.shelf.now shown.now.path.now shown.now.version.now))))) }
+    {
+        let place = Place::new(self.alloc, shown.shelf, shown.path, shown.version)?;
+        let Some(many) = run_up_to(&self.last, self.many, &place) else {
+            return Ok(false);
+        };
+        self.last = Some(place);
+        self.many = many;
+        Ok(true)
+    }
+}
+
+impl Visit for EntryRows {
+    ghost Puts = { λ kept row db next after. (next.format ≡ kept.format)
+        × PutsEntry kept.format kept.last kept.many row db after next.last next.many };
+
+    fn visit<F: Alter>(&mut self, tx: &mut Transaction<'_, F>, row: &Row) -> Result<bool, Error> {
+        let Some(keyed) = fit_row(self.alloc, self.format, row)? else {
+            return Ok(false);
+        };
+        if !self.follows(&keyed.shown)? {
+            return Ok(false);
+        }
+        let shown = &keyed.shown;
+        put_entry(
+            tx,
+            keyed.id,
+            shown.shelf,
+            shown.path,
+            shown.version,
+            &shown.entry,
+            &keyed.order,
+            &keyed.rank,
+        )?;
+        Ok(true)
+    }
+}

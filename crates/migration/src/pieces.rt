@@ -1,0 +1,100 @@
+//! The rows of `piece` of schema 2, tested and put in.
+
+ghost use Rattle.std.specs.Prelude.{◌≡◌, ◌<◌, ℕ, pos, IfOk, IfSome, IsTrue, Some};
+ghost use Rattle.sqlite.specs.declared.types.Value.TheVariants.{Int};
+ghost use Rattle.sqlite.specs.Order.{column};
+ghost use Rattle.tables.specs.Fit.{IsPieceRow, piece_in};
+ghost use Rattle.tables.specs.Pieces.{piece_limit};
+ghost use Rattle.tables.specs.Walks.{MayGoOn};
+ghost use Rattle.statements.specs.Rows.{PutsPiece};
+ghost use Rattle.migration.specs.Zips.{last_piece, last_one};
+
+use crate::columns::{blob_at, int_at};
+use crate::put::put_shown_piece;
+use crate::walk::Visit;
+use sqlite::{Alter, Error, Row, Transaction};
+use tables::pieces::PIECE_SIZE;
+
+/// The most pieces of a zip.
+const MAX_PIECES: u64 = 256;
+
+/// What is kept of the last row of `piece`.
+#[derive(Clone, Copy)]
+pub(crate) struct LastPiece {
+    version: i64,
+    number: u64,
+    is_full: bool,
+}
+
+/// The number of a piece that a column is, if it is one.
+fn number_at(row: &Row, at: usize) -> Result<Option<u64>, Error>
+    ensures { IfOk result (λ found. IfSome found (λ n. (column row.now at ≡ Int (pos n)) × (n < piece_limit))) }
+{
+    let Some(number) = int_at(row, at)? else {
+        return Ok(None);
+    };
+    match u64::try_from(number) {
+        Ok(number) if number < MAX_PIECES => Ok(Some(number)),
+        _ => Ok(None),
+    }
+}
+
+/// What is kept of the piece that a row shows, if it shows one.
+fn piece_at(row: &Row) -> Result<Option<LastPiece>, Error>
+    ensures { IfOk result (λ found. IfSome found (λ p. (last_piece p ≡ piece_in row.now) × IsPieceRow row.now)) }
+{
+    let Some(version) = int_at(row, 0)? else {
+        return Ok(None);
+    };
+    let Some(number) = number_at(row, 1)? else {
+        return Ok(None);
+    };
+    let Some(bytes) = blob_at(row, 2)? else {
+        return Ok(None);
+    };
+    if bytes.is_empty() || bytes.len() > PIECE_SIZE {
+        return Ok(None);
+    }
+    Ok(Some(LastPiece {
+        version,
+        number,
+        is_full: bytes.len() == PIECE_SIZE,
+    }))
+}
+
+/// Whether a piece may come after the last one: the next of its version behind a full one, or the first of another.
+fn may_go_on(last: Option<LastPiece>, piece: LastPiece) -> bool
+    ensures { IsTrue result → MayGoOn (last_one last) (last_piece piece) }
+{
+    let Some(last) = last else {
+        return piece.number == 0;
+    };
+    if last.version != piece.version {
+        return piece.number == 0;
+    }
+    last.is_full && piece.number > 0 && last.number == piece.number - 1
+}
+
+/// The rows of `piece` in the order of their versions and numbers: the pieces of a version are numbered from 0 without
+/// gaps, and each but the last is full. The fresh store refuses a piece that has no version.
+#[derive(Drop)]
+pub(crate) struct ZipRows {
+    pub(crate) last: Option<LastPiece>,
+}
+
+impl Visit for ZipRows {
+    ghost Puts = { λ kept row db next after. IsPieceRow row × (MayGoOn (last_one kept.last) (piece_in row)
+        × ((last_one next.last ≡ Some (piece_in row)) × PutsPiece row db after)) };
+
+    fn visit<F: Alter>(&mut self, tx: &mut Transaction<'_, F>, row: &Row) -> Result<bool, Error> {
+        let Some(piece) = piece_at(row)? else {
+            return Ok(false);
+        };
+        if !may_go_on(self.last, piece) {
+            return Ok(false);
+        }
+        put_shown_piece(tx, row)?;
+        self.last = Some(piece);
+        Ok(true)
+    }
+}

@@ -1,0 +1,77 @@
+//! Rows of an older store that are put into a fresh one, one after the other.
+
+ghost use Rattle.std.specs.Prelude.{◌≡◌, ◌≤◌, [], false, OnOk, IfOk, is_ok, IsTrue};
+ghost use Rattle.sqlite.specs.Effect.{Reads};
+ghost use Rattle.sqlite.specs.Given.{IsPlain};
+ghost use Rattle.sqlite.specs.Held.{state};
+ghost use Rattle.sqlite.specs.Listing.{understood, reads_listing};
+ghost use Rattle.sqlite.specs.Order.{Row as Shown};
+ghost use Rattle.sqlite.specs.State.{HasCleanDisk, KeepsCommit, Survives};
+ghost use Rattle.sqlite.specs.Tree.{Trees};
+ghost use Rattle.sqlite.proofs.Callers.{command_of};
+ghost use Rattle.sqlite_trees.specs.View.{doubt};
+ghost use Rattle.tables.specs.Calls.{Honestly};
+ghost use Rattle.older.specs.Schemas.{schema_of};
+ghost use Rattle.statements.specs.Extract.{IsReadBy};
+ghost use Rattle.statements.specs.Rows.{Filling, GoesOn};
+ghost use Rattle.migration.specs.Visits.{Visits};
+
+use older::schema::Format;
+use sqlite::{Alter, Connection, Error, ErrorCode, Row, Transaction};
+use statements::extract_rows::CopyError;
+
+/// A visitor of the rows of a table, which keeps something of those before.
+pub(crate) trait Visit {
+    /// What a row makes of what is kept, and of the fresh tables.
+    ghost Puts: { Self → Shown → Trees → Self → Trees → Type 0 };
+
+    /// Tests a row and puts it into the fresh tables. Returns false if no world has such a row.
+    fn visit<F: Alter>(&mut self, tx: &mut Transaction<'_, F>, row: &Row) -> Result<bool, Error>
+        ensures same_reference { tx.new.conn.ghost_name ≡ tx.old.conn.ghost_name }
+        ensures survives { Survives (state F.Store tx.old.conn.now) (state F.Store tx.new.conn.now) (λ _. ⊥) }
+        ensures kept { Honestly (state F.Store tx.old.conn.now) (state F.Store tx.new.conn.now) (λ old new.
+            IsTrue old.in_transaction → KeepsCommit old new) }
+        ensures inside { Honestly (state F.Store tx.old.conn.now) (state F.Store tx.new.conn.now) (λ old new.
+            IsTrue old.in_transaction → OnOk result (IsTrue new.in_transaction)) }
+        ensures puts { Honestly (state F.Store tx.old.conn.now) (state F.Store tx.new.conn.now) (λ old new.
+            Filling old → IfOk result (λ fits. IsTrue fits
+            → Puts self.old row.now old.now.trees self.new new.now.trees × Filling new)) };
+}
+
+/// Visits each row that a query shows of the tables of a format, while the query is read. It returns false at the first row
+/// that the visitor refuses. No more than one row is in memory.
+pub(crate) fn visit_rows<S: Alter, F: Alter, V: Visit>(
+    source: &mut Connection<S>,
+    format: Format,
+    sql: &str,
+    tx: &mut Transaction<'_, F>,
+    visitor: &mut V,
+) -> Result<bool, CopyError>
+    requires plain { IsPlain (understood (schema_of format) sql.now) }
+    requires tables { reads_listing (schema_of format) sql.now ≡ false }
+    ensures clean { doubt (state S.Store source.old).is_clean ≤ doubt (state S.Store source.new).is_clean }
+    ensures reads { (state S.Store source.old).now.schema ≡ schema_of format
+        → IsReadBy (state S.Store source.old) (state S.Store source.new) (is_ok result) }
+    ensures same_reference { tx.new.conn.ghost_name ≡ tx.old.conn.ghost_name }
+    ensures goes_on { GoesOn (state F.Store tx.old.conn.now) (state F.Store tx.new.conn.now) (is_ok result) }
+    ensures puts { HasCleanDisk (state S.Store source.new) → HasCleanDisk (state F.Store tx.new.conn.now)
+        → (state S.Store source.old).now.schema ≡ schema_of format → Filling (state F.Store tx.old.conn.now)
+        → IfOk result (λ all. IsTrue all → Filling (state F.Store tx.new.conn.now)
+        × ((rows : _) × Reads (command_of (understood (schema_of format) sql.now)) (state S.Store source.old).now [] rows
+        × Visits (λ kept row db next after. V.Puts kept row db next after) visitor.old (state F.Store tx.old.conn.now).now.trees
+        rows visitor.new (state F.Store tx.new.conn.now).now.trees)) }
+{
+    let mut rows = source.query(sql, &[])?;
+    'rows: for _turn in 0..u128::MAX {
+        let Some(row) = rows.next()? else {
+            return Ok(true);
+        };
+        match visitor.visit(tx, row) {
+            Ok(true) => {}
+            Ok(false) => return Ok(false),
+            Err(error) => return Err(CopyError::Fresh(error)),
+        }
+    }
+    // So many rows come only where a table has one for each rowid.
+    Err(CopyError::Source(Error::SqliteFailure(ErrorCode::TooBig)))
+}

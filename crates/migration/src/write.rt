@@ -1,0 +1,42 @@
+//! The world of an older store, written into a fresh one in one transaction.
+
+ghost use Rattle.std.specs.Prelude.{◌≡◌};
+ghost use Rattle.sqlite.specs.Held.{state};
+ghost use Rattle.migration.specs.Visits.{is_done};
+ghost use Rattle.migration.specs.Filled.{Migrates};
+
+use crate::fill::fill;
+use older::schema::Format;
+use sqlite::{Alter, Connection, Error, ErrorCode};
+use statements::extract_rows::CopyError;
+use statements::transaction::commit_if;
+use std::alloc::Global;
+
+/// Whether all was put in.
+fn is_whole(filled: &Result<bool, CopyError>) -> bool
+    ensures value { result ≡ is_done filled.now }
+{
+    matches!(filled, Ok(true))
+}
+
+/// Writes all that an older store has into a fresh one that has `common` alone, in one transaction. Returns false if the
+/// older tables stand for no world; then nothing is written.
+pub fn write_world<S: Alter, F: Alter>(
+    alloc: Global,
+    source: &mut Connection<S>,
+    format: Format,
+    fresh: &mut Connection<F>,
+) -> Result<bool, CopyError>
+    ensures migrates { Migrates format (state S.Store source.old) (state S.Store source.new)
+        (state F.Store fresh.old) (state F.Store fresh.new) (is_done result) }
+{
+    if !fresh.is_autocommit() {
+        return Err(CopyError::Fresh(Error::SqliteFailure(ErrorCode::TransactionState)));
+    }
+    let mut tx = fresh.transaction();
+    let filled = fill(alloc, source, format, &mut tx);
+    match commit_if(tx, is_whole(&filled)) {
+        Ok(()) => filled,
+        Err(error) => Err(CopyError::Fresh(error)),
+    }
+}

@@ -1,0 +1,3 @@
+pub mod Schemas
+pub mod Means
+pub mod Laws

@@ -1,0 +1,161 @@
+-- A store that is made of one of an older schema, whole or not at all.
+use Rattle.std.proofs.Common.{◌≡◌, ◌≢◌, ◌⊎◌, Bool, true, false, IsTrue, Result, Ok, Err, IfOk, is_ok, inl, inr, refl, sym, subst, ◌∙◌, arith, true≢false}
+use Rattle.sqlite.specs.Effect.{Database}
+use Rattle.sqlite.specs.State.{State, HasCleanDisk}
+use Rattle.older.specs.declared.schema.Format.{Format}
+use Rattle.older.specs.Schemas.{schema_of}
+use Rattle.world.specs.World.{World, IsWorld, only_common}
+use Rattle.tables.specs.Means.{Stands, StandsFor, IsSettled}
+use Rattle.tables.proofs.FailureLemmas.{was_clean}
+use Rattle.statements.specs.Calls.{Spares, ChangesAt}
+use Rattle.statements.specs.Extract.{IsReadBy}
+use Rattle.statements.specs.declared.extract_rows.CopyError.{CopyError}
+use Rattle.statements.proofs.ChangeLemmas.{spares_at}
+use Rattle.migration.specs.Filled.{IsOfTables}
+use Rattle.migration.specs.Filled.{Migrates as WritesWorld}
+use Rattle.migration.proofs.WalkLemmas.{unchanged_itself}
+use Rattle.store.specs.Kept.{IsNothing}
+use Rattle.store.specs.Shown.{shown_with}
+use Rattle.store.specs.Migrated.{IsForeign, IsOldOr, IsMigrated, is_whole, MigratesRows, Tells, MigratesAt, Migrates}
+use Rattle.store.specs.Opened.{IsOfOpening}
+use Rattle.store.specs.declared.kept.Kept.{Kept}
+use Rattle.store.specs.declared.migrate.Migrated.{Migrated}
+use Rattle.store.specs.declared.migrate.Migrated.TheVariants.{Whole, NotEmpty, BadSchema}
+use Rattle.store.specs.declared.refusal.Refusal.{Refusal}
+use Rattle.store.specs.declared.refusal.Refusal.TheVariants as refusal
+use Rattle.store.proofs.ExtractedLemmas.{spared_at}
+use Rattle.store.proofs.KeptLemmas.{nothing_kept}
+use Rattle.store.proofs.StoreLemmas.{narrow}
+
+-- ---- the rows
+
+-- nothing was read of the older store, and the fresh one was only read
+pub unwritten : (s f g : State) (r : Result Migrated CopyError) → is_whole r ≡ false → Spares f g → (HasCleanDisk g → (x : World) → StandsFor f x → IfOk r (IsMigrated x))
+    → MigratesRows s s f g r
+unwritten s f g r part spares told = record {
+  clean = omega arith;
+  reads = λ ready. record { left = λ _ db may. may; kept = λ clean. inl (unchanged_itself s (ready clean)); same = λ clean _. unchanged_itself s (ready clean) };
+  clean_too = spares.clean;
+  spares = λ _. spares;
+  told = told;
+  at = λ clean good ready x stands. (x, inr (part, refl), subst (λ b. ChangesAt f g b x x) (sym part) (spared_at f g x x spares));
+}
+
+old_or : (format : Format) (db : Database) (x w : World) (done : Bool) → x ≡ only_common → IsOfTables format db done w → IsOldOr db x done w
+old_or format db x w done blank (inl is) = inl (format, is)
+old_or format db x w done blank (inr rest) = inr (rest.0, rest.1 ∙ sym blank)
+
+told_blank : (r : Result Migrated CopyError) → r ≢ Ok NotEmpty → (x : World) → x ≡ only_common → IfOk r (IsMigrated x)
+told_blank (Ok Whole) some x is = is
+told_blank (Ok BadSchema) some x is = is
+told_blank (Ok NotEmpty) some x is = absurd (some refl)
+told_blank (Err e) some x is = tt
+
+-- the tables are those of an older schema, and the world of these may have been written into a store of common alone
+module _ (format : Format) (s t f m g : State) (r : Result Migrated CopyError) (schema : s.now.schema ≡ schema_of format) (first : Spares f m)
+    (blank : HasCleanDisk m → (x : World) → StandsFor f x → IsTrue m.is_open × (x ≡ only_common)) (writes : WritesWorld format s t m g (is_whole r)) where
+  blank_at_last : HasCleanDisk g → (x : World) → StandsFor f x → IsTrue m.is_open × (x ≡ only_common)
+  blank_at_last good = blank (was_clean m g writes.clean_too good)
+
+  pub written : r ≢ Ok NotEmpty → MigratesRows s t f g r
+  written some = record {
+    clean = writes.clean;
+    reads = λ ready. writes.reads (λ clean. (ready clean, schema));
+    clean_too = let one = first.clean in let two = writes.clean_too in omega (arith, one, two);
+    spares = λ hopeless. elim hopeless [ inl e ↦ absurd (some e) | inr foreign ↦ absurd (foreign format schema) ];
+    told = λ good x stands. told_blank r some x (blank_at_last good x stands).1;
+    at = λ clean good ready x stands.
+        let is = blank_at_last good x stands in
+        let still : Stands m only_common = subst (λ (u : World). Stands m u) is.1 (first.stays x stands.0) in
+        let it = writes.at clean good (λ late. (ready late, schema)) (λ _. is.0) still in (
+          it.0,
+          old_or format s.now x it.0 (is_whole r) is.1 it.1,
+          spares_at f m g (is_whole r) x it.0 first writes.clean_too (subst (λ (u : World). ChangesAt m g (is_whole r) u it.0) (sym is.1) it.2),
+        );
+  }
+
+-- ---- a call
+
+-- a store that was only read shows what it showed
+same_tables : (s t : State) (done : Bool) → IsReadBy s t done → HasCleanDisk t → IsSettled s → IsTrue t.is_open → t.now ≡ s.now
+same_tables s t done read clean settled opened = elim (read.kept clean) [ inl same ↦ same.0.now_is | inr undone ↦ (undone.undone opened).0 ∙ sym (settled.committed (undone.was_open opened)) ]
+
+world_of : (db : Database) (x w : World) → IsOldOr db x true w → IsWorld w
+world_of db x w (inl was) = was.1.is
+world_of db x w (inr rest) = absurd (true≢false rest.0)
+
+at_end : (db : Database) (old new : State) (kept kept_new : Kept) (x w : World) (r : Result (Unit {0}) Refusal) → IsNothing kept_new → HasCleanDisk new → StandsFor old x
+    → IsOldOr db x (is_ok r) w → ChangesAt old new (is_ok r) x w → Tells x r → MigratesAt db (shown_with old kept) (shown_with new kept_new) x r
+at_end db old new kept kept_new x w (Ok u) none clean stands was change tells = record {
+  tells = tells;
+  world = w;
+  was = was;
+  ok = ((change.world stands.0, world_of db x w was), nothing_kept w kept_new none);
+  err = tt;
+  left = λ only. change.left clean stands.0 (narrow old x only);
+  kept = λ only db may. let it = change.kept refl clean stands.0 db may in (it.0, it.1, inl it.2);
+}
+at_end db old new kept kept_new x w (Err e) none clean stands was change tells = record {
+  tells = tells;
+  world = w;
+  was = was;
+  ok = tt;
+  err = ((change.world stands.0, stands.1), nothing_kept x kept_new none);
+  left = λ only. change.left clean stands.0 (narrow old x only);
+  kept = λ _. tt;
+}
+
+-- of what became of the rows the call tells, and the fresh store keeps nothing
+module _ (s t f g : State) (kept kept_new : Kept) (rows : Result Migrated CopyError) (r : Result (Unit {0}) Refusal) (moved : MigratesRows s t f g rows) (none : IsNothing kept_new)
+    (done : is_whole rows ≡ is_ok r) (full : r ≡ Err refusal.NotEmpty → rows ≡ Ok NotEmpty) (tells : (x : World) → IfOk rows (IsMigrated x) → Tells x r) where
+  spared : (r ≡ Err refusal.NotEmpty) ⊎ IsForeign s.now → Spares f g
+  spared unfit = moved.spares (elim unfit [ inl e ↦ inl (full e) | inr foreign ↦ inr foreign ])
+
+  pub migrated : Migrates s t (shown_with f kept) (shown_with g kept_new) r
+  migrated = record {
+    clean = moved.clean;
+    reads = λ ready. subst (IsReadBy s t) done (moved.reads ready);
+    same = λ ready clean settled opened. same_tables s t (is_whole rows) (moved.reads ready) clean settled opened;
+    honest = was_clean f g moved.clean_too;
+    spares = λ unfit. let spares = spared unfit in record {
+      honest = was_clean f g spares.clean;
+      stays = λ h w so. ((spares.stays w so.0.0, so.0.1), nothing_kept w kept_new none);
+      left = λ h w x y so only db may. only db (spares.left h w so.0.0 db may);
+    };
+    at = λ clean good ready x so.
+        let it = moved.at clean good ready x so.0 in
+        at_end s.now f g kept kept_new x it.0 r none good so.0 (subst (λ b. IsOldOr s.now x b it.0) done it.1) (subst (λ b. ChangesAt f g b x it.0) done it.2)
+        (tells x (moved.told good x so.0));
+  }
+
+-- what is told of a fault
+pub fault_told : (x : World) (e : Refusal) → e ≢ refusal.BadSchema → e ≢ refusal.NotEmpty → e ≢ refusal.NoTeam → Tells x (Err e)
+fault_told x refusal.Device a b c = tt
+fault_told x refusal.Memory a b c = tt
+fault_told x refusal.BadSchema a b c = absurd (a refl)
+fault_told x refusal.NotEmpty a b c = absurd (b refl)
+fault_told x refusal.NoTeam a b c = absurd (c refl)
+
+-- and of one of the older store
+pub opening_told : (x : World) (e : Refusal) → IsOfOpening e → e ≢ refusal.BadSchema → Tells x (Err e)
+opening_told x refusal.Device of a = tt
+opening_told x refusal.Memory of a = tt
+opening_told x refusal.BadSchema of a = absurd (a refl)
+opening_told x refusal.NotEmpty of a = absurd of
+opening_told x refusal.NoTeam of a = absurd of
+
+pub opening_some : (e : Refusal) → IsOfOpening e → e ≢ refusal.NotEmpty
+opening_some refusal.NotEmpty of same = of
+opening_some refusal.Device of same = cc
+opening_some refusal.Memory of same = cc
+opening_some refusal.BadSchema of same = cc
+opening_some refusal.NoTeam of same = of
+
+pub some_told : {X : Type 0} (e : Refusal) → e ≢ refusal.NotEmpty → ◌≡◌ {A = Result (Unit {0}) Refusal} (Err e) (Err refusal.NotEmpty) → X
+some_told e some same = let it : e ≡ refusal.NotEmpty = cc in absurd (some it)
+
+pub done_told : {X : Type 0} → ◌≡◌ {A = Result (Unit {0}) Refusal} (Ok tt) (Err refusal.NotEmpty) → X
+done_told same = absurd (never same)
+  where
+    never : ◌≡◌ {A = Result (Unit {0}) Refusal} (Ok tt) (Err refusal.NotEmpty) → ⊥
+    never e = cc

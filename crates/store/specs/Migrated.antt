@@ -1,0 +1,91 @@
+-- What a store does that is made of one of an older schema.
+use Rattle.std.specs.Prelude.{◌≡◌, ◌≢◌, ◌≤◌, ◌⊎◌, Bool, true, false, Result, Ok, Err, IfOk, OnOk, OnErr, is_ok, IsTrue}
+use Rattle.sqlite.specs.Effect.{Database}
+use Rattle.sqlite.specs.State.{State, HasCleanDisk}
+use Rattle.sqlite_trees.specs.View.{doubt}
+use Rattle.tables.specs.Means.{StandsFor, IsSettled}
+use Rattle.older.specs.declared.schema.Format.{Format}
+use Rattle.older.specs.Means.{StandsAs}
+use Rattle.older.specs.Schemas.{schema_of}
+use Rattle.statements.specs.Calls.{ChangesAt, IsOpenIfHonest, Spares}
+use Rattle.statements.specs.Extract.{IsReadBy}
+use Rattle.statements.specs.declared.extract_rows.CopyError.{CopyError}
+use Rattle.world.specs.Store.{Shown}
+use Rattle.world.specs.World.{World, only_common}
+use Rattle.store.specs.Extracted.{IsRead}
+use Rattle.store.specs.declared.migrate.Migrated.{Migrated}
+use Rattle.store.specs.declared.migrate.Migrated.TheVariants.{Whole, NotEmpty, BadSchema}
+use Rattle.store.specs.declared.refusal.Refusal.{Refusal}
+use Rattle.store.specs.declared.refusal.Refusal.TheVariants as refusal
+
+-- the tables are those of an older schema, and stand for the world
+abbrev pub WasOf : Database → World → Type 0
+WasOf db w = (format : Format) × StandsAs format db w
+
+-- the tables are those of no older schema
+abbrev pub IsForeign : Database → Type 0
+IsForeign db = (format : Format) → db.schema ≢ schema_of format
+
+-- the world that may be written is that of the older tables, or where not all was done, the one that is there
+abbrev pub IsOldOr : Database → World → Bool → World → Type 0
+IsOldOr db x done w = WasOf db w ⊎ ((done ≡ false) × (w ≡ x))
+
+-- ---- the rows
+
+-- what becomes of a migration into a store of x
+abbrev pub IsMigrated : World → Migrated → Type 0
+IsMigrated x Whole = x ≡ only_common
+IsMigrated x NotEmpty = x ≢ only_common
+IsMigrated x BadSchema = x ≡ only_common
+
+abbrev pub is_whole : Result Migrated CopyError → Bool
+is_whole (Ok Whole) = true
+is_whole result = false
+
+-- nothing is to be written
+abbrev pub IsHopeless : Database → Result Migrated CopyError → Type 0
+IsHopeless db result = (result ≡ Ok NotEmpty) ⊎ IsForeign db
+
+-- The older store is only read. The fresh one stands for what the old tables mean once all is written, and for what it stood for otherwise.
+pub record MigratesRows (old old_new fresh fresh_new : State) (result : Result Migrated CopyError) : Type 0 where
+  pub clean : doubt old.is_clean ≤ doubt old_new.is_clean
+  pub reads : IsOpenIfHonest old → IsReadBy old old_new (is_whole result)
+  pub clean_too : doubt fresh.is_clean ≤ doubt fresh_new.is_clean
+  pub spares : IsHopeless old.now result → Spares fresh fresh_new
+  pub told : HasCleanDisk fresh_new → (x : World) → StandsFor fresh x → IfOk result (IsMigrated x)
+  pub at :
+      HasCleanDisk old_new → HasCleanDisk fresh_new → IsOpenIfHonest old → (x : World) → StandsFor fresh x
+      → (w : World) × IsOldOr old.now x (is_whole result) w × ChangesAt fresh fresh_new (is_whole result) x w
+
+-- ---- a call
+
+-- What a migration into a store of x tells: that it is done, or what stood against it, or that memory was wanted or a device failed. That the fresh store has
+-- more than common comes before the tables of the older one.
+abbrev pub Tells : World → Result (Unit {0}) Refusal → Type 0
+Tells x (Ok u) = x ≡ only_common
+Tells x (Err refusal.NotEmpty) = x ≢ only_common
+Tells x (Err refusal.BadSchema) = x ≡ only_common
+Tells x (Err refusal.NoTeam) = ⊥
+Tells x (Err refusal.Device) = Unit {0}
+Tells x (Err refusal.Memory) = Unit {0}
+
+-- The fresh store stands for what the old tables mean once it is done, and otherwise for what it stood for. If a crash left that alone before, it leaves the
+-- two from then on, and once it is done the old world alone.
+pub record MigratesAt (db : Database) (old new : Shown) (x : World) (result : Result (Unit {0}) Refusal) : Type 0 where
+  pub tells : Tells x result
+  pub world : World
+  pub was : IsOldOr db x (is_ok result) world
+  pub ok : OnOk result (new.stands world)
+  pub err : OnErr result (new.stands x)
+  pub left : old.leaves x x → new.leaves x world
+  pub kept : old.leaves x x → OnOk result (new.leaves world world)
+
+-- The older store is only read, and so is a fresh one that has more than common, or where the older tables are those of no older schema. In each world that
+-- the fresh store stood for it is so, as far as no answer of a disk was wrong.
+pub record Migrates (old old_new : State) (fresh fresh_new : Shown) (result : Result (Unit {0}) Refusal) : Type 0 where
+  pub clean : doubt old.is_clean ≤ doubt old_new.is_clean
+  pub reads : IsOpenIfHonest old → IsReadBy old old_new (is_ok result)
+  pub same : IsOpenIfHonest old → HasCleanDisk old_new → IsSettled old → IsTrue old_new.is_open → old_new.now ≡ old.now
+  pub honest : fresh_new.is_honest → fresh.is_honest
+  pub spares : (result ≡ Err refusal.NotEmpty) ⊎ IsForeign old.now → IsRead fresh fresh_new
+  pub at : HasCleanDisk old_new → fresh_new.is_honest → IsOpenIfHonest old → (x : World) → fresh.stands x → MigratesAt old.now fresh fresh_new x result

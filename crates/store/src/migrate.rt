@@ -1,0 +1,89 @@
+//! A store of an older schema as one of today's.
+
+ghost use Rattle.std.specs.Prelude.{◌≡◌, ◌≢◌, ◌≤◌, Ok};
+ghost use Rattle.sqlite.specs.Held.{state};
+ghost use Rattle.migration.specs.Visits.{is_done};
+ghost use Rattle.store.specs.Shown.{shown_with};
+ghost use Rattle.store.specs.Migrated.{MigratesRows, Migrates, is_whole};
+
+use crate::extract::told_as;
+use crate::extract_judge::is_blank;
+use crate::kept::Kept;
+use crate::refusal::{Refusal, open_refusal};
+use crate::store::{SqlShelves, fault};
+use migration::write::write_world;
+use older::schema::format_of;
+use sqlite::{Alter, Connection, Error, ErrorCode};
+use statements::extract_rows::CopyError;
+use std::alloc::Global;
+
+/// What has become of a migration.
+#[derive(Clone, Copy, Debug, Drop, PartialEq, Eq)]
+pub(crate) enum Migrated {
+    /// All was written.
+    Whole,
+    /// The fresh store has more than `common`.
+    NotEmpty,
+    /// The older tables are those of no older schema, or stand for no world.
+    BadSchema,
+}
+
+/// What has become of a migration whose rows were written, or whose older tables stand for no world.
+fn told_of(written: Result<bool, CopyError>) -> Result<Migrated, CopyError>
+    ensures whole { is_whole result ≡ is_done written }
+    ensures named { result ≢ Ok Migrated.NotEmpty }
+{
+    match written {
+        Ok(true) => Ok(Migrated::Whole),
+        Ok(false) => Ok(Migrated::BadSchema),
+        // Rows that no store of today's schema may have, as a key that comes twice.
+        Err(CopyError::Fresh(Error::SqliteFailure(ErrorCode::ConstraintViolation(_)))) => {
+            Ok(Migrated::BadSchema)
+        }
+        Err(error) => Err(error),
+    }
+}
+
+/// Writes what the tables of an older store stand for into a fresh one, where that has `common` alone.
+fn migrate_rows<S: Alter, F: Alter>(
+    alloc: Global,
+    old: &mut Connection<S>,
+    fresh: &mut Connection<F>,
+) -> Result<Migrated, CopyError>
+    ensures migrates { MigratesRows (state S.Store old.old) (state S.Store old.new) (state F.Store fresh.old) (state F.Store fresh.new) result }
+{
+    match is_blank(fresh) {
+        Ok(true) => {}
+        Ok(false) => return Ok(Migrated::NotEmpty),
+        Err(error) => return Err(CopyError::Fresh(error)),
+    }
+    let Some(format) = format_of(old.schema()) else {
+        return Ok(Migrated::BadSchema);
+    };
+    told_of(write_world(alloc, old, format, fresh))
+}
+
+/// Makes the fresh store one of all that a store of schema 1 or 2 has: each shelf but `common` becomes a team without a group.
+/// The older store is only read, a row at a time, and all rows are written in one transaction.
+///
+/// Fails with `NotEmpty` if the fresh store has another shelf, a key or an entry, otherwise with `BadSchema` if the tables of
+/// the older store are those of no older schema or stand for no world; with `Device` if a disk failed and with `Memory` if
+/// memory ran out. Then both stores are as they were. With the first, a crash leaves of the fresh store nothing that it did not
+/// leave before.
+pub fn migrate<S: Alter, F: Alter>(
+    old: &mut Connection<S>,
+    fresh: &mut SqlShelves<F>,
+) -> Result<(), Refusal>
+    ensures migrates { Migrates (state S.Store old.old) (state S.Store old.new)
+        (shown_with (state F.Store fresh.old.conn) fresh.old.kept) (shown_with (state F.Store fresh.new.conn) fresh.new.kept) result }
+    ensures no_fewer { fresh.old.failures ≤ fresh.new.failures }
+{
+    fresh.kept = Kept::new(fresh.alloc);
+    match migrate_rows(fresh.alloc, old, &mut fresh.conn) {
+        Ok(Migrated::Whole) => Ok(()),
+        Ok(Migrated::NotEmpty) => Err(Refusal::NotEmpty),
+        Ok(Migrated::BadSchema) => Err(Refusal::BadSchema),
+        Err(CopyError::Source(error)) => Err(open_refusal(error)),
+        Err(CopyError::Fresh(error)) => Err(told_as(fault(&mut fresh.failures, error))),
+    }
+}

@@ -1,0 +1,136 @@
+#!/usr/bin/env python3
+"""A migration onto a disk that is full, or that is killed, leaves the old store as it was, and a new store that has `common` alone or all.
+
+The sizes of the disks, small tmpfs, and the moments of the kills are random: --seed N repeats a run. The short form has 100 kills, --long 1,000.
+"""
+
+import os
+import random
+import shutil
+import subprocess
+import sys
+import time
+
+from harness import KEYS, PROGRAM, Suite, get, in_new_folders, mounted, raw_replies, run
+from migrate import OWN, SHARED, connected, files_of, put_entry, rows_of, settled
+from tables import order_key, rank_key
+
+
+def small_zips(file, count=60):
+    """Makes a store of schema 2 with so many versions of 40,000 bytes, and returns the requests for all of them."""
+    conn = connected(file)
+    for text in (*SHARED, *OWN[2]):
+        conn.execute(text)
+    conn.execute("BEGIN")
+    conn.execute("INSERT INTO meta VALUES ('schema', 2)")
+    conn.execute("INSERT INTO shelf VALUES ('common')")
+    conn.execute("INSERT INTO shelf VALUES ('alpha')")
+    conn.execute("INSERT INTO access VALUES (?, 'alpha', 1)", (KEYS["A"],))
+    for number in range(count):
+        version, gomod = f"v1.0.{number}", b"module example.com/many\n"
+        row = (number, "alpha", "example.com/many", version, None, gomod, order_key(version), rank_key(version))
+        put_entry(conn, 2, row, random.Random(number).randbytes(40_000))
+    conn.execute("COMMIT")
+    settled(conn)
+    targets = [f"example.com/many/@v/v1.0.{number}.zip" for number in range(count)]
+    return b"".join(get(it, KEYS["A"]) for it in (*targets, "example.com/many/@v/list", "example.com/many/@latest"))
+
+
+def is_common_alone(file):
+    """Whether a store is there that has `common` alone, or none."""
+    if not os.path.exists(file):
+        return True
+    rows = rows_of(file) if os.path.getsize(file) else ([[("schema", 3)], []], [("common", "")], [])
+    return rows == ([[("schema", 3)], []], [("common", "")], [])
+
+
+def full_disks(suite):
+    """A disk that is full midway: the old store is as it was, what is left of the new one is `common` alone, and with room it is taken."""
+    requests = small_zips("old.db")
+    before, wanted = files_of(), None
+    os.mkdir("small")
+    pages, disks = 1, 0
+    while is_mounted := mounted("small", pages * 4096):
+        new, on = "small/new.db", f"a disk of {pages} pages"
+        try:
+            told = run(["migrate", "--from", "old.db", "--to", new])
+            suite.holds(f"{on}: the old store is as it was", files_of() == before)
+            if told == (0, b"", ""):
+                wanted = run(["answer", "--db", new], requests)
+                break
+            suite.equal(f"{on}: it is full", told, (1, b"", "goshelf: device\n"))
+            subprocess.run(["mount", "-o", "remount,size=64m", "small"], check=True)
+            shutil.copytree("small", "left")
+            suite.holds(f"{on}: what is left has common alone", is_common_alone("left/new.db"))
+            shutil.rmtree("left")
+            suite.equal(f"{on}: with more room it is taken", run(["migrate", "--from", "old.db", "--to", new]), (0, b"", ""))
+            suite.holds(f"{on}: and is whole", len(rows_of(new)[2]) == 60)
+        finally:
+            subprocess.run(["umount", "small"], check=True)
+        pages, disks = pages + random.randrange(1, 120), disks + 1
+    if is_mounted:
+        suite.holds("some disks were full", disks > 2)
+        suite.holds("a disk with room has all", wanted[0] == 0 and len(raw_replies(wanted[1])) == 62 and {it.split()[1] for it in raw_replies(wanted[1])} == {b"200"})
+    else:
+        suite.skip("full disks", "no tmpfs can be mounted")
+
+
+def killed(words, wait):
+    """Runs goshelf and kills it after some seconds. Returns whether it had ended before."""
+    child = subprocess.Popen([PROGRAM, *words], stdout=subprocess.DEVNULL, stderr=subprocess.DEVNULL)
+    try:
+        child.wait(wait)
+        return True
+    except subprocess.TimeoutExpired:
+        child.kill()
+        child.wait()
+        return False
+
+
+def kills(suite):
+    """A kill at any moment: the old store is as it was, and the new one is `common` alone, which is taken, or the whole."""
+    requests = small_zips("old.db", 30)
+    before = files_of()
+    begun = time.monotonic()
+    assert run(["migrate", "--from", "old.db", "--to", "first.db"]) == (0, b"", "")
+    whole_run = time.monotonic() - begun
+    wanted, whole = run(["answer", "--db", "first.db"], requests), rows_of("first.db")
+    count, ends = (1_000 if "--long" in sys.argv else 100), {"none": 0, "common": 0, "whole": 0}
+    for turn in range(count):
+        words = ["migrate", "--from", "old.db", "--to", f"{turn}.db"]
+        was_done = killed(words, whole_run * 1.1 * random.random())
+        # a kill right after the old store was opened leaves its log, without a commit
+        if os.path.exists("old.db-wal") and os.path.getsize("old.db-wal") <= 41:
+            os.remove("old.db-wal")
+        wrong = None
+        if {name: it for name, it in files_of().items() if name.startswith("old.db")} != before:
+            wrong = "the old store is changed"
+        is_there = os.path.exists(f"{turn}.db")
+        again = run(words)
+        if again == (0, b"", "") and not was_done:
+            ends["common" if is_there else "none"] += 1
+        elif again == (1, b"", "goshelf: not-empty\n"):
+            ends["whole"] += 1
+        else:
+            wrong = f"the run after it ended as {again}"
+        if not wrong and rows_of(f"{turn}.db") != whole:
+            wrong = "the new store is not whole"
+        if not wrong and run(["answer", "--db", f"{turn}.db"], requests) != wanted:
+            wrong = "the new store answers otherwise"
+        suite.counts(f"kill {turn}", wrong)
+        for end in ("", "-wal"):
+            if os.path.exists(f"{turn}.db{end}"):
+                os.remove(f"{turn}.db{end}")
+    print(f"{count} kills: the new store was missing {ends['none']} times, not whole and taken {ends['common']} times, whole {ends['whole']} times")
+    suite.holds("some kills left a store that is taken", ends["common"] > 0)
+
+
+def main(words):
+    seed = int(words[words.index("--seed") + 1]) if "--seed" in words else time.time_ns() % 10**9
+    random.seed(seed)
+    print(f"seed {seed}")
+    return in_new_folders(Suite(), full_disks, kills)
+
+
+if __name__ == "__main__":
+    sys.exit(main(sys.argv[1:]))

@@ -1,0 +1,128 @@
+#!/usr/bin/env python3
+"""Time and memory of `goshelf migrate`, beside Python's sqlite3 that makes the same rows.
+
+Build the program first (`./goshelf --version`). A store of 100,000 versions and 1 GiB is made by sqlite3 in the tables of schema 1, and
+another in those of schema 2. Each is migrated, in turn with sqlite3, which writes the rows of today's tables in one transaction with
+synchronous FULL; from schema 1 it makes the keys of order and the pieces too. The program reads the whole older store when it opens it,
+which sqlite3 does not. The peak is that of the whole run; beside it stand the peaks of runs that open one of the two stores and are then
+refused. GOSHELF names another program. With --quick the stores are a tenth as large, and --rounds N makes N turns, in place of 5.
+"""
+
+import os
+import sqlite3
+import subprocess
+import sys
+import tempfile
+import time
+
+from extract import made, removed, rows, spread
+from store import gomod, keys
+
+sys.path.insert(0, os.path.join(os.path.dirname(os.path.abspath(__file__)), "..", "tests"))
+from harness import PROGRAM  # noqa: E402
+from migrate import OWN, PIECE, SHARED  # noqa: E402
+
+# a zip of one piece: 100,000 of them are 1 GiB
+ZIP = bytes(range(256)) * 41 + b"z" * 241
+TEAMS = [f"team{n}" for n in range(10)]
+OF_A_PATH = 4000
+
+
+def filled(file, schema, entries):
+    """A store of an older schema with so many versions, those of the teams by turns."""
+    conn = sqlite3.connect(file, isolation_level=None)
+    for text in (*SHARED, *OWN[schema]):
+        conn.execute(text)
+    conn.execute("BEGIN")
+    conn.execute("INSERT INTO meta VALUES ('schema', ?)", (schema,))
+    conn.execute("INSERT INTO shelf VALUES ('common')")
+    for team in TEAMS:
+        conn.execute("INSERT INTO shelf VALUES (?)", (team,))
+        conn.execute("INSERT INTO access VALUES (?, ?, 1)", (f"{team}key0000000001", team))
+    for n in range(entries):
+        team, place = TEAMS[n % len(TEAMS)], n // len(TEAMS)
+        path, version = f"example.com/m{place // OF_A_PATH}", f"v1.0.{place % OF_A_PATH}"
+        row = (n + 1, team, path, version, None, gomod(path))
+        if schema == 1:
+            conn.execute("INSERT INTO version VALUES (?, ?, ?, ?, ?, ?)", row)
+            conn.execute("INSERT INTO body VALUES (?, ?)", (n + 1, ZIP))
+        else:
+            conn.execute("INSERT INTO version VALUES (?, ?, ?, ?, ?, ?, ?, ?)", (*row, *keys(version)))
+            conn.execute("INSERT INTO piece VALUES (?, 0, ?)", (n + 1, ZIP))
+    conn.execute("COMMIT")
+    conn.close()
+
+
+def ran(status, *words):
+    """Seconds, seconds of the processor, and peak memory of a run of the program, which has to end with this status. What a child had
+    before it became the program counts for the peak of getrusage, so that is asked of the system while it runs."""
+    started, peak = time.monotonic(), 0
+    child = subprocess.Popen([PROGRAM, *words], stderr=subprocess.DEVNULL)
+    while not (ended := os.wait4(child.pid, os.WNOHANG))[0]:
+        with open(f"/proc/{child.pid}/status") as file:
+            peak = max([peak, *(int(line.split()[1]) for line in file if line.startswith("VmHWM"))])
+        time.sleep(0.005)
+    seconds = time.monotonic() - started
+    if os.waitstatus_to_exitcode(ended[1]) != status:
+        sys.exit(f"{words} ended with wait status {ended[1]}")
+    return seconds, ended[2].ru_utime + ended[2].ru_stime, peak / 1024
+
+
+def migrated(old, new):
+    """Seconds, seconds of the processor, and peak memory of a migration."""
+    removed(new)
+    return ran(0, "migrate", "--from", old, "--to", new)
+
+
+def copied(old, new, schema):
+    """Seconds of sqlite3, and of its processor, from the opening of both to the end of the transaction."""
+    removed(new)
+    started, used = time.monotonic(), time.process_time()
+    conn = made(new)
+    conn.execute("PRAGMA journal_mode = WAL")
+    conn.execute("PRAGMA synchronous = FULL")
+    conn.execute("ATTACH ? AS old", (old,))
+    conn.execute("BEGIN")
+    conn.execute("INSERT INTO shelf SELECT name, 'common' FROM old.shelf WHERE name <> 'common'")
+    conn.execute("INSERT INTO access SELECT * FROM old.access")
+    if schema == 2:
+        conn.execute("INSERT INTO version SELECT * FROM old.version")
+        conn.execute("INSERT INTO piece SELECT * FROM old.piece")
+    else:
+        whole = sqlite3.connect(old)
+        for *row, zip in whole.execute("SELECT v.id, shelf, path, version, time, mod, zip FROM version v JOIN body b ON b.id = v.id"):
+            conn.execute("INSERT INTO version VALUES (?, ?, ?, ?, ?, ?, ?, ?)", (*row, *keys(row[3])))
+            pieces = ((row[0], at // PIECE, zip[at : at + PIECE]) for at in range(0, len(zip), PIECE))
+            conn.executemany("INSERT INTO piece VALUES (?, ?, ?)", pieces)
+        whole.close()
+    conn.execute("COMMIT")
+    seconds = time.monotonic() - started, time.process_time() - used
+    conn.close()
+    return seconds
+
+
+def main(words):
+    entries = 10_000 if "--quick" in words else 100_000
+    rounds = int(words[words.index("--rounds") + 1]) if "--rounds" in words else 5
+    with tempfile.TemporaryDirectory(prefix="goshelf-migrate-") as folder:
+        for schema in (1, 2):
+            old, ours, theirs, other = (os.path.join(folder, f"{name}{schema}.db") for name in ("old", "ours", "theirs", "other"))
+            filled(old, schema, entries)
+            turns = [(*migrated(old, ours), *copied(old, theirs, schema)) for _ in range(rounds)]
+            if rows(ours) != rows(theirs):
+                sys.exit("the program and sqlite3 do not make the same rows")
+            seconds, used, peaks, beside, used_beside = zip(*turns)
+            print(f"schema {schema}, {entries:,} versions, {os.path.getsize(old) >> 20} MiB, medians of {rounds} turns: migrated in {spread(seconds, '.2f')} s,", end=" ")
+            print(f"by sqlite3 in {spread(beside, '.2f')} s, {spread([one / other for one, other in zip(seconds, beside)], '.2f')} times its time")
+            print(f"    of the processor {spread(used, '.2f')} s and {spread(used_beside, '.2f')} s", end=", ")
+            print(f"{spread([one / other for one, other in zip(used, used_beside)], '.2f')} times as much")
+            subprocess.run([PROGRAM, "team-add", "--db", other, "--team", "alpha"], check=True)
+            alone = ran(1, "migrate", "--from", old, "--to", other)[2], ran(1, "key-revoke", "--db", ours, "--key", "nosuchkey0000001")[2]
+            print(f"    peak {max(peaks):.1f} MiB; opening the old store alone {alone[0]:.1f} MiB, the new one alone {alone[1]:.1f} MiB;", end=" ")
+            print("three entries of the largest size are 51 MiB", flush=True)
+            for name in (old, ours, theirs, other):
+                removed(name)
+
+
+if __name__ == "__main__":
+    main(sys.argv[1:])

@@ -385,7 +385,7 @@ def removed(suite, copy, package):
     copy.sh(f"dpkg -i {copy.put(package)}; systemctl start goshelf")
     suite.equal("installed again, it has the version", ask(copy, f"{AT}/list"), "v1.0.0 200")
     suite.equal("a purge with the data ends without a word", by_apt(copy, "purge", GOSHELF_REMOVE_DATA="yes"), (0, ""))
-    found = copy.prints("getent passwd goshelf; getent group goshelf; find /etc /usr /var /run -xdev -name '*goshelf*'")
+    found = copy.prints("getent passwd goshelf; getent group goshelf; find /etc /usr /var /run -xdev -path /etc/netns -prune -o -name '*goshelf*' -print")
     suite.equal("it leaves nothing", found, "")
 
 

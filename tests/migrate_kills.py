@@ -37,11 +37,13 @@ def small_zips(file, count=60):
 
 
 def is_common_alone(file):
-    """Whether a store is there that has `common` alone, or none."""
+    """Whether a store is there that has `common` alone, or none: no file, or one without tables."""
     if not os.path.exists(file):
         return True
-    rows = rows_of(file) if os.path.getsize(file) else ([[("schema", 3)], []], [("common", "")], [])
-    return rows == ([[("schema", 3)], []], [("common", "")], [])
+    conn = connected(file)
+    tables = conn.execute("SELECT count(*) FROM sqlite_schema").fetchone()[0]
+    settled(conn)
+    return tables == 0 or rows_of(file) == ([[("schema", 3)], []], [("common", "")], [])
 
 
 def full_disks(suite):

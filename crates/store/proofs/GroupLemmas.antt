@@ -1,15 +1,14 @@
--- Groups that are kept, as one more is kept and as a shelf is made, and lists that are kept, as a group is made.
-use Rattle.std.proofs.Common.{◌≡◌, ◌∙◌, ℕ, List, [], ◌∷◌, get_or, Bool, true, false, cond, true≢false, Option, Some, None, is_some, inl, inr, refl, sym, ap}
+-- Groups that are kept, as one more is kept and as a shelf is made, and what a shelf sees, as a group is made.
+use Rattle.std.proofs.Common.{◌≡◌, ◌∙◌, ℕ, List, [], ◌∷◌, Bool, true, false, cond, true≢false, Option, Some, None, is_some, inl, inr, refl, sym, ap}
 use Rattle.std.specs.FinMap as map
 use Rattle.std.specs.FinSet as set
+use Rattle.std.specs.Option.{option_or}
 use Rattle.std.specs.Ordering.{eq_by_cmp}
 use Rattle.std.proofs.lemmas.Map.Views.{tells_apart}
-use Rattle.world.specs.declared.kept_lists.KeptList.{KeptList}
-use Rattle.world.specs.KeptLists.{AreLists}
 use Rattle.world.specs.Lines.{in_order}
 use Rattle.world.specs.Versions.{named, by_precedence, versions_of}
 use Rattle.world.specs.Visible.{versions_among, versions_on}
-use Rattle.world.specs.World.{World, text_cmp, group_in, group_of, above, chain, with_shelf, with_group}
+use Rattle.world.specs.World.{World, text_cmp, group_in, group_of, above, chain, place, seen_at, first_on, view, with_shelf, with_group}
 use Rattle.world.proofs.Orders.{texts_total, texts_exact}
 use Rattle.world.proofs.Sound.{at_or_before, stands_still, parent_still}
 use Rattle.store.specs.Groups.{Grouping, IsGroupOf, AreGroups}
@@ -50,10 +49,14 @@ module _ (w : World) (g : List ℕ) (free : map.contains_key w.shelves g ≡ fal
   on_same [] p = refl
   on_same (s ∷ ss) p = ap (set.union (versions_among s p (map.entries w.entries))) (on_same ss p)
 
-  same_versions : (s p : List ℕ) → versions_of (with_group w g) s p ≡ versions_of w s p
+  pub same_versions : (s p : List ℕ) → versions_of (with_group w g) s p ≡ versions_of w s p
   same_versions s p =
       ap (λ texts. in_order (by_precedence (named (in_order texts))))
       (on_same (chain (with_group w g) s) p ∙ ap (λ o. versions_on w (s ∷ above o) p) (same_group s))
 
-  pub lists_still : (lists : List KeptList) → AreLists w lists → AreLists (with_group w g) lists
-  lists_still lists are k d within = let list = get_or lists k d in are k d within ∙ sym (same_versions list.shelf list.path)
+  first_same : (ss : List (List ℕ)) (p v : List ℕ) → first_on (with_group w g) ss p v ≡ first_on w ss p v
+  first_same [] p v = refl
+  first_same (s ∷ ss) p v = ap (option_or (seen_at (map.get w.entries (place s p v)) s)) (first_same ss p v)
+
+  pub same_view : (s p v : List ℕ) → view (with_group w g) s p v ≡ view w s p v
+  same_view s p v = first_same (chain (with_group w g) s) p v ∙ ap (λ o. first_on w (s ∷ above o) p v) (same_group s)

@@ -1,10 +1,10 @@
 -- Where nothing is kept, what is kept is so.
 use Rattle.world.specs.World.{World}
 use Rattle.world.proofs.Counted.{empty_counts}
-use Rattle.world.proofs.KeptListLemmas.{no_lists}
 use Rattle.store.specs.declared.kept.Kept.{Kept}
 use Rattle.store.specs.Kept.{AreKept, IsNothing}
 use Rattle.store.proofs.GroupLemmas.{no_groups}
+use Rattle.store.proofs.ListLemmas.{no_lists}
 
 pub nothing_kept : (w : World) (kept : Kept) → IsNothing kept → AreKept w kept
 nothing_kept w kept none = (empty_counts w kept.counts none.0, no_lists w kept.lists none.1, no_groups w kept.groups none.2)

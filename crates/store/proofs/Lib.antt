@@ -1,5 +1,7 @@
 pub mod Texts
 pub mod GroupLemmas
+pub mod RecentLemmas
+pub mod ListLemmas
 pub mod KeptLemmas
 pub mod StoreLemmas
 pub mod FileLemmas

@@ -6,20 +6,19 @@ use Rattle.sqlite_trees.specs.View.{doubt}
 use Rattle.sqlite.specs.State.{State, HasCleanDisk}
 use Rattle.world.specs.declared.registry.StoreFault.{StoreFault}
 use Rattle.world.specs.World.{World, IsWorld, group_of, above, chain, with_shelf}
-use Rattle.world.specs.declared.kept_lists.KeptList.{KeptList}
 use Rattle.world.specs.Store.{Shown, Does, DoesWhere, DoesAt, Reads}
 use Rattle.world.specs.declared.registry.Registered.{Registered}
 use Rattle.world.specs.declared.registry.Registered.TheVariants.{Done, Name, Taken, NoTeam, NoKey, NoGroup}
 use Rattle.world.specs.declared.entry.Right.{Right}
 use Rattle.world.specs.Registry.{team_added, group_added, after_team_add, after_group_add, after_key_add, after_key_revoke}
-use Rattle.world.proofs.KeptListLemmas.{no_lists}
 use Rattle.world.proofs.Sound.{new_team, new_group}
 use Rattle.tables.specs.Means.{Stands, StandsFor}
 use Rattle.statements.specs.Calls.{Spares, LeavesOnly, ChangesAt}
 use Rattle.store.specs.Shown.{LeavesEither, shown_with}
 use Rattle.store.specs.declared.kept.Kept.{Kept}
 use Rattle.store.specs.Kept.{AreKept}
-use Rattle.store.proofs.GroupLemmas.{groups_still, lists_still}
+use Rattle.store.proofs.GroupLemmas.{groups_still}
+use Rattle.store.proofs.ListLemmas.{Kept as Lists, no_lists, lists_still}
 use Rattle.tables.proofs.FailureLemmas.{was_clean}
 
 pub narrow : (s : State) (w : World) → LeavesEither s w w → LeavesOnly s (λ x. x ≡ w)
@@ -141,7 +140,7 @@ refused old kept x value next same = record {
 -- ---- the commands of the registry leave what is kept, but for the lists of versions where a team is made
 
 module _ (w : World) (kept : Kept) (right : AreKept w kept) where
-  module _ (lists : List KeptList) (none : lists ≡ []) where
+  module _ (lists : Lists) (none : lists ≡ []) where
     pub kept_but_lists : AreKept w (record kept { lists = lists })
     kept_but_lists = (right.0, no_lists w lists none, right.2)
 

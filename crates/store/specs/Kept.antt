@@ -3,8 +3,8 @@ use Rattle.std.specs.Prelude.{◌≡◌, []}
 use Rattle.std.specs.FinMap as map
 use Rattle.world.specs.World.{World}
 use Rattle.world.specs.Counts.{AreCounts}
-use Rattle.world.specs.KeptLists.{AreLists}
 use Rattle.store.specs.Groups.{AreGroups}
+use Rattle.store.specs.Lists.{AreLists}
 use Rattle.store.specs.declared.kept.Kept.{Kept}
 
 -- what is kept is so in a world

@@ -1,4 +1,6 @@
 pub mod Groups
+pub mod Recent
+pub mod Lists
 pub mod Kept
 pub mod Shown
 pub mod Opened

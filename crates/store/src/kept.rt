@@ -4,16 +4,16 @@ ghost use Rattle.std.specs.Prelude.{◌≡◌};
 ghost use Rattle.store.specs.Kept.{IsNothing};
 
 use crate::groups::Groups;
+use crate::lists::Lists;
 use std::alloc::Global;
 use world::counts::Counts;
-use world::kept_lists::KeptLists;
 
 /// What was found since a store was opened. Nobody else writes, so it stays right.
 /// The counts are of the paths that were published to since then. No table has a column for them.
 #[derive(Drop)]
 pub(crate) struct Kept {
     pub(crate) counts: Counts,
-    pub(crate) lists: KeptLists,
+    pub(crate) lists: Lists,
     pub(crate) groups: Groups,
 }
 
@@ -24,7 +24,7 @@ impl Kept {
     {
         Kept {
             counts: Counts::new(alloc),
-            lists: KeptLists::new(alloc),
+            lists: Lists::no_lists(),
             groups: Groups::new(alloc),
         }
     }

@@ -15,7 +15,7 @@
 //! | `entry`, `heading` | `find_entry`, `find_heading` of `statements::entries`, along the chain of the shelf |
 //! | `compare` | `statements::compare::find_standing`, along the chain |
 //! | `versions` | `statements::visible::find_versions`, along the chain; asked once, and then kept until the path gets a version or a team is added |
-//! | `latest` | `versions`, and `heading` of the highest |
+//! | `latest` | `versions`, and `heading` of the highest; asked once, and then kept with the versions |
 //! | `paths` | `statements::visible::find_paths`, along the chain |
 //! | `count` | `statements::entries::count_entries`; asked once, and then kept |
 //! | `insert` | `statements::entries::add_entry` |
@@ -39,8 +39,10 @@ pub mod files;
 mod groups;
 mod kept;
 pub mod laws;
+mod lists;
 pub mod migrate;
 pub mod open;
 pub mod open_older;
+mod recent;
 pub mod refusal;
 pub mod store;

@@ -16,6 +16,7 @@ use crate::adopt::open_tables;
 use crate::chain::Chain;
 use crate::groups::{copied, group_in};
 use crate::kept::Kept;
+use crate::lists::Lists;
 use crate::refusal::Refusal;
 use modpath::ModulePath;
 use modver::Version;
@@ -28,7 +29,6 @@ use statements::visible::{find_paths, find_versions};
 use std::alloc::Global;
 use text::Text;
 use world::entry::{EntryRef, Heading, Holder, Right, Seen};
-use world::kept_lists::KeptLists;
 use world::names::{is_key, is_team_name};
 use world::reading::gomod_in;
 use world::registry::{Registered, StoreFault};
@@ -146,6 +146,9 @@ impl<S: Alter> Shelves for SqlShelves<S> {
     }
 
     fn versions(&mut self, shelf: &str, path: &ModulePath) -> Result<Versions, StoreFault> {
+        if let Some(versions) = self.kept.lists.versions(self.alloc, shelf, path.as_str()) {
+            return Ok(versions);
+        }
         let found = self.take_versions(shelf, path.as_str())?;
         self.kept
             .lists
@@ -154,6 +157,9 @@ impl<S: Alter> Shelves for SqlShelves<S> {
     }
 
     fn latest(&mut self, shelf: &str, path: &ModulePath) -> Result<Option<Version>, StoreFault> {
+        if let Some(latest) = self.kept.lists.latest(self.alloc, shelf, path.as_str()) {
+            return Ok(latest);
+        }
         let versions = self.take_versions(shelf, path.as_str())?;
         let Some(newest) = highest(versions.as_slice()) else {
             return Ok(None);
@@ -163,7 +169,7 @@ impl<S: Alter> Shelves for SqlShelves<S> {
         let latest = latest_left(self.alloc, versions.as_slice(), gomod)?;
         self.kept
             .lists
-            .keep(self.alloc, shelf, path.as_str(), versions);
+            .keep_with_latest(self.alloc, shelf, path.as_str(), versions, &latest);
         Ok(latest)
     }
 
@@ -208,7 +214,7 @@ impl<S: Alter> Shelves for SqlShelves<S> {
         ) {
             Ok(()) => {
                 self.kept.counts.raise(self.alloc, shelf, path.as_str());
-                self.kept.lists.forget(path.as_str());
+                self.kept.lists.forget(self.alloc, path.as_str());
                 Ok(())
             }
             Err(error) => Err(fault(&mut self.failures, error)),
@@ -220,7 +226,7 @@ impl<S: Alter> Shelves for SqlShelves<S> {
             return Ok(Registered::Name);
         }
         // A list that was asked of this name before lacks what the group of the team has.
-        self.kept.lists = KeptLists::new(self.alloc);
+        self.kept.lists = Lists::no_lists();
         match add_team(&mut self.conn, name, group) {
             Ok(registered) => Ok(registered),
             Err(error) => Err(fault(&mut self.failures, error)),
@@ -328,7 +334,7 @@ impl<S: Alter> SqlShelves<S> {
             (shown_with (state S.Store self.new.conn) self.new.kept) result (λ w. versions_of w shelf.now path.now) }
         ensures cause { HasCause self.old.failures self.new.failures result }
     {
-        if let Some(versions) = self.kept.lists.take(shelf, path) {
+        if let Some(versions) = self.kept.lists.take_versions(shelf, path) {
             return Ok(versions);
         }
         let group = self.group_of(shelf)?;

@@ -1,6 +1,6 @@
 use Rattle.std.proofs.Common.{Ok, Err, refl, subst}
 use Rattle.sqlite.specs.Held.{state}
-use Rattle.world.specs.KeptLists.{AreLists}
+use Rattle.store.specs.Lists.{AreLists}
 use Rattle.world.specs.World.{World, place, with_entry}
 use Rattle.modver.specs.SemanticVersion.{version_text}
 use Rattle.world.proofs.Sound.{entry_added}

@@ -1,0 +1,273 @@
+//! Lists of versions that are kept, and the latest version of each.
+
+ghost use Rattle.std.specs.Prelude.{◌≡◌, ◌⊎◌, [], false, bytes_eq, option_copied, IfOk, IfSome, IsTrue};
+ghost use Rattle.world.specs.World.{World, place, with_entry};
+ghost use Rattle.world.specs.Latest.{latest_of};
+ghost use Rattle.world.specs.Versions.{versions_of};
+ghost use Rattle.store.specs.Lists.{is_of, AreLists};
+ghost use Rattle.store.specs.Recent.{Holds};
+
+use crate::recent::Recent;
+use modver::Version;
+use std::alloc::{AllocError, Global};
+use std::hash::{FoldHasher, Hasher};
+use text::Text;
+use world::version_list::Versions;
+
+/// The most that all lists weigh. A version weighs one and takes some 200 bytes.
+/// The figure bounds the memory, not the answers: a heavier list is found again each time.
+const MOST_WEIGHT: usize = 65_536;
+
+/// What a list weighs beside its versions: its names, its latest version and its place among the others.
+/// So there are at most 7,281 lists. A publish goes over them.
+const LIST_WEIGHT: usize = 8;
+
+/// The versions of a path that a shelf sees, and the latest of them, if that was asked.
+#[derive(Drop)]
+pub(crate) struct KeptList {
+    pub(crate) shelf: Text,
+    pub(crate) path: Text,
+    pub(crate) versions: Versions,
+    pub(crate) latest: Option<Option<Version>>,
+}
+
+impl KeptList {
+    /// The list of a shelf and a path.
+    fn new(
+        alloc: Global,
+        shelf: &str,
+        path: &str,
+        versions: Versions,
+        latest: Option<Option<Version>>,
+    ) -> Result<KeptList, AllocError>
+        ensures { IfOk result (λ list. list
+            ≡ record { shelf = shelf.now; path = path.now; versions = versions; latest = latest }) }
+    {
+        Ok(KeptList {
+            shelf: Text::copy_of(alloc, shelf)?,
+            path: Text::copy_of(alloc, path)?,
+            versions,
+            latest,
+        })
+    }
+
+    /// Whether it is that of a shelf and a path.
+    fn is_of(&self, shelf: &str, path: &str) -> bool
+        ensures { result ≡ is_of shelf.now path.now self.now }
+    {
+        self.shelf.as_str() == shelf && self.path.as_str() == path
+    }
+
+    /// What it weighs.
+    fn weight(&self) -> usize {
+        self.versions.as_slice().len().saturating_add(LIST_WEIGHT)
+    }
+}
+
+/// Of some paths the versions that a shelf sees, in ascending precedence, and the latest of them. Where they have no
+/// room, those that were asked longest ago go.
+pub(crate) type Lists = Recent<KeptList>;
+
+impl Recent<KeptList> {
+    /// No list. It takes no memory.
+    pub(crate) fn no_lists() -> Lists
+        ensures { result ≡ [] }
+    {
+        Recent::new(MOST_WEIGHT)
+    }
+
+    /// A copy of the versions of a path that a shelf sees, if they are kept and there is memory for it.
+    pub(crate) fn versions(&mut self, alloc: Global, shelf: &str, path: &str) -> Option<Versions>
+        ensures others { (list : _) → Holds self.new list → Holds self.old list }
+        ensures found { IfSome result (λ versions. (w : World) → AreLists w self.old
+            → versions ≡ versions_of w shelf.now path.now) }
+    {
+        self.promote(number_of(shelf, path));
+        let list = self.list(shelf, path)?;
+        match copied(alloc, list.versions.as_slice()) {
+            Ok(copy) => Some(copy),
+            Err(_) => None,
+        }
+    }
+
+    /// A copy of the latest version of a path that a shelf sees, if it is kept and there is memory for it.
+    pub(crate) fn latest(
+        &mut self,
+        alloc: Global,
+        shelf: &str,
+        path: &str,
+    ) -> Option<Option<Version>>
+        ensures others { (list : _) → Holds self.new list → Holds self.old list }
+        ensures found { IfSome result (λ latest. (w : World) → AreLists w self.old
+            → latest ≡ latest_of w shelf.now path.now) }
+    {
+        self.promote(number_of(shelf, path));
+        let latest = self.list(shelf, path)?.latest.as_ref()?;
+        match copy_of(alloc, latest.as_ref()) {
+            Ok(copy) => Some(copy),
+            Err(_) => None,
+        }
+    }
+
+    /// Takes out the versions of a path that a shelf sees, if they are kept.
+    pub(crate) fn take_versions(&mut self, shelf: &str, path: &str) -> Option<Versions>
+        ensures others { (list : _) → Holds self.new list → Holds self.old list }
+        ensures taken { IfSome result (λ versions. (w : World) → AreLists w self.old
+            → versions ≡ versions_of w shelf.now path.now) }
+    {
+        let list = self.take(number_of(shelf, path))?;
+        if list.is_of(shelf, path) {
+            Some(list.versions)
+        } else {
+            None
+        }
+    }
+
+    /// Keeps a copy of the versions of a path that a shelf sees. Without memory for it they are not kept.
+    pub(crate) fn keep_copy(&mut self, alloc: Global, shelf: &str, path: &str, versions: &[Version])
+        ensures { (w : World) → AreLists w self.old → versions.now ≡ versions_of w shelf.now path.now → AreLists w self.new }
+    {
+        if let Ok(copies) = copied(alloc, versions) {
+            self.keep_list(alloc, shelf, path, copies, None);
+        }
+    }
+
+    /// Keeps the versions of a path that a shelf sees, and a copy of the latest of them. Without memory they are not kept.
+    pub(crate) fn keep_with_latest(
+        &mut self,
+        alloc: Global,
+        shelf: &str,
+        path: &str,
+        versions: Versions,
+        latest: &Option<Version>,
+    )
+        ensures { (w : World) → AreLists w self.old → versions ≡ versions_of w shelf.now path.now
+            → latest.now ≡ latest_of w shelf.now path.now → AreLists w self.new }
+    {
+        if let Ok(latest) = copy_of(alloc, latest.as_ref()) {
+            self.keep_list(alloc, shelf, path, versions, Some(latest));
+        }
+    }
+
+    /// Forgets the lists of a path, which gets one more version.
+    /// The lists of all shelves, because every shelf sees what is stored on `common`. Without memory to tell which
+    /// they are it forgets all.
+    pub(crate) fn forget(&mut self, alloc: Global, path: &str)
+        ensures { (w : World) (s v : _) (e : _) → AreLists w self.old
+            → AreLists (with_entry w (place s path.now v) e) self.new }
+    {
+        self.drop_on(alloc, path);
+        // One is left only where there was no memory for the numbers.
+        if self.has_path(path) {
+            *self = Lists::no_lists();
+        }
+    }
+}
+
+impl Recent<KeptList> {
+    /// The list of a shelf and a path, if it is kept.
+    fn list(&self, shelf: &str, path: &str) -> Option<&KeptList>
+        ensures held { IfSome result (λ list. Holds self.now list.now) }
+        ensures names { IfSome result (λ list. IsTrue (is_of shelf.now path.now list.now)) }
+    {
+        let list = self.get(number_of(shelf, path))?;
+        if list.is_of(shelf, path) {
+            Some(list)
+        } else {
+            None
+        }
+    }
+
+    /// Keeps a list, if it has versions: one without is soon found.
+    fn keep_list(
+        &mut self,
+        alloc: Global,
+        shelf: &str,
+        path: &str,
+        versions: Versions,
+        latest: Option<Option<Version>>,
+    )
+        ensures { (list : _) → Holds self.new list → Holds self.old list
+            ⊎ (list ≡ record { shelf = shelf.now; path = path.now; versions = versions; latest = latest }) }
+    {
+        if versions.as_slice().is_empty() {
+            return;
+        }
+        if let Ok(list) = KeptList::new(alloc, shelf, path, versions, latest) {
+            self.keep(alloc, number_of(shelf, path), list.weight(), list);
+        }
+    }
+
+    /// Drops the lists of a path, if there is memory to note which they are.
+    fn drop_on(&mut self, alloc: Global, path: &str)
+        ensures { (list : _) → Holds self.new list → Holds self.old list }
+    {
+        let Ok(numbers) = self.numbers_on(alloc, path) else {
+            return;
+        };
+        self.drop_all(numbers.as_slice());
+    }
+
+    /// Drops the lists under these numbers.
+    fn drop_all(&mut self, numbers: &[u64])
+        ensures { (list : _) → Holds self.new list → Holds self.old list }
+    {
+        for number in numbers {
+            self.drop_one(*number);
+        }
+    }
+
+    /// The numbers of the lists of a path.
+    fn numbers_on(&self, alloc: Global, path: &str) -> Result<Vec<u64>, AllocError> {
+        let mut numbers = Vec::new(alloc);
+        let Some(cache) = &self.cache else {
+            return Ok(numbers);
+        };
+        for (number, held) in cache {
+            if held.1.path.as_str() == path {
+                numbers.push(*number)?;
+            }
+        }
+        Ok(numbers)
+    }
+
+    /// Whether a list of a path is kept.
+    fn has_path(&self, path: &str) -> bool
+        ensures { result ≡ false → (list : _) → Holds self.now list → bytes_eq list.path path.now ≡ false }
+    {
+        let Some(cache) = &self.cache else {
+            return false;
+        };
+        cache.iter().any(|(_, held)| held.1.path.as_str() == path)
+    }
+}
+
+/// The number under which the list of a shelf and a path is found. Two that share one number take each other's place,
+/// and a list is told apart by its names.
+fn number_of(shelf: &str, path: &str) -> u64 {
+    let mut hasher = FoldHasher::default();
+    hasher.write(shelf.as_bytes());
+    hasher.write(path.as_bytes());
+    hasher.finish()
+}
+
+/// A copy of the versions.
+fn copied(alloc: Global, versions: &[Version]) -> Result<Versions, AllocError>
+    ensures { IfOk result (λ copy. copy ≡ versions.now) }
+{
+    let mut copies = Vec::with_capacity(alloc, versions.len())?;
+    for version in versions {
+        copies.push(version.copy(alloc)?)?;
+    }
+    Ok(Versions::new(copies))
+}
+
+/// A copy of a version, if there is one.
+fn copy_of(alloc: Global, version: Option<&Version>) -> Result<Option<Version>, AllocError>
+    ensures { IfOk result (λ copy. copy ≡ option_copied version.entry) }
+{
+    match version {
+        None => Ok(None),
+        Some(version) => Ok(Some(version.copy(alloc)?)),
+    }
+}

@@ -1,0 +1,163 @@
+//! Values that are kept, of which those that were asked longest ago go first.
+
+ghost use Rattle.std.specs.Prelude.{◌≡◌, ◌⊎◌, [], IfOk, IfSome};
+ghost use Rattle.std.specs.Option.{option_map_or};
+ghost use Rattle.store.specs.Recent.{Holds};
+
+use lru::LruCache;
+use std::alloc::{AllocError, Global};
+use std::marker::Model;
+
+/// Each value with its weight, those that were asked last first. It drops none by itself.
+type Cache<V> = LruCache<u64, (usize, V)>;
+
+/// Values under numbers, which together weigh at most a fixed figure. Where one more has no room, those that were asked
+/// longest ago go. Contracts see each with its number and its weight.
+#[derive(Drop)]
+pub(crate) struct Recent<V> {
+    pub(crate) cache: Option<Cache<V>>,
+    weight: usize,
+    most: usize,
+}
+
+impl<V> Model for Recent<V> {
+    ghost use Rattle.std.specs.Prelude.{ℕ, ◌≤◌, List, []};
+    ghost use Rattle.std.specs.Coded.{coded_list, coded×, coded_ℕ};
+    ghost use Rattle.std.specs.Option.{option_map_or};
+    ghost use Rattle.store.specs.Recent.{weight_in};
+
+    ghost Value = { List (ℕ × (ℕ × V)) };
+
+    ghost coded = { coded_list (coded× coded_ℕ (coded× coded_ℕ V.code)) };
+
+    ghost view = { λ r. option_map_or (λ cache. cache.entries) r.cache [] };
+
+    ghost invariant = { λ r. (weight_in (option_map_or (λ cache. cache.entries) r.cache []) ≤ r.weight) × (r.weight ≤ r.most) };
+}
+
+impl<V> Recent<V> {
+    /// No value; together they are to weigh at most so much. It takes no memory.
+    pub(crate) fn new(most: usize) -> Recent<V>
+        ensures { result ≡ [] }
+    {
+        Recent {
+            cache: None,
+            weight: 0,
+            most,
+        }
+    }
+
+    /// The value under a number, if there is one.
+    pub(crate) fn get(&self, number: u64) -> Option<&V>
+        ensures { IfSome result (λ value. Holds self.now value.now) }
+    {
+        let held = self.cache.as_ref()?.peek(&number)?;
+        Some(&held.1)
+    }
+
+    /// Makes the value under a number the one that was asked last, if there is one.
+    pub(crate) fn promote(&mut self, number: u64)
+        ensures { (v : _) → Holds self.new v → Holds self.old v }
+    {
+        let Some(cache) = &mut self.cache else {
+            return;
+        };
+        cache.promote(&number);
+    }
+
+    /// Takes out the value under a number, if there is one.
+    pub(crate) fn take(&mut self, number: u64) -> Option<V>
+        ensures others { (v : _) → Holds self.new v → Holds self.old v }
+        ensures taken { IfSome result (Holds self.old) }
+    {
+        let Some(cache) = &mut self.cache else {
+            return None;
+        };
+        let (_, (weight, value)) = cache.pop_entry(&number)?;
+        self.weight = self.weight.saturating_sub(weight);
+        Some(value)
+    }
+}
+
+impl<V: Drop> Recent<V> {
+    /// Keeps a value of this weight under a number, in the place of the one that was there. Without memory it is not
+    /// kept, nor is one that weighs more than all may.
+    pub(crate) fn keep(&mut self, alloc: Global, number: u64, weight: usize, value: V)
+        ensures { (v : _) → Holds self.new v → Holds self.old v ⊎ (v ≡ value) }
+    {
+        if weight > self.most {
+            return;
+        }
+        self.drop_one(number);
+        self.make_room(weight);
+        self.put(alloc, number, weight, value);
+    }
+
+    /// Drops the value under a number, if there is one.
+    pub(crate) fn drop_one(&mut self, number: u64)
+        ensures { (v : _) → Holds self.new v → Holds self.old v }
+    {
+        drop(self.take(number));
+    }
+
+    /// Drops the values that were asked longest ago, until one of this weight has room.
+    fn make_room(&mut self, weight: usize)
+        ensures { (v : _) → Holds self.new v → Holds self.old v }
+    {
+        for _ in 0..self.len() {
+            if weight <= self.most - self.weight {
+                return;
+            }
+            self.drop_last();
+        }
+    }
+
+    /// How many values there are.
+    fn len(&self) -> usize {
+        match &self.cache {
+            Some(cache) => cache.len(),
+            None => 0,
+        }
+    }
+
+    /// Drops the value that was asked longest ago, if there is one.
+    fn drop_last(&mut self)
+        ensures { (v : _) → Holds self.new v → Holds self.old v }
+    {
+        let Some(cache) = &mut self.cache else {
+            return;
+        };
+        if let Some((_, (weight, value))) = cache.pop_lru() {
+            self.weight = self.weight.saturating_sub(weight);
+            drop(value);
+        }
+    }
+
+    /// Puts in a value of this weight, if it has room and there is memory.
+    fn put(&mut self, alloc: Global, number: u64, weight: usize, value: V)
+        ensures { (v : _) → Holds self.new v → Holds self.old v ⊎ (v ≡ value) }
+    {
+        if weight > self.most - self.weight {
+            return;
+        }
+        let Ok(mut cache) = cache_or_new(alloc, self.cache.take()) else {
+            return;
+        };
+        let Ok(_) = cache.put(number, (weight, value)) else {
+            self.cache = Some(cache);
+            return;
+        };
+        self.weight += weight;
+        self.cache = Some(cache);
+    }
+}
+
+/// The cache, or where there is none an empty one.
+fn cache_or_new<V>(alloc: Global, cache: Option<Cache<V>>) -> Result<Cache<V>, AllocError>
+    ensures { IfOk result (λ made. made.entries ≡ option_map_or (λ old. old.entries) cache []) }
+{
+    match cache {
+        Some(cache) => Ok(cache),
+        None => LruCache::unbounded(alloc),
+    }
+}

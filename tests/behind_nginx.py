@@ -166,6 +166,7 @@ def strangers(suite, client):
     for name, header in bad.items():
         status, body = client.ask("GET", target, header)
         suite.holds(f"{name}: 401, in plain text", status == 401 and body.startswith(b"log in: "), (status, body))
+        time.sleep(0.21)  # (nginx lets strangers ask five times a second)
     suite.equal("a stranger's publish", client.ask("PUT", f"{AT}/v8.0.0", None, GOMOD, {"Mod-Length": str(len(GOMOD))})[0], 401)
     suite.equal("a key in the URL is no login", client.ask("GET", f"/k/{keys_of(client.machine)[0]}{AT}/list", None)[0], 401)
     suite.equal("nor is it with a login", client.get(f"/k/{keys_of(client.machine)[0]}{AT}/list")[0], 404)

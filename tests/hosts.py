@@ -19,7 +19,7 @@ from machine import PLACES, Machine, block
 NEW_NET = 0x40000000
 LIBC = ctypes.CDLL(None, use_errno=True)
 CERTIFICATE = """openssl req -x509 -newkey ec -pkeyopt ec_paramgen_curve:P-256 -nodes -days 2 -subj /CN={name} \
-    -addext subjectAltName=DNS:{name} -out /etc/ssl/goshelf.pem -keyout /etc/ssl/goshelf.key"""
+    -addext subjectAltName={names} -out /etc/ssl/goshelf.pem -keyout /etc/ssl/goshelf.key"""
 
 
 def ip(*words):
@@ -65,8 +65,10 @@ class Host(Machine):
         """Takes the host's cable out, or puts it in again."""
         ip("-n", self.namespace, "link", "set", "eth0", "up" if up else "down")
 
-    def certificate(self):
-        self.does(CERTIFICATE.format(name=self.name))
+    def certificate(self, *more):
+        """Makes a certificate for the host's name and more names, and returns it."""
+        names = ",".join(f"DNS:{it}" for it in (self.name, *more))
+        self.does(CERTIFICATE.format(name=self.name, names=names))
         return self.read("etc/ssl/goshelf.pem")
 
     def stop_nginx(self):

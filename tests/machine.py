@@ -27,8 +27,10 @@ start)
     echo $! > "@/serve.pid"
     until grep -qs '^listening on' "@/serve.out"; do kill -0 $! || exit 1; sleep 0.05; done ;;
 stop)
+    [ -e "@/serve.pid" ] || exit 0
     kill "$(cat "@/serve.pid")"
-    while kill -0 "$(cat "@/serve.pid")" 2> /dev/null; do sleep 0.02; done ;;
+    while kill -0 "$(cat "@/serve.pid")" 2> /dev/null; do sleep 0.02; done
+    rm "@/serve.pid" ;;
 esac
 """
 NGINX_CONF = """\

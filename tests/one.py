@@ -40,8 +40,10 @@ KEPT = re.compile(r"/@v/[^/]+\.(info|mod|zip)$|^/-/gosum/")
 class Company:
     """The hosts, the users, and what was published."""
 
+    fronts, more_names = FRONTS, ()
+
     def __init__(self, folder):
-        self.network = Network(folder, (*FRONTS, DESK))
+        self.network = Network(folder, (*self.fronts, DESK))
         self.hosts, self.seed = self.network.hosts, random.Random(7)
         self.first, self.published = self.hosts[FIRST], set()
         try:
@@ -51,19 +53,23 @@ class Company:
             raise
 
     def start(self):
-        certificates = {name: self.hosts[name].certificate() for name in FRONTS}
+        certificates = {name: self.hosts[name].certificate(*self.more_names) for name in self.fronts}
         done("init", "--db", self.first.store)
         done("group-add", "--db", self.first.store, "--group", "platform")
         done("team-add", "--db", self.first.store, "--team", "alpha", "--group", "platform")
         done("team-add", "--db", self.first.store, "--team", "beta")
         self.first.does("systemctl start goshelf")
         set_up_first(self.first)
-        for name in (SITE, OTHER):
-            set_up_site(self.hosts[name], certificates[FIRST])
+        for name in self.fronts[1:]:
+            self.set_up(self.hosts[name], certificates[FIRST])
         self.desk = Desk(self.network, DESK, certificates.values())
         for user in USERS:
             self.desk.add(self.first, *user)
         self.first.reload()
+
+    def set_up(self, host, certificate):
+        """Sets a host up that is not the first, whose certificate is given."""
+        set_up_site(host, certificate)
 
     def key(self, user):
         """The key by which the first host asks for a user, by its maps."""
@@ -77,11 +83,11 @@ class Company:
                 return socket.create_connection(("127.0.0.1", self.first.behind), 30)
         return asked(connect, f"/k/{self.key(user)}{target}")
 
-    def put(self, user, path, version, size=2_000, at=SITE, body=None):
-        """Publishes by a host, with a zip of random bytes unless a body is given."""
+    def put(self, user, path, version, size=2_000, at=None, body=None):
+        """Publishes by a host, the second unless one is named, with a zip of random bytes unless a body is given."""
         head = re.sub("!(.)", lambda it: it[1].upper(), f"module {path}\n").encode()
         body = body or self.seed.randbytes(size)
-        told = self.desk.ask(at, user, f"/{path}/@v/{version}", "PUT", head + body, {"Mod-Length": str(len(head))})
+        told = self.desk.ask(at or self.fronts[1], user, f"/{path}/@v/{version}", "PUT", head + body, {"Mod-Length": str(len(head))})
         if told[0] in (200, 201):
             self.published.add((path, version))
         return told[0], told[2]
@@ -98,9 +104,9 @@ class Company:
         """What the store itself answers to each user."""
         return {(user, target): self.own(user, target) for user in users for target in self.targets()}
 
-    def differing(self, wanted, fronts=FRONTS, failures=()):
+    def differing(self, wanted, fronts=None, failures=()):
         """The answers of hosts that are not the wanted ones, apart from failures: statuses that a host may give in their place."""
-        told = ((at, *it, self.desk.ask(at, *it)) for at in fronts for it in wanted)
+        told = ((at, *it, self.desk.ask(at, *it)) for at in fronts or self.fronts for it in wanted)
         return [(at, user, target, found[0], wanted[user, target][0]) for at, user, target, found in told
                 if found != wanted[user, target] and found[0] not in failures]
 
@@ -140,8 +146,9 @@ def set_up_site(site, certificate):
     site.start_nginx()
 
 
-def equal(suite, company, name, fronts=FRONTS, users=READERS):
+def equal(suite, company, name, fronts=None, users=READERS):
     """A row: every answer of these hosts is the store's own. Returns the store's answers."""
+    fronts = fronts or company.fronts
     wanted = company.answers(users)
     found = company.differing(wanted, fronts)
     suite.equal(f"{name}: of {len(wanted) * len(fronts)} answers 0 differ from the store's", found, [])

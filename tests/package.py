@@ -22,7 +22,7 @@ RELEASE = os.path.join(ROOT, "tools", "release")
 VERSION = os.path.join(ROOT, "crates", "command_line", "src", "version.rt")
 UNIT = os.path.join(ROOT, "deploy", "systemd", "goshelf.service")
 # files that a release has among others
-WANTED = {"README.md", "copyright", "docs/OPERATING.md", "docs/REFERENCE.md", "bench/RESULTS.md", "deploy/systemd/goshelf.service"}
+WANTED = {"README.md", "copyright", "docs/OPERATING.md", "docs/REFERENCE.md", "bench/RESULTS.md", "deploy/systemd/goshelf.service", "deploy/warm/goshelf-warm"}
 # the settings of a command on the copy
 SETTINGS = ["PATH=/usr/local/sbin:/usr/local/bin:/usr/sbin:/usr/bin:/sbin:/bin", "DEBIAN_FRONTEND=noninteractive", "LC_ALL=C", "HOME=/root"]
 # the rating of systemd-analyze below which the unit has to stay

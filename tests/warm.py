@@ -1,0 +1,312 @@
+#!/usr/bin/env python3
+"""deploy/warm, broken and healed: a host that answers from a copy of the store; every answer is compared with the first host's store.
+
+The hosts are network namespaces (hosts.py). The files of deploy/ run as they are, set up by the commands of the pages.
+"""
+
+import os
+import re
+import shlex
+import shutil
+import subprocess
+import sys
+import time
+
+from go_client import module
+from harness import Suite, done, read, write
+from hosts import wait_until
+from machine import block
+from one import DESK, FIRST, KEPT, equal
+from warm_hosts import BOTH, COPY, HOME, NOT_WHOLE, PAGE, WARM, play, publishes, store_of
+
+NEEDS = ["curl", "flock", "ip", "nginx", "openssl", "pgrep", "sqlite3"]
+
+
+def before_the_copy(suite, company):
+    """The warm host has no store yet: the first host answers."""
+    company.maps(block("sh", "echo '20 * * * *", PAGE).partition("\n")[0])
+    suite.equal("publishes at the warm host", publishes(company, "v1.0.0"), {(201, b"published\n")})
+    suite.equal("a version whose name ends like a file's", {company.put("pub", "example.com/lib", f"v1.0.0-rc.{it}") for it in ("zip", "mod", "info")}, {(201, b"published\n")})
+    equal(suite, company, "no copy")
+
+
+def first_copy(suite, company):
+    """The commands of the page make a copy and have cron make the next ones. Then the copy answers."""
+    warm = company.warm
+    told = warm.sh(block("sh", "echo '20 * * * *", PAGE))
+    suite.equal("a copy comes without a word", told, (0, "", ""))
+    lines = [it.split() for it in warm.read("etc/cron.d/goshelf-warm").splitlines()]
+    script = f"{warm.folder}/usr/local/bin/goshelf-warm"
+    suite.equal("the lines for cron", [it[5:] for it in lines], [["root", script, "store"], ["root", script, "maps"]])
+    for it in lines:
+        words = ["ip", "netns", "exec", warm.namespace, "sh", "-c", " ".join(it[6:])]
+        ran = subprocess.run(words, env={"PATH": "/usr/sbin:/usr/bin:/bin"}, cwd="/", capture_output=True, text=True, timeout=60)
+        suite.equal(f"{it[7]} by cron", (ran.returncode, ran.stdout, ran.stderr), (0, "", ""))
+    modes = {it: os.stat(f"{warm.folder}/{it}").st_mode & 0o77 for it in (f"{HOME}/shelves.db", f"{HOME}/versions", "etc/nginx/goshelf/keys.map")}
+    suite.equal("only their owner may read them", set(modes.values()), {0})
+    suite.equal("nothing is left at the first host", os.listdir(f"{company.first.folder}/var/backups/goshelf"), [])
+    wanted = equal(suite, company, "a copy")
+    begun = len(company.lines(FIRST, 0))
+    kept = {it: answer for it, answer in wanted.items() if answer[0] == 200 and KEPT.search(it[1])}
+    suite.equal(f"{len(kept)} files", company.differing(kept, (WARM,)), [])
+    suite.equal("for which the first host is not asked", company.lines(FIRST, begun), [])
+    suite.equal("strangers get nothing", {company.desk.ask(WARM, None, it)[0] for it in ("/example.com/lib/@v/v1.0.0.zip", "/example.com/lib/@v/list")}, {401})
+    suite.equal("nor does who has another password", {company.desk.ask(WARM, None, it, headers={"Authorization": "Basic YW5uOng="})[0] for it in ("/example.com/lib/@v/v1.0.0.zip", "/x")}, {401})
+    heads = [company.desk.ask(at, "ann", "/example.com/lib/@v/v1.0.0.zip", "HEAD") for at in company.fronts]
+    suite.equal("a HEAD", heads[1], heads[0])
+    for it in ("PUT", "POST", "DELETE"):
+        told = [company.desk.ask(at, "pub", "/example.com/lib/@v/v1.0.0.zip", it, b"x") for at in company.fronts]
+        suite.equal(f"a {it} of a file", told[1], told[0])
+    suite.equal("the copy's health", company.desk.ask(WARM, None, "/healthz")[::2], (200, b"ok\n"))
+
+
+def old_copy(suite, company):
+    """A copy that is a day old: what was published since comes from the first host, and fails while that is down."""
+    copied = company.copy()
+    suite.equal("publishes after the copy", publishes(company, "v1.1.0"), {(201, b"published\n")})
+    suite.equal("other bytes of a version that the copy has", company.put("pub", "example.com/lib", "v1.0.0")[0], 409)
+    suite.equal("who reads may not publish", company.put("ann", "example.com/lib", "v2.0.0")[0], 403)
+    wanted = equal(suite, company, "an old copy")
+    store = store_of(company.warm)
+    company.first.does("systemctl stop goshelf")
+    suite.equal("the first goshelf is stopped: the copy's files, and failures as the page says", company.alone(wanted, copied, wanted), [])
+    suite.equal("a publish fails", company.put("pub", "example.com/lib", "v1.2.0")[0], 502)
+    suite.equal("also one whose name ends like a file's", company.put("pub", "example.com/lib", "v1.2.0-rc.zip")[0], 502)
+    company.first.stop_nginx()
+    suite.equal("and the first nginx: the same", company.alone(wanted, copied), [])
+    suite.equal("health is the copy's", [company.desk.ask(it, None, "/healthz")[0] for it in company.fronts], [0, 200])
+    company.first.does("systemctl start goshelf")
+    company.first.start_nginx()
+    company.back()
+    equal(suite, company, "both are back")
+    company.first.link(False)
+    begun = time.time()
+    suite.equal("the first host is cut off: the same", company.alone(wanted, copied), [])
+    suite.holds("and soon", time.time() - begun < 60, time.time() - begun)
+    told = company.warm.sh("goshelf-warm store")
+    suite.holds("a copy says that none comes", told[0] == 1 and NOT_WHOLE in told[1], told)
+    suite.holds("a publish fails", company.put("pub", "example.com/lib", "v1.2.0")[0] == 502)
+    company.first.link(True)
+    company.back()
+    equal(suite, company, "the line is back")
+    suite.equal("what failed left nothing", company.own("ann", "/example.com/lib/@v/v1.2.0.mod")[0], 404)
+    suite.equal("the copy was not written to", store_of(company.warm), store)
+
+
+def copy_down(suite, company):
+    """goshelf of the warm host is stopped: the first host answers."""
+    company.warm.does("systemctl stop goshelf")
+    equal(suite, company, "the copy's goshelf is stopped")
+    suite.equal("its health", company.desk.ask(WARM, None, "/healthz")[0], 502)
+    company.warm.does("systemctl start goshelf")
+    equal(suite, company, "it runs again")
+
+
+def go_goes_on(suite, company):
+    """The go command builds while one of the hosts is down, whichever its name leads to first."""
+    if not shutil.which("go"):
+        suite.skip("the go command while a host is down", "the machine has no go")
+        return
+    path, version, gomod, zipped = module("example.com/greet", "v1.0.0")
+    told = company.desk.ask(WARM, "pub", f"/{path}/@v/{version}", "PUT", gomod + zipped, {"Mod-Length": str(len(gomod))})
+    suite.equal("a module for the go command", told[0], 201)
+    company.copy()
+    desk = company.hosts[DESK]
+    public = static(f"{desk.folder}/public", module("golang.example/tool", "v1.0.0"))
+    desk.write("root/.netrc", f"machine {BOTH} login ann password {company.desk.passwords['ann']}\n")
+    write({f"{desk.folder}/etc/ssl/hosts.pem": "".join(company.hosts[name].read("etc/ssl/goshelf.pem") for name in company.fronts)})
+    proxies = shlex.split(block("sh", f"GOPROXY=https://{BOTH}", PAGE))[-1].removeprefix("GOPROXY=").replace("https://proxy.golang.org,direct", f"file://{public}")
+    settings = {"GOPROXY": proxies, "GONOSUMDB": "*", "GOFLAGS": "-modcacherw", "GOTOOLCHAIN": "local", "SSL_CERT_FILE": f"{desk.folder}/etc/ssl/hosts.pem"}
+    app = "mkdir -p app; cd app; printf 'module app\\n\\ngo 1.17\\n\\nrequire (\\n\\texample.com/greet v1.0.0\\n\\tgolang.example/tool v1.0.0\\n)\\n' > go.mod; go mod download all"
+    hosts, names = f"/etc/netns/{desk.namespace}/hosts", read(f"/etc/netns/{desk.namespace}/hosts").decode()
+    for down, stops, starts in ((FIRST, company.first.stop_nginx, company.first.start_nginx), (WARM, company.warm.stop_nginx, company.warm.start_nginx)):
+        up = next(it for it in company.fronts if it != down)
+        write({hosts: names + "".join(f"{company.hosts[it].address} {BOTH}\n" for it in (down, up))})
+        stops()
+        cache = f"{desk.folder}/go-{down}"
+        told = desk.sh(app, GOPATH=cache, GOCACHE=f"{desk.folder}/gocache", **settings)
+        have = [os.path.exists(f"{cache}/pkg/mod/cache/download/{it}/@v/v1.0.0.zip") for it in ("example.com/greet", "golang.example/tool")]
+        suite.equal(f"the go command fetches a shelf's module and another while {down} is down", (told[0], have), (0, [True, True])) or print(told)
+        status, printed, errors = desk.sh("go list -m -versions example.com/greet", GOPATH=cache, GOCACHE=f"{desk.folder}/gocache", **settings)
+        wanted = (1, "", True) if down == FIRST else (0, "example.com/greet v1.0.0\n", False)
+        suite.equal(f"a list while {down} is down", (status, printed, "502" in errors), wanted)
+        starts()
+    write({hosts: names})
+    company.back()
+
+
+def static(folder, them):
+    """A folder that serves one module as a proxy, and its name."""
+    path, version, gomod, zipped = them
+    at = f"{folder}/{path}/@v"
+    os.makedirs(at)
+    write({f"{at}/list": f"{version}\n", f"{at}/{version}.info": f'{{"Version":"{version}"}}', f"{at}/{version}.mod": gomod, f"{at}/{version}.zip": zipped})
+    return folder
+
+
+def under_way(suite, company):
+    """The first goshelf is killed, and the first host cut off, while a large publish is under way at the warm host."""
+    company.copy()
+    first, outcomes = company.first, []
+
+    def kill():
+        company.kill()
+        time.sleep(0.1)
+        first.does("systemctl start goshelf")
+
+    def cut():
+        first.link(False)
+        time.sleep(1)
+        first.link(True)
+
+    harms = [(True, 0, kill), *((False, it, kill) for it in (0, 0.03, 0.06, 0.1, 0.2, 0.4)), (False, 0, cut), (False, 0.03, cut)]
+    for number, (half, wait, harm) in enumerate(harms):
+        path, body = f"example.com/large{number}", company.seed.randbytes(8_000_000)
+        told = sent(company, path, body, half, wait, harm)
+        company.back()
+        mine = company.own("pub", f"/{path}/@v/v1.0.0.zip")
+        is_there = mine[0] == 200 and mine[2] == body
+        again = [company.put("pub", path, "v1.0.0", body=body) for _ in range(2)]
+        outcomes.append((told, mine[0]))
+        good = (is_there or mine[0] == 404) and (told != 201 or is_there) and told in (201, 502, 504)
+        name = f"{harm.__name__} {wait} s after {'half of ' if half else ''}a publish was sent (it got {told}, then the version {'is there' if is_there else 'is not there'})"
+        suite.equal(f"{name}: whole or not at all, and again", (good, [it[0] for it in again]), (True, [200 if is_there else 201, 200]))
+        found = [company.desk.ask(at, "ann", f"/{path}/@v/v1.0.0.zip")[2] == body for at in company.fronts]
+        suite.equal("both hosts have its bytes then", found, [True, True])
+    suite.holds("some were lost and some kept", len({status for _, status in outcomes}) == 2, outcomes)
+    company.published -= {(f"example.com/large{number}", "v1.0.0") for number in range(1, 9)}
+    equal(suite, company, "publishes under way")
+
+
+def sent(company, path, body, is_half, wait, harm):
+    """The status that a publish gets during which harm is done: behind half of it, or so many seconds after all of it was sent."""
+    head = f"module {path}\n".encode()
+    text = f"PUT /{path}/@v/v1.0.0 HTTP/1.1\r\nHost: {WARM}\r\nAuthorization: {company.desk.login('pub')}\r\nConnection: close\r\n"
+    text += f"Mod-Length: {len(head)}\r\nContent-Length: {len(head + body)}\r\n\r\n"
+    whole = text.encode() + head + body
+    with company.desk.connect(WARM, 90) as held:
+        held.sendall(whole[: len(whole) // 2 if is_half else None])
+        time.sleep(wait)
+        harm()
+        held.sendall(whole[len(whole) // 2 :] if is_half else b"")
+        reply = held.makefile("rb").readline().split()
+        return int(reply[1]) if reply else 0
+
+
+def removed(suite, company):
+    """A user who is removed, one removed while the warm host is cut off, and maps that nginx refuses."""
+    first, warm, zip_file = company.first, company.warm, "/example.com/lib/@v/v1.0.0.zip"
+    remove = block("sh", 'sed -i "/ $user ')
+    company.copy()
+    company.desk.add(first, "tom", "alpha", "read")
+    first.reload()
+    suite.equal("a new user is known here with the maps", [company.desk.ask(it, "tom", zip_file)[0] for it in company.fronts], [200, 401])
+    company.maps()
+    suite.equal("then also here", [company.desk.ask(it, "tom", zip_file)[0] for it in company.fronts], [200] * 2)
+    first.does(remove, user="tom")
+    first.reload()
+    suite.equal("removed: at the first host", company.desk.ask(FIRST, "tom", zip_file)[0], 401)
+    suite.equal("what the copy lacks", company.desk.ask(WARM, "tom", "/example.com/lib/@v/list")[0], 401)
+    suite.equal("what the copy has, until the maps come", company.desk.ask(WARM, "tom", zip_file)[0], 200)
+    company.maps()
+    suite.equal("and once they came", [company.desk.ask(WARM, "tom", it)[0] for it in (zip_file, "/example.com/lib/@v/list")], [401, 401])
+    company.desk.add(first, "tom", "alpha", "read")
+    first.reload()
+    company.maps()
+    warm.link(False)
+    first.does(remove, user="tom")
+    first.reload()
+    told = warm.sh("goshelf-warm maps")
+    suite.holds("no maps come while the host is cut off, and it says so", told[0] == 1 and "no whole copy of the first host's maps came" in told[1], told)
+    warm.link(True)
+    wait_until(lambda: company.desk.ask(WARM, "tom", zip_file)[0] == 200)
+    suite.holds("until it is back and they come, the copy answers", True)
+    company.maps()
+    suite.equal("then nothing", company.desk.ask(WARM, "tom", zip_file)[0], 401)
+    good = first.read("etc/nginx/goshelf/users.map")
+    first.write("etc/nginx/goshelf/users.map", good + '"Basic QQ==" "half a line')
+    told = warm.sh("goshelf-warm maps")
+    suite.holds("maps that nginx refuses are named", told[0] == 1 and told[1] == "goshelf-warm: nginx refuses the first host's maps: the old ones stay\n", told)
+    suite.equal("the old ones stay", (warm.read("etc/nginx/goshelf/users.map") == good, warm.sh("nginx -q -t")[0], sorted(os.listdir(f"{warm.folder}/etc/nginx/goshelf"))),
+                (True, 0, ["keys.map", "users.map"]))
+    first.write("etc/nginx/goshelf/users.map", good)
+    suite.equal("the same maps again", warm.sh("goshelf-warm maps"), (0, "", ""))
+    equal(suite, company, "users")
+
+
+def key_revoked(suite, company):
+    """A key that the store alone revoked: the copy answers it until its line is out of the map, or until the next copy."""
+    first, old = company.first, company.key("bob")
+    wanted, copied = company.answers(("bob",)), company.copy()
+    first.does("systemctl stop goshelf")
+    done("key-revoke", "--db", first.store, "--key", old)
+    first.does("systemctl start goshelf")
+    found = {it: company.desk.ask(WARM, *it) for it in wanted}
+    wrong = [it for it, answer in found.items() if answer != wanted[it] and (it in copied or answer[0] != 404)]
+    suite.equal("a key that the store revoked: the copy's files as before, all else a 404", wrong, [])
+    first.edit("etc/nginx/goshelf/keys.map", (f'"beta read" {old};\n', ""))
+    first.reload()
+    company.maps()
+    time.sleep(2)
+    statuses = {company.desk.ask(WARM, "bob", target)[0] for _, target in wanted}
+    suite.holds("its line is out of the map: nothing", statuses <= {401, 429}, statuses)
+    first.edit("etc/nginx/goshelf/keys.map", ('"beta publish"', f'"beta read" {old};\n"beta publish"'))
+    first.reload()
+    company.maps()
+    company.warm.does("goshelf-warm store")
+    wanted = {it: company.desk.ask(FIRST, *it) for it in wanted}
+    suite.equal("its line is back, with a copy made since: what the first host answers", company.differing(wanted, (WARM,)), [])
+    new = "betasnewkey00001"
+    first.does("systemctl stop goshelf")
+    done("key-add", "--db", first.store, "--shelf", "beta", "--key", new, "--read-only")
+    first.does("systemctl start goshelf")
+    first.edit("etc/nginx/goshelf/keys.map", (f'"beta read" {old};', f'"beta read" {new};'))
+    first.reload()
+    company.maps()
+    equal(suite, company, "a new key, which the copy lacks")
+    company.copy()
+    equal(suite, company, "a new key, which the copy has")
+
+
+def restored(suite, company):
+    """The first host's store is put back from a backup: the copy has what it lacks, until the command of the page."""
+    first = company.first
+    first.does("systemctl stop goshelf")
+    for it in COPY:
+        shutil.copyfile(f"{first.folder}/{HOME}/{it}", f"{first.folder}/root/{it}")
+    first.does("systemctl start goshelf")
+    suite.equal("a publish after the backup", company.put("pub", "example.com/lib", "v1.90.0")[0], 201)
+    company.copy()
+    first.does("systemctl stop goshelf")
+    for it in COPY:
+        shutil.copyfile(f"{first.folder}/root/{it}", f"{first.folder}/{HOME}/{it}")
+    first.does("systemctl start goshelf")
+    first.does(block("sh", "$goshelf_shelf", PAGE))
+    first.reload()
+    target = "/example.com/lib/@v/v1.90.0.zip"
+    suite.equal("the first host lacks it, the copy has it", [company.desk.ask(at, "ann", target)[0] for at in company.fronts], [404, 200])
+    status, printed, _ = company.warm.sh("goshelf-warm store")
+    suite.holds("the next copy is refused, and it says why", status == 1 and "alpha|example.com/lib|v1.90.0|" in printed, (status, printed))
+    suite.equal("the command of the page", company.warm.sh(block("sh", "rm /var/lib/goshelf/versions", PAGE)), (0, "", ""))
+    suite.equal("then neither has it", [company.desk.ask(at, "ann", target)[0] for at in company.fronts], [404, 404])
+    company.published -= {("example.com/lib", "v1.90.0")}
+    equal(suite, company, "a restored store")
+
+
+def promoted(suite, company):
+    """The first host is lost: the warm host becomes the first, by the commands of the page."""
+    warm = company.warm
+    company.copy()
+    wanted = company.answers()
+    company.first.link(False)
+    before = warm.workers()
+    warm.does(block("sh", "rm /etc/cron.d/goshelf-warm", PAGE))
+    wait_until(lambda: warm.workers() and not before & warm.workers())
+    company.desk.kept.clear()
+    suite.equal("the warm host answers all as the first did", company.differing(wanted, (WARM,)), [])
+    suite.equal("and takes publishes", [company.put("pub", "example.com/lib", "v1.99.0")[0], company.desk.ask(WARM, "ann", "/example.com/lib/@latest")[0]], [201, 200])
+    company.first.link(True)
+
+
+if __name__ == "__main__":
+    sys.exit(play(Suite(), (before_the_copy, first_copy, old_copy, copy_down, go_goes_on, removed, key_revoked, restored, under_way, promoted)))

@@ -163,6 +163,9 @@ module _ (sql : List ℕ) (params : Row) (plain : IsPlain (understood store_sche
     pub none_same : QueriesRow sql params mid new (Err QueryReturnedNoRows) → new.now ≡ old.now
     none_same ran = (shown_unchanged sql params mid new (mid_plain w held) [] (no_rows_shown sql params mid new (mid_plain w held) ran)).0.now_is ∙ same_now
 
+    pub rows_open : (rows : List Row) → Shown sql params mid new rows → IsTrue new.is_open
+    rows_open rows shown = (shown_unchanged sql params mid new (mid_plain w held) rows shown).0.is_open
+
     pub none_open : QueriesRow sql params mid new (Err QueryReturnedNoRows) → IsTrue new.is_open
     none_open ran = (shown_unchanged sql params mid new (mid_plain w held) [] (no_rows_shown sql params mid new (mid_plain w held) ran)).0.is_open
 

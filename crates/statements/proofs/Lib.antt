@@ -21,6 +21,7 @@ pub mod VisibleLemmas
 pub mod RevokeLemmas
 pub mod DifferLemmas
 pub mod PairLemmas
+pub mod ShelfListLemmas
 pub mod ExtractLemmas
 pub mod CopyKeyLemmas
 pub mod CopyRowLemmas

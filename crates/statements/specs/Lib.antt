@@ -8,3 +8,4 @@ pub mod Lists
 pub mod Pairs
 pub mod Extract
 pub mod Numbers
+pub mod Shelves

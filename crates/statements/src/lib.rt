@@ -37,5 +37,7 @@ mod pieces;
 pub mod query;
 pub mod registry;
 pub mod revoke;
+pub mod shelf_list;
+pub mod shelves;
 pub mod transaction;
 pub mod visible;

@@ -49,6 +49,8 @@ pub(crate) fn find_rows<S: Alter>(
     ensures rows { InEachWorld (state S.Store conn.old) (state S.Store conn.new) (λ old _ w.
         IfOk result (λ rows. IsTrue old.is_open
         × Reads (command_of (understood store_schema sql.now)) old.now (bound params.now) rows.items)) }
+    ensures open { InEachWorld (state S.Store conn.old) (state S.Store conn.new) (λ _ new w.
+        OnOk result (IsTrue new.is_open)) }
 {
     // A connection that is shut refuses this, so the next line finds the tables.
     conn.prepare(sql)?;

@@ -65,7 +65,7 @@ pub fn find_key<S: Alter>(conn: &mut Connection<S>, token: &str) -> Result<Optio
 }
 
 /// What a row of `shelf` shows of the parent.
-fn read_parent(row: &Row) -> Result<Option<Text>, Error>
+pub(crate) fn read_parent(row: &Row) -> Result<Option<Text>, Error>
     ensures { IfOk result (λ parent. column row.now 0 ≡ or_null StoredText parent) }
 {
     let parent: Option<String> = row.get(0)?;

@@ -1,10 +1,11 @@
--- The part of a team, written whole or not at all, as a call of a store.
-use Rattle.std.proofs.Common.{◌≡◌, ◌≢◌, ◌≤◌, ℕ, List, Bool, true, false, IsTrue, Option, Some, None, Result, Ok, Err, IsErr, is_ok, inl, inr, refl, sym, subst, arith, true≢false}
+-- Some shelves, written whole or not at all, as a call of a store.
+use Rattle.std.proofs.Common.{◌≡◌, ◌≢◌, ◌≤◌, ℕ, List, [], ◌∷◌, ◌++◌, Bool, true, false, IsTrue, Option, Result, Ok, Err, IsErr, is_ok, inl, inr, refl, sym, subst, arith, true≢false}
 use Rattle.sqlite_trees.specs.View.{doubt}
 use Rattle.sqlite.specs.State.{State, HasCleanDisk, KeepsCommit, Survives}
-use Rattle.world.specs.Part.{part, IsTeam}
-use Rattle.world.specs.World.{World, IsWorld, group_of, only_common}
-use Rattle.world.proofs.Parts.{part_is_world}
+use Rattle.sqlite.specs.Tree.{Trees}
+use Rattle.world.specs.Part.{IsTeam}
+use Rattle.world.specs.Store.{Shown}
+use Rattle.world.specs.World.{World, IsWorld, common, only_common}
 use Rattle.tables.specs.Means.{Stands, StandsFor}
 use Rattle.tables.proofs.FailureLemmas.{was_clean}
 use Rattle.std.specs.Prelude.{OnOk, OnErr}
@@ -13,12 +14,19 @@ use Rattle.store.specs.Shown.{shown_of, shown_with}
 use Rattle.store.specs.declared.kept.Kept.{Kept}
 use Rattle.store.specs.Kept.{AreKept, IsNothing}
 use Rattle.store.proofs.KeptLemmas.{nothing_kept}
-use Rattle.statements.specs.Rows.{Filling, GoesOn, Writing}
-use Rattle.statements.specs.Extract.{IsReady, Copies, PutsShelf}
+use Rattle.statements.specs.Rows.{Filling, Writing}
+use Rattle.statements.specs.Extract.{IsReady, Copies, PutsShelf, Along}
 use Rattle.statements.proofs.ChangeLemmas.{when_ok}
-use Rattle.statements.proofs.ExtractLemmas.{copies_none}
+use Rattle.statements.proofs.ExtractLemmas.{copies_none, goes_on_if}
+use Rattle.statements.proofs.GoingLemmas.{goes_on_itself, goes_on_then}
+use Rattle.statements.specs.Shelves.{names_of, AreShelves}
+use Rattle.statements.specs.declared.shelf_list.Shelf.{Shelf}
 use Rattle.statements.proofs.RowLemmas.{filling_of, writing_of}
-use Rattle.store.specs.Extracted.{PutsTeam, MakesPart, is_written, IsRead, IsUnfit, Tells, ExtractsAt, Extracts}
+use Rattle.store.specs.Extracted.{IsRead, IsUnfit, Tells as TellsOne, Extracts}
+use Rattle.store.specs.Parts.{part_of, AreTeams, Puts, PutsShelves, MakesPart, is_written, what, Tells, FillsAt, FillsBy, ExtractsTeams}
+use Rattle.store.specs.declared.choice.Wanted.{Wanted}
+use Rattle.store.specs.declared.choice.Wanted.TheVariants as wanted
+use Rattle.store.proofs.PartLemmas.{chains_world, part_of_one}
 use Rattle.store.specs.declared.extract_judge.Judged.{Judged}
 use Rattle.statements.specs.declared.extract_rows.CopyError.{CopyError}
 use Rattle.store.specs.declared.refusal.Refusal.{Refusal}
@@ -61,23 +69,28 @@ is_read a b spares = record {
   left = λ clean w x y stands only db may. only db (spares.left clean w stands.0 db may);
 }
 
-pub fault_tells : (w x : World) (team : List ℕ) (r : Refusal) → r ≢ refusal.BadSchema → r ≢ refusal.NotEmpty → r ≢ refusal.NoTeam → Tells w x team (Err r)
-fault_tells w x team refusal.Device a b c = tt
-fault_tells w x team refusal.Memory a b c = tt
-fault_tells w x team refusal.BadSchema a b c = absurd (a refl)
-fault_tells w x team refusal.NotEmpty a b c = absurd (b refl)
-fault_tells w x team refusal.NoTeam a b c = absurd (c refl)
+pub fault_tells : (There : Type 0) (x : World) (r : Refusal) → r ≢ refusal.BadSchema → r ≢ refusal.NotEmpty → r ≢ refusal.NoTeam → Tells There x (Err r)
+fault_tells There x refusal.Device a b c = tt
+fault_tells There x refusal.Memory a b c = tt
+fault_tells There x refusal.BadSchema a b c = absurd (a refl)
+fault_tells There x refusal.NotEmpty a b c = absurd (b refl)
+fault_tells There x refusal.NoTeam a b c = absurd (c refl)
 
-pub extracts_at : (old new : State) (w x : World) (team : List ℕ) (result : Result (Unit {0}) Refusal) → HasCleanDisk new → StandsFor old x → IsWorld w
-    → ChangesAt old new (is_ok result) x (part w team) → Tells w x team result → ExtractsAt (shown_of old) (shown_of new) w x team result
-extracts_at old new w x team (Ok u) clean stands is change tells = record {
+-- what is wanted of a world is a world
+pub what_is_world : (it : Wanted) (w : World) → IsWorld w → IsWorld (what it w)
+what_is_world (wanted.Teams ts) w is = chains_world w _ is
+what_is_world wanted.All w is = is
+
+pub fills_at : (old new : State) (There : Type 0) (next x : World) (result : Result (Unit {0}) Refusal) → HasCleanDisk new → StandsFor old x → IsWorld next
+    → ChangesAt old new (is_ok result) x next → Tells There x result → FillsAt (shown_of old) (shown_of new) There next x result
+fills_at old new There next x (Ok u) clean stands is change tells = record {
   tells = tells;
-  ok = (change.world stands.0, part_is_world w team is);
+  ok = (change.world stands.0, is);
   err = tt;
   left = λ only. change.left clean stands.0 (narrow old x only);
   kept = λ only db may. let it = change.kept refl clean stands.0 db may in (it.0, it.1, inl it.2);
 }
-extracts_at old new w x team (Err e) clean stands is change tells = record {
+fills_at old new There next x (Err e) clean stands is change tells = record {
   tells = tells;
   ok = tt;
   err = (change.world stands.0, stands.1);
@@ -85,41 +98,54 @@ extracts_at old new w x team (Err e) clean stands is change tells = record {
   kept = λ _. tt;
 }
 
--- the shelves are put in, and the source is not touched
-pub team_copied : {A E : Type 0} (r : Result A E) (team : List ℕ) (group : Option (List ℕ)) (s a b : State) → GoesOn a b (is_ok r) → (HasCleanDisk b → Filling a → OnOk r (PutsTeam team group a.now.trees b.now.trees × Filling b))
-    → Copies (λ _. PutsTeam team group) s s a b (is_ok r)
-team_copied r team group s a b goes_on puts = record {
-  clean = omega arith;
-  reads = λ ready. let read = (copies_none s a).reads ready in record { left = read.left; kept = read.kept; same = λ clean _. read.same clean refl };
-  goes_on = goes_on;
-  makes = λ clean good ready w means filling done. when_ok r done (puts good filling);
+-- ---- shelves that are put in
+
+pub puts_if : {A E : Type 0} (r : Result A E) (name : List ℕ) (parent : Option (List ℕ)) (a b : State) → Survives a b (λ _. ⊥) → (HasCleanDisk b → IsTrue a.in_transaction → KeepsCommit a b)
+    → (HasCleanDisk b → IsTrue a.in_transaction → OnOk r (IsTrue b.in_transaction)) → (HasCleanDisk b → Filling a → OnOk r (PutsShelf name parent a.now.trees b.now.trees × Filling b)) → Puts (PutsShelf name parent) a b (is_ok r)
+puts_if r name parent a b survives kept inside puts = record { goes_on = goes_on_if r a b survives kept inside; makes = λ clean filling done. when_ok r done (puts clean filling) }
+
+pub puts_none : (a : State) → Puts (PutsShelves []) a a true
+puts_none a = record { goes_on = goes_on_itself a; makes = λ _ filling _. (refl, filling) }
+
+puts_more : (shelves : List Shelf) (s : Shelf) (db mid after : Trees) → PutsShelves shelves db mid → PutsShelf s.name s.parent mid after → PutsShelves (shelves ++ s ∷ []) db after
+puts_more [] s db mid after same put = (after, subst (λ t. PutsShelf s.name s.parent t after) (sym same) put, refl)
+puts_more (t ∷ shelves) s db mid after puts put = (puts.0, puts.1, puts_more shelves s puts.0 mid after puts.2 put)
+
+pub puts_then : (shelves : List Shelf) (s : Shelf) (a b c : State) → Puts (PutsShelves shelves) a b true → Puts (PutsShelf s.name s.parent) b c true → Puts (PutsShelves (shelves ++ s ∷ [])) a c true
+puts_then shelves s a b c p q = record {
+  goes_on = goes_on_then a b c true p.goes_on q.goes_on;
+  makes = λ clean filling all.
+      let one = p.makes (was_clean b c q.goes_on.survives.clean clean) filling refl in
+      let two = q.makes clean one.1 all in
+      (puts_more shelves s a.now.trees b.now.trees c.now.trees one.0 two.0, two.1);
 }
 
--- nothing is said of a transaction whose statement failed, but what it leaves
-pub goes_on_failed : {A E : Type 0} (r : Result A E) (a b : State) → IsErr r → Survives a b (λ _. ⊥) → (HasCleanDisk b → IsTrue a.in_transaction → KeepsCommit a b) → GoesOn a b (is_ok r)
-goes_on_failed (Ok x) a b failed survives kept = absurd (true≢false (sym failed))
-goes_on_failed (Err e) a b failed survives kept = record { survives = survives; kept = kept; inside = λ _ _ all. absurd (true≢false (sym all)) }
+-- where not all was done, nothing is said of what it makes
+pub puts_failed : {A E : Type 0} (r : Result A E) (P Q : Trees → Trees → Type 0) (R : Trees → Trees → Type 0) (a b c : State) → IsErr r → Puts P a b true → Puts Q b c false → Puts R a c (is_ok r)
+puts_failed (Ok x) P Q R a b c failed p q = absurd (true≢false (sym failed))
+puts_failed (Err e) P Q R a b c failed p q = record { goes_on = goes_on_then a b c false p.goes_on q.goes_on; makes = λ _ _ all. absurd (true≢false (sym all)) }
 
--- a shelf is put in, and then another
-module _ {A E : Type 0} (r : Result A E) (team group : List ℕ) (a b c : State) (first : GoesOn a b true) (put : HasCleanDisk b → Filling a → PutsShelf group None a.now.trees b.now.trees × Filling b) where
-  pub team_put : GoesOn b c (is_ok r) → (HasCleanDisk c → Filling b → OnOk r (PutsShelf team (Some group) b.now.trees c.now.trees × Filling c)) → HasCleanDisk c → Filling a
-      → OnOk r (PutsTeam team (Some group) a.now.trees c.now.trees × Filling c)
-  team_put then puts clean filling =
-      let one = put (was_clean b c then.survives.clean clean) filling in
-      with_first r one.0 (puts clean one.1)
-    where
-      with_first : {A E : Type 0} (r : Result A E) → PutsShelf group None a.now.trees b.now.trees → OnOk r (PutsShelf team (Some group) b.now.trees c.now.trees × Filling c) → OnOk r (PutsTeam team (Some group) a.now.trees c.now.trees × Filling c)
-      with_first (Ok x) one two = ((b.now.trees, one, two.0), two.1)
-      with_first (Err e) one two = tt
+-- the source is not touched
+pub puts_copied : (P : Trees → Trees → Type 0) (s a b : State) (done : Bool) → Puts P a b done → Copies (λ _. P) s s a b done
+puts_copied P s a b done p = record {
+  clean = omega arith;
+  reads = λ ready. let read = (copies_none s a).reads ready in record { left = read.left; kept = read.kept; same = λ clean _. read.same clean refl };
+  goes_on = p.goes_on;
+  makes = λ clean good ready w means filling all. p.makes good filling all;
+}
 
--- within the transaction the part is written
-pub part_written : (s t a b : State) (done : Bool) (w : World) (team : List ℕ) (group : Option (List ℕ)) → Copies (MakesPart team group) s t a b done → IsReady s → HasCleanDisk t → HasCleanDisk b → Stands s w → IsWorld w
-    → IsTeam w team → group_of w team ≡ group → IsTrue done → Writing a only_common → Writing b (part w team)
-part_written s t a b done w team group fills ready clean good stands is has of all writing =
+-- so for the first alone
+pub along_one : {E X : Type 0} (P : E → X → X → X → Type 0) (e : E) (w x z : X) → P e w x z → Along P (e ∷ []) w x z
+along_one P e w x z it = (z, it, refl)
+
+-- within the transaction the shelves are written
+pub part_written : (s t a b : State) (done : Bool) (w : World) (shelves : List Shelf) → Copies (MakesPart shelves) s t a b done → IsReady s → HasCleanDisk t → HasCleanDisk b → Stands s w → IsWorld w
+    → AreShelves w shelves → IsTrue done → Writing a only_common → Writing b (part_of w (common ∷ names_of shelves))
+part_written s t a b done w shelves fills ready clean good stands is are all writing =
     let was = was_clean s t fills.clean clean in
     let means = (stands was (ready was).0).trees.means in
     let it = fills.makes clean good ready w means (filling_of a only_common writing) all in
-    writing_of b (part w team) it.1 (it.0 w means is has of writing.trees)
+    writing_of b (part_of w (common ∷ names_of shelves)) it.1 (it.0 w means is are writing.trees)
 
 -- ---- with what the stores keep
 
@@ -132,10 +158,10 @@ on_err_both A (Ok u) b a = tt
 on_err_both A (Err e) b a = (a, b)
 
 -- the source keeps what it kept, and the fresh store nothing
-pub extracts_kept : (a a_new b b_new : State) (kept kept_new old new : Kept) (team : List ℕ) (r : Result (Unit {0}) Refusal) → kept_new ≡ kept
-    → IsNothing new → Extracts (shown_of a) (shown_of a_new) (shown_of b) (shown_of b_new) team r
-    → Extracts (shown_with a kept) (shown_with a_new kept_new) (shown_with b old) (shown_with b_new new) team r
-extracts_kept a a_new b b_new kept kept_new old new team r same none does = record {
+pub fills_kept : (There : World → Type 0) (next : World → World) (a a_new b b_new : State) (kept kept_new old new : Kept) (r : Result (Unit {0}) Refusal) → kept_new ≡ kept
+    → IsNothing new → FillsBy There next (shown_of a) (shown_of a_new) (shown_of b) (shown_of b_new) r
+    → FillsBy There next (shown_with a kept) (shown_with a_new kept_new) (shown_with b old) (shown_with b_new new) r
+fills_kept There next a a_new b b_new kept kept_new old new r same none does = record {
   reads = record {
     honest = does.reads.honest;
     stays = λ h w so. (does.reads.stays h w so.0, subst (AreKept w) (sym same) so.1);
@@ -151,9 +177,43 @@ extracts_kept a a_new b b_new kept kept_new old new team r same none does = reco
       let it = does.at h good w x sw.0 sx.0 in
       record {
         tells = it.tells;
-        ok = on_ok_both (StandsFor b_new (part w team)) r (nothing_kept (part w team) new none) it.ok;
+        ok = on_ok_both (StandsFor b_new (next w)) r (nothing_kept (next w) new none) it.ok;
         err = on_err_both (StandsFor b_new x) r (nothing_kept x new none) it.err;
         left = it.left;
         kept = it.kept;
+      };
+}
+
+-- ---- one team
+
+not_none : (t : List ℕ) (ts : List (List ℕ)) → t ∷ ts ≡ [] → ⊥
+not_none t ts e = cc e
+
+one_team : (w : World) (t : List ℕ) → IsTeam w t → AreTeams w (t ∷ [])
+one_team w t is = (not_none t [], λ u there. elim there [ inl same ↦ subst (IsTeam w) (sym same) is | inr none ↦ absurd none ])
+
+one_tells : (w x : World) (t : List ℕ) (r : Result (Unit {0}) Refusal) → Tells (AreTeams w (t ∷ [])) x r → TellsOne w x t r
+one_tells w x t (Ok u) h = (h.0.1 t (inl refl), h.1)
+one_tells w x t (Err refusal.NoTeam) h = λ is. h (one_team w t is)
+one_tells w x t (Err refusal.NotEmpty) h = (h.0.1 t (inl refl), h.1)
+one_tells w x t (Err refusal.BadSchema) h = absurd h
+one_tells w x t (Err refusal.Device) h = tt
+one_tells w x t (Err refusal.Memory) h = tt
+
+-- the part of one team alone is that of the team
+pub extracts_one : (source source_new fresh fresh_new : Shown) (t : List ℕ) (r : Result (Unit {0}) Refusal) → ExtractsTeams (t ∷ []) source source_new fresh fresh_new r → Extracts source source_new fresh fresh_new t r
+extracts_one source source_new fresh fresh_new t r does = record {
+  reads = does.reads;
+  honest = does.honest;
+  spares = does.spares;
+  at = λ h good w x sw sx.
+      let it = does.at h good w x sw sx in
+      let same = part_of_one w t in
+      record {
+        tells = one_tells w x t r it.tells;
+        ok = subst (λ p. OnOk r (fresh_new.stands p)) same it.ok;
+        err = it.err;
+        left = λ only. subst (fresh_new.leaves x) same (it.left only);
+        kept = λ only. subst (λ p. OnOk r (fresh_new.leaves p p)) same (it.kept only);
       };
 }

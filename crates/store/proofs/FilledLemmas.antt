@@ -1,8 +1,8 @@
--- What was copied makes the part of a world that a team sees.
+-- What was copied makes a world of some shelves.
 use Rattle.std.proofs.Common.{◌≡◌, ℕ, List, [], ◌∷◌, filter, Bool, true, false, cond, Option, Some, None, inl, inr, refl, sym, ap, subst, ◌∙◌, arith, true≢false}
-use Rattle.std.specs.Prelude.{bytes_eq, ◌||◌, unwrap_or}
+use Rattle.std.specs.Prelude.{bytes_eq, ◌||◌}
 use Rattle.std.specs.FinMap as map
-use Rattle.std.proofs.lemmas.Bool.{or_cases, false_from_ne_true}
+use Rattle.std.proofs.lemmas.Bool.{false_from_ne_true}
 use Rattle.std.proofs.lemmas.Map.Text.{is_eq-slice_cmp}
 use Rattle.sqlite.specs.declared.types.Value.TheVariants.{Text}
 use Rattle.sqlite.specs.Collation.TheVariants.{Binary}
@@ -10,15 +10,13 @@ use Rattle.sqlite.specs.Order.{Row, column}
 use Rattle.sqlite.specs.Tree.{Trees, rowid}
 use Rattle.sqlite_schema.specs.Rules.{equal}
 use Rattle.sqlite_rules.specs.Lists.{Has}
-use Rattle.sqlite_rules.proofs.ListLemmas.{some_has, some_from, has_filtered, has_kept}
+use Rattle.sqlite_rules.proofs.ListLemmas.{has_filtered, has_kept}
 use Rattle.world.specs.declared.entry.Place.{Place}
 use Rattle.world.specs.declared.entry.Entry.{Entry}
 use Rattle.world.specs.declared.entry.Holder.{Holder}
-use Rattle.world.specs.World.{World, IsWorld, common, group_in, group_of, above, chain, is_among, sees, text_cmp, place_cmp, with_group, with_team, only_common}
-use Rattle.world.specs.Part.{part, is_held}
-use Rattle.world.proofs.Orders.{texts_total, texts_exact, text_self, text_same}
-use Rattle.world.proofs.Parts.{parent_at, key_at, entry_at, held_key, held_entry}
-use Rattle.world.proofs.Sees.{only_common as among_common}
+use Rattle.world.specs.World.{World, common, is_among, text_cmp, place_cmp, with_shelf, only_common}
+use Rattle.world.specs.Part.{is_held}
+use Rattle.world.proofs.Orders.{texts_total, texts_exact, text_same}
 use Rattle.tables.specs.Means.{Means, StandFor, Tabulates, IsVersion, IsShelf, IsAccess, IsEachPlaceOnce, IsEachPieceOnce, ArePieces, is_of}
 use Rattle.tables.specs.Schema.{version_table, piece_table}
 use Rattle.tables.proofs.OneWorld.{same_got}
@@ -26,20 +24,17 @@ use Rattle.tables.proofs.Maps.{none_in_empty}
 use Rattle.tables.proofs.SoundLemmas.{piece_version}
 use Rattle.statements.specs.Rows.{IsRead, IsOfAny, piece_read, AreApart, PutsRows, version_read}
 use Rattle.statements.specs.Extract.{AddsKeys, Along, CopiesKeys, CopiesVersions, CopiesPieces, IsVersionOn, IsPieceOn, OfWorlds, Then}
-use Rattle.store.specs.Extracted.{PutsTeam, MakesPart}
+use Rattle.statements.specs.Shelves.{names_of, behind, AreNew, AreShelves}
+use Rattle.statements.specs.declared.shelf_list.Shelf.{Shelf}
+use Rattle.statements.proofs.ShelfListLemmas.{among_all}
+use Rattle.store.specs.Parts.{part_of, PutsShelves, MakesPart}
+use Rattle.store.proofs.PartLemmas.{is_there, has_there, parent_at, key_at, entry_at, held_key, held_entry}
 use Rattle.statements.proofs.CopyKeyLemmas.{keys_of_none, keys_of_more}
 use Rattle.statements.proofs.RowLemmas.{puts_along, of_as, same_pieces}
 
 kept_in : {X : Type 0} (b : Bool) (o : Option X) (x : X) → b ≡ true → o ≡ Some x → cond b o None ≡ Some x
 kept_in true o x h e = e
 kept_in false o x h e = absurd (true≢false (sym h))
-
--- the shelves that the team sees are those of its chain
-is_seen : (w : World) (t s : List ℕ) → Has (chain w t) s → sees w t s ≡ true
-is_seen w t s h = some_from (bytes_eq s) (chain w t) s h (text_self s)
-
-has_seen : (w : World) (t s : List ℕ) → sees w t s ≡ true → Has (chain w t) s
-has_seen w t s seen = let it = some_has (bytes_eq s) (chain w t) seen in subst (Has (chain w t)) (sym (text_same s it.0 it.2)) it.1
 
 -- ---- the keys of some shelves
 
@@ -84,71 +79,29 @@ module _ (w : World) where
   not_put : (ss : List (List ℕ)) (shelves : map.FinMap text_cmp (Option (List ℕ))) (s : List ℕ) → ArePut w ss shelves → (is_among ss s ≡ true → ⊥) → map.get shelves s ≡ None
   not_put ss shelves s put other = put s ∙ ap (λ b. cond b (map.get w.shelves s) None) (false_from_ne_true _ other)
 
--- a group is not common
-not_common : (o : Option (Option (List ℕ))) (g : List ℕ) → group_in o ≡ Some g → is_among (common ∷ []) g ≡ true → ⊥
-not_common None g of among = cc of
-not_common (Some None) g of among = cc of
-not_common (Some (Some parent)) g of among =
-    elim (bytes_eq parent common) as (λ b. bytes_eq parent common ≡ b → cond b None (Some parent) ≡ Some g → ⊥) [
-      | true ↦ λ _ never. cc never
-      | false ↦ λ apart same. let it : parent ≡ g = cc same in true≢false (sym (ap (λ p. bytes_eq p common) (it ∙ among_common g among) ∙ text_self common) ∙ apart)
-    ] refl of
-
--- the parent of a team is its group, or common
-its_parent : (parent : List ℕ) (group : Option (List ℕ)) → group_in (Some (Some parent)) ≡ group → parent ≡ unwrap_or group common
-its_parent parent group is =
-    elim (bytes_eq parent common) as (λ b. bytes_eq parent common ≡ b → cond b None (Some parent) ≡ group → parent ≡ unwrap_or group common) [
-      | true ↦ λ same none. text_same parent common same ∙ ap (λ o. unwrap_or o common) none
-      | false ↦ λ _ some. ap (λ o. unwrap_or o common) some
-    ] refl is
-
-module _ (w : World) (is : IsWorld w) (t : List ℕ) where
-  common_put : ArePut w (common ∷ []) only_common.shelves
-  common_put = one_more w [] map.empty common None is.has_common (map.get-empty text_cmp)
-
-  -- a team has a parent, and common and groups have none
-  team_apart : (s parent : List ℕ) → map.get w.shelves t ≡ Some (Some parent) → map.get w.shelves s ≡ Some None → t ≡ s → ⊥
-  team_apart s parent has top same = let never : ◌≡◌ {A = Option (Option (List ℕ))} (Some None) (Some (Some parent)) = sym (ap (map.get w.shelves) same ∙ top) ∙ has in cc never
-
-  apart_from_common : (parent : List ℕ) → map.get w.shelves t ≡ Some (Some parent) → is_among (common ∷ []) t ≡ true → ⊥
-  apart_from_common parent has among = team_apart common parent has is.has_common (among_common t among)
-
-  -- the shelves of a team are put in
-  team_put : (group : Option (List ℕ)) → map.get w.shelves t ≡ Some (Some (unwrap_or group common)) → group_of w t ≡ group → (db after : Trees) → PutsTeam t group db after → StandFor db only_common
-      → (x : World) × HasAlone w (t ∷ above group) x × StandFor after x
-  team_put None has of db after puts blank = (
-    with_team only_common t None,
-    (one_more w (common ∷ []) only_common.shelves t (Some common) has common_put, refl, refl),
-    puts only_common blank (not_put w (common ∷ []) only_common.shelves t common_put (apart_from_common common has)),
-  )
-  team_put (Some g) has of db after puts blank =
-      let top = is.parents t g has in
-      let middle = with_group only_common g in
-      let group_put = one_more w (common ∷ []) only_common.shelves g None top common_put in
-      let group_stands = puts.1 only_common blank (not_put w (common ∷ []) only_common.shelves g common_put (not_common (map.get w.shelves t) g of)) in
-      let free = not_put w (g ∷ common ∷ []) middle.shelves t group_put (λ among. elim (or_cases (bytes_eq t g) _ among) [
-        | inl same ↦ team_apart g g has top (text_same t g same)
-        | inr rest ↦ apart_from_common g has rest
-      ]) in (
-        with_team middle t (Some g),
-        (one_more w (g ∷ common ∷ []) middle.shelves t (Some g) has group_put, refl, refl),
-        puts.2 middle group_stands free,
-      )
+-- the shelves of a list are put in, one after the other
+shelves_put : (w : World) (shelves : List Shelf) (before : List (List ℕ)) (db after : Trees) → AreShelves w shelves → AreNew before (names_of shelves)
+    → (x : World) → HasAlone w before x → StandFor db x → PutsShelves shelves db after → (y : World) × HasAlone w (behind before (names_of shelves)) y × StandFor after y
+shelves_put w [] before db after are new x alone stand same = (x, alone, subst (λ t. StandFor t x) same stand)
+shelves_put w (s ∷ shelves) before db after are new x alone stand puts =
+    let free = not_put w before x.shelves s.name alone.0 (λ among. true≢false (sym among ∙ new.0)) in
+    let more : HasAlone w (s.name ∷ before) (with_shelf x s.name s.parent) = (one_more w before x.shelves s.name s.parent (are s (inl refl)) alone.0, alone.1, alone.2) in
+    shelves_put w shelves (s.name ∷ before) puts.0 after (λ it there. are it (inr there)) new.1 (with_shelf x s.name s.parent) more (puts.1 x stand free) puts.2
 
 -- ---- the registry
 
-module _ (w x y : World) (t : List ℕ) (alone : HasAlone w (chain w t) x) (adds : AddsKeys (IsKeyOn w (chain w t)) x y) where
-  shelves_are : y.shelves ≡ (part w t).shelves
-  shelves_are = adds.shelves ∙ map.same_map texts_total texts_exact _ _ (λ s. alone.0 s ∙ sym (parent_at w t s))
+module _ (w x y : World) (ss : List (List ℕ)) (alone : HasAlone w ss x) (adds : AddsKeys (IsKeyOn w ss) x y) where
+  shelves_are : y.shelves ≡ (part_of w ss).shelves
+  shelves_are = adds.shelves ∙ map.same_map texts_total texts_exact _ _ (λ s. alone.0 s ∙ sym (parent_at w ss s))
 
-  keys_are : y.keys ≡ (part w t).keys
+  keys_are : y.keys ≡ (part_of w ss).keys
   keys_are = map.same_map texts_total texts_exact _ _ (λ k.
-      same_got y.keys (part w t).keys k
+      same_got y.keys (part_of w ss).keys k
       (λ h at. elim ((adds.keys (k, h)).0 at) [
         | inl none ↦ absurd (none_in_empty text_cmp k h (sym (ap (λ m. map.get m k) alone.1) ∙ none))
-        | inr on ↦ key_at w t k ∙ kept_in (is_held (chain w t) (map.get w.keys k)) (map.get w.keys k) h (ap (is_held (chain w t)) on.2.0 ∙ (ap (sees w t) on.2.1 ∙ is_seen w t on.0 on.1)) on.2.0
+        | inr on ↦ key_at w ss k ∙ kept_in (is_held ss (map.get w.keys k)) (map.get w.keys k) h (ap (is_held ss) on.2.0 ∙ (ap (is_among ss) on.2.1 ∙ is_there ss on.0 on.1)) on.2.0
       ])
-      (λ h at. let it = held_key w t k h at in (adds.keys (k, h)).1 (inr (h.shelf, has_seen w t h.shelf it.1, (it.0, refl)))))
+      (λ h at. let it = held_key w ss k h at in (adds.keys (k, h)).1 (inr (h.shelf, has_there ss h.shelf it.1, (it.0, refl)))))
 
 -- ---- the entries
 
@@ -160,29 +113,29 @@ none_there (row ∷ rows) none = absurd (none row (inl refl))
 apart_at_first : (Once : List Row → Type 0) (rows : List Row) → rows ≡ [] → Once [] → AreApart Once rows
 apart_at_first Once rows none once = record { numbers = λ row there. absurd (subst (λ l. Has l row) none there); once = subst Once (sym none) once }
 
-module _ (w : World) (t : List ℕ) (source db mid after : Trees) (means : Means source w) (no_version : db 6 ≡ []) (no_piece : db 8 ≡ [])
-    (versions : PutsRows version_table version_read IsEachPlaceOnce (λ values. IsOfAny (chain w t) (λ s. IsVersionOn s source values)) db mid)
-    (pieces : PutsRows piece_table piece_read IsEachPieceOnce (λ values. IsOfAny (chain w t) (λ s. IsPieceOn s source values)) mid after) where
+module _ (w : World) (ss : List (List ℕ)) (source db mid after : Trees) (means : Means source w) (no_version : db 6 ≡ []) (no_piece : db 8 ≡ [])
+    (versions : PutsRows version_table version_read IsEachPlaceOnce (λ values. IsOfAny ss (λ s. IsVersionOn s source values)) db mid)
+    (pieces : PutsRows piece_table piece_read IsEachPieceOnce (λ values. IsOfAny ss (λ s. IsPieceOn s source values)) mid after) where
   versions_stay : after 6 ≡ mid 6
   versions_stay = pieces.tables.1.1.1.0 (λ e. omega (arith, e))
 
   no_piece_yet : mid 8 ≡ []
   no_piece_yet = versions.tables.1.1.1.1.0 (λ e. omega (arith, e)) ∙ no_piece
 
-  version_from : (row : Row) → Has (after 6) row → IsOfAny (chain w t) (λ s. IsVersionOn s source (version_read row))
+  version_from : (row : Row) → Has (after 6) row → IsOfAny ss (λ s. IsVersionOn s source (version_read row))
   version_from row there = elim ((versions.rows (version_read row)).0 (row, subst (λ l. Has l row) versions_stay there, refl)) [
     | inl first ↦ absurd (subst (λ l. Has l first.0) no_version first.1)
     | inr on ↦ on
   ]
 
-  version_to : (values : Row) → IsOfAny (chain w t) (λ s. IsVersionOn s source values) → IsRead version_read (after 6) values
+  version_to : (values : Row) → IsOfAny ss (λ s. IsVersionOn s source values) → IsRead version_read (after 6) values
   version_to values on = let to = (versions.rows values).1 (inr on) in (to.0, subst (λ l. Has l to.0) (sym versions_stay) to.1, to.2)
 
-  piece_from : (row : Row) → Has (after 8) row → IsOfAny (chain w t) (λ s. IsPieceOn s source (piece_read row))
+  piece_from : (row : Row) → Has (after 8) row → IsOfAny ss (λ s. IsPieceOn s source (piece_read row))
   piece_from row there = elim ((pieces.rows (piece_read row)).0 (row, there, refl)) [ inl first ↦ absurd (subst (λ l. Has l first.0) no_piece_yet first.1) | inr on ↦ on ]
 
   -- a copy of a version that is seen has its pieces
-  pieces_copied : (s : List ℕ) → Has (chain w t) s → (one two : Row) (zip : List ℕ) → Has (source 6) one → column one 2 ≡ Text s → rowid two ≡ rowid one
+  pieces_copied : (s : List ℕ) → Has ss s → (one two : Row) (zip : List ℕ) → Has (source 6) one → column one 2 ≡ Text s → rowid two ≡ rowid one
       → ArePieces (filter (is_of one) (source 8)) zip → ArePieces (filter (is_of two) (after 8)) zip
   pieces_copied s seen one two zip there at number are = same_pieces one two (source 8) (after 8) zip
       (λ b here tied.
@@ -197,7 +150,7 @@ module _ (w : World) (t : List ℕ) (source db mid after : Trees) (means : Means
       of_number : (one two piece : Row) → rowid two ≡ rowid one → is_of two piece ≡ true → is_of one piece ≡ true
       of_number one two piece number is = ap (λ v. equal Binary (column piece 1) v) (sym number) ∙ is
 
-  version_copied : (s : List ℕ) → Has (chain w t) s → (one two : Row) (it : Place × Entry) → Has (source 6) one → column one 2 ≡ Text s → version_read two ≡ version_read one
+  version_copied : (s : List ℕ) → Has ss s → (one two : Row) (it : Place × Entry) → Has (source 6) one → column one 2 ≡ Text s → version_read two ≡ version_read one
       → IsVersion (source 8) one it → IsVersion (after 8) two it
   version_copied s seen one two it there at same is = record {
     place = (ap (λ (r : Row). column r 1) same ∙ is.place.0, ap (λ (r : Row). column r 2) same ∙ is.place.1, ap (λ (r : Row). column r 3) same ∙ is.place.2);
@@ -207,22 +160,22 @@ module _ (w : World) (t : List ℕ) (source db mid after : Trees) (means : Means
     zip = pieces_copied s seen one two it.1.zip there at (ap (λ (r : Row). column r 0) same) is.zip;
   }
 
-  entries_are : Tabulates (IsVersion (after 8)) (after 6) (λ it. map.get (part w t).entries it.0 ≡ Some it.1)
+  entries_are : Tabulates (IsVersion (after 8)) (after 6) (λ it. map.get (part_of w ss).entries it.0 ≡ Some it.1)
   entries_are = record {
     each = λ row there.
         let from = version_from row there in
         let it = means.entries.each from.2.0.0 from.2.0.1 in
         let at : column from.2.0.0 2 ≡ Text from.0 = sym (ap (λ (r : Row). column r 1) from.2.0.2) ∙ from.2.1 in
         let own : it.0.0.shelf ≡ from.0 = let e = sym it.1.place.0 ∙ at in cc in
-        let seen : sees w t it.0.0.shelf ≡ true = ap (sees w t) own ∙ is_seen w t from.0 from.1 in (
+        let seen : is_among ss it.0.0.shelf ≡ true = ap (is_among ss) own ∙ is_there ss from.0 from.1 in (
           it.0,
           version_copied from.0 from.1 from.2.0.0 row it.0 from.2.0.1 at from.2.0.2 it.1,
-          entry_at w t it.0.0 ∙ kept_in (sees w t it.0.0.shelf) (map.get w.entries it.0.0) it.0.1 seen it.2,
+          entry_at w ss it.0.0 ∙ kept_in (is_among ss it.0.0.shelf) (map.get w.entries it.0.0) it.0.1 seen it.2,
         );
     found = λ it holds.
-        let held = held_entry w t it.0 it.1 holds in
+        let held = held_entry w ss it.0 it.1 holds in
         let from = means.entries.found it held.0 in
-        let seen = has_seen w t it.0.shelf held.1 in
+        let seen = has_there ss it.0.shelf held.1 in
         let to = version_to (version_read from.0) (it.0.shelf, seen, ((from.0, from.1, refl), from.2.place.0)) in
         (to.0, to.1, version_copied it.0.shelf seen from.0 to.0 it from.1 from.2.place.0 (sym to.2) from.2);
   }
@@ -243,7 +196,7 @@ module _ (w : World) (t : List ℕ) (source db mid after : Trees) (means : Means
   access_stays = pieces.tables.1.1.0 (λ e. omega (arith, e)) ∙ versions.tables.1.1.0 (λ e. omega (arith, e))
 
   -- the tables had the registry of the part, and no entry
-  pub filled : (y : World) → y.shelves ≡ (part w t).shelves → y.keys ≡ (part w t).keys → Means db y → Means after (part w t)
+  pub filled : (y : World) → y.shelves ≡ (part_of w ss).shelves → y.keys ≡ (part_of w ss).keys → Means db y → Means after (part_of w ss)
   filled y shelves keys was = record {
     named = rw meta_stays was.named;
     shelves = rw shelf_stays (subst (λ m. Tabulates IsShelf (db 2) (λ it. map.get m it.0 ≡ Some it.1)) shelves was.shelves);
@@ -260,26 +213,25 @@ module _ (w : World) (t : List ℕ) (source db mid after : Trees) (means : Means
 no_version_yet : (db : Trees) (x y : World) → Means db y → y.entries ≡ x.entries → x.entries ≡ map.empty → db 6 ≡ []
 no_version_yet db x y means same none = none_there (db 6) (λ row there. let of = means.entries.each row there in none_in_empty place_cmp of.0.0 of.0.1 (ap (λ m. map.get m of.0.0) (sym (same ∙ none)) ∙ of.2))
 
--- the shelves of a team are put in, and then the keys, the versions and the pieces of these
-abbrev FillsAlong : List ℕ → Option (List ℕ) → List (List ℕ) → Trees → Trees → Trees → Type 0
-FillsAlong team group ss = Then (Then (Then (λ _. PutsTeam team group) (Along (λ s. OfWorlds (CopiesKeys s)) ss)) (Along CopiesVersions ss)) (Along CopiesPieces ss)
+-- the shelves of a list are put in, and then the keys, the versions and the pieces of these and of common
+abbrev FillsAlong : List Shelf → List (List ℕ) → Trees → Trees → Trees → Type 0
+FillsAlong shelves ss = Then (Then (Then (λ _. PutsShelves shelves) (Along (λ s. OfWorlds (CopiesKeys s)) ss)) (Along CopiesVersions ss)) (Along CopiesPieces ss)
 
-pub makes_part : (team : List ℕ) (group : Option (List ℕ)) (source db after : Trees) → FillsAlong team group (team ∷ above group) source db after → MakesPart team group source db after
-makes_part team group source db after fills w means is stands of blank =
-    let along : team ∷ above group ≡ chain w team = ap (λ o. team ∷ above o) (sym of) in
-    let it = subst (λ ss. FillsAlong team group ss source db after) along fills in
+pub makes_part : (shelves : List Shelf) → AreNew (common ∷ []) (names_of shelves) → (source db after : Trees) → FillsAlong shelves (common ∷ names_of shelves) source db after → MakesPart shelves source db after
+makes_part shelves new source db after it w means is are blank =
+    let ss : List (List ℕ) = common ∷ names_of shelves in
     let with_keys : Trees = it.1.0 in
     let with_versions : Trees = it.0 in
-    let has = stands.1 ∙ ap (λ p. Some (Some p)) (its_parent stands.0 group (sym (ap group_in stands.1) ∙ of)) in
-    let put = team_put w is team group has of db it.1.1.0 it.1.1.1 blank in
+    let first : HasAlone w (common ∷ []) only_common = (one_more w [] map.empty common None is.has_common (map.get-empty text_cmp), refl, refl) in
+    let put = shelves_put w shelves (common ∷ []) db it.1.1.0 are new only_common first blank it.1.1.1 in
     let x : World = put.0 in
-    let alone = subst (λ ss. HasAlone w ss x) along put.1 in
-    let made = keys_along w (chain w team) source it.1.1.0 with_keys means it.1.1.2 x put.2 in
+    let alone : HasAlone w ss x = (λ s. put.1.0 s ∙ ap (λ b. cond b (map.get w.shelves s) None) (among_all (names_of shelves) s), put.1.1, put.1.2) in
+    let made = keys_along w ss source it.1.1.0 with_keys means it.1.1.2 x put.2 in
     let y : World = made.0 in
-    let adds : AddsKeys (IsKeyOn w (chain w team)) x y = made.1 in
+    let adds : AddsKeys (IsKeyOn w ss) x y = made.1 in
     let no_version : with_keys 6 ≡ [] = no_version_yet with_keys x y made.2.means adds.entries alone.2 in
     let no_piece : with_keys 8 ≡ [] = none_there (with_keys 8) (λ row there. let of = piece_version with_keys made.2.sound row there in subst (λ l. Has l of.0) no_version of.1) in
-    filled w team source with_keys with_versions after means no_version no_piece
-    (puts_along version_table version_read IsEachPlaceOnce IsVersionOn (chain w team) source with_keys with_versions it.1.2)
-    (puts_along piece_table piece_read IsEachPieceOnce IsPieceOn (chain w team) source with_versions after it.2)
-    y (shelves_are w x y team alone adds) (keys_are w x y team alone adds) made.2.means
+    filled w ss source with_keys with_versions after means no_version no_piece
+    (puts_along version_table version_read IsEachPlaceOnce IsVersionOn ss source with_keys with_versions it.1.2)
+    (puts_along piece_table piece_read IsEachPieceOnce IsPieceOn ss source with_versions after it.2)
+    y (shelves_are w x y ss alone adds) (keys_are w x y ss alone adds) made.2.means

@@ -6,6 +6,7 @@ pub mod KeptLemmas
 pub mod StoreLemmas
 pub mod FileLemmas
 pub mod OpenLemmas
+pub mod PartLemmas
 pub mod FilledLemmas
 pub mod BlankLemmas
 pub mod ExtractedLemmas

@@ -1,21 +1,14 @@
 -- What a store does that is made of one team's part of another.
-use Rattle.std.specs.Prelude.{ℕ, ◌≡◌, ◌≢◌, ◌≤◌, ◌⊎◌, List, Bool, true, false, Option, Some, None, Result, Ok, Err, OnOk, OnErr}
+use Rattle.std.specs.Prelude.{ℕ, ◌≡◌, ◌≢◌, ◌≤◌, ◌⊎◌, List, true, Some, Result, Ok, Err, OnOk, OnErr}
 use Rattle.std.specs.FinMap as map
 use Rattle.sqlite.specs.State.{State, HasCleanDisk}
-use Rattle.sqlite.specs.Tree.{Trees}
-use Rattle.tables.specs.Means.{Means, StandFor, StandsFor}
-use Rattle.statements.specs.Extract.{OfWorlds, PutsShelf, CopiesKeys, CopiesVersions, CopiesPieces}
+use Rattle.tables.specs.Means.{StandsFor}
 use Rattle.world.specs.declared.entry.Entry.{Entry}
 use Rattle.world.specs.declared.entry.Holder.{Holder}
 use Rattle.world.specs.declared.entry.Place.{Place}
 use Rattle.world.specs.Part.{part, IsTeam}
 use Rattle.world.specs.Store.{Shown, GrewOrFull}
-use Rattle.world.specs.World.{World, IsWorld, common, group_of, only_common}
-use Rattle.store.specs.declared.extract_judge.Judged.{Judged}
-use Rattle.store.specs.declared.extract_judge.Judged.TheVariants as judged
-use Rattle.store.specs.declared.extract_part.Rows.{Rows}
-use Rattle.store.specs.declared.extract_part.Rows.TheVariants as rows
-use Rattle.statements.specs.declared.extract_rows.CopyError.{CopyError}
+use Rattle.world.specs.World.{World, common, only_common}
 use Rattle.store.specs.declared.refusal.Refusal.{Refusal}
 use Rattle.store.specs.declared.refusal.Refusal.TheVariants as refusal
 
@@ -29,40 +22,6 @@ HasKey x = (k : List ℕ) × (h : Holder) × (map.get x.keys k ≡ Some h)
 
 abbrev pub HasEntry : World → Type 0
 HasEntry x = (q : Place) × (e : Entry) × (map.get x.entries q ≡ Some e)
-
--- what is to become of an extract of a team of w into a store of x
-abbrev pub IsJudged : World → World → List ℕ → Judged → Type 0
-IsJudged w x team (judged.Fit group) = IsTeam w team × (group_of w team ≡ group) × (x ≡ only_common)
-IsJudged w x team judged.NoTeam = ¬ IsTeam w team
-IsJudged w x team judged.NotEmpty = IsTeam w team × (x ≢ only_common)
-
--- whether the part is to be written
-abbrev pub is_fit : Judged → Bool
-is_fit (judged.Fit group) = true
-is_fit judged.NoTeam = false
-is_fit judged.NotEmpty = false
-
--- ---- the part of a team
-
--- the shelf of a team of this group is put in, behind that of the group, or of none
-abbrev pub PutsTeam : List ℕ → Option (List ℕ) → Trees → Trees → Type 0
-PutsTeam team None db after = PutsShelf team (Some common) db after
-PutsTeam team (Some group) db after = (mid : Trees) × PutsShelf group None db mid × PutsShelf team (Some group) mid after
-
--- some rows of one shelf are put in, beside those that were there
-abbrev pub CopiesRows : Rows → List ℕ → Trees → Trees → Trees → Type 0
-CopiesRows rows.Keys shelf = OfWorlds (CopiesKeys shelf)
-CopiesRows rows.Versions shelf = CopiesVersions shelf
-CopiesRows rows.Pieces shelf = CopiesPieces shelf
-
--- of tables that stand for `common` alone those of the part of a team of this group are made, or of none
-abbrev pub MakesPart : List ℕ → Option (List ℕ) → Trees → Trees → Trees → Type 0
-MakesPart team group source db after = (w : World) → Means source w → IsWorld w → IsTeam w team → group_of w team ≡ group → StandFor db only_common → Means after (part w team)
-
--- whether the part was written
-abbrev pub is_written : Result Judged CopyError → Bool
-is_written (Ok judged) = is_fit judged
-is_written (Err e) = false
 
 -- so it is in each two worlds that the source and the fresh store stood for, as far as no answer of a disk was wrong
 abbrev pub InEachTwo : State → State → State → State → (World → World → Type 0) → Type 0

@@ -8,3 +8,4 @@ pub mod Restart
 pub mod Extracted
 pub mod Migrated
 pub mod Older
+pub mod Parts

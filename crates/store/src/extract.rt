@@ -1,13 +1,14 @@
-//! One team's part as a store of its own.
+//! Some shelves of a store as a store of its own: those that some teams see, or all.
 
-ghost use Rattle.std.specs.Prelude.{◌≡◌, ◌≢◌, ◌≤◌, false, IfOk};
+ghost use Rattle.std.specs.Prelude.{◌≡◌, ◌≢◌, ◌≤◌, ◌∷◌, [], map as each, false, IfOk};
 ghost use Rattle.sqlite.specs.Held.{state};
 ghost use Rattle.sqlite_trees.specs.View.{doubt};
-ghost use Rattle.world.specs.Part.{part};
 ghost use Rattle.statements.specs.Calls.{Spares, ChangesAt};
 ghost use Rattle.store.specs.Shown.{shown_of, shown_with};
-ghost use Rattle.store.specs.Extracted.{IsJudged, is_fit, is_written, InEachTwo, Extracts, HasCauseInEither};
+ghost use Rattle.store.specs.Extracted.{InEachTwo, Extracts, HasCauseInEither};
+ghost use Rattle.store.specs.Parts.{IsJudged, is_fit, is_written, what, Fills, ExtractsTeams, CopiesAll};
 
+use crate::choice::Wanted;
 use crate::extract_judge::{Judged, judge};
 use crate::extract_part::write_part;
 use crate::kept::Kept;
@@ -15,12 +16,14 @@ use crate::refusal::Refusal;
 use crate::store::{SqlShelves, fault};
 use sqlite::{Alter, Connection};
 use statements::extract_rows::CopyError;
+use std::alloc::Global;
 use world::registry::StoreFault;
 
-/// Writes the part of a team into a fresh store, where there is such a team and the store has `common` alone.
+/// Writes some shelves into a fresh store, where they are there and the store has `common` alone.
 fn extract_part<S: Alter, F: Alter>(
+    alloc: Global,
     source: &mut Connection<S>,
-    team: &str,
+    wanted: Wanted<'_>,
     fresh: &mut Connection<F>,
 ) -> Result<Judged, CopyError>
     ensures reads { Spares (state S.Store source.old) (state S.Store source.new) }
@@ -28,15 +31,15 @@ fn extract_part<S: Alter, F: Alter>(
     ensures spares { IfOk result (λ judged. is_fit judged ≡ false
         → Spares (state F.Store fresh.old) (state F.Store fresh.new)) }
     ensures verdict { InEachTwo (state S.Store source.old) (state S.Store source.new) (state F.Store fresh.old) (state F.Store fresh.new)
-        (λ w x. IfOk result (IsJudged w x team.now)) }
+        (λ w x. IfOk result (IsJudged w x wanted.entry)) }
     ensures changes { InEachTwo (state S.Store source.old) (state S.Store source.new) (state F.Store fresh.old) (state F.Store fresh.new)
-        (λ w x. ChangesAt (state F.Store fresh.old) (state F.Store fresh.new) (is_written result) x (part w team.now)) }
+        (λ w x. ChangesAt (state F.Store fresh.old) (state F.Store fresh.new) (is_written result) x (what wanted.entry w)) }
 {
-    let judged = judge(source, team, fresh)?;
+    let judged = judge(alloc, source, wanted, fresh)?;
     match judged {
-        Judged::Fit(group) => {
-            write_part(source, team, group.as_ref(), fresh)?;
-            Ok(Judged::Fit(group))
+        Judged::Fit(shelves) => {
+            write_part(source, &shelves, fresh)?;
+            Ok(Judged::Fit(shelves))
         }
         Judged::NoTeam => Ok(Judged::NoTeam),
         Judged::NotEmpty => Ok(Judged::NotEmpty),
@@ -74,23 +77,76 @@ impl<S: Alter> SqlShelves<S> {
             (shown_with (state F.Store fresh.new.conn) fresh.new.kept) team.now result }
         ensures cause { HasCauseInEither self.old.failures self.new.failures fresh.old.failures fresh.new.failures result }
     {
-        fresh.kept = Kept::new(fresh.alloc);
-        self.extract_rows(team, fresh)
+        self.extract_teams(&[team], fresh)
     }
 
-    /// Makes the tables of the fresh store those of the part, and leaves what the stores keep as it is.
-    /// The fresh store forgets what it kept before the first row is written.
-    fn extract_rows<F: Alter>(
+    /// Makes the fresh store one of the part of some teams: the shelves that any of them sees, all their
+    /// entries, and their keys with their rights. The names of the shelves are read first, then the rows one at a time, and
+    /// all are written in one transaction. A team that is named twice is as one.
+    ///
+    /// Fails with `NoTeam` if no team is named or a name is no team's (`common` and groups are no teams), otherwise with
+    /// `NotEmpty` if the fresh store has another shelf, a key or an entry; with `Device` if a disk failed and with
+    /// `Memory` if memory ran out. Then both stores are as they were; the source always is. With the first two, a crash leaves
+    /// of the fresh store nothing that it did not leave before.
+    pub fn extract_teams<F: Alter>(
         &mut self,
-        team: &str,
+        teams: &[&str],
         fresh: &mut SqlShelves<F>,
     ) -> Result<(), Refusal>
-        ensures extracts { Extracts (shown_of (state S.Store self.old.conn)) (shown_of (state S.Store self.new.conn))
-            (shown_of (state F.Store fresh.old.conn)) (shown_of (state F.Store fresh.new.conn)) team.now result }
+        ensures extracts { ExtractsTeams (each (λ team. team.now) teams.now) (shown_with (state S.Store self.old.conn) self.old.kept)
+            (shown_with (state S.Store self.new.conn) self.new.kept)
+            (shown_with (state F.Store fresh.old.conn) fresh.old.kept)
+            (shown_with (state F.Store fresh.new.conn) fresh.new.kept) result }
+        ensures cause { HasCauseInEither self.old.failures self.new.failures fresh.old.failures fresh.new.failures result }
+    {
+        self.fill(Wanted::Teams(teams), fresh)
+    }
+
+    /// Makes the fresh store a copy: all shelves, entries and keys. The names of the shelves are read first, then the rows one at
+    /// a time, and all are written in one transaction.
+    ///
+    /// Fails with `NotEmpty` if the fresh store has another shelf than `common`, a key or an entry; with `Device` if a disk
+    /// failed and with `Memory` if memory ran out. Then both stores are as they were; the source always is. With `NotEmpty`, a
+    /// crash leaves of the fresh store nothing that it did not leave before.
+    pub fn copy<F: Alter>(&mut self, fresh: &mut SqlShelves<F>) -> Result<(), Refusal>
+        ensures copies { CopiesAll (shown_with (state S.Store self.old.conn) self.old.kept)
+            (shown_with (state S.Store self.new.conn) self.new.kept)
+            (shown_with (state F.Store fresh.old.conn) fresh.old.kept)
+            (shown_with (state F.Store fresh.new.conn) fresh.new.kept) result }
+        ensures cause { HasCauseInEither self.old.failures self.new.failures fresh.old.failures fresh.new.failures result }
+    {
+        self.fill(Wanted::All, fresh)
+    }
+
+    /// Makes the fresh store one of some shelves.
+    fn fill<F: Alter>(
+        &mut self,
+        wanted: Wanted<'_>,
+        fresh: &mut SqlShelves<F>,
+    ) -> Result<(), Refusal>
+        ensures fills { Fills wanted.entry (shown_with (state S.Store self.old.conn) self.old.kept)
+            (shown_with (state S.Store self.new.conn) self.new.kept)
+            (shown_with (state F.Store fresh.old.conn) fresh.old.kept)
+            (shown_with (state F.Store fresh.new.conn) fresh.new.kept) result }
+        ensures cause { HasCauseInEither self.old.failures self.new.failures fresh.old.failures fresh.new.failures result }
+    {
+        fresh.kept = Kept::new(fresh.alloc);
+        self.fill_rows(wanted, fresh)
+    }
+
+    /// Makes the tables of the fresh store those of some shelves, and leaves what the stores keep as it is.
+    /// The fresh store forgets what it kept before the first row is written.
+    fn fill_rows<F: Alter>(
+        &mut self,
+        wanted: Wanted<'_>,
+        fresh: &mut SqlShelves<F>,
+    ) -> Result<(), Refusal>
+        ensures fills { Fills wanted.entry (shown_of (state S.Store self.old.conn)) (shown_of (state S.Store self.new.conn))
+            (shown_of (state F.Store fresh.old.conn)) (shown_of (state F.Store fresh.new.conn)) result }
         ensures kept { (self.new.kept ≡ self.old.kept) × (fresh.new.kept ≡ fresh.old.kept) }
         ensures cause { HasCauseInEither self.old.failures self.new.failures fresh.old.failures fresh.new.failures result }
     {
-        match extract_part(&mut self.conn, team, &mut fresh.conn) {
+        match extract_part(self.alloc, &mut self.conn, wanted, &mut fresh.conn) {
             Ok(Judged::Fit(_)) => Ok(()),
             Ok(Judged::NoTeam) => Err(Refusal::NoTeam),
             Ok(Judged::NotEmpty) => Err(Refusal::NotEmpty),

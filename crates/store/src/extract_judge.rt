@@ -1,27 +1,28 @@
-//! Whether a team's part may be made a store of its own: there is such a team, and the fresh store has `common` alone.
+//! Whether a part of a store may be made one of its own: the teams are there, and the fresh store has `common` alone.
 
 ghost use Rattle.std.specs.Prelude.{◌≡◌, Decides, IfOk, IsTrue};
 ghost use Rattle.sqlite.specs.Held.{state};
 ghost use Rattle.sqlite.specs.State.{HasCleanDisk};
 ghost use Rattle.world.specs.World.{IsWorld, only_common};
-ghost use Rattle.tables.specs.Means.{Stands, StandsFor};
+ghost use Rattle.tables.specs.Means.{StandsFor};
 ghost use Rattle.statements.specs.Calls.{InEachWorld, Spares};
-ghost use Rattle.store.specs.Extracted.{HasOtherShelf, HasKey, HasEntry, IsJudged, is_fit};
+ghost use Rattle.store.specs.Extracted.{HasOtherShelf, HasKey, HasEntry};
+ghost use Rattle.store.specs.Parts.{IsJudged, is_fit};
 
-use crate::groups::group_in;
+use crate::choice::{Wanted, choose};
 use sqlite::{Alter, Connection, Error, params};
 use statements::extract_rows::CopyError;
 use statements::query::find_row;
-use statements::registry::find_shelf;
-use text::Text;
+use statements::shelf_list::ShelfList;
+use std::alloc::Global;
 use world::names::COMMON;
 
 /// What is to become of an extract.
 #[derive(Drop)]
 pub(crate) enum Judged {
-    /// The part is to be written, of a team of this group, or of none.
-    Fit(Option<Text>),
-    /// There is no such team.
+    /// These shelves are to be written, and `common`.
+    Fit(ShelfList),
+    /// No team is named, or a name is no team's.
     NoTeam,
     /// The fresh store has more than `common`.
     NotEmpty,
@@ -79,8 +80,9 @@ pub(crate) fn is_blank<F: Alter>(conn: &mut Connection<F>) -> Result<bool, Error
 
 /// What is to become of an extract. That there is no such team comes first.
 pub(crate) fn judge<S: Alter, F: Alter>(
+    alloc: Global,
     source: &mut Connection<S>,
-    team: &str,
+    wanted: Wanted<'_>,
     fresh: &mut Connection<F>,
 ) -> Result<Judged, CopyError>
     ensures spares { Spares (state S.Store source.old) (state S.Store source.new) }
@@ -88,15 +90,15 @@ pub(crate) fn judge<S: Alter, F: Alter>(
     ensures ready { InEachWorld (state S.Store source.old) (state S.Store source.new) (λ _ new _.
         IfOk result (λ judged. IsTrue (is_fit judged) → IsTrue new.is_open)) }
     ensures verdict { HasCleanDisk (state S.Store source.new) → HasCleanDisk (state F.Store fresh.new)
-        → (w x : _) → Stands (state S.Store source.old) w → StandsFor (state F.Store fresh.old) x
-        → IfOk result (λ judged. IsJudged w x team.now judged
+        → (w x : _) → StandsFor (state S.Store source.old) w → StandsFor (state F.Store fresh.old) x
+        → IfOk result (λ judged. IsJudged w x wanted.entry judged
         × (IsTrue (is_fit judged) → IsTrue (state F.Store fresh.new).is_open)) }
 {
-    let Some(Some(parent)) = find_shelf(source, team)? else {
+    let Some(shelves) = choose(alloc, source, wanted)? else {
         return Ok(Judged::NoTeam);
     };
     match is_blank(fresh) {
-        Ok(true) => Ok(Judged::Fit(group_in(Some(parent)))),
+        Ok(true) => Ok(Judged::Fit(shelves)),
         Ok(false) => Ok(Judged::NotEmpty),
         Err(error) => Err(CopyError::Fresh(error)),
     }

@@ -1,23 +1,22 @@
-//! One team's part of a store, put into a fresh one in one transaction.
+//! Some shelves of a store, put into a fresh one in one transaction.
 
-ghost use Rattle.std.specs.Prelude.{◌≡◌, ◌≤◌, map, option_copied, OnOk, is_ok, IsTrue};
+ghost use Rattle.std.specs.Prelude.{◌≡◌, ◌≤◌, ◌∷◌, option_copied, OnOk, is_ok, IsTrue};
 ghost use Rattle.sqlite.specs.Held.{state};
 ghost use Rattle.sqlite.specs.State.{HasCleanDisk, KeepsCommit, Survives};
 ghost use Rattle.sqlite_trees.specs.View.{doubt};
-ghost use Rattle.world.specs.Part.{part, IsTeam};
-ghost use Rattle.world.specs.World.{IsWorld, only_common, group_of};
+ghost use Rattle.world.specs.World.{IsWorld, common, only_common};
 ghost use Rattle.tables.specs.Means.{Stands};
 ghost use Rattle.statements.specs.Calls.{IsOpenIfHonest, Spares, ChangesAt};
 ghost use Rattle.tables.specs.Calls.{Honestly};
-ghost use Rattle.statements.specs.Rows.{Filling, GoesOn};
+ghost use Rattle.statements.specs.Rows.{Filling};
 ghost use Rattle.statements.specs.Extract.{IsReady, Copies, PutsShelf, Along};
-ghost use Rattle.store.specs.Extracted.{CopiesRows, PutsTeam, MakesPart};
+ghost use Rattle.statements.specs.Shelves.{names_of, AreShelves};
+ghost use Rattle.store.specs.Parts.{part_of, Puts, PutsShelves, CopiesRows, MakesPart};
 
-use crate::chain::Chain;
 use sqlite::{Alter, Connection, Error, ErrorCode, Transaction, params};
 use statements::extract_rows::{CopyError, copy_keys, copy_pieces, copy_versions};
+use statements::shelf_list::{Shelf, ShelfList};
 use statements::transaction::commit_if;
-use text::Text;
 use world::names::COMMON;
 
 /// Rows that a shelf has.
@@ -53,22 +52,26 @@ fn put_shelf<F: Alter>(
     Ok(())
 }
 
-/// Writes the row of a team of this group, or of none, behind the row of the group.
-fn put_team<F: Alter>(
-    tx: &mut Transaction<'_, F>,
-    team: &str,
-    group: Option<&Text>,
-) -> Result<(), Error>
+/// Writes the row of a shelf of a list.
+fn put_listed<F: Alter>(tx: &mut Transaction<'_, F>, shelf: &Shelf) -> Result<(), Error>
     ensures same_reference { tx.new.conn.ghost_name ≡ tx.old.conn.ghost_name }
-    ensures goes_on { GoesOn (state F.Store tx.old.conn.now) (state F.Store tx.new.conn.now) (is_ok result) }
-    ensures puts { Honestly (state F.Store tx.old.conn.now) (state F.Store tx.new.conn.now) (λ old new. Filling old
-        → OnOk result (PutsTeam team.now (option_copied group.entry) old.now.trees new.now.trees × Filling new)) }
+    ensures puts { Puts (PutsShelf shelf.now.name shelf.now.parent) (state F.Store tx.old.conn.now) (state F.Store tx.new.conn.now) (is_ok result) }
 {
-    let Some(group) = group else {
-        return put_shelf(tx, team, Some(COMMON));
-    };
-    put_shelf(tx, group.as_str(), None)?;
-    put_shelf(tx, team, Some(group.as_str()))
+    match &shelf.parent {
+        None => put_shelf(tx, shelf.name.as_str(), None),
+        Some(parent) => put_shelf(tx, shelf.name.as_str(), Some(parent.as_str())),
+    }
+}
+
+/// Writes the rows of shelves that are not there, one after the other.
+fn put_shelves<F: Alter>(tx: &mut Transaction<'_, F>, shelves: &[Shelf]) -> Result<(), Error>
+    ensures same_reference { tx.new.conn.ghost_name ≡ tx.old.conn.ghost_name }
+    ensures puts { Puts (PutsShelves shelves.now) (state F.Store tx.old.conn.now) (state F.Store tx.new.conn.now) (is_ok result) }
+{
+    for shelf in shelves {
+        put_listed(tx, shelf)?;
+    }
+    Ok(())
 }
 
 /// Copies some rows of one shelf.
@@ -89,66 +92,64 @@ fn copy_rows<S: Alter, F: Alter>(
     }
 }
 
-/// Copies some rows of each of these shelves, one shelf after the other.
+/// Copies some rows of `common`, and then of each of these shelves, one shelf after the other.
 fn copy_along<S: Alter, F: Alter>(
     source: &mut Connection<S>,
     rows: Rows,
-    shelves: &[&str],
+    shelves: &[Shelf],
     tx: &mut Transaction<'_, F>,
 ) -> Result<(), CopyError>
     ensures same_reference { tx.new.conn.ghost_name ≡ tx.old.conn.ghost_name }
-    ensures copies { Copies (Along (CopiesRows rows) (map (λ shelf. shelf.now) shelves.now)) (state S.Store source.old) (state S.Store source.new)
+    ensures copies { Copies (Along (CopiesRows rows) (common ∷ names_of shelves.now)) (state S.Store source.old) (state S.Store source.new)
         (state F.Store tx.old.conn.now) (state F.Store tx.new.conn.now) (is_ok result) }
 {
+    copy_rows(source, rows, COMMON, tx)?;
     for shelf in shelves {
-        copy_rows(source, rows, shelf, tx)?;
+        copy_rows(source, rows, shelf.name.as_str(), tx)?;
     }
     Ok(())
 }
 
-/// Fills a store that has `common` alone with the part of a team of this group, or of none: their shelves,
-/// then the keys, the versions and the zips along the shelves that the team sees.
+/// Fills a store that has `common` alone with these shelves, each behind its parent: their rows, and then, with those of
+/// `common`, their keys, their versions and their zips.
 fn fill<S: Alter, F: Alter>(
     source: &mut Connection<S>,
-    team: &str,
-    group: Option<&Text>,
+    shelves: &ShelfList,
     tx: &mut Transaction<'_, F>,
 ) -> Result<(), CopyError>
     ensures same_reference { tx.new.conn.ghost_name ≡ tx.old.conn.ghost_name }
-    ensures fills { Copies (MakesPart team.now (option_copied group.entry))
+    ensures fills { Copies (MakesPart shelves.now)
         (state S.Store source.old) (state S.Store source.new)
         (state F.Store tx.old.conn.now) (state F.Store tx.new.conn.now) (is_ok result) }
 {
-    match put_team(tx, team, group) {
+    let shelves = shelves.as_slice();
+    match put_shelves(tx, shelves) {
         Ok(()) => {}
         Err(error) => return Err(CopyError::Fresh(error)),
     }
-    let chain = Chain::new(team, group);
-    copy_along(source, Rows::Keys, chain.as_slice(), tx)?;
-    copy_along(source, Rows::Versions, chain.as_slice(), tx)?;
-    copy_along(source, Rows::Pieces, chain.as_slice(), tx)
+    copy_along(source, Rows::Keys, shelves, tx)?;
+    copy_along(source, Rows::Versions, shelves, tx)?;
+    copy_along(source, Rows::Pieces, shelves, tx)
 }
 
-/// Writes the part of a team of this group, or of none, into a store that has `common` alone, whole or not at all.
+/// Writes these shelves and `common` into a store that has `common` alone, whole or not at all.
 pub(crate) fn write_part<S: Alter, F: Alter>(
     source: &mut Connection<S>,
-    team: &str,
-    group: Option<&Text>,
+    shelves: &ShelfList,
     fresh: &mut Connection<F>,
 ) -> Result<(), CopyError>
     ensures clean { doubt (state S.Store source.old).is_clean ≤ doubt (state S.Store source.new).is_clean }
     ensures clean_too { doubt (state F.Store fresh.old).is_clean ≤ doubt (state F.Store fresh.new).is_clean }
     ensures reads { IsReady (state S.Store source.old) → Spares (state S.Store source.old) (state S.Store source.new) }
     ensures changes { IsReady (state S.Store source.old) → IsOpenIfHonest (state F.Store fresh.old) → HasCleanDisk (state S.Store source.new)
-        → (w : _) → Stands (state S.Store source.old) w → IsWorld w
-        → IsTeam w team.now → group_of w team.now ≡ option_copied group.entry
-        → ChangesAt (state F.Store fresh.old) (state F.Store fresh.new) (is_ok result) only_common (part w team.now) }
+        → (w : _) → Stands (state S.Store source.old) w → IsWorld w → AreShelves w shelves.now
+        → ChangesAt (state F.Store fresh.old) (state F.Store fresh.new) (is_ok result) only_common (part_of w (common ∷ names_of shelves.now)) }
 {
     if !fresh.is_autocommit() {
         return Err(CopyError::Fresh(Error::SqliteFailure(ErrorCode::TransactionState)));
     }
     let mut tx = fresh.transaction();
-    let written = fill(source, team, group, &mut tx);
+    let written = fill(source, shelves, &mut tx);
     match commit_if(tx, written.is_ok()) {
         Ok(()) => written,
         Err(error) => Err(CopyError::Fresh(error)),

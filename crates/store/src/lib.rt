@@ -32,6 +32,7 @@
 
 mod adopt;
 mod chain;
+mod choice;
 mod extract;
 mod extract_judge;
 mod extract_part;

@@ -1,4 +1,4 @@
-//! A team's part of a store, as a store of its own.
+//! A team's part of a store, that of several teams, and the whole, as a store of its own.
 use sqlite::MemStore;
 use std::alloc::Global;
 use std::test::Fail;
@@ -14,6 +14,12 @@ trait Extracts: Shelves + Drop {
 
     /// Makes the other the team's part.
     fn extract_into(&mut self, team: &str, part: &mut Self) -> Result<(), Refusal>;
+
+    /// Makes the other the part of some teams.
+    fn extract_teams_into(&mut self, teams: &[&str], part: &mut Self) -> Result<(), Refusal>;
+
+    /// Makes the other a copy.
+    fn copy_into(&mut self, other: &mut Self) -> Result<(), Refusal>;
 }
 
 impl Extracts for SqlShelves<MemStore> {
@@ -23,6 +29,18 @@ impl Extracts for SqlShelves<MemStore> {
 
     fn extract_into(&mut self, team: &str, part: &mut SqlShelves<MemStore>) -> Result<(), Refusal> {
         self.extract(team, part)
+    }
+
+    fn extract_teams_into(
+        &mut self,
+        teams: &[&str],
+        part: &mut SqlShelves<MemStore>,
+    ) -> Result<(), Refusal> {
+        self.extract_teams(teams, part)
+    }
+
+    fn copy_into(&mut self, other: &mut SqlShelves<MemStore>) -> Result<(), Refusal> {
+        self.copy(other)
     }
 }
 
@@ -252,6 +270,202 @@ fn wrong_row_of_refused<S: Extracts>(alloc: Global) -> Result<&'static str, Fail
 #[test]
 fn a_store_that_was_refused_is_taken(rt: HostRuntime) -> Result<(), Fail> {
     let row = wrong_row_of_refused::<SqlShelves<MemStore>>(rt.alloc())?;
+    assert_eq!(rt; row, "");
+    Ok(())
+}
+
+/// The first row that the part of some teams, or the whole, then answers otherwise; empty where there is none.
+fn wrong_row_of_teams<S: Extracts>(
+    alloc: Global,
+    teams: &[&str],
+    scripts: Scripts,
+) -> Result<&'static str, Fail> {
+    let mut whole = whole::<S>(alloc, scripts.whole)?;
+    let mut part = S::opened(alloc)?;
+    whole.extract_teams_into(teams, &mut part)?;
+    let row = wrong_row(alloc, &mut part, scripts.part)?;
+    if row != "" {
+        return Ok(row);
+    }
+    wrong_row(alloc, &mut whole, scripts.kept)
+}
+
+/// What the part of gamma and delta has, which are of one group.
+const PART_OF_ONE_GROUP: &str = "\
+GET M example.com/h/@v/v1.0.0.zip | 200 OK | zip | m
+GET D example.com/h/@v/v1.0.0.zip | 200 OK | zip | h
+GET D example.com/d/@v/v1.0.0.zip | 200 OK | zip | d
+GET M example.com/d/@v/v1.0.0.zip | 404 Not Found | plain | not found;
+GET C example.com/h/@v/v1.0.0.zip | 200 OK | zip | c
+GET A example.com/h/@v/v1.0.0.zip | 404 Not Found | plain | not found;
+GET M -/modules | 200 OK | plain | example.com/g;example.com/h;
+GET D -/modules | 200 OK | plain | example.com/d;example.com/g;example.com/h;
+team-add|gamma = Taken
+team-add|delta = Taken
+group-add|platform = Taken
+team-add|alpha|platform = Done
+failures = 0
+";
+
+#[test]
+fn a_part_of_two_members_has_their_group_once(rt: HostRuntime) -> Result<(), Fail> {
+    let scripts = Scripts {
+        whole: GROUPED,
+        part: PART_OF_ONE_GROUP,
+        kept: KEPT_OF_GROUPED,
+    };
+    let row = wrong_row_of_teams::<SqlShelves<MemStore>>(rt.alloc(), &["gamma", "delta"], scripts)?;
+    assert_eq!(rt; row, "");
+    Ok(())
+}
+
+#[test]
+fn a_team_that_is_named_twice_is_as_one(rt: HostRuntime) -> Result<(), Fail> {
+    let scripts = Scripts {
+        whole: GROUPED,
+        part: PART_OF_GAMMA,
+        kept: KEPT_OF_GROUPED,
+    };
+    let row = wrong_row_of_teams::<SqlShelves<MemStore>>(rt.alloc(), &["gamma", "gamma"], scripts)?;
+    assert_eq!(rt; row, "");
+    Ok(())
+}
+
+/// Teams of two groups, and one of none, each with a key and a version.
+const TWO_GROUPS: &str = "\
+group-add|tools = Done
+group-add|platform = Done
+team-add|gamma|platform = Done
+team-add|delta|tools = Done
+team-add|alpha = Done
+key-add|tools|toolskey00000001 = Done
+key-add|platform|platformkey00001 = Done
+key-add|gamma|gammakey00000001 = Done
+reader-add|delta|deltakey00000001 = Done
+key-add|alpha|alphakey00000001 = Done
+key-add|common|commonkey0000001 = Done
+insert|tools|example.com/lib|v1.0.0|module example.com/lib;|of tools = ()
+insert|platform|example.com/lib|v1.0.0|module example.com/lib;|of platform = ()
+insert|common|example.com/lib|v1.0.0|module example.com/lib;|of common = ()
+insert|delta|example.com/own|v1.0.0|module example.com/own;|of delta|2024-02-29T12:34:56Z = ()
+insert|gamma|example.com/own|v1.0.0|module example.com/own;|of gamma = ()
+insert|alpha|example.com/own|v1.0.0|module example.com/own;|of alpha = ()
+";
+
+/// What the part of delta and gamma has of it.
+const PART_OF_TWO_GROUPS: &str = "\
+key|toolskey00000001 = tools Publishes
+key|platformkey00001 = platform Publishes
+key|gammakey00000001 = gamma Publishes
+key|deltakey00000001 = delta Reads
+key|commonkey0000001 = common Publishes
+key|alphakey00000001 = none
+entry|delta|example.com/lib|v1.0.0 = tools|module example.com/lib;|of tools|
+entry|gamma|example.com/lib|v1.0.0 = platform|module example.com/lib;|of platform|
+entry|common|example.com/lib|v1.0.0 = common|module example.com/lib;|of common|
+entry|delta|example.com/own|v1.0.0 = delta|module example.com/own;|of delta|2024-02-29T12:34:56Z
+entry|gamma|example.com/own|v1.0.0 = gamma|module example.com/own;|of gamma|
+paths|common = example.com/lib;
+entry|alpha|example.com/own|v1.0.0 = none
+team-add|delta|platform = Taken
+group-add|tools = Taken
+team-add|alpha|tools = Done
+entry|alpha|example.com/lib|v1.0.0 = tools|module example.com/lib;|of tools|
+failures = 0
+";
+
+/// That the whole has what it had, as its copy has it.
+const WHOLE_OF_TWO_GROUPS: &str = "\
+key|toolskey00000001 = tools Publishes
+key|platformkey00001 = platform Publishes
+key|gammakey00000001 = gamma Publishes
+key|deltakey00000001 = delta Reads
+key|commonkey0000001 = common Publishes
+key|alphakey00000001 = alpha Publishes
+entry|delta|example.com/lib|v1.0.0 = tools|module example.com/lib;|of tools|
+entry|gamma|example.com/lib|v1.0.0 = platform|module example.com/lib;|of platform|
+entry|alpha|example.com/lib|v1.0.0 = common|module example.com/lib;|of common|
+entry|delta|example.com/own|v1.0.0 = delta|module example.com/own;|of delta|2024-02-29T12:34:56Z
+entry|gamma|example.com/own|v1.0.0 = gamma|module example.com/own;|of gamma|
+entry|alpha|example.com/own|v1.0.0 = alpha|module example.com/own;|of alpha|
+paths|common = example.com/lib;
+team-add|gamma = Taken
+team-add|delta = Taken
+team-add|alpha = Taken
+group-add|tools = Taken
+group-add|platform = Taken
+failures = 0
+";
+
+#[test]
+fn a_part_of_teams_of_two_groups_has_both(rt: HostRuntime) -> Result<(), Fail> {
+    let scripts = Scripts {
+        whole: TWO_GROUPS,
+        part: PART_OF_TWO_GROUPS,
+        kept: WHOLE_OF_TWO_GROUPS,
+    };
+    let row = wrong_row_of_teams::<SqlShelves<MemStore>>(rt.alloc(), &["delta", "gamma"], scripts)?;
+    assert_eq!(rt; row, "");
+    Ok(())
+}
+
+/// Whether some names are refused because one of them is no team's, before the other store is looked at.
+fn are_no_teams<S: Extracts>(alloc: Global, teams: &[&str]) -> Result<bool, Fail> {
+    let mut whole = whole::<S>(alloc, TWO_GROUPS)?;
+    let mut part = S::opened(alloc)?;
+    let mut full = S::opened(alloc)?;
+    if wrong_row(alloc, &mut full, TWO_GROUPS)? != "" {
+        return Err(Fail::from("a store that is full"));
+    }
+    Ok(
+        whole.extract_teams_into(teams, &mut part) == Err(Refusal::NoTeam)
+            && whole.extract_teams_into(teams, &mut full) == Err(Refusal::NoTeam),
+    )
+}
+
+#[test]
+fn each_name_is_that_of_a_team(rt: HostRuntime) -> Result<(), Fail> {
+    let alloc = rt.alloc();
+    assert!(rt; are_no_teams::<SqlShelves<MemStore>>(alloc, &["gamma", "tools"])?);
+    assert!(rt; are_no_teams::<SqlShelves<MemStore>>(alloc, &["common", "gamma"])?);
+    assert!(rt; are_no_teams::<SqlShelves<MemStore>>(alloc, &["gamma", "delta", "beta"])?);
+    assert!(rt; are_no_teams::<SqlShelves<MemStore>>(alloc, &[])?);
+    Ok(())
+}
+
+/// Copies a store. The first row that the copy or the whole then answers otherwise; empty where there is none.
+fn wrong_row_of_copy<S: Extracts>(alloc: Global) -> Result<&'static str, Fail> {
+    let mut whole = whole::<S>(alloc, TWO_GROUPS)?;
+    let mut copy = S::opened(alloc)?;
+    whole.copy_into(&mut copy)?;
+    if whole.copy_into(&mut copy) != Err(Refusal::NotEmpty) {
+        return Ok("a copy that is there");
+    }
+    let row = wrong_row(alloc, &mut copy, WHOLE_OF_TWO_GROUPS)?;
+    if row != "" {
+        return Ok(row);
+    }
+    wrong_row(alloc, &mut whole, WHOLE_OF_TWO_GROUPS)
+}
+
+#[test]
+fn a_copy_has_all(rt: HostRuntime) -> Result<(), Fail> {
+    let row = wrong_row_of_copy::<SqlShelves<MemStore>>(rt.alloc())?;
+    assert_eq!(rt; row, "");
+    Ok(())
+}
+
+/// Copies a store with `common` alone. The first row that the copy then answers otherwise; empty where there is none.
+fn wrong_row_of_blank<S: Extracts>(alloc: Global) -> Result<&'static str, Fail> {
+    let mut whole = S::opened(alloc)?;
+    let mut copy = S::opened(alloc)?;
+    whole.copy_into(&mut copy)?;
+    wrong_row(alloc, &mut copy, TWO_GROUPS)
+}
+
+#[test]
+fn a_copy_of_common_alone_has_it(rt: HostRuntime) -> Result<(), Fail> {
+    let row = wrong_row_of_blank::<SqlShelves<MemStore>>(rt.alloc())?;
     assert_eq!(rt; row, "");
     Ok(())
 }

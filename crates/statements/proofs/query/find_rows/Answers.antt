@@ -3,7 +3,7 @@ use Rattle.sqlite.specs.Held.{state}
 use Rattle.sqlite.specs.State.{HasCleanDisk}
 use Rattle.sqlite.specs.Values.{bound}
 use Rattle.tables.proofs.FailureLemmas.{not_run}
-use Rattle.statements.proofs.CallLemmas.{quiet_spares, rows_spares, was_open, all_selected}
+use Rattle.statements.proofs.CallLemmas.{quiet_spares, rows_spares, was_open, rows_open, all_selected}
 use Rattle.statements.proofs.ChangeLemmas.{weaker}
 use Rattle.statements.proofs.query.find_rows.Goals as goal
 
@@ -28,3 +28,13 @@ returns-clause-rows g c clean w stands =
       was_open sql params c.requires.plain old mid new prepared c.prepare.ensures.survives c.query_all.ensures.survives c.requires.tables clean w stands,
       all_selected sql params c.requires.plain old mid new prepared c.prepare.ensures.survives c.query_all.ensures.survives c.requires.tables clean w stands rows.items shown,
     )) (c.query_all.ensures.ok clean)
+
+pub returns-clause-open : goal.returns-clause-open
+returns-clause-open g c clean w stands =
+    let sql = c.args.sql.now in
+    let params = bound c.args.params.now in
+    let old = state g.S.Store c.args.conn.now in
+    let mid = state g.S.Store c.prepare.new.self in
+    let new = state g.S.Store c.query_all.new.self in
+    let prepared = λ (clean : HasCleanDisk mid). (c.in_ok-prepare.ensures.ok clean).1 in
+    weaker c.query_all.result (λ rows shown. rows_open sql params c.requires.plain old mid new prepared c.prepare.ensures.survives c.query_all.ensures.survives c.requires.tables clean w stands rows.items shown) (c.query_all.ensures.ok clean)

@@ -3,8 +3,8 @@
 
 The store is that of the worked rows, with versions of beta's own before those of the others. Each version that is there, and one that
 is not, is asked for in every way, by each key, of two stores: of the whole and of alpha's part, and of two stores of which one has
-100 versions of beta more. So it is of gamma, a team of the group platform, whose part has the group too, and of the group's other team,
-delta. The bytes of the replies are compared. A table holds runs, as `harness.runs_of` reads them.
+100 versions of beta more. So it is of gamma, a team of the group platform, whose part has the group too, of the group's other team,
+delta, and of the part of both. The bytes of the replies are compared. A table holds runs, as `harness.runs_of` reads them.
 """
 
 import os
@@ -122,6 +122,22 @@ extract --db part.db --team platform --to other.db | 1 no-team
 extract --db part.db --team delta --to other.db | 1 no-team
 extract --db whole.db --team alpha --to alpha.db | 0
 inventory --db alpha.db --key P | 1 no-key
+extract --db whole.db --team gamma --team platform --to two.db | 1 no-team
+extract --db whole.db --team delta --team gamma --team delta --to two.db | 0
+inventory --db two.db --key D | 0
+    path,version,shelf,class,time,mod_bytes,zip_bytes
+    example.com/g,v1.0.0,platform,release,,21,1
+    example.com/h,v1.0.0,platform,release,,21,1
+    example.com/s,v1.0.0,delta,release,,21,1
+    example.com/x,v1.0.0,common,release,,21,1
+    example.com/y,v1.0.0,common,release,,21,1
+inventory --db two.db --key M | 0
+    path,version,shelf,class,time,mod_bytes,zip_bytes
+    example.com/g,v1.0.0,platform,release,,21,1
+    example.com/h,v1.0.0,gamma,release,,21,1
+    example.com/x,v1.0.0,common,release,,21,1
+    example.com/y,v1.0.0,common,release,,21,1
+inventory --db two.db --key A | 1 no-key
 group-add --db group.db --group tools | 0
 extract --db whole.db --team gamma --to group.db | 1 not-empty
 """
@@ -290,13 +306,16 @@ def group_part(suite):
     alike(suite, "whole.db", "part.db", "MPC")
     alike(suite, "part.db", "again.db", "MPCDA")
     alike(suite, "whole.db", "alpha.db")
+    alike(suite, "whole.db", "two.db", "MDPC")
     not_found = reply(404, b"not found\n")
     for letter in "DABR":
         suite.equal(f"the part finds nothing for {letter}", [it for it in asked("part.db", letter) if it[1] != not_found], [])
     suite.runs("the shelves of a part", IN_PART)
     of_group = [("common", None), ("delta", "platform"), ("eps", "platform"), ("gamma", "platform"), ("platform", None)]
+    of_two = [("common", None), ("delta", "platform"), ("gamma", "platform"), ("platform", None)]
     suite.equal("the shelves of gamma's part and two more", shelves("part.db"), of_group)
     suite.equal("the shelves of its part", shelves("again.db"), [("common", None), ("gamma", "platform"), ("platform", None)])
+    suite.equal("the shelves of the part of two teams", shelves("two.db"), of_two)
     suite.equal("the shelves of alpha's part and a group", shelves("alpha.db"), [("alpha", "common"), ("common", None), ("platform", None)])
 
 

@@ -34,6 +34,8 @@ enum Value {
     Flag,
     /// A text.
     Text(&'static str),
+    /// A text, or as many as the option is given.
+    Texts(&'static str),
     /// A number from 0 to this most.
     Number(&'static str, u64),
 }
@@ -118,7 +120,7 @@ static COMMANDS: [CommandRow; 13] = [
     },
     CommandRow {
         name: "extract",
-        about: "Makes a store of one team's part: its shelf, its group's and common, with their versions and keys",
+        about: "Makes a store of the part of one team or more: their shelves, their groups' and common, with their versions and keys",
         options: &EXTRACT,
         forms: None,
         example: "",
@@ -342,9 +344,9 @@ const EXTRACT: [OptionRow; 3] = [
     DB,
     OptionRow {
         name: "team",
-        value: Value::Text("T"),
+        value: Value::Texts("T"),
         needed: Needed::Always,
-        help: "The team; common and groups are none",
+        help: "A team, or several, each with its own --team; common and groups are none",
     },
     TO,
 ];
@@ -464,6 +466,7 @@ fn option<'a>(alloc: Global, row: &OptionRow) -> Arg<'a> {
     match row.value {
         Value::Flag => option.action(ArgAction::SetTrue),
         Value::Text(name) => option.value_name(name),
+        Value::Texts(name) => option.value_name(name).action(ArgAction::Append),
         Value::Number(name, most) => option
             .value_name(name)
             .value_parser(ValueParser::unsigned(0, most)),

@@ -6,7 +6,7 @@ use commands::work::Work;
 use tasks::Task;
 
 /// What the words ask for: nothing where no command is among them, which the parser refuses.
-pub fn task_of<'a>(matches: &ArgMatches<'a>) -> Option<Task<'a>> {
+pub fn task_of<'m, 'a>(matches: &'m ArgMatches<'a>) -> Option<Task<'m>> {
     let (name, matches) = matches.subcommand()?;
     match name {
         "init" => Some(Task::Init {
@@ -15,7 +15,7 @@ pub fn task_of<'a>(matches: &ArgMatches<'a>) -> Option<Task<'a>> {
         "answer" => Some(answer_task(matches)),
         "extract" => Some(Task::Extract {
             db: text(matches, "db"),
-            team: text(matches, "team"),
+            teams: matches.get_strs("team").unwrap_or(&[]),
             to: text(matches, "to"),
         }),
         "migrate" => Some(Task::Migrate {

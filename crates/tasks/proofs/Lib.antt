@@ -1,2 +1,3 @@
 pub mod Performed
 pub mod MigrateLemmas
+pub mod Parts

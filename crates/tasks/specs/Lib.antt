@@ -2,3 +2,4 @@ pub mod Extract
 pub mod Migrate
 pub mod Opened
 pub mod Task
+pub mod Parts

@@ -1,5 +1,5 @@
 -- What is done for a task.
-use Rattle.std.specs.Prelude.{ℕ, List, ◌≡◌, ◌⊎◌, Bool, Option, Result, Ok, Err}
+use Rattle.std.specs.Prelude.{ℕ, map as each, List, ◌≡◌, ◌⊎◌, Bool, Option, Result, Ok, Err}
 use Rattle.sqlite_wal.specs.Recovery.{Image}
 use Rattle.sqlite.specs.State.{State}
 use Rattle.world.specs.Store.{Shown}
@@ -60,10 +60,10 @@ module _ {S : Type 0} (shown : S → Shown) (failures : S → ℕ) (held : Image
 module _ {C S F : Type 0} (state_of : C → State) (shown : S → Shown) (failures : S → ℕ) (held : Image)
     (shown_too : F → Shown) (failures_too : F → ℕ) (held_too : Image)
     (unread unread_new written written_new : Option (List ℕ)) (result : Result Bool Refusal) where
-  -- a team's part of the store of a file was put into that of another or was not, and nothing was read or written
-  pub record ExtractsAlone (team : List ℕ) : Type 0 where
+  -- the part of some teams of the store of a file was put into that of another or was not, and nothing was read or written
+  pub record ExtractsAlone (teams : List (List ℕ)) : Type 0 where
     pub ended : Result (Unit {0}) Refusal
-    pub extracts : ExtractsFile shown failures held shown_too failures_too held_too team ended
+    pub extracts : ExtractsFile shown failures held shown_too failures_too held_too teams ended
     pub tells : TellsAlone unread unread_new written written_new result (acceptance ended)
 
   -- the store of a file was made one of the older file, or was not, and nothing was read or written
@@ -77,5 +77,5 @@ module _ {C S F : Type 0} (state_of : C → State) (shown : S → Shown) (failur
   Performs (task.Init db) = Inits shown failures held unread unread_new written written_new result
   Performs (task.AnswerInMemory team key) = AnswersInMemory unread unread_new written written_new result team.now key.now
   Performs (task.OnStore db work) = WorksOnFile shown failures held unread unread_new written written_new work result
-  Performs (task.Extract db team to) = ExtractsAlone team.now
+  Performs (task.Extract db teams to) = ExtractsAlone (each (λ team. team.now) teams.now)
   Performs (task.Migrate from to) = MigratesAlone

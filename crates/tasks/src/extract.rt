@@ -1,6 +1,6 @@
-//! A team's part of the store of one file as the store of another.
+//! The part of some teams of the store of one file as the store of another.
 
-ghost use Rattle.std.specs.Prelude.{◌≡◌};
+ghost use Rattle.std.specs.Prelude.{◌≡◌, map as each};
 ghost use Rattle.sqlite_wal.specs.Files.{image_at};
 ghost use Rattle.tasks.specs.Extract.{ExtractsFile, ExtractsPart, Fills};
 
@@ -13,7 +13,7 @@ use store::open::FileShelves;
 use store::store::SqlShelves;
 use world::shelves::Shelves;
 
-/// Makes the store of one file that of a team's part of the store of another. Where both paths lead to one file it is `NotEmpty`,
+/// Makes the store of one file that of some teams' part of the store of another. Where both paths lead to one file it is `NotEmpty`,
 /// and an empty one stays so.
 /// It compares the files after it opened the first and before it opens the second, whose lock would be `Device`.
 /// A hard link to the first file is `Device`, because sqlite refuses the first one itself.
@@ -21,14 +21,14 @@ pub(crate) fn extract_file<T: Start, U: Start>(
     rt: &HostRuntime,
     db: &str,
     start: T,
-    team: &str,
+    teams: &[&str],
     to: &str,
     target: U,
 ) -> Result<(), Refusal>
     ensures { ExtractsFile
         ⟦<FileShelves<T> as Shelves>⟧.shown ⟦<FileShelves<T> as Shelves>⟧.failure_count (image_at T.Start)
         ⟦<FileShelves<U> as Shelves>⟧.shown ⟦<FileShelves<U> as Shelves>⟧.failure_count (image_at U.Start)
-        team.now result }
+        (each (λ team. team.now) teams.now) result }
 {
     if is_empty_file(rt, db) && is_same_file(rt, db, to) {
         return Err(Refusal::NotEmpty);
@@ -37,25 +37,25 @@ pub(crate) fn extract_file<T: Start, U: Start>(
         Ok(shelves) => shelves,
         Err((unopened, _)) => return Err(open_refusal(unopened)),
     };
-    let told = extract_to(rt, db, &mut source, team, to, target);
+    let told = extract_to(rt, db, &mut source, teams, to, target);
     drop(source.close());
     told
 }
 
-/// Opens the store of a file and puts a team's part of an open store into it. The file of the open one, which is at `db`, is no
+/// Opens the store of a file and puts some teams' part of an open store into it. The file of the open one, which is at `db`, is no
 /// empty store, and is not opened again.
 /// It is generic over the first store, because the checker runs out of steps with two file stores in one function.
 fn extract_to<S: Alter, U: Start>(
     rt: &HostRuntime,
     db: &str,
     source: &mut SqlShelves<S>,
-    team: &str,
+    teams: &[&str],
     to: &str,
     target: U,
 ) -> Result<(), Refusal>
     ensures { Fills ⟦<SqlShelves<S> as Shelves>⟧.shown ⟦<SqlShelves<S> as Shelves>⟧.failure_count
         ⟦<FileShelves<U> as Shelves>⟧.shown ⟦<FileShelves<U> as Shelves>⟧.failure_count
-        source.old source.new (image_at U.Start) team.now result }
+        source.old source.new (image_at U.Start) (each (λ team. team.now) teams.now) result }
 {
     if is_same_file(rt, db, to) {
         return Err(Refusal::NotEmpty);
@@ -64,22 +64,22 @@ fn extract_to<S: Alter, U: Start>(
         Ok(shelves) => shelves,
         Err((unopened, _)) => return Err(unmade(open_refusal(unopened))),
     };
-    let told = extract_part(source, team, &mut fresh);
+    let told = extract_part(source, teams, &mut fresh);
     drop(fresh.close());
     told
 }
 
-/// Puts a team's part of one open store into another.
+/// Puts some teams' part of one open store into another.
 fn extract_part<S: Alter, F: Alter>(
     source: &mut SqlShelves<S>,
-    team: &str,
+    teams: &[&str],
     fresh: &mut SqlShelves<F>,
 ) -> Result<(), Refusal>
     ensures { ExtractsPart ⟦<SqlShelves<S> as Shelves>⟧.shown ⟦<SqlShelves<S> as Shelves>⟧.failure_count
         ⟦<SqlShelves<F> as Shelves>⟧.shown ⟦<SqlShelves<F> as Shelves>⟧.failure_count
-        source.old source.new fresh.old fresh.new team.now result }
+        source.old source.new fresh.old fresh.new (each (λ team. team.now) teams.now) result }
 {
-    match source.extract(team, fresh) {
+    match source.extract_teams(teams, fresh) {
         Ok(()) => Ok(()),
         Err(refusal) => Err(open_refusal(refusal)),
     }

@@ -5,7 +5,7 @@
 //! | [`Task::Init`] | makes a store with the shelf `common` alone, in a file that has no bytes |
 //! | [`Task::AnswerInMemory`] | answers requests from shelves in memory |
 //! | [`Task::OnStore`] | opens the store of a file and does one work of `commands` on it |
-//! | [`Task::Extract`] | opens the stores of two files and puts a team's part of the one into the other |
+//! | [`Task::Extract`] | opens the stores of two files and puts some teams' part of the one into the other |
 //! | [`Task::Migrate`] | opens a file of an older schema and the store of another file, and makes the second one of the first |
 //!
 //! A store of a file is held by one function for each kind of task: that of a work, that of what is extracted or migrated from, that
@@ -20,6 +20,7 @@ ghost use Rattle.tasks.specs.Opened as spec;
 ghost use Rattle.tasks.specs.Task.{Performs, Inits, WorksOnFile};
 
 mod extract;
+pub mod laws;
 mod migrate;
 mod old_file;
 
@@ -54,10 +55,10 @@ pub enum Task<'a> {
         db: &'a str,
         work: Work<'a>,
     },
-    /// `extract --db F --team T --to G`: makes the store of G that of the part of team T of the store of F.
+    /// `extract --db F --team T1 --team T2 .. --to G`: makes the store of G that of the part of these teams of the store of F.
     Extract {
         db: &'a str,
-        team: &'a str,
+        teams: &'a [&'a str],
         to: &'a str,
     },
     /// `migrate --from F --to G`: makes the store of G that of F, whose tables have an older schema.
@@ -92,7 +93,9 @@ pub fn perform<T: Start, U: Start, I: Read, O: Write>(
             Ok(true)
         }
         Task::OnStore { db, work } => on_file(rt, db, start, work, input, output),
-        Task::Extract { db, team, to } => acceptance(extract_file(rt, db, start, team, to, target)),
+        Task::Extract { db, teams, to } => acceptance(extract_file(
+            rt, db, start, teams, to, target,
+        )),
         Task::Migrate { from, to } => acceptance(migrate_file(rt, from, start, to, target)),
     }
 }

@@ -1,0 +1,33 @@
+-- What some teams are told by a store of their part: what they are told by the whole.
+use Rattle.std.specs.Prelude.{ℕ, ◌≡◌, List, [], ◌∷◌, true, false, Some}
+use Rattle.std.specs.FinMap as map
+use Rattle.world.specs.declared.entry.Holder.{Holder}
+use Rattle.world.specs.World.{World, IsWorld, is_among}
+use Rattle.world.specs.Part.{is_held}
+use Rattle.shelf.specs.declared.ask.Ask.{Ask}
+use Rattle.shelf.specs.declared.ask.Event.{Event}
+use Rattle.shelf.specs.declared.reply.Answer.{Answer}
+use Rattle.shelf.specs.Machine.{ask_reply, after_all, Run, answered, replies_of}
+use Rattle.shelf.specs.Isolation.{key_of, asking_key}
+use Rattle.shelf.specs.Parts.{IsNotFound, AllAsked}
+use Rattle.store.specs.Parts.{part_of, chains, AreTeams}
+
+-- each is a request with a key of one of these shelves. No request changes what a key holds, so it is the same at its moment.
+abbrev pub AllOf : World → List (List ℕ) → List Event → Type 0
+AllOf w ss [] = Unit {0}
+AllOf w ss (e ∷ es) = ((k : List ℕ) × (h : Holder) × (asking_key e ≡ Some k) × (map.get w.keys k ≡ Some h) × (is_among ss h.shelf ≡ true)) × AllOf w ss es
+
+-- Of two runs, one over the whole and one over the part of some teams: where what was answered is the same, each a request with a key of a shelf that one
+-- of the teams sees, so are the replies.
+abbrev pub TeamsAreToldTheSame : Type 0
+TeamsAreToldTheSame =
+    (w new other : World) (ts : List (List ℕ)) (first second : List Event) (told heard : List Answer) → IsWorld w → AreTeams w ts
+    → Run w first told new → Run (part_of w (chains w ts)) second heard other
+    → answered first told ≡ answered second heard → AllOf w (chains w ts) (answered first told)
+    → replies_of told ≡ replies_of heard
+
+-- After any requests, one whose key belongs to no shelf that one of the teams sees is not found there.
+abbrev pub OthersOfTeamsAreNotFound : Type 0
+OthersOfTeamsAreNotFound =
+    (w : World) (ts : List (List ℕ)) (k : List ℕ) (before : List Event) (a : Ask) → is_held (chains w ts) (map.get w.keys k) ≡ false
+    → key_of a ≡ Some k → AllAsked before → IsNotFound (ask_reply (after_all (part_of w (chains w ts)) before) a)

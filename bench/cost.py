@@ -1,5 +1,5 @@
 #!/usr/bin/env python3
-"""What a request costs `goshelf answer --mem`: instructions by valgrind's count, reads by strace's, and peak memory.
+"""What a request costs `goshelf answer --mem`, and a GET `goshelf serve`: instructions by valgrind's count, reads by strace's, and peak memory.
 
 Build the program first (`./goshelf --version`); it wants valgrind and strace. With --program FILE it measures that program.
 """
@@ -7,6 +7,7 @@ Build the program first (`./goshelf --version`); it wants valgrind and strace. W
 import fcntl
 import os
 import re
+import socket
 import subprocess
 import sys
 import tempfile
@@ -38,6 +39,26 @@ def instructions(program, source, feed=None, words=WORDS):
             feed()
         told = child.communicate()[1].decode()
     return int(re.search(r"Collected : (\d+)", told).group(1))
+
+
+def served(program, folder, count):
+    """How many instructions `serve` takes, with its opening, to answer so many GETs of a small .mod, each on a connection of its own."""
+    store = os.path.join(folder, f"served{count}.db")
+    for words in (["team-add", "--team", "alpha"], ["key-add", "--shelf", "alpha", "--key", KEY]):
+        subprocess.run([program, *words, "--db", store], check=True)
+    with stream_of(publish(PATH, VERSION)) as source:
+        subprocess.run([program, "answer", "--db", store], stdin=source, stdout=subprocess.DEVNULL, check=True)
+    words = ["serve", "--db", store, "--port", "0", "--connections", str(count)]
+    line = ["valgrind", "--tool=callgrind", f"--callgrind-out-file={folder}/out", program, *words]
+    child = subprocess.Popen(line, stdout=subprocess.PIPE, stderr=subprocess.PIPE)
+    port = int(child.stdout.readline().rsplit(b":", 1)[1])
+    request = b"".join(get(PATH, VERSION, "mod"))
+    for _ in range(count):
+        with socket.create_connection(("127.0.0.1", port)) as peer:
+            peer.sendall(request)
+            if not peer.makefile("rb").readline().startswith(b"HTTP/1.1 200 "):
+                sys.exit("a GET was not answered 200")
+    return int(re.search(r"Collected : (\d+)", child.communicate()[1].decode()).group(1))
 
 
 def byte_by_byte(program, stream):
@@ -94,6 +115,9 @@ def main():
     program = sys.argv[sys.argv.index("--program") + 1] if "--program" in sys.argv else PROGRAM
     counts = [instructions(program, stream_of(publish(PATH, VERSION), *(get(PATH, VERSION, "mod") for _ in range(n)))) for n in (1_000, 2_000)]
     print(f"a GET of a small .mod: {(counts[1] - counts[0]) // 1_000:,} instructions")
+    with tempfile.TemporaryDirectory() as folder:
+        counts = [served(program, folder, n) for n in (100, 300)]
+    print(f"the same by serve, on a connection of its own: {(counts[1] - counts[0]) // 200:,} instructions")
     if "--gets" in sys.argv:
         return
     nothing = instructions(program, stream_of())

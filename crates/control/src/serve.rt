@@ -7,6 +7,7 @@ use crate::callers::{Caller, Callers, Operator};
 use socket::Peer;
 use std::alloc::Global;
 use std::time::Clock;
+use wire::RouteTable;
 use world::shelves::Shelves;
 
 /// Takes so many connections of peers, one after another, and answers on each the first message that comes over it; the orders of
@@ -28,6 +29,7 @@ pub fn serve_both<C: Clock, P: Peer + Drop, O: Operator + Drop, L: Callers<P, O>
     ensures each { ServesEach O.unread O.written P.unread P.written (L.waiting callers.old) (L.waiting callers.new)
         (S.shown shelves.old) (S.shown shelves.new) (S.failure_count shelves.old) (S.failure_count shelves.new) connections }
 {
+    let mut routes = RouteTable::new(alloc);
     let mut left = connections;
     for _ in 0..u64::MAX {
         if left == 0 {
@@ -37,7 +39,7 @@ pub fn serve_both<C: Clock, P: Peer + Drop, O: Operator + Drop, L: Callers<P, O>
             Ok(Caller::Operator(mut operator)) => obey_on(alloc, clock, &mut operator, shelves),
             Ok(Caller::Peer(mut peer)) => {
                 left -= 1;
-                answer_on(alloc, clock, &mut peer, shelves);
+                answer_on(alloc, clock, &mut routes, &mut peer, shelves);
             }
             Err(_) => left -= 1,
         }
@@ -45,11 +47,17 @@ pub fn serve_both<C: Clock, P: Peer + Drop, O: Operator + Drop, L: Callers<P, O>
 }
 
 /// Answers one request of a peer, and ends its connection. What fails on it is told to nobody.
-fn answer_on<C: Clock, P: Peer, S: Shelves>(alloc: Global, clock: &C, peer: &mut P, shelves: &mut S)
+fn answer_on<C: Clock, P: Peer, S: Shelves>(
+    alloc: Global,
+    clock: &C,
+    routes: &mut RouteTable,
+    peer: &mut P,
+    shelves: &mut S,
+)
     ensures { Answers P.unread P.written peer.old (S.shown shelves.old) (S.shown shelves.new) (S.failure_count shelves.old)
         (S.failure_count shelves.new) }
 {
-    if let Ok(Some(status)) = peer.answer(alloc, clock, shelves) {
+    if let Ok(Some(status)) = peer.answer(alloc, clock, routes, shelves) {
         peer.end(clock, status);
     }
 }

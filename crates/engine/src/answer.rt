@@ -8,7 +8,7 @@ ghost use Rattle.engine.specs.Served.{Serves};
 ghost use Rattle.engine.specs.Store.{GoesThrough};
 ghost use Rattle.engine.specs.Turn.{AnswersHeld, Delivers};
 
-use crate::exchange::{answer_alone, answer_message};
+use crate::exchange::answer_message;
 use crate::fault::Io;
 use crate::read::read_more;
 use crate::turn::{Taken, Turn, take};
@@ -77,6 +77,7 @@ pub fn answer_all<R: Read, W: Write, S: Shelves>(
 /// Answers the first message, and flushes.
 fn answer_first<W: Write, S: Shelves>(
     alloc: Global,
+    routes: &mut RouteTable,
     writer: &mut W,
     shelves: &mut S,
     message: Message,
@@ -87,7 +88,7 @@ fn answer_first<W: Write, S: Shelves>(
         × Delivers (W.contents writer.old) (W.contents writer.new) (first_bytes (Answers x)) result
         × IfOk result (λ status. status ≡ first_status (Answers x))) }
 {
-    let status = answer_alone(alloc, writer, shelves, message)?;
+    let status = answer_message(alloc, routes, writer, shelves, message)?;
     flush(writer)?;
     Ok(Some(status.as_u16()))
 }
@@ -95,6 +96,7 @@ fn answer_first<W: Write, S: Shelves>(
 /// Answers the first message of the stream and returns its status, or None if the stream is empty.
 fn serve_first<R: Read, W: Write, S: Shelves>(
     alloc: Global,
+    routes: &mut RouteTable,
     reader: &mut R,
     writer: &mut W,
     shelves: &mut S,
@@ -110,7 +112,9 @@ fn serve_first<R: Read, W: Write, S: Shelves>(
             return close_first(writer, closing);
         }
         match take(&mut framer) {
-            Taken::Message(message) => return answer_first(alloc, writer, shelves, message),
+            Taken::Message(message) => {
+                return answer_first(alloc, routes, writer, shelves, message);
+            }
             Taken::More => {}
             Taken::Close(closing) => return close_first(writer, Some(closing)),
         }
@@ -138,5 +142,27 @@ pub fn answer_one<R: Read, W: Write, S: Shelves>(
     ensures isolated { AnswersByItsShelf (S.shown shelves.old) (S.shown shelves.new)
         (R.remaining reader.old) (W.contents writer.old) (W.contents writer.new) result }
 {
-    serve_first(alloc, reader, writer, shelves)
+    let mut routes = RouteTable::new(alloc);
+    answer_one_with(alloc, &mut routes, reader, writer, shelves)
+}
+
+/// Answers the first message of a stream as [`answer_one`] does, with a router that is lent, so that a caller makes one for many
+/// streams.
+pub fn answer_one_with<R: Read, W: Write, S: Shelves>(
+    alloc: Global,
+    routes: &mut RouteTable,
+    reader: &mut R,
+    writer: &mut W,
+    shelves: &mut S,
+) -> Result<Option<u16>, Io>
+    ensures serves { ServesFirst (S.shown shelves.old) (S.shown shelves.new) (S.failure_count shelves.old) (S.failure_count shelves.new)
+        (R.remaining reader.old) (R.remaining reader.new) (W.contents writer.old) (W.contents writer.new) result }
+    // Where there was no message, or it was not read whole, the shelves were not touched.
+    ensures empty { IfOk result (λ status. status ≡ None → shelves.new ≡ shelves.old) }
+    ensures unread { IfErr result (λ e. e ≡ Io.Read → shelves.new ≡ shelves.old) }
+    // What a caller is told does not hang on the shelves that it does not see.
+    ensures isolated { AnswersByItsShelf (S.shown shelves.old) (S.shown shelves.new)
+        (R.remaining reader.old) (W.contents writer.old) (W.contents writer.new) result }
+{
+    serve_first(alloc, routes, reader, writer, shelves)
 }

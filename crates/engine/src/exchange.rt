@@ -71,20 +71,3 @@ pub(crate) fn answer_message<W: Write, S: Shelves>(
     let page = page_for(alloc, routes, shelves, message);
     write_page(alloc, writer, &page)
 }
-
-/// Answers one message that stands alone, with a new router, and returns the status that was written.
-pub(crate) fn answer_alone<W: Write, S: Shelves>(
-    alloc: Global,
-    writer: &mut W,
-    shelves: &mut S,
-    message: Message,
-) -> Result<StatusCode, Io>
-    ensures { (outcome : Outcome)
-        × (let x : Exchange = record { message = view message; outcome = outcome } in
-        GoesThrough (S.shown shelves.old) (S.shown shelves.new) (S.failure_count shelves.old) (S.failure_count shelves.new) (x ∷ [])
-        × Writes (W.contents writer.old) (W.contents writer.new) (text_of x) result
-        × IfOk result (λ status. status ≡ status_of x)) }
-{
-    let mut routes = RouteTable::new(alloc);
-    answer_message(alloc, &mut routes, writer, shelves, message)
-}

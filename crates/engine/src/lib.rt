@@ -41,6 +41,8 @@
 //!
 //! A read or a write that is interrupted is made anew, a thousand times at most. A reader or a writer that fails gives
 //! [`Io`]: what was done before stays, and the contracts of [`answer_all`] and [`answer_one`] say what was written.
+//!
+//! A router reads the targets. [`answer_all`] makes one for its stream; a caller of many streams lends [`answer_one_with`] one for all.
 #![tactic(auto)]
 
 mod answer;
@@ -53,5 +55,5 @@ mod read;
 mod turn;
 pub mod write;
 
-pub use answer::{answer_all, answer_one};
+pub use answer::{answer_all, answer_one, answer_one_with};
 pub use fault::Io;

@@ -6,11 +6,12 @@ ghost use Rattle.engine.specs.Isolated.{AnswersByItsShelf};
 use crate::pace::{Paced, Part};
 use crate::rest::drop_rest;
 use crate::wait::{BoundRead, BoundWrite};
-use engine::{Io, answer_one};
+use engine::{Io, answer_one_with};
 use std::alloc::Global;
 use std::io;
 use std::net::{TcpListener, TcpStream};
 use std::time::Clock;
+use wire::RouteTable;
 use world::shelves::Shelves;
 
 /// The two ends of a connection, and how its first request was answered, as `answer_one` tells it.
@@ -28,13 +29,14 @@ pub struct Answered<R, W> {
 /// Answers the first request of a peer (RFC 9112, in the crate `wire`'s profile), as `engine::answer_one` does. All reads together
 /// have 5 seconds and one more for each 1,048,576 bytes that were read, and so have all writes; the time begins at the first of
 /// them. Each wait is bounded to what is left of it. A read or a write fails where nothing is left, where the clock can't be read,
-/// and where its wait can't be bounded.
+/// and where its wait can't be bounded. The router is lent, so that one serves all connections.
 ///
 /// `Io::Read`: nothing was done, and nothing written. `Io::Write`: a beginning of the reply was written, or the flush alone
 /// failed; the shelves are as after the request.
 pub fn answer_in_time<C: Clock, R: BoundRead + Drop, W: BoundWrite + Drop, S: Shelves>(
     alloc: Global,
     clock: &C,
+    routes: &mut RouteTable,
     reader: R,
     writer: W,
     shelves: &mut S,
@@ -50,7 +52,7 @@ pub fn answer_in_time<C: Clock, R: BoundRead + Drop, W: BoundWrite + Drop, S: Sh
 {
     let mut request = Paced::new(reader, clock, Part::Message);
     let mut reply = Paced::new(writer, clock, Part::Message);
-    let told = answer_one(alloc, &mut request, &mut reply, shelves);
+    let told = answer_one_with(alloc, routes, &mut request, &mut reply, shelves);
     Answered {
         reader: request.into_inner(),
         writer: reply.into_inner(),
@@ -69,11 +71,12 @@ pub trait Peer {
     /// The bytes that it was sent, where they are known.
     ghost written: { Self → Option (List ℕ) };
 
-    /// Answers its first request, as `engine::answer_one` does.
+    /// Answers its first request, as `engine::answer_one` does, with a router that is lent.
     fn answer<C: Clock, S: Shelves>(
         &mut self,
         alloc: Global,
         clock: &C,
+        routes: &mut RouteTable,
         shelves: &mut S,
     ) -> Result<Option<u16>, Io>
         ensures { ServesFirst (S.shown shelves.old) (S.shown shelves.new) (S.failure_count shelves.old) (S.failure_count shelves.new)
@@ -96,10 +99,11 @@ impl Peer for TcpStream {
         &mut self,
         alloc: Global,
         clock: &C,
+        routes: &mut RouteTable,
         shelves: &mut S,
     ) -> Result<Option<u16>, Io> {
         let stream: &TcpStream = self;
-        answer_in_time(alloc, clock, stream, stream, shelves).told
+        answer_in_time(alloc, clock, routes, stream, stream, shelves).told
     }
 
     /// Shuts the writing side, and drops what the peer sent behind its message.

@@ -4,6 +4,7 @@ ghost use Rattle.socket.specs.Connections.{Answers, AnswersEach, GoesThroughMost
 use crate::connection::{Listener, Peer};
 use std::alloc::Global;
 use std::time::Clock;
+use wire::RouteTable;
 use world::shelves::Shelves;
 
 /// Takes connections from a listener, one after another, and answers on each the first message that comes over it; the store
@@ -25,20 +26,27 @@ pub fn serve_on<C: Clock, P: Peer + Drop, L: Listener<P>, S: Shelves>(
     ensures each { AnswersEach P.unread P.written (L.waiting listener.old) (L.waiting listener.new)
         (S.shown shelves.old) (S.shown shelves.new) (S.failure_count shelves.old) (S.failure_count shelves.new) connections }
 {
+    let mut routes = RouteTable::new(alloc);
     for _ in 0..connections {
         match listener.accept() {
-            Ok(mut peer) => answer_on(alloc, clock, &mut peer, shelves),
+            Ok(mut peer) => answer_on(alloc, clock, &mut routes, &mut peer, shelves),
             Err(_) => {}
         }
     }
 }
 
 /// Answers one request of a peer, and ends its connection. What fails on it is told to nobody.
-fn answer_on<C: Clock, P: Peer, S: Shelves>(alloc: Global, clock: &C, peer: &mut P, shelves: &mut S)
+fn answer_on<C: Clock, P: Peer, S: Shelves>(
+    alloc: Global,
+    clock: &C,
+    routes: &mut RouteTable,
+    peer: &mut P,
+    shelves: &mut S,
+)
     ensures { Answers P.unread P.written peer.old (S.shown shelves.old) (S.shown shelves.new) (S.failure_count shelves.old)
         (S.failure_count shelves.new) }
 {
-    if let Ok(Some(status)) = peer.answer(alloc, clock, shelves) {
+    if let Ok(Some(status)) = peer.answer(alloc, clock, routes, shelves) {
         peer.end(clock, status);
     }
 }

@@ -8,6 +8,7 @@ use std::cell::Cell;
 use std::io::{self, Chain, Read, Write};
 use std::test::Fail;
 use std::time::{Clock, Duration};
+use wire::RouteTable;
 
 /// A clock that goes on by so many milliseconds each time that it is read.
 #[derive(Drop)]
@@ -102,6 +103,7 @@ fn told<'a, W: Write + Drop>(
     Ok(answer_in_time(
         alloc,
         &clock(step),
+        &mut RouteTable::new(alloc),
         reader,
         Bounded::new(writer),
         &mut shelves,

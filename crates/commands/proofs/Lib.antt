@@ -1,4 +1,5 @@
 mod Gathered
+mod InventoryLines
 mod ImportLists
 mod Imports
 mod Openings

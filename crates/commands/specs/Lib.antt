@@ -6,6 +6,7 @@ pub mod ImportFiles
 pub mod ImportLine
 pub mod ImportList
 pub mod Inventory
+pub mod InventoryLines
 pub mod Rows
 pub mod Lines
 pub mod Opening

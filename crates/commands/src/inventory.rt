@@ -1,12 +1,15 @@
 //! `inventory`: what a shelf sees, as CSV. (RFC 4180.)
-ghost use Rattle.std.specs.Prelude.{◌≡◌, [], ◌∷◌, Some, IfOk};
+ghost use Rattle.std.specs.Prelude.{◌≡◌, [], ◌∷◌, Some, IfOk, OnOk};
 ghost use Rattle.std.specs.FinMap as map;
 ghost use Rattle.world.specs.Store.{Reads, HasCause};
 ghost use Rattle.commands.specs.Inventory as spec;
+ghost use Rattle.commands.specs.InventoryLines.{lines_at, lines_of_path, lines_of_text, lines_seen};
+ghost use Rattle.commands.specs.Lines.{IsBetweenLines, text_in};
 ghost use Rattle.commands.specs.Reading.{Adds};
 ghost use Rattle.commands.specs.Rows.{IsWhole};
 
-use crate::inventory_text::text_of;
+use crate::inventory_text::{headed, text_of, write_row};
+use csv::Writer;
 use modpath::ModulePath;
 use modver::{TimeText, Version};
 use std::alloc::{AllocError, Global};
@@ -76,7 +79,7 @@ fn inventory_of<S: Shelves>(
     Ok(Some(inventory_on(alloc, shelves, holder.shelf.as_str())?))
 }
 
-/// The inventory of a shelf.
+/// The inventory of a shelf, in one walk. What is held is its text and the paths.
 fn inventory_on<S: Shelves>(
     alloc: Global,
     shelves: &mut S,
@@ -85,64 +88,69 @@ fn inventory_on<S: Shelves>(
     ensures reads { Reads (S.shown shelves.old) (S.shown shelves.new) result (λ w. spec.inventory_of_shelf w shelf.now) }
     ensures cause { HasCause (S.failure_count shelves.old) (S.failure_count shelves.new) result }
 {
-    let mut rows = Vec::new(alloc);
-    add_rows(alloc, shelves, shelf, &mut rows)?;
-    Ok(text_of(alloc, rows.as_slice())?)
+    let mut lines = headed(alloc)?;
+    add_paths(alloc, shelves, shelf, &mut lines)?;
+    Ok(text_of(lines)?)
 }
 
-/// Adds all versions that a shelf sees: the paths by their bytes, the versions of each by precedence.
-fn add_rows<S: Shelves>(
+/// Adds the lines of all versions that a shelf sees: the paths by their bytes, the versions of each by precedence.
+fn add_paths<S: Shelves>(
     alloc: Global,
     shelves: &mut S,
     shelf: &str,
-    rows: &mut Vec<Row>,
+    lines: &mut Writer<Vec<u8>>,
 ) -> Result<(), StoreFault>
-    ensures adds { Adds (S.shown shelves.old) (S.shown shelves.new) rows.old.items rows.new.items result (λ w. spec.rows_seen w shelf.now) }
+    requires between { IsBetweenLines lines.old }
+    ensures adds { Adds (S.shown shelves.old) (S.shown shelves.new) (text_in lines.old) (text_in lines.new) result (λ w. lines_seen w shelf.now) }
     ensures cause { HasCause (S.failure_count shelves.old) (S.failure_count shelves.new) result }
 {
     let paths = shelves.paths(shelf)?;
     for text in paths.iter() {
-        add_text(alloc, shelves, shelf, text.as_str(), rows)?;
+        add_text(alloc, shelves, shelf, text.as_str(), lines)?;
     }
     Ok(())
 }
 
-/// Adds the versions of the path that a text is.
+/// Adds the lines of the path that a text is.
 fn add_text<S: Shelves>(
     alloc: Global,
     shelves: &mut S,
     shelf: &str,
     text: &str,
-    rows: &mut Vec<Row>,
+    lines: &mut Writer<Vec<u8>>,
 ) -> Result<(), StoreFault>
-    ensures adds { Adds (S.shown shelves.old) (S.shown shelves.new) rows.old.items rows.new.items result (λ w. spec.rows_of_text w shelf.now text.now) }
+    requires between { IsBetweenLines lines.old }
+    ensures between { OnOk result (IsBetweenLines lines.new) }
+    ensures adds { Adds (S.shown shelves.old) (S.shown shelves.new) (text_in lines.old) (text_in lines.new) result (λ w. lines_of_text w shelf.now text.now) }
     ensures cause { HasCause (S.failure_count shelves.old) (S.failure_count shelves.new) result }
 {
     let Some(path) = path_of(alloc, text)? else {
         return Ok(());
     };
-    add_path(alloc, shelves, shelf, &path, rows)
+    add_path(alloc, shelves, shelf, &path, lines)
 }
 
-/// Adds the versions of a path by precedence.
+/// Adds the lines of a path, its versions by precedence.
 fn add_path<S: Shelves>(
     alloc: Global,
     shelves: &mut S,
     shelf: &str,
     path: &ModulePath,
-    rows: &mut Vec<Row>,
+    lines: &mut Writer<Vec<u8>>,
 ) -> Result<(), StoreFault>
-    ensures adds { Adds (S.shown shelves.old) (S.shown shelves.new) rows.old.items rows.new.items result (λ w. spec.rows_of_path w shelf.now path.now) }
+    requires between { IsBetweenLines lines.old }
+    ensures between { OnOk result (IsBetweenLines lines.new) }
+    ensures adds { Adds (S.shown shelves.old) (S.shown shelves.new) (text_in lines.old) (text_in lines.new) result (λ w. lines_of_path w shelf.now path.now) }
     ensures cause { HasCause (S.failure_count shelves.old) (S.failure_count shelves.new) result }
 {
     let versions = shelves.versions(shelf, path)?;
     for version in versions.as_slice() {
-        add_version(alloc, shelves, shelf, path, version, rows)?;
+        add_version(alloc, shelves, shelf, path, version, lines)?;
     }
     Ok(())
 }
 
-/// Adds a version, where the shelf sees it.
+/// Adds the line of a version, where the shelf sees it.
 /// It reads the whole entry, because no other call of a store says how long a zip is.
 fn add_version<S: Shelves>(
     alloc: Global,
@@ -150,19 +158,18 @@ fn add_version<S: Shelves>(
     shelf: &str,
     path: &ModulePath,
     version: &Version,
-    rows: &mut Vec<Row>,
+    lines: &mut Writer<Vec<u8>>,
 ) -> Result<(), StoreFault>
-    ensures adds { Adds (S.shown shelves.old) (S.shown shelves.new) rows.old.items rows.new.items result (λ w. spec.row_at w shelf.now path.now version.now) }
+    requires between { IsBetweenLines lines.old }
+    ensures between { OnOk result (IsBetweenLines lines.new) }
+    ensures adds { Adds (S.shown shelves.old) (S.shown shelves.new) (text_in lines.old) (text_in lines.new) result (λ w. lines_at w shelf.now path.now version.now) }
     ensures cause { HasCause (S.failure_count shelves.old) (S.failure_count shelves.new) result }
 {
     let Some(seen) = shelves.entry(shelf, path, version)? else {
         return Ok(());
     };
     let row = row_of(alloc, path, version, seen)?;
-    match rows.push(row) {
-        Ok(()) => Ok(()),
-        Err(_) => Err(StoreFault::Memory),
-    }
+    Ok(write_row(alloc, lines, &row)?)
 }
 
 /// What the inventory has of a version that is seen.

@@ -1,60 +1,59 @@
 //! The inventory as CSV. (RFC 4180.)
 ghost use Rattle.std.specs.Prelude.{◌≡◌, [], ◌∷◌, ◌++◌, decimal, IfOk, OnOk};
-ghost use Rattle.std.specs.Io.KnownBytes.{Appends};
 ghost use Rattle.csv.specs.Records.{fields_of, partial_of};
-ghost use Rattle.csv.specs.Writing.{text_written};
 ghost use Rattle.commands.specs.Inventory as spec;
-ghost use Rattle.commands.specs.Lines.{IsBetweenLines};
+ghost use Rattle.commands.specs.Lines.{IsBetweenLines, text_in};
 
 use crate::inventory::Row;
 use csv::{ByteRecord, Writer};
 use itoa::Buffer;
 use modver::{Class, TimeText, class};
 use std::alloc::{AllocError, Global};
-use std::io::Write;
 use world::bytes::Bytes;
 
-/// The header, and a line for each row.
-pub fn text_of(alloc: Global, rows: &[Row]) -> Result<Bytes, AllocError>
-    ensures { IfOk result (λ text. text ≡ spec.text_of rows.now) }
+/// A writer to which the header was written.
+pub(crate) fn headed(alloc: Global) -> Result<Writer<Vec<u8>>, AllocError>
+    ensures between { IfOk result IsBetweenLines }
+    ensures text { IfOk result (λ lines. text_in lines ≡ spec.line spec.header) }
 {
-    let mut writer = Writer::from_writer(Vec::new(alloc));
-    write_all(alloc, &mut writer, rows)?;
-    match writer.into_inner() {
+    let mut lines = Writer::from_writer(Vec::new(alloc));
+    let header = header(alloc)?;
+    write_line(&mut lines, &header)?;
+    Ok(lines)
+}
+
+/// Writes the line of a row.
+pub(crate) fn write_row(
+    alloc: Global,
+    lines: &mut Writer<Vec<u8>>,
+    row: &Row,
+) -> Result<(), AllocError>
+    requires between { IsBetweenLines lines.old }
+    ensures between { OnOk result (IsBetweenLines lines.new) }
+    ensures text { OnOk result (text_in lines.new ≡ text_in lines.old ++ spec.line (spec.fields row.now)) }
+{
+    let fields = fields_of_row(alloc, row)?;
+    write_line(lines, &fields)
+}
+
+/// The text that was written.
+pub(crate) fn text_of(lines: Writer<Vec<u8>>) -> Result<Bytes, AllocError>
+    ensures { IfOk result (λ text. text ≡ text_in lines) }
+{
+    match lines.into_inner() {
         Ok(text) => Ok(Bytes::new(text)),
         Err(_) => Err(AllocError),
     }
 }
 
-/// Writes the header, and a line for each row.
-fn write_all<W: Write + Drop>(
-    alloc: Global,
-    writer: &mut Writer<W>,
-    rows: &[Row],
-) -> Result<(), AllocError>
-    requires between { IsBetweenLines writer.old }
-    ensures text { OnOk result (Appends (text_written W.contents writer.old) (text_written W.contents writer.new) (spec.text_of rows.now)) }
-{
-    let header = header(alloc)?;
-    write_line(writer, &header)?;
-    for row in rows {
-        let fields = fields_of_row(alloc, row)?;
-        write_line(writer, &fields)?;
-    }
-    Ok(())
-}
-
 /// Writes a line of these fields.
 #[tactic(auto, unfolding(crate::specs::Inventory::line))]
-fn write_line<W: Write + Drop>(
-    writer: &mut Writer<W>,
-    fields: &ByteRecord,
-) -> Result<(), AllocError>
-    requires between { IsBetweenLines writer.old }
-    ensures between { OnOk result (IsBetweenLines writer.new) }
-    ensures text { OnOk result (Appends (text_written W.contents writer.old) (text_written W.contents writer.new) (spec.line (fields_of fields.now))) }
+fn write_line(lines: &mut Writer<Vec<u8>>, fields: &ByteRecord) -> Result<(), AllocError>
+    requires between { IsBetweenLines lines.old }
+    ensures between { OnOk result (IsBetweenLines lines.new) }
+    ensures text { OnOk result (text_in lines.new ≡ text_in lines.old ++ spec.line (fields_of fields.now)) }
 {
-    match writer.write_byte_record(fields) {
+    match lines.write_byte_record(fields) {
         Ok(()) => Ok(()),
         Err(_) => Err(AllocError),
     }

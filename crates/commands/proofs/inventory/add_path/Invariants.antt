@@ -1,14 +1,16 @@
 use Rattle.std.proofs.Common.{◌≤◌, drop}
-use Rattle.commands.specs.Inventory.{row_at, rows_of_path}
+use Rattle.commands.specs.InventoryLines.{lines_at, lines_of_path}
+use Rattle.commands.specs.Lines.{IsBetweenLines, text_in}
 use Rattle.commands.proofs.Gathered.{Keeps, Gathers}
 use Rattle.commands.proofs.inventory.add_path.Given as goal
 
--- the rows of the versions so far, and those of the versions that are left
+-- the lines of the versions so far, and those of the versions that are left
 abbrev pub invariant-loop-version : goal.invariant-loop-version
 invariant-loop-version g l =
     let s = g.S.Shelves in
     record {
+      between : IsBetweenLines l.lines;
       gathers : Keeps (s.shown l.fn.shelves) (s.shown l.shelves)
-          (Gathers (λ w. row_at w l.shelf l.path) l.fn.rows.items (λ w. rows_of_path w l.shelf l.path) l.rows.items (drop l.version-index l.version-items));
+          (Gathers (λ w. lines_at w l.shelf l.path) (text_in l.fn.lines) (λ w. lines_of_path w l.shelf l.path) (text_in l.lines) (drop l.version-index l.version-items));
       no_fewer : s.failure_count l.fn.shelves ≤ s.failure_count l.shelves;
     }

@@ -1,0 +1,92 @@
+#!/usr/bin/env python3
+"""What the lists of a whole shelf cost: `-/modules` and `inventory` of 1,000, 10,000 and 100,000 paths with a version each.
+
+Build the program first (`./goshelf --version`). With --program FILE it measures that program, with --zip BYTES each zip has so many (1,024).
+Each line tells the bytes of the text, the processor time beside that of opening the store, and the peak of memory beside the opening's. With
+--count it also tells instructions by valgrind's count, less the opening's, for all but the largest store.
+"""
+
+import os
+import statistics
+import sqlite3
+import subprocess
+import sys
+import tempfile
+
+sys.path.insert(0, os.path.dirname(os.path.abspath(__file__)))
+from cost import instructions, stream_of
+from store import KEY, PIECE, PROGRAM, gomod, keys, made
+
+PATHS = (1_000, 10_000, 100_000)
+COUNTED = 10_000
+ROUNDS = 3
+VERSION = "v1.0.0"
+
+
+def filled(file, paths, zip_length):
+    """A store of so many paths, made by sqlite3 in one transaction."""
+    conn = made(file)
+    conn.execute("BEGIN")
+    order, rank = keys(VERSION)
+    zip = bytes(zip_length)
+    for n in range(paths):
+        path = f"example.com/team/module{n}"
+        row = ("alpha", path, VERSION, gomod(path), order, rank)
+        number = conn.execute("INSERT INTO version (shelf, path, version, mod, order_key, rank_key) VALUES (?, ?, ?, ?, ?, ?)", row).lastrowid
+        for at in range(0, len(zip), PIECE):
+            conn.execute("INSERT INTO piece VALUES (?, ?, ?)", (number, at // PIECE, zip[at : at + PIECE]))
+    conn.execute("COMMIT")
+    conn.close()
+
+
+def questions(file):
+    """Of each question the words of the program and the stream that it reads; the first only opens the store."""
+    modules = f"GET /k/{KEY}/-/modules HTTP/1.1\r\n\r\n".encode()
+    yield "opening", ["answer", "--db", file], b""
+    yield "`-/modules`", ["answer", "--db", file], modules
+    yield "`inventory`", ["inventory", "--db", file, "--key", KEY], b""
+
+
+def run(program, words, stream):
+    """The processor seconds, the peak in MiB and the bytes written."""
+    with stream_of([stream]) as source, tempfile.TemporaryFile() as target:
+        child = subprocess.Popen([program, *words], stdin=source, stdout=target)
+        _, status, usage = os.wait4(child.pid, 0)
+        if status != 0:
+            sys.exit(f"{words[0]} ended with wait status {status}")
+        return usage.ru_utime + usage.ru_stime, usage.ru_maxrss / 1024, target.seek(0, os.SEEK_END)
+
+
+def measured(program, file, counts):
+    """Prints what each question costs beside the opening."""
+    opening = None
+    for name, words, stream in questions(file):
+        runs = [run(program, words, stream) for _ in range(ROUNDS)]
+        seconds, peak, size = (statistics.median(it) for it in zip(*runs))
+        count = None
+        if counts:
+            with stream_of([stream]) as source:
+                count = instructions(program, source, words=words)
+        if opening is None:
+            opening = seconds, peak, count
+            print(f"  opening: {seconds:.3f} s, {peak:.1f} MiB")
+            continue
+        told = f"  {name}, {size:,.0f} bytes: {seconds - opening[0]:.3f} s more, {peak:.1f} MiB, {peak - opening[1]:.1f} more"
+        print(told + (f", {count - opening[2]:,} instructions" if counts else ""), flush=True)
+
+
+def main():
+    words = dict(zip(sys.argv[1:], sys.argv[2:]))
+    program = os.path.abspath(words.get("--program", PROGRAM))
+    zip_length = int(words.get("--zip", 1_024))
+    with tempfile.TemporaryDirectory(prefix="goshelf-lists-") as folder:
+        for paths in PATHS:
+            file = os.path.join(folder, f"{paths}.db")
+            filled(file, paths, zip_length)
+            print(f"{paths:,} paths, zips of {zip_length:,} bytes:", flush=True)
+            measured(program, file, "--count" in sys.argv and paths <= COUNTED)
+            os.remove(file)
+
+
+if __name__ == "__main__":
+    main()

@@ -1,0 +1,17 @@
+use Rattle.std.proofs.Common.{◌≤◌}
+use Rattle.std.specs.Prelude.{map as each, string_bytes}
+use Rattle.commands.specs.InventoryLines.{lines_of_text, lines_seen}
+use Rattle.commands.specs.Lines.{IsBetweenLines, text_in}
+use Rattle.commands.proofs.Gathered.{Keeps, Gathers}
+use Rattle.commands.proofs.inventory.add_paths.Given as goal
+
+-- the lines of the paths so far, and those of the paths that are left
+abbrev pub invariant-loop-text : goal.invariant-loop-text
+invariant-loop-text g l =
+    let s = g.S.Shelves in
+    record {
+      between : IsBetweenLines l.lines;
+      gathers : Keeps (s.shown l.fn.shelves) (s.shown l.shelves)
+          (Gathers (λ w. lines_of_text w l.shelf) (text_in l.fn.lines) (λ w. lines_seen w l.shelf) (text_in l.lines) (each string_bytes l.text-iterator));
+      no_fewer : s.failure_count l.fn.shelves ≤ s.failure_count l.shelves;
+    }

@@ -1,10 +1,9 @@
 -- What the queries of versions and of paths answer.
-use Rattle.std.proofs.Common.{◌≡◌, ◌⊎◌, ◌↔◌, ◌∙◌, ◌||◌, ℕ, Bool, true, false, List, [], ◌∷◌, ◌++◌, Some, is_some, ◌+◌, ◌<◌, length, take, get_or, inl, inr, refl, sym, ap, subst}
+use Rattle.std.proofs.Common.{◌≡◌, ◌⊎◌, ◌↔◌, ◌∙◌, ◌||◌, ℕ, Bool, true, false, List, [], ◌∷◌, ◌++◌, Some, is_some, inl, inr, refl, sym, ap, subst}
 use Rattle.std.specs.FinMap as map
 use Rattle.std.specs.FinSet as set
 use Rattle.std.specs.FinSet.{same_set}
 use Rattle.std.proofs.lemmas.Bool.{and_parts, or_cases, or_left, or_right}
-use Rattle.std.proofs.lemmas.List.{take_more}
 use Rattle.sqlite.specs.declared.types.Value.TheVariants.{Text}
 use Rattle.sqlite.specs.Collation.TheVariants.{Binary}
 use Rattle.sqlite_sql.specs.declared.ops.BinaryOp.TheVariants.{Compare}
@@ -156,25 +155,28 @@ paths_more w (a ∷ ss) s = ap (set.union (paths_among a (map.entries w.entries)
 
 -- ---- row by row
 
-pub one_more : (rows : List Row) (at : ℕ) (row : Row) (text : List ℕ) (old mid new : set.FinSet text_cmp) → at < length rows → row ≡ get_or rows at row → column row 0 ≡ Text text → new ≡ set.insert mid text
-    → AddsTexts (take at rows) old mid → AddsTexts (take (at + 1) rows) old new
-one_more rows at row text old mid new within is shows made adds = subst (λ l. AddsTexts l old new) (sym (take_more rows at row within ∙ ap (λ r. take at rows ++ r ∷ []) (sym is))) (λ t. (to t, from t))
+pub nothing_more : (texts : set.FinSet text_cmp) → AddsTexts [] texts texts
+nothing_more texts t = (λ h. inl h, λ either. elim either [ inl was ↦ was | inr shown ↦ absurd shown.1 ])
+
+pub one_more : (rows : List Row) (row : Row) (text : List ℕ) (old mid new : set.FinSet text_cmp) → column row 0 ≡ Text text → new ≡ set.insert mid text
+    → AddsTexts rows old mid → AddsTexts (rows ++ row ∷ []) old new
+one_more rows row text old mid new shows made adds t = (to t, from t)
   where
-    to : (t : List ℕ) → set.contains new t ≡ true → (set.contains old t ≡ true) ⊎ IsShown (take at rows ++ row ∷ []) t
+    to : (t : List ℕ) → set.contains new t ≡ true → (set.contains old t ≡ true) ⊎ IsShown (rows ++ row ∷ []) t
     to t h = elim (text_splits mid text t (subst (λ s. set.contains s t ≡ true) made h)) [
-      | inl same ↦ inr (row, has_right (take at rows) (row ∷ []) row (inl refl), shows ∙ ap Text (sym same))
+      | inl same ↦ inr (row, has_right rows (row ∷ []) row (inl refl), shows ∙ ap Text (sym same))
       | inr was ↦ elim ((adds t).0 was) [
         | inl before ↦ inl before
-        | inr shown ↦ inr (shown.0, has_left (take at rows) (row ∷ []) shown.0 shown.1, shown.2)
+        | inr shown ↦ inr (shown.0, has_left rows (row ∷ []) shown.0 shown.1, shown.2)
       ]
     ]
 
     kept : (t : List ℕ) → set.contains mid t ≡ true → set.contains new t ≡ true
     kept t h = subst (λ s. set.contains s t ≡ true) (sym made) (still mid text t h)
 
-    from : (t : List ℕ) → (set.contains old t ≡ true) ⊎ IsShown (take at rows ++ row ∷ []) t → set.contains new t ≡ true
+    from : (t : List ℕ) → (set.contains old t ≡ true) ⊎ IsShown (rows ++ row ∷ []) t → set.contains new t ≡ true
     from t (inl before) = kept t ((adds t).1 (inl before))
-    from t (inr shown) = elim (has_either (take at rows) (row ∷ []) shown.0 shown.1) [
+    from t (inr shown) = elim (has_either rows (row ∷ []) shown.0 shown.1) [
       | inl was ↦ kept t ((adds t).1 (inr (shown.0, was, shown.2)))
       | inr (inl last) ↦ (let same : text ≡ t = let e = sym shows ∙ (ap (λ (r : Row). column r 0) (sym last) ∙ shown.2) in cc in subst (λ s. set.contains s t ≡ true) (sym made) (subst (λ x. set.contains (set.insert mid text) x ≡ true) same (text_put mid text)))
       | inr (inr none) ↦ absurd none

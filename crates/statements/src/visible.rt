@@ -1,31 +1,51 @@
 //! Which versions of a path, and which paths, stand on shelves, over SQL tables.
 
-ghost use Rattle.std.specs.Prelude.{◌≡◌, map as each, IfOk, OnOk};
+ghost use Rattle.std.specs.Prelude.{◌≡◌, false, map as each, IfOk, OnOk, IsTrue};
 ghost use Rattle.std.specs.FinMap as map;
 ghost use Rattle.std.specs.FinSet as set;
+ghost use Rattle.sqlite.specs.Given.{IsPlain};
 ghost use Rattle.sqlite.specs.Held.{state};
+ghost use Rattle.sqlite.specs.Listing.{understood, reads_listing};
+ghost use Rattle.sqlite.specs.Values.{bound};
+ghost use Rattle.tables.specs.Schema.{store_schema};
 ghost use Rattle.world.specs.Lines.{in_order};
 ghost use Rattle.world.specs.Versions.{named, by_precedence};
 ghost use Rattle.world.specs.Visible.{versions_among, versions_on, paths_among, paths_on};
 ghost use Rattle.statements.specs.Calls.{InEachWorld, Spares};
-ghost use Rattle.statements.specs.Lists.{AddsTexts};
+ghost use Rattle.statements.specs.Lists.{AddsAnswer};
 
-use crate::query::find_rows;
-use sqlite::{Alter, Connection, Error, Row, params};
+use sqlite::types::ValueRef;
+use sqlite::{Alter, Connection, Error, ErrorCode, params};
 use std::alloc::Global;
 use world::text_set::TextSet;
 use world::version_list::Versions;
 use world::versions::ascending;
 
-/// Puts the first value of each row into a set of texts.
-fn add_texts(texts: &mut TextSet, rows: &[Row]) -> Result<(), Error>
-    ensures { OnOk result (AddsTexts rows.now texts.old texts.new) }
+/// Puts the first value of each row of the answer to a query into a set of texts, as the query gives the rows: those of a
+/// shelf may be many, and none is kept.
+fn add_texts<S: Alter>(
+    conn: &mut Connection<S>,
+    sql: &str,
+    params: &[ValueRef<'_>],
+    texts: &mut TextSet,
+) -> Result<(), Error>
+    requires plain { IsPlain (understood store_schema sql.now) }
+    requires tables { reads_listing store_schema sql.now ≡ false }
+    ensures spares { Spares (state S.Store conn.old) (state S.Store conn.new) }
+    ensures adds { InEachWorld (state S.Store conn.old) (state S.Store conn.new) (λ old _ _.
+        OnOk result (IsTrue old.is_open × AddsAnswer sql.now (bound params.now) old.now texts.old texts.new)) }
 {
-    for row in rows {
+    // A connection that is shut refuses this, so the query finds the tables.
+    conn.prepare(sql)?;
+    let mut rows = conn.query(sql, params)?;
+    for _ in 0..u64::MAX {
+        let Some(row) = rows.next()? else {
+            return Ok(());
+        };
         let text: String = row.get(0)?;
         texts.insert(text)?;
     }
-    Ok(())
+    Err(Error::SqliteFailure(ErrorCode::TooBig))
 }
 
 /// Puts the versions of a path that stand on one shelf into a set.
@@ -39,12 +59,12 @@ fn add_versions<S: Alter>(
     ensures adds { InEachWorld (state S.Store conn.old) (state S.Store conn.new) (λ _ _ w.
         OnOk result (texts.new ≡ set.union (versions_among shelf.now path.now (map.entries w.entries)) texts.old)) }
 {
-    let rows = find_rows(
+    add_texts(
         conn,
         "SELECT version FROM version WHERE shelf = ?1 AND path = ?2",
         params![shelf, path],
-    )?;
-    add_texts(texts, rows.as_slice())
+        texts,
+    )
 }
 
 /// Puts the paths that stand on one shelf into a set.
@@ -57,12 +77,12 @@ fn add_paths<S: Alter>(
     ensures adds { InEachWorld (state S.Store conn.old) (state S.Store conn.new) (λ _ _ w.
         OnOk result (texts.new ≡ set.union (paths_among shelf.now (map.entries w.entries)) texts.old)) }
 {
-    let rows = find_rows(
+    add_texts(
         conn,
         "SELECT path FROM version WHERE shelf = ?1",
         params![shelf],
-    )?;
-    add_texts(texts, rows.as_slice())
+        texts,
+    )
 }
 
 /// The versions of a path that stand on these shelves, in ascending precedence.

@@ -10,20 +10,19 @@ use Rattle.statements.proofs.LookupLemmas.{asks}
 use Rattle.statements.proofs.VisibleLemmas.{paths_query, paths_added}
 use Rattle.statements.proofs.visible.add_paths.Goals as goal
 
-pub find_rows-requires-clause-plain : goal.find_rows-requires-clause-plain
+pub add_texts-requires-clause-plain : goal.add_texts-requires-clause-plain
 unfolding understood everything
-find_rows-requires-clause-plain g c = (refl, refl)
+add_texts-requires-clause-plain g c = (refl, refl)
 
-pub find_rows-requires-clause-tables : goal.find_rows-requires-clause-tables
+pub add_texts-requires-clause-tables : goal.add_texts-requires-clause-tables
 unfolding understood everything
-find_rows-requires-clause-tables g c = refl
+add_texts-requires-clause-tables g c = refl
 
 pub returns-clause-adds : goal.returns-clause-adds
 unfolding understood everything
 returns-clause-adds g c clean w stands =
     let old = state g.S.Store c.args.conn.now in
-    let h = c.in_ok-rows.ensures.rows clean w stands in
-    let read = subst (λ v. Reads (asks paths_query) old.now (bound_value v ∷ []) c.in_ok-rows.rows.items) c.params-to_sql.ensures h.1 in
-    let holds = stands (was_clean old (state g.S.Store c.find_rows.new.conn) c.find_rows.ensures.spares.clean clean) h.0 in
-    let told = rw c.as_slice.ensures.value at c.add_texts.ensures in
-    on_weaker c.add_texts.result (paths_added c.args.shelf.now old.now w holds.trees.means c.in_ok-rows.rows.items c.args.texts.now c.add_texts.new.texts read) told
+    on_weaker c.add_texts.result (λ told.
+    let read = subst (λ v. Reads (asks paths_query) old.now (bound_value v ∷ []) told.1.rows) c.params-to_sql.ensures told.1.read in
+    let holds = stands (was_clean old (state g.S.Store c.add_texts.new.conn) c.add_texts.ensures.spares.clean clean) told.0 in
+    paths_added c.args.shelf.now old.now w holds.trees.means told.1.rows c.args.texts.now c.add_texts.new.texts read told.1.adds) (c.add_texts.ensures.adds clean w stands)

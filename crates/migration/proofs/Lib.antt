@@ -1,4 +1,5 @@
 pub mod WalkLemmas
+pub mod CauseLemmas
 pub mod ListedLemmas
 pub mod MetaLemmas
 pub mod TeamLemmas
@@ -9,5 +10,6 @@ pub mod TwoLemmas
 pub mod ZipLemmas
 pub mod EndLemmas
 pub mod PieceWalk
+pub mod Walkable
 pub mod FillLemmas
 pub mod WriteLemmas

@@ -47,16 +47,16 @@ use Rattle.migration.proofs.EntryLemmas.{Puts, Rises, InPlaces, Entered, all_ent
 abbrev pub one_text : List ℕ
 one_text = codes "SELECT v.shelf, v.path, v.version, v.time, v.mod, v.id, b.zip FROM version AS v LEFT JOIN body AS b ON b.id = v.id ORDER BY v.shelf, v.path, v.version"
 
-abbrev one_columns : List Term
+abbrev pub one_columns : List Term
 one_columns = col 1 2 ∷ col 1 3 ∷ col 1 4 ∷ col 1 5 ∷ col 1 6 ∷ col 1 0 ∷ col 2 2 ∷ []
 
-abbrev one_names : List (List ℕ)
+abbrev pub one_names : List (List ℕ)
 one_names = codes "shelf" ∷ codes "path" ∷ codes "version" ∷ codes "time" ∷ codes "mod" ∷ codes "id" ∷ codes "zip" ∷ []
 
-abbrev by_number : List Term
+abbrev pub by_number : List Term
 by_number = op2 (Compare Eq Binary) (col 2 0) (col 1 0) ∷ []
 
-abbrev with_body : Join
+abbrev pub with_body : Join
 with_body = inner 6 (left 8 by_number end)
 
 pub one_is : command_of (understood schema_1 one_text) ≡ Select (record { lets = []; body = listing with_body one_columns by_place }) one_names
@@ -76,10 +76,10 @@ abbrev shown : Row → Row → Row
 shown row body = column row 2 ∷ column row 3 ∷ column row 4 ∷ column row 5 ∷ column row 6 ∷ column row 0 ∷ column body 2 ∷ []
 
 -- the bodies of a row, as the query finds them
-abbrev goes_with : Row → Row → Bool
+abbrev pub goes_with : Row → Row → Bool
 goes_with row body = list_all (holds ([] ∷ row ∷ body ∷ [])) by_number
 
-abbrev bodies_of : Row → List Row → List Row
+abbrev pub bodies_of : Row → List Row → List Row
 bodies_of row bodies = or_nulls (filter (goes_with row) bodies)
 
 -- ---- a row of nothing where there is none

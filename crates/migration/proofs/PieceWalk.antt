@@ -25,7 +25,7 @@ use Rattle.migration.specs.Zips.{last_one}
 use Rattle.migration.proofs.EndLemmas.{has_all}
 use Rattle.migration.proofs.ZipLemmas.{Puts, tested, passed, else_same, same_pieces_read, pieces_permuted}
 
-piece_is : command_of (understood schema_2 piece_rows_text) ≡ Select (record { lets = []; body = listing (inner 8 end) piece_columns by_piece }) piece_names
+pub piece_is : command_of (understood schema_2 piece_rows_text) ≡ Select (record { lets = []; body = listing (inner 8 end) piece_columns by_piece }) piece_names
 unfolding understood everything
 piece_is = refl
 

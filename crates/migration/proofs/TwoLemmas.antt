@@ -36,10 +36,10 @@ use Rattle.migration.proofs.EntryLemmas.{Puts, InPlaces, Entered, all_entered, I
 abbrev pub two_text : List ℕ
 two_text = codes "SELECT shelf, path, version, time, mod, id, order_key, rank_key FROM version ORDER BY shelf, path, version"
 
-abbrev two_columns : List Term
+abbrev pub two_columns : List Term
 two_columns = col 1 2 ∷ col 1 3 ∷ col 1 4 ∷ col 1 5 ∷ col 1 6 ∷ col 1 0 ∷ col 1 7 ∷ col 1 8 ∷ []
 
-abbrev two_names : List (List ℕ)
+abbrev pub two_names : List (List ℕ)
 two_names = codes "shelf" ∷ codes "path" ∷ codes "version" ∷ codes "time" ∷ codes "mod" ∷ codes "id" ∷ codes "order_key" ∷ codes "rank_key" ∷ []
 
 pub two_is : command_of (understood schema_2 two_text) ≡ Select (record { lets = []; body = listing (inner 6 end) two_columns by_place }) two_names

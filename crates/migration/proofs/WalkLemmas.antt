@@ -13,7 +13,7 @@ use Rattle.tables.proofs.FailureLemmas.{was_clean}
 use Rattle.tables.proofs.WalkLemmas.{kept_then}
 use Rattle.statements.specs.Extract.{IsReadBy, Then}
 use Rattle.statements.specs.Rows.{Filling, GoesOn}
-use Rattle.statements.proofs.GoingLemmas.{goes_on_itself, goes_on_then}
+use Rattle.statements.proofs.GoingLemmas.{goes_on_itself, goes_on_then, stays_quiet}
 use Rattle.older.specs.declared.schema.Format.{Format}
 use Rattle.older.specs.Schemas.{schema_of}
 use Rattle.migration.specs.Visits.{Visits, IsReadyAs, Moves, is_done}
@@ -36,6 +36,10 @@ quiet_read old new done survives kept same = record {
   kept = kept;
   same = same;
 }
+
+-- what was read so far, where not all was done
+pub read_part : (old new : State) (done : Bool) → IsReadBy old new done → IsReadBy old new false
+read_part old new done read = record { left = read.left; kept = read.kept; same = λ _ all. absurd (true≢false (sym all)) }
 
 -- the rows so far, and one more step
 module _ (old mid new : State) (first : Survives old mid (λ _. ⊥)) (same : HasCleanDisk mid → IsUnchanged old mid) (next : Survives mid new (λ _. ⊥)) where
@@ -79,6 +83,7 @@ module _ (format : Format) (P Q : Trees → Trees → Trees → Type 0) (s t u a
           kept = λ clean. kept_then s t u (first.same (late clean) refl) (next.kept clean);
           same = λ clean all. unchanged_then s t u (first.same (late clean) refl) (next.same clean all);
         };
+    survives = λ clean ready. stays_quiet s t u (p.survives (was_clean t u q.clean clean) ready) (q.survives clean (still_ready ready));
     goes_on = goes_on_then a b c done p.goes_on q.goes_on;
     makes = λ clean good ready filling all.
         let late = was_clean t u q.clean clean in
@@ -108,9 +113,9 @@ if_done (Err e) f it = tt
 
 module _ (format : Format) (Makes : Trees → Trees → Trees → Type 0) (s t a b : State) (up : doubt s.is_clean ≤ doubt t.is_clean) where
   -- all is done only where each row was visited
-  pub moves_part : (whole done : Bool) → (IsTrue done → IsTrue whole) → (s.now.schema ≡ schema_of format → IsReadBy s t whole) → GoesOn a b whole
+  pub moves_part : (whole done : Bool) → (IsTrue done → IsTrue whole) → (s.now.schema ≡ schema_of format → IsReadBy s t whole) → (s.now.schema ≡ schema_of format → Survives s t (λ _. ⊥)) → GoesOn a b whole
       → (HasCleanDisk t → HasCleanDisk b → s.now.schema ≡ schema_of format → Filling a → IsTrue done → Makes s.now.trees a.now.trees b.now.trees × Filling b) → Moves format Makes s t a b done
-  moves_part whole done less read goes makes =
+  moves_part whole done less read survives goes makes =
       let has = λ (ready : IsReadyAs format s) (clean : HasCleanDisk t). (ready (was_clean s t up clean)).1 in
       record {
         clean = up;
@@ -119,19 +124,21 @@ module _ (format : Format) (Makes : Trees → Trees → Trees → Type 0) (s t a
           kept = λ clean. (read (has ready clean)).kept clean;
           same = λ clean all. (read (has ready clean)).same clean (less all);
         };
+        survives = λ clean ready. survives (has ready clean);
         goes_on = record { survives = goes.survives; kept = goes.kept; inside = λ clean is all. goes.inside clean is (less all) };
         makes = λ clean good ready filling all. makes clean good (has ready clean) filling all;
       }
 
-  pub moves_of : {E : Type 0} (r : Result Bool E) → (s.now.schema ≡ schema_of format → IsReadBy s t (is_ok r)) → GoesOn a b (is_ok r)
+  pub moves_of : {E : Type 0} (r : Result Bool E) → (s.now.schema ≡ schema_of format → IsReadBy s t (is_ok r)) → (s.now.schema ≡ schema_of format → Survives s t (λ _. ⊥)) → GoesOn a b (is_ok r)
       → (HasCleanDisk t → HasCleanDisk b → s.now.schema ≡ schema_of format → Filling a → IfOk r (λ all. IsTrue all → Makes s.now.trees a.now.trees b.now.trees × Filling b)) → Moves format Makes s t a b (is_done r)
-  moves_of r read goes makes = moves_part (is_ok r) (is_done r) (done_ok r) read goes (λ clean good has filling all. when_done r all (makes clean good has filling))
+  moves_of r read survives goes makes = moves_part (is_ok r) (is_done r) (done_ok r) read survives goes (λ clean good has filling all. when_done r all (makes clean good has filling))
 
 -- the same said by less
 pub moves_weaker : (format : Format) (P Q : Trees → Trees → Trees → Type 0) (s t a b : State) (done : Bool) → ((old db after : Trees) → P old db after → Q old db after) → Moves format P s t a b done → Moves format Q s t a b done
 moves_weaker format P Q s t a b done less p = record {
   clean = p.clean;
   reads = p.reads;
+  survives = p.survives;
   goes_on = p.goes_on;
   makes = λ clean good ready filling all. let it = p.makes clean good ready filling all in (less s.now.trees a.now.trees b.now.trees it.0, it.1);
 }
@@ -141,6 +148,7 @@ pub moves_none : (format : Format) (P Q : Trees → Trees → Trees → Type 0) 
 moves_none format P Q s t a b p = record {
   clean = p.clean;
   reads = p.reads;
+  survives = p.survives;
   goes_on = p.goes_on;
   makes = λ clean good ready filling all. absurd (true≢false (sym all));
 }
@@ -153,6 +161,7 @@ pub moves_nothing : (format : Format) (Makes : Trees → Trees → Trees → Typ
 moves_nothing format Makes s a makes = record {
   clean = omega arith;
   reads = λ ready. record { left = λ _ db may. may; kept = λ clean. inl (unchanged_itself s (ready clean).0); same = λ clean _. unchanged_itself s (ready clean).0 };
+  survives = λ _ _. (goes_on_itself s).survives;
   goes_on = goes_on_itself a;
   makes = λ _ _ _ filling _. (makes s.now.trees a.now.trees, filling);
 }

@@ -39,10 +39,6 @@ written format old read start last true fills clean late ready begun =
 
 -- ---- the call
 
--- what was read so far, where not all was done
-pub read_part : (old new : State) (done : Bool) → IsReadBy old new done → IsReadBy old new false
-read_part old new done read = record { left = read.left; kept = read.kept; same = λ _ all. absurd (true≢false (sym all)) }
-
 -- no transaction began
 pub migrates_nothing : (format : Format) (s f : State) → Migrates format s s f f false
 migrates_nothing format s f = record {

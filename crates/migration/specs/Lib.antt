@@ -1,3 +1,4 @@
+pub mod Causes
 pub mod Visits
 pub mod Registry
 pub mod Entries

@@ -2,6 +2,7 @@
 
 ghost use Rattle.std.specs.Prelude.{◌≡◌};
 ghost use Rattle.sqlite.specs.Held.{state};
+ghost use Rattle.migration.specs.Causes.{FailsAs};
 ghost use Rattle.migration.specs.Visits.{Moves, is_done};
 ghost use Rattle.migration.specs.Filled.{PutsEntries, PutsZips, Fills};
 
@@ -27,6 +28,7 @@ fn put_with_zips<S: Alter, F: Alter>(
     ensures same_reference { tx.new.conn.ghost_name ≡ tx.old.conn.ghost_name }
     ensures moves { Moves Format.One (PutsEntries Format.One) (state S.Store source.old) (state S.Store source.new)
         (state F.Store tx.old.conn.now) (state F.Store tx.new.conn.now) (is_done result) }
+    ensures cause { FailsAs Format.One (state S.Store source.old) (state S.Store source.new) result }
 {
     let mut rows = EntryRows {
         alloc,
@@ -52,6 +54,7 @@ fn put_without_zips<S: Alter, F: Alter>(
     ensures same_reference { tx.new.conn.ghost_name ≡ tx.old.conn.ghost_name }
     ensures moves { Moves Format.Two (PutsEntries Format.Two) (state S.Store source.old) (state S.Store source.new)
         (state F.Store tx.old.conn.now) (state F.Store tx.new.conn.now) (is_done result) }
+    ensures cause { FailsAs Format.Two (state S.Store source.old) (state S.Store source.new) result }
 {
     let mut rows = EntryRows {
         alloc,
@@ -78,6 +81,7 @@ fn put_entries<S: Alter, F: Alter>(
     ensures same_reference { tx.new.conn.ghost_name ≡ tx.old.conn.ghost_name }
     ensures moves { Moves format (PutsEntries format) (state S.Store source.old) (state S.Store source.new)
         (state F.Store tx.old.conn.now) (state F.Store tx.new.conn.now) (is_done result) }
+    ensures cause { FailsAs format (state S.Store source.old) (state S.Store source.new) result }
 {
     match format {
         Format::One => put_with_zips(alloc, source, tx),
@@ -93,6 +97,7 @@ fn put_pieces<S: Alter, F: Alter>(
     ensures same_reference { tx.new.conn.ghost_name ≡ tx.old.conn.ghost_name }
     ensures moves { Moves Format.Two (PutsZips Format.Two) (state S.Store source.old) (state S.Store source.new)
         (state F.Store tx.old.conn.now) (state F.Store tx.new.conn.now) (is_done result) }
+    ensures cause { FailsAs Format.Two (state S.Store source.old) (state S.Store source.new) result }
 {
     visit_rows(
         source,
@@ -112,6 +117,7 @@ fn put_zips<S: Alter, F: Alter>(
     ensures same_reference { tx.new.conn.ghost_name ≡ tx.old.conn.ghost_name }
     ensures moves { Moves format (PutsZips format) (state S.Store source.old) (state S.Store source.new)
         (state F.Store tx.old.conn.now) (state F.Store tx.new.conn.now) (is_done result) }
+    ensures cause { FailsAs format (state S.Store source.old) (state S.Store source.new) result }
 {
     match format {
         Format::One => Ok(true),
@@ -130,6 +136,7 @@ pub(crate) fn fill<S: Alter, F: Alter>(
     ensures same_reference { tx.new.conn.ghost_name ≡ tx.old.conn.ghost_name }
     ensures moves { Moves format (Fills format) (state S.Store source.old) (state S.Store source.new)
         (state F.Store tx.old.conn.now) (state F.Store tx.new.conn.now) (is_done result) }
+    ensures cause { FailsAs format (state S.Store source.old) (state S.Store source.new) result }
 {
     if !names_schema(source, format, tx)? {
         return Ok(false);

@@ -2,6 +2,7 @@
 
 ghost use Rattle.std.specs.Prelude.{◌≡◌, IfOk, IfSome, IsTrue};
 ghost use Rattle.sqlite.specs.Held.{state};
+ghost use Rattle.migration.specs.Causes.{FailsAs};
 ghost use Rattle.migration.specs.Visits.{Moves, is_done};
 ghost use Rattle.migration.specs.Registry.{ShowsRight, ShowsAs, IsGoodKey, IsKeyRow, PutsKeys};
 
@@ -77,6 +78,7 @@ pub(crate) fn put_keys<S: Alter, F: Alter>(
     ensures same_reference { tx.new.conn.ghost_name ≡ tx.old.conn.ghost_name }
     ensures moves { Moves format PutsKeys (state S.Store source.old) (state S.Store source.new)
         (state F.Store tx.old.conn.now) (state F.Store tx.new.conn.now) (is_done result) }
+    ensures cause { FailsAs format (state S.Store source.old) (state S.Store source.new) result }
 {
     visit_rows(
         source,

@@ -2,6 +2,7 @@
 
 ghost use Rattle.std.specs.Prelude.{◌≡◌, true};
 ghost use Rattle.sqlite.specs.Held.{state};
+ghost use Rattle.migration.specs.Causes.{FailsAs};
 ghost use Rattle.migration.specs.Visits.{Moves, is_done};
 ghost use Rattle.migration.specs.Registry.{NamesSchema, IsNamed};
 ghost use Rattle.older.specs.Schemas.{number_of};
@@ -50,6 +51,7 @@ pub(crate) fn names_schema<S: Alter, F: Alter>(
     ensures same_reference { tx.new.conn.ghost_name ≡ tx.old.conn.ghost_name }
     ensures moves { Moves format (IsNamed format) (state S.Store source.old) (state S.Store source.new)
         (state F.Store tx.old.conn.now) (state F.Store tx.new.conn.now) (is_done result) }
+    ensures cause { FailsAs format (state S.Store source.old) (state S.Store source.new) result }
 {
     let mut rows = MetaRows {
         number: number_of(format),

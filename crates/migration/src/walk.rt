@@ -1,6 +1,6 @@
 //! Rows of an older store that are put into a fresh one, one after the other.
 
-ghost use Rattle.std.specs.Prelude.{◌≡◌, ◌≤◌, [], false, OnOk, IfOk, is_ok, IsTrue};
+ghost use Rattle.std.specs.Prelude.{◌≡◌, ◌≤◌, [], false, OnOk, IfOk, IfErr, is_ok, IsTrue};
 ghost use Rattle.sqlite.specs.Effect.{Reads};
 ghost use Rattle.sqlite.specs.Given.{IsPlain};
 ghost use Rattle.sqlite.specs.Held.{state};
@@ -10,11 +10,12 @@ ghost use Rattle.sqlite.specs.State.{HasCleanDisk, KeepsCommit, Survives};
 ghost use Rattle.sqlite.specs.Tree.{Trees};
 ghost use Rattle.sqlite.proofs.Callers.{command_of};
 ghost use Rattle.sqlite_trees.specs.View.{doubt};
-ghost use Rattle.tables.specs.Calls.{Honestly};
+ghost use Rattle.tables.specs.Calls.{Honestly, HonestlyOver};
 ghost use Rattle.older.specs.Schemas.{schema_of};
 ghost use Rattle.statements.specs.Extract.{IsReadBy};
 ghost use Rattle.statements.specs.Rows.{Filling, GoesOn};
-ghost use Rattle.migration.specs.Visits.{Visits};
+ghost use Rattle.migration.specs.Causes.{IsWalkableAs, HasReasonAs, FailsAs};
+ghost use Rattle.migration.specs.Visits.{Visits, is_taken};
 
 use older::schema::Format;
 use sqlite::{Alter, Connection, Error, ErrorCode, Row, Transaction};
@@ -38,8 +39,51 @@ pub(crate) trait Visit {
             → Puts self.old row.now old.now.trees self.new new.now.trees × Filling new)) };
 }
 
-/// Visits each row that a query shows of the tables of a format, while the query is read. It returns false at the first row
-/// that the visitor refuses. No more than one row is in memory.
+/// Visits each row that a query shows of the tables of a format, while the query is read. It tells what the visitor did: true
+/// after the last row, false at the first that it refuses, and an error at the first that the fresh store does not take. It fails
+/// where the older store does. No more than one row is in memory.
+fn visit_each<S: Alter, F: Alter, V: Visit>(
+    source: &mut Connection<S>,
+    format: Format,
+    sql: &str,
+    tx: &mut Transaction<'_, F>,
+    visitor: &mut V,
+) -> Result<Result<bool, Error>, Error>
+    requires plain { IsPlain (understood (schema_of format) sql.now) }
+    requires tables { reads_listing (schema_of format) sql.now ≡ false }
+    requires walkable { IsWalkableAs format sql.now }
+    ensures clean { doubt (state S.Store source.old).is_clean ≤ doubt (state S.Store source.new).is_clean }
+    ensures reads { (state S.Store source.old).now.schema ≡ schema_of format
+        → IsReadBy (state S.Store source.old) (state S.Store source.new) (is_ok result) }
+    ensures survives { (state S.Store source.old).now.schema ≡ schema_of format
+        → Survives (state S.Store source.old) (state S.Store source.new) (λ _. ⊥) }
+    ensures same_reference { tx.new.conn.ghost_name ≡ tx.old.conn.ghost_name }
+    ensures goes_on { GoesOn (state F.Store tx.old.conn.now) (state F.Store tx.new.conn.now) (is_taken result) }
+    ensures puts { HasCleanDisk (state S.Store source.new) → HasCleanDisk (state F.Store tx.new.conn.now)
+        → (state S.Store source.old).now.schema ≡ schema_of format → Filling (state F.Store tx.old.conn.now)
+        → IfOk result (λ visited. IfOk visited (λ all. IsTrue all → Filling (state F.Store tx.new.conn.now)
+        × ((rows : _) × Reads (command_of (understood (schema_of format) sql.now)) (state S.Store source.old).now [] rows
+        × Visits (λ kept row db next after. V.Puts kept row db next after) visitor.old (state F.Store tx.old.conn.now).now.trees
+        rows visitor.new (state F.Store tx.new.conn.now).now.trees))) }
+    ensures cause { HonestlyOver (schema_of format) (state S.Store source.old) (state S.Store source.new) (λ old new.
+        IfErr result (HasReasonAs format old new)) }
+{
+    let mut rows = source.query(sql, &[])?;
+    'rows: for _turn in 0..u128::MAX {
+        let Some(row) = rows.next()? else {
+            return Ok(Ok(true));
+        };
+        match visitor.visit(tx, row) {
+            Ok(true) => {}
+            Ok(false) => return Ok(Ok(false)),
+            Err(error) => return Ok(Err(error)),
+        }
+    }
+    // So many rows come only where a table has one for each rowid.
+    Err(Error::SqliteFailure(ErrorCode::TooBig))
+}
+
+/// Visits each row that a query shows of the tables of a format. It returns false at the first row that the visitor refuses.
 pub(crate) fn visit_rows<S: Alter, F: Alter, V: Visit>(
     source: &mut Connection<S>,
     format: Format,
@@ -49,9 +93,12 @@ pub(crate) fn visit_rows<S: Alter, F: Alter, V: Visit>(
 ) -> Result<bool, CopyError>
     requires plain { IsPlain (understood (schema_of format) sql.now) }
     requires tables { reads_listing (schema_of format) sql.now ≡ false }
+    requires walkable { IsWalkableAs format sql.now }
     ensures clean { doubt (state S.Store source.old).is_clean ≤ doubt (state S.Store source.new).is_clean }
     ensures reads { (state S.Store source.old).now.schema ≡ schema_of format
         → IsReadBy (state S.Store source.old) (state S.Store source.new) (is_ok result) }
+    ensures survives { (state S.Store source.old).now.schema ≡ schema_of format
+        → Survives (state S.Store source.old) (state S.Store source.new) (λ _. ⊥) }
     ensures same_reference { tx.new.conn.ghost_name ≡ tx.old.conn.ghost_name }
     ensures goes_on { GoesOn (state F.Store tx.old.conn.now) (state F.Store tx.new.conn.now) (is_ok result) }
     ensures puts { HasCleanDisk (state S.Store source.new) → HasCleanDisk (state F.Store tx.new.conn.now)
@@ -60,18 +107,11 @@ pub(crate) fn visit_rows<S: Alter, F: Alter, V: Visit>(
         × ((rows : _) × Reads (command_of (understood (schema_of format) sql.now)) (state S.Store source.old).now [] rows
         × Visits (λ kept row db next after. V.Puts kept row db next after) visitor.old (state F.Store tx.old.conn.now).now.trees
         rows visitor.new (state F.Store tx.new.conn.now).now.trees)) }
+    ensures cause { FailsAs format (state S.Store source.old) (state S.Store source.new) result }
 {
-    let mut rows = source.query(sql, &[])?;
-    'rows: for _turn in 0..u128::MAX {
-        let Some(row) = rows.next()? else {
-            return Ok(true);
-        };
-        match visitor.visit(tx, row) {
-            Ok(true) => {}
-            Ok(false) => return Ok(false),
-            Err(error) => return Err(CopyError::Fresh(error)),
-        }
+    match visit_each(source, format, sql, tx, visitor) {
+        Ok(Ok(all)) => Ok(all),
+        Ok(Err(error)) => Err(CopyError::Fresh(error)),
+        Err(error) => Err(CopyError::Source(error)),
     }
-    // So many rows come only where a table has one for each rowid.
-    Err(CopyError::Source(Error::SqliteFailure(ErrorCode::TooBig)))
 }

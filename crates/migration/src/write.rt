@@ -2,6 +2,7 @@
 
 ghost use Rattle.std.specs.Prelude.{◌≡◌};
 ghost use Rattle.sqlite.specs.Held.{state};
+ghost use Rattle.migration.specs.Causes.{FailsAs};
 ghost use Rattle.migration.specs.Visits.{is_done};
 ghost use Rattle.migration.specs.Filled.{Migrates};
 
@@ -29,6 +30,7 @@ pub fn write_world<S: Alter, F: Alter>(
 ) -> Result<bool, CopyError>
     ensures migrates { Migrates format (state S.Store source.old) (state S.Store source.new)
         (state F.Store fresh.old) (state F.Store fresh.new) (is_done result) }
+    ensures cause { FailsAs format (state S.Store source.old) (state S.Store source.new) result }
 {
     if !fresh.is_autocommit() {
         return Err(CopyError::Fresh(Error::SqliteFailure(ErrorCode::TransactionState)));

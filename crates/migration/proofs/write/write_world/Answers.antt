@@ -4,11 +4,12 @@ use Rattle.world.specs.World.{only_common}
 use Rattle.statements.proofs.TransactionEnds.{ended_by, failed_by}
 use Rattle.migration.specs.Filled.{Migrates}
 use Rattle.migration.specs.Visits.{is_done}
-use Rattle.migration.proofs.WriteLemmas.{migrates, read_part}
+use Rattle.migration.proofs.WalkLemmas.{read_part}
+use Rattle.migration.proofs.WriteLemmas.{migrates}
 use Rattle.migration.proofs.write.write_world.Goals as goal
 
-pub returns-in-Ok : goal.returns-in-Ok
-returns-in-Ok g c =
+pub returns-in-Ok-clause-migrates : goal.returns-in-Ok-clause-migrates
+returns-in-Ok-clause-migrates g c =
     let same : c.commit_if.new.tx.0 ≡ c.fresh-1.given.0 = search rules in
     let h = c.args.fresh.now in
     let start = state g.F.Store (record h { in_transaction = true }) in
@@ -24,10 +25,10 @@ returns-in-Ok g c =
     migrates g.F.Store h c.args.format old read last (state g.F.Store end) done fills ends.whole_survives ends.part_is_lost done (λ all. all) (λ r. r)
     (λ next opened made. ended_by g.F.Store h last (state g.F.Store end) only_common next opened (g.met.F.Store.settled h.store) quiet done ends.undone ends.whole_survives ends.part_is_lost (λ late. fills.goes_on.kept late refl) made
     ends.committed (λ db shown may. g.met.F.Store.settled end.store db shown may)) in
-    record { migrates = subst (λ x. Migrates c.args.format old read (state g.F.Store h) (state g.F.Store x) done) same all }
+    subst (λ x. Migrates c.args.format old read (state g.F.Store h) (state g.F.Store x) done) same all
 
-pub returns-in-Err : goal.returns-in-Err
-returns-in-Err g c =
+pub returns-in-Err-clause-migrates : goal.returns-in-Err-clause-migrates
+returns-in-Err-clause-migrates g c =
     let same : c.commit_if.new.tx.0 ≡ c.fresh-1.given.0 = search rules in
     let h = c.args.fresh.now in
     let start = state g.F.Store (record h { in_transaction = true }) in
@@ -43,4 +44,4 @@ returns-in-Err g c =
     migrates g.F.Store h c.args.format old read last (state g.F.Store end) done fills ends.whole_survives ends.part_is_lost false (λ all. absurd (true≢false (sym all))) (read_part old read done)
     (λ next opened made. failed_by g.F.Store h last (state g.F.Store end) only_common next opened (g.met.F.Store.settled h.store) quiet done ends.undone ends.whole_survives ends.part_is_lost (λ late. fills.goes_on.kept late refl) made
     _ ends.failed) in
-    record { migrates = subst (λ x. Migrates c.args.format old read (state g.F.Store h) (state g.F.Store x) false) same all }
+    subst (λ x. Migrates c.args.format old read (state g.F.Store h) (state g.F.Store x) false) same all

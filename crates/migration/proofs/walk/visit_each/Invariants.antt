@@ -1,4 +1,4 @@
-use Rattle.std.proofs.Common.{◌≡◌, ◌≤◌, ◌-◌, ◌^◌, true, List, []}
+use Rattle.std.proofs.Common.{◌≡◌, ◌≤◌, ◌-◌, ◌^◌, true, List, [], length}
 use Rattle.sqlite_trees.specs.View.{doubt}
 use Rattle.sqlite.specs.Order.{Row}
 use Rattle.sqlite.specs.State.{HasCleanDisk, IsUnchanged, Survives}
@@ -7,7 +7,7 @@ use Rattle.sqlite.specs.Given.{HasGiven}
 use Rattle.older.specs.Schemas.{schema_of}
 use Rattle.statements.specs.Rows.{Filling, GoesOn}
 use Rattle.migration.specs.Visits.{Visits}
-use Rattle.migration.proofs.walk.visit_rows.Given as goal
+use Rattle.migration.proofs.walk.visit_each.Given as goal
 
 abbrev pub invariant-rows : goal.invariant-rows
 invariant-rows g l =
@@ -21,6 +21,7 @@ invariant-rows g l =
     × (HasCleanDisk now → HasCleanDisk at → old.now.schema ≡ schema_of l.fn.format → Filling begun
     → Filling at × (given : List Row) × HasGiven g.S.Store l.fn.sql [] l.rows.conn.now given
     × Visits g.V.Visit.Puts l.fn.visitor begun.now.trees given l.visitor at.now.trees)
+    × (HasCleanDisk now → old.now.schema ≡ schema_of l.fn.format → (given : List Row) × HasGiven g.S.Store l.fn.sql [] l.rows.conn.now given × (length given ≡ l._turn))
 
 abbrev pub decreases-rows : goal.decreases-rows
 decreases-rows g l = 2 ^ 128 - l._turn

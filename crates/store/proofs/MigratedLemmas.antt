@@ -1,22 +1,28 @@
 -- A store that is made of one of an older schema, whole or not at all.
-use Rattle.std.proofs.Common.{◌≡◌, ◌≢◌, ◌⊎◌, Bool, true, false, IsTrue, Result, Ok, Err, IfOk, is_ok, inl, inr, refl, sym, subst, ◌∙◌, arith, true≢false}
+use Rattle.std.proofs.Common.{◌≡◌, ◌≢◌, ◌⊎◌, ℕ, Bool, true, false, IsTrue, Result, Ok, Err, IfOk, IfErr, is_ok, inl, inr, refl, sym, subst, ◌∙◌, arith, true≢false}
 use Rattle.sqlite.specs.Effect.{Database}
+use Rattle.sqlite.specs.declared.error.Error.{Error}
+use Rattle.sqlite.specs.declared.error.Error.TheVariants.{SqliteFailure}
+use Rattle.sqlite.specs.declared.error.ErrorCode.TheVariants as code
 use Rattle.sqlite.specs.State.{State, HasCleanDisk}
 use Rattle.older.specs.declared.schema.Format.{Format}
 use Rattle.older.specs.Schemas.{schema_of}
 use Rattle.world.specs.World.{World, IsWorld, only_common}
+use Rattle.tables.specs.Causes.{IsHindered}
 use Rattle.tables.specs.Means.{Stands, StandsFor, IsSettled}
 use Rattle.tables.proofs.FailureLemmas.{was_clean}
 use Rattle.statements.specs.Calls.{Spares, ChangesAt}
 use Rattle.statements.specs.Extract.{IsReadBy}
 use Rattle.statements.specs.declared.extract_rows.CopyError.{CopyError}
+use Rattle.statements.specs.declared.extract_rows.CopyError.TheVariants.{Source, Fresh}
 use Rattle.statements.proofs.ChangeLemmas.{spares_at}
+use Rattle.migration.specs.Causes.{HasReasonIf}
 use Rattle.migration.specs.Filled.{IsOfTables}
 use Rattle.migration.specs.Filled.{Migrates as WritesWorld}
 use Rattle.migration.proofs.WalkLemmas.{unchanged_itself}
 use Rattle.store.specs.Kept.{IsNothing}
 use Rattle.store.specs.Shown.{shown_with}
-use Rattle.store.specs.Migrated.{IsForeign, IsOldOr, IsMigrated, is_whole, MigratesRows, Tells, MigratesAt, Migrates}
+use Rattle.store.specs.Migrated.{IsForeign, IsVastOlder, IsOldOr, IsMigrated, is_whole, HasOlderReason, MigratesRows, Tells, MigratesAt, Migrates, HasCauseInOne}
 use Rattle.store.specs.Opened.{IsOfOpening}
 use Rattle.store.specs.declared.kept.Kept.{Kept}
 use Rattle.store.specs.declared.migrate.Migrated.{Migrated}
@@ -25,19 +31,21 @@ use Rattle.store.specs.declared.refusal.Refusal.{Refusal}
 use Rattle.store.specs.declared.refusal.Refusal.TheVariants as refusal
 use Rattle.store.proofs.ExtractedLemmas.{spared_at}
 use Rattle.store.proofs.KeptLemmas.{nothing_kept}
+use Rattle.store.proofs.OpenLemmas.{told_device}
 use Rattle.store.proofs.StoreLemmas.{narrow}
 
 -- ---- the rows
 
 -- nothing was read of the older store, and the fresh one was only read
 pub unwritten : (s f g : State) (r : Result Migrated CopyError) → is_whole r ≡ false → Spares f g → (HasCleanDisk g → (x : World) → StandsFor f x → IfOk r (IsMigrated x))
-    → MigratesRows s s f g r
-unwritten s f g r part spares told = record {
+    → IfErr r (HasOlderReason s s) → MigratesRows s s f g r
+unwritten s f g r part spares told cause = record {
   clean = omega arith;
   reads = λ ready. record { left = λ _ db may. may; kept = λ clean. inl (unchanged_itself s (ready clean)); same = λ clean _. unchanged_itself s (ready clean) };
   clean_too = spares.clean;
   spares = λ _. spares;
   told = told;
+  cause = λ _. cause;
   at = λ clean good ready x stands. (x, inr (part, refl), subst (λ b. ChangesAt f g b x x) (sym part) (spared_at f g x x spares));
 }
 
@@ -51,19 +59,27 @@ told_blank (Ok BadSchema) some x is = is
 told_blank (Ok NotEmpty) some x is = absurd (some refl)
 told_blank (Err e) some x is = tt
 
+-- what is told of the rows fails as the writing did
+pub written_cause : (format : Format) (s t : State) (w : Result Bool CopyError) (r : Result Migrated CopyError) → IfErr r (λ e. w ≡ Err e) → IfErr w (HasReasonIf format s t) → IfErr r (HasOlderReason s t)
+written_cause format s t w (Ok m) same reason = tt
+written_cause format s t w (Err (Fresh e)) same reason = tt
+written_cause format s t w (Err (Source e)) same reason =
+    elim (subst (λ x. IfErr x (HasReasonIf format s t)) same reason) [ inl excused ↦ inl excused | inr vast ↦ inr (format, vast) ]
+
 -- the tables are those of an older schema, and the world of these may have been written into a store of common alone
 module _ (format : Format) (s t f m g : State) (r : Result Migrated CopyError) (schema : s.now.schema ≡ schema_of format) (first : Spares f m)
     (blank : HasCleanDisk m → (x : World) → StandsFor f x → IsTrue m.is_open × (x ≡ only_common)) (writes : WritesWorld format s t m g (is_whole r)) where
   blank_at_last : HasCleanDisk g → (x : World) → StandsFor f x → IsTrue m.is_open × (x ≡ only_common)
   blank_at_last good = blank (was_clean m g writes.clean_too good)
 
-  pub written : r ≢ Ok NotEmpty → MigratesRows s t f g r
-  written some = record {
+  pub written : r ≢ Ok NotEmpty → (HasCleanDisk t → IfErr r (HasOlderReason s t)) → MigratesRows s t f g r
+  written some cause = record {
     clean = writes.clean;
     reads = λ ready. writes.reads (λ clean. (ready clean, schema));
     clean_too = let one = first.clean in let two = writes.clean_too in omega (arith, one, two);
     spares = λ hopeless. elim hopeless [ inl e ↦ absurd (some e) | inr foreign ↦ absurd (foreign format schema) ];
     told = λ good x stands. told_blank r some x (blank_at_last good x stands).1;
+    cause = cause;
     at = λ clean good ready x stands.
         let is = blank_at_last good x stands in
         let still : Stands m only_common = subst (λ (u : World). Stands m u) is.1 (first.stays x stands.0) in
@@ -159,3 +175,18 @@ done_told same = absurd (never same)
   where
     never : ◌≡◌ {A = Result (Unit {0}) Refusal} (Ok tt) (Err refusal.NotEmpty) → ⊥
     never e = cc
+
+-- ---- why a device is told to have failed
+
+pub no_device : (s t : State) (count : ℕ) (r : Result (Unit {0}) Refusal) → r ≢ Err refusal.Device → HasCauseInOne s t count count r
+no_device s t count r other = record { no_fewer = omega arith; device = λ _ same. absurd (other same) }
+
+pub device_is : (r : Refusal) → ◌≡◌ {A = Result (Unit {0}) Refusal} (Err r) (Err refusal.Device) → r ≡ refusal.Device
+device_is r same = cc
+
+pub older_device : (s t : State) (e : Error) (r : Refusal) (count : ℕ) → (e ≡ SqliteFailure code.OutOfMemory → r ≡ refusal.Memory) → (HasCleanDisk t → HasOlderReason s t (Source e)) → HasCauseInOne s t count count (Err r)
+older_device s t e r count memory reason = record { no_fewer = omega arith; device = λ clean same. inl (go (reason clean) (device_is r same)) }
+  where
+    go : HasOlderReason s t (Source e) → r ≡ refusal.Device → IsHindered s t ⊎ IsVastOlder s.now
+    go (inl excused) is = inl (told_device s t e r memory excused is)
+    go (inr vast) is = inr vast

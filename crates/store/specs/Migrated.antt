@@ -1,5 +1,5 @@
 -- What a store does that is made of one of an older schema.
-use Rattle.std.specs.Prelude.{◌≡◌, ◌≢◌, ◌≤◌, ◌⊎◌, Bool, true, false, Result, Ok, Err, IfOk, OnOk, OnErr, is_ok, IsTrue}
+use Rattle.std.specs.Prelude.{◌≡◌, ◌≢◌, ◌≤◌, ◌⊎◌, ℕ, Bool, true, false, Result, Ok, Err, IfOk, IfErr, OnOk, OnErr, is_ok, IsTrue}
 use Rattle.sqlite.specs.Effect.{Database}
 use Rattle.sqlite.specs.State.{State, HasCleanDisk}
 use Rattle.sqlite_trees.specs.View.{doubt}
@@ -7,10 +7,13 @@ use Rattle.tables.specs.Means.{StandsFor, IsSettled}
 use Rattle.older.specs.declared.schema.Format.{Format}
 use Rattle.older.specs.Means.{StandsAs}
 use Rattle.older.specs.Schemas.{schema_of}
+use Rattle.tables.specs.Causes.{IsExcused, IsHindered}
+use Rattle.migration.specs.Causes.{IsVastAs}
 use Rattle.statements.specs.Calls.{ChangesAt, IsOpenIfHonest, Spares}
 use Rattle.statements.specs.Extract.{IsReadBy}
 use Rattle.statements.specs.declared.extract_rows.CopyError.{CopyError}
-use Rattle.world.specs.Store.{Shown}
+use Rattle.statements.specs.declared.extract_rows.CopyError.TheVariants.{Source, Fresh}
+use Rattle.world.specs.Store.{Shown, GrewOrFull}
 use Rattle.world.specs.World.{World, only_common}
 use Rattle.store.specs.Extracted.{IsRead}
 use Rattle.store.specs.declared.migrate.Migrated.{Migrated}
@@ -25,6 +28,10 @@ WasOf db w = (format : Format) × StandsAs format db w
 -- the tables are those of no older schema
 abbrev pub IsForeign : Database → Type 0
 IsForeign db = (format : Format) → db.schema ≢ schema_of format
+
+-- a table of an older schema has as many rows as there are rowids, more than a walk over them counts
+abbrev pub IsVastOlder : Database → Type 0
+IsVastOlder db = (format : Format) × IsVastAs format db
 
 -- the world that may be written is that of the older tables, or where not all was done, the one that is there
 abbrev pub IsOldOr : Database → World → Bool → World → Type 0
@@ -46,6 +53,11 @@ is_whole result = false
 abbrev pub IsHopeless : Database → Result Migrated CopyError → Type 0
 IsHopeless db result = (result ≡ Ok NotEmpty) ⊎ IsForeign db
 
+-- an error of the older store tells that memory was wanted, or something hindered the call, or a table is vast
+abbrev pub HasOlderReason : State → State → CopyError → Type 0
+HasOlderReason old old_new (Source e) = IsExcused old old_new e ⊎ IsVastOlder old.now
+HasOlderReason old old_new (Fresh e) = Unit {0}
+
 -- The older store is only read. The fresh one stands for what the old tables mean once all is written, and for what it stood for otherwise.
 pub record MigratesRows (old old_new fresh fresh_new : State) (result : Result Migrated CopyError) : Type 0 where
   pub clean : doubt old.is_clean ≤ doubt old_new.is_clean
@@ -53,6 +65,7 @@ pub record MigratesRows (old old_new fresh fresh_new : State) (result : Result M
   pub clean_too : doubt fresh.is_clean ≤ doubt fresh_new.is_clean
   pub spares : IsHopeless old.now result → Spares fresh fresh_new
   pub told : HasCleanDisk fresh_new → (x : World) → StandsFor fresh x → IfOk result (IsMigrated x)
+  pub cause : HasCleanDisk old_new → IfErr result (HasOlderReason old old_new)
   pub at :
       HasCleanDisk old_new → HasCleanDisk fresh_new → IsOpenIfHonest old → (x : World) → StandsFor fresh x
       → (w : World) × IsOldOr old.now x (is_whole result) w × ChangesAt fresh fresh_new (is_whole result) x w
@@ -89,3 +102,9 @@ pub record Migrates (old old_new : State) (fresh fresh_new : Shown) (result : Re
   pub honest : fresh_new.is_honest → fresh.is_honest
   pub spares : (result ≡ Err refusal.NotEmpty) ⊎ IsForeign old.now → IsRead fresh fresh_new
   pub at : HasCleanDisk old_new → fresh_new.is_honest → IsOpenIfHonest old → (x : World) → fresh.stands x → MigratesAt old.now fresh fresh_new x result
+
+-- `Device` is told only where the older connection was shut or limited in its steps, or its disk failed in the call, or a table of it is vast, or where a
+-- device of the fresh store failed, or its count of failures cannot grow
+pub record HasCauseInOne (old old_new : State) (before now : ℕ) (result : Result (Unit {0}) Refusal) : Type 0 where
+  pub no_fewer : before ≤ now
+  pub device : HasCleanDisk old_new → result ≡ Err refusal.Device → (IsHindered old old_new ⊎ IsVastOlder old.now) ⊎ GrewOrFull before now

@@ -1,10 +1,10 @@
 //! A store of an older schema as one of today's.
 
-ghost use Rattle.std.specs.Prelude.{◌≡◌, ◌≢◌, ◌≤◌, Ok};
+ghost use Rattle.std.specs.Prelude.{◌≡◌, ◌≢◌, Ok, Err, IfErr};
 ghost use Rattle.sqlite.specs.Held.{state};
 ghost use Rattle.migration.specs.Visits.{is_done};
 ghost use Rattle.store.specs.Shown.{shown_with};
-ghost use Rattle.store.specs.Migrated.{MigratesRows, Migrates, is_whole};
+ghost use Rattle.store.specs.Migrated.{MigratesRows, Migrates, HasCauseInOne, is_whole};
 
 use crate::extract::told_as;
 use crate::extract_judge::is_blank;
@@ -32,6 +32,7 @@ pub(crate) enum Migrated {
 fn told_of(written: Result<bool, CopyError>) -> Result<Migrated, CopyError>
     ensures whole { is_whole result ≡ is_done written }
     ensures named { result ≢ Ok Migrated.NotEmpty }
+    ensures failed { IfErr result (λ e. written ≡ Err e) }
 {
     match written {
         Ok(true) => Ok(Migrated::Whole),
@@ -76,7 +77,7 @@ pub fn migrate<S: Alter, F: Alter>(
 ) -> Result<(), Refusal>
     ensures migrates { Migrates (state S.Store old.old) (state S.Store old.new)
         (shown_with (state F.Store fresh.old.conn) fresh.old.kept) (shown_with (state F.Store fresh.new.conn) fresh.new.kept) result }
-    ensures no_fewer { fresh.old.failures ≤ fresh.new.failures }
+    ensures cause { HasCauseInOne (state S.Store old.old) (state S.Store old.new) fresh.old.failures fresh.new.failures result }
 {
     fresh.kept = Kept::new(fresh.alloc);
     match migrate_rows(fresh.alloc, old, &mut fresh.conn) {

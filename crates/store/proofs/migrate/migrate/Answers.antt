@@ -1,10 +1,11 @@
-use Rattle.std.proofs.Common.{Ok, Err, refl, subst}
+use Rattle.std.proofs.Common.{Ok, Err, inr, refl, subst}
 use Rattle.sqlite.specs.Held.{state}
-use Rattle.store.specs.Migrated.{MigratesRows}
+use Rattle.sqlite.specs.State.{HasCleanDisk}
+use Rattle.store.specs.Migrated.{HasOlderReason, MigratesRows}
 use Rattle.store.specs.declared.migrate.Migrated.{Migrated}
 use Rattle.store.specs.declared.migrate.Migrated.TheVariants.{Whole, NotEmpty, BadSchema}
 use Rattle.store.specs.declared.refusal.Refusal.TheVariants as refusal
-use Rattle.store.proofs.MigratedLemmas.{migrated, done_told, some_told, fault_told, opening_told, opening_some}
+use Rattle.store.proofs.MigratedLemmas.{migrated, done_told, some_told, fault_told, opening_told, opening_some, no_device, device_is, older_device}
 use Rattle.store.proofs.migrate.migrate.Goals as goal
 
 pub returns-in-Ok-Whole-clause-migrates : goal.returns-in-Ok-Whole-clause-migrates
@@ -53,3 +54,23 @@ returns-in-Err-Fresh-clause-migrates g c =
     let named = c.told_as.ensures.named in
     migrated s t f e c.args.fresh.now.kept _ (Err _) (Err c.told_as.result) c.in-Err-Fresh.ensures.migrates
     c.new.ensures refl (some_told _ named.1) (λ x _. fault_told x _ named.0 named.1 named.2)
+
+pub returns-in-Ok-Whole-clause-cause : goal.returns-in-Ok-Whole-clause-cause
+returns-in-Ok-Whole-clause-cause g c = no_device _ _ _ (Ok tt) (λ same. cc)
+
+pub returns-in-Ok-NotEmpty-clause-cause : goal.returns-in-Ok-NotEmpty-clause-cause
+returns-in-Ok-NotEmpty-clause-cause g c = no_device _ _ _ (Err refusal.NotEmpty) (λ same. cc)
+
+pub returns-in-Ok-BadSchema-clause-cause : goal.returns-in-Ok-BadSchema-clause-cause
+returns-in-Ok-BadSchema-clause-cause g c = no_device _ _ _ (Err refusal.BadSchema) (λ same. cc)
+
+pub returns-in-Err-Source-clause-cause : goal.returns-in-Err-Source-clause-cause
+returns-in-Err-Source-clause-cause g c =
+    let s = state g.S.Store c.args.old.now in
+    let t = state g.S.Store c.migrate_rows.new.old in
+    let reason = λ (clean : HasCleanDisk t). subst (HasOlderReason s t) c.in-Err-Source.field-0-is (c.in-Err-Source.ensures.migrates.cause clean) in
+    older_device s t c.in-Err-Source.error c.open_refusal.result _ c.open_refusal.ensures.memory reason
+
+pub returns-in-Err-Fresh-clause-cause : goal.returns-in-Err-Fresh-clause-cause
+returns-in-Err-Fresh-clause-cause g c =
+    record { no_fewer = c.fault.ensures.no_fewer; device = λ _ same. inr (c.fault.ensures.device (c.told_as.ensures.device (device_is c.told_as.result same))) }

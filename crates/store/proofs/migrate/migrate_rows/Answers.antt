@@ -3,7 +3,7 @@ use Rattle.sqlite.specs.Held.{state}
 use Rattle.older.specs.Schemas.{schema_of}
 use Rattle.migration.specs.Filled.{Migrates}
 use Rattle.store.specs.declared.migrate.Migrated.TheVariants.{NotEmpty, BadSchema}
-use Rattle.store.proofs.MigratedLemmas.{unwritten, written}
+use Rattle.store.proofs.MigratedLemmas.{unwritten, written, written_cause}
 use Rattle.store.proofs.migrate.migrate_rows.Goals as goal
 
 pub returns-in-Ok-false : goal.returns-in-Ok-false
@@ -11,20 +11,20 @@ returns-in-Ok-false g c =
     let s = state g.S.Store c.args.old.now in
     record {
       migrates = unwritten s (state g.F.Store c.args.fresh.now) (state g.F.Store c.is_blank.new.conn) (Ok NotEmpty) refl c.is_blank.ensures.spares
-          (λ good x stands same. true≢false (sym ((c.in-Ok-false.ensures.answer good x stands.0 stands.1).1.1 same) ∙ c.in-Ok-false.field-0-test));
+          (λ good x stands same. true≢false (sym ((c.in-Ok-false.ensures.answer good x stands.0 stands.1).1.1 same) ∙ c.in-Ok-false.field-0-test)) tt;
     }
 
 pub returns-in-Err : goal.returns-in-Err
 returns-in-Err g c =
     let s = state g.S.Store c.args.old.now in
-    record { migrates = unwritten s (state g.F.Store c.args.fresh.now) (state g.F.Store c.is_blank.new.conn) (Err _) refl c.is_blank.ensures.spares (λ good x stands. tt) }
+    record { migrates = unwritten s (state g.F.Store c.args.fresh.now) (state g.F.Store c.is_blank.new.conn) (Err _) refl c.is_blank.ensures.spares (λ good x stands. tt) tt }
 
 pub returns-in_default : goal.returns-in_default
 returns-in_default g c =
     let s = state g.S.Store c.args.old.now in
     record {
       migrates = unwritten s (state g.F.Store c.args.fresh.now) (state g.F.Store c.is_blank.new.conn) (Ok BadSchema) refl c.is_blank.ensures.spares
-          (λ good x stands. (c.in-Ok-true.ensures.answer good x stands.0 stands.1).1.0 c.in-Ok-true.field-0-test);
+          (λ good x stands. (c.in-Ok-true.ensures.answer good x stands.0 stands.1).1.0 c.in-Ok-true.field-0-test) tt;
     }
 
 pub returns : goal.returns
@@ -39,5 +39,6 @@ returns g c =
     record {
       migrates = written format s t f m e c.told_of.result has c.is_blank.ensures.spares
           (λ good x stands. let is = c.in-Ok-true.ensures.answer good x stands.0 stands.1 in (is.0, is.1.0 c.in-Ok-true.field-0-test))
-          (subst (Migrates format s t m e) (sym c.told_of.ensures.whole) c.write_world.ensures.migrates) c.told_of.ensures.named;
+          (subst (Migrates format s t m e) (sym c.told_of.ensures.whole) c.write_world.ensures.migrates) c.told_of.ensures.named
+          (λ clean. written_cause format s t c.write_world.result c.told_of.result c.told_of.ensures.failed (c.write_world.ensures.cause clean has));
     }

@@ -1,5 +1,6 @@
 #!/usr/bin/env python3
-"""tools/shards: two goshelfs behind one nginx, compared with one that has it all; missed publishes, two publishers, and files that are wrong."""
+"""tools/shards: two goshelfs behind one nginx, compared with one that has it all, and made of it; missed publishes, two publishers, and files
+that are wrong."""
 
 import base64
 import http.client
@@ -65,16 +66,10 @@ def add(file, shelf):
 
 
 class Goshelf:
-    """`goshelf serve` over a store with common and some teams."""
+    """`goshelf serve` over a store."""
 
-    def __init__(self, file, teams):
+    def __init__(self, file):
         self.file, self.port = file, 0
-        new_store(file)
-        for shelf in teams:
-            add(file, shelf)
-        for shelf in ("common", *teams):
-            done("key-add", "--db", file, "--shelf", shelf, "--key", key(shelf))
-            done("key-add", "--db", file, "--shelf", shelf, "--key", key(shelf, "read"), "--read-only")
         self.start()
 
     def start(self):
@@ -90,6 +85,17 @@ class Goshelf:
         return asked(conn, method, f"/k/{key(shelf, right)}{target}", body, headers or {})
 
 
+def with_teams(file, teams):
+    """A new store with common and some teams."""
+    new_store(file)
+    for shelf in teams:
+        add(file, shelf)
+    for shelf in ("common", *teams):
+        done("key-add", "--db", file, "--shelf", shelf, "--key", key(shelf))
+        done("key-add", "--db", file, "--shelf", shelf, "--key", key(shelf, "read"), "--read-only")
+    return file
+
+
 def asked(conn, method, target, body, headers):
     conn.request(method, target, body, headers)
     reply = conn.getresponse()
@@ -103,8 +109,8 @@ class Company:
 
     def __init__(self, folder):
         self.machine, self.folder, self.published = Machine(f"{folder}/machine"), folder, []
-        self.one = Goshelf(f"{folder}/one.db", SHELVES[1:])
-        self.shards = {name: Goshelf(f"{folder}/{name}.db", teams) for name, teams in TEAMS.items()}
+        self.one = Goshelf(with_teams(f"{folder}/one.db", SHELVES[1:]))
+        self.shards = {name: Goshelf(with_teams(f"{folder}/{name}.db", teams)) for name, teams in TEAMS.items()}
         self.file, self.keys = f"{folder}/shards.conf", f"{self.machine.folder}/etc/nginx/goshelf/keys.map"
         with open(self.file, "w", encoding="utf-8") as file:
             file.write(SHARDS.format(**{name: it.port for name, it in self.shards.items()}))
@@ -158,7 +164,8 @@ class Company:
 
     def tool(self, command, *words, file=None, keys=None):
         """The status, the lines and the errors of tools/shards."""
-        ran = subprocess.run([f"{ROOT}/tools/shards", command, file or self.file, keys or self.keys, *words], capture_output=True, text=True)
+        said = [f"{ROOT}/tools/shards", command, file or self.file, keys or self.keys, *words]
+        ran = subprocess.run(said, capture_output=True, text=True, env=dict(os.environ, GOSHELF=PROGRAM))
         return ran.returncode, ran.stdout.splitlines(), ran.stderr
 
     def close(self):
@@ -232,6 +239,32 @@ def pseudo_versions(suite, company):
     suite.holds("what is no inventory", status == 2 and "not an inventory" in errors, errors)
 
 
+def made(suite, company):
+    """Stores for the shards are made of the one that has it all."""
+    folder, one = f"{company.folder}/made", company.one
+    os.mkdir(folder)
+    one.stop()
+    told = company.tool("make", folder, keys=one.file)
+    suite.equal("make makes a store for each", told, (0, [f"{it} is {folder}/{it}.db" for it in TEAMS], ""))
+    status, lines, errors = company.tool("make", folder, keys=one.file)
+    suite.equal("and none in the place of one that is there", (status, lines, errors), (1, [], "shards: first is not made: goshelf: not-empty\n"))
+    name = f"{company.folder}/wrong"
+    for text, said in {"team omega\n": "shards: a is not made: goshelf: no-team\n", "group platform\n": "a has no team, and goshelf extract"}.items():
+        with open(name, "w", encoding="utf-8") as file:
+            file.write("shard a 127.0.0.1:1\n" + text)
+        status, lines, errors = company.tool("make", company.folder, file=name, keys=one.file)
+        suite.holds(f"{text!r}: {said}", (status > 0, lines) == (True, []) and said in errors, (status, errors))
+    one.start()
+    for it, teams in TEAMS.items():
+        shard = Goshelf(f"{folder}/{it}.db")
+        asks = [(shelf, target, right) for shelf in ("common", *teams) for target in company.targets() for right in ("read", "publish")]
+        other = [ask[:2] for ask in asks if shard.ask("GET", *ask[:2], right=ask[2]) != one.ask("GET", *ask[:2], right=ask[2])]
+        suite.equal(f"no answer of {it} differs from the one goshelf's, by {len(asks)} asks", other, [])
+        strangers = [shelf for shelf in SHELVES[1:] if shelf not in teams and shard.ask("GET", shelf, "/-/modules")[0] != 404]
+        suite.equal(f"{it} has no key of another shard's teams", strangers, [])
+        shard.stop()
+
+
 def ran_ahead(suite, company):
     """A team publishes a version that common has, before it came to its shard."""
     path = "example.com/ahead"
@@ -287,7 +320,7 @@ def wrong_files(suite, company):
             file.writelines(lines)
         status, _, errors = company.tool("send", keys=name)
         suite.holds(f"keys without {drop}", status == 2 and f"it has no line for {drop}" in errors, errors)
-    for words in ([], ["send"], ["conf"], ["send", company.file], ["other", company.file, company.keys]):
+    for words in ([], ["send"], ["conf"], ["make", company.file], ["send", company.file], ["other", company.file, company.keys]):
         status = subprocess.run([f"{ROOT}/tools/shards", *words], capture_output=True, stdin=subprocess.DEVNULL).returncode
         suite.equal(f"the words {[it[:5] for it in words]}", status, 2)
     status = subprocess.run([f"{ROOT}/tools/shards", "conf", company.file], input=b"server { }", capture_output=True).returncode
@@ -303,7 +336,7 @@ def main():
         os.chmod(folder, 0o755)
         company = Company(folder)
         try:
-            for part in (alike, shard_down, two_publishers, pseudo_versions, wrong_files, ran_ahead, other_keys, past_nginx):
+            for part in (alike, shard_down, two_publishers, pseudo_versions, made, wrong_files, ran_ahead, other_keys, past_nginx):
                 part(suite, company)
         finally:
             company.close()

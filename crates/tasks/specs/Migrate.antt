@@ -1,5 +1,5 @@
 -- What a migration of the file of an older store into the store of another file does.
-use Rattle.std.specs.Prelude.{ℕ, ◌≡◌, ◌≤◌, ◌⊎◌, Result, Err}
+use Rattle.std.specs.Prelude.{ℕ, ◌≡◌, ◌⊎◌, Result, Err}
 use Rattle.sqlite.specs.Held.{Held, state}
 use Rattle.sqlite.specs.State.{State}
 use Rattle.sqlite.specs.Steps.{over_memory}
@@ -7,7 +7,7 @@ use Rattle.sqlite_trees.specs.declared.memory.MemStore.{MemStore}
 use Rattle.sqlite_wal.specs.Recovery.{Image}
 use Rattle.statements.specs.Calls.{IsOpenIfHonest}
 use Rattle.world.specs.Store.{Shown}
-use Rattle.store.specs.Migrated.{Migrates, IsForeign}
+use Rattle.store.specs.Migrated.{Migrates, HasCauseInOne, IsForeign}
 use Rattle.store.specs.Older.{FindsOlder}
 use Rattle.store.specs.declared.refusal.Refusal.{Refusal as Unopened}
 use Rattle.commands.specs.declared.refusal.Refusal.{Refusal}
@@ -20,7 +20,7 @@ module _ {C F : Type 0} (state_of : C → State) (shown : F → Shown) (failures
   pub record MigratesInto (fresh fresh_new : F) (result : Result (Unit {0}) Refusal) : Type 0 where
     pub told : Result (Unit {0}) Unopened
     pub migrates : Migrates (state_of old) (state_of old_new) (shown fresh) (shown fresh_new) told
-    pub no_fewer : failures fresh ≤ failures fresh_new
+    pub cause : HasCauseInOne (state_of old) (state_of old_new) (failures fresh) (failures fresh_new) told
     pub ends : result ≡ extracted told
 
   -- the store of files that held this was opened, and made one of the older one or not

@@ -5,16 +5,22 @@ use Rattle.world.specs.Store.{Shown}
 use Rattle.engine.specs.Written.{Writes}
 use Rattle.engine.specs.declared.fault.Io.{Io}
 use Rattle.engine.specs.declared.fault.Io.TheVariants as io
-use Rattle.control.specs.Hearing.{Heard, Carried, NoOrder, NoMemory, IsHeard, IsHeardIn, Heeds, Hears, Obeys}
+use Rattle.control.specs.Hearing.{Heard, Carried, Stop, NoOrder, NoMemory, IsHeard, IsHeardIn, Heeds, Hears, Obeys}
 use Rattle.control.specs.Line.{ReadsLine}
 use Rattle.control.specs.Outcome.{line_of}
 use Rattle.control.specs.Turns.{GoesThroughTurns}
 use Rattle.control.specs.declared.outcome.Outcome.{Outcome}
 
+-- what is returned
+abbrev told_unless : Outcome → Result (Unit {0}) Io → Result Outcome Io
+told_unless told (Ok done) = Ok told
+told_unless told (Err e) = Err e
+
 module _ (old new : Shown) (before now : ℕ) (u u' : Option (List ℕ)) where
   was_heard : (got : List ℕ) → ReadsLine u u' got → (heard : Heard) → IsHeardIn got heard → IsHeard u u' heard
   was_heard got reads (Carried order told) sent = (got, reads, sent)
-  was_heard got reads NoOrder none = (got, reads, none)
+  was_heard got reads Stop is = subst (ReadsLine u u') is reads
+  was_heard got reads NoOrder none = (got, reads, none.0, none.1)
   was_heard got reads NoMemory never = absurd never
 
   -- the line that was read
@@ -29,8 +35,8 @@ module _ (old new : Shown) (before now : ℕ) (u u' : Option (List ℕ)) where
 
   module _ (w w' : Option (List ℕ)) where
     pub obeys_told : (told : Outcome) (result : Result (Unit {0}) Io) → Hears old new before now u u' told → Writes w w' (line_of told) result
-        → Obeys old new before now u u' w w' result
-    obeys_told told (Ok done) hears writes = (told, hears, writes)
+        → Obeys old new before now u u' w w' (told_unless told result)
+    obeys_told told (Ok done) hears writes = (hears, writes)
     obeys_told told (Err io.Write) hears writes = (told, hears, writes.1)
     obeys_told told (Err io.Read) hears (wrong, part) = cc
 

@@ -18,6 +18,7 @@ told_by line =
     else if bytes_eq line (codes "no-key\n") then outcome.Registered registered.NoKey
     else if bytes_eq line (codes "device\n") then outcome.Failed fault.Device
     else if bytes_eq line (codes "memory\n") then outcome.Failed fault.Memory
+    else if bytes_eq line (codes "stopping\n") then outcome.Stopping
     else outcome.Bad
 
 tells_itself : (told : Outcome) → told_by (line_of told) ≡ told
@@ -29,6 +30,7 @@ tells_itself (outcome.Registered registered.NoGroup) = refl
 tells_itself (outcome.Registered registered.NoKey) = refl
 tells_itself (outcome.Failed fault.Device) = refl
 tells_itself (outcome.Failed fault.Memory) = refl
+tells_itself outcome.Stopping = refl
 tells_itself outcome.Bad = refl
 
 pub one_outcome : (one two : Outcome) → line_of one ≡ line_of two → one ≡ two

@@ -10,7 +10,7 @@ use Rattle.engine.specs.Written.{WritesPart}
 use Rattle.engine.specs.declared.fault.Io.{Io}
 use Rattle.engine.specs.declared.fault.Io.TheVariants as io
 use Rattle.socket.specs.Connections.{Answers, Come, exchanges_of}
-use Rattle.control.specs.Hearing.{Heard, Carried, NoOrder, NoMemory, Obeys}
+use Rattle.control.specs.Hearing.{Heard, Carried, Stop, NoOrder, NoMemory, Obeys}
 use Rattle.control.specs.Outcome.{line_of}
 use Rattle.control.specs.Turns.{Asked, messages, GoesThroughTurns, GoesOn}
 use Rattle.control.specs.Visits.{Call, OfPeer, OfOperator, caller_of, turns_if, turns_of, turns_with, peers, ObeysOne, IsCallThere, ServesEach}
@@ -36,19 +36,20 @@ first_message (Some (Closes closing)) = omega arith
 no_message : (heard : Option Heard) → messages (turns_if heard) ≡ 0
 no_message None = refl
 no_message (Some (Carried order told)) = refl
+no_message (Some Stop) = refl
 no_message (Some NoOrder) = refl
 no_message (Some NoMemory) = refl
 
 module _ {O : Type 0} (heeded told : O → Option (List ℕ)) (old new : Shown) (before now : ℕ) where
   -- an operator was obeyed
-  pub obeyed_one : (operator after : O) (result : Result (Unit {0}) Io)
+  pub obeyed_one : (operator after : O) (result : Result Outcome Io)
       → Obeys old new before now (heeded operator) (heeded after) (told operator) (told after) result
       → ObeysOne heeded told operator old new before now
-  obeyed_one operator after (Ok done) obeys = record {
-    audience = record { before = operator; after = after; heard = Some obeys.1.heard };
+  obeyed_one operator after (Ok outcome) obeys = record {
+    audience = record { before = operator; after = after; heard = Some obeys.0.heard };
     begins = refl;
-    there = (obeys.1.from, inr (subst (λ (o : Outcome). Appends (told operator) (told after) (line_of o)) obeys.1.tells obeys.2));
-    through = obeys.1.through;
+    there = (obeys.0.from, inr (subst (λ (o : Outcome). Appends (told operator) (told after) (line_of o)) obeys.0.tells obeys.1));
+    through = obeys.0.through;
   }
   obeyed_one operator after (Err io.Read) obeys = record {
     audience = record { before = operator; after = after; heard = None };

@@ -2,10 +2,10 @@
 use Rattle.std.specs.Prelude.{ℕ, ◌≡◌, ◌⊎◌, List, Option, Result, Ok, Err}
 use Rattle.std.specs.Io.KnownBytes.{Consumes, Appends, Keeps}
 use Rattle.engine.specs.Written.{WritesPart}
-use Rattle.control.specs.Line.{IsSent}
+use Rattle.control.specs.Line.{IsSent, stop_line}
 use Rattle.control.specs.Outcome.{line_of}
 use Rattle.control.specs.declared.client.Untold.{Untold}
-use Rattle.control.specs.declared.client.Untold.TheVariants.{Words, Memory, Nobody, Io}
+use Rattle.control.specs.declared.client.Untold.TheVariants.{Words, Memory, Io}
 use Rattle.control.specs.declared.order.Order.{Order}
 use Rattle.control.specs.declared.outcome.Outcome.{Outcome}
 
@@ -17,7 +17,6 @@ IsUnsayable order = (sent : List ℕ) → ¬ IsSent sent order
 abbrev pub IsUnsent : Order → Untold → Type 0
 IsUnsent order Words = IsUnsayable order
 IsUnsent order Memory = Unit {0}
-IsUnsent order Nobody = ⊥
 IsUnsent order Io = ⊥
 
 -- the line of the outcome was read
@@ -33,6 +32,13 @@ Asks unread unread_new written written_new order (Ok told) =
     (sent : List ℕ) × IsSent sent order × Appends written written_new sent × Consumes unread unread_new (line_of told)
 Asks unread unread_new written written_new order (Err Words) = IsUnsayable order × Keeps written written_new
 Asks unread unread_new written written_new order (Err Memory) = Keeps written written_new
-Asks unread unread_new written written_new order (Err Nobody) = ⊥
 Asks unread unread_new written written_new order (Err Io) =
     (sent : List ℕ) × IsSent sent order × (WritesPart written written_new sent ⊎ Appends written written_new sent)
+
+-- So it was with the line that ends the server.
+abbrev pub AsksToStop :
+    Option (List ℕ) → Option (List ℕ) → Option (List ℕ) → Option (List ℕ) → Result Outcome Untold → Type 0
+AsksToStop unread unread_new written written_new (Ok told) =
+    Appends written written_new stop_line × Consumes unread unread_new (line_of told)
+AsksToStop unread unread_new written written_new (Err why) =
+    (why ≡ Io) × (WritesPart written written_new stop_line ⊎ Appends written written_new stop_line)

@@ -1,5 +1,5 @@
 -- What an operator's line comes to, and what the operator is told.
-use Rattle.std.specs.Prelude.{ℕ, ◌≡◌, List, [], ◌∷◌, Option, Result, Ok, Err}
+use Rattle.std.specs.Prelude.{ℕ, ◌≡◌, ◌≢◌, List, [], ◌∷◌, Option, Result, Ok, Err}
 use Rattle.std.specs.Io.KnownBytes.{Appends, Keeps}
 use Rattle.world.specs.Store.{Shown}
 use Rattle.world.specs.declared.registry.Registered.{Registered}
@@ -8,17 +8,19 @@ use Rattle.world.specs.declared.registry.StoreFault.TheVariants.{Memory}
 use Rattle.engine.specs.Written.{WritesPart}
 use Rattle.engine.specs.declared.fault.Io.{Io}
 use Rattle.engine.specs.declared.fault.Io.TheVariants as io
-use Rattle.control.specs.Line.{ReadsLine, IsSent, IsNoOrder}
+use Rattle.control.specs.Line.{ReadsLine, IsSent, IsNoOrder, stop_line}
 use Rattle.control.specs.Outcome.{outcome_of, line_of}
 use Rattle.control.specs.Turns.{Turn, Ordered, GoesThroughTurns}
 use Rattle.control.specs.declared.order.Order.{Order}
 use Rattle.control.specs.declared.outcome.Outcome.{Outcome}
-use Rattle.control.specs.declared.outcome.Outcome.TheVariants.{Failed, Bad}
+use Rattle.control.specs.declared.outcome.Outcome.TheVariants.{Failed, Stopping, Bad}
 
 -- what a line came to
 pub data Heard : Type 0 where
   -- it was an order, which was carried out
   Carried : Order → Result Registered StoreFault → Heard
+  -- the server was to end
+  Stop : Heard
   -- it was no order
   NoOrder : Heard
   -- there was no memory to read it
@@ -26,25 +28,29 @@ pub data Heard : Type 0 where
 
 abbrev pub outcome_heard : Heard → Outcome
 outcome_heard (Carried order told) = outcome_of told
+outcome_heard Stop = Stopping
 outcome_heard NoOrder = Bad
 outcome_heard NoMemory = Failed Memory
 
 -- just the order's event happened, or none
 abbrev pub turns_heard : Heard → List Turn
 turns_heard (Carried order told) = Ordered order told ∷ []
+turns_heard Stop = []
 turns_heard NoOrder = []
 turns_heard NoMemory = []
 
 -- these bytes came to it
 abbrev pub IsHeardIn : List ℕ → Heard → Type 0
 IsHeardIn got (Carried order told) = IsSent got order
-IsHeardIn got NoOrder = IsNoOrder got
+IsHeardIn got Stop = got ≡ stop_line
+IsHeardIn got NoOrder = IsNoOrder got × (got ≢ stop_line)
 IsHeardIn got NoMemory = ⊥
 
 -- it was read
 abbrev pub IsHeard : Option (List ℕ) → Option (List ℕ) → Heard → Type 0
 IsHeard unread unread_new (Carried order told) = (got : List ℕ) × ReadsLine unread unread_new got × IsSent got order
-IsHeard unread unread_new NoOrder = (got : List ℕ) × ReadsLine unread unread_new got × IsNoOrder got
+IsHeard unread unread_new Stop = ReadsLine unread unread_new stop_line
+IsHeard unread unread_new NoOrder = (got : List ℕ) × ReadsLine unread unread_new got × IsNoOrder got × (got ≢ stop_line)
 IsHeard unread unread_new NoMemory = Unit {0}
 
 -- what the bytes order was done, and this came of it
@@ -69,9 +75,9 @@ HearsOrFails old new before now unread unread_new (Err e) = (e ≡ io.Read) × G
 -- A line was read, what it orders was done, and its outcome was written, or a beginning of that where a write failed. Or a read
 -- failed, and nothing was done, and nothing written.
 abbrev pub Obeys :
-    Shown → Shown → ℕ → ℕ → Option (List ℕ) → Option (List ℕ) → Option (List ℕ) → Option (List ℕ) → Result (Unit {0}) Io → Type 0
-Obeys old new before now unread unread_new written written_new (Ok done) =
-    (told : Outcome) × Hears old new before now unread unread_new told × Appends written written_new (line_of told)
+    Shown → Shown → ℕ → ℕ → Option (List ℕ) → Option (List ℕ) → Option (List ℕ) → Option (List ℕ) → Result Outcome Io → Type 0
+Obeys old new before now unread unread_new written written_new (Ok told) =
+    Hears old new before now unread unread_new told × Appends written written_new (line_of told)
 Obeys old new before now unread unread_new written written_new (Err io.Read) =
     GoesThroughTurns old new before now [] × Keeps written written_new
 Obeys old new before now unread unread_new written written_new (Err io.Write) =

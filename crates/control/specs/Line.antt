@@ -1,5 +1,5 @@
 -- A line among the bytes that were read.
-use Rattle.std.specs.Prelude.{ℕ, ◌≡◌, ◌<◌, ◌≤◌, ◌⊎◌, ◌++◌, ◌∷◌, Bool, IsTrue, List, [], length, Contains, Option}
+use Rattle.std.specs.Prelude.{ℕ, ◌≡◌, ◌<◌, ◌≤◌, ◌⊎◌, ◌++◌, ◌∷◌, Bool, IsTrue, List, [], length, codes, Contains, Option}
 use Rattle.std.specs.Str.{IsUtf8}
 use Rattle.std.specs.Io.KnownBytes.{Consumes, IsAtEnd}
 use Rattle.control.specs.Order.{Orders}
@@ -28,6 +28,10 @@ pub record IsSent (got : List ℕ) (order : Order) : Type 0 where
 -- they are no order's
 abbrev pub IsNoOrder : List ℕ → Type 0
 IsNoOrder got = (order : Order) → ¬ IsSent got order
+
+-- the line that ends the server
+abbrev pub stop_line : List ℕ
+stop_line = codes "stop" ++ line_end ∷ []
 
 -- a line ends in the bytes, or would be too long
 abbrev pub HasEnough : List ℕ → Type 0

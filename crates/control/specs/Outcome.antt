@@ -21,6 +21,7 @@ word_of (outcome.Registered registered.NoGroup) = codes "no-group"
 word_of (outcome.Registered registered.NoKey) = codes "no-key"
 word_of (outcome.Failed fault.Device) = codes "device"
 word_of (outcome.Failed fault.Memory) = codes "memory"
+word_of outcome.Stopping = codes "stopping"
 word_of outcome.Bad = codes "bad"
 
 -- the word, and the end of the line

@@ -1,5 +1,6 @@
 //! Who comes: peers that ask, and operators that order.
 use crate::obeying::obey;
+use crate::outcome::Outcome;
 use crate::patience::Timed;
 use engine::Io;
 use mio::unix::SourceFd;
@@ -39,7 +40,7 @@ pub trait Operator {
         alloc: Global,
         clock: &C,
         shelves: &mut S,
-    ) -> Result<(), Io>
+    ) -> Result<Outcome, Io>
         ensures { Obeys (S.shown shelves.old) (S.shown shelves.new) (S.failure_count shelves.old) (S.failure_count shelves.new)
             (unread self.old) (unread self.new) (written self.old) (written self.new) result };
 }
@@ -58,7 +59,7 @@ impl Operator for UnixStream {
         alloc: Global,
         clock: &C,
         shelves: &mut S,
-    ) -> Result<(), Io> {
+    ) -> Result<Outcome, Io> {
         let stream: &UnixStream = self;
         let mut reader = Timed::new(stream, clock);
         let mut writer = Timed::new(stream, clock);

@@ -1,6 +1,6 @@
 //! The operator's side.
 ghost use Rattle.std.specs.Prelude.{◌≡◌, ◌++◌, ◌∷◌, [], IfOk, IfErr, IfSome, OnOk, option_copied};
-ghost use Rattle.control.specs.Asking.{Asks, IsUnsent, TellsOutcome};
+ghost use Rattle.control.specs.Asking.{Asks, AsksToStop, IsUnsent, TellsOutcome};
 ghost use Rattle.control.specs.Line.{IsSent};
 ghost use Rattle.control.specs.Order as spec;
 ghost use Rattle.control.specs.Order.{said_in};
@@ -23,8 +23,6 @@ pub enum Untold {
     Words,
     /// There was no memory for the line. Nothing was sent.
     Memory,
-    /// Nobody listens at the socket, or the system lets nobody connect. Nothing was sent.
-    Nobody,
     /// The line could not be sent, or no outcome came. Whether the order was carried out is not known.
     Io,
 }
@@ -39,7 +37,7 @@ impl From<AllocError> for Untold {
     }
 }
 
-/// Sends an order and returns the outcome that it is answered with: never `Untold::Nobody`.
+/// Sends an order and returns the outcome that it is answered with.
 pub fn ask<R: Read, W: Write>(
     alloc: Global,
     reader: &mut R,
@@ -50,6 +48,20 @@ pub fn ask<R: Read, W: Write>(
 {
     let line = line_to_send(alloc, order)?;
     match write_bytes(writer, &line) {
+        Ok(()) => hear_outcome(alloc, reader),
+        Err(_) => Err(Untold::Io),
+    }
+}
+
+/// Has the server end, and returns what it tells: `Outcome::Stopping` if it does. It fails with `Untold::Io` alone.
+pub fn ask_to_stop<R: Read, W: Write>(
+    alloc: Global,
+    reader: &mut R,
+    writer: &mut W,
+) -> Result<Outcome, Untold>
+    ensures { AsksToStop (R.remaining reader.old) (R.remaining reader.new) (W.contents writer.old) (W.contents writer.new) result }
+{
+    match write_bytes(writer, b"stop\n") {
         Ok(()) => hear_outcome(alloc, reader),
         Err(_) => Err(Untold::Io),
     }

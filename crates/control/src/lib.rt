@@ -6,7 +6,7 @@
 //! | what came of an order, and the line that tells it | [`Outcome`] |
 //! | carrying an operator's order out | [`obey`] |
 //! | peers of a port and operators of a socket, one after another | [`serve_both`], [`Callers`], [`Doors`] |
-//! | the socket, and the operator's side | [`operators_at`], [`ask_at`], [`ask`] |
+//! | the socket, and the operator's side | [`operators_at`], [`leave_place`], [`server_at`], [`ask`], [`ask_to_stop`] |
 #![tactic(auto)]
 
 mod callers;
@@ -23,9 +23,9 @@ mod serve;
 mod words;
 
 pub use callers::{Caller, Callers, Doors, Operator};
-pub use client::{Untold, ask};
+pub use client::{Untold, ask, ask_to_stop};
 pub use obeying::obey;
 pub use order::{Order, order_of};
 pub use outcome::Outcome;
-pub use place::{ask_at, operators_at};
+pub use place::{leave_place, operators_at, server_at};
 pub use serve::serve_both;

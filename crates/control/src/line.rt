@@ -1,5 +1,5 @@
 //! Lines, read and told apart.
-ghost use Rattle.std.specs.Prelude.{◌≡◌, MatchOption, IfOk, IsTrue};
+ghost use Rattle.std.specs.Prelude.{◌≡◌, ◌↔◌, MatchOption, IfOk, IsTrue};
 ghost use Rattle.control.specs.Line as spec;
 
 use crate::order::{Order, order_of};
@@ -76,6 +76,13 @@ pub(crate) fn line_in(got: &[u8]) -> Option<&str>
         Ok(line) => Some(line),
         Err(_) => None,
     }
+}
+
+/// Whether the bytes are the line that ends the server.
+pub(crate) fn is_stop(got: &[u8]) -> bool
+    ensures { IsTrue result ↔ (got.now ≡ spec.stop_line) }
+{
+    got == b"stop\n".as_slice()
 }
 
 /// The order whose line the bytes are, or None if they are no order's.

@@ -11,6 +11,8 @@ pub enum Outcome {
     Registered(Registered),
     /// The store met a fault, and the order changed nothing.
     Failed(StoreFault),
+    /// The server ends.
+    Stopping,
     /// What came is no order's line, and nothing was done.
     Bad,
 }
@@ -39,6 +41,7 @@ impl Outcome {
             Outcome::Registered(Registered::NoKey) => "no-key\n",
             Outcome::Failed(StoreFault::Device) => "device\n",
             Outcome::Failed(StoreFault::Memory) => "memory\n",
+            Outcome::Stopping => "stopping\n",
             Outcome::Bad => "bad\n",
         }
     }
@@ -56,6 +59,7 @@ impl Outcome {
             "no-key" => Some(Outcome::Registered(Registered::NoKey)),
             "device" => Some(Outcome::Failed(StoreFault::Device)),
             "memory" => Some(Outcome::Failed(StoreFault::Memory)),
+            "stopping" => Some(Outcome::Stopping),
             "bad" => Some(Outcome::Bad),
             _ => None,
         }

@@ -1,10 +1,4 @@
 //! The socket of the operators, a file of the system.
-ghost use Rattle.std.specs.Prelude.{◌≡◌, IfErr};
-ghost use Rattle.control.specs.Asking.{IsUnsayable};
-
-use crate::client::{Untold, ask};
-use crate::order::Order;
-use crate::outcome::Outcome;
 use std::fs::{self, Permissions};
 use std::io::{self, ErrorKind};
 use std::os::unix::fs::{FileTypeExt, PermissionsExt};
@@ -45,19 +39,20 @@ fn remove_left(rt: &HostRuntime, path: &str) -> io::Result<()> {
     }
 }
 
-/// Sends an order to the server that listens at this socket, as `ask` does, and returns the outcome. `Untold::Nobody` if there is none.
-/// It waits for the outcome at most a minute, and then fails with `Untold::Io`.
-pub fn ask_at(rt: &HostRuntime, path: &str, order: &Order) -> Result<Outcome, Untold>
-    ensures { IfErr result (λ why. why ≡ Untold.Words → IsUnsayable order.now) }
-{
-    let Ok(stream) = UnixStream::connect(rt, path) else {
-        return Err(Untold::Nobody);
-    };
-    if stream
-        .set_read_timeout(Some(Duration::from_secs(LONGEST_WAIT)))
-        .is_err()
-    {
-        return Err(Untold::Io);
+/// Takes the socket away at the end, if the name is still that of a socket. Nothing is told where this fails.
+pub fn leave_place(rt: &HostRuntime, path: &str) {
+    match fs::symlink_metadata(rt, path) {
+        Ok(found) if found.file_type().is_socket() => {
+            let _ = fs::remove_file(rt, path);
+        }
+        _ => {}
     }
-    ask(rt.alloc(), &mut &stream, &mut &stream, order)
+}
+
+/// A connection to the server that listens at this socket, over which `ask` sends an order. It fails if nobody listens there, or the
+/// system lets nobody connect. Each read from it waits at most a minute.
+pub fn server_at(rt: &HostRuntime, path: &str) -> io::Result<UnixStream> {
+    let server = UnixStream::connect(rt, path)?;
+    server.set_read_timeout(Some(Duration::from_secs(LONGEST_WAIT)))?;
+    Ok(server)
 }

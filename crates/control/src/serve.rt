@@ -1,9 +1,12 @@
 //! One caller after another.
+ghost use Rattle.std.specs.Prelude.{◌≡◌, ◌↔◌, IsTrue, Ok};
 ghost use Rattle.socket.specs.Connections.{Answers};
 ghost use Rattle.control.specs.Turns.{GoesOn};
 ghost use Rattle.control.specs.Visits.{ObeysOne, ServesEach};
 
 use crate::callers::{Caller, Callers, Operator};
+use crate::outcome::Outcome;
+use engine::Io;
 use socket::Peer;
 use std::alloc::Global;
 use std::time::Clock;
@@ -11,8 +14,8 @@ use wire::RouteTable;
 use world::shelves::Shelves;
 
 /// Takes so many connections of peers, one after another, and answers on each the first message that comes over it; the orders of
-/// operators who come between them are carried out, and do not count. It returns after the last of the peers, and waits for each
-/// caller as long as it takes.
+/// operators who come between them are carried out, and do not count. It returns after the last of the peers, or once an operator who
+/// wants it to end was told so, and waits for each caller as long as it takes.
 ///
 /// A connection of a peer that fails counts, and so does one that can't be taken, so a server without descriptors ends.
 pub fn serve_both<C: Clock, P: Peer + Drop, O: Operator + Drop, L: Callers<P, O>, S: Shelves>(
@@ -36,7 +39,11 @@ pub fn serve_both<C: Clock, P: Peer + Drop, O: Operator + Drop, L: Callers<P, O>
             return;
         }
         match callers.next() {
-            Ok(Caller::Operator(mut operator)) => obey_on(alloc, clock, &mut operator, shelves),
+            Ok(Caller::Operator(mut operator)) => {
+                if obey_on(alloc, clock, &mut operator, shelves) {
+                    return;
+                }
+            }
             Ok(Caller::Peer(mut peer)) => {
                 left -= 1;
                 answer_on(alloc, clock, &mut routes, &mut peer, shelves);
@@ -62,15 +69,23 @@ fn answer_on<C: Clock, P: Peer, S: Shelves>(
     }
 }
 
-/// Carries out one order of an operator. What fails on the connection is told to nobody.
+/// Carries out one order of an operator, and returns whether that is to end. What fails on the connection is told to nobody.
 fn obey_on<C: Clock, O: Operator, S: Shelves>(
     alloc: Global,
     clock: &C,
     operator: &mut O,
     shelves: &mut S,
-)
+) -> bool
     ensures { ObeysOne O.unread O.written operator.old (S.shown shelves.old) (S.shown shelves.new) (S.failure_count shelves.old)
         (S.failure_count shelves.new) }
 {
-    let _ = operator.obeyed(alloc, clock, shelves);
+    let told = operator.obeyed(alloc, clock, shelves);
+    is_stopping(told)
+}
+
+/// Whether an operator was told that the server ends.
+fn is_stopping(told: Result<Outcome, Io>) -> bool
+    ensures { IsTrue result ↔ (told ≡ Ok Outcome.Stopping) }
+{
+    matches!(told, Ok(Outcome::Stopping))
 }

@@ -1,7 +1,16 @@
-use Rattle.std.proofs.Common.{refl}
-use Rattle.control.specs.Hearing.{Carried, NoOrder}
+use Rattle.std.proofs.Common.{refl, sym, ◌∙◌}
+use Rattle.std.proofs.lemmas.Bool.{false≢true}
+use Rattle.control.specs.Hearing.{Carried, Stop, NoOrder}
 use Rattle.control.proofs.TurnLemmas.{turns_none, turns_ordered}
 use Rattle.control.proofs.obeying.heed.Goals as goal
+
+pub returns-then-is_stop : goal.returns-then-is_stop
+returns-then-is_stop g c = record {
+  heard = Stop;
+  from = c.is_stop.ensures.0 c.if-is_stop.true;
+  tells = refl;
+  through = turns_none _ _;
+}
 
 pub returns-in-Some : goal.returns-in-Some
 returns-in-Some g c = record {
@@ -14,7 +23,7 @@ returns-in-Some g c = record {
 pub returns-in-None : goal.returns-in-None
 returns-in-None g c = record {
   heard = NoOrder;
-  from = c.in-None.ensures;
+  from = (c.in-None.ensures, λ is. false≢true (sym c.if-is_stop.false ∙ c.is_stop.ensures.1 is));
   tells = refl;
   through = turns_none _ _;
 }

@@ -1,7 +1,7 @@
 use Rattle.std.proofs.Common.{arith}
 use Rattle.control.proofs.ServeLemmas.{each_zero, each_peer, each_operator, each_same, each_goes}
 use Rattle.control.proofs.serve.serve_both.Goals as goal
-use Rattle.control.proofs.serve.serve_both.Goals.{in-Ok-Operator, in-Ok-Peer, in-Err}
+use Rattle.control.proofs.serve.serve_both.Goals.{in-Ok-Operator+else-obey_on, in-Ok-Peer, in-Err}
 
 pub loop-init : goal.loop-init
 loop-init g c = record { some = omega arith; each = each_zero _ _ _ _ _ _ _ _ (omega arith) }
@@ -11,7 +11,7 @@ loop-preserved g c =
     let left_is = c.if-left-eq0.false in
     let kept = c.loop.invariant in
     elim c.match-next.branch [
-      | in-Ok-Operator w ↦ rw (w.left-is, w.shelves-is) (record {
+      | in-Ok-Operator+else-obey_on w ↦ rw (w.left-is, w.shelves-is) (record {
         some = kept.some;
         each = each_operator _ _ _ _ _ _ _ _ _ _ _ _ _ _ _ kept.each _ (rw w.in-Ok-Operator.field-0-is at w.in-Ok-Operator.ensures) w.obey_on.ensures (omega arith);
       })
@@ -27,6 +27,15 @@ loop-preserved g c =
 
 pub returns-then-left-eq0-clause-goes : goal.returns-then-left-eq0-clause-goes
 returns-then-left-eq0-clause-goes g c = each_goes _ _ _ _ _ _ _ _ _ _ _ _ c.loop.invariant.each (omega arith)
+
+pub returns-then-obey_on-clause-goes : goal.returns-then-obey_on-clause-goes
+returns-then-obey_on-clause-goes g c = each_goes _ _ _ _ _ _ _ _ _ _ c.args.connections _
+    (each_operator _ _ _ _ _ _ _ _ _ _ _ _ _ _ _ c.loop.invariant.each _ (rw c.in-Ok-Operator.field-0-is at c.in-Ok-Operator.ensures) c.obey_on.ensures (omega (arith, c.loop.invariant.some)))
+    (omega arith)
+
+pub returns-then-obey_on-clause-each : goal.returns-then-obey_on-clause-each
+returns-then-obey_on-clause-each g c = each_operator _ _ _ _ _ _ _ _ _ _ _ _ _ _ _ c.loop.invariant.each
+    _ (rw c.in-Ok-Operator.field-0-is at c.in-Ok-Operator.ensures) c.obey_on.ensures (omega (arith, c.loop.invariant.some))
 
 pub returns-clause-goes : goal.returns-clause-goes
 returns-clause-goes g c = each_goes _ _ _ _ _ _ _ _ _ _ _ _ c.loop.invariant.each (omega arith)

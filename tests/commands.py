@@ -62,15 +62,48 @@ serve --db none.db --port 0 --connections 4294967296
 serve --db none.db --port x --connections 0
 serve --db none.db --port=-1 --connections 0
 serve --db none.db --port 0 --connections
-serve --db none.db --port 0 --connections x"""
+serve --db none.db --port 0 --connections x
+serve --db none.db --stdin --port 0
+serve --db none.db --stdin --connections x
+serve --db none.db --port 0 --control
+serve --stdin
+serve --control none
+team-add --control none
+team-add --control none --db none.db --team alpha
+group-add --control none
+group-add --control none --db none.db --group platform
+key-add --control none --key A
+key-add --control none --db none.db --shelf alpha --key A
+key-revoke --control none
+key-revoke --control none --db none.db --key A
+publish --control none --key A --module example.com/lib --version v1.0.0 --mod go.mod --zip zip
+extract --control none --team alpha --to other.db
+stop
+stop --db none.db"""
+
+# what a command alone shows, that takes options in place of others
+FORMS = """
+goshelf answer --db <F>
+goshelf answer --mem --team <T> --key <K>
+goshelf team-add --db <F> --team <T> [--group <G>]
+goshelf team-add --control <S> --team <T> [--group <G>]
+goshelf group-add --db <F> --group <G>
+goshelf group-add --control <S> --group <G>
+goshelf key-add --db <F> --shelf <S> --key <K> [--read-only]
+goshelf key-add --control <S> --shelf <S> --key <K> [--read-only]
+goshelf key-revoke --db <F> --key <K>
+goshelf key-revoke --control <S> --key <K>
+goshelf serve --db <F> --port <N> [--connections <M>] [--control <S>]
+goshelf serve --db <F> --stdin [--connections <M>] [--control <S>]
+"""
 
 # each command with all of its options
 OPTIONS = """
 init --db
-team-add --db --team --group
-group-add --db --group
-key-add --db --shelf --key --read-only
-key-revoke --db --key
+team-add --db --control --team --group
+group-add --db --control --group
+key-add --db --control --shelf --key --read-only
+key-revoke --db --control --key
 publish --db --key --module --version --mod --zip --time
 import --db --key --list
 inventory --db --key
@@ -78,7 +111,8 @@ requires --db --key --module --version
 extract --db --team --to
 migrate --from --to
 answer --db --mem --team --key
-serve --db --port --connections
+serve --db --port --stdin --connections --control
+stop --control
 """
 
 LIB_FILES = {"go.mod": "module example.com/lib\n", "zip": "", "long.mod": b" " * 1_048_577}
@@ -358,9 +392,10 @@ def bad_usage(suite):
         status, output, told = run(words_of(line))
         suite.equal(f"bad usage: {line or 'no words'}", (status, output, told != ""), (2, b"", True))
     suite.equal("bad usage makes no file", os.listdir("."), [])
-    told = run(["answer"])[2]
-    for form in ("goshelf answer --db <F>", "goshelf answer --mem --team <T> --key <K>"):
-        suite.holds(f"`answer` alone shows the form `{form}`", form in told, told)
+    for form in FORMS.strip().split("\n"):
+        command = form.split()[1]
+        told = run([command])[2]
+        suite.holds(f"`{command}` alone shows the form `{form}`", form in told, told)
 
 
 def helped(suite):

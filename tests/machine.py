@@ -23,7 +23,8 @@ case $1 in
 show) cat "@/restarts" ;;
 start)
     rm -f "@/serve.out"
-    goshelf serve --db "@/var/lib/goshelf/shelves.db" --port PORT > "@/serve.out" 2> "@/serve.err" < /dev/null &
+    mkdir -p "@/run/goshelf"
+    goshelf serve --db "@/var/lib/goshelf/shelves.db" --port PORT --control "@/run/goshelf/control" > "@/serve.out" 2> "@/serve.err" < /dev/null &
     echo $! > "@/serve.pid"
     until grep -qs '^listening on' "@/serve.out"; do kill -0 $! || exit 1; sleep 0.05; done ;;
 stop)

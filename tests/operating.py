@@ -81,16 +81,24 @@ def asked(file, *targets, key=ALPHA):
 
 
 def keys(suite, machine):
-    """A key is made, and one is revoked."""
+    """A key is made and revoked, and a team is added, while goshelf runs."""
     made = machine.does(beginning("head -c 16"))
     suite.holds("a key is made", re.fullmatch("[0-9a-f]{32}", made), made)
-    machine.does(f"systemctl stop goshelf; goshelf key-add --db {machine.store} --shelf alpha --key {made}; systemctl start goshelf")
-    machine.does(block("sh", "key-revoke --db /var/lib/goshelf/shelves.db --key KEY").replace("KEY", made))
-    suite.holds("goshelf runs after a key was revoked", runs(machine))
+    more = "0" * 32
+    control = f"--control {machine.folder}/run/goshelf/control"
+    ask = f"curl -s -o /dev/null -w '%{{http_code}}' http://127.0.0.1:8080/k/{made}/-/modules"
+    machine.does(f"goshelf key-add {control} --shelf alpha --key {made}")
+    suite.equal("a key that was added reads at once", machine.does(ask), "200")
+    machine.does(block("sh", "key-revoke --control").replace("KEY", made))
+    suite.equal("one that was revoked reads nothing at once", machine.does(ask), "404")
+    machine.does(block("sh", "team-add --control").replace("beta", "omega").replace("KEY", more))
+    suite.holds("goshelf runs on", runs(machine))
     machine.does("systemctl stop goshelf")
-    found = [asked(machine.store, "example.com/lib/@v/list", key=it)[0][0] for it in (made, ALPHA)]
-    suite.equal("the revoked key reads nothing, and another still does", found, [404, 200])
+    found = [asked(machine.store, "-/modules", key=it)[0][0] for it in (made, ALPHA, more)]
+    suite.equal("the store has it so: a revoked key, one as before, and one of a new team", found, [404, 200, 200])
+    suite.equal("and nobody listens", machine.sh(f"goshelf key-revoke {control} --key {more}"), (1, "", "goshelf: device\n"))
     machine.does("systemctl start goshelf")
+    machine.does(f"goshelf key-revoke {control} --key {more}")
 
 
 def cron(suite, machine):

@@ -31,7 +31,7 @@ new_store_line = codes "new store: the file of --db is missing or empty; without
 
 -- Before a task, nothing was written to the errors, but where it serves a store: that line or nothing, or a beginning where a write failed.
 abbrev pub Tells : Option (List ℕ) → Option (List ℕ) → Task → Type 0
-Tells errors errors_new (OnStore db (Serve port connections)) = (errors_new ≡ errors) ⊎ PrintsFront errors errors_new new_store_line
+Tells errors errors_new (OnStore db (Serve entrance connections control)) = (errors_new ≡ errors) ⊎ PrintsFront errors errors_new new_store_line
 Tells errors errors_new other = errors_new ≡ errors
 
 module _ {P : Type 0} (performed : Performed P) (old new : P) (unread unread_new written written_new : Option (List ℕ)) where

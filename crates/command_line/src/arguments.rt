@@ -1,4 +1,8 @@
-//! The command line: its commands, their options and their help.
+//! The command line: its commands, their help, and the parser.
+use crate::options::{
+    ANSWER, EXTRACT, GROUP_ADD, IMPORT, INIT, INVENTORY, KEY_ADD, KEY_REVOKE, MIGRATE, Needed,
+    OptionRow, PUBLISH, REQUIRES, SERVE, STOP, TEAM_ADD, Value,
+};
 use crate::version::VERSION;
 use clap::builder::ValueParser;
 use clap::{Arg, ArgAction, Command};
@@ -16,45 +20,8 @@ struct CommandRow {
     example: &'static str,
 }
 
-/// An option of a command as help tells of it.
-#[derive(Clone, Copy, Drop)]
-struct OptionRow {
-    name: &'static str,
-    value: Value,
-    needed: Needed,
-    help: &'static str,
-}
-
-/// What an option takes, by what help calls it.
-/// A value is taken as it is, even an empty one; one that begins with a dash needs `=`. The parser refuses a number
-/// that is too large, in its own words.
-#[derive(Clone, Copy, Drop)]
-enum Value {
-    /// Nothing: it is a flag.
-    Flag,
-    /// A text.
-    Text(&'static str),
-    /// A text, or as many as the option is given.
-    Texts(&'static str),
-    /// A number from 0 to this most.
-    Number(&'static str, u64),
-}
-
-/// When an option has to be given.
-#[derive(Clone, Copy, Drop)]
-enum Needed {
-    /// Always.
-    Always,
-    /// Never.
-    Never,
-    /// Where this other option is not given.
-    Without(&'static str),
-    /// Where this other option is not given; with it, it may not be.
-    InsteadOf(&'static str),
-}
-
 /// The commands, in the order of the help.
-static COMMANDS: [CommandRow; 13] = [
+static COMMANDS: [CommandRow; 14] = [
     CommandRow {
         name: "init",
         about: "Makes a store with the shelf common alone, in a file that has no bytes",
@@ -66,28 +33,28 @@ static COMMANDS: [CommandRow; 13] = [
         name: "team-add",
         about: "Adds a team, with a shelf of its own",
         options: &TEAM_ADD,
-        forms: None,
+        forms: Some(TEAM_ADD_FORMS),
         example: "",
     },
     CommandRow {
         name: "group-add",
         about: "Adds a group, with a shelf of its own",
         options: &GROUP_ADD,
-        forms: None,
+        forms: Some(GROUP_ADD_FORMS),
         example: "",
     },
     CommandRow {
         name: "key-add",
         about: "Adds a key to a shelf",
         options: &KEY_ADD,
-        forms: None,
+        forms: Some(KEY_ADD_FORMS),
         example: "",
     },
     CommandRow {
         name: "key-revoke",
         about: "Takes a key away",
         options: &KEY_REVOKE,
-        forms: None,
+        forms: Some(KEY_REVOKE_FORMS),
         example: "",
     },
     CommandRow {
@@ -143,15 +110,40 @@ static COMMANDS: [CommandRow; 13] = [
         name: "serve",
         about: "Answers one HTTP request on each of some connections to 127.0.0.1",
         options: &SERVE,
-        forms: None,
+        forms: Some(SERVE_FORMS),
         example: SERVE_EXAMPLE,
+    },
+    CommandRow {
+        name: "stop",
+        about: "Has a running serve end, after the request in hand",
+        options: &STOP,
+        forms: None,
+        example: "",
     },
 ];
 
-/// The two forms of `answer`.
+/// The two forms of `answer`, and below of other commands.
 /// They are written by hand, because the parser would list `--db`, `--mem`, `--team` and `--key` as all required.
 const ANSWER_FORMS: &str =
     "goshelf answer --db <F>\n       goshelf answer --mem --team <T> --key <K>";
+
+const TEAM_ADD_FORMS: &str = "\
+goshelf team-add --db <F> --team <T> [--group <G>]
+       goshelf team-add --control <S> --team <T> [--group <G>]";
+
+const GROUP_ADD_FORMS: &str =
+    "goshelf group-add --db <F> --group <G>\n       goshelf group-add --control <S> --group <G>";
+
+const KEY_ADD_FORMS: &str = "\
+goshelf key-add --db <F> --shelf <S> --key <K> [--read-only]
+       goshelf key-add --control <S> --shelf <S> --key <K> [--read-only]";
+
+const KEY_REVOKE_FORMS: &str =
+    "goshelf key-revoke --db <F> --key <K>\n       goshelf key-revoke --control <S> --key <K>";
+
+const SERVE_FORMS: &str = "\
+goshelf serve --db <F> --port <N> [--connections <M>] [--control <S>]
+       goshelf serve --db <F> --stdin [--connections <M>] [--control <S>]";
 
 /// A publish.
 const PUBLISH_EXAMPLE: &str = "\
@@ -175,232 +167,6 @@ const SERVE_EXAMPLE: &str = "\
 Example, and the go command that asks it with the key K:
   goshelf serve --db shelves.db --port 8080
   GOPROXY=http://127.0.0.1:8080/k/K GONOSUMDB=example.com go get example.com/greet@v1.0.0";
-
-/// The file of the store.
-const DB: OptionRow = OptionRow {
-    name: "db",
-    value: Value::Text("F"),
-    needed: Needed::Always,
-    help: "The file of the store; one that is missing or empty has the shelf common alone",
-};
-
-const INIT: [OptionRow; 1] = [DB];
-
-const TEAM_ADD: [OptionRow; 3] = [
-    DB,
-    OptionRow {
-        name: "team",
-        value: Value::Text("T"),
-        needed: Needed::Always,
-        help: "The team: 1 to 32 bytes of a-z, 0-9 and -, the first a letter, not common",
-    },
-    OptionRow {
-        name: "group",
-        value: Value::Text("G"),
-        needed: Needed::Never,
-        help: "The group that the team is a member of, for good; without this it is of none",
-    },
-];
-
-const GROUP_ADD: [OptionRow; 2] = [
-    DB,
-    OptionRow {
-        name: "group",
-        value: Value::Text("G"),
-        needed: Needed::Always,
-        help: "The group: 1 to 32 bytes of a-z, 0-9 and -, the first a letter, not common",
-    },
-];
-
-const KEY_ADD: [OptionRow; 4] = [
-    DB,
-    OptionRow {
-        name: "shelf",
-        value: Value::Text("S"),
-        needed: Needed::Always,
-        help: "The shelf that the key belongs to: a team, a group, or common",
-    },
-    OptionRow {
-        name: "key",
-        value: Value::Text("K"),
-        needed: Needed::Always,
-        help: "The key: 16 to 64 bytes of a-z and 0-9, which no shelf has",
-    },
-    OptionRow {
-        name: "read-only",
-        value: Value::Flag,
-        needed: Needed::Never,
-        help: "The key may read, and not publish",
-    },
-];
-
-const KEY_REVOKE: [OptionRow; 2] = [
-    DB,
-    OptionRow {
-        name: "key",
-        value: Value::Text("K"),
-        needed: Needed::Always,
-        help: "The key to take away; it is free again then",
-    },
-];
-
-const PUBLISH: [OptionRow; 7] = [
-    DB,
-    OptionRow {
-        name: "key",
-        value: Value::Text("K"),
-        needed: Needed::Always,
-        help: "A key that may publish",
-    },
-    OptionRow {
-        name: "module",
-        value: Value::Text("P"),
-        needed: Needed::Always,
-        help: "The module path, as its go.mod names it",
-    },
-    OptionRow {
-        name: "version",
-        value: Value::Text("V"),
-        needed: Needed::Always,
-        help: "The version, as v1.0.0",
-    },
-    OptionRow {
-        name: "mod",
-        value: Value::Text("FILE"),
-        needed: Needed::Always,
-        help: "The file of the go.mod",
-    },
-    OptionRow {
-        name: "zip",
-        value: Value::Text("FILE"),
-        needed: Needed::Always,
-        help: "The file of the zip",
-    },
-    OptionRow {
-        name: "time",
-        value: Value::Text("T"),
-        needed: Needed::Never,
-        help: "The time of the version, as 2024-01-31T23:59:59Z",
-    },
-];
-
-const IMPORT: [OptionRow; 3] = [
-    DB,
-    OptionRow {
-        name: "key",
-        value: Value::Text("K"),
-        needed: Needed::Always,
-        help: "A key that may publish",
-    },
-    OptionRow {
-        name: "list",
-        value: Value::Text("CSV"),
-        needed: Needed::Always,
-        help: "The file of the list: CSV with the header path,version,time,mod,zip",
-    },
-];
-
-const INVENTORY: [OptionRow; 2] = [
-    DB,
-    OptionRow {
-        name: "key",
-        value: Value::Text("K"),
-        needed: Needed::Always,
-        help: "A key of the shelf",
-    },
-];
-
-const REQUIRES: [OptionRow; 4] = [
-    DB,
-    OptionRow {
-        name: "key",
-        value: Value::Text("K"),
-        needed: Needed::Always,
-        help: "A key of a shelf that sees the version",
-    },
-    OptionRow {
-        name: "module",
-        value: Value::Text("P"),
-        needed: Needed::Always,
-        help: "The module path, as its go.mod names it",
-    },
-    OptionRow {
-        name: "version",
-        value: Value::Text("V"),
-        needed: Needed::Always,
-        help: "The version, as v1.0.0",
-    },
-];
-
-/// The file of a new store.
-const TO: OptionRow = OptionRow {
-    name: "to",
-    value: Value::Text("G"),
-    needed: Needed::Always,
-    help: "The file of the new store: missing, empty, or a store with common alone and no key or version",
-};
-
-const EXTRACT: [OptionRow; 3] = [
-    DB,
-    OptionRow {
-        name: "team",
-        value: Value::Texts("T"),
-        needed: Needed::Always,
-        help: "A team, or several, each with its own --team; common and groups are none",
-    },
-    TO,
-];
-
-const MIGRATE: [OptionRow; 2] = [
-    OptionRow {
-        name: "from",
-        value: Value::Text("F"),
-        needed: Needed::Always,
-        help: "The file of a store of schema 1 or 2, which is only read",
-    },
-    TO,
-];
-
-const ANSWER: [OptionRow; 4] = [
-    OptionRow {
-        needed: Needed::Without("mem"),
-        ..DB
-    },
-    OptionRow {
-        name: "mem",
-        value: Value::Flag,
-        needed: Needed::InsteadOf("db"),
-        help: "Keep the shelves in memory, beginning with one team and its key",
-    },
-    OptionRow {
-        name: "team",
-        value: Value::Text("T"),
-        needed: Needed::InsteadOf("db"),
-        help: "With --mem, the team: 1 to 32 bytes of a-z, 0-9 and -, the first a letter, not common",
-    },
-    OptionRow {
-        name: "key",
-        value: Value::Text("K"),
-        needed: Needed::InsteadOf("db"),
-        help: "With --mem, the team's publishing key: 16 to 64 bytes of a-z and 0-9",
-    },
-];
-
-const SERVE: [OptionRow; 3] = [
-    DB,
-    OptionRow {
-        name: "port",
-        value: Value::Number("N", u16::MAX as u64),
-        needed: Needed::Always,
-        help: "The port, 0 to 65535; 0 lets the system choose, and the port is printed",
-    },
-    OptionRow {
-        name: "connections",
-        value: Value::Number("M", u32::MAX as u64),
-        needed: Needed::Never,
-        help: "How many connections to serve, one after another, 0 to 4294967295, which it is without this; one that fails counts",
-    },
-];
 
 /// The parser of the whole command line.
 /// It loops over a table, because a chain of parser calls for each command takes several times as long to prove.

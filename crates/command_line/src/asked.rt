@@ -2,8 +2,11 @@
 use clap::ArgMatches;
 use commands::publish::{Files, Words};
 use commands::report::Named;
+use commands::serve::Entrance;
 use commands::work::Work;
+use control::Order;
 use tasks::Task;
+use world::entry::Right;
 
 /// What the words ask for: nothing where no command is among them, which the parser refuses.
 pub fn task_of<'m, 'a>(matches: &'m ArgMatches<'a>) -> Option<Task<'m>> {
@@ -22,10 +25,54 @@ pub fn task_of<'m, 'a>(matches: &'m ArgMatches<'a>) -> Option<Task<'m>> {
             from: text(matches, "from"),
             to: text(matches, "to"),
         }),
-        _ => Some(Task::OnStore {
-            db: text(matches, "db"),
-            work: work_of(name, matches)?,
+        "stop" => Some(Task::Stop {
+            control: text(matches, "control"),
         }),
+        _ => match order_task(name, matches) {
+            Some(task) => Some(task),
+            None => Some(Task::OnStore {
+                db: text(matches, "db"),
+                work: work_of(name, matches)?,
+            }),
+        },
+    }
+}
+
+/// What a command of the registry orders from the server at a socket; nothing where no socket is named, or for another command.
+fn order_task<'a>(name: &str, matches: &ArgMatches<'a>) -> Option<Task<'a>> {
+    let order = order_of(name, matches)?;
+    let control = matches.get_str("control")?;
+    Some(Task::Order { control, order })
+}
+
+/// What a command of the registry orders.
+fn order_of<'a>(name: &str, matches: &ArgMatches<'a>) -> Option<Order<'a>> {
+    match name {
+        "team-add" => Some(Order::TeamAdd {
+            name: text(matches, "team"),
+            group: matches.get_str("group"),
+        }),
+        "group-add" => Some(Order::GroupAdd {
+            name: text(matches, "group"),
+        }),
+        "key-add" => Some(Order::KeyAdd {
+            shelf: text(matches, "shelf"),
+            key: text(matches, "key"),
+            right: right_of(matches.get_flag("read-only")),
+        }),
+        "key-revoke" => Some(Order::KeyRevoke {
+            key: text(matches, "key"),
+        }),
+        _ => None,
+    }
+}
+
+/// What a key may do that may only read, or that may publish too.
+fn right_of(read_only: bool) -> Right {
+    if read_only {
+        Right::Reads
+    } else {
+        Right::Publishes
     }
 }
 
@@ -73,10 +120,19 @@ fn work_of<'a>(name: &str, matches: &ArgMatches<'a>) -> Option<Work<'a>> {
             version: named(matches),
         }),
         "serve" => Some(Work::Serve {
-            port: matches.get_one("port").unwrap_or(0),
+            entrance: entrance_of(matches),
             connections: matches.get_one("connections").unwrap_or(u32::MAX),
+            control: matches.get_str("control"),
         }),
         _ => None,
+    }
+}
+
+/// Where the connections of `serve` come in.
+fn entrance_of<'a>(matches: &ArgMatches<'a>) -> Entrance {
+    match matches.get_one("port") {
+        Some(port) => Entrance::Port(port),
+        None => Entrance::Input,
     }
 }
 

@@ -4,5 +4,6 @@
 mod arguments;
 mod asked;
 pub mod command;
+mod options;
 pub mod performer;
 mod version;

@@ -10,6 +10,7 @@ pub mod InventoryLines
 pub mod Rows
 pub mod Lines
 pub mod Opening
+pub mod Order
 pub mod Publish
 pub mod Reading
 pub mod Repetition

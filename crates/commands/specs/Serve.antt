@@ -1,10 +1,13 @@
--- Connections that are served from a store.
-use Rattle.std.specs.Prelude.{ℕ, ◌≡◌, ◌≢◌, ◌++◌, List, codes, decimal, Option, Result, MatchResult}
+-- Connections that are served from a store, and orders between them.
+use Rattle.std.specs.Prelude.{ℕ, ◌≡◌, ◌≢◌, ◌++◌, List, codes, decimal, Option, Some, None, Result, MatchResult}
 use Rattle.std.specs.Io.KnownBytes.{Appends}
 use Rattle.world.specs.Store.{Shown}
 use Rattle.socket.specs.Connections.{GoesThroughMost}
+use Rattle.control.specs.Turns.{GoesOn}
 use Rattle.commands.specs.declared.refusal.Refusal.{Refusal}
 use Rattle.commands.specs.declared.refusal.Refusal.TheVariants.{Io}
+use Rattle.commands.specs.declared.serve.Entrance.{Entrance}
+use Rattle.commands.specs.declared.serve.Entrance.TheVariants.{Port, Input}
 
 -- the line that tells the port
 abbrev pub port_text : ℕ → List ℕ
@@ -14,14 +17,37 @@ port_text port = codes "listening on 127.0.0.1:" ++ decimal port
 abbrev pub port_line : ℕ → List ℕ
 port_line port = port_text port ++ codes "\n"
 
--- a port was printed: the one that is named, or another in the place of 0
-abbrev pub Announces : ℕ → Option (List ℕ) → Option (List ℕ) → Type 0
-Announces port written written_new = (bound : ℕ) × (port ≢ 0 → bound ≡ port) × Appends written written_new (port_line bound)
+-- the line that reports standard input
+abbrev pub input_line : List ℕ
+input_line = codes "listening on standard input\n"
 
--- A port was printed, and the store went through no more requests than there are connections. Or the port can't be had, or the
--- output failed: then the store stays as it was.
-abbrev pub Listens : {S : Type 0} → (S → Shown) → (S → ℕ) → S → S → ℕ → ℕ → Option (List ℕ) → Option (List ℕ) → Result (Unit {0}) Refusal → Type 0
-Listens shown failures old new port connections written written_new result =
+-- a port was printed: the one that is named, or another in the place of 0
+abbrev pub Prints : ℕ → Option (List ℕ) → Option (List ℕ) → Type 0
+Prints port written written_new = (bound : ℕ) × (port ≢ 0 → bound ≡ port) × Appends written written_new (port_line bound)
+
+-- the entrance was printed
+abbrev pub Announces : Entrance → Option (List ℕ) → Option (List ℕ) → Type 0
+Announces (Port port) written written_new = Prints port written written_new
+Announces Input written written_new = Appends written written_new input_line
+
+-- The entrance was printed, and the store went through no more requests than there are connections. Or the entrance can't be had, or
+-- the output failed: then the store stays as it was.
+abbrev pub Listens : {S : Type 0} → (S → Shown) → (S → ℕ) → S → S → Entrance → ℕ → Option (List ℕ) → Option (List ℕ) → Result (Unit {0}) Refusal → Type 0
+Listens shown failures old new entrance connections written written_new result =
     MatchResult result
-    (λ _. Announces port written written_new × GoesThroughMost (shown old) (shown new) (failures old) (failures new) connections)
+    (λ _. Announces entrance written written_new × GoesThroughMost (shown old) (shown new) (failures old) (failures new) connections)
     (λ e. (e ≡ Io) × (new ≡ old))
+
+-- So it was, and between the requests orders were carried out. Or the socket can't be had.
+abbrev pub ListensToBoth : {S : Type 0} → (S → Shown) → (S → ℕ) → S → S → Entrance → ℕ → Option (List ℕ) → Option (List ℕ) → Result (Unit {0}) Refusal → Type 0
+ListensToBoth shown failures old new entrance connections written written_new result =
+    MatchResult result
+    (λ _. Announces entrance written written_new × GoesOn (shown old) (shown new) (failures old) (failures new) connections)
+    (λ e. (e ≡ Io) × (new ≡ old))
+
+-- the one without a socket of operators, the other with one
+abbrev pub ListensAs : {S : Type 0} → (S → Shown) → (S → ℕ) → S → S → Entrance → ℕ → Option (List ℕ) → Option (List ℕ) → Option (List ℕ) → Result (Unit {0}) Refusal → Type 0
+ListensAs shown failures old new entrance connections None written written_new result =
+    Listens shown failures old new entrance connections written written_new result
+ListensAs shown failures old new entrance connections (Some path) written written_new result =
+    ListensToBoth shown failures old new entrance connections written written_new result

@@ -10,8 +10,9 @@ use Rattle.commands.specs.ImportFile.{ImportsFile}
 use Rattle.commands.specs.Opening.{AnswersAll}
 use Rattle.commands.specs.Publish.{asked_by, PublishesFiles}
 use Rattle.commands.specs.Report.{PrintsInventory, PrintsRequirements}
-use Rattle.commands.specs.Serve.{Listens}
+use Rattle.commands.specs.Serve.{ListensAs}
 use Rattle.commands.specs.declared.refusal.Refusal.{Refusal}
+use Rattle.commands.specs.declared.serve.Entrance.{Entrance}
 use Rattle.commands.specs.declared.work.Work.{Work}
 use Rattle.commands.specs.declared.work.Work.TheVariants as work
 
@@ -47,14 +48,15 @@ module _ {S : Type 0} (shown : S → Shown) (failures : S → ℕ) (old new : Mo
     pub told : result ≡ acceptance ended
 
   -- connections were served from the store, and nothing was read of the input
-  pub record ServesPort (port connections : ℕ) (result : Result Bool Refusal) : Type 0 where
+  pub record ServesConnections (entrance : Entrance) (connections : ℕ) (control : Option (List ℕ)) (result : Result Bool Refusal) : Type 0 where
     pub ended : Result (Unit {0}) Refusal
-    pub serves : Listens shown failures old.store new.store port connections old.written new.written ended
+    pub serves : ListensAs shown failures old.store new.store entrance connections control old.written new.written ended
     pub told : result ≡ acceptance ended
     pub unread : new.unread ≡ old.unread
 
   -- What is done by the kind of work: nothing, one command of the registry, one publish, those of a list, an inventory or the
-  -- requirements of a version are printed, all requests of the input are answered, or no more requests than there are connections.
+  -- requirements of a version are printed, all requests of the input are answered, or no more requests than there are connections,
+  -- and orders between them.
   abbrev pub Works : Result Bool Refusal → Work → Type 0
   Works result work.Open = (new ≡ old) × (result ≡ Ok true)
   Works result (work.TeamAdd team group) =
@@ -78,4 +80,4 @@ module _ {S : Type 0} (shown : S → Shown) (failures : S → ℕ) (old new : Mo
       PrintsRequirements (shown old.store) (shown new.store) (failures old.store) (failures new.store) version old.written new.written result
       × (new.unread ≡ old.unread)
   Works result work.Answer = AnswersFrom result
-  Works result (work.Serve port connections) = ServesPort port connections result
+  Works result (work.Serve entrance connections control) = ServesConnections entrance connections (option_copied control) result

@@ -7,7 +7,8 @@
 //! | `import` | asks the machine to publish each row of a list, and prints a line for each | [`import`], [`import_file`] |
 //! | `inventory`, `requires` | prints what a shelf sees, and what a version requires | [`report`], [`inventory`], [`requirements`] |
 //! | `answer` | answers the requests of a reader from a store, or from shelves in memory that begin with one team and its key | [`answer`], [`memory`] |
-//! | `serve` | binds a port, prints it, and answers one request on each of some connections | [`serve`] |
+//! | `serve` | prints its port, answers one request on each of some connections, and carries out orders between them | [`serve`] |
+//! | the commands of the registry with `--control` | send an order to a running `serve`, and end by what it tells | [`order`] |
 //!
 //! [`laws`] has what holds of every import. [`work`] does what is asked of a store; [`refusal`] has the words that tell why a command was refused, and [`exit`] how a run
 //! ends: its exit status, and the line of that word. Nothing here opens a store or reads the words of a command line.
@@ -24,6 +25,7 @@ pub mod inventory;
 mod inventory_text;
 pub mod laws;
 pub mod memory;
+pub mod order;
 pub mod publish;
 pub mod refusal;
 pub mod registry;

@@ -1,39 +1,124 @@
-//! `serve`: one request on each of some connections.
-ghost use Rattle.std.specs.Prelude.{◌≡◌, ◌≢◌, ◌++◌, codes, decimal, IfOk, OnOk};
+//! `serve`: one request on each of some connections, and the orders of operators between them.
+ghost use Rattle.std.specs.Prelude.{◌≡◌, ◌≢◌, ◌++◌, codes, decimal, option_copied, IfOk, OnOk};
 ghost use Rattle.std.specs.Io.KnownBytes.{Appends};
-ghost use Rattle.commands.specs.Serve.{Announces, Listens, port_line, port_text};
+ghost use Rattle.commands.specs.Serve.{Announces, Listens, ListensToBoth, ListensAs, Prints, input_line, port_line, port_text};
 
 use crate::refusal::Refusal;
+use control::{Doors, leave_place, operators_at, serve_both};
 use itoa::Buffer;
 use socket::serve_on;
-use std::io::{self, Write};
-use std::net::{Ipv4Addr, TcpListener};
+use std::io::{self, ErrorKind, Write};
+use std::net::{Ipv4Addr, TcpListener, TcpStream};
+use std::os::fd::{AsFd, OwnedFd};
+use std::os::unix::net::UnixListener;
 use std::rt::HostRuntime;
 use world::shelves::Shelves;
 
-/// Prints the line of the port, the named one unless that is 0, and serves connections to it: the store goes through at most
-/// as many requests as there are connections. `Io` if the port can't be bound or the output fails; a connection that
-/// fails only counts.
+/// Where the connections of peers come in.
+#[derive(Clone, Copy, Debug, Drop, PartialEq, Eq)]
+pub enum Entrance {
+    /// A port of 127.0.0.1; the system chooses one in the place of 0.
+    Port(u16),
+    /// Standard input, which is a socket that listens already.
+    Input,
+}
+
+/// Prints the line of the entrance, and serves the connections that come in: the store goes through at most as many requests as there
+/// are connections. If a socket `control` is named, the orders of operators who connect to it are carried out between them, and do not
+/// count. `Io` if the port or the socket can't be had or the output fails; a connection that fails only counts.
 pub fn serve<S: Shelves, O: Write>(
     rt: &HostRuntime,
     shelves: &mut S,
-    port: u16,
+    entrance: Entrance,
+    connections: u32,
+    control: Option<&str>,
+    output: &mut O,
+) -> Result<(), Refusal>
+    ensures { ListensAs S.shown S.failure_count shelves.old shelves.new entrance connections (option_copied control.entry)
+        (O.contents output.old) (O.contents output.new) result }
+{
+    match control {
+        None => serve_peers(rt, shelves, entrance, connections, output),
+        Some(path) => serve_operators(rt, shelves, entrance, connections, path, output),
+    }
+}
+
+/// Serves the connections of peers alone.
+fn serve_peers<S: Shelves, O: Write>(
+    rt: &HostRuntime,
+    shelves: &mut S,
+    entrance: Entrance,
     connections: u32,
     output: &mut O,
 ) -> Result<(), Refusal>
-    ensures { Listens S.shown S.failure_count shelves.old shelves.new port connections (O.contents output.old) (O.contents output.new) result }
+    ensures { Listens S.shown S.failure_count shelves.old shelves.new entrance connections (O.contents output.old) (O.contents output.new) result }
 {
-    let Ok(listener) = listen(rt, port, output) else {
+    let Ok(listener) = listen(rt, entrance, output) else {
         return Err(Refusal::Io);
     };
     serve_on(rt.alloc(), rt, &mut &listener, shelves, connections);
     Ok(())
 }
 
+/// Serves the connections of peers, and the operators of a socket, which is made first and taken away at the end.
+fn serve_operators<S: Shelves, O: Write>(
+    rt: &HostRuntime,
+    shelves: &mut S,
+    entrance: Entrance,
+    connections: u32,
+    path: &str,
+    output: &mut O,
+) -> Result<(), Refusal>
+    ensures { ListensToBoth S.shown S.failure_count shelves.old shelves.new entrance connections
+        (O.contents output.old) (O.contents output.new) result }
+{
+    let Ok(operators) = operators_at(rt, path) else {
+        return Err(Refusal::Io);
+    };
+    match open_doors(rt, entrance, operators, output) {
+        Ok(mut doors) => {
+            serve_both(rt.alloc(), rt, &mut doors, shelves, connections);
+            leave_place(rt, path);
+            Ok(())
+        }
+        Err(_) => {
+            leave_place(rt, path);
+            Err(Refusal::Io)
+        }
+    }
+}
+
+/// What takes the connections of both.
+fn open_doors<O: Write>(
+    rt: &HostRuntime,
+    entrance: Entrance,
+    operators: UnixListener,
+    output: &mut O,
+) -> io::Result<Doors>
+    ensures { OnOk result (Announces entrance (O.contents output.old) (O.contents output.new)) }
+{
+    let peers = listen(rt, entrance, output)?;
+    Doors::new(rt, peers, operators)
+}
+
+/// Takes the entrance, and prints it.
+fn listen<O: Write>(rt: &HostRuntime, entrance: Entrance, output: &mut O) -> io::Result<TcpListener>
+    ensures { OnOk result (Announces entrance (O.contents output.old) (O.contents output.new)) }
+{
+    match entrance {
+        Entrance::Port(port) => listen_at(rt, port, output),
+        Entrance::Input => {
+            let listener = input_listener(rt)?;
+            print_input(output)?;
+            Ok(listener)
+        }
+    }
+}
+
 /// Binds a port of 127.0.0.1, and prints it; the system chooses one in the place of 0.
 /// A named port is printed as it was named, and only a chosen one is asked of the system.
-fn listen<O: Write>(rt: &HostRuntime, port: u16, output: &mut O) -> io::Result<TcpListener>
-    ensures { OnOk result (Announces port (O.contents output.old) (O.contents output.new)) }
+fn listen_at<O: Write>(rt: &HostRuntime, port: u16, output: &mut O) -> io::Result<TcpListener>
+    ensures { OnOk result (Prints port (O.contents output.old) (O.contents output.new)) }
 {
     let listener = TcpListener::bind(rt, (Ipv4Addr::LOCALHOST, port))?;
     let bound = match port {
@@ -42,6 +127,28 @@ fn listen<O: Write>(rt: &HostRuntime, port: u16, output: &mut O) -> io::Result<T
     };
     print_port(bound, output)?;
     Ok(listener)
+}
+
+/// The listener that standard input is. It fails if that is no TCP socket, or one that is connected.
+/// Whether a socket waits is shared with the processes that had it before, so it is set anew.
+fn input_listener(rt: &HostRuntime) -> io::Result<TcpListener> {
+    let input = rt.stdin();
+    let stream = TcpStream::from(input.as_fd().try_clone_to_owned()?);
+    if stream.peer_addr().is_ok() {
+        return Err(io::Error::from(ErrorKind::InvalidInput));
+    }
+    let listener = TcpListener::from(OwnedFd::from(stream));
+    let _address = listener.local_addr()?;
+    listener.set_nonblocking(false)?;
+    Ok(listener)
+}
+
+/// Prints the line that tells of standard input.
+fn print_input<O: Write>(output: &mut O) -> io::Result<()>
+    ensures { OnOk result (Appends (O.contents output.old) (O.contents output.new) input_line) }
+{
+    output.write_all(b"listening on standard input\n")?;
+    output.flush()
 }
 
 /// Prints the line that tells the port.

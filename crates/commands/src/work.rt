@@ -8,7 +8,7 @@ use crate::publish::{Files, Words, publish};
 use crate::refusal::Refusal;
 use crate::registry::{add_group, add_key, add_team, revoke_key};
 use crate::report::{Named, print_inventory, print_requirements};
-use crate::serve::serve;
+use crate::serve::{Entrance, serve};
 use std::io::{Read, Write};
 use std::rt::HostRuntime;
 use world::shelves::Shelves;
@@ -57,10 +57,12 @@ pub enum Work<'a> {
     },
     /// `answer --db F`: answers the requests on the input.
     Answer,
-    /// `serve`: answers one request on each of so many connections to a port.
+    /// `serve`: answers one request on each of so many connections, and carries out between them the orders that come over a socket,
+    /// if one is named.
     Serve {
-        port: u16,
+        entrance: Entrance,
         connections: u32,
+        control: Option<&'a str>,
     },
 }
 
@@ -91,9 +93,11 @@ pub fn work_on<S: Shelves, I: Read, O: Write>(
         Work::Inventory { key } => print_inventory(rt.alloc(), shelves, key, output),
         Work::Requires { version } => print_requirements(rt.alloc(), shelves, version, output),
         Work::Answer => acceptance(answer_from(rt.alloc(), shelves, input, output)),
-        Work::Serve { port, connections } => {
-            acceptance(serve(rt, shelves, *port, *connections, output))
-        }
+        Work::Serve {
+            entrance,
+            connections,
+            control,
+        } => acceptance(serve(rt, shelves, *entrance, *connections, *control, output)),
     }
 }
 

@@ -4,7 +4,9 @@ use Rattle.sqlite_wal.specs.Recovery.{Image}
 use Rattle.sqlite.specs.State.{State}
 use Rattle.world.specs.Store.{Shown}
 use Rattle.store.specs.declared.refusal.Refusal.{Refusal as Unopened}
+use Rattle.control.specs.declared.order.Order.{Order}
 use Rattle.commands.specs.Opening.{AnsweredFor}
+use Rattle.commands.specs.Order.{OrdersThere, StopsThere}
 use Rattle.commands.specs.Work.{Works, acceptance}
 use Rattle.commands.specs.declared.refusal.Refusal.{Refusal}
 use Rattle.commands.specs.declared.refusal.Refusal.TheVariants.{NotEmpty}
@@ -33,6 +35,18 @@ module _ (unread unread_new written written_new : Option (List ℕ)) (result : R
     pub ended : Result (Unit {0}) Refusal
     pub answers : AnsweredFor team key unread unread_new written written_new ended
     pub tells : result ≡ acceptance ended
+
+  -- an order was sent to a running `serve` or was not, no store was opened, and nothing was read or written
+  pub record OrdersAlone (order : Order) : Type 0 where
+    pub ended : Result (Unit {0}) Refusal
+    pub orders : OrdersThere order ended
+    pub tells : TellsAlone (acceptance ended)
+
+  -- a running `serve` was to end, no store was opened, and nothing was read or written
+  pub record StopsAlone : Type 0 where
+    pub ended : Result (Unit {0}) Refusal
+    pub stops : StopsThere ended
+    pub tells : TellsAlone (acceptance ended)
 
 module _ {S : Type 0} (shown : S → Shown) (failures : S → ℕ) (held : Image) where
   -- the store of files that held this was opened, and the work was done on it
@@ -79,3 +93,5 @@ module _ {C S F : Type 0} (state_of : C → State) (shown : S → Shown) (failur
   Performs (task.OnStore db work) = WorksOnFile shown failures held unread unread_new written written_new work result
   Performs (task.Extract db teams to) = ExtractsAlone (each (λ team. team.now) teams.now)
   Performs (task.Migrate from to) = MigratesAlone
+  Performs (task.Order control order) = OrdersAlone unread unread_new written written_new result order
+  Performs (task.Stop control) = StopsAlone unread unread_new written written_new result

@@ -7,6 +7,8 @@
 //! | [`Task::OnStore`] | opens the store of a file and does one work of `commands` on it |
 //! | [`Task::Extract`] | opens the stores of two files and puts some teams' part of the one into the other |
 //! | [`Task::Migrate`] | opens a file of an older schema and the store of another file, and makes the second one of the first |
+//! | [`Task::Order`] | opens no store, and sends an order to the `serve` that has one open |
+//! | [`Task::Stop`] | opens no store, and has the `serve` end that has one open |
 //!
 //! A store of a file is held by one function for each kind of task: that of a work, that of what is extracted or migrated from, that
 //! of what this is put into. Each ends it by `close`. Nothing here reads the words of a command line.
@@ -28,8 +30,10 @@ use crate::extract::extract_file;
 use crate::migrate::migrate_file;
 use commands::files::holds_bytes;
 use commands::memory::answer_in_memory;
+use commands::order::{order_at, stop_at};
 use commands::refusal::Refusal;
 use commands::work::{Work, work_on};
+use control::Order;
 use sqlite::{FileFrom, FileStore, Start};
 use sqlite_trees::store::Store;
 use std::io::{Read, Write};
@@ -66,6 +70,15 @@ pub enum Task<'a> {
         from: &'a str,
         to: &'a str,
     },
+    /// A command of the registry with `--control S`: has the `serve` that listens at the socket S carry it out.
+    Order {
+        control: &'a str,
+        order: Order<'a>,
+    },
+    /// `stop --control S`: has the `serve` that listens at the socket S end.
+    Stop {
+        control: &'a str,
+    },
 }
 
 /// Does a task and returns whether it was accepted; only a publish and an import can be done and not accepted.
@@ -97,6 +110,8 @@ pub fn perform<T: Start, U: Start, I: Read, O: Write>(
             rt, db, start, teams, to, target,
         )),
         Task::Migrate { from, to } => acceptance(migrate_file(rt, from, start, to, target)),
+        Task::Order { control, order } => acceptance(order_at(rt, control, order)),
+        Task::Stop { control } => acceptance(stop_at(rt, control)),
     }
 }
 

@@ -18,3 +18,17 @@ returns-in-Migrate g c = performed _ _ _ _ _ _ _ _ _ _ _ _ _ _ c.in-Migrate.is (
   migrates = c.migrate_file.ensures;
   tells = record { tells = c.acceptance-in-Migrate.ensures; input = refl; output = refl };
 })
+
+pub returns-in-Order : goal.returns-in-Order
+returns-in-Order g c = performed _ _ _ _ _ _ _ _ _ _ _ _ _ _ c.in-Order.is (record {
+  ended = c.order_at.result;
+  orders = c.order_at.ensures;
+  tells = record { tells = c.acceptance-in-Order.ensures; input = refl; output = refl };
+})
+
+pub returns-in-Stop : goal.returns-in-Stop
+returns-in-Stop g c = performed _ _ _ _ _ _ _ _ _ _ _ _ _ _ c.in-Stop.is (record {
+  ended = c.stop_at.result;
+  stops = c.stop_at.ensures;
+  tells = record { tells = c.acceptance-in-Stop.ensures; input = refl; output = refl };
+})

@@ -1,0 +1,300 @@
+//! The options of the commands, with their help.
+
+/// An option of a command as help tells of it.
+#[derive(Clone, Copy, Drop)]
+pub(crate) struct OptionRow {
+    pub(crate) name: &'static str,
+    pub(crate) value: Value,
+    pub(crate) needed: Needed,
+    pub(crate) help: &'static str,
+}
+
+/// What an option takes, by what help calls it.
+/// A value is taken as it is, even an empty one; one that begins with a dash needs `=`. The parser refuses a number
+/// that is too large, in its own words.
+#[derive(Clone, Copy, Drop)]
+pub(crate) enum Value {
+    /// Nothing: it is a flag.
+    Flag,
+    /// A text.
+    Text(&'static str),
+    /// A text, or as many as the option is given.
+    Texts(&'static str),
+    /// A number from 0 to this most.
+    Number(&'static str, u64),
+}
+
+/// When an option has to be given.
+#[derive(Clone, Copy, Drop)]
+pub(crate) enum Needed {
+    /// Always.
+    Always,
+    /// Never.
+    Never,
+    /// Where this other option is not given.
+    Without(&'static str),
+    /// Where this other option is not given; with it, it may not be.
+    InsteadOf(&'static str),
+}
+
+/// The file of the store.
+const DB: OptionRow = OptionRow {
+    name: "db",
+    value: Value::Text("F"),
+    needed: Needed::Always,
+    help: "The file of the store; one that is missing or empty has the shelf common alone",
+};
+
+pub(crate) const INIT: [OptionRow; 1] = [DB];
+
+/// The same, where a running server can stand in its place.
+const DB_OR_CONTROL: OptionRow = OptionRow {
+    needed: Needed::Without("control"),
+    ..DB
+};
+
+/// The server in its place.
+const CONTROL: OptionRow = OptionRow {
+    name: "control",
+    value: Value::Text("S"),
+    needed: Needed::InsteadOf("db"),
+    help: "In place of --db, the socket of the serve that has the store open",
+};
+
+pub(crate) const TEAM_ADD: [OptionRow; 4] = [
+    DB_OR_CONTROL,
+    CONTROL,
+    OptionRow {
+        name: "team",
+        value: Value::Text("T"),
+        needed: Needed::Always,
+        help: "The team: 1 to 32 bytes of a-z, 0-9 and -, the first a letter, not common",
+    },
+    OptionRow {
+        name: "group",
+        value: Value::Text("G"),
+        needed: Needed::Never,
+        help: "The group that the team is a member of, for good; without this it is of none",
+    },
+];
+
+pub(crate) const GROUP_ADD: [OptionRow; 3] = [
+    DB_OR_CONTROL,
+    CONTROL,
+    OptionRow {
+        name: "group",
+        value: Value::Text("G"),
+        needed: Needed::Always,
+        help: "The group: 1 to 32 bytes of a-z, 0-9 and -, the first a letter, not common",
+    },
+];
+
+pub(crate) const KEY_ADD: [OptionRow; 5] = [
+    DB_OR_CONTROL,
+    CONTROL,
+    OptionRow {
+        name: "shelf",
+        value: Value::Text("S"),
+        needed: Needed::Always,
+        help: "The shelf that the key belongs to: a team, a group, or common",
+    },
+    OptionRow {
+        name: "key",
+        value: Value::Text("K"),
+        needed: Needed::Always,
+        help: "The key: 16 to 64 bytes of a-z and 0-9, which no shelf has",
+    },
+    OptionRow {
+        name: "read-only",
+        value: Value::Flag,
+        needed: Needed::Never,
+        help: "The key may read, and not publish",
+    },
+];
+
+pub(crate) const KEY_REVOKE: [OptionRow; 3] = [
+    DB_OR_CONTROL,
+    CONTROL,
+    OptionRow {
+        name: "key",
+        value: Value::Text("K"),
+        needed: Needed::Always,
+        help: "The key to take away; it is free again then",
+    },
+];
+
+pub(crate) const PUBLISH: [OptionRow; 7] = [
+    DB,
+    OptionRow {
+        name: "key",
+        value: Value::Text("K"),
+        needed: Needed::Always,
+        help: "A key that may publish",
+    },
+    OptionRow {
+        name: "module",
+        value: Value::Text("P"),
+        needed: Needed::Always,
+        help: "The module path, as its go.mod names it",
+    },
+    OptionRow {
+        name: "version",
+        value: Value::Text("V"),
+        needed: Needed::Always,
+        help: "The version, as v1.0.0",
+    },
+    OptionRow {
+        name: "mod",
+        value: Value::Text("FILE"),
+        needed: Needed::Always,
+        help: "The file of the go.mod",
+    },
+    OptionRow {
+        name: "zip",
+        value: Value::Text("FILE"),
+        needed: Needed::Always,
+        help: "The file of the zip",
+    },
+    OptionRow {
+        name: "time",
+        value: Value::Text("T"),
+        needed: Needed::Never,
+        help: "The time of the version, as 2024-01-31T23:59:59Z",
+    },
+];
+
+pub(crate) const IMPORT: [OptionRow; 3] = [
+    DB,
+    OptionRow {
+        name: "key",
+        value: Value::Text("K"),
+        needed: Needed::Always,
+        help: "A key that may publish",
+    },
+    OptionRow {
+        name: "list",
+        value: Value::Text("CSV"),
+        needed: Needed::Always,
+        help: "The file of the list: CSV with the header path,version,time,mod,zip",
+    },
+];
+
+pub(crate) const INVENTORY: [OptionRow; 2] = [
+    DB,
+    OptionRow {
+        name: "key",
+        value: Value::Text("K"),
+        needed: Needed::Always,
+        help: "A key of the shelf",
+    },
+];
+
+pub(crate) const REQUIRES: [OptionRow; 4] = [
+    DB,
+    OptionRow {
+        name: "key",
+        value: Value::Text("K"),
+        needed: Needed::Always,
+        help: "A key of a shelf that sees the version",
+    },
+    OptionRow {
+        name: "module",
+        value: Value::Text("P"),
+        needed: Needed::Always,
+        help: "The module path, as its go.mod names it",
+    },
+    OptionRow {
+        name: "version",
+        value: Value::Text("V"),
+        needed: Needed::Always,
+        help: "The version, as v1.0.0",
+    },
+];
+
+/// The file of a new store.
+const TO: OptionRow = OptionRow {
+    name: "to",
+    value: Value::Text("G"),
+    needed: Needed::Always,
+    help: "The file of the new store: missing, empty, or a store with common alone and no key or version",
+};
+
+pub(crate) const EXTRACT: [OptionRow; 3] = [
+    DB,
+    OptionRow {
+        name: "team",
+        value: Value::Texts("T"),
+        needed: Needed::Always,
+        help: "A team, or several, each with its own --team; common and groups are none",
+    },
+    TO,
+];
+
+pub(crate) const MIGRATE: [OptionRow; 2] = [
+    OptionRow {
+        name: "from",
+        value: Value::Text("F"),
+        needed: Needed::Always,
+        help: "The file of a store of schema 1 or 2, which is only read",
+    },
+    TO,
+];
+
+pub(crate) const ANSWER: [OptionRow; 4] = [
+    OptionRow {
+        needed: Needed::Without("mem"),
+        ..DB
+    },
+    OptionRow {
+        name: "mem",
+        value: Value::Flag,
+        needed: Needed::InsteadOf("db"),
+        help: "Keep the shelves in memory, beginning with one team and its key",
+    },
+    OptionRow {
+        name: "team",
+        value: Value::Text("T"),
+        needed: Needed::InsteadOf("db"),
+        help: "With --mem, the team: 1 to 32 bytes of a-z, 0-9 and -, the first a letter, not common",
+    },
+    OptionRow {
+        name: "key",
+        value: Value::Text("K"),
+        needed: Needed::InsteadOf("db"),
+        help: "With --mem, the team's publishing key: 16 to 64 bytes of a-z and 0-9",
+    },
+];
+
+pub(crate) const SERVE: [OptionRow; 5] = [
+    DB,
+    OptionRow {
+        name: "port",
+        value: Value::Number("N", u16::MAX as u64),
+        needed: Needed::Without("stdin"),
+        help: "The port, 0 to 65535; 0 lets the system choose, and the port is printed",
+    },
+    OptionRow {
+        name: "stdin",
+        value: Value::Flag,
+        needed: Needed::InsteadOf("port"),
+        help: "In place of --port, take the connections of the TCP socket that standard input is, which listens already",
+    },
+    OptionRow {
+        name: "connections",
+        value: Value::Number("M", u32::MAX as u64),
+        needed: Needed::Never,
+        help: "How many connections to serve, one after another, 0 to 4294967295, which it is without this; one that fails counts",
+    },
+    OptionRow {
+        name: "control",
+        value: Value::Text("S"),
+        needed: Needed::Never,
+        help: "A socket to make, for the commands that take --control; the user who runs serve alone may connect to it",
+    },
+];
+
+pub(crate) const STOP: [OptionRow; 1] = [OptionRow {
+    needed: Needed::Always,
+    help: "The socket of the serve that is to end",
+    ..CONTROL
+}];

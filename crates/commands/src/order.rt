@@ -1,0 +1,104 @@
+//! The commands of the registry that are sent to a running `serve`, and its end.
+ghost use Rattle.std.specs.Prelude.{◌≡◌};
+ghost use Rattle.commands.specs.Order as spec;
+
+use crate::refusal::{Refusal, ending};
+use control::{Order, Outcome, Untold, ask, ask_to_stop, server_at};
+use std::alloc::Global;
+use std::io::{Read, Write};
+use std::rt::HostRuntime;
+use world::names::{is_key, is_team_name};
+
+/// Sends an order to the `serve` that listens at a socket, and ends as the same command does on the store of a file.
+/// `Device` if nobody listens there. `Io` if no outcome came: whether the order was carried out is not known then.
+pub fn order_at(rt: &HostRuntime, path: &str, order: &Order) -> Result<(), Refusal>
+    ensures { spec.OrdersThere order.now result }
+{
+    match server_at(rt, path) {
+        Ok(server) => order_over(rt.alloc(), &mut &server, &mut &server, order),
+        Err(_) => Err(Refusal::Device),
+    }
+}
+
+/// Writes the line of an order, reads the line of its outcome, and ends by it as the same command does on the store of a file.
+pub fn order_over<R: Read, W: Write>(
+    alloc: Global,
+    reader: &mut R,
+    writer: &mut W,
+    order: &Order,
+) -> Result<(), Refusal>
+    ensures { spec.OrdersOver (R.remaining reader.old) (R.remaining reader.new) (W.contents writer.old) (W.contents writer.new)
+        order.now result }
+{
+    let told = ask(alloc, reader, writer, order);
+    told_ending(told, order)
+}
+
+/// How a command ends, by what was told of its order.
+fn told_ending(told: Result<Outcome, Untold>, order: &Order) -> Result<(), Refusal>
+    ensures { result ≡ spec.told_ending order.now told }
+{
+    match told {
+        Ok(Outcome::Registered(registered)) => ending(Ok(registered)),
+        Ok(Outcome::Failed(fault)) => ending(Err(fault)),
+        Ok(Outcome::Stopping | Outcome::Bad) => Err(Refusal::Io),
+        Err(Untold::Words) => Err(unsayable(order)),
+        Err(Untold::Memory) => Err(Refusal::Memory),
+        Err(Untold::Io) => Err(Refusal::Io),
+    }
+}
+
+/// Why an order is refused that no line can carry: a name or the key in it breaks its rule, so no shelf has that name, and none the key.
+fn unsayable(order: &Order) -> Refusal
+    ensures { result ≡ spec.unsayable order.now }
+{
+    match order {
+        Order::TeamAdd { name, .. } => refusal_by(is_team_name(name), Refusal::NoGroup),
+        Order::GroupAdd { .. } => Refusal::Name,
+        Order::KeyAdd { key, .. } => refusal_by(is_key(key), Refusal::NoTeam),
+        Order::KeyRevoke { .. } => Refusal::NoKey,
+    }
+}
+
+/// Why a command is refused whose name keeps its rule or does not.
+fn refusal_by(keeps: bool, refusal: Refusal) -> Refusal
+    ensures { result ≡ spec.refusal_by keeps refusal }
+{
+    if keeps { refusal } else { Refusal::Name }
+}
+
+/// Has the `serve` that listens at a socket end, after the request in hand. `Device` if nobody listens there, `Io` if it was not told that
+/// it ends.
+pub fn stop_at(rt: &HostRuntime, path: &str) -> Result<(), Refusal>
+    ensures { spec.StopsThere result }
+{
+    match server_at(rt, path) {
+        Ok(server) => stop_over(rt.alloc(), &mut &server, &mut &server),
+        Err(_) => Err(Refusal::Device),
+    }
+}
+
+/// Writes the line that ends a server, and reads the line of its outcome.
+pub fn stop_over<R: Read, W: Write>(
+    alloc: Global,
+    reader: &mut R,
+    writer: &mut W,
+) -> Result<(), Refusal>
+    ensures { spec.StopsOver (R.remaining reader.old) (R.remaining reader.new) (W.contents writer.old) (W.contents writer.new) result }
+{
+    let told = ask_to_stop(alloc, reader, writer);
+    stop_ending(told)
+}
+
+/// How the command ends, by what was told.
+fn stop_ending(told: Result<Outcome, Untold>) -> Result<(), Refusal>
+    ensures { result ≡ spec.stop_ending told }
+{
+    match told {
+        Ok(Outcome::Stopping) => Ok(()),
+        Ok(Outcome::Failed(fault)) => ending(Err(fault)),
+        Ok(Outcome::Registered(_)) => Err(Refusal::Io),
+        Ok(Outcome::Bad) => Err(Refusal::Io),
+        Err(_) => Err(Refusal::Io),
+    }
+}

@@ -1,0 +1,42 @@
+//! An operator and a peer at once.
+use control::{Doors, serve_both};
+use std::fs;
+use std::io::{self, Write};
+use std::net::{Shutdown, TcpListener, TcpStream};
+use std::os::unix::net::{UnixListener, UnixStream};
+use std::rt::HostRuntime;
+use std::test::Fail;
+use world::map_shelves::MapShelves;
+use world::shelves::Shelves;
+
+const GET: &[u8] = b"GET /k/alphakey00000001/example.com/lib/@v/list HTTP/1.1\r\n\r\n";
+
+/// Serves one peer and the operators before it.
+fn serve<S: Shelves + Drop>(rt: &HostRuntime, doors: &mut Doors, mut shelves: S) {
+    serve_both(rt.alloc(), rt, doors, &mut shelves, 1);
+}
+
+#[test]
+fn obeys_operators_before_peers(rt: HostRuntime) -> Result<(), Fail> {
+    let path = "control-of-a-test";
+    let _ = fs::remove_file(&rt, path);
+    let peers = TcpListener::bind(&rt, "127.0.0.1:0")?;
+    let port = peers.local_addr()?.port();
+    let operators = UnixListener::bind(&rt, path)?;
+    let mut peer = TcpStream::connect(&rt, ("127.0.0.1", port))?;
+    peer.write_all(GET)?;
+    peer.shutdown(Shutdown::Write)?;
+    let mut operator = UnixStream::connect(&rt, path)?;
+    operator.write_all(b"team-add alpha\n")?;
+    let Ok(shelves) = MapShelves::new(rt.alloc()) else {
+        return Err(Fail::from("no memory"));
+    };
+    let mut doors = Doors::new(&rt, peers, operators)?;
+    serve(&rt, &mut doors, shelves);
+    let told = io::read_to_string(rt.alloc(), operator)?;
+    assert!(rt; told.as_str() == "done\n");
+    let reply = io::read_to_string(rt.alloc(), peer)?;
+    assert!(rt; reply.as_str().starts_with("HTTP/1.1 404 "));
+    fs::remove_file(&rt, path)?;
+    Ok(())
+}

@@ -1,0 +1,148 @@
+//! Lines and their outcomes.
+use commands::order::order_over;
+use commands::refusal::Refusal;
+use control::{Order, obey};
+use std::alloc::Global;
+use std::test::Fail;
+use world::entry::Right;
+use world::map_shelves::MapShelves;
+use world::shelves::Shelves;
+
+/// Lines in their order, `|`, and the outcome of each.
+const ROWS: &str = "\
+group-add platform|done
+group-add platform|taken
+team-add alpha|done
+team-add alpha|taken
+team-add beta platform|done
+team-add gamma nobody|no-group
+team-add Gamma|name
+team-add |name
+key-add alpha alphakey00000001|done
+key-add alpha alphakey00000001|taken
+key-add alpha alphakey0000001|name
+key-add delta deltakey00000001|no-team
+reader-add common commonreader0001|done
+key-revoke alphakey00000001|done
+key-revoke alphakey00000001|no-key
+key-revoke commonreader0001 |bad
+key-revoke  commonreader0001|bad
+team-add a b c|bad
+team-add|bad
+Team-add delta|bad
+|bad
+key-revoke commonreader0001|done";
+
+/// What is sent for an order whose outcome comes, that outcome, and how the command ends, after the number of the order.
+const SENT: &str = "\
+0|done|reader-add alpha alphakey00000001|done
+0|taken|reader-add alpha alphakey00000001|Taken
+0|no-team|reader-add alpha alphakey00000001|NoTeam
+1|no-group|team-add alpha platform|NoGroup
+1|name|team-add alpha platform|Name
+2|no-key|key-revoke alphakey00000001|NoKey
+2|device|key-revoke alphakey00000001|Device
+2|memory|key-revoke alphakey00000001|Memory
+2|bad|key-revoke alphakey00000001|Io
+2||key-revoke alphakey00000001|Io
+2|don|key-revoke alphakey00000001|Io
+3|done|group-add platform|done
+4|done||Name
+5|done||NoGroup
+6|done||NoTeam
+7|done||NoKey";
+
+/// A column of a row.
+fn column(row: &str, place: usize) -> &str {
+    row.split('|').nth(place).unwrap_or("")
+}
+
+/// The order of a number; no line carries those from 4 on.
+fn order_at(number: &str) -> Order<'static> {
+    let (shelf, key) = ("alpha", "alphakey00000001");
+    match number {
+        "0" => Order::KeyAdd {
+            shelf,
+            key,
+            right: Right::Reads,
+        },
+        "1" => Order::TeamAdd {
+            name: shelf,
+            group: Some("platform"),
+        },
+        "2" => Order::KeyRevoke { key },
+        "3" => Order::GroupAdd { name: "platform" },
+        "4" => Order::TeamAdd {
+            name: "alpha\nteam-add",
+            group: None,
+        },
+        "5" => Order::TeamAdd {
+            name: shelf,
+            group: Some("plat form"),
+        },
+        "6" => Order::KeyAdd {
+            shelf: "al pha",
+            key,
+            right: Right::Publishes,
+        },
+        _ => Order::KeyRevoke { key: "alpha key" },
+    }
+}
+
+/// The first row whose line has another outcome; empty where each has its own.
+fn wrong_row<S: Shelves + Drop>(alloc: Global, mut shelves: S) -> Result<&'static str, Fail> {
+    for row in ROWS.lines() {
+        let sent = format!(in alloc; "{}\n", column(row, 0))?;
+        let mut told = Vec::new(alloc);
+        if obey(alloc, &mut sent.as_bytes(), &mut told, &mut shelves).is_err() {
+            return Ok(row);
+        }
+        let wanted = format!(in alloc; "{}\n", column(row, 1))?;
+        if told.as_slice() != wanted.as_bytes() {
+            return Ok(row);
+        }
+    }
+    Ok("")
+}
+
+/// How a command ended.
+fn ended(alloc: Global, told: Result<(), Refusal>) -> Result<String, Fail> {
+    match told {
+        Ok(()) => Ok(String::from_str(alloc, "done")?),
+        Err(refusal) => Ok(format!(in alloc; "{refusal:?}")?),
+    }
+}
+
+/// Whether the line of the order is sent, and the command ends as its row says.
+fn is_sent(alloc: Global, row: &str) -> Result<bool, Fail> {
+    let reply = format!(in alloc; "{}\n", column(row, 1))?;
+    let mut sent = Vec::new(alloc);
+    let told = order_over(
+        alloc,
+        &mut reply.as_bytes(),
+        &mut sent,
+        &order_at(column(row, 0)),
+    );
+    let line = match column(row, 2) {
+        "" => String::new(alloc),
+        line => format!(in alloc; "{line}\n")?,
+    };
+    Ok(sent.as_slice() == line.as_bytes() && ended(alloc, told)?.as_str() == column(row, 3))
+}
+
+#[test]
+fn answers_each_line(rt: HostRuntime) -> Result<(), Fail> {
+    let Ok(shelves) = MapShelves::new(rt.alloc()) else {
+        return Err(Fail::from("no memory"));
+    };
+    assert!(rt; wrong_row(rt.alloc(), shelves)? == "");
+    Ok(())
+}
+
+#[test]
+fn sends_the_line_of_an_order_and_ends_by_its_outcome(rt: HostRuntime) -> Result<(), Fail> {
+    for row in SENT.lines() {
+        assert!(rt; is_sent(rt.alloc(), row)?);
+    }
+    Ok(())
+}

@@ -303,6 +303,11 @@ def started(suite, copy):
     suite.equal("it answers", ask(copy, "-/modules"), "200")
     suite.equal("it starts at boot", copy.prints("systemctl is-enabled goshelf"), "enabled")
     suite.equal("a publish", publish(copy, "v1.0.0"), "published 201")
+    order = "goshelf key-revoke --control /run/goshelf/control --key nosuchkey0000001"
+    suite.equal("root gives it orders", copy.sh(order), (1, "", "goshelf: no-key\n"))
+    suite.equal("and its own user", copy.sh(f"runuser -u goshelf -- {order}"), (1, "", "goshelf: no-key\n"))
+    suite.equal("nobody else", copy.sh(f"setpriv --reuid=65534 --clear-groups {order}"), (1, "", "goshelf: device\n"))
+    suite.equal("its socket", copy.prints("stat -c '%F %a %U' /run/goshelf/control /run/goshelf"), "socket 600 goshelf directory 700 goshelf")
     suite.equal("its files are its own", copy.prints("stat -c %U /var/lib/goshelf/* | sort -u"), "goshelf")
     suite.equal("nobody else sees them", copy.sh("setpriv --reuid=65534 --clear-groups ls /var/lib/goshelf")[0], 2)
 
@@ -319,6 +324,22 @@ def restarted(suite, copy):
     copy.sh("chown root:root /var/lib/goshelf/*; chmod 600 /var/lib/goshelf/*")
     copy.sh("echo GOSHELF_PORT=8181 > /etc/default/goshelf; systemctl start goshelf")
     suite.equal("it starts over files of root, on the port of its settings", ask(copy, f"{AT}/list", 8181), "v1.0.0 200")
+
+
+def by_socket(suite, copy):
+    """systemd holds the port, by the commands of the page: restarts refuse no connection."""
+    status, _, errors = copy.sh(f"cd /usr/share/goshelf\n{commands('goshelf.socket')}")
+    suite.holds("the port in systemd's hands: the commands of the page end well", status == 0, errors)
+    suite.equal("it answers there", ask(copy, f"{AT}/list"), "v1.0.0 200")
+    url = f"http://127.0.0.1:8080/k/{KEY}/{AT}/list"
+    restarts = "(for it in 1 2 3 4; do sleep 0.5; systemctl restart goshelf; done) &"
+    asking = f"while kill -0 $! 2> /dev/null; do curl -s -m 60 -o /dev/null -w '%{{http_code}}' {url}; echo \" $?\"; done"
+    told = copy.sh(f"set +e\n{restarts}\n{asking}")[1].splitlines()
+    suite.holds(f"{len(told)} requests around four restarts", told.count("200 0") > 20, told[:20])
+    suite.holds("none is refused", not any(it.endswith(" 7") for it in told), sorted({*told}))
+    suite.holds("at most those in hand are lost", len(told) - told.count("200 0") <= 4, sorted({*told}))
+    undo = "systemctl disable --now goshelf.socket; systemctl stop goshelf; rm -r /etc/systemd/system/goshelf.s*; systemctl daemon-reload"
+    suite.holds("and it is undone", copy.sh(f"{undo}; systemctl start goshelf")[0] == 0 and ask(copy, f"{AT}/list") == "v1.0.0 200")
 
 
 def confined(suite, copy):
@@ -415,6 +436,7 @@ def on_a_copy(suite, tar, package, version, folder):
         started(suite, copy)
         confined(suite, copy)
         edited(suite, copy)
+        by_socket(suite, copy)
         restarted(suite, copy)
         upgraded(suite, copy, package, later(package, folder), version)
         removed(suite, copy, package)

@@ -5,6 +5,7 @@ use Rattle.store.specs.declared.kept.Kept.{Kept}
 use Rattle.store.specs.Kept.{AreKept, IsNothing}
 use Rattle.store.proofs.GroupLemmas.{no_groups}
 use Rattle.store.proofs.ListLemmas.{no_lists}
+use Rattle.store.proofs.ZipLemmas.{no_zips}
 
 pub nothing_kept : (w : World) (kept : Kept) → IsNothing kept → AreKept w kept
-nothing_kept w kept none = (empty_counts w kept.counts none.0, no_lists w kept.lists none.1, no_groups w kept.groups none.2)
+nothing_kept w kept none = (empty_counts w kept.counts none.0, no_lists w kept.lists none.1, no_groups w kept.groups none.2, no_zips w kept.zips none.3)

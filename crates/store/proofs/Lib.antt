@@ -2,6 +2,8 @@ pub mod Texts
 pub mod GroupLemmas
 pub mod RecentLemmas
 pub mod ListLemmas
+pub mod SeenLemmas
+pub mod ZipLemmas
 pub mod KeptLemmas
 pub mod StoreLemmas
 pub mod FileLemmas

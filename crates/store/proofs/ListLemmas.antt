@@ -1,5 +1,5 @@
 -- Lists that are kept stay right: as one more is kept, as some are dropped, and as the world grows.
-use Rattle.std.proofs.Common.{◌≡◌, ◌∙◌, ◌⊎◌, ℕ, List, [], ◌∷◌, Bool, false, true, Option, None, Some, inl, inr, refl, sym, ap, subst, IfSome}
+use Rattle.std.proofs.Common.{◌≡◌, ◌∙◌, ◌⊎◌, ℕ, List, [], ◌∷◌, false, Option, None, Some, inl, inr, refl, sym, ap, subst, IfSome}
 use Rattle.std.specs.Prelude.{bytes_eq, is_some, IsTrue}
 use Rattle.std.specs.FinMap as map
 use Rattle.std.specs.FinSet.{same_set}

@@ -142,10 +142,10 @@ refused old kept x value next same = record {
 module _ (w : World) (kept : Kept) (right : AreKept w kept) where
   module _ (lists : Lists) (none : lists ≡ []) where
     pub kept_but_lists : AreKept w (record kept { lists = lists })
-    kept_but_lists = (right.0, no_lists w lists none, right.2)
+    kept_but_lists = (right.0, no_lists w lists none, right.2, right.3)
 
     kept_with_shelf : (s : List ℕ) (parent : Option (List ℕ)) → map.contains_key w.shelves s ≡ false → AreKept (with_shelf w s parent) (record kept { lists = lists })
-    kept_with_shelf s parent free = (right.0, no_lists (with_shelf w s parent) lists none, groups_still w s parent kept.groups free right.2)
+    kept_with_shelf s parent free = (right.0, no_lists (with_shelf w s parent) lists none, groups_still w s parent kept.groups free right.2, right.3)
 
     pub kept_after_team : (name : List ℕ) (group : Option (List ℕ)) (r : Registered) → team_added w name group ≡ r → AreKept (after_team_add w name group r) (record kept { lists = lists })
     kept_after_team name group Done is = kept_with_shelf name _ (new_team w name group is).1
@@ -158,7 +158,7 @@ module _ (w : World) (kept : Kept) (right : AreKept w kept) where
   pub kept_after_group : (name : List ℕ) (r : Registered) → group_added w name ≡ r → AreKept (after_group_add w name r) kept
   kept_after_group name Done is =
       let free = (new_group w name is).1 in
-      (right.0, lists_still w name free kept.lists right.1, groups_still w name None kept.groups free right.2)
+      (right.0, lists_still w name free kept.lists right.1, groups_still w name None kept.groups free right.2, right.3)
   kept_after_group name Name is = right
   kept_after_group name Taken is = right
   kept_after_group name NoTeam is = right

@@ -5,11 +5,12 @@ use Rattle.world.specs.World.{World}
 use Rattle.world.specs.Counts.{AreCounts}
 use Rattle.store.specs.Groups.{AreGroups}
 use Rattle.store.specs.Lists.{AreLists}
+use Rattle.store.specs.Zips.{AreZips}
 use Rattle.store.specs.declared.kept.Kept.{Kept}
 
 -- what is kept is so in a world
 abbrev pub AreKept : World → Kept → Type 0
-AreKept w kept = AreCounts w kept.counts × AreLists w kept.lists × AreGroups w kept.groups
+AreKept w kept = AreCounts w kept.counts × AreLists w kept.lists × AreGroups w kept.groups × AreZips w kept.zips
 
 abbrev pub IsNothing : Kept → Type 0
-IsNothing kept = (kept.counts ≡ map.empty) × (kept.lists ≡ []) × (kept.groups ≡ map.empty)
+IsNothing kept = (kept.counts ≡ map.empty) × (kept.lists ≡ []) × (kept.groups ≡ map.empty) × (kept.zips ≡ [])

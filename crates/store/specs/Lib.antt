@@ -1,6 +1,7 @@
 pub mod Groups
 pub mod Recent
 pub mod Lists
+pub mod Zips
 pub mod Kept
 pub mod Shown
 pub mod Opened

@@ -5,6 +5,7 @@ ghost use Rattle.store.specs.Kept.{IsNothing};
 
 use crate::groups::Groups;
 use crate::lists::Lists;
+use crate::zips::Zips;
 use std::alloc::Global;
 use world::counts::Counts;
 
@@ -15,6 +16,7 @@ pub(crate) struct Kept {
     pub(crate) counts: Counts,
     pub(crate) lists: Lists,
     pub(crate) groups: Groups,
+    pub(crate) zips: Zips,
 }
 
 impl Kept {
@@ -26,6 +28,7 @@ impl Kept {
             counts: Counts::new(alloc),
             lists: Lists::no_lists(),
             groups: Groups::new(alloc),
+            zips: Zips::no_zips(),
         }
     }
 }

@@ -12,7 +12,8 @@
 //! |---|---|
 //! | `adopt` | `tables::fit::stand_for_world`, or where there are no tables `tables::create::create` |
 //! | `key` | `statements::registry::find_key` |
-//! | `entry`, `heading` | `find_entry`, `find_heading` of `statements::entries`, along the chain of the shelf |
+//! | `entry` | `find_heading` of `statements::entries`, on one shelf of the chain after the other, and the kept zip, or `find_entry`, whose zip is then kept |
+//! | `heading` | `find_heading` of `statements::entries`, along the chain |
 //! | `compare` | `statements::compare::find_standing`, along the chain |
 //! | `versions` | `statements::visible::find_versions`, along the chain; asked once, and then kept until the path gets a version or a team is added |
 //! | `latest` | `versions`, and `heading` of the highest; asked once, and then kept with the versions |
@@ -46,4 +47,6 @@ pub mod open;
 pub mod open_older;
 mod recent;
 pub mod refusal;
+mod seen;
 pub mod store;
+mod zips;

@@ -101,7 +101,7 @@ impl<V: Drop> Recent<V> {
     }
 
     /// Drops the values that were asked longest ago, until one of this weight has room.
-    fn make_room(&mut self, weight: usize)
+    pub(crate) fn make_room(&mut self, weight: usize)
         ensures { (v : _) → Holds self.new v → Holds self.old v }
     {
         for _ in 0..self.len() {

@@ -5,9 +5,10 @@ ghost use Rattle.sqlite.specs.Held.{state};
 ghost use Rattle.sqlite_trees.specs.View.{doubt};
 ghost use Rattle.world.specs.Store.{GrewOrFull, HasCause, Reads};
 ghost use Rattle.world.specs.Versions.{versions_of};
-ghost use Rattle.world.specs.World.{group_of};
+ghost use Rattle.world.specs.World.{group_of, view};
 ghost use Rattle.store.specs.Shown.{shown_with};
 ghost use Rattle.store.specs.Kept.{IsNothing};
+ghost use Rattle.store.specs.Zips.{seen_heading};
 ghost use Rattle.tables.specs.Calls.{Honestly};
 ghost use Rattle.tables.specs.Causes.{IsHindered, IsVast};
 ghost use Rattle.store.specs.Opened.{Opens, IsBad, LeavesFirst, IsOfOpening};
@@ -18,6 +19,8 @@ use crate::groups::{copied, group_in};
 use crate::kept::Kept;
 use crate::lists::Lists;
 use crate::refusal::Refusal;
+use crate::seen::{SeenHeading, find_seen};
+use crate::zips::with_zip;
 use modpath::ModulePath;
 use modver::Version;
 use sqlite::{Alter, Connection, Error, ErrorCode};
@@ -91,18 +94,20 @@ impl<S: Alter> Shelves for SqlShelves<S> {
         path: &ModulePath,
         version: &Version,
     ) -> Result<Option<Seen>, StoreFault> {
-        let group = self.group_of(shelf)?;
-        let chain = Chain::new(shelf, group.as_ref());
-        match find_entry(
+        let Some(seen) = self.seen(shelf, path.as_str(), version.as_str())? else {
+            return Ok(None);
+        };
+        if let Some(zip) = self.kept.zips.zip(
             self.alloc,
-            &mut self.conn,
-            chain.as_slice(),
+            seen.shelf.as_str(),
             path.as_str(),
             version.as_str(),
         ) {
-            Ok(found) => Ok(found),
-            Err(error) => Err(fault(&mut self.failures, error)),
+            return Ok(Some(with_zip(seen, zip)));
         }
+        let found = self.find(shelf, path.as_str(), version.as_str())?;
+        self.kept.zips.keep_seen(self.alloc, path.as_str(), version.as_str(), found.as_ref());
+        Ok(found)
     }
 
     fn heading(
@@ -323,6 +328,39 @@ impl<S: Alter> SqlShelves<S> {
                 Ok(group)
             }
             Ok(None) => Ok(None),
+            Err(error) => Err(fault(&mut self.failures, error)),
+        }
+    }
+
+    /// What a shelf sees of a version without its zip, with the shelf that its entry stands on. Queries the tables.
+    fn seen(
+        &mut self,
+        shelf: &str,
+        path: &str,
+        version: &str,
+    ) -> Result<Option<SeenHeading>, StoreFault>
+        ensures reads { Reads (shown_with (state S.Store self.old.conn) self.old.kept)
+            (shown_with (state S.Store self.new.conn) self.new.kept) result (λ w. seen_heading (view w shelf.now path.now version.now)) }
+        ensures cause { HasCause self.old.failures self.new.failures result }
+    {
+        let group = self.group_of(shelf)?;
+        let chain = Chain::new(shelf, group.as_ref());
+        match find_seen(self.alloc, &mut self.conn, chain.as_slice(), path, version) {
+            Ok(seen) => Ok(seen),
+            Err(error) => Err(fault(&mut self.failures, error)),
+        }
+    }
+
+    /// What a shelf sees of a version. Queries the tables.
+    fn find(&mut self, shelf: &str, path: &str, version: &str) -> Result<Option<Seen>, StoreFault>
+        ensures reads { Reads (shown_with (state S.Store self.old.conn) self.old.kept)
+            (shown_with (state S.Store self.new.conn) self.new.kept) result (λ w. view w shelf.now path.now version.now) }
+        ensures cause { HasCause self.old.failures self.new.failures result }
+    {
+        let group = self.group_of(shelf)?;
+        let chain = Chain::new(shelf, group.as_ref());
+        match find_entry(self.alloc, &mut self.conn, chain.as_slice(), path, version) {
+            Ok(found) => Ok(found),
             Err(error) => Err(fault(&mut self.failures, error)),
         }
     }

@@ -157,9 +157,11 @@ GET A example.com/lib/@v/v1.0.0.zip | 200 OK | zip | Z
 const KEPT: &str = "\
 key|alphakey00000001 = alpha Publishes
 entry|alpha|example.com/lib|v1.0.0 = common|module example.com/lib;|Z|
+entry|gamma|example.com/lib|v1.0.0 = common|module example.com/lib;|Z|
 group-add|platform = Taken
 team-add|delta|alpha = NoGroup
 insert|platform|example.com/lib|v1.0.0|module example.com/lib;|H = ()
+entry|gamma|example.com/lib|v1.0.0 = platform|module example.com/lib;|H|
 entry|gamma|example.com/lib|v1.0.0 = platform|module example.com/lib;|H|
 entry|alpha|example.com/lib|v1.0.0 = common|module example.com/lib;|Z|
 failures = 0

@@ -1,4 +1,4 @@
-use Rattle.std.proofs.Common.{◌≡◌, sym, subst, ◌∙◌, ap, refl, rules}
+use Rattle.std.proofs.Common.{◌≡◌, sym, subst, ◌∙◌, rules}
 use Rattle.store.specs.Recent.{Holds}
 use Rattle.store.proofs.RecentLemmas.{entries_in, holds_found}
 use Rattle.store.proofs.recent.Recent.get.Goals as goal

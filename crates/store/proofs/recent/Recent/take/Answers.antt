@@ -1,4 +1,4 @@
-use Rattle.std.proofs.Common.{◌≡◌, sym, subst, ◌∙◌, rules}
+use Rattle.std.proofs.Common.{◌≡◌, sym, subst, rules}
 use Rattle.store.specs.Recent.{Holds}
 use Rattle.store.proofs.RecentLemmas.{entries_in, removed_holds, none_removed_fits, removed_fits, removed_held}
 use Rattle.store.proofs.recent.Recent.take.Goals as goal

@@ -17,7 +17,7 @@ returns-in-Ok-Some-clause-reads g c =
     reads_keeping (state g.S.Store c.args.self.now.conn) (state g.S.Store c.find_shelf.new.conn) c.args.self.now.kept kept (Ok c.group_in-group.result) _ c.find_shelf.ensures.spares (λ clean w stands right.
     let found = (rw c.in-Ok-Some.field-0-is at (c.in-Ok-Some.ensures.answer clean w stands.0)).2 in
     let same = c.group_in-group.ensures ∙ ap group_in found in
-    (same, (right.0, right.1, c.keep.ensures w right.2 (ap is_some (sym found), sym (lent ∙ same)))))
+    (same, (right.0, right.1, c.keep.ensures w right.2 (ap is_some (sym found), sym (lent ∙ same)), right.3)))
 
 pub returns-in-Ok-None-clause-reads : goal.returns-in-Ok-None-clause-reads
 returns-in-Ok-None-clause-reads g c =

@@ -14,7 +14,7 @@ returns-in-Ok-clause-reads g c =
     let kept = rw c.as_str-in-Ok.ensures.value at c.keep.ensures.counts in
     reads_keeping (state g.S.Store c.args.self.now.conn) (state g.S.Store c.count_entries.new.conn) c.args.self.now.kept (record c.args.self.now.kept { counts = c.keep.new.self }) (Ok c.in-Ok.count) _
     c.count_entries.ensures.spares
-    (λ clean w stands right. let is = answer clean w stands in (is, (kept w right.0 is, right.1, right.2)))
+    (λ clean w stands right. let is = answer clean w stands in (is, (kept w right.0 is, right.1, right.2, right.3)))
 
 pub returns-in-Err-clause-reads : goal.returns-in-Err-clause-reads
 returns-in-Err-clause-reads g c =

@@ -1,22 +1,73 @@
-use Rattle.std.proofs.Common.{◌≡◌, ◌∷◌, map, Ok, Err, rules}
-use Rattle.sqlite.specs.Held.{state}
+use Rattle.std.proofs.Common.{◌∙◌, Some, sym, ap, rules}
 use Rattle.modver.specs.SemanticVersion.{version_text}
-use Rattle.world.specs.World.{above, first_on}
-use Rattle.store.proofs.StoreLemmas.{reads_along, reads_failed}
+use Rattle.world.specs.World.{chain, view}
+use Rattle.store.proofs.StoreLemmas.{reads_failed}
+use Rattle.store.proofs.ZipLemmas.{fewer_zips, none_seen, stands_on, whole}
 use Rattle.store.proofs.store.SqlShelvesShelves.entry.Goals as goal
 
-pub returns-in-Ok-clause-reads : goal.returns-in-Ok-clause-reads
-returns-in-Ok-clause-reads g c =
-    let along : map (λ s. s.now) c.as_slice.result.now ≡ c.args.shelf.now ∷ above c.in_ok-group.group = search rules in
-    let answer = rw (c.as_str.ensures.value, c.as_str-2.ensures.value) at c.in-Ok.ensures.answer in
-    reads_along _ (state g.S.Store c.group_of.new.self.conn) (state g.S.Store c.find_entry.new.conn) c.group_of.new.self.kept c.args.shelf.now _ _ (Ok c.in-Ok.found) (λ w ss. first_on w ss c.args.path.now (version_text c.args.version.now))
-    along c.in_ok-group.ensures.reads c.find_entry.ensures.spares answer
+pub returns-in_err-seen-clause-reads : goal.returns-in_err-seen-clause-reads
+returns-in_err-seen-clause-reads g c = reads_failed _ _ _ c.from_residual.result _ _ c.from_residual.ensures.0 c.in_err-seen.ensures.reads
+
+pub returns-in_default-clause-reads : goal.returns-in_default-clause-reads
+returns-in_default-clause-reads g c =
+    let read = rw (c.as_str.ensures.value, c.as_str-2.ensures.value) at c.in_ok-seen.ensures.reads in
+    record {
+      honest = read.honest;
+      at = λ h w stands.
+          let told = read.at h w stands in
+          record { answer = none_seen (view w c.args.shelf.now c.args.path.now (version_text c.args.version.now)) (sym c.in_default.is ∙ told.answer); stays = told.stays; left = told.left };
+    }
+
+pub returns-in-Some-zip-clause-reads : goal.returns-in-Some-zip-clause-reads
+returns-in-Some-zip-clause-reads g c =
+    let s = c.args.shelf.now in
+    let p = c.args.path.now in
+    let v = version_text c.args.version.now in
+    let read = rw (c.as_str.ensures.value, c.as_str-2.ensures.value) at c.in_ok-seen.ensures.reads in
+    let zip = rw (c.as_str-3.ensures, c.as_str-4.ensures.value, c.as_str-5.ensures.value) at c.in-Some-zip.ensures.found in
+    record {
+      honest = read.honest;
+      at = λ h w stands.
+          let told = read.at h w stands in
+          let right = told.stays.1 in
+          record {
+            answer = ap Some c.with_zip.ensures ∙ whole w (chain w s) p v c.in-Some.seen c.in-Some-zip.zip (sym c.in-Some.is ∙ told.answer) (zip w right.3);
+            stays = (told.stays.0, (right.0, right.1, right.2, fewer_zips w c.seen.new.self.kept.zips c.zip.new.self c.zip.ensures.others right.3));
+            left = told.left;
+          };
+    }
 
 pub returns-clause-reads : goal.returns-clause-reads
 returns-clause-reads g c =
-    let along : map (λ s. s.now) c.as_slice.result.now ≡ c.args.shelf.now ∷ above c.in_ok-group.group = search rules in
-    reads_along _ (state g.S.Store c.group_of.new.self.conn) (state g.S.Store c.find_entry.new.conn) c.group_of.new.self.kept c.args.shelf.now _ _ (Err c.fault.result) (λ w ss. first_on w ss c.args.path.now (version_text c.args.version.now))
-    along c.in_ok-group.ensures.reads c.find_entry.ensures.spares (λ _ _ _. tt)
+    let s = c.args.shelf.now in
+    let p = c.args.path.now in
+    let v = version_text c.args.version.now in
+    let read = rw (c.as_str.ensures.value, c.as_str-2.ensures.value) at c.in_ok-seen.ensures.reads in
+    let then = rw (c.as_str-6.ensures.value, c.as_str-7.ensures.value) at c.in_ok-found.ensures.reads in
+    let kept = rw (c.as_str-8.ensures.value, c.as_str-9.ensures.value, c.as_ref.ensures.value) at c.keep_seen.ensures in
+    record {
+      honest = λ h. read.honest (then.honest h);
+      at = λ h w stands.
+          let told = read.at (then.honest h) w stands in
+          let right = told.stays.1 in
+          let more = then.at h w (told.stays.0, (right.0, right.1, right.2, fewer_zips w c.seen.new.self.kept.zips c.zip.new.self c.zip.ensures.others right.3)) in
+          let after = more.stays.1 in
+          record {
+            answer = more.answer;
+            stays = (more.stays.0, (after.0, after.1, after.2, kept w after.3 (stands_on w (chain w s) p v c.in_ok-found.found (sym more.answer))));
+            left = λ x y was. more.left x y (told.left x y was);
+          };
+    }
 
-pub returns-in_err-group-clause-reads : goal.returns-in_err-group-clause-reads
-returns-in_err-group-clause-reads g c = reads_failed _ _ _ c.from_residual.result _ _ c.from_residual.ensures.0 c.in_err-group.ensures.reads
+pub returns-in_err-found-clause-reads : goal.returns-in_err-found-clause-reads
+returns-in_err-found-clause-reads g c =
+    let read = c.in_ok-seen.ensures.reads in
+    let then = c.in_err-found.ensures.reads in
+    record {
+      honest = λ h. read.honest (then.honest h);
+      at = λ h w stands.
+          let told = read.at (then.honest h) w stands in
+          let right = told.stays.1 in
+          let more = then.at h w (told.stays.0, (right.0, right.1, right.2, fewer_zips w c.seen.new.self.kept.zips c.zip.new.self c.zip.ensures.others right.3)) in
+          record { answer = search rules; stays = more.stays; left = λ x y was. more.left x y (told.left x y was) };
+    }

@@ -5,6 +5,7 @@ use Rattle.world.specs.World.{World, place, with_entry}
 use Rattle.modver.specs.SemanticVersion.{version_text}
 use Rattle.world.proofs.Sound.{entry_added}
 use Rattle.store.proofs.StoreLemmas.{changes}
+use Rattle.store.proofs.ZipLemmas.{zips_still}
 use Rattle.store.proofs.store.SqlShelvesShelves.insert.Goals as goal
 
 pub returns-in-Ok-clause-does : goal.returns-in-Ok-clause-does
@@ -15,7 +16,7 @@ returns-in-Ok-clause-does g c =
     subst (λ p. AreLists (with_entry w (place c.args.shelf.now p (version_text c.args.version.now)) c.args.entry.now) c.forget.new.self) c.as_str-in-Ok-2.ensures.value (c.forget.ensures w c.args.shelf.now (version_text c.args.version.now) c.args.entry.now right) in
     changes (state g.S.Store c.args.self.now.conn) (state g.S.Store c.add_entry.new.conn) c.args.self.now.kept (record c.args.self.now.kept { counts = c.raise.new.self; lists = c.forget.new.self }) (Ok tt) _ (λ _. tt) _ c.add_entry.ensures.clean
     (λ clean w stands room. (refl, told clean w stands.0 room.free, entry_added w _ _ stands.1 room))
-    (λ w room right. (raised w (version_text c.args.version.now) c.args.entry.now room.free right.0, forgot w right.1, right.2))
+    (λ w room right. (raised w (version_text c.args.version.now) c.args.entry.now room.free right.0, forgot w right.1, right.2, zips_still w _ c.args.entry.now room.free c.args.self.now.kept.zips right.3))
 
 pub returns-in-Err-clause-does : goal.returns-in-Err-clause-does
 returns-in-Err-clause-does g c =

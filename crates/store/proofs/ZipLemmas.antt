@@ -1,0 +1,97 @@
+-- Zips that are kept stay right: as one more is kept, as some are dropped, and as the world grows.
+use Rattle.std.proofs.Common.{◌≡◌, ◌∙◌, ◌⊎◌, ℕ, List, [], ◌∷◌, true, Option, None, Some, inl, inr, refl, sym, ap, subst}
+use Rattle.std.specs.Prelude.{bytes_eq, IsTrue}
+use Rattle.std.specs.FinMap as map
+use Rattle.std.specs.Option.{option_or}
+use Rattle.std.proofs.lemmas.Bool.{and_parts}
+use Rattle.world.specs.declared.entry.Entry.{Entry}
+use Rattle.world.specs.declared.entry.Place.{Place}
+use Rattle.world.specs.declared.entry.Seen.{Seen}
+use Rattle.world.specs.World.{World, place, seen_at, first_on, heading_of, with_entry}
+use Rattle.world.proofs.Orders.{places_total, places_exact, get_elsewhere, text_same}
+use Rattle.statements.specs.Reading.{entry_with}
+use Rattle.store.specs.declared.seen.SeenHeading.{SeenHeading}
+use Rattle.store.specs.declared.zips.KeptZip.{KeptZip}
+use Rattle.store.specs.Recent.{Holds}
+use Rattle.store.specs.Zips.{is_at, IsZipAt, IsSeenAt, AreZips, seen_heading}
+use Rattle.store.proofs.RecentLemmas.{holds_none}
+
+abbrev pub Kept : Type 0
+Kept = List (ℕ × (ℕ × KeptZip))
+
+-- ---- fewer, none, and one more
+
+pub fewer_zips : (w : World) (old new : Kept) → ((it : KeptZip) → Holds new it → Holds old it) → AreZips w old → AreZips w new
+fewer_zips w old new among are it at = are it (among it at)
+
+pub no_zips : (w : World) (zips : Kept) → zips ≡ [] → AreZips w zips
+no_zips w zips none it at = absurd (holds_none it (subst (λ l. Holds l it) none at))
+
+pub one_more_zip : (w : World) (old new : Kept) (kept : KeptZip) → ((it : KeptZip) → Holds new it → Holds old it ⊎ (it ≡ kept)) → AreZips w old → IsZipAt w kept.place kept.zip → AreZips w new
+one_more_zip w old new kept split are is it at = elim (split it at) [
+  | inl was ↦ are it was
+  | inr same ↦ subst (λ (k : KeptZip). IsZipAt w k.place k.zip) (sym same) is
+]
+
+-- ---- one that is found
+
+same_place : (q r : Place) → bytes_eq q.shelf r.shelf ≡ true → bytes_eq q.path r.path ≡ true → bytes_eq q.version r.version ≡ true → q ≡ r
+same_place q r s p v =
+    let shelf = text_same q.shelf r.shelf s in
+    let path = text_same q.path r.path p in
+    let version = text_same q.version r.version v in
+    λ i. record { shelf = shelf i; path = path i; version = version i }
+
+pub found_zip : (w : World) (zips : Kept) (it : KeptZip) (q : Place) → Holds zips it → IsTrue (is_at q it) → AreZips w zips → IsZipAt w q it.zip
+found_zip w zips it q at is are =
+    let two = and_parts _ _ is in
+    let one = and_parts _ _ two.0 in
+    subst (λ (r : Place). IsZipAt w r it.zip) (same_place it.place q one.0 one.1 two.1) (are it at)
+
+-- ---- the world grows
+
+-- an entry is put where there was none
+pub zips_still : (w : World) (q : Place) (e : Entry) → map.get w.entries q ≡ None → (zips : Kept) → AreZips w zips → AreZips (with_entry w q e) zips
+zips_still w q e free zips are it at =
+    let was = are it at in
+    let elsewhere : it.place ≡ q → ⊥ = λ same. let never : None ≡ Some was.0 = sym free ∙ (ap (map.get w.entries) (sym same) ∙ was.1) in cc never in
+    (was.0, get_elsewhere places_total places_exact w.entries q e it.place elsewhere ∙ was.1, was.2)
+
+-- ---- what is seen
+
+-- it stands on its shelf
+pub stands_on : (w : World) (ss : List (List ℕ)) (p v : List ℕ) (seen : Option Seen) → first_on w ss p v ≡ seen → IsSeenAt w p v seen
+stands_on w ss p v None found = tt
+stands_on w ss p v (Some e) found = go ss found
+  where
+    go : (ss : List (List ℕ)) → first_on w ss p v ≡ Some e → map.get w.entries (place e.shelf p v) ≡ Some e.entry
+    go [] found = cc found
+    go (s ∷ ss) found =
+        elim (map.get w.entries (place s p v)) as (λ o. map.get w.entries (place s p v) ≡ o → option_or (seen_at o s) (first_on w ss p v) ≡ Some e → map.get w.entries (place e.shelf p v) ≡ Some e.entry) [
+          | None ↦ λ _ rest. go ss rest
+          | Some x ↦ λ here is.
+              let mine : Seen = record { shelf = s; entry = x } in
+              let same : mine ≡ e = cc is in
+              subst (λ (y : Seen). map.get w.entries (place y.shelf p v) ≡ Some y.entry) same here
+        ] refl found
+
+-- nothing is seen without its zip only where nothing is seen
+pub none_seen : (seen : Option Seen) → None ≡ seen_heading seen → None ≡ seen
+none_seen None is = refl
+none_seen (Some e) is = cc is
+
+-- with a kept zip it is whole
+pub whole : (w : World) (ss : List (List ℕ)) (p v : List ℕ) (h : SeenHeading) (zip : List ℕ) → Some h ≡ seen_heading (first_on w ss p v) → IsZipAt w (place h.shelf p v) zip
+    → Some (record { shelf = h.shelf; entry = entry_with h.heading zip }) ≡ first_on w ss p v
+whole w ss p v h zip = go (first_on w ss p v) refl
+  where
+    go : (seen : Option Seen) → first_on w ss p v ≡ seen → Some h ≡ seen_heading (first_on w ss p v) → IsZipAt w (place h.shelf p v) zip → Some (record { shelf = h.shelf; entry = entry_with h.heading zip }) ≡ first_on w ss p v
+    go None is found kept = let never : Some h ≡ None = found ∙ ap seen_heading is in cc never
+    go (Some e) is found kept =
+        let same : h ≡ record { shelf = e.shelf; heading = heading_of e.entry } = let it : Some h ≡ Some (record { shelf = e.shelf; heading = heading_of e.entry }) = found ∙ ap seen_heading is in cc it in
+        let at = stands_on w ss p v (Some e) is in
+        let stored : Some kept.0 ≡ Some e.entry = sym kept.1 ∙ (ap (λ (g : SeenHeading). map.get w.entries (place g.shelf p v)) same ∙ at) in
+        let entry : kept.0 ≡ e.entry = cc stored in
+        let zips : zip ≡ e.entry.zip = sym kept.2 ∙ ap (λ (x : Entry). x.zip) entry in
+        ap (λ (g : SeenHeading). Some (record { shelf = g.shelf; entry = entry_with g.heading zip })) same
+        ∙ ap (λ z. Some (record { shelf = e.shelf; entry = entry_with (heading_of e.entry) z })) zips ∙ sym is

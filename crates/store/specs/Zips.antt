@@ -1,0 +1,31 @@
+-- Zips that are kept.
+use Rattle.std.specs.Prelude.{ℕ, ◌≡◌, ◌&&◌, List, Bool, Option, Some, None, bytes_eq, option_map}
+use Rattle.std.specs.FinMap as map
+use Rattle.world.specs.declared.entry.Entry.{Entry}
+use Rattle.world.specs.declared.entry.Place.{Place}
+use Rattle.world.specs.declared.entry.Seen.{Seen}
+use Rattle.world.specs.World.{World, place, heading_of}
+use Rattle.store.specs.declared.seen.SeenHeading.{SeenHeading}
+use Rattle.store.specs.declared.zips.KeptZip.{KeptZip}
+use Rattle.store.specs.Recent.{Holds}
+
+-- whether a zip is that of the entry at a place
+abbrev pub is_at : Place → KeptZip → Bool
+is_at q it = bytes_eq it.place.shelf q.shelf && bytes_eq it.place.path q.path && bytes_eq it.place.version q.version
+
+-- an entry stands at a place and has this zip
+abbrev pub IsZipAt : World → Place → List ℕ → Type 0
+IsZipAt w q zip = (e : Entry) × (map.get w.entries q ≡ Some e) × (e.zip ≡ zip)
+
+-- so it is of each that is kept
+abbrev pub AreZips : World → List (ℕ × (ℕ × KeptZip)) → Type 0
+AreZips w zips = (it : KeptZip) → Holds zips it → IsZipAt w it.place it.zip
+
+-- what is seen of a version stands on its shelf
+abbrev pub IsSeenAt : World → List ℕ → List ℕ → Option Seen → Type 0
+IsSeenAt w p v None = Unit {0}
+IsSeenAt w p v (Some seen) = map.get w.entries (place seen.shelf p v) ≡ Some seen.entry
+
+-- what is seen without its zip, with the shelf that its entry stands on
+abbrev pub seen_heading : Option Seen → Option SeenHeading
+seen_heading seen = option_map (λ it. record { shelf = it.shelf; heading = heading_of it.entry }) seen

@@ -1,6 +1,6 @@
 #!/usr/bin/env python3
 """What a store in a file keeps, in instructions by valgrind's count: `list` and `@latest` of 200 and 2,000 paths, asked in turn once and again;
-`@latest` of a path whose go.mod has as many retractions as one may; a `.zip` of each size, fetched once and again.
+`@latest` of a path whose go.mod has as many retractions as one may; a `.zip` of each size, fetched once and again, where another was before.
 
 Build the program first (`./goshelf --version`); it wants valgrind. With --program FILE it measures that program. The opening of a store does
 not count.
@@ -57,15 +57,15 @@ def counted(program, file, stream):
         return instructions(program, source, words=["answer", "--db", copied(file)])
 
 
-def asked(program, file, rests, times):
-    """Instructions of these questions of a team, asked in turn so many times, with the opening."""
-    stream = tuple(b"".join(get("alpha", rest)) for rest in rests) * times
+def asked(program, file, rests, times, before):
+    """Instructions of these questions of a team, asked in turn so many times behind others, with the opening."""
+    stream = tuple(b"".join(get("alpha", rest)) for rest in before + rests * times)
     return counted(program, file, stream)
 
 
-def told(program, file, what, rests):
+def told(program, file, what, rests, before=()):
     """Prints what one of these questions costs that is asked first, and what one that is asked again."""
-    opening, once, again = (asked(program, file, tuple(rests), times) for times in (0, 1, 2))
+    opening, once, again = (asked(program, file, tuple(rests), times, tuple(before)) for times in (0, 1, 2))
     print(f"{what}: {(once - opening) // len(rests):,} instructions at first, {(again - once) // len(rests):,} again", flush=True)
 
 
@@ -77,7 +77,7 @@ def main():
         made(program, file, zips())
         told(program, file, "`@latest`, with the most retractions", [f"{WORST}/@latest"])
         for size in ZIPS:
-            told(program, file, f"a `.zip` of {size:,} bytes", [f"example.com/z{size}/@v/v1.0.0.zip"])
+            told(program, file, f"a `.zip` of {size:,} bytes", [f"example.com/z{size}/@v/v1.0.0.zip"], [f"{WORST}/@v/v1.0.0.zip"])
         file = os.path.join(folder, "lists.db")
         made(program, file, (small(f"example.com/p{n}") for n in range(PATHS)))
         for name, rest in (("list", "@v/list"), ("@latest", "@latest")):

@@ -127,7 +127,14 @@ def asked_by(connected, sent):
 
 
 def rest(held):
-    return b"".join(iter(lambda: held.recv(65_536), b""))
+    """All that comes until the other side closes. Who sends more than an order may have is told, and then reset."""
+    told = b""
+    try:
+        while piece := held.recv(65_536):
+            told += piece
+    except ConnectionResetError:
+        pass
+    return told
 
 
 def orders(suite):

@@ -89,7 +89,7 @@ def keys(suite, machine):
     ask = f"curl -s -o /dev/null -w '%{{http_code}}' http://127.0.0.1:8080/k/{made}/-/modules"
     machine.does(f"goshelf key-add {control} --shelf alpha --key {made}")
     suite.equal("a key that was added reads at once", machine.does(ask), "200")
-    machine.does(block("sh", "key-revoke --control").replace("KEY", made))
+    machine.does(block("sh", "key-revoke --control /run/goshelf/control --key KEY").replace("KEY", made))
     suite.equal("one that was revoked reads nothing at once", machine.does(ask), "404")
     machine.does(block("sh", "team-add --control").replace("beta", "omega").replace("KEY", more))
     suite.holds("goshelf runs on", runs(machine))

@@ -47,7 +47,7 @@ const DB: OptionRow = OptionRow {
 
 pub(crate) const INIT: [OptionRow; 1] = [DB];
 
-/// The same, where a running server can stand in its place.
+/// The file of the store, where a running server can stand in its place.
 const DB_OR_CONTROL: OptionRow = OptionRow {
     needed: Needed::Without("control"),
     ..DB

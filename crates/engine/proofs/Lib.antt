@@ -5,6 +5,7 @@ pub mod CrashLemmas
 pub mod FirstLemmas
 pub mod FrontLemmas
 pub mod HeadlineLemmas
+pub mod IncomingLemmas
 pub mod IsolationLemmas
 pub mod MessageLemmas
 pub mod PartLemmas
@@ -12,6 +13,7 @@ pub mod PurgedLemmas
 pub mod ReadLemmas
 pub mod RunLemmas
 pub mod ServedLemmas
+pub mod SessionLemmas
 pub mod StoreLemmas
 pub mod ToldLemmas
 pub mod TurnLemmas

@@ -1,9 +1,9 @@
 -- What a read says of the bytes held and of those that follow.
-use Rattle.std.proofs.Common.{◌≢◌, ℕ, ◌<◌, ◌≤◌, ◌-◌, List, [], ◌++◌, Option, Some, None, length, take, drop, refl, sym, ap, ◌∙◌, subst, arith, append-nil, length-append, length-drop, take-append-drop}
+use Rattle.std.proofs.Common.{◌≡◌, ◌≢◌, ℕ, ◌<◌, ◌≤◌, ◌+◌, ◌-◌, List, [], ◌++◌, Option, Some, None, length, take, drop, refl, sym, ap, ◌∙◌, subst, arith, append-nil, length-append, length-drop, take-append-drop}
 use Rattle.std.proofs.lemmas.List.{length-take-le}
 use Rattle.std.specs.Io.KnownBytes.{Consumes, IsAtEnd}
 use Rattle.wire.specs.Message.{Ends, clean, bad}
-use Rattle.wire.specs.Framing.{HasMessage, IsUnfinished}
+use Rattle.wire.specs.Framing.{Framing, HasMessage, IsUnfinished}
 use Rattle.wire.proofs.StreamLemmas.{ReadsMessage-append, no_message_at_end}
 use Rattle.engine.specs.Served.{read_limit, Tells}
 use Rattle.engine.specs.Turn.{StaysNear}
@@ -30,6 +30,11 @@ are_some bytes n some within e = absurd (omega (arith, ap length e, length-take-
 -- they are no more than the buffer holds
 pub are_few : (bytes : List ℕ) (n most : ℕ) → n ≤ length bytes → length bytes ≤ most → length (take n bytes) ≤ most
 are_few bytes n most within room = omega (arith, length-take-le n bytes within)
+
+-- the framer holds no more than so many bytes more
+pub fed_few : (old new : Framing) (bytes : List ℕ) (most : ℕ) → new ≡ record old { held = old.held ++ bytes } → length bytes ≤ most
+    → length new.held ≤ length old.held + most
+fed_few old new bytes most is few = rw is (omega (arith, length-append old.held bytes, few))
 
 -- few bytes came
 pub near_few : (held bytes : List ℕ) → IsUnfinished held → length bytes ≤ read_limit → StaysNear held bytes

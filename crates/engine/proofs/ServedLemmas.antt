@@ -1,17 +1,18 @@
 -- What the whole call says, from what was answered so far.
-use Rattle.std.proofs.Common.{ℕ, inl, inr, List, [], ◌∷◌, ◌++◌, Option, Some, None, Result, Ok, Err, refl, sym, ap, ◌∙◌, subst}
-use Rattle.std.specs.Io.KnownBytes.{Consumes}
-use Rattle.std.proofs.KnownBytes.{Appends-trans, Consumes-trans, Consumes-nil}
+use Rattle.std.proofs.Common.{◌≡◌, ℕ, inl, inr, List, [], ◌∷◌, ◌++◌, Option, Some, None, Result, Ok, Err, refl, sym, ap, ◌∙◌, subst, IfErr}
+use Rattle.std.specs.Io.KnownBytes.{Consumes, Appends, Keeps}
+use Rattle.std.proofs.KnownBytes.{Appends-trans, Appends-kept, Consumes-trans, Consumes-nil}
 use Rattle.wire.specs.Framing.{Framing}
 use Rattle.wire.specs.declared.reply.Fixed.{Fixed}
-use Rattle.wire.proofs.StreamLemmas.{unfinished_nothing}
 use Rattle.world.specs.Store.{Shown}
+use Rattle.engine.specs.First.{Answers, Closes}
 use Rattle.engine.specs.Served.{Tells, IsClosing, closing_bytes, texts_of, Serves}
-use Rattle.engine.specs.Turn.{ReadsOn, Answered, CutShort, AnswersHeld, SoFar, Delivers}
+use Rattle.engine.specs.Store.{GoesThrough}
+use Rattle.engine.specs.Turn.{Answered, CutShort, SoFar, Delivers, TakesNext, Turns}
 use Rattle.engine.specs.declared.fault.Io.{Io}
 use Rattle.engine.specs.declared.fault.Io.TheVariants as io
-use Rattle.engine.specs.declared.turn.Turn.TheVariants as turn
-use Rattle.engine.proofs.TurnLemmas.{answered_none, answered_before, answered_more, cut_before, cut_more}
+use Rattle.engine.specs.declared.session.Turn.TheVariants as turn
+use Rattle.engine.proofs.TurnLemmas.{answered_none, answered_nothing, answered_before, answered_one, answered_more, cut_before, cut_one, cut_more}
 
 -- the bytes that a reader still has, as far as it tells
 abbrev pub left_of : Option (List ℕ) → List ℕ
@@ -82,57 +83,76 @@ so_far_none shown count u w = record {
   got = [];
   consumed = Consumes-nil u;
   answered = answered_none shown count w [];
-  unfinished = unfinished_nothing [] refl;
   sound = refl;
 }
 
+-- a text was written whole, and then the flush went well, or failed
+pub delivered : (w w' w'' : Option (List ℕ)) (text : List ℕ) (result : Result (Unit {0}) Io) → Appends w w' text → Keeps w' w''
+    → IfErr result (λ e. e ≡ io.Write) → Delivers w w'' text result
+delivered w w' w'' text (Ok u) appends keeps which = Appends-kept w w' w'' text appends keeps
+delivered w w' w'' text (Err e) appends keeps which = (which, inr (Appends-kept w w' w'' text appends keeps))
+
 module _
     (old mid : Shown) (before between : ℕ) (u₀ u₁ w₀ w₁ : Option (List ℕ)) (framing : Framing)
-    (far : SoFar old mid before between u₀ u₁ w₀ w₁ framing) (u₂ : Option (List ℕ)) (next : Framing) where
-  -- the next read closed it
-  pub closed_reading : (u₃ w₂ : Option (List ℕ)) (closing : Option Fixed) (result : Result (Unit {0}) Io)
-      → ReadsOn framing next u₁ u₂ (Ok (turn.Close closing)) → Delivers w₁ w₂ (closing_bytes closing) result
-      → Serves old mid before between u₀ u₃ w₀ w₂ result
-  closed_reading u₃ w₂ closing result (bytes, consumes, few, (all, told, closes), some) delivers =
-      served old mid before between u₀ u₃ w₀ w₁ w₂ (far.got ++ all) (framing.held ++ all) closing result
-      (answered_before old mid before between w₀ w₁ far.got framing.held all far.answered)
+    (far : SoFar old mid before between u₀ u₁ w₀ w₁ framing) (new : Shown) (now : ℕ) (u₂ w₂ : Option (List ℕ)) (next : Framing) where
+  -- what was answered before, with more bytes
+  with_more : (more : List ℕ) → Answered old mid before between w₀ w₁ (far.got ++ more) (framing.held ++ more)
+  with_more more = answered_before old mid before between w₀ w₁ far.got framing.held more far.answered
+
+  -- so it was, and no message more
+  with_nothing : (more : List ℕ) → GoesThrough mid new between now [] → Answered old new before now w₀ w₁ (far.got ++ more) (framing.held ++ more)
+  with_nothing more through = answered_more
+      old mid new before between now w₀ w₁ w₁ (far.got ++ more) (framing.held ++ more) (framing.held ++ more)
+      (with_more more) (answered_nothing mid new between now w₁ (framing.held ++ more) through)
+
+  -- a message more was answered
+  pub went_on : (status : ℕ) → Turns mid new between now u₁ u₂ w₁ w₂ framing next (Ok (turn.Answered status))
+      → SoFar old new before now u₀ u₂ w₀ w₂ next
+  went_on status (Closes closing, takes, through, is, appends) = cc
+  went_on status (Answers x, takes, through, is, appends) = record {
+    got = far.got ++ takes.bytes;
+    consumed = Consumes-trans u₀ u₁ u₂ far.got takes.bytes far.consumed takes.consumed;
+    answered = answered_more
+        old mid new before between now w₀ w₁ w₂ (far.got ++ takes.bytes) (framing.held ++ takes.bytes) next.held (with_more takes.bytes)
+        (answered_one mid new between now w₁ w₂ (framing.held ++ takes.bytes) next.held x takes.stands.0 through appends);
+    sound = takes.stands.1;
+  }
+
+  closed_by : (closing : Option Fixed) (w₃ : Option (List ℕ)) (result : Result (Unit {0}) Io) → TakesNext framing next u₁ u₂ (Closes closing)
+      → GoesThrough mid new between now [] → Delivers w₁ w₃ (closing_bytes closing) result → Serves old new before now u₀ u₂ w₀ w₃ result
+  closed_by closing w₃ result takes through delivers =
+      let (all, told, closes) = takes.stands in
+      served old new before now u₀ u₂ w₀ w₁ w₃ (far.got ++ all) (framing.held ++ all) closing result (with_nothing all through)
       (Tells_after u₀ u₁ far.got all far.consumed told) closes delivers
 
-  module _ (new : Shown) (now : ℕ) (w₂ : Option (List ℕ)) (last : Framing) (reads : ReadsOn framing next u₁ u₂ (Ok turn.Go)) where
-    -- what was answered before, with the bytes that were read
-    with_bytes : Answered old mid before between w₀ w₁ (far.got ++ reads.0) next.held
-    with_bytes =
-        subst (λ (f : Framing). Answered old mid before between w₀ w₁ (far.got ++ reads.0) f.held) (sym reads.3)
-        (answered_before old mid before between w₀ w₁ far.got framing.held reads.0 far.answered)
+  -- the stream was closed, and flushed
+  pub closed : (closing : Option Fixed) (w₃ : Option (List ℕ)) (result : Result (Unit {0}) Io)
+      → Turns mid new between now u₁ u₂ w₁ w₂ framing next (Ok (turn.Closed closing)) → Keeps w₂ w₃ → IfErr result (λ e. e ≡ io.Write)
+      → Serves old new before now u₀ u₂ w₀ w₃ result
+  closed closing w₃ result (Answers x, takes, through, is, appends) keeps which = cc
+  closed closing w₃ result (Closes by, takes, through, is, appends) keeps which =
+      closed_by by w₃ result takes through (delivered w₁ w₂ w₃ (closing_bytes by) result appends keeps which)
 
-    read_so_far : Consumes u₀ u₂ (far.got ++ reads.0)
-    read_so_far = Consumes-trans u₀ u₁ u₂ far.got reads.0 far.consumed reads.1
-
-    pub went_on : AnswersHeld mid new between now w₁ w₂ next last (Ok turn.Go) → SoFar old new before now u₀ u₂ w₀ w₂ last
-    went_on (answered, unfinished, sound) = record {
-      got = far.got ++ reads.0;
-      consumed = read_so_far;
-      answered = answered_more old mid new before between now w₀ w₁ w₂ (far.got ++ reads.0) next.held last.held with_bytes answered;
-      unfinished = unfinished;
-      sound = sound;
-    }
-
-    pub closed_answering : (u₃ w₃ : Option (List ℕ)) (closing : Option Fixed) (result : Result (Unit {0}) Io)
-        → AnswersHeld mid new between now w₁ w₂ next last (Ok (turn.Close closing)) → Delivers w₂ w₃ (closing_bytes closing) result
-        → Serves old new before now u₀ u₃ w₀ w₃ result
-    closed_answering u₃ w₃ closing result (rest, answered, closes) delivers =
-        let more = left_of u₂ in
-        served old new before now u₀ u₃ w₀ w₂ w₃ ((far.got ++ reads.0) ++ more) (rest ++ more) closing result
-        (answered_before old new before now w₀ w₂ (far.got ++ reads.0) rest more
-        (answered_more old mid new before between now w₀ w₁ w₂ (far.got ++ reads.0) next.held rest with_bytes answered))
-        (Tells_after u₀ u₂ (far.got ++ reads.0) more read_so_far (Tells_left u₂)) (closes more) delivers
-
-    pub cut_answering : (u₃ : Option (List ℕ)) (e : Io) → AnswersHeld mid new between now w₁ w₂ next last (Err e)
-        → Serves old new before now u₀ u₃ w₀ w₂ (Err e)
-    cut_answering u₃ io.Read (wrong, cut) = cc
-    cut_answering u₃ io.Write (_, (rest, cut)) =
-        let more = left_of u₂ in
-        served_cut old new before now u₀ u₃ w₀ w₂ w₂ ((far.got ++ reads.0) ++ more) (rest ++ more)
-        (cut_before old new before now w₀ w₂ (far.got ++ reads.0) rest more
-        (cut_more old mid new before between now w₀ w₁ w₂ (far.got ++ reads.0) next.held rest with_bytes cut))
-        (Tells_after u₀ u₂ (far.got ++ reads.0) more read_so_far (Tells_left u₂))
+  -- a turn failed
+  pub failed : (e : Io) → Turns mid new between now u₁ u₂ w₁ w₂ framing next (Err e) → Serves old new before now u₀ u₂ w₀ w₂ (Err e)
+  failed io.Read (bytes, consumed, waits, through, keeps) =
+      let all = with_nothing bytes through in
+      record {
+        exchanges = all.exchanges;
+        input = far.got ++ bytes;
+        rest = framing.held ++ bytes;
+        out = texts_of all.exchanges;
+        reads = all.reads;
+        through = all.through;
+        appended = Appends-kept w₀ w₁ w₂ (texts_of all.exchanges) all.appended keeps;
+        ends = (Consumes-trans u₀ u₁ u₂ far.got bytes far.consumed consumed, waits, refl);
+      }
+  failed io.Write (Closes by, takes, through, part) = closed_by by w₂ (Err io.Write) takes through (refl, inl part)
+  failed io.Write (Answers x, takes, through, part) =
+      let bytes = takes.bytes in
+      let more = left_of u₂ in
+      served_cut old new before now u₀ u₂ w₀ w₂ w₂ ((far.got ++ bytes) ++ more) (next.held ++ more)
+      (cut_before old new before now w₀ w₂ (far.got ++ bytes) next.held more
+      (cut_more old mid new before between now w₀ w₁ w₂ (far.got ++ bytes) (framing.held ++ bytes) next.held (with_more bytes)
+      (cut_one mid new between now w₁ w₂ (framing.held ++ bytes) next.held x takes.stands.0 through part)))
+      (Tells_after u₀ u₂ (far.got ++ bytes) more (Consumes-trans u₀ u₁ u₂ far.got bytes far.consumed takes.consumed) (Tells_left u₂))

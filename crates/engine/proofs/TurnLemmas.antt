@@ -24,6 +24,16 @@ answered_none shown count written input = record {
   appended = Appends-nil written;
 }
 
+-- no message was answered
+pub answered_nothing : (old new : Shown) (before now : ℕ) (written : Option (List ℕ)) (input : List ℕ) → GoesThrough old new before now []
+    → Answered old new before now written written input input
+answered_nothing old new before now written input through = record {
+  exchanges = [];
+  reads = refl;
+  through = through;
+  appended = Appends-nil written;
+}
+
 -- more bytes came
 pub answered_before : (old new : Shown) (before now : ℕ) (w w' : Option (List ℕ)) (input rest more : List ℕ)
     → Answered old new before now w w' input rest → Answered old new before now w w' (input ++ more) (rest ++ more)

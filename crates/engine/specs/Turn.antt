@@ -1,21 +1,26 @@
 -- What one turn of reading or answering does.
-use Rattle.std.specs.Prelude.{◌≡◌, ◌≢◌, ℕ, ◌≤◌, ◌⊎◌, List, [], ◌∷◌, ◌++◌, Option, Some, None, length, map, Result, Ok, Err, MatchResult}
+use Rattle.std.specs.Prelude.{◌≡◌, ◌≢◌, ℕ, ◌≤◌, ◌<◌, ◌+◌, ◌*◌, ◌⊎◌, List, [], ◌∷◌, ◌++◌, Option, Some, None, length, map, Result, Ok, Err, MatchResult}
 use Rattle.std.specs.Io.KnownBytes.{Consumes, Appends, Keeps}
 use Rattle.wire.specs.Message.{ReadsMessage, ReadsMessages}
 use Rattle.wire.specs.Framing.{Framing, IsUnfinished, HasMessage, view}
 use Rattle.wire.specs.declared.reply.Fixed.TheVariants as fixed
 use Rattle.world.specs.Store.{Shown}
 use Rattle.engine.specs.Exchange.{Exchange, message_of}
-use Rattle.engine.specs.Reply.{text_of}
+use Rattle.engine.specs.First.{First, Answers, Closes, first_bytes, first_exchanges}
+use Rattle.engine.specs.Reply.{text_of, status_of}
 use Rattle.engine.specs.Store.{GoesThrough}
 use Rattle.engine.specs.Written.{IsBeginning, WritesPart}
-use Rattle.engine.specs.Served.{read_limit, Tells, IsClosing, texts_of}
+use Rattle.engine.specs.Served.{read_limit, Tells, IsClosing, closing_status, texts_of}
 use Rattle.engine.specs.declared.fault.Io.{Io}
 use Rattle.engine.specs.declared.fault.Io.TheVariants as io
-use Rattle.engine.specs.declared.turn.Turn.{Turn}
-use Rattle.engine.specs.declared.turn.Turn.TheVariants as turn
-use Rattle.engine.specs.declared.turn.Taken.{Taken}
-use Rattle.engine.specs.declared.turn.Taken.TheVariants as taken
+use Rattle.engine.specs.declared.incoming.Incoming.{Incoming}
+use Rattle.engine.specs.declared.incoming.Incoming.TheVariants as incoming
+use Rattle.engine.specs.declared.incoming.Taken.{Taken}
+use Rattle.engine.specs.declared.incoming.Taken.TheVariants as taken
+use Rattle.engine.specs.declared.read.Reading.{Reading}
+use Rattle.engine.specs.declared.read.Reading.TheVariants as reading
+use Rattle.engine.specs.declared.session.Turn.{Turn}
+use Rattle.engine.specs.declared.session.Turn.TheVariants as turn
 
 -- what is taken from the front of the bytes held; memory is wanted only for a message that is whole
 abbrev pub Takes : Framing → Taken → Framing → Type 0
@@ -33,14 +38,88 @@ pub record StaysNear (held bytes : List ℕ) : Type 0 where
   pub few : length late ≤ read_limit
 
 -- what a read gave the framer, or why it closes the stream; memory is wanted only for bytes that came
-abbrev pub ReadsOn : Framing → Framing → Option (List ℕ) → Option (List ℕ) → Result Turn Io → Type 0
-ReadsOn old new unread unread_new (Ok turn.Go) =
+abbrev pub ReadsOn : Framing → Framing → Option (List ℕ) → Option (List ℕ) → Result Reading Io → Type 0
+ReadsOn old new unread unread_new (Ok reading.GoesOn) =
     (bytes : List ℕ) × Consumes unread unread_new bytes × StaysNear old.held bytes × (new ≡ record old { held = old.held ++ bytes })
-ReadsOn old new unread unread_new (Ok (turn.Close closing)) =
+ReadsOn old new unread unread_new (Ok (reading.Ends closing)) =
     (bytes : List ℕ) × Consumes unread unread_new bytes × StaysNear old.held bytes
     × ((all : List ℕ) × Tells unread all × IsClosing (old.held ++ all) closing)
     × (closing ≡ Some fixed.Unavailable → bytes ≢ [])
 ReadsOn old new unread unread_new (Err e) = (e ≡ io.Read) × Keeps unread unread_new
+
+-- What is left to do on a stream with these reads left and these bytes held: a read gives at most 65,536 bytes, so a read and a message
+-- that is taken off lessen it.
+abbrev pub work : ℕ → List ℕ → ℕ
+work reads held = reads * 65537 + length held
+
+-- what was read so far behind the bytes held at first, until a message is whole
+pub record ReadSoFar (old now : Framing) (unread unread_now : Option (List ℕ)) (reads reads_now : ℕ) : Type 0 where
+  pub bytes : List ℕ
+  pub consumed : Consumes unread unread_now bytes
+  pub near : IsUnfinished old.held → StaysNear old.held bytes
+  pub held : now.held ≡ old.held ++ bytes
+  pub sound : now.failure ≡ None
+  pub less : work reads_now now.held ≤ work reads old.held
+
+-- what stands behind these bytes held, of which so many more were read: a message, which is taken off; or what closes the stream
+abbrev pub IsNext : Framing → Framing → Option (List ℕ) → List ℕ → First → Type 0
+IsNext old new unread bytes (Answers x) = ReadsMessage (old.held ++ bytes) x.message new.held × (new.failure ≡ None)
+IsNext old new unread bytes (Closes closing) = (all : List ℕ) × Tells unread all × IsClosing (old.held ++ all) closing
+
+-- It stands next in what is held and what the reader tells, and no more was read than was needed.
+pub record TakesNext (old new : Framing) (unread unread_new : Option (List ℕ)) (first : First) : Type 0 where
+  pub bytes : List ℕ
+  pub consumed : Consumes unread unread_new bytes
+  pub near : IsUnfinished old.held → StaysNear old.held bytes
+  pub stands : IsNext old new unread bytes first
+
+-- The next message was taken, or what closes the stream; or a read failed before that was there, or none was left.
+abbrev pub Comes : Framing → Framing → ℕ → ℕ → Option (List ℕ) → Option (List ℕ) → Result Incoming Io → Type 0
+Comes old new reads reads_new unread unread_new (Ok (incoming.Message message)) =
+    (bytes : List ℕ) × Consumes unread unread_new bytes × (IsUnfinished old.held → StaysNear old.held bytes)
+    × ReadsMessage (old.held ++ bytes) (view message) new.held × (new.failure ≡ None) × (work reads_new new.held < work reads old.held)
+Comes old new reads reads_new unread unread_new (Ok (incoming.End closing)) = TakesNext old new unread unread_new (Closes closing)
+Comes old new reads reads_new unread unread_new (Err e) =
+    (e ≡ io.Read) × ((bytes : List ℕ) × Consumes unread unread_new bytes × IsUnfinished (old.held ++ bytes))
+
+-- what a turn tells of what stood next
+abbrev pub turn_of : First → Turn
+turn_of (Answers x) = turn.Answered (status_of x)
+turn_of (Closes closing) = turn.Closed closing
+
+-- the number of the status that a turn wrote, or none where it wrote nothing
+abbrev pub turn_status : Turn → Option ℕ
+turn_status (turn.Answered status) = Some status
+turn_status (turn.Closed closing) = closing_status closing
+
+abbrev pub IsAnswered : Turn → Type 0
+IsAnswered (turn.Answered status) = Unit {0}
+IsAnswered (turn.Closed closing) = ⊥
+
+abbrev pub IsClosed : Turn → Type 0
+IsClosed (turn.Answered status) = ⊥
+IsClosed (turn.Closed closing) = Unit {0}
+
+-- The next message was answered as the machine answers it, or the stream closed without one. Or a read failed before, and nothing was
+-- done; or a write failed, and a beginning was written.
+abbrev pub Turns :
+    Shown → Shown → ℕ → ℕ → Option (List ℕ) → Option (List ℕ) → Option (List ℕ) → Option (List ℕ) → Framing → Framing
+    → Result Turn Io → Type 0
+Turns old new before now unread unread_new written written_new held held_new (Ok turn) =
+    (first : First) × TakesNext held held_new unread unread_new first × GoesThrough old new before now (first_exchanges first)
+    × (turn ≡ turn_of first) × Appends written written_new (first_bytes first)
+Turns old new before now unread unread_new written written_new held held_new (Err io.Read) =
+    (bytes : List ℕ) × Consumes unread unread_new bytes × IsUnfinished (held.held ++ bytes) × GoesThrough old new before now []
+    × Keeps written written_new
+Turns old new before now unread unread_new written written_new held held_new (Err io.Write) =
+    (first : First) × TakesNext held held_new unread unread_new first × GoesThrough old new before now (first_exchanges first)
+    × WritesPart written written_new (first_bytes first)
+
+-- the stream ended after a turn: its status is told, or the flush failed; what failed is told as it is
+abbrev pub EndsBy : Result Turn Io → Result (Option ℕ) Io → Type 0
+EndsBy (Ok turn) (Ok status) = status ≡ turn_status turn
+EndsBy (Ok turn) (Err e) = e ≡ io.Write
+EndsBy (Err e) result = result ≡ Err e
 
 -- the messages at the front of the input were answered, and rest follows them
 pub record Answered
@@ -61,23 +140,12 @@ pub record CutShort
   pub begins : IsBeginning part (text_of last)
   pub appended : Appends written written_new (texts_of first ++ part)
 
--- all whole messages that are held were answered
-abbrev pub AnswersHeld :
-    Shown → Shown → ℕ → ℕ → Option (List ℕ) → Option (List ℕ) → Framing → Framing → Result Turn Io → Type 0
-AnswersHeld old new before now written written_new held held_new (Ok turn.Go) =
-    Answered old new before now written written_new held.held held_new.held × IsUnfinished held_new.held × (held_new.failure ≡ None)
-AnswersHeld old new before now written written_new held held_new (Ok (turn.Close closing)) =
-    (rest : List ℕ) × Answered old new before now written written_new held.held rest × ((more : List ℕ) → IsClosing (rest ++ more) closing)
-AnswersHeld old new before now written written_new held held_new (Err e) =
-    (e ≡ io.Write) × ((rest : List ℕ) × CutShort old new before now written written_new held.held rest)
-
--- so far: what was read is the messages answered and what the framer holds, which is no whole message
+-- so far: what was read is the messages answered and what the framer holds
 pub record SoFar
     (old new : Shown) (before now : ℕ) (unread unread_new written written_new : Option (List ℕ)) (framing : Framing) : Type 0 where
   pub got : List ℕ
   pub consumed : Consumes unread unread_new got
   pub answered : Answered old new before now written written_new got framing.held
-  pub unfinished : IsUnfinished framing.held
   pub sound : framing.failure ≡ None
 
 -- the writer got the whole text and was flushed, or a write or the flush failed

@@ -42,18 +42,21 @@
 //! A read or a write that is interrupted is made anew, a thousand times at most. A reader or a writer that fails gives
 //! [`Io`]: what was done before stays, and the contracts of [`answer_all`] and [`answer_one`] say what was written.
 //!
-//! A router reads the targets. [`answer_all`] makes one for its stream; a caller of many streams lends [`answer_one_with`] one for all.
+//! A stream is a [`Session`], and each message one turn of it: [`answer_all`] takes all turns of its stream, and [`answer_one`] the
+//! first. A router reads the targets. Both make one for their stream; a caller of many streams lends one to each turn.
 #![tactic(auto)]
 
 mod answer;
 mod ask;
 mod exchange;
 pub mod fault;
+mod incoming;
 pub mod laws;
 pub mod page;
 mod read;
-mod turn;
+mod session;
 pub mod write;
 
-pub use answer::{answer_all, answer_one, answer_one_with};
+pub use answer::{answer_all, answer_one};
 pub use fault::Io;
+pub use session::{Session, Turn, end_turn};

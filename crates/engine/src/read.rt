@@ -1,12 +1,11 @@
 //! Reading into the framer.
-ghost use Rattle.std.specs.Prelude.{◌≡◌, ℕ, ◌<◌, ◌≤◌, List, ◌++◌, None, length, take, IfOk, IfErr, OnErr};
+ghost use Rattle.std.specs.Prelude.{◌≡◌, ℕ, ◌<◌, ◌≤◌, List, ◌++◌, ◌+◌, None, length, take, IfOk, IfErr, OnErr};
 ghost use Rattle.std.specs.Io.KnownBytes.{Consumes, IsAtEnd, Keeps};
 ghost use Rattle.wire.specs.Framing.{IsUnfinished};
 ghost use Rattle.engine.specs.Served.{read_limit};
 ghost use Rattle.engine.specs.Turn.{ReadsOn, StaysNear};
 
 use crate::fault::Io;
-use crate::turn::Turn;
 use std::io::{ErrorKind, Read};
 use wire::Framer;
 use wire::reply::Fixed;
@@ -20,6 +19,15 @@ const READ_LIMIT: usize = 4_096;
 
 /// The most bytes of a read where more than that is missing of a message.
 const BODY_READ_LIMIT: usize = 65_536;
+
+/// What a read gave.
+#[derive(Clone, Copy, Drop)]
+pub(crate) enum Reading {
+    /// Bytes, which the framer holds.
+    GoesOn,
+    /// The stream is to be closed: by this reply, or by nothing at a good end.
+    Ends(Option<Fixed>),
+}
 
 /// Reads once; a call that is interrupted is made anew.
 fn read_some<R: Read>(reader: &mut R, chunk: &mut [u8]) -> Result<usize, Io>
@@ -42,29 +50,31 @@ fn read_some<R: Read>(reader: &mut R, chunk: &mut [u8]) -> Result<usize, Io>
 }
 
 /// Reads once, and feeds the framer what came. An end, and want of memory, close the stream.
-fn feed_some<R: Read>(reader: &mut R, framer: &mut Framer, chunk: &mut [u8]) -> Result<Turn, Io>
+fn feed_some<R: Read>(reader: &mut R, framer: &mut Framer, chunk: &mut [u8]) -> Result<Reading, Io>
     requires waits { IsUnfinished framer.old.held }
     requires room { 0 < length chunk.old }
     requires near { (bytes : List ℕ) → length bytes ≤ length chunk.old → StaysNear framer.old.held bytes }
-    ensures { ReadsOn framer.old framer.new (R.remaining reader.old) (R.remaining reader.new) result }
+    ensures on { ReadsOn framer.old framer.new (R.remaining reader.old) (R.remaining reader.new) result }
+    ensures few { length framer.new.held ≤ length framer.old.held + length chunk.old }
 {
     match read_some(reader, chunk)? {
-        0 if framer.is_empty() => Ok(Turn::Close(None)),
-        0 => Ok(Turn::Close(Some(Fixed::BadRequest))),
+        0 if framer.is_empty() => Ok(Reading::Ends(None)),
+        0 => Ok(Reading::Ends(Some(Fixed::BadRequest))),
         n => match framer.feed(&chunk[..n]) {
-            Ok(()) => Ok(Turn::Go),
-            Err(_) => Ok(Turn::Close(Some(Fixed::Unavailable))),
+            Ok(()) => Ok(Reading::GoesOn),
+            Err(_) => Ok(Reading::Ends(Some(Fixed::Unavailable))),
         },
     }
 }
 
 /// Reads once for a message that lacks more than one read takes, and reads no byte behind it.
 #[inline(never)]
-fn read_body<R: Read>(reader: &mut R, framer: &mut Framer, missing: usize) -> Result<Turn, Io>
+fn read_body<R: Read>(reader: &mut R, framer: &mut Framer, missing: usize) -> Result<Reading, Io>
     requires waits { IsUnfinished framer.old.held }
     requires long { read_limit < missing }
     requires missing { (bytes : List ℕ) → length bytes < missing → IsUnfinished (framer.old.held ++ bytes) }
-    ensures { ReadsOn framer.old framer.new (R.remaining reader.old) (R.remaining reader.new) result }
+    ensures on { ReadsOn framer.old framer.new (R.remaining reader.old) (R.remaining reader.new) result }
+    ensures few { length framer.new.held ≤ length framer.old.held + 65536 }
 {
     let mut chunk = [0; BODY_READ_LIMIT];
     let most = missing.min(BODY_READ_LIMIT);
@@ -72,9 +82,10 @@ fn read_body<R: Read>(reader: &mut R, framer: &mut Framer, missing: usize) -> Re
 }
 
 /// Reads once, and feeds the framer what came; while much of a message is missing, as much of it as comes.
-pub(crate) fn read_more<R: Read>(reader: &mut R, framer: &mut Framer) -> Result<Turn, Io>
+pub(crate) fn read_more<R: Read>(reader: &mut R, framer: &mut Framer) -> Result<Reading, Io>
     requires { IsUnfinished framer.old.held }
-    ensures { ReadsOn framer.old framer.new (R.remaining reader.old) (R.remaining reader.new) result }
+    ensures on { ReadsOn framer.old framer.new (R.remaining reader.old) (R.remaining reader.new) result }
+    ensures few { length framer.new.held ≤ length framer.old.held + 65536 }
 {
     let missing = framer.missing();
     if missing > READ_LIMIT {

@@ -3,8 +3,6 @@ ghost use Rattle.std.specs.Prelude.{◌≡◌, ◌≢◌, ◌<◌, ◌≤◌, �
 ghost use Rattle.std.specs.Io.KnownBytes.{Appends, Keeps};
 ghost use Rattle.wire.specs.Reply.{fixed_bytes, fixed_status, reply_bytes};
 ghost use Rattle.engine.specs.Reply.{page_bytes, page_status};
-ghost use Rattle.engine.specs.Served.{closing_bytes, closing_status};
-ghost use Rattle.engine.specs.Turn.{Delivers};
 ghost use Rattle.engine.specs.Written.{Writes};
 
 use crate::fault::Io;
@@ -81,7 +79,7 @@ fn write_joined<W: Write>(alloc: Global, writer: &mut W, head: &[u8], body: &[u8
 }
 
 /// Writes a fixed reply, with no memory, and answers its status.
-fn write_fixed<W: Write>(writer: &mut W, answer: Fixed) -> Result<StatusCode, Io>
+pub(crate) fn write_fixed<W: Write>(writer: &mut W, answer: Fixed) -> Result<StatusCode, Io>
     ensures bytes { Writes (W.contents writer.old) (W.contents writer.new) (fixed_bytes answer) result }
     ensures status { IfOk result (λ status. status ≡ fixed_status answer) }
 {
@@ -130,30 +128,5 @@ pub(crate) fn flush<W: Write>(writer: &mut W) -> Result<(), Io>
     match writer.flush() {
         Ok(()) => Ok(()),
         Err(_) => Err(Io::Write),
-    }
-}
-
-/// Closes a stream: by a fixed reply, or by nothing; and flushes.
-pub(crate) fn close<W: Write>(writer: &mut W, closing: Option<Fixed>) -> Result<(), Io>
-    ensures { Delivers (W.contents writer.old) (W.contents writer.new) (closing_bytes closing) result }
-{
-    if let Some(closing) = closing {
-        write_fixed(writer, closing)?;
-    }
-    flush(writer)
-}
-
-/// Closes a stream, and answers the number of the status that was written, if one was.
-pub(crate) fn close_first<W: Write>(
-    writer: &mut W,
-    closing: Option<Fixed>,
-) -> Result<Option<u16>, Io>
-    ensures bytes { Delivers (W.contents writer.old) (W.contents writer.new) (closing_bytes closing) result }
-    ensures status { IfOk result (λ status. status ≡ closing_status closing) }
-{
-    close(writer, closing)?;
-    match closing {
-        Some(closing) => Ok(Some(closing.status().as_u16())),
-        None => Ok(None),
     }
 }

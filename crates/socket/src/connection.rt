@@ -6,7 +6,7 @@ ghost use Rattle.engine.specs.Isolated.{AnswersByItsShelf};
 use crate::pace::{Paced, Part};
 use crate::rest::drop_rest;
 use crate::wait::{BoundRead, BoundWrite};
-use engine::{Io, answer_one_with};
+use engine::{Io, Session, end_turn};
 use std::alloc::Global;
 use std::io;
 use std::net::{TcpListener, TcpStream};
@@ -52,7 +52,9 @@ pub fn answer_in_time<C: Clock, R: BoundRead + Drop, W: BoundWrite + Drop, S: Sh
 {
     let mut request = Paced::new(reader, clock, Part::Message);
     let mut reply = Paced::new(writer, clock, Part::Message);
-    let told = answer_one_with(alloc, routes, &mut request, &mut reply, shelves);
+    let mut session = Session::new(alloc);
+    let turned = session.turn(routes, &mut request, &mut reply, shelves);
+    let told = end_turn(&mut reply, turned);
     Answered {
         reader: request.into_inner(),
         writer: reply.into_inner(),

@@ -1,5 +1,5 @@
 //! One connection after another.
-ghost use Rattle.socket.specs.Connections.{Answers, AnswersEach, GoesThroughMost};
+ghost use Rattle.socket.specs.Connections.{AnswersEach, GoesThroughMost};
 
 use crate::connection::{Listener, Peer};
 use std::alloc::Global;
@@ -29,24 +29,12 @@ pub fn serve_on<C: Clock, P: Peer + Drop, L: Listener<P>, S: Shelves>(
     let mut routes = RouteTable::new(alloc);
     for _ in 0..connections {
         match listener.accept() {
-            Ok(mut peer) => answer_on(alloc, clock, &mut routes, &mut peer, shelves),
+            Ok(mut peer) => {
+                if let Ok(Some(status)) = peer.answer(alloc, clock, &mut routes, shelves) {
+                    peer.end(clock, status);
+                }
+            }
             Err(_) => {}
         }
-    }
-}
-
-/// Answers one request of a peer, and ends its connection. What fails on it is told to nobody.
-fn answer_on<C: Clock, P: Peer, S: Shelves>(
-    alloc: Global,
-    clock: &C,
-    routes: &mut RouteTable,
-    peer: &mut P,
-    shelves: &mut S,
-)
-    ensures { Answers P.unread P.written peer.old (S.shown shelves.old) (S.shown shelves.new) (S.failure_count shelves.old)
-        (S.failure_count shelves.new) }
-{
-    if let Ok(Some(status)) = peer.answer(alloc, clock, routes, shelves) {
-        peer.end(clock, status);
     }
 }

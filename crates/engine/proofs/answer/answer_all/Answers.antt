@@ -1,26 +1,26 @@
 use Rattle.std.proofs.lemmas.Result.{err_from_is_err_and}
-use Rattle.engine.proofs.ServedLemmas.{so_far_none, closed_reading, went_on, closed_answering, cut_answering}
+use Rattle.engine.proofs.ServedLemmas.{so_far_none, went_on, closed, failed}
 use Rattle.engine.proofs.answer.answer_all.Goals as goal
 
-pub loop-init : goal.loop-init
-loop-init g c = rw c.new-framer.ensures (so_far_none _ _ _ _)
+pub loop-session-init : goal.loop-session-init
+loop-session-init g c = rw c.new-session.ensures (so_far_none _ _ _ _)
 
-pub returns-in-Close : goal.returns-in-Close
-returns-in-Close g c =
-    closed_reading _ _ _ _ _ _ _ _ c.loop.framer c.loop.invariant _ c.read_more.new.framer _ _ c.in-Close.closing _ (rw c.in-Close.is at c.in_ok-closing.ensures) c.close.ensures
+pub turn-requires : goal.turn-requires
+turn-requires g c = c.loop-session.invariant.sound
 
-pub returns-in_err-closing-2 : goal.returns-in_err-closing-2
-returns-in_err-closing-2 g c =
-    let returned = err_from_is_err_and c.from_residual-in_err-closing-2.result c.from_residual-in_err-closing-2.ensures.1 in
-    rw (returned.1, returned.2)
-    (cut_answering _ _ _ _ _ _ _ _ c.loop.framer c.loop.invariant _ c.read_more.new.framer _ _ _ c.answer_held.new.framer (rw c.in_default.is at c.in_ok-closing.ensures) _ _ c.in_err-closing-2.ensures)
+pub returns-in_err-turn : goal.returns-in_err-turn
+returns-in_err-turn g c =
+    let returned = err_from_is_err_and c.from_residual.result c.from_residual.ensures.1 in
+    rw (returned.1, returned.2) (failed _ _ _ _ _ _ _ _ _ c.loop-session.invariant _ _ _ _ c.turn.new.self.framer _ c.in_err-turn.ensures.turns)
 
-pub returns-in-Close-2 : goal.returns-in-Close-2
-returns-in-Close-2 g c =
-    closed_answering _ _ _ _ _ _ _ _ c.loop.framer c.loop.invariant _ c.read_more.new.framer _ _ _ c.answer_held.new.framer (rw c.in_default.is at c.in_ok-closing.ensures) _ _ c.in-Close-2.closing _
-    (rw c.in-Close-2.is at c.in_ok-closing-2.ensures) c.close-in-Close-2.ensures
+pub returns-in-Closed : goal.returns-in-Closed
+returns-in-Closed g c = closed
+    _ _ _ _ _ _ _ _ _ c.loop-session.invariant _ _ _ _ c.turn.new.self.framer c.in-Closed.field-0 _ _ (rw c.in-Closed.is at c.in_ok-turn.ensures.turns)
+    c.flush.ensures.bytes c.flush.ensures.which
 
-pub loop-preserved : goal.loop-preserved
-loop-preserved g c =
-    went_on _ _ _ _ _ _ _ _ c.loop.framer c.loop.invariant _ c.read_more.new.framer _ _ _ c.answer_held.new.framer (rw c.in_default.is at c.in_ok-closing.ensures)
-    (rw c.in_default-2.is at c.in_ok-closing-2.ensures)
+pub loop-session-preserved : goal.loop-session-preserved
+loop-session-preserved g c = went_on
+    _ _ _ _ _ _ _ _ _ c.loop-session.invariant _ _ _ _ c.turn.new.self.framer c.in_default.field-0 (rw c.in_default.is at c.in_ok-turn.ensures.turns)
+
+pub loop-session-smaller : goal.loop-session-smaller
+loop-session-smaller g c = (rw c.in_default.is at c.in_ok-turn.ensures.falls) tt

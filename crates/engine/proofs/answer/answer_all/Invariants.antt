@@ -1,9 +1,12 @@
-use Rattle.engine.specs.Turn.{SoFar}
+use Rattle.engine.specs.Turn.{SoFar, work}
 use Rattle.engine.proofs.answer.answer_all.Given as goal
 
-abbrev pub invariant-loop : goal.invariant-loop
-invariant-loop g l =
+abbrev pub invariant-loop-session : goal.invariant-loop-session
+invariant-loop-session g l =
     let s = g.S.Shelves in
     SoFar (s.shown l.fn.shelves) (s.shown l.shelves) (s.failure_count l.fn.shelves) (s.failure_count l.shelves)
     (g.R.Read.remaining l.fn.reader) (g.R.Read.remaining l.reader)
-    (g.W.Write.contents l.fn.writer) (g.W.Write.contents l.writer) l.framer
+    (g.W.Write.contents l.fn.writer) (g.W.Write.contents l.writer) l.session.framer
+
+abbrev pub decreases-loop-session : goal.decreases-loop-session
+decreases-loop-session g l = work l.session.reads l.session.framer.held

@@ -1,19 +1,19 @@
 use Rattle.std.proofs.Common.{◌≢◌, ℕ, ◌<◌, ◌≤◌, [], ◌++◌, length, take, sym, arith, ◌∙◌, append-nil}
 use Rattle.std.proofs.lemmas.Bool.{false≢true}
 use Rattle.std.specs.Io.KnownBytes.{Consumes}
-use Rattle.engine.proofs.ReadLemmas.{Tells_end, ends_badly, some_came, are_some, are_few}
+use Rattle.engine.proofs.ReadLemmas.{Tells_end, ends_badly, some_came, are_some, are_few, fed_few}
 use Rattle.engine.proofs.ServedLemmas.{left_of, Tells_left, Tells_after}
 use Rattle.engine.proofs.read.feed_some.Goals as goal
 
-pub returns-in-0-2 : goal.returns-in-0-2
-returns-in-0-2 g c =
+pub returns-in-0-2-clause-on : goal.returns-in-0-2-clause-on
+returns-in-0-2-clause-on g c =
     let ok : Consumes _ _ [] = rw c.in-0.is at c.in_ok-n.ensures.ok in
     let some : c.args.framer.now.held ≢ [] = λ e. false≢true (sym c.if-is_empty.false ∙ c.is_empty.ensures.1 e) in
     let none : length {A = ℕ} [] ≤ length c.args.chunk.now = omega arith in
     ([], ok, c.requires.near [] none, ([], Tells_end _ _ ok (c.in_ok-n.ensures.end c.in-0.is), ends_badly _ c.requires.waits some), λ same. cc)
 
-pub returns-in-Err : goal.returns-in-Err
-returns-in-Err g c =
+pub returns-in-Err-clause-on : goal.returns-in-Err-clause-on
+returns-in-Err-clause-on g c =
     let n = c.in_ok-n.n in
     let left = left_of (g.R.Read.remaining c.read_some.new.reader) in
     let came = take n c.read_some.new.chunk in
@@ -26,15 +26,22 @@ returns-in-Err g c =
       λ same. are_some _ n some within,
     )
 
-pub returns-in-Ok : goal.returns-in-Ok
-returns-in-Ok g c =
+pub returns-in-Ok-clause-on : goal.returns-in-Ok-clause-on
+returns-in-Ok-clause-on g c =
     let n = c.in_ok-n.n in
     let came = take n c.read_some.new.chunk in
     (came, c.in_ok-n.ensures.ok, c.requires.near came (are_few c.read_some.new.chunk n (length c.args.chunk.now) c.in_ok-n.ensures.within (omega (arith, c.in_ok-n.ensures.room))), c.in-Ok.ensures.ok)
 
-pub returns-in-0 : goal.returns-in-0
-returns-in-0 g c =
+pub returns-in-0-clause-on : goal.returns-in-0-clause-on
+returns-in-0-clause-on g c =
     let ok : Consumes _ _ [] = rw c.in-0.is at c.in_ok-n.ensures.ok in
     let held = append-nil c.args.framer.now.held ∙ c.is_empty.ensures.0 c.if-is_empty.true in
     let none : length {A = ℕ} [] ≤ length c.args.chunk.now = omega arith in
     ([], ok, c.requires.near [] none, ([], Tells_end _ _ ok (c.in_ok-n.ensures.end c.in-0.is), held), λ same. cc)
+
+pub returns-in-Ok-clause-few : goal.returns-in-Ok-clause-few
+returns-in-Ok-clause-few g c =
+    let n = c.in_ok-n.n in
+    let came = take n c.read_some.new.chunk in
+    fed_few _ _ came (length c.args.chunk.now) c.in-Ok.ensures.ok
+    (are_few c.read_some.new.chunk n (length c.args.chunk.now) c.in_ok-n.ensures.within (omega (arith, c.in_ok-n.ensures.room)))

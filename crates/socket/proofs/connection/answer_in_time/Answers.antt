@@ -1,4 +1,15 @@
+use Rattle.std.proofs.Common.{ap}
+use Rattle.wire.specs.Framing.{Framing}
+use Rattle.engine.proofs.FirstLemmas.{first_turned}
+use Rattle.engine.proofs.IsolationLemmas.{alike}
 use Rattle.socket.proofs.connection.answer_in_time.Goals as goal
 
+pub returns-clause-serves : goal.returns-clause-serves
+returns-clause-serves g c = rw (c.into_inner.ensures, c.into_inner-2.ensures) (first_turned
+    _ _ _ _ _ _ _ _ _ c.new-session.result.framer c.turn-turned.new.self.framer c.turn-turned.result _
+    (ap (λ (f : Framing). f.held) c.new-session.ensures)
+    (rw (c.new-request.ensures, c.new-reply.ensures) at c.turn-turned.ensures.turns)
+    c.end_turn-told.ensures.bytes c.end_turn-told.ensures.told)
+
 pub returns-clause-isolated : goal.returns-clause-isolated
-returns-clause-isolated g c = rw c.into_inner-2.ensures (rw (c.new-request.ensures, c.new-reply.ensures) at c.answer_one_with-told.ensures.isolated)
+returns-clause-isolated g c = alike _ _ _ _ _ _ _ _ (g.met.S.Shelves.sound c.args.shelves.now) _ (returns-clause-serves g c)

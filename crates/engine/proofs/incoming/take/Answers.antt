@@ -1,5 +1,7 @@
+use Rattle.std.proofs.Common.{refl}
+use Rattle.wire.proofs.StreamLemmas.{unfinished_nothing}
 use Rattle.engine.proofs.ReadLemmas.{message_some}
-use Rattle.engine.proofs.turn.take.Goals as goal
+use Rattle.engine.proofs.incoming.take.Goals as goal
 
 pub returns-in-Ok-Bad-BadRequest : goal.returns-in-Ok-Bad-BadRequest
 returns-in-Ok-Bad-BadRequest c =
@@ -11,3 +13,6 @@ returns-in-Ok-Bad-TooLarge c =
 
 pub returns-in-Err : goal.returns-in-Err
 returns-in-Err c = (message_some _ c.in-Err.ensures.whole, λ same. c.in-Err.ensures.whole)
+
+pub returns-then-is_empty : goal.returns-then-is_empty
+returns-then-is_empty c = (unfinished_nothing _ (c.is_empty.ensures.0 c.if-is_empty.true), refl)

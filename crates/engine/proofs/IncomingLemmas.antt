@@ -1,0 +1,105 @@
+-- What is read until the next message is whole.
+use Rattle.std.proofs.Common.{◌≡◌, ℕ, ◌<◌, ◌≤◌, ◌+◌, List, [], ◌++◌, Option, Some, None, Ok, Err, length, refl, sym, ap, ◌∙◌, subst, arith, append_assoc, append-nil}
+use Rattle.std.specs.Io.KnownBytes.{Consumes}
+use Rattle.std.proofs.KnownBytes.{Consumes-nil, Consumes-trans, Consumes-kept}
+use Rattle.wire.specs.Message.{ReadsMessage}
+use Rattle.wire.specs.Framing.{Framing, IsUnfinished, view}
+use Rattle.wire.specs.declared.message.Message.{Message}
+use Rattle.wire.specs.declared.reply.Fixed.{Fixed}
+use Rattle.engine.specs.First.{Answers, Closes}
+use Rattle.engine.specs.Served.{IsClosing}
+use Rattle.engine.specs.Exchange.{Exchange}
+use Rattle.engine.specs.Turn.{StaysNear, ReadsOn, Takes, work, ReadSoFar, TakesNext, Comes}
+use Rattle.engine.specs.declared.fault.Io.{Io}
+use Rattle.engine.specs.declared.fault.Io.TheVariants as io
+use Rattle.engine.specs.declared.incoming.Incoming.TheVariants as incoming
+use Rattle.engine.specs.declared.incoming.Taken.TheVariants as taken
+use Rattle.engine.specs.declared.read.Reading.TheVariants as reading
+use Rattle.engine.proofs.MessageLemmas.{message_shortens}
+use Rattle.engine.proofs.ReadLemmas.{near_few}
+use Rattle.engine.proofs.ServedLemmas.{left_of, Tells_left, Tells_after}
+
+-- nothing was read
+pub none_read : (held : Framing) (unread : Option (List ℕ)) (reads : ℕ) → held.failure ≡ None → ReadSoFar held held unread unread reads reads
+none_read held unread reads sound = record {
+  bytes = [];
+  consumed = Consumes-nil unread;
+  near = λ waits. near_few held.held [] waits (omega arith);
+  held = sym (append-nil held.held);
+  sound = sound;
+  less = omega arith;
+}
+
+module _
+    (old now : Framing) (u₀ u₁ : Option (List ℕ)) (reads reads_now : ℕ) (far : ReadSoFar old now u₀ u₁ reads reads_now) where
+  -- bytes behind those that are held now stand behind those that were held at first
+  behind : (more : List ℕ) → now.held ++ more ≡ old.held ++ (far.bytes ++ more)
+  behind more = ap (λ (held : List ℕ). held ++ more) far.held ∙ append_assoc old.held far.bytes more
+
+  near_now : (bytes : List ℕ) → StaysNear now.held bytes → IsUnfinished old.held → StaysNear old.held (far.bytes ++ bytes)
+  near_now bytes near waits = record {
+    early = far.bytes ++ near.early;
+    late = near.late;
+    cut = ap (λ (came : List ℕ). far.bytes ++ came) near.cut ∙ sym (append_assoc far.bytes near.early near.late);
+    unfinished = subst IsUnfinished (behind near.early) near.unfinished;
+    few = near.few;
+  }
+
+  -- a message is whole
+  pub message_comes : (new : Framing) (message : Message) → Takes now (taken.Message message) new
+      → Comes old new reads reads_now u₀ u₁ (Ok (incoming.Message message))
+  message_comes new message (reads_it, sound) =
+      let shorter : length new.held < length now.held = message_shortens now.held (view message) new.held reads_it in
+      (far.bytes, far.consumed, far.near, subst (λ (bytes : List ℕ). ReadsMessage bytes (view message) new.held) far.held reads_it, sound, omega (arith, shorter, far.less))
+
+  -- nothing that is held can go on
+  pub close_comes : (new : Framing) (closing : Fixed) → Takes now (taken.Close closing) new
+      → Comes old new reads reads_now u₀ u₁ (Ok (incoming.End (Some closing)))
+  close_comes new closing (closes, memory) = record {
+    bytes = far.bytes;
+    consumed = far.consumed;
+    near = far.near;
+    stands = (far.bytes ++ left_of u₁, Tells_after u₀ u₁ far.bytes (left_of u₁) far.consumed (Tells_left u₁), subst (λ (bytes : List ℕ). IsClosing bytes (Some closing)) (behind (left_of u₁)) (closes (left_of u₁)));
+  }
+
+  -- no read is left
+  pub no_read_left : (new : Framing) → IsUnfinished now.held → Comes old new reads reads_now u₀ u₁ (Err io.Read)
+  no_read_left new waits = (refl, (far.bytes, far.consumed, subst IsUnfinished far.held waits))
+
+  module _ (u₂ : Option (List ℕ)) (next : Framing) where
+    -- a read failed
+    pub read_fails : (e : Io) (left : ℕ) → IsUnfinished now.held → ReadsOn now next u₁ u₂ (Err e) → Comes old next reads left u₀ u₂ (Err e)
+    read_fails e left waits (is, keeps) =
+        (is, (far.bytes, Consumes-kept u₀ u₁ u₂ far.bytes far.consumed keeps, subst IsUnfinished far.held waits))
+
+    -- the read ended the stream
+    pub end_comes : (closing : Option Fixed) (left : ℕ) → ReadsOn now next u₁ u₂ (Ok (reading.Ends closing))
+        → Comes old next reads left u₀ u₂ (Ok (incoming.End closing))
+    end_comes closing left (bytes, consumes, near, (all, told, closes), some) = record {
+      bytes = far.bytes ++ bytes;
+      consumed = Consumes-trans u₀ u₁ u₂ far.bytes bytes far.consumed consumes;
+      near = near_now bytes near;
+      stands = (far.bytes ++ all, Tells_after u₀ u₁ far.bytes all far.consumed told, subst (λ (bytes : List ℕ). IsClosing bytes closing) (behind all) closes);
+    }
+
+    -- the read gave more bytes
+    pub more_read : (left : ℕ) → left + 1 ≡ reads_now → ReadsOn now next u₁ u₂ (Ok reading.GoesOn)
+        → length next.held ≤ length now.held + 65536 → ReadSoFar old next u₀ u₂ reads left
+    more_read left one (bytes, consumes, near, is) few = record {
+      bytes = far.bytes ++ bytes;
+      consumed = Consumes-trans u₀ u₁ u₂ far.bytes bytes far.consumed consumes;
+      near = near_now bytes near;
+      held = ap (λ (f : Framing). f.held) is ∙ behind bytes;
+      sound = ap (λ (f : Framing). f.failure) is ∙ far.sound;
+      less = omega (arith, one, few, far.less);
+    }
+
+-- a message that came stands next, with what becomes of it
+pub message_next : (old new : Framing) (reads left : ℕ) (u u' : Option (List ℕ)) (message : Message) (x : Exchange) → x.message ≡ view message
+    → Comes old new reads left u u' (Ok (incoming.Message message)) → TakesNext old new u u' (Answers x)
+message_next old new reads left u u' message x is (bytes, consumed, near, reads_it, sound, less) = record {
+  bytes = bytes;
+  consumed = consumed;
+  near = near;
+  stands = (subst (λ m. ReadsMessage (old.held ++ bytes) m new.held) (sym is) reads_it, sound);
+}

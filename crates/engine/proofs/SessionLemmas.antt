@@ -1,0 +1,59 @@
+-- What a turn says, from what came.
+use Rattle.std.proofs.Common.{◌≡◌, ℕ, ◌<◌, List, [], ◌∷◌, ◌++◌, Option, Result, Ok, Err, IfOk, IfErr, refl, sym, subst}
+use Rattle.std.proofs.KnownBytes.{Keeps-refl}
+use Rattle.wire.specs.Message.{Request}
+use Rattle.wire.specs.Framing.{Framing, view}
+use Rattle.wire.specs.declared.message.Message.{Message}
+use Rattle.wire.specs.declared.reply.Fixed.{Fixed}
+use Rattle.world.specs.Store.{Shown}
+use Rattle.engine.specs.Exchange.{Exchange}
+use Rattle.engine.specs.First.{Answers, Closes}
+use Rattle.engine.specs.Reply.{page_bytes, page_status, page_to, text_of, status_of}
+use Rattle.engine.specs.Served.{closing_bytes}
+use Rattle.engine.specs.Store.{GoesThrough}
+use Rattle.engine.specs.Turn.{Comes, Turns, IsAnswered, work}
+use Rattle.engine.specs.Written.{Writes}
+use Rattle.engine.specs.declared.fault.Io.{Io}
+use Rattle.engine.specs.declared.fault.Io.TheVariants as io
+use Rattle.engine.specs.declared.incoming.Incoming.TheVariants as incoming
+use Rattle.engine.specs.declared.page.Page.{Page}
+use Rattle.engine.specs.declared.session.Turn.{Turn}
+use Rattle.engine.specs.declared.session.Turn.TheVariants as turn
+use Rattle.engine.proofs.IncomingLemmas.{message_next}
+use Rattle.engine.proofs.StoreLemmas.{through_none}
+
+module _ (u u' w w' : Option (List ℕ)) (held held_new : Framing) (reads left : ℕ) where
+  -- a message came, and its reply was written
+  pub turned_message : (old new : Shown) (before now : ℕ) (message : Message) (x : Exchange) (result : Result Turn Io) → x.message ≡ view message
+      → Comes held held_new reads left u u' (Ok (incoming.Message message)) → GoesThrough old new before now (x ∷ [])
+      → Writes w w' (text_of x) result → IfOk result (λ t. t ≡ turn.Answered (status_of x))
+      → Turns old new before now u u' w w' held held_new result
+  turned_message old new before now message x (Ok t) same comes through writes is =
+      (Answers x, message_next held held_new reads left u u' message x same comes, through, is, writes)
+  turned_message old new before now message x (Err io.Read) same comes through (wrong, part) is = cc
+  turned_message old new before now message x (Err io.Write) same comes through (_, part) is =
+      (Answers x, message_next held held_new reads left u u' message x same comes, through, part)
+
+  -- so it was where the reply is this page
+  pub turned_page : (old new : Shown) (before now : ℕ) (message : Message) (x : Exchange) (page : Page) (result : Result Turn Io)
+      → x.message ≡ view message → Comes held held_new reads left u u' (Ok (incoming.Message message)) → GoesThrough old new before now (x ∷ [])
+      → page ≡ page_to x → Writes w w' (page_bytes page) result → IfOk result (λ t. t ≡ turn.Answered (page_status page))
+      → Turns old new before now u u' w w' held held_new result
+  turned_page old new before now message x page result same comes through shown writes is = turned_message
+      old new before now message x result same comes through (subst (λ (p : Page). Writes w w' (page_bytes p) result) shown writes)
+      (subst (λ (p : Page). IfOk result (λ t. t ≡ turn.Answered (page_status p))) shown is)
+
+  -- none came, and the stream was closed
+  pub turned_end : (shown : Shown) (count : ℕ) (closing : Option Fixed) (result : Result Turn Io)
+      → Comes held held_new reads left u u' (Ok (incoming.End closing)) → Writes w w' (closing_bytes closing) result
+      → IfOk result (λ t. t ≡ turn.Closed closing) → Turns shown shown count count u u' w w' held held_new result
+  turned_end shown count closing (Ok t) comes writes is = (Closes closing, comes, through_none shown count, is, writes)
+  turned_end shown count closing (Err io.Read) comes (wrong, part) is = cc
+  turned_end shown count closing (Err io.Write) comes (_, part) is = (Closes closing, comes, through_none shown count, part)
+
+-- a read failed
+pub turned_unread : (shown : Shown) (count : ℕ) (u u' w : Option (List ℕ)) (held held_new : Framing) (reads left : ℕ) (e : Io) (result : Result Turn Io)
+    → Comes held held_new reads left u u' (Err e) → result ≡ Err e → Turns shown shown count count u u' w w held held_new result
+turned_unread shown count u u' w held held_new reads left io.Read result (_, (bytes, consumed, waits)) is =
+    subst (Turns shown shown count count u u' w w held held_new) (sym is) (bytes, consumed, waits, through_none shown count, Keeps-refl w)
+turned_unread shown count u u' w held held_new reads left io.Write result (wrong, _) is = cc

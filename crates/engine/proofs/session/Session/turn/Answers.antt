@@ -1,0 +1,39 @@
+use Rattle.std.proofs.Common.{◌≡◌, refl, ap, ◌∙◌, subst}
+use Rattle.std.proofs.lemmas.Result.{err_from_is_err_and}
+use Rattle.wire.specs.Framing.{view}
+use Rattle.engine.specs.Ask.{ask_of, sum_of, sum_by}
+use Rattle.engine.specs.Exchange.{Exchange, Unserved, answer_to}
+use Rattle.engine.specs.Reply.{answer_page, IsOutcome}
+use Rattle.engine.proofs.AskLemmas.{sum_asked}
+use Rattle.engine.proofs.SessionLemmas.{turned_message, turned_page, turned_end, turned_unread}
+use Rattle.engine.proofs.StoreLemmas.{through_asked, through_unasked}
+use Rattle.engine.proofs.session.Session.turn.Goals as goal
+
+pub returns-in_err-message-clause-turns : goal.returns-in_err-message-clause-turns
+returns-in_err-message-clause-turns g c =
+    let returned = err_from_is_err_and c.from_residual.result c.from_residual.ensures.1 in
+    rw (returned.1, returned.2) (turned_unread _ _ _ _ _ _ _ c.args.self.now.reads c.next_message.new.reads _ _ c.in_err-message.ensures refl)
+
+pub returns-in_default-clause-turns : goal.returns-in_default-clause-turns
+returns-in_default-clause-turns g c =
+    let x : Exchange = record { message = view c.in-Message.message; outcome = Unserved } in
+    turned_message _ _ _ _ _ _ _ _ _ _ _ _ c.in-Message.message x _ refl (rw c.in-Message.is at c.in_ok-message.ensures)
+    (through_unasked _ _ _ (g.met.S.Shelves.wider c.args.shelves.now)) c.answer_with.ensures.bytes c.answer_with.ensures.turn
+
+pub returns-in-Ok-clause-turns : goal.returns-in-Ok-clause-turns
+returns-in-Ok-clause-turns g c =
+    let m = view c.in-Message.message in
+    let asking = c.in-Ok.asking in
+    let ask : asking.ask ≡ ask_of m = ap (λ a. a.ask) c.in-Ok.ensures in
+    let sum : sum_by asking ≡ sum_of m = ap sum_by c.in-Ok.ensures ∙ sum_asked m in
+    let (outcome, is, shown) = c.page_told-page.ensures in
+    let x : Exchange = record { message = m; outcome = outcome } in
+    let is_one = subst (λ at. IsOutcome at c.step-told.result outcome) sum is in
+    let step = c.step-told.ensures in
+    turned_page _ _ _ _ _ _ _ _ _ _ _ _ c.in-Message.message x c.page_told-page.result _ refl (rw c.in-Message.is at c.in_ok-message.ensures)
+    (through_asked _ _ _ _ m asking.ask ask c.step-told.result outcome is_one step.does step.cause)
+    (shown ∙ ap (λ at. answer_page at (answer_to outcome)) sum) c.answer_with-in-Message.ensures.bytes c.answer_with-in-Message.ensures.turn
+
+pub returns-in-End-clause-turns : goal.returns-in-End-clause-turns
+returns-in-End-clause-turns g c = turned_end
+    _ _ _ _ _ _ c.args.self.now.reads c.next_message.new.reads _ _ c.in-End.closing _ (rw c.in-End.is at c.in_ok-message.ensures) c.close_by.ensures.bytes c.close_by.ensures.turn

@@ -1,0 +1,71 @@
+//! What comes next on a stream.
+ghost use Rattle.std.specs.Prelude.{◌≡◌, None};
+ghost use Rattle.engine.specs.Turn.{Comes, Takes};
+
+use crate::fault::Io;
+use crate::read::{Reading, read_more};
+use std::io::Read;
+use wire::reply::Fixed;
+use wire::{Bad, Framer, Message, Next};
+
+/// What the bytes that a framer holds begin with.
+#[derive(Drop)]
+pub(crate) enum Taken {
+    Message(Message),
+    /// No whole message yet.
+    More,
+    /// Nothing that can go on: this reply closes the stream.
+    Close(Fixed),
+}
+
+/// What comes next on a stream.
+#[derive(Drop)]
+pub(crate) enum Incoming {
+    Message(Message),
+    /// No message: the stream is to be closed, by this reply, or by nothing at a good end.
+    End(Option<Fixed>),
+}
+
+/// Takes the next message from the framer.
+/// One that holds nothing is not asked, since a stream begins with that.
+fn take(framer: &mut Framer) -> Taken
+    requires { framer.old.failure ≡ None }
+    ensures { Takes framer.old result framer.new }
+{
+    if framer.is_empty() {
+        return Taken::More;
+    }
+    match framer.next() {
+        Ok(Next::Message(message)) => Taken::Message(message),
+        Ok(Next::NeedMore) => Taken::More,
+        Ok(Next::Bad(Bad::BadRequest)) => Taken::Close(Fixed::BadRequest),
+        Ok(Next::Bad(Bad::TooLarge)) => Taken::Close(Fixed::TooLarge),
+        Err(_) => Taken::Close(Fixed::Unavailable),
+    }
+}
+
+/// Takes the next message of a stream, and reads until it is whole; or returns what closes the stream. `Io::Read` if a read
+/// failed, or no read is left.
+pub(crate) fn next_message<R: Read>(
+    reader: &mut R,
+    framer: &mut Framer,
+    reads: &mut u64,
+) -> Result<Incoming, Io>
+    requires { framer.old.failure ≡ None }
+    ensures { Comes framer.old framer.new reads.old reads.new (R.remaining reader.old) (R.remaining reader.new) result }
+{
+    loop {
+        match take(framer) {
+            Taken::Message(message) => return Ok(Incoming::Message(message)),
+            Taken::More => {}
+            Taken::Close(closing) => return Ok(Incoming::End(Some(closing))),
+        }
+        if *reads == 0 {
+            return Err(Io::Read);
+        }
+        *reads -= 1;
+        if let Reading::Ends(closing) = read_more(reader, framer)? {
+            return Ok(Incoming::End(closing));
+        }
+    }
+}

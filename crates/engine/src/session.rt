@@ -1,0 +1,131 @@
+//! A stream of requests, and what answers it.
+ghost use Rattle.std.specs.Prelude.{◌≡◌, ◌<◌, [], None, IfOk, IfErr};
+ghost use Rattle.std.specs.Io.KnownBytes.{Keeps};
+ghost use Rattle.engine.specs.Reply.{page_bytes, page_status};
+ghost use Rattle.engine.specs.Served.{closing_bytes};
+ghost use Rattle.engine.specs.Turn.{EndsBy, IsAnswered, IsClosed, Turns, turn_status, work};
+ghost use Rattle.engine.specs.Written.{Writes};
+
+use crate::ask::asking_of;
+use crate::exchange::page_told;
+use crate::fault::Io;
+use crate::incoming::{Incoming, next_message};
+use crate::page::Page;
+use crate::write::{flush, write_fixed, write_page};
+use shelf::step::step;
+use std::alloc::Global;
+use std::io::{Read, Write};
+use wire::reply::Fixed;
+use wire::{Framer, RouteTable};
+use world::shelves::Shelves;
+
+/// What a turn did.
+#[derive(Clone, Copy, Drop)]
+pub enum Turn {
+    /// A message was answered, with this number of a status.
+    Answered(u16),
+    /// The stream was closed: by this reply, or by nothing at a good end.
+    Closed(Option<Fixed>),
+}
+
+impl Turn {
+    /// The number of the status that was written, or None if nothing was.
+    fn number(self) -> Option<u16>
+        ensures { result ≡ turn_status self }
+    {
+        match self {
+            Turn::Answered(status) => Some(status),
+            Turn::Closed(Some(closing)) => Some(closing.status().as_u16()),
+            Turn::Closed(None) => None,
+        }
+    }
+}
+
+/// Writes the reply to a message, and returns the turn that it was.
+fn answer_with<W: Write>(alloc: Global, writer: &mut W, page: Page) -> Result<Turn, Io>
+    ensures bytes { Writes (W.contents writer.old) (W.contents writer.new) (page_bytes page) result }
+    ensures turn { IfOk result (λ turn. turn ≡ Turn.Answered (page_status page)) }
+{
+    let status = write_page(alloc, writer, &page)?;
+    Ok(Turn::Answered(status.as_u16()))
+}
+
+/// Closes a stream: by a fixed reply, or by nothing.
+fn close_by<W: Write>(writer: &mut W, closing: Option<Fixed>) -> Result<Turn, Io>
+    ensures bytes { Writes (W.contents writer.old) (W.contents writer.new) (closing_bytes closing) result }
+    ensures turn { IfOk result (λ turn. turn ≡ Turn.Closed closing) }
+{
+    if let Some(closing) = closing {
+        write_fixed(writer, closing)?;
+    }
+    Ok(Turn::Closed(closing))
+}
+
+/// Flushes what a turn wrote, and returns the number of its status, or None if nothing was written. `Io::Write` if the flush
+/// failed. A turn that failed is returned as it is.
+pub fn end_turn<W: Write>(writer: &mut W, turned: Result<Turn, Io>) -> Result<Option<u16>, Io>
+    ensures bytes { Keeps (W.contents writer.old) (W.contents writer.new) }
+    ensures told { EndsBy turned result }
+{
+    let turn = turned?;
+    flush(writer)?;
+    Ok(turn.number())
+}
+
+/// A stream of requests that is answered: what was read of it, but for the messages that were answered.
+#[derive(Drop)]
+pub struct Session {
+    pub(crate) alloc: Global,
+    pub(crate) framer: Framer,
+    /// How many reads are left. A stream that has had `u64::MAX` of them fails as one that can't be read.
+    pub(crate) reads: u64,
+}
+
+impl Session {
+    /// A session at the begin of a stream.
+    pub fn new(alloc: Global) -> Session
+        ensures { result.framer ≡ record { held = []; failure = None } }
+    {
+        Session {
+            alloc,
+            framer: Framer::new(alloc),
+            reads: u64::MAX,
+        }
+    }
+
+    /// Takes one turn: answers the next message of the stream, or closes the stream where none comes. It reads no more than it
+    /// needs: before the last read no message was whole. It does not flush. The router is lent, so that a caller makes one for
+    /// many streams.
+    ///
+    /// `Io::Read`: nothing was done, and nothing written. `Io::Write`: a beginning of the text was written; the shelves are as
+    /// after the message.
+    pub fn turn<R: Read, W: Write, S: Shelves>(
+        &mut self,
+        routes: &mut RouteTable,
+        reader: &mut R,
+        writer: &mut W,
+        shelves: &mut S,
+    ) -> Result<Turn, Io>
+        requires { self.old.framer.failure ≡ None }
+        ensures turns { Turns (S.shown shelves.old) (S.shown shelves.new) (S.failure_count shelves.old) (S.failure_count shelves.new)
+            (R.remaining reader.old) (R.remaining reader.new) (W.contents writer.old) (W.contents writer.new)
+            self.old.framer self.new.framer result }
+        // Where there was no message, or it was not read whole, the shelves were not touched.
+        ensures empty { IfOk result (λ turn. IsClosed turn → shelves.new ≡ shelves.old) }
+        ensures unread { IfErr result (λ e. e ≡ Io.Read → shelves.new ≡ shelves.old) }
+        ensures falls { IfOk result (λ turn. IsAnswered turn
+            → work self.new.reads self.new.framer.held < work self.old.reads self.old.framer.held) }
+    {
+        match next_message(reader, &mut self.framer, &mut self.reads)? {
+            Incoming::Message(message) => {
+                let Ok(asking) = asking_of(routes, message) else {
+                    return answer_with(self.alloc, writer, Page::Fixed(Fixed::Unavailable));
+                };
+                let told = step(self.alloc, shelves, &asking.ask);
+                let page = page_told(self.alloc, &asking, told);
+                answer_with(self.alloc, writer, page)
+            }
+            Incoming::End(closing) => close_by(writer, closing),
+        }
+    }
+}

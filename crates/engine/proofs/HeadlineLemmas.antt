@@ -24,15 +24,21 @@ use Rattle.shelf.proofs.Latest.{latest_is_the_top, none_is_latest}
 use Rattle.shelf.proofs.Served.{stays_served}
 use Rattle.engine.specs.Ask as spec
 use Rattle.engine.specs.Exchange.{event_of, answer_of}
-use Rattle.engine.specs.Happening.{Coming, event_in, coming_of, event_at, answer_at, told}
+use Rattle.engine.specs.Happening.{Coming, Happening, event_in, text_in, coming_of, event_at, answer_at, told}
 use Rattle.engine.specs.Reply.{reply_page, page_of, page_for, page_bytes, page_status, bytes_of, text_of}
 use Rattle.engine.specs.Headline.{unavailable, CallersAreToldAlike, BytesStayServed, TellsLatest, LatestIsWritten}
-use Rattle.engine.proofs.ToldLemmas.{texts, events_are, told_events, told_texts, marked_events, marked_texts, IsExact, exact}
+use Rattle.engine.proofs.ToldLemmas.{text_to, texts, events_are, told_events, told_texts, marked_events, marked_texts, IsExact, exact}
 
 -- ---- nothing of others
 
-pub callers_are_told_alike : CallersAreToldAlike
-callers_are_told_alike old old_too new new_too s full purged is agree run again same =
+-- by whatever text there is for what came and its answer
+pub told_alike_by : (text_for : Coming → Answer → List ℕ) (old old_too new new_too : World) (s : List ℕ) (full purged : List Happening) → IsWorld old
+    → Agree old old_too (chain new s)
+    → Run old (map event_at full) (map answer_at full) new → Run old_too (map event_at purged) (map answer_at purged) new_too
+    → let marks : List Bool = kept old (chain new s) (map event_at (told full)) in
+    map coming_of (told purged) ≡ marked marks (map coming_of (told full))
+    → (map (text_to text_for) (told purged) ≡ marked marks (map (text_to text_for) (told full))) × Agree new new_too (chain new s)
+told_alike_by text_for old old_too new new_too s full purged is agree run again same =
     let ss : List (List ℕ) = chain new s in
     let marks : List Bool = kept old ss (map event_at (told full)) in
     let cs : List Coming = map coming_of (told full) in
@@ -46,13 +52,16 @@ callers_are_told_alike old old_too new new_too s full purged is agree run again 
     let events : map event_at (told purged) ≡ marked marks (map event_at (told full)) =
     events_are (told purged) ∙ ap (λ c. map event_in c) same ∙ sym (marked_events marks cs) ∙ ap (marked marks) (sym (events_are (told full))) in
     let alike : heard ≡ marked marks rs = second.told ∙ ap (replies old_too) events ∙ sym first.0 in (
-      told_texts purged
-          ∙ ap (λ c. texts c heard) same
-          ∙ ap (texts (marked marks cs)) alike
-          ∙ sym (marked_texts marks cs rs)
-          ∙ ap (marked marks) (sym (told_texts full)),
+      told_texts text_for purged
+          ∙ ap (λ c. texts text_for c heard) same
+          ∙ ap (texts text_for (marked marks cs)) alike
+          ∙ sym (marked_texts text_for marks cs rs)
+          ∙ ap (marked marks) (sym (told_texts text_for full)),
       subst (λ w. Agree new w ss) (sym (second.ends ∙ ap (after_all old_too) events)) first.1,
     )
+
+pub callers_are_told_alike : CallersAreToldAlike
+callers_are_told_alike = told_alike_by text_in
 
 -- ---- a query of one version or of the latest
 

@@ -8,12 +8,7 @@ use Rattle.shelf.specs.declared.reply.Answer.{Answer}
 use Rattle.shelf.specs.declared.reply.Answer.TheVariants.{Replied, Failed}
 use Rattle.shelf.specs.Machine.{Run, replies, replies_of, answered, after, after_all, reply_to}
 use Rattle.shelf.specs.Isolation.{marked}
-use Rattle.engine.specs.Happening.{Coming, Happening, event_in, text_in, coming_of, event_at, answer_at, text_at, told}
-
--- what is written for what came, by the replies
-abbrev pub texts : List Coming → List Reply → List (List ℕ)
-texts (c ∷ cs) (r ∷ rs) = text_in c (Replied r) ∷ texts cs rs
-texts cs rs = []
+use Rattle.engine.specs.Happening.{Coming, Happening, event_in, coming_of, event_at, answer_at, told}
 
 pub events_are : (xs : List Happening) → map event_at xs ≡ map event_in (map coming_of xs)
 events_are [] = refl
@@ -30,17 +25,6 @@ told_events (x ∷ xs) = go x.answer refl (told_events xs)
     go (Failed fault) is rest = rw is rest
     go (Replied r) is rest = rw is (ap (λ es. event_at x ∷ es) rest)
 
-abbrev TextsTold : List Happening → Type 0
-TextsTold xs = map text_at (told xs) ≡ texts (map coming_of (told xs)) (replies_of (map answer_at xs))
-
-pub told_texts : (xs : List Happening) → TextsTold xs
-told_texts [] = refl
-told_texts (x ∷ xs) = go x.answer refl (told_texts xs)
-  where
-    go : (a : Answer) → x.answer ≡ a → TextsTold xs → TextsTold (x ∷ xs)
-    go (Failed fault) is rest = rw is rest
-    go (Replied r) is rest = rw is (ap (λ ts. text_in x.coming (Replied r) ∷ ts) rest)
-
 -- ---- what is marked
 
 pub marked_events : (marks : List Bool) (cs : List Coming) → marked marks (map event_in cs) ≡ map event_in (marked marks cs)
@@ -50,18 +34,40 @@ marked_events (false ∷ marks) [] = refl
 marked_events (true ∷ marks) (c ∷ cs) = ap (λ es. event_in c ∷ es) (marked_events marks cs)
 marked_events (false ∷ marks) (c ∷ cs) = marked_events marks cs
 
-none : (cs : List Coming) → texts cs [] ≡ []
-none [] = refl
-none (c ∷ cs) = refl
+-- ---- texts for what came, by its answer
 
-pub marked_texts : (marks : List Bool) (cs : List Coming) (rs : List Reply) → marked marks (texts cs rs) ≡ texts (marked marks cs) (marked marks rs)
-marked_texts [] cs rs = refl
-marked_texts (true ∷ marks) [] rs = refl
-marked_texts (false ∷ marks) [] rs = refl
-marked_texts (true ∷ marks) (c ∷ cs) [] = refl
-marked_texts (false ∷ marks) (c ∷ cs) [] = sym (none (marked marks cs))
-marked_texts (true ∷ marks) (c ∷ cs) (r ∷ rs) = ap (λ ts. text_in c (Replied r) ∷ ts) (marked_texts marks cs rs)
-marked_texts (false ∷ marks) (c ∷ cs) (r ∷ rs) = marked_texts marks cs rs
+module _ (text_for : Coming → Answer → List ℕ) where
+  abbrev pub text_to : Happening → List ℕ
+  text_to h = text_for h.coming h.answer
+
+  -- what is written for what came, by the replies
+  abbrev pub texts : List Coming → List Reply → List (List ℕ)
+  texts (c ∷ cs) (r ∷ rs) = text_for c (Replied r) ∷ texts cs rs
+  texts cs rs = []
+
+  abbrev TextsTold : List Happening → Type 0
+  TextsTold xs = map text_to (told xs) ≡ texts (map coming_of (told xs)) (replies_of (map answer_at xs))
+
+  pub told_texts : (xs : List Happening) → TextsTold xs
+  told_texts [] = refl
+  told_texts (x ∷ xs) = go x.answer refl (told_texts xs)
+    where
+      go : (a : Answer) → x.answer ≡ a → TextsTold xs → TextsTold (x ∷ xs)
+      go (Failed fault) is rest = rw is rest
+      go (Replied r) is rest = rw is (ap (λ ts. text_for x.coming (Replied r) ∷ ts) rest)
+
+  none : (cs : List Coming) → texts cs [] ≡ []
+  none [] = refl
+  none (c ∷ cs) = refl
+
+  pub marked_texts : (marks : List Bool) (cs : List Coming) (rs : List Reply) → marked marks (texts cs rs) ≡ texts (marked marks cs) (marked marks rs)
+  marked_texts [] cs rs = refl
+  marked_texts (true ∷ marks) [] rs = refl
+  marked_texts (false ∷ marks) [] rs = refl
+  marked_texts (true ∷ marks) (c ∷ cs) [] = refl
+  marked_texts (false ∷ marks) (c ∷ cs) [] = sym (none (marked marks cs))
+  marked_texts (true ∷ marks) (c ∷ cs) (r ∷ rs) = ap (λ ts. text_for c (Replied r) ∷ ts) (marked_texts marks cs rs)
+  marked_texts (false ∷ marks) (c ∷ cs) (r ∷ rs) = marked_texts marks cs rs
 
 -- ---- a run, by what was answered in it
 

@@ -6,3 +6,4 @@ pub mod CrashLemmas
 pub mod TurnLemmas
 pub mod HearingLemmas
 pub mod ServeLemmas
+pub mod IsolatedLemmas

@@ -1,5 +1,6 @@
 pub mod Asking
 pub mod Hearing
+pub mod Isolated
 pub mod Laws
 pub mod Line
 pub mod Order

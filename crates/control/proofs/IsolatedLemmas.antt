@@ -1,0 +1,88 @@
+-- What peers and operators can tell of the messages of others, by what is told of what comes to a store.
+use Rattle.std.proofs.Common.{◌≡◌, ℕ, List, [], ◌∷◌, Result, Ok, Err, refl, ◌∙◌, sym, ap, subst}
+use Rattle.std.specs.Prelude.{map}
+use Rattle.world.specs.World.{World, IsWorld, chain}
+use Rattle.world.specs.Store.{Shown}
+use Rattle.shelf.specs.declared.ask.Event.{Event}
+use Rattle.shelf.specs.declared.reply.Answer.{Answer}
+use Rattle.shelf.specs.declared.reply.Answer.TheVariants.{Replied, Failed}
+use Rattle.shelf.specs.declared.reply.Reply.{Reply}
+use Rattle.shelf.specs.declared.reply.Reply.TheVariants.{Registry}
+use Rattle.shelf.specs.Isolation.{kept, marked}
+use Rattle.shelf.specs.Machine.{Run}
+use Rattle.engine.specs.Happening as happened
+use Rattle.engine.specs.Happening.{Coming, Message, Command, Happening, coming_of, event_at, answer_at}
+use Rattle.engine.specs.Reply.{bytes_of}
+use Rattle.engine.proofs.HeadlineLemmas.{told_alike_by}
+use Rattle.engine.proofs.ToldLemmas.{text_to}
+use Rattle.control.specs.Isolated.{coming_at, text_at, if_told, told, TurnsAreToldAlike}
+use Rattle.control.specs.Outcome.{outcome_of, line_of}
+use Rattle.control.specs.Turns.{Turn, Asked, Ordered, happening_of, turn_event, turn_answer, world_at}
+
+-- ---- what is told, by the machine's answer
+
+abbrev line_for : Answer → List ℕ
+line_for (Replied (Registry r)) = line_of (outcome_of (Ok r))
+line_for (Replied r) = []
+line_for (Failed fault) = line_of (outcome_of (Err fault))
+
+abbrev text_for : Coming → Answer → List ℕ
+text_for (Message m) a = bytes_of m a
+text_for (Command e) a = line_for a
+
+text_is : (t : Turn) → text_to text_for (happening_of t) ≡ text_at t
+text_is (Asked x) = refl
+text_is (Ordered order (Ok r)) = refl
+text_is (Ordered order (Err fault)) = refl
+
+-- ---- turns as what happened
+
+fused : {X : Type 0} (f : Happening → X) (g : Turn → X) → ((t : Turn) → f (happening_of t) ≡ g t) → (ts : List Turn) → map f (map happening_of ts) ≡ map g ts
+fused f g same [] = refl
+fused f g same (t ∷ ts) = let one = same t in let rest = fused f g same ts in λ i. one i ∷ rest i
+
+told_step : (t : Turn) (a : Answer) (hs : List Happening) (ts : List Turn) → hs ≡ map happening_of ts
+    → happened.if_told (happening_of t) a hs ≡ map happening_of (if_told t a ts)
+told_step t (Failed fault) hs ts same = same
+told_step t (Replied r) hs ts same = ap (λ rest. happening_of t ∷ rest) same
+
+told_is : (ts : List Turn) → happened.told (map happening_of ts) ≡ map happening_of (told ts)
+told_is [] = refl
+told_is (t ∷ ts) = told_step t (turn_answer t) (happened.told (map happening_of ts)) (told ts) (told_is ts)
+
+-- what is said of each that was told
+said_of : {X : Type 0} (f : Happening → X) (g : Turn → X) → ((t : Turn) → f (happening_of t) ≡ g t) → (ts : List Turn)
+    → map f (happened.told (map happening_of ts)) ≡ map g (told ts)
+said_of f g same ts = ap (map f) (told_is ts) ∙ fused f g same (told ts)
+
+ran : (w new : World) (ts : List Turn) → Run w (map turn_event ts) (map turn_answer ts) new
+    → Run w (map event_at (map happening_of ts)) (map answer_at (map happening_of ts)) new
+ran w new ts run =
+    subst (λ es. Run w es (map answer_at (map happening_of ts)) new) (sym (fused event_at turn_event (λ t. refl) ts))
+    (subst (λ answers. Run w (map turn_event ts) answers new) (sym (fused answer_at turn_answer (λ t. refl) ts)) run)
+
+-- ---- two runs
+
+pub turns_are_told_alike : (old new old_too new_too : Shown) → ((w : World) → old.stands w → IsWorld w) → TurnsAreToldAlike old new old_too new_too
+turns_are_told_alike old new old_too new_too sound w x s full purged two same =
+    let ss : List (List ℕ) = chain (world_at w full) s in
+    let first : List Happening = map happening_of full in
+    let second : List Happening = map happening_of purged in
+    let run = two.through.runs.at two.honest w two.stands in
+    let again = two.through_too.runs.at two.honest_too x two.stands_too in
+    let events = said_of event_at turn_event (λ t. refl) full in
+    let text = text_to text_for in
+    let came = said_of coming_of coming_at (λ t. refl) in
+    let left = came purged ∙ same
+    ∙ sym (ap (marked (kept w ss (map turn_event (told full)))) (came full))
+    ∙ sym (ap (λ es. marked (kept w ss es) (map coming_of (happened.told first))) events) in
+    let alike = told_alike_by text_for w x (world_at w full) (world_at x purged) s first second (sound w two.stands) two.agree
+    (ran w (world_at w full) full run.run) (ran x (world_at x purged) purged again.run) left in
+    record {
+      texts = sym (said_of text text_at text_is purged) ∙ alike.0
+          ∙ ap (λ es. marked (kept w ss es) (map text (happened.told first))) events
+          ∙ ap (marked (kept w ss (map turn_event (told full)))) (said_of text text_at text_is full);
+      stands = run.ends;
+      stands_too = again.ends;
+      agree = alike.1;
+    }

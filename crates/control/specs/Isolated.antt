@@ -1,0 +1,61 @@
+-- What peers and operators can tell of the messages of others: nothing.
+use Rattle.std.specs.Prelude.{ℕ, ◌≡◌, List, [], ◌∷◌, Bool, map}
+use Rattle.world.specs.World.{World, chain}
+use Rattle.world.specs.Store.{Shown}
+use Rattle.shelf.specs.declared.reply.Answer.{Answer}
+use Rattle.shelf.specs.declared.reply.Answer.TheVariants.{Replied, Failed}
+use Rattle.shelf.specs.Isolation.{kept, marked, Agree}
+use Rattle.engine.specs.Happening.{Coming, coming_of}
+use Rattle.engine.specs.Reply.{text_of}
+use Rattle.control.specs.Outcome.{outcome_of, line_of}
+use Rattle.control.specs.Turns.{Turn, Asked, Ordered, happening_of, turn_event, turn_answer, world_at, GoesThroughTurns}
+
+-- what came: a message, or the event of an order
+abbrev pub coming_at : Turn → Coming
+coming_at t = coming_of (happening_of t)
+
+-- what is told of it: the bytes that are written for a message, the line of what came of an order
+abbrev pub text_at : Turn → List ℕ
+text_at (Asked x) = text_of x
+text_at (Ordered order told) = line_of (outcome_of told)
+
+abbrev pub if_told : Turn → Answer → List Turn → List Turn
+if_told t (Replied r) ts = t ∷ ts
+if_told t (Failed fault) ts = ts
+
+-- those that met no fault: a message that was not answered 503, an order that was done or refused
+abbrev pub told : List Turn → List Turn
+told [] = []
+told (t ∷ ts) = if_told t (turn_answer t) (told ts)
+
+-- which of these are kept for a shelf: not a message whose key belongs, at its moment, to a shelf that it does not see at the end
+abbrev pub kept_for : World → List ℕ → List Turn → List Bool
+kept_for w s turns = kept w (chain (world_at w turns) s) (map turn_event (told turns))
+
+-- Two stores, each on an honest disk, went through turns, from worlds that agreed on what the shelf sees at the end of the first.
+pub record AreTwoRuns (old new old_too new_too : Shown) (w x : World) (s : List ℕ) (full purged : List Turn) : Type 0 where
+  pub stands : old.stands w
+  pub stands_too : old_too.stands x
+  pub honest : new.is_honest
+  pub honest_too : new_too.is_honest
+  pub agree : Agree w x (chain (world_at w full) s)
+  pub before : ℕ
+  pub now : ℕ
+  pub before_too : ℕ
+  pub now_too : ℕ
+  pub through : GoesThroughTurns old new before now full
+  pub through_too : GoesThroughTurns old_too new_too before_too now_too purged
+
+-- What was told of those that are kept is the same text. The stores stand for worlds that agree again.
+pub record AreToldAlike (new new_too : Shown) (w x : World) (s : List ℕ) (full purged : List Turn) : Type 0 where
+  pub texts : map text_at (told purged) ≡ marked (kept_for w s full) (map text_at (told full))
+  pub stands : new.stands (world_at w full)
+  pub stands_too : new_too.stands (world_at x purged)
+  pub agree : Agree (world_at w full) (world_at x purged) (chain (world_at w full) s)
+
+-- So it is where, of the turns that met no fault, those of the second are those of the first that are kept.
+abbrev pub TurnsAreToldAlike : Shown → Shown → Shown → Shown → Type 0
+TurnsAreToldAlike old new old_too new_too =
+    (w x : World) (s : List ℕ) (full purged : List Turn) → AreTwoRuns old new old_too new_too w x s full purged
+    → map coming_at (told purged) ≡ marked (kept_for w s full) (map coming_at (told full))
+    → AreToldAlike new new_too w x s full purged

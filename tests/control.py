@@ -62,6 +62,7 @@ key-add --shelf common --key R --read-only | 0
 UNSAYABLE = [
     (["group-add", "--group", "plat form"], "name"), (["team-add", "--team", "al\npha"], "name"),
     (["team-add", "--team", "alpha beta", "--group", "platform"], "name"), (["team-add", "--team", "delta", "--group", "plat form"], "no-group"),
+    (["team-add", "--team", "alpha", "--group", "plat form"], "taken"), (["team-add", "--team", "delta", "--group", "g" * 200], "no-group"),
     (["key-add", "--shelf", "al pha", "--key", KEYS["B"]], "no-team"), (["key-add", "--shelf", "alpha", "--key", KEY + "\n"], "name"),
     (["key-add", "--shelf", "al pha", "--key", "short"], "name"), (["key-revoke", "--key", KEY + " "], "no-key"),
     (["key-revoke", "--key", "k" * 200], "no-key"), (["team-add", "--team", "t" * 200], "name"),

@@ -6,3 +6,5 @@ mod Openings
 mod Repeated
 mod Written
 mod Rows
+mod Sayable
+mod Controlled

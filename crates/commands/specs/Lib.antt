@@ -1,3 +1,4 @@
+pub mod Controlled
 pub mod Ending
 pub mod Exit
 pub mod Import

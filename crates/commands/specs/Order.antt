@@ -1,16 +1,38 @@
 -- Commands of the registry that are sent to a running `serve`, and its end.
-use Rattle.std.specs.Prelude.{ℕ, ◌≡◌, ◌⊎◌, if◌then◌else◌, Bool, List, Option, Result, Ok, Err}
-use Rattle.world.specs.World.{is_team_name, is_key}
+use Rattle.std.specs.Prelude.{ℕ, ◌≡◌, ◌⊎◌, if◌then◌else◌, Bool, List, Option, Some, None, option_copied, Result, Ok, Err}
+use Rattle.std.specs.Borrow.{Bor}
+use Rattle.world.specs.World.{World, IsWorld, common, is_team_name, is_key}
+use Rattle.shelf.specs.Machine.{after}
 use Rattle.control.specs.Asking.{Asks, AsksToStop}
 use Rattle.control.specs.declared.client.Untold.{Untold}
 use Rattle.control.specs.declared.client.Untold.TheVariants as untold
 use Rattle.control.specs.declared.order.Order.{Order}
 use Rattle.control.specs.declared.order.Order.TheVariants.{TeamAdd, GroupAdd, KeyAdd, KeyRevoke}
+use Rattle.control.specs.Order.{event_of, outcome_in}
 use Rattle.control.specs.declared.outcome.Outcome.{Outcome}
 use Rattle.control.specs.declared.outcome.Outcome.TheVariants as outcome
 use Rattle.commands.specs.Ending.{ending}
 use Rattle.commands.specs.declared.refusal.Refusal.{Refusal}
-use Rattle.commands.specs.declared.refusal.Refusal.TheVariants.{Name, NoTeam, NoGroup, NoKey, Device, Memory, Io}
+use Rattle.commands.specs.declared.refusal.Refusal.TheVariants.{Name, NoTeam, NoKey, Device, Memory, Io}
+
+-- ---- what is sent
+
+-- A group whose name breaks the rule may stand in no line. `common` is sent in its place, which is no group either.
+abbrev pub group_sent : Option (List ℕ) → Option (List ℕ)
+group_sent None = None
+group_sent (Some group) = if is_team_name group then Some group else Some common
+
+-- this order is sent for that one
+abbrev pub IsSentFor : Order → Order → Type 0
+IsSentFor (TeamAdd name group) sent =
+    (other : Option (Bor (List ℕ))) × (sent ≡ TeamAdd name other) × (option_copied other ≡ group_sent (option_copied group))
+IsSentFor order sent = sent ≡ order
+
+-- two orders come to the same in each world
+abbrev pub ComeToTheSame : Order → Order → Type 0
+ComeToTheSame one two = (w : World) → IsWorld w → (outcome_in w one ≡ outcome_in w two) × (after w (event_of one) ≡ after w (event_of two))
+
+-- ---- how a command ends
 
 -- the word of a name that keeps its rule, else `name`
 abbrev pub refusal_by : Bool → Refusal → Refusal
@@ -18,7 +40,7 @@ refusal_by keeps refusal = if keeps then refusal else Name
 
 -- why an order is refused that no line can carry
 abbrev pub unsayable : Order → Refusal
-unsayable (TeamAdd name group) = refusal_by (is_team_name name.now) NoGroup
+unsayable (TeamAdd name group) = Name
 unsayable (GroupAdd name) = Name
 unsayable (KeyAdd shelf key right) = refusal_by (is_key key.now) NoTeam
 unsayable (KeyRevoke key) = NoKey
@@ -33,12 +55,19 @@ told_ending order (Err untold.Words) = Err (unsayable order)
 told_ending order (Err untold.Memory) = Err Memory
 told_ending order (Err untold.Io) = Err Io
 
--- The order's line was written, the line of its outcome was read, and the command ends by it. Or nothing was told, for one of the
--- reasons that `Asks` names, and the command ends by that.
+-- it ends as what comes of the order in each world
+abbrev pub EndsInEach : Order → Result (Unit {0}) Refusal → Type 0
+EndsInEach order result = (w : World) → IsWorld w → result ≡ ending (Ok (outcome_in w order))
+
+-- The line of an order that comes to the same was written, the line of its outcome was read, and the command ends by it. Or nothing was
+-- told, for one of the reasons that `Asks` names, and the command ends by that: where it has no line, as the order does in each world.
 pub record OrdersOver (unread unread_new written written_new : Option (List ℕ)) (order : Order) (result : Result (Unit {0}) Refusal) : Type 0 where
+  pub asked : Order
+  pub same : ComeToTheSame asked order
   pub told : Result Outcome Untold
-  pub asks : Asks unread unread_new written written_new order told
-  pub ends : result ≡ told_ending order told
+  pub asks : Asks unread unread_new written written_new asked told
+  pub ends : result ≡ told_ending asked told
+  pub unsent : told ≡ Err untold.Words → EndsInEach order result
 
 -- so it was over a connection, or nobody listens
 abbrev pub OrdersThere : Order → Result (Unit {0}) Refusal → Type 0

@@ -1,6 +1,9 @@
-//! What holds of every inventory and of every import.
+//! What holds of every inventory, of every import, and of every order that is sent.
+ghost use Rattle.commands.specs.Controlled.{EndsAsOnTheStore};
 ghost use Rattle.commands.specs.Rows.{RowsAreWhole};
 ghost use Rattle.commands.specs.Repetition.{RepeatedImportChangesNothing};
+
+use world::shelves::Shelves;
 
 /// A list that was imported whole changes nothing when it is imported again, with the same files and by a key that may
 /// then publish to the same shelf: each row is answered `200 already published`, or 503.
@@ -12,4 +15,11 @@ pub fn repetition()
 /// it, and each row is of a version that the shelf sees.
 pub fn rows_are_whole()
     ensures { RowsAreWhole }
+{}
+
+/// A command with `--control`, whose line a `serve` carried out and whose outcome came, ends as the same command does on
+/// the store of a file: by what comes of its order in the world that the store stood for, and the store stands for the
+/// world after it; or by a fault of the store, which changes nothing.
+pub fn orders_end_as_on_the_store<S: Shelves>()
+    ensures { (old new : S) → EndsAsOnTheStore (S.shown old) (S.shown new) }
 {}

@@ -1,5 +1,5 @@
 //! The commands of the registry that are sent to a running `serve`, and its end.
-ghost use Rattle.std.specs.Prelude.{◌≡◌};
+ghost use Rattle.std.specs.Prelude.{◌≡◌, option_copied};
 ghost use Rattle.commands.specs.Order as spec;
 
 use crate::refusal::{Refusal, ending};
@@ -7,7 +7,7 @@ use control::{Order, Outcome, Untold, ask, ask_to_stop, server_at};
 use std::alloc::Global;
 use std::io::{Read, Write};
 use std::rt::HostRuntime;
-use world::names::{is_key, is_team_name};
+use world::names::{COMMON, is_key, is_team_name};
 
 /// Sends an order to the `serve` that listens at a socket, and ends as the same command does on the store of a file.
 /// `Device` if nobody listens there. `Io` if no outcome came: whether the order was carried out is not known then.
@@ -21,6 +21,7 @@ pub fn order_at(rt: &HostRuntime, path: &str, order: &Order) -> Result<(), Refus
 }
 
 /// Writes the line of an order, reads the line of its outcome, and ends by it as the same command does on the store of a file.
+/// An order that no line can carry ends, without being sent, as it would in any world.
 pub fn order_over<R: Read, W: Write>(
     alloc: Global,
     reader: &mut R,
@@ -30,8 +31,32 @@ pub fn order_over<R: Read, W: Write>(
     ensures { spec.OrdersOver (R.remaining reader.old) (R.remaining reader.new) (W.contents writer.old) (W.contents writer.new)
         order.now result }
 {
-    let told = ask(alloc, reader, writer, order);
-    told_ending(told, order)
+    let asked = order_to_send(order);
+    let told = ask(alloc, reader, writer, &asked);
+    told_ending(told, &asked)
+}
+
+/// The order that is sent for another: one that comes to the same in every world, and whose group can stand in a line.
+fn order_to_send<'a>(order: &Order<'a>) -> Order<'a>
+    ensures { spec.IsSentFor order.now result }
+{
+    match order {
+        Order::TeamAdd { name, group } => Order::TeamAdd {
+            name,
+            group: group_to_send(*group),
+        },
+        other => *other,
+    }
+}
+
+/// The group that is sent for another: `common`, which is no group either, for one whose name breaks the rule.
+fn group_to_send<'a>(group: Option<&'a str>) -> Option<&'a str>
+    ensures { option_copied result ≡ spec.group_sent (option_copied group.entry) }
+{
+    match group {
+        Some(name) => Some(if is_team_name(name) { name } else { COMMON }),
+        None => None,
+    }
 }
 
 /// How a command ends, by what was told of its order.
@@ -49,12 +74,12 @@ fn told_ending(told: Result<Outcome, Untold>, order: &Order) -> Result<(), Refus
 }
 
 /// Why an order is refused that no line can carry: a name or the key in it breaks its rule, so no shelf has that name, and none the key.
+/// A team's group is never the reason, since the one that is sent can stand in a line.
 fn unsayable(order: &Order) -> Refusal
     ensures { result ≡ spec.unsayable order.now }
 {
     match order {
-        Order::TeamAdd { name, .. } => refusal_by(is_team_name(name), Refusal::NoGroup),
-        Order::GroupAdd { .. } => Refusal::Name,
+        Order::TeamAdd { .. } | Order::GroupAdd { .. } => Refusal::Name,
         Order::KeyAdd { key, .. } => refusal_by(is_key(key), Refusal::NoTeam),
         Order::KeyRevoke { .. } => Refusal::NoKey,
     }

@@ -48,7 +48,7 @@ const SENT: &str = "\
 2|don|key-revoke alphakey00000001|Io
 3|done|group-add platform|done
 4|done||Name
-5|done||NoGroup
+5|taken|team-add alpha common|Taken
 6|done||NoTeam
 7|done||NoKey";
 
@@ -57,7 +57,7 @@ fn column(row: &str, place: usize) -> &str {
     row.split('|').nth(place).unwrap_or("")
 }
 
-/// The order of a number; no line carries those from 4 on.
+/// The order of a number. No line carries those from 4 on; 5 is sent with another group.
 fn order_at(number: &str) -> Order<'static> {
     let (shelf, key) = ("alpha", "alphakey00000001");
     match number {

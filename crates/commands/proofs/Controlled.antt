@@ -1,0 +1,82 @@
+-- A command with `--control`, and the `serve` that its line came to.
+use Rattle.std.proofs.Common.{◌≡◌, ℕ, List, [], ◌∷◌, ◌++◌, Bool, true, false, Some, Result, Ok, Err, refl, ◌∙◌, sym, ap, subst, inl, inr, true≢false}
+use Rattle.std.specs.Prelude.{◌&&◌, codes}
+use Rattle.std.proofs.lemmas.List.Folds.{list_all-append}
+use Rattle.world.specs.Store.{Shown}
+use Rattle.world.specs.World.{World, IsWorld}
+use Rattle.world.specs.declared.registry.Registered.{Registered}
+use Rattle.world.specs.declared.registry.Registered.TheVariants.{Done}
+use Rattle.world.specs.declared.registry.StoreFault.{StoreFault}
+use Rattle.shelf.specs.Machine.{after, reply_to}
+use Rattle.shelf.specs.declared.reply.Reply.{Reply}
+use Rattle.shelf.specs.declared.reply.Reply.TheVariants.{Registry}
+use Rattle.control.specs.Asking.{Asks}
+use Rattle.control.specs.Hearing.{Heard, Carried, Stop, NoOrder, NoMemory, IsHeardIn, outcome_heard, turns_heard}
+use Rattle.control.specs.Line.{IsSent, stop_line}
+use Rattle.control.specs.Order.{Orders, said_in, event_of, outcome_in}
+use Rattle.control.specs.Outcome.{outcome_of}
+use Rattle.control.specs.Turns.{GoesThroughTurns}
+use Rattle.control.specs.Words.{space, is_word, is_word_byte, behind}
+use Rattle.control.specs.declared.order.Order.{Order}
+use Rattle.control.specs.declared.order.Order.TheVariants.{TeamAdd, GroupAdd, KeyAdd, KeyRevoke}
+use Rattle.control.proofs.LineLemmas.{one_line}
+use Rattle.control.proofs.OrderLemmas.{one_event}
+use Rattle.commands.specs.Controlled.{EndsAt, EndsAsOnTheStore}
+use Rattle.commands.specs.Order.{ComeToTheSame, told_ending}
+use Rattle.commands.specs.declared.refusal.Refusal.{Refusal}
+
+-- ---- the line of an order is not that which ends a server
+
+never : (b : Bool) → (b && false) ≡ true → ⊥
+never true both = true≢false (sym both)
+never false both = true≢false (sym both)
+
+no_stop : (order : Order) → ¬ IsSent stop_line order
+no_stop order sent =
+    let said = said_in order in
+    let line = one_line stop_line (codes "stop") sent.line refl sent.ends in
+    let words : is_word (said.verb ++ space ∷ (said.first ++ behind said.second)) ≡ true = ap is_word (sym sent.orders.is ∙ line) in
+    never (is_word said.verb) (sym (list_all-append is_word_byte said.verb (space ∷ (said.first ++ behind said.second))) ∙ words)
+
+-- ---- one order
+
+-- the bytes order one event
+same_event : (got : List ℕ) (one two : Order) → IsSent got one → IsSent got two → event_of one ≡ event_of two
+same_event got one two first second =
+    one_event first.line one two first.orders (subst (λ l. Orders l two) (one_line got first.line second.line first.ends.is second.ends) second.orders)
+
+abbrev registered_in : Reply → Registered
+registered_in (Registry r) = r
+registered_in reply = Done
+
+replied : (w : World) (o : Order) → registered_in (reply_to w (event_of o)) ≡ outcome_in w o
+replied w (TeamAdd name group) = refl
+replied w (GroupAdd name) = refl
+replied w (KeyAdd shelf key right) = refl
+replied w (KeyRevoke key) = refl
+
+module _ (old new : Shown) (before now : ℕ) (sent : List ℕ) (order asked : Order) (result : Result (Unit {0}) Refusal) (w : World) where
+  carried : new.is_honest → old.stands w → IsWorld w → ComeToTheSame asked order → IsSent sent asked → (other : Order) → IsSent sent other
+      → (told : Result Registered StoreFault) → result ≡ told_ending asked (Ok (outcome_of told))
+      → GoesThroughTurns old new before now (turns_heard (Carried other told)) → EndsAt new w order result
+  carried honest stands is same asks other heard (Ok r) ends through =
+      let run = through.runs.at honest w stands in
+      let event = same_event sent asked other asks heard in
+      let outcome = ap registered_in (run.run.0 ∙ ap (reply_to w) (sym event)) ∙ replied w asked ∙ (same w is).0 in
+      inl (ends ∙ ap (λ r. told_ending asked (Ok (outcome_of (Ok r)))) outcome, subst new.stands (ap (after w) (sym event) ∙ (same w is).1) run.ends)
+  carried honest stands is same asks other heard (Err fault) ends through = inr (fault, ends, (through.runs.at honest w stands).ends)
+
+  heard_so : new.is_honest → old.stands w → IsWorld w → ComeToTheSame asked order → IsSent sent asked → (heard : Heard) → IsHeardIn sent heard
+      → result ≡ told_ending asked (Ok (outcome_heard heard)) → GoesThroughTurns old new before now (turns_heard heard) → EndsAt new w order result
+  heard_so honest stands is same asks (Carried other told) from ends through = carried honest stands is same asks other from told ends through
+  heard_so honest stands is same asks Stop from ends through = absurd (no_stop asked (subst (λ got. IsSent got asked) from asks))
+  heard_so honest stands is same asks NoOrder from ends through = absurd (from.0 asked asks)
+  heard_so honest stands is same asks NoMemory from ends through = absurd from
+
+pub ends_as_on_the_store : (old new : Shown) → ((w : World) → old.stands w → IsWorld w) → EndsAsOnTheStore old new
+ends_as_on_the_store old new sound order result w two honest stands =
+    let asked = two.command.asked in
+    let asks = subst (λ told. Asks two.unread two.unread_new (Some []) (Some two.sent) asked told) two.heard two.command.asks in
+    let sends : IsSent two.sent asked = subst (λ got. IsSent got asked) (sym asks.2) asks.1 in
+    heard_so old new two.before two.now two.sent order asked result w honest stands (sound w stands) two.command.same sends two.server.heard two.server.from
+    (two.command.ends ∙ ap (told_ending asked) (two.heard ∙ ap Ok two.server.tells)) two.server.through

@@ -1,0 +1,289 @@
+-- Orders that no line can carry: what comes of them in each world.
+use Rattle.std.proofs.Common.{◌≡◌, ◌≢◌, ℕ, ◌+◌, ◌<◌, ◌≤◌, ◌⊎◌, inl, inr, List, [], ◌∷◌, ◌++◌, length, Bool, true, false, Option, Some, None, Result, Ok, Err, refl, ◌∙◌, sym, ap, subst, arith, nat_eq, nat_lt, ltb-true, leb-true, true≢false}
+use Rattle.std.specs.Borrow.{Bor}
+use Rattle.std.specs.Prelude.{◌&&◌, ◌||◌, not, if◌then◌else◌, codes, bytes_eq, nat_le, is_some, option_copied}
+use Rattle.std.specs.List.{list_all}
+use Rattle.std.specs.Str.{IsAscii}
+use Rattle.std.specs.FinMap as map
+use Rattle.std.proofs.lemmas.Bool.{and_parts, and_from}
+use Rattle.std.proofs.lemmas.Bool.Decides.{nat_tests}
+use Rattle.std.proofs.lemmas.List.{length-append}
+use Rattle.std.proofs.lemmas.Str.{IsUtf8-from_ascii, IsAscii-append}
+use Rattle.std.proofs.lemmas.Str.Ascii.{IsAscii-nil, IsAscii-cons}
+use Rattle.world.specs.declared.entry.Holder.{Holder}
+use Rattle.world.specs.declared.entry.Right.{Right}
+use Rattle.world.specs.declared.entry.Right.TheVariants.{Reads, Publishes}
+use Rattle.world.specs.declared.registry.Registered.{Registered}
+use Rattle.world.specs.declared.registry.Registered.TheVariants as registered
+use Rattle.world.specs.Names.{is_lower, is_digit}
+use Rattle.world.specs.Registry.{is_top, is_group, lacks_group, team_added, after_team_add}
+use Rattle.world.specs.World.{World, IsWorld, common, is_team_name, is_key}
+use Rattle.world.proofs.Orders.{text_self}
+use Rattle.shelf.specs.Machine.{after}
+use Rattle.control.specs.Asking.{IsUnsayable, Asks}
+use Rattle.control.specs.Line.{IsSent}
+use Rattle.control.specs.Order.{add_word, said_in, line_of, event_of, outcome_in}
+use Rattle.control.specs.Words.{space, line_end, is_word, is_word_byte, is_word_if, behind}
+use Rattle.control.specs.declared.client.Untold.{Untold}
+use Rattle.control.specs.declared.order.Order.{Order}
+use Rattle.control.specs.declared.order.Order.TheVariants.{TeamAdd, GroupAdd, KeyAdd, KeyRevoke}
+use Rattle.control.specs.declared.outcome.Outcome.{Outcome}
+use Rattle.commands.specs.Ending.{ending}
+use Rattle.commands.specs.Order.{group_sent, IsSentFor, ComeToTheSame, refusal_by, unsayable, told_ending, OrdersOver}
+use Rattle.commands.specs.declared.refusal.Refusal.{Refusal}
+use Rattle.commands.specs.declared.refusal.Refusal.TheVariants.{NoTeam}
+
+-- ---- words that a line can carry
+
+-- a word of ASCII, of so many bytes at most
+record Fits (most : ℕ) (word : List ℕ) : Type 0 where
+  says : is_word word ≡ true
+  ascii : IsAscii word
+  few : length word ≤ most
+
+says_by : (p : ℕ → Bool) → ((b : ℕ) → p b ≡ true → is_word_byte b ≡ true) → (t : List ℕ) → list_all p t ≡ true → is_word t ≡ true
+says_by p says [] h = refl
+says_by p says (b ∷ t) h = let parts = and_parts _ _ h in and_from _ _ (says b parts.0) (says_by p says t parts.1)
+
+ascii_by : (p : ℕ → Bool) → ((b : ℕ) → p b ≡ true → b < 128) → (t : List ℕ) → list_all p t ≡ true → IsAscii t
+ascii_by p small [] h = IsAscii-nil
+ascii_by p small (b ∷ t) h = let parts = and_parts _ _ h in IsAscii-cons b t (small b parts.0) (ascii_by p small t parts.1)
+
+name_byte : (c : ℕ) → (is_lower c || is_digit c || nat_eq c 45) ≡ true → c < 128
+name_byte c h = grind (arith, nat_tests)
+
+name_says : (c : ℕ) → (is_lower c || is_digit c || nat_eq c 45) ≡ true → is_word_byte c ≡ true
+name_says c h = grind (arith, nat_tests)
+
+key_byte : (c : ℕ) → (is_lower c || is_digit c) ≡ true → c < 128
+key_byte c h = grind (arith, nat_tests)
+
+key_says : (c : ℕ) → (is_lower c || is_digit c) ≡ true → is_word_byte c ≡ true
+key_says c h = grind (arith, nat_tests)
+
+small : (b : ℕ) → nat_lt b 128 ≡ true → b < 128
+small b h = ltb-true b 128 h
+
+team_fits : (t : List ℕ) → is_team_name t ≡ true → Fits 32 t
+team_fits t h =
+    let all = and_parts _ _ (and_parts _ _ h).0 in record {
+      says = says_by _ name_says t all.1;
+      ascii = ascii_by _ name_byte t all.1;
+      few = leb-true (length t) 32 (and_parts _ _ all.0).0;
+    }
+
+key_fits : (k : List ℕ) → is_key k ≡ true → Fits 64 k
+key_fits k h =
+    let all = and_parts _ _ h in record {
+      says = says_by _ key_says k all.1;
+      ascii = ascii_by _ key_byte k all.1;
+      few = leb-true (length k) 64 (and_parts _ _ all.0).1;
+    }
+
+-- a literal word
+word_fits : (most : ℕ) (word : List ℕ) → is_word word ≡ true → list_all (λ b. nat_lt b 128) word ≡ true → nat_le (length word) most ≡ true → Fits most word
+word_fits most word says ascii few = record { says = says; ascii = ascii_by (λ b. nat_lt b 128) small word ascii; few = leb-true (length word) most few }
+
+shelf_fits : (s : List ℕ) → (s ≡ common) ⊎ (is_team_name s ≡ true) → Fits 32 s
+shelf_fits s (inl same) = subst (Fits 32) (sym same) (word_fits 32 common refl refl refl)
+shelf_fits s (inr named) = team_fits s named
+
+add_fits : (right : Right) → Fits 10 (add_word right)
+add_fits Publishes = word_fits 10 (codes "key-add") refl refl refl
+add_fits Reads = word_fits 10 (codes "reader-add") refl refl refl
+
+-- ---- the line of them
+
+abbrev FitsIf : ℕ → Option (List ℕ) → Type 0
+FitsIf most None = Unit {0}
+FitsIf most (Some word) = Fits most word
+
+if_says : (most : ℕ) (o : Option (List ℕ)) → FitsIf most o → is_word_if o ≡ true
+if_says most None fits = refl
+if_says most (Some word) fits = fits.says
+
+behind_ascii : (most : ℕ) (o : Option (List ℕ)) → FitsIf most o → IsAscii (behind o)
+behind_ascii most None fits = IsAscii-nil
+behind_ascii most (Some word) fits = IsAscii-cons space word (omega arith) fits.ascii
+
+behind_few : (most : ℕ) (o : Option (List ℕ)) → FitsIf most o → length (behind o) ≤ most + 1
+behind_few most None fits = omega arith
+behind_few most (Some word) fits = let few = fits.few in omega (arith, few)
+
+carried : (a b c : ℕ) (order : Order) → Fits a (said_in order).verb → Fits b (said_in order).first → FitsIf c (said_in order).second → a + b + c + 2 ≤ 127
+    → (sent : List ℕ) × IsSent sent order
+carried a b c order verb first second room =
+    let s = said_in order in
+    let rest : List ℕ = s.first ++ behind s.second in
+    let counted = length-append s.verb (space ∷ rest) in
+    let rest_counted = length-append s.first (behind s.second) in
+    let few_verb = verb.few in
+    let few_first = first.few in
+    let few_second = behind_few c s.second second in
+    let ascii = IsAscii-append s.verb (space ∷ rest) verb.ascii
+    (IsAscii-cons space rest (omega arith) (IsAscii-append s.first (behind s.second) first.ascii (behind_ascii c s.second second))) in (
+      line_of order ++ line_end ∷ [],
+      record {
+        line = line_of order;
+        ends = record { is = refl; few = omega (arith, counted, rest_counted, few_verb, few_first, few_second, room); text = IsUtf8-from_ascii (line_of order) ascii };
+        orders = record { is = refl; words = and_from _ _ verb.says (and_from _ _ first.says (if_says c s.second second)) };
+      },
+    )
+
+-- ---- groups that are sent for others
+
+-- the group that a team names can stand in a line
+abbrev IsGroupSayable : Option (List ℕ) → Type 0
+IsGroupSayable None = Unit {0}
+IsGroupSayable (Some group) = (group ≡ common) ⊎ (is_team_name group ≡ true)
+
+sent_sayable : (group : Option (List ℕ)) → IsGroupSayable (group_sent group)
+sent_sayable None = tt
+sent_sayable (Some g) = go (is_team_name g) refl
+  where
+    go : (b : Bool) → is_team_name g ≡ b → IsGroupSayable (if b then Some g else Some common)
+    go true named = inr named
+    go false unnamed = inl refl
+
+group_fits : (group : Option (List ℕ)) → IsGroupSayable group → FitsIf 32 group
+group_fits None sayable = tt
+group_fits (Some g) sayable = shelf_fits g sayable
+
+never : (b : Bool) → (b && false) ≡ false
+never true = refl
+never false = refl
+
+common_no_group : (w : World) → is_group w common ≡ false
+common_no_group w =
+    let top = is_top (map.get w.shelves common) in ap (λ b. top && not b) (text_self common) ∙ never top
+
+no_group : (w : World) (g : List ℕ) → IsWorld w → is_team_name g ≡ false → is_group w g ≡ false
+no_group w g is unnamed = go (map.get w.shelves g) refl
+  where
+    go : (o : Option (Option (List ℕ))) → map.get w.shelves g ≡ o → is_group w g ≡ false
+    go None at = ap (λ o. is_top o && not (bytes_eq g common)) at
+    go (Some parent) at = elim (is.team_names g (ap is_some at)) [
+      | inl same ↦ ap (is_group w) same ∙ common_no_group w
+      | inr named ↦ absurd (true≢false (sym named ∙ unnamed))
+    ]
+
+-- where it is no group, the team is refused
+abbrev answer : Bool → Bool → Bool → Registered
+answer named there group =
+    if not named then registered.Name else if there then registered.Taken else if not group then registered.NoGroup else registered.Done
+
+refused : (w : World) (t g : List ℕ) → is_group w g ≡ false → after_team_add w t (Some g) (team_added w t (Some g)) ≡ w
+refused w t g none =
+    ap (λ b. after_team_add w t (Some g) (answer (is_team_name t) (map.contains_key w.shelves t) b)) none
+    ∙ idle (is_team_name t) (map.contains_key w.shelves t)
+  where
+    idle : (named there : Bool) → after_team_add w t (Some g) (answer named there false) ≡ w
+    idle true true = refl
+    idle true false = refl
+    idle false there = refl
+
+same_team : (w : World) (t : List ℕ) (group : Option (List ℕ)) → IsWorld w
+    → (team_added w t (group_sent group) ≡ team_added w t group)
+    × (after_team_add w t (group_sent group) (team_added w t (group_sent group)) ≡ after_team_add w t group (team_added w t group))
+same_team w t None is = (refl, refl)
+same_team w t (Some g) is = go (is_team_name g) refl
+  where
+    go : (b : Bool) → is_team_name g ≡ b → let group : Option (List ℕ) = if b then Some g else Some common in
+        (team_added w t group ≡ team_added w t (Some g))
+        × (after_team_add w t group (team_added w t group) ≡ after_team_add w t (Some g) (team_added w t (Some g)))
+    go true named = (refl, refl)
+    go false unnamed =
+        let none = no_group w g is unnamed in (
+          ap (answer (is_team_name t) (map.contains_key w.shelves t)) (common_no_group w ∙ sym none),
+          refused w t common (common_no_group w) ∙ sym (refused w t g none),
+        )
+
+pub comes_to_the_same : (order sent : Order) → IsSentFor order sent → ComeToTheSame sent order
+comes_to_the_same (TeamAdd name group) sent (other, is, same) w world =
+    let one = same_team w name.now (option_copied group) world in
+    let both = subst (λ g. (team_added w name.now g ≡ team_added w name.now (option_copied group))
+    × (after_team_add w name.now g (team_added w name.now g) ≡ after_team_add w name.now (option_copied group) (team_added w name.now (option_copied group)))) (sym same) one in
+    subst (λ o. (outcome_in w o ≡ outcome_in w (TeamAdd name group)) × (after w (event_of o) ≡ after w (event_of (TeamAdd name group)))) (sym is) both
+comes_to_the_same (GroupAdd name) sent is w world = (ap (outcome_in w) is, ap (λ o. after w (event_of o)) is)
+comes_to_the_same (KeyAdd shelf key right) sent is w world = (ap (outcome_in w) is, ap (λ o. after w (event_of o)) is)
+comes_to_the_same (KeyRevoke key) sent is w world = (ap (outcome_in w) is, ap (λ o. after w (event_of o)) is)
+
+-- ---- what comes of an order that no line carries
+
+team_unsaid : (name : Bor (List ℕ)) (group : Option (Bor (List ℕ))) → IsGroupSayable (option_copied group) → IsUnsayable (TeamAdd name group)
+    → (w : World) → ending (Ok (outcome_in w (TeamAdd name group))) ≡ Err (unsayable (TeamAdd name group))
+team_unsaid name group sayable unsaid w = go (is_team_name name.now) refl
+  where
+    go : (b : Bool) → is_team_name name.now ≡ b → ending (Ok (outcome_in w (TeamAdd name group))) ≡ Err (unsayable (TeamAdd name group))
+    go false unnamed = ap (λ b. ending (Ok (if not b then registered.Name else if map.contains_key w.shelves name.now then registered.Taken
+        else if lacks_group w (option_copied group) then registered.NoGroup else registered.Done))) unnamed
+    go true named =
+        let it = carried 8 32 32 (TeamAdd name group) (word_fits 8 (codes "team-add") refl refl refl) (team_fits name.now named)
+        (group_fits (option_copied group) sayable) (omega arith) in absurd (unsaid it.0 it.1)
+
+group_unsaid : (name : Bor (List ℕ)) → IsUnsayable (GroupAdd name) → (w : World) → ending (Ok (outcome_in w (GroupAdd name))) ≡ Err (unsayable (GroupAdd name))
+group_unsaid name unsaid w = go (is_team_name name.now) refl
+  where
+    go : (b : Bool) → is_team_name name.now ≡ b → ending (Ok (outcome_in w (GroupAdd name))) ≡ Err (unsayable (GroupAdd name))
+    go false unnamed = ap (λ b. ending (Ok (if not b then registered.Name else if map.contains_key w.shelves name.now then registered.Taken
+        else registered.Done))) unnamed
+    go true named =
+        let it = carried 9 32 0 (GroupAdd name) (word_fits 9 (codes "group-add") refl refl refl) (team_fits name.now named) tt (omega arith) in
+        absurd (unsaid it.0 it.1)
+
+abbrev key_told : Bool → Bool → Bool → Registered
+key_told named there taken = if not named then registered.Name else if not there then registered.NoTeam else if taken then registered.Taken else registered.Done
+
+abbrev key_word : Bool → Result (Unit {0}) Refusal
+key_word named = Err (refusal_by named NoTeam)
+
+key_unsaid : (shelf key : Bor (List ℕ)) (right : Right) → IsUnsayable (KeyAdd shelf key right) → (w : World) → IsWorld w
+    → ending (Ok (outcome_in w (KeyAdd shelf key right))) ≡ Err (unsayable (KeyAdd shelf key right))
+key_unsaid shelf key right unsaid w is = go (is_key key.now) (map.contains_key w.shelves shelf.now) refl refl
+  where
+    go : (named there : Bool) → is_key key.now ≡ named → map.contains_key w.shelves shelf.now ≡ there
+        → ending (Ok (outcome_in w (KeyAdd shelf key right))) ≡ Err (unsayable (KeyAdd shelf key right))
+    go false there unnamed at =
+        ap (λ b. ending (Ok (key_told b (map.contains_key w.shelves shelf.now) (map.contains_key w.keys key.now)))) unnamed ∙ sym (ap key_word unnamed)
+    go true false named at =
+        ap (λ b. ending (Ok (key_told b (map.contains_key w.shelves shelf.now) (map.contains_key w.keys key.now)))) named
+        ∙ ap (λ b. ending (Ok (key_told true b (map.contains_key w.keys key.now)))) at ∙ sym (ap key_word named)
+    go true true named at =
+        let it = carried 10 32 64 (KeyAdd shelf key right) (add_fits right) (shelf_fits shelf.now (is.team_names shelf.now at)) (key_fits key.now named) (omega arith) in
+        absurd (unsaid it.0 it.1)
+
+revoke_unsaid : (key : Bor (List ℕ)) → IsUnsayable (KeyRevoke key) → (w : World) → IsWorld w
+    → ending (Ok (outcome_in w (KeyRevoke key))) ≡ Err (unsayable (KeyRevoke key))
+revoke_unsaid key unsaid w is = go (map.get w.keys key.now) refl
+  where
+    go : (o : Option Holder) → map.get w.keys key.now ≡ o → ending (Ok (outcome_in w (KeyRevoke key))) ≡ Err (unsayable (KeyRevoke key))
+    go None at = ap (λ o. ending (Ok (if is_some o then registered.Done else registered.NoKey))) at
+    go (Some h) at =
+        let it = carried 10 64 0 (KeyRevoke key) (word_fits 10 (codes "key-revoke") refl refl refl) (key_fits key.now (is.key_names key.now h at)) tt (omega arith) in
+        absurd (unsaid it.0 it.1)
+
+-- as it is sent for another
+pub unsent_ends : (order sent : Order) → IsSentFor order sent → IsUnsayable sent → (w : World) → IsWorld w → Err (unsayable sent) ≡ ending (Ok (outcome_in w order))
+unsent_ends (TeamAdd name group) sent (other, is, same) unsaid w world =
+    let sayable = subst IsGroupSayable (sym same) (sent_sayable (option_copied group)) in
+    let said = team_unsaid name other sayable (subst IsUnsayable is unsaid) w in
+    ap (λ o. Err (unsayable o)) is ∙ sym said ∙ ap (λ o. ending (Ok o)) (subst (λ o. outcome_in w o ≡ outcome_in w (TeamAdd name group)) is (comes_to_the_same (TeamAdd name group) sent (other, is, same) w world).0)
+unsent_ends (GroupAdd name) sent is unsaid w world = ap (λ o. Err (unsayable o)) is ∙ sym (group_unsaid name (subst IsUnsayable is unsaid) w)
+unsent_ends (KeyAdd shelf key right) sent is unsaid w world = ap (λ o. Err (unsayable o)) is ∙ sym (key_unsaid shelf key right (subst IsUnsayable is unsaid) w world)
+unsent_ends (KeyRevoke key) sent is unsaid w world = ap (λ o. Err (unsayable o)) is ∙ sym (revoke_unsaid key (subst IsUnsayable is unsaid) w world)
+
+-- ---- the command
+
+pub orders_over : (unread unread_new written written_new : Option (List ℕ)) (order asked : Order) (told : Result Outcome Untold) (result : Result (Unit {0}) Refusal)
+    → IsSentFor order asked → Asks unread unread_new written written_new asked told → result ≡ told_ending asked told
+    → OrdersOver unread unread_new written written_new order result
+orders_over unread unread_new written written_new order asked told result sends asks ends = record {
+  asked = asked;
+  same = comes_to_the_same order asked sends;
+  told = told;
+  asks = asks;
+  ends = ends;
+  unsent = λ is w world.
+      let unsaid = (subst (Asks unread unread_new written written_new asked) is asks).0 in
+      ends ∙ ap (told_ending asked) is ∙ unsent_ends order asked sends unsaid w world;
+}

@@ -1,0 +1,38 @@
+-- A command with `--control`, and the `serve` that its line came to.
+use Rattle.std.specs.Prelude.{ℕ, ◌≡◌, ◌⊎◌, List, [], Option, Some, Result, Ok, Err}
+use Rattle.world.specs.Store.{Shown}
+use Rattle.world.specs.World.{World}
+use Rattle.world.specs.declared.registry.StoreFault.{StoreFault}
+use Rattle.shelf.specs.Machine.{after}
+use Rattle.control.specs.Hearing.{Heeds}
+use Rattle.control.specs.Order.{event_of, outcome_in}
+use Rattle.control.specs.declared.order.Order.{Order}
+use Rattle.control.specs.declared.outcome.Outcome.{Outcome}
+use Rattle.commands.specs.Ending.{ending}
+use Rattle.commands.specs.Order.{OrdersOver}
+use Rattle.commands.specs.declared.refusal.Refusal.{Refusal}
+
+-- The command wrote these bytes, the server did what they order, and what came of it is what the command was told.
+pub record AreConnected (old new : Shown) (order : Order) (result : Result (Unit {0}) Refusal) : Type 0 where
+  pub unread : Option (List ℕ)
+  pub unread_new : Option (List ℕ)
+  pub sent : List ℕ
+  pub told : Outcome
+  pub before : ℕ
+  pub now : ℕ
+  pub command : OrdersOver unread unread_new (Some []) (Some sent) order result
+  pub heard : command.told ≡ Ok told
+  pub server : Heeds old new before now sent told
+
+-- In this world, the command ends as the order does there, and the store stands for the world after the order. Or it met a fault, and the
+-- store stands for the world still.
+abbrev pub EndsAt : Shown → World → Order → Result (Unit {0}) Refusal → Type 0
+EndsAt new w order result =
+    ((result ≡ ending (Ok (outcome_in w order))) × new.stands (after w (event_of order)))
+    ⊎ ((fault : StoreFault) × (result ≡ ending (Err fault)) × new.stands w)
+
+-- So it is in each world that the store stood for, on an honest disk.
+abbrev pub EndsAsOnTheStore : Shown → Shown → Type 0
+EndsAsOnTheStore old new =
+    (order : Order) (result : Result (Unit {0}) Refusal) (w : World) → AreConnected old new order result → new.is_honest → old.stands w
+    → EndsAt new w order result

@@ -1,3 +1,4 @@
 pub mod Performed
 pub mod MigrateLemmas
 pub mod Parts
+pub mod Written

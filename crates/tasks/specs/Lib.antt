@@ -3,3 +3,4 @@ pub mod Migrate
 pub mod Opened
 pub mod Task
 pub mod Parts
+pub mod Written

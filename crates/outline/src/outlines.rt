@@ -1,0 +1,72 @@
+//! A store that tells how long the files of its entries are.
+ghost use Rattle.std.specs.Prelude.{◌≡◌};
+ghost use Rattle.outline.specs.Outline.{outline_of};
+
+use modpath::ModulePath;
+use modver::{TimeText, Version};
+use text::Text;
+use world::entry::Seen;
+use world::map_shelves::MapShelves;
+use world::registry::StoreFault;
+use world::shelves::Shelves;
+
+/// What is seen of a version, with the lengths of its files in the place of their bytes.
+#[derive(Drop)]
+pub struct Outline {
+    /// The shelf that its entry stands on.
+    pub shelf: Text,
+    pub time: Option<TimeText>,
+    /// How many bytes its go.mod has.
+    pub gomod_bytes: usize,
+    /// How many bytes its zip has.
+    pub zip_bytes: usize,
+}
+
+impl Outline {
+    /// The outline of an entry. It takes no memory.
+    pub fn of(seen: Seen) -> Outline
+        ensures { result ≡ outline_of seen }
+    {
+        let Seen { shelf, entry } = seen;
+        Outline {
+            shelf,
+            time: entry.time,
+            gomod_bytes: entry.gomod.as_slice().len(),
+            zip_bytes: entry.zip.as_slice().len(),
+        }
+    }
+}
+
+/// A store of shelves that tells outlines.
+pub trait Outlines: Shelves {
+    ghost use Rattle.modver.specs.SemanticVersion.{version_text};
+    ghost use Rattle.world.specs.Store.{Reads, HasCause};
+    ghost use Rattle.outline.specs.Outline.{outline};
+
+    /// The outline of what the shelf sees of the version; None if it sees no entry of it.
+    ///
+    /// Fails with `Device` if a disk failed, and `Memory` if memory ran out.
+    fn outline(
+        &mut self,
+        shelf: &str,
+        path: &ModulePath,
+        version: &Version,
+    ) -> Result<Option<Outline>, StoreFault>
+        ensures reads { Reads (Self.shown self.old) (Self.shown self.new) result
+            (λ w. outline w shelf.now path.now (version_text version.now)) }
+        ensures cause { HasCause (Self.failure_count self.old) (Self.failure_count self.new) result };
+}
+
+impl Outlines for MapShelves {
+    fn outline(
+        &mut self,
+        shelf: &str,
+        path: &ModulePath,
+        version: &Version,
+    ) -> Result<Option<Outline>, StoreFault> {
+        match self.entry(shelf, path, version)? {
+            None => Ok(None),
+            Some(seen) => Ok(Some(Outline::of(seen))),
+        }
+    }
+}

@@ -27,3 +27,4 @@ pub mod CopyKeyLemmas
 pub mod CopyRowLemmas
 pub mod TransactionEnds
 pub mod NumberLemmas
+pub mod OutlineLemmas

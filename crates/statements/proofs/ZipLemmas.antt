@@ -33,10 +33,10 @@ use Rattle.statements.proofs.PieceLemmas.{next_piece, no_more, bytes_same}
 
 -- ---- the query
 
-abbrev of_version : List Term
+abbrev pub of_version : List Term
 of_version = op2 (Compare Eq Binary) (col 1 1) (col 0 0) ∷ []
 
-abbrev shown : List Term
+abbrev pub shown : List Term
 shown = col 1 2 ∷ col 1 3 ∷ []
 
 abbrev zip_query : Query
@@ -60,10 +60,10 @@ zip_tables = refl
 
 -- ---- the rows of a version
 
-abbrev is_of_number : ℤ → Row → Bool
+abbrev pub is_of_number : ℤ → Row → Bool
 is_of_number id row = equal Binary (column row 1) (Int id)
 
-int_same : {a b : ℕ} → ◌≡◌ {A = Value} (Int (pos a)) (Int (pos b)) → a ≡ b
+pub int_same : {a b : ℕ} → ◌≡◌ {A = Value} (Int (pos a)) (Int (pos b)) → a ≡ b
 int_same e = cc
 
 -- each row so far has a number below this

@@ -9,3 +9,4 @@ pub mod Pairs
 pub mod Extract
 pub mod Numbers
 pub mod Shelves
+pub mod Outlines

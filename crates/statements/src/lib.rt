@@ -13,6 +13,7 @@
 //! | `registry::find_shelf` | the row of `shelf` that has the name |
 //! | `entries::find_entry` | the row of `version` on one shelf after the other, up to the first that has it, then the last of its rows of `piece`, and in one walk all of them, one after the other |
 //! | `entries::find_heading` | the row of `version` on one shelf after the other, up to the first that has it, and no row of `piece` |
+//! | `outlines::find_outline` | those of `find_heading`, then the last row of `piece`, and if that is full, the one behind it, which is not there |
 //! | `compare::find_standing` | those of `find_heading`, then each row of `piece` by its number, up to the first piece that is another |
 //! | `visible::find_versions`, `find_paths` | the rows of `version` on one shelf after the other |
 //! | `entries::count_entries` | how many rows of `version` the path has on the shelf |
@@ -33,6 +34,7 @@ pub mod entries;
 pub mod extract_rows;
 mod keyed;
 mod numbers;
+pub mod outlines;
 mod pieces;
 pub mod query;
 pub mod registry;

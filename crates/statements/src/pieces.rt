@@ -20,7 +20,7 @@ use world::bytes::Bytes;
 use world::entry::MAX_ZIP;
 
 /// The row of one piece of the zip of the version that has this number.
-fn find_piece<S: Alter>(
+pub(crate) fn find_piece<S: Alter>(
     conn: &mut Connection<S>,
     id: i64,
     number: u32,

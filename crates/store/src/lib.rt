@@ -1,4 +1,4 @@
-//! Team shelves as rows of SQL tables, behind the trait `world::shelves::Shelves`.
+//! Team shelves as rows of SQL tables, behind the traits `world::shelves::Shelves` and `outline::outlines::Outlines`.
 //!
 //! Which tables these are, and which world they stand for, is told in the crate `tables`; what is read of them and
 //! changed in them, in the crate `statements`. A store is
@@ -14,6 +14,7 @@
 //! | `key` | `statements::registry::find_key` |
 //! | `entry` | `find_heading` of `statements::entries`, on one shelf of the chain after the other, and the kept zip, or `find_entry`, whose zip is then kept |
 //! | `heading` | `find_heading` of `statements::entries`, along the chain |
+//! | `outline` | `statements::outlines::find_outline`, along the chain |
 //! | `compare` | `statements::compare::find_standing`, along the chain |
 //! | `versions` | `statements::visible::find_versions`, along the chain; asked once, and then kept until the path gets a version or a team is added |
 //! | `latest` | `versions`, and `heading` of the highest; asked once, and then kept with the versions |

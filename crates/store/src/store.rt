@@ -23,9 +23,11 @@ use crate::seen::{SeenHeading, find_seen};
 use crate::zips::with_zip;
 use modpath::ModulePath;
 use modver::Version;
+use outline::outlines::{Outline, Outlines};
 use sqlite::{Alter, Connection, Error, ErrorCode};
 use statements::compare::find_standing;
 use statements::entries::{add_entry, count_entries, find_entry, find_heading};
+use statements::outlines::find_outline;
 use statements::registry::{add_group, add_key, add_team, find_key, find_shelf};
 use statements::revoke::revoke_key;
 use statements::visible::{find_paths, find_versions};
@@ -261,6 +263,27 @@ impl<S: Alter> Shelves for SqlShelves<S> {
     fn key_revoke(&mut self, key: &str) -> Result<Registered, StoreFault> {
         match revoke_key(&mut self.conn, key) {
             Ok(registered) => Ok(registered),
+            Err(error) => Err(fault(&mut self.failures, error)),
+        }
+    }
+}
+
+impl<S: Alter> Outlines for SqlShelves<S> {
+    fn outline(
+        &mut self,
+        shelf: &str,
+        path: &ModulePath,
+        version: &Version,
+    ) -> Result<Option<Outline>, StoreFault> {
+        let group = self.group_of(shelf)?;
+        let chain = Chain::new(shelf, group.as_ref());
+        match find_outline(
+            &mut self.conn,
+            chain.as_slice(),
+            path.as_str(),
+            version.as_str(),
+        ) {
+            Ok(found) => Ok(found),
             Err(error) => Err(fault(&mut self.failures, error)),
         }
     }

@@ -1,5 +1,6 @@
 mod Gathered
 mod InventoryLines
+mod OutlineLines
 mod ImportLists
 mod Imports
 mod Openings

@@ -1,5 +1,5 @@
 -- The lines of an inventory, path by path and version by version.
-use Rattle.std.specs.Prelude.{ℕ, List, [], Option, Some, None}
+use Rattle.std.specs.Prelude.{ℕ, List, [], ◌∷◌, Option, Some, None}
 use Rattle.std.specs.List.{flat_map}
 use Rattle.modver.specs.SemanticVersion.{SemanticVersion}
 use Rattle.world.specs.Versions.{versions_of}
@@ -7,12 +7,19 @@ use Rattle.world.specs.Forms.{path_of}
 use Rattle.world.specs.Lines.{in_order}
 use Rattle.world.specs.Visible.{paths_seen}
 use Rattle.world.specs.World.{World}
+use Rattle.outline.specs.declared.outlines.Outline.{Outline}
 use Rattle.commands.specs.declared.inventory.Row.{Row}
 use Rattle.commands.specs.Inventory.{row_at, line, fields}
 
 -- the lines of these rows
 abbrev pub lines_of : List Row → List ℕ
 lines_of rows = flat_map (λ r. line (fields r)) rows
+
+-- a version of a path, by the outline of what is seen of it
+abbrev pub outlined : List ℕ → SemanticVersion → Option Outline → List Row
+outlined p v None = []
+outlined p v (Some it) =
+    record { path = p; version = v; shelf = it.shelf; time = it.time; gomod_bytes = it.gomod_bytes; zip_bytes = it.zip_bytes } ∷ []
 
 -- the line of a version that the shelf sees
 abbrev pub lines_at : World → List ℕ → List ℕ → SemanticVersion → List ℕ

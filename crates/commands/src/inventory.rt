@@ -3,7 +3,7 @@ ghost use Rattle.std.specs.Prelude.{◌≡◌, [], ◌∷◌, Some, IfOk, OnOk};
 ghost use Rattle.std.specs.FinMap as map;
 ghost use Rattle.world.specs.Store.{Reads, HasCause};
 ghost use Rattle.commands.specs.Inventory as spec;
-ghost use Rattle.commands.specs.InventoryLines.{lines_at, lines_of_path, lines_of_text, lines_seen};
+ghost use Rattle.commands.specs.InventoryLines.{outlined, lines_at, lines_of_path, lines_of_text, lines_seen};
 ghost use Rattle.commands.specs.Lines.{IsBetweenLines, text_in};
 ghost use Rattle.commands.specs.Reading.{Adds};
 ghost use Rattle.commands.specs.Rows.{IsWhole};
@@ -12,13 +12,12 @@ use crate::inventory_text::{headed, text_of, write_row};
 use csv::Writer;
 use modpath::ModulePath;
 use modver::{TimeText, Version};
+use outline::outlines::{Outline, Outlines};
 use std::alloc::{AllocError, Global};
 use text::Text;
 use world::bytes::Bytes;
-use world::entry::Seen;
 use world::forms::path_of;
 use world::registry::StoreFault;
-use world::shelves::Shelves;
 
 /// A version that a shelf sees, with the shelf that it stands on.
 #[derive(Drop)]
@@ -48,7 +47,7 @@ pub enum InventoryFault {
 /// versions of each by precedence, pseudo-versions among the others. (RFC 4180; SemVer 2.0.0, section 11.)
 ///
 /// Fails with `NoKey` if there is no such key, `Device` if a disk failed, and `Memory` if memory ran out.
-pub fn inventory<S: Shelves>(
+pub fn inventory<S: Outlines>(
     alloc: Global,
     shelves: &mut S,
     key: &str,
@@ -65,7 +64,7 @@ pub fn inventory<S: Shelves>(
 }
 
 /// The inventory of a key, if there is such a key.
-fn inventory_of<S: Shelves>(
+fn inventory_of<S: Outlines>(
     alloc: Global,
     shelves: &mut S,
     key: &str,
@@ -80,7 +79,7 @@ fn inventory_of<S: Shelves>(
 }
 
 /// The inventory of a shelf, in one walk. What is held is its text and the paths.
-fn inventory_on<S: Shelves>(
+fn inventory_on<S: Outlines>(
     alloc: Global,
     shelves: &mut S,
     shelf: &str,
@@ -94,7 +93,7 @@ fn inventory_on<S: Shelves>(
 }
 
 /// Adds the lines of all versions that a shelf sees: the paths by their bytes, the versions of each by precedence.
-fn add_paths<S: Shelves>(
+fn add_paths<S: Outlines>(
     alloc: Global,
     shelves: &mut S,
     shelf: &str,
@@ -112,7 +111,7 @@ fn add_paths<S: Shelves>(
 }
 
 /// Adds the lines of the path that a text is.
-fn add_text<S: Shelves>(
+fn add_text<S: Outlines>(
     alloc: Global,
     shelves: &mut S,
     shelf: &str,
@@ -131,7 +130,7 @@ fn add_text<S: Shelves>(
 }
 
 /// Adds the lines of a path, its versions by precedence.
-fn add_path<S: Shelves>(
+fn add_path<S: Outlines>(
     alloc: Global,
     shelves: &mut S,
     shelf: &str,
@@ -151,8 +150,7 @@ fn add_path<S: Shelves>(
 }
 
 /// Adds the line of a version, where the shelf sees it.
-/// It reads the whole entry, because no other call of a store says how long a zip is.
-fn add_version<S: Shelves>(
+fn add_version<S: Outlines>(
     alloc: Global,
     shelves: &mut S,
     shelf: &str,
@@ -165,10 +163,10 @@ fn add_version<S: Shelves>(
     ensures adds { Adds (S.shown shelves.old) (S.shown shelves.new) (text_in lines.old) (text_in lines.new) result (λ w. lines_at w shelf.now path.now version.now) }
     ensures cause { HasCause (S.failure_count shelves.old) (S.failure_count shelves.new) result }
 {
-    let Some(seen) = shelves.entry(shelf, path, version)? else {
+    let Some(outline) = shelves.outline(shelf, path, version)? else {
         return Ok(());
     };
-    let row = row_of(alloc, path, version, seen)?;
+    let row = row_of(alloc, path, version, outline)?;
     Ok(write_row(alloc, lines, &row)?)
 }
 
@@ -177,19 +175,18 @@ fn row_of(
     alloc: Global,
     path: &ModulePath,
     version: &Version,
-    seen: Seen,
+    outline: Outline,
 ) -> Result<Row, AllocError>
-    ensures { IfOk result (λ row. row ∷ [] ≡ spec.row_of path.now version.now (Some seen)) }
+    ensures { IfOk result (λ row. row ∷ [] ≡ outlined path.now version.now (Some outline)) }
 {
     let path = Text::copy_of(alloc, path.as_str())?;
     let version = version.copy(alloc)?;
-    let Seen { shelf, entry } = seen;
     Ok(Row {
         path,
         version,
-        shelf,
-        time: entry.time,
-        gomod_bytes: entry.gomod.as_slice().len(),
-        zip_bytes: entry.zip.as_slice().len(),
+        shelf: outline.shelf,
+        time: outline.time,
+        gomod_bytes: outline.gomod_bytes,
+        zip_bytes: outline.zip_bytes,
     })
 }

@@ -6,6 +6,7 @@ ghost use Rattle.commands.specs.Report as spec;
 use crate::inventory::{InventoryFault, inventory};
 use crate::refusal::Refusal;
 use crate::requirements::requirements;
+use outline::outlines::Outlines;
 use std::alloc::Global;
 use std::io::{self, Write};
 use world::bytes::Bytes;
@@ -14,7 +15,7 @@ use world::shelves::Shelves;
 
 /// Prints the inventory of a key. `NoKey` where there is no such key, `Device` or `Memory` where the store met a fault: then
 /// nothing is printed. `Io` where the output failed.
-pub fn print_inventory<S: Shelves, O: Write>(
+pub fn print_inventory<S: Outlines, O: Write>(
     alloc: Global,
     shelves: &mut S,
     key: &str,

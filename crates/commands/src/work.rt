@@ -9,9 +9,9 @@ use crate::refusal::Refusal;
 use crate::registry::{add_group, add_key, add_team, revoke_key};
 use crate::report::{Named, print_inventory, print_requirements};
 use crate::serve::{Entrance, serve};
+use outline::outlines::Outlines;
 use std::io::{Read, Write};
 use std::rt::HostRuntime;
-use world::shelves::Shelves;
 
 /// What is done on a store.
 #[derive(Clone, Copy, Drop)]
@@ -67,7 +67,7 @@ pub enum Work<'a> {
 }
 
 /// Does one work on a store and returns whether it was accepted; only a publish and an import can be done and not accepted.
-pub fn work_on<S: Shelves, I: Read, O: Write>(
+pub fn work_on<S: Outlines, I: Read, O: Write>(
     rt: &HostRuntime,
     shelves: &mut S,
     work: &Work,

@@ -5,10 +5,10 @@ use crate::in_memory::put;
 use crate::rows::{first_lines, newlines};
 use commands::memory::shelves_with;
 use commands::sources::{FilesInMemory, Sources};
+use outline::outlines::Outlines;
 use std::alloc::{AllocError, Global};
 use std::io::Read;
 use std::test::Fail;
-use world::shelves::Shelves;
 
 const KEY: &str = "alphakey00000001";
 
@@ -32,7 +32,7 @@ example.com/i,v1.2.0,alpha,release,,21,0
 ";
 
 /// What an import prints, how it ends, and what the shelf sees then.
-fn left_by<S: Shelves + Drop, L: Read + Drop, F: Sources>(
+fn left_by<S: Outlines + Drop, L: Read + Drop, F: Sources>(
     alloc: Global,
     mut shelves: S,
     list: L,

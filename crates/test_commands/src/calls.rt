@@ -8,6 +8,7 @@ use commands::registry::{add_group, add_key, add_team};
 use commands::requirements::requirements;
 use commands::sources::Sources;
 use engine::Io;
+use outline::outlines::Outlines;
 use std::alloc::Global;
 use std::io::Read;
 use std::str::from_utf8;
@@ -16,7 +17,7 @@ use world::shelves::Shelves;
 
 /// The first row of a script that is answered otherwise; empty where each has its own answer. A row is a command, a key, what it asks
 /// for, and the answer, in which `;` stands for a newline. In place of a key, `member-add` has the group. The store is let go then.
-pub fn wrong_row<'a, S: Shelves + Drop, F: Sources>(
+pub fn wrong_row<'a, S: Outlines + Drop, F: Sources>(
     alloc: Global,
     mut shelves: S,
     files: &F,
@@ -31,7 +32,7 @@ pub fn wrong_row<'a, S: Shelves + Drop, F: Sources>(
 }
 
 /// Whether a row has its answer.
-fn holds<S: Shelves, F: Sources>(
+fn holds<S: Outlines, F: Sources>(
     alloc: Global,
     shelves: &mut S,
     files: &F,
@@ -42,7 +43,7 @@ fn holds<S: Shelves, F: Sources>(
 }
 
 /// The answer to a row.
-fn answered<S: Shelves, F: Sources>(
+fn answered<S: Outlines, F: Sources>(
     alloc: Global,
     shelves: &mut S,
     files: &F,
@@ -107,7 +108,7 @@ fn ending_of(ended: Result<Ending, Io>) -> &'static str {
 }
 
 /// What the shelf of a key sees, or why that is not told.
-pub fn seen_by<S: Shelves>(alloc: Global, shelves: &mut S, key: &str) -> Result<String, Fail> {
+pub fn seen_by<S: Outlines>(alloc: Global, shelves: &mut S, key: &str) -> Result<String, Fail> {
     match inventory(alloc, shelves, key) {
         Ok(text) => Ok(String::from_str(alloc, from_utf8(text.as_slice())?)?),
         Err(fault) => Ok(format!(in alloc; "{fault:?}")?),

@@ -1,0 +1,41 @@
+-- The line of a version, by the outline of what is seen of it.
+use Rattle.std.proofs.Common.{◌≡◌, ◌++◌, ◌∙◌, ℕ, List, [], ◌∷◌, Option, Some, None, Ok, refl, sym, ap, append-nil}
+use Rattle.modver.specs.SemanticVersion.{SemanticVersion, version_text}
+use Rattle.outline.specs.Outline.{in_outline, outline}
+use Rattle.outline.specs.declared.outlines.Outline.{Outline}
+use Rattle.world.specs.declared.entry.Seen.{Seen}
+use Rattle.world.specs.Store.{Shown, Reads}
+use Rattle.world.specs.World.{view}
+use Rattle.commands.specs.Inventory.{row_of, line, fields}
+use Rattle.commands.specs.InventoryLines.{outlined, lines_of, lines_at}
+use Rattle.commands.specs.Reading.{Adds}
+use Rattle.commands.specs.declared.inventory.Row.{Row}
+
+-- the row of what is seen is that of its outline
+same_row : (p : List ℕ) (v : SemanticVersion) (seen : Option Seen) → outlined p v (in_outline seen) ≡ row_of p v seen
+same_row p v None = refl
+same_row p v (Some seen) = refl
+
+-- once the outline of a version was read
+module _ (old new : Shown) (s p : List ℕ) (v : SemanticVersion) (found : Option Outline) (read : Reads old new (Ok found) (λ w. outline w s p (version_text v))) (before after : List ℕ) where
+  adds_lines : (o : Option Outline) → found ≡ o → after ≡ before ++ lines_of (outlined p v o) → Adds old new before after (Ok tt) (λ w. lines_at w s p v)
+  adds_lines o is told = record {
+    honest = read.honest;
+    at = λ honest w stands.
+        let here = read.at honest w stands in
+        let row = ap (outlined p v) (sym is ∙ here.answer) ∙ same_row p v (view w s p (version_text v)) in
+        record {
+          answer = told ∙ ap (λ rows. before ++ lines_of rows) row;
+          stays = here.stays;
+          left = here.left;
+        };
+  }
+
+  -- no line is to be added where there is none
+  pub adds_none : found ≡ None → after ≡ before → Adds old new before after (Ok tt) (λ w. lines_at w s p v)
+  adds_none is same = adds_lines None is (same ∙ sym (append-nil before))
+
+  -- the line of its row is
+  pub adds_one : (it : Outline) (row : Row) → found ≡ Some it → row ∷ [] ≡ outlined p v (Some it) → after ≡ before ++ line (fields row) → Adds old new before after (Ok tt) (λ w. lines_at w s p v)
+  adds_one it row is rows told =
+      adds_lines (Some it) is (told ∙ (ap (λ l. before ++ l) (sym (append-nil (line (fields row)))) ∙ ap (λ rs. before ++ lines_of rs) rows))

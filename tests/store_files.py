@@ -1,5 +1,5 @@
 #!/usr/bin/env python3
-"""What a file keeps from run to run, zips about the length of a piece, and which files are refused: with which word, and unchanged.
+"""What a file keeps from run to run, zips about the length of a piece and their lengths, and which files are refused: with which word, and unchanged.
 
 Python's sqlite3 makes the files that are no stores. Each command with --db is tried on each of them.
 """
@@ -39,6 +39,8 @@ team-add --db a.db --team platform | 1 taken
 # bytes of a piece of a zip but for its last; the largest zip, of 256 of them, is in tables.py and largest.py
 PIECE = 65_536
 SIZES = {"v1.0.0": 0, "v1.0.1": 1, "v1.0.2": PIECE, "v1.0.3": PIECE + 1}
+# sizes of zips that the inventory tells by their last piece, of a piece and of more
+LISTED = (0, 1, PIECE - 1, PIECE, PIECE + 1, 2 * PIECE - 1, 2 * PIECE, 2 * PIECE + 1, 16 * PIECE)
 PATH, GOMOD = "example.com/z", b"module example.com/z\n"
 
 # the commands that open a store F, and the word of each where F is none; the last two make F of a store
@@ -161,6 +163,16 @@ def zips(suite):
     answers(suite, "--mem", MEMORY, [*publishes, *kept_zips()])
 
 
+def lengths(suite):
+    new_store("a.db", ("alpha", KEY))
+    published = reply(201, b"published\n")
+    rows = [(f"a zip of {size} bytes is published", put(PATH, f"v1.0.{n}", GOMOD, b"z" * size), published) for n, size in enumerate(LISTED)]
+    answers(suite, "lengths", ["--db", "a.db"], rows)
+    lines = [f"{PATH},v1.0.{n},alpha,release,,{len(GOMOD)},{size}\n" for n, size in enumerate(LISTED)]
+    listed = "path,version,shelf,class,time,mod_bytes,zip_bytes\n" + "".join(lines)
+    suite.equal("the inventory tells the length of each", run(f"inventory --db a.db --key {KEY}".split()), (0, listed.encode(), ""))
+
+
 def refused(suite):
     new_store("good.db")
     good = changed("good.db", FILL)
@@ -207,4 +219,4 @@ def no_files(suite):
 
 
 if __name__ == "__main__":
-    sys.exit(in_new_folders(Suite(), keeps, zips, refused, keys, no_files))
+    sys.exit(in_new_folders(Suite(), keeps, zips, lengths, refused, keys, no_files))

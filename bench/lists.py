@@ -1,7 +1,8 @@
 #!/usr/bin/env python3
 """What the lists of a whole shelf cost: `-/modules` and `inventory` of 1,000, 10,000 and 100,000 paths with a version each.
 
-Build the program first (`./goshelf --version`). With --program FILE it measures that program, with --zip BYTES each zip has so many (1,024).
+Build the program first (`./goshelf --version`). With --program FILE it measures that program, with --zip BYTES each zip has so many (1,024), and
+with --paths N there is one store, of so many paths.
 Each line tells the bytes of the text, the processor time beside that of opening the store, and the peak of memory beside the opening's. With
 --count it also tells instructions by valgrind's count, less the opening's, for all but the largest store.
 """
@@ -80,7 +81,7 @@ def main():
     program = os.path.abspath(words.get("--program", PROGRAM))
     zip_length = int(words.get("--zip", 1_024))
     with tempfile.TemporaryDirectory(prefix="goshelf-lists-") as folder:
-        for paths in PATHS:
+        for paths in [int(words["--paths"])] if "--paths" in words else PATHS:
             file = os.path.join(folder, f"{paths}.db")
             filled(file, paths, zip_length)
             print(f"{paths:,} paths, zips of {zip_length:,} bytes:", flush=True)

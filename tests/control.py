@@ -1,12 +1,11 @@
 #!/usr/bin/env python3
-"""`serve --control` and `--stdin`: orders and their words, sockets that are refused, operators that misbehave, keys that go under load, kills.
+"""`serve --control` and `--stdin`: orders and their words, sockets that are refused, operators that misbehave, keys that go under load.
 
-Each order is compared with what the same command does with `--db` on a store of its own. The kills are those of `kills`, with orders among
-the publishes: 20 of them, and 200 with --long; --seed N repeats a run. A restart by the socket that systemd holds is made under load.
+Each order is compared with what the same command does with `--db` on a store of its own. A restart by the socket that systemd holds is made
+under load. `control_kills` has the kills.
 """
 
 import os
-import random
 import socket
 import statistics
 import stat
@@ -15,7 +14,6 @@ import sys
 import threading
 import time
 
-import kills
 from harness import KEY, KEYS, NOBODY, PROGRAM, Suite, can_be_nobody, get, in_new_folders, new_store, put, read, reply, run, words_of, write
 
 CONTROL = "control"
@@ -24,7 +22,6 @@ LISTED = b"path,version,shelf,class,time,mod_bytes,zip_bytes\nexample.com/lib,v1
 GOMOD = b"module example.com/lib\n"
 # the seconds that an operator has for its line, and those that a busy machine takes more
 PATIENCE, MARGIN = 2, 2
-KILLS, MANY_KILLS = 20, 200
 
 # each is run with `--db`, and with `--control` while another store is served; both are to end with this
 ORDERS = """
@@ -434,48 +431,6 @@ def same_bytes(suite):
     two.kill()
 
 
-def killed(suite):
-    """Kills with orders among the publishes: what was acknowledged is there, and of the rest all or nothing."""
-    words = sys.argv[1:]
-    seed = int(words[words.index("--seed") + 1]) if "--seed" in words else time.time_ns() % 10**9
-    random.seed(seed)
-    print(f"seed {seed}")
-    new_store("kills.db", ("alpha", KEY))
-    store, next_number, next_key, acknowledged, kept, gone = "kills.db", 0, 0, [], [], []
-    for turn in range(MANY_KILLS if "--long" in words else KILLS):
-        server, numbers = Server(store), []
-        timer = kills.kill_after(server.child, random.choice((0.01, 0.03, 0.08)) * random.random())
-        try:
-            while True:
-                key = f"key{next_key:013}"
-                next_key += 1
-                if server.order(f"key-add alpha {key}\n".encode()) != b"done\n":
-                    break
-                kept.append(key)
-                if server.status(kills.publish(next_number, key)) != 201:
-                    break
-                numbers.append(next_number)
-                next_number += 1
-                if random.random() < 0.5:
-                    kept.remove(key)
-                    if server.order(f"key-revoke {key}\n".encode()) != b"done\n":
-                        break
-                    gone.append(key)
-        except (OSError, IndexError):
-            pass
-        timer.cancel()
-        server.kill()
-        acknowledged += numbers
-        is_there, wrong = kills.is_kept(store, acknowledged[-12:], [next_number])
-        next_number += is_there
-        suite.counts(f"kill {turn}: publishes", wrong)
-        for name, keys, status in (("are there", kept[-8:], 0), ("are gone", gone[-8:], 1)):
-            told = [run(["inventory", "--db", store, "--key", it])[0] for it in keys]
-            suite.counts(f"kill {turn}: keys that {name}", None if {*told} <= {status} else told)
-    suite.holds("some publishes, keys and revoked keys were acknowledged", acknowledged and kept and gone)
-    print(f"{turn + 1} kills: {len(acknowledged)} publishes, {len(kept)} keys and {len(gone)} revoked keys acknowledged")
-
-
 def from_input(suite):
     """`serve --stdin`: what standard input may be, and restarts that refuse nobody."""
     new_store("served.db", ("alpha", KEY))
@@ -532,4 +487,4 @@ def from_input(suite):
 
 
 if __name__ == "__main__":
-    sys.exit(in_new_folders(Suite(), orders, lines, refused, untold, revoked, at_once, stopped, same_bytes, killed, from_input))
+    sys.exit(in_new_folders(Suite(), orders, lines, refused, untold, revoked, at_once, stopped, same_bytes, from_input))

@@ -1,0 +1,89 @@
+#!/usr/bin/env python3
+"""What `serve --control` acknowledged is there after it is killed: the kills of `kills`, with orders among the publishes.
+
+The server is killed (SIGKILL) at random moments while keys are added, publish and are revoked. After each kill the store is opened again: each
+version and key that was acknowledged is there, whole, and each revoked key is not. The short form has 20 kills, --long 1,000, and a number as
+many; --seed N repeats a run.
+"""
+
+import random
+import sys
+import time
+
+import kills
+from control import Server
+from harness import KEY, Suite, in_new_folders, new_store, run
+
+SHORT, LONG = 20, 1_000
+
+
+class Acknowledged:
+    """What a store acknowledged: its publishes, the keys that it added, and those that it revoked."""
+
+    def __init__(self, store):
+        new_store(store, ("alpha", KEY))
+        self.store, self.next_number, self.next_key = store, 0, 0
+        self.published, self.kept, self.gone = [], [], []
+
+    def ask(self, server):
+        """Adds a key, publishes by it and at times revokes it, on and on, until the server is killed."""
+        while True:
+            key = f"key{self.next_key:013}"
+            self.next_key += 1
+            if server.order(f"key-add alpha {key}\n".encode()) != b"done\n":
+                return
+            self.kept.append(key)
+            if server.status(kills.publish(self.next_number, key)) != 201:
+                return
+            self.published.append(self.next_number)
+            self.next_number += 1
+            if random.random() < 0.5:
+                self.kept.remove(key)
+                if server.order(f"key-revoke {key}\n".encode()) != b"done\n":
+                    return
+                self.gone.append(key)
+
+    def wrong(self):
+        """Opens the store again. Returns what is wrong with its publishes and with its keys, each None where nothing is."""
+        is_there, wrong = kills.is_kept(self.store, self.published[-12:], [self.next_number])
+        self.next_number += is_there
+        for keys, status in ((self.kept[-8:], 0), (self.gone[-8:], 1)):
+            told = [run(["inventory", "--db", self.store, "--key", it])[0] for it in keys]
+            if {*told} - {status}:
+                return wrong, f"of {keys} the statuses are {told}"
+        return wrong, None
+
+
+def killed(suite):
+    """Kills with orders among the publishes: what was acknowledged is there, and of the rest all or nothing."""
+    count, stores, said = count_of(sys.argv[1:]), [], None
+    for turn in range(count):
+        if not stores or said or stores[-1].next_number > kills.MOST:
+            stores.append(Acknowledged(f"kills{len(stores)}.db"))
+        server = Server(stores[-1].store)
+        timer = kills.kill_after(server.child, random.choice((0.01, 0.03, 0.08)) * random.random())
+        try:
+            stores[-1].ask(server)
+        except (OSError, IndexError):
+            pass
+        timer.cancel()
+        server.kill()
+        said = None
+        for what, wrong in zip(("publishes", "keys"), stores[-1].wrong()):
+            suite.counts(f"kill {turn}: {what}", wrong)
+            said = said or wrong
+    sums = [sum(len(them) for them in of) for of in zip(*((it.published, it.kept, it.gone) for it in stores))]
+    suite.holds("some publishes, keys and revoked keys were acknowledged", all(sums))
+    print(f"{count} kills over {len(stores)} stores: {sums[0]} publishes, {sums[1]} keys and {sums[2]} revoked keys acknowledged")
+
+
+def count_of(words):
+    """How many kills the words ask for; their seed, or a new one, is set and printed."""
+    seed = int(words[words.index("--seed") + 1]) if "--seed" in words else time.time_ns() % 10**9
+    random.seed(seed)
+    print(f"seed {seed}")
+    return next((int(it) for it in words if it.isdigit() and int(it) != seed), LONG if "--long" in words else SHORT)
+
+
+if __name__ == "__main__":
+    sys.exit(in_new_folders(Suite(), killed))

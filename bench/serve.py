@@ -1,13 +1,15 @@
 #!/usr/bin/env python3
-"""Requests a second of `goshelf serve`, in turn with nginx over the same bytes as files.
+"""Requests a second of `goshelf serve`, in turn with nginx over the same bytes as files; `bench/zips.py` has the zips.
 
-Build the program first (`./goshelf --version`); `nginx` and `ab` are on the path (Debian: nginx, apache2-utils). nginx has one
-worker, and each request a connection of its own, as it has with `serve`. With --quick there are a tenth of the requests.
+Build the program first (`./goshelf --version`); nginx and cc are on the path. With --program FILE it measures that program. nginx has one
+worker, and each request a connection of its own, as it has with `serve`, by a client in C so that it is no bottleneck: its part of the
+processor stands behind each figure. `list` and `@latest` are asked of one path again and again, and of 2,000 paths in turn, all asked before.
+--rounds N makes N turns (9); with --quick there are a tenth of the requests.
 """
 
+import argparse
 import http.client
 import os
-import re
 import shutil
 import socket
 import statistics
@@ -16,14 +18,16 @@ import sys
 import tempfile
 import time
 
+import store
+from store import KEY, PROGRAM
+
 ROOT = os.path.dirname(os.path.dirname(os.path.abspath(__file__)))
-PROGRAM = os.path.join(ROOT, "crates", "goshelf", "out", "goshelf")
-KEY = "alphakey00000001"
 AT = f"/k/{KEY}/example.com/lib/@v/v1.0.0"
 GOMOD = b"module example.com/lib\n"
 ZIP = bytes(range(256)) * 65_536
 INFO = b'{"Time":"2024-01-31T12:00:00Z","Version":"v1.0.0"}'
-ROUNDS = 5
+# the paths whose lists are asked for, and the versions of each
+PATHS, VERSIONS = 2_000, 10
 CONFIG = """
 daemon off; worker_processes 1; pid {folder}/pid; error_log {folder}/errors;
 events {{ worker_connections 64; }}
@@ -50,86 +54,154 @@ def ask(port, method, target, body=None, headers=None):
     return reply.status, reply.read()
 
 
+def started(program, store, *more):
+    """`serve` over a store, and its port."""
+    child = subprocess.Popen([program, "serve", "--db", store, "--port", "0", *more], stdout=subprocess.PIPE, text=True)
+    return child, int(child.stdout.readline().rsplit(":", 1)[1])
+
+
+def stopped(child):
+    child.terminate()
+    child.wait()
+
+
 def start_nginx(folder):
-    """nginx over the files, and its port."""
-    os.makedirs(os.path.join(folder, "files" + os.path.dirname(AT)))
-    for kind, content in (("mod", GOMOD), ("info", INFO), ("zip", ZIP)):
-        with open(f"{folder}/files{AT}.{kind}", "wb") as file:
-            file.write(content)
+    """nginx over the files of a folder, and its port."""
     for parent, _, _ in os.walk(folder):
         os.chmod(parent, 0o755)
     port = free_port()
-    with open(os.path.join(folder, "nginx.conf"), "w") as file:
+    with open(os.path.join(folder, "nginx.conf"), "w", encoding="utf-8") as file:
         file.write(CONFIG.format(folder=folder, port=port))
     child = subprocess.Popen([shutil.which("nginx") or "/usr/sbin/nginx", "-c", f"{folder}/nginx.conf", "-e", f"{folder}/errors"])
     for _ in range(100):
         with socket.socket() as probe:
             if probe.connect_ex(("127.0.0.1", port)) == 0:
-                break
+                return child, port
         time.sleep(0.05)
-    return child, port
+    sys.exit("nginx does not start")
 
 
-def start_goshelf(folder):
-    """The program over a store with the version, and its port."""
-    store = os.path.join(folder, "shelves.db")
-    for words in (["team-add", "--team", "alpha"], ["key-add", "--shelf", "alpha", "--key", KEY]):
-        subprocess.run([PROGRAM, *words, "--db", store], check=True)
-    child = subprocess.Popen([PROGRAM, "serve", "--db", store, "--port", "0"], stdout=subprocess.PIPE, text=True)
-    port = int(child.stdout.readline().rsplit(":", 1)[1])
+def start_goshelf(program, folder):
+    """The program over a store with the version and the paths, and its port."""
+    file = os.path.join(folder, "shelves.db")
+    conn = store.made(file)
+    conn.execute("BEGIN")
+    for n in range(PATHS):
+        for version in (f"v1.0.{at}" for at in range(VERSIONS)):
+            row = ("alpha", path_of(n), version, store.gomod(path_of(n)), *store.keys(version))
+            conn.execute("INSERT INTO version (shelf, path, version, mod, order_key, rank_key) VALUES (?, ?, ?, ?, ?, ?)", row)
+    conn.execute("COMMIT")
+    conn.close()
+    child, port = started(program, file)
     headers = {"Mod-Length": str(len(GOMOD)), "Version-Time": "2024-01-31T12:00:00Z"}
-    started = time.monotonic()
+    begun = time.monotonic()
     status, _ = ask(port, "PUT", AT, GOMOD + ZIP, headers)
-    print(f"a publish of 16 MiB: {time.monotonic() - started:.2f} s")
+    print(f"a publish of 16 MiB: {time.monotonic() - begun:.2f} s")
     if status != 201:
         sys.exit(f"the publish was answered {status}")
     return child, port
 
 
+def path_of(n):
+    return f"example.com/path{n}"
+
+
+def lists(end):
+    """The targets of the paths that end so."""
+    return [f"/k/{KEY}/{path_of(n)}/{end}" for n in range(PATHS)]
+
+
+def write_files(folder, port):
+    """The files of nginx: those of the version, and the lists as goshelf answers them."""
+    files = {f"{AT}.{kind}": content for kind, content in (("mod", GOMOD), ("info", INFO), ("zip", ZIP))}
+    for target in lists("@v/list") + lists("@latest"):
+        status, files[target] = ask(port, "GET", target)
+        if status != 200:
+            sys.exit(f"{target} is answered {status}")
+    for target, content in files.items():
+        name = f"{folder}/files{target}"
+        os.makedirs(os.path.dirname(name), exist_ok=True)
+        with open(name, "wb") as file:
+            file.write(content)
+    return files
+
+
 def resident(child):
     """MiB of memory of a process, now and at the most."""
-    with open(f"/proc/{child.pid}/status") as file:
+    with open(f"/proc/{child.pid}/status", encoding="ascii") as file:
         told = dict(line.split(":", 1) for line in file)
     return tuple(int(told[it].split()[0]) / 1024 for it in ("VmRSS", "VmHWM"))
 
 
-def per_second(port, kind, count, clients):
-    """Requests a second, by ab; every one is answered 200 with the whole body."""
-    words = ["ab", "-q", "-n", str(count), "-c", str(clients), f"http://127.0.0.1:{port}{AT}.{kind}"]
-    told = subprocess.run(words, capture_output=True, text=True, check=True).stdout
-    if "Non-2xx" in told or not re.search(rf"Complete requests:\s+{count}\n", told) or not re.search(r"Failed requests:\s+0\n", told):
-        sys.exit(f"ab: {told}")
-    return float(re.search(r"Requests per second:\s+([\d.]+)", told)[1])
+def client_in(folder):
+    """The client, compiled."""
+    client = os.path.join(folder, "client")
+    source = os.path.join(ROOT, "bench", "client.c")
+    subprocess.run(["cc", "-O2", "-D_GNU_SOURCE", "-pthread", "-o", client, source], check=True)
+    return client
+
+
+def fetched(client, port, targets, lanes=1):
+    """The seconds in which each target is answered 200, and the client's seconds of processor time."""
+    told = subprocess.run([client, str(port), str(lanes)], input="\n".join(targets), capture_output=True, text=True, check=False)
+    if told.returncode:
+        sys.exit(f"the client failed: {told.stderr}")
+    seconds, _, own = map(float, told.stdout.split())
+    return seconds, own
+
+
+def spread(values):
+    return f"{statistics.median(values):,.1f} ({min(values):,.1f} to {max(values):,.1f})"
+
+
+def compare(client, ports, name, targets, lanes, rounds):
+    """Prints the medians of rounds in turn, with the least and the most of each."""
+    took = [[fetched(client, port, targets, lanes) for port in ports] for _ in range(rounds)]
+    ours, theirs = ([len(targets) / it[at][0] for it in took] for at in (0, 1))
+    ratio = statistics.median(one / other for one, other in zip(ours, theirs))
+    busy = statistics.median(own / seconds for one in took for seconds, own in one)
+    print(f"{name}, {lanes} at once: goshelf {spread(ours)} a second, nginx {spread(theirs)}: {ratio:.2f} times; client busy {busy:.0%}", flush=True)
+
+
+def questions(scale):
+    """Of each kind its name and the targets of a round."""
+    count = 20_000 // scale
+    for kind in ("mod", "info"):
+        yield f".{kind}", [f"{AT}.{kind}"] * count
+    for name, end in (("list", "@v/list"), ("@latest", "@latest")):
+        yield f"`{name}` of {VERSIONS} versions", lists(end)[:1] * count
+        yield f"`{name}`, {PATHS:,} paths in turn", (lists(end) * (count // PATHS + 1))[: max(count, PATHS)]
+    yield ".zip of 16 MiB", [f"{AT}.zip"] * max(1, 100 // scale)
+
+
+def options():
+    parser = argparse.ArgumentParser(description=__doc__, formatter_class=argparse.RawDescriptionHelpFormatter)
+    parser.add_argument("--program", default=PROGRAM)
+    parser.add_argument("--rounds", type=int, default=9)
+    parser.add_argument("--quick", action="store_true")
+    return parser.parse_args()
 
 
 def main():
-    if not os.path.exists(PROGRAM):
+    words = options()
+    if not os.path.exists(words.program):
         sys.exit("build the program first: ./goshelf --version")
-    scale = 10 if "--quick" in sys.argv[1:] else 1
-    with tempfile.TemporaryDirectory() as folder:
-        ours, our_port = start_goshelf(folder)
+    with tempfile.TemporaryDirectory(prefix="goshelf-serve-") as folder:
+        client = client_in(folder)
+        ours, our_port = start_goshelf(os.path.abspath(words.program), folder)
+        files = write_files(folder, our_port)
         theirs, their_port = start_nginx(folder)
         try:
-            for kind in ("mod", "info", "zip"):
-                if ask(our_port, "GET", f"{AT}.{kind}") != ask(their_port, "GET", f"{AT}.{kind}"):
-                    sys.exit(f"the bytes of .{kind} differ")
-            for kind, count in (("mod", 20_000), ("info", 20_000), ("zip", 100)):
-                for clients in (1, 8):
-                    compare(our_port, their_port, kind, count // scale, clients)
+            for target, content in files.items():
+                if [ask(port, "GET", target) for port in (our_port, their_port)] != 2 * [(200, content)]:
+                    sys.exit(f"the bytes of {target} differ")
+            for name, targets in questions(10 if words.quick else 1):
+                for lanes in (1, 8):
+                    compare(client, (our_port, their_port), name, targets, lanes, words.rounds)
             print("memory of goshelf: {:.0f} MiB, {:.0f} at the most; of nginx's first process: {:.0f} MiB".format(*resident(ours), resident(theirs)[0]))
         finally:
-            for child in (ours, theirs):
-                child.terminate()
-                child.wait()
-
-
-def compare(our_port, their_port, kind, count, clients):
-    """Prints the medians of rounds in turn, with the least and the most of each."""
-    rounds = [[per_second(port, kind, count, clients) for port in (our_port, their_port)] for _ in range(ROUNDS)]
-    ours, theirs = zip(*rounds)
-    texts = [f"{statistics.median(it):,.1f} ({min(it):,.1f} to {max(it):,.1f})" for it in (ours, theirs)]
-    ratio = statistics.median(one / other for one, other in rounds)
-    print(f".{kind}, {clients} at once: goshelf {texts[0]} a second, nginx {texts[1]}: {ratio:.2f} times", flush=True)
+            stopped(ours)
+            stopped(theirs)
 
 
 if __name__ == "__main__":

@@ -1,0 +1,272 @@
+#!/usr/bin/env python3
+"""What `serve --control` costs its peers and its operators: GETs with the socket and without, orders under load, a key revoked, a copy.
+
+Build the program first (`./goshelf --version`); cc is on the path. With --program FILE it measures that program. It prints a table for
+bench/RESULTS.md, of four parts, or of those that --only names:
+
+  gets      GETs a second of one `.mod` with `--control` beside those without, in turn, by a client in C, each on a connection of its own
+  orders    how long orders take while eight clients ask on and on: keys that are added and revoked, each on the disk before it is told
+  revoke    on a store of a million versions, made by sqlite3: how long a key's revocation takes while eight clients ask with it, and how
+            many requests that began after `done` were answered 200, of which there may be none
+  copy      `copy --control` of a store of 1 GiB beside `extract` of the same, in turn, and how long a peer waited meanwhile. It is skipped
+            where the program has no such command
+
+STORES names the folder of the stores, 6 GiB for all parts.
+"""
+
+import argparse
+import os
+import shutil
+import socket
+import sqlite3
+import statistics
+import subprocess
+import sys
+import tempfile
+import time
+
+import store
+from serve import ROOT, client_in, fetched, started, stopped
+from store import KEY, PROGRAM
+
+PARTS = ("gets", "orders", "revoke", "copy")
+# seconds of load around a revocation
+BEFORE, AFTER = 0.5, 1.5
+MIB = 1_048_576
+
+
+class Server:
+    """A `serve` with a socket for operators."""
+
+    def __init__(self, program, file, control):
+        self.control = control
+        self.child, self.port = started(program, file, "--control", control)
+
+    def order(self, line):
+        """Gives an order, which has to be done. Returns when it was sent and when the reply had come."""
+        begun = time.monotonic()
+        with socket.socket(socket.AF_UNIX) as held:
+            held.connect(self.control)
+            held.sendall(f"{line}\n".encode())
+            told = b"".join(iter(lambda: held.recv(100), b""))
+        ended = time.monotonic()
+        if told != b"done\n":
+            sys.exit(f"{line} is told {told}")
+        return begun, ended
+
+    def stop(self):
+        stopped(self.child)
+
+
+class Load:
+    """Clients who ask for some targets on and on, for some seconds."""
+
+    def __init__(self, client, port, targets, lanes, seconds):
+        words = [client, str(port), str(lanes), str(seconds)]
+        self.child = subprocess.Popen(words, stdin=subprocess.PIPE, stdout=subprocess.PIPE, text=True)
+        self.child.stdin.write("\n".join(targets))
+        self.child.stdin.close()
+
+    def outcomes(self):
+        """Of each request when it began, when it was answered, and the status."""
+        told = self.child.stdout.read()
+        if self.child.wait():
+            sys.exit("the clients failed")
+        return [(float(begun), float(ended), int(status)) for begun, ended, status in map(str.split, told.splitlines())]
+
+
+def mod(n, key=KEY):
+    """The target of the .mod of the nth version of a store."""
+    path, version = store.place(n)
+    return f"/k/{key}/{path}/@v/{version}.mod"
+
+
+def middle(values, form=".2f", unit=" s"):
+    """The median of some values, the least and the most."""
+    return f"{statistics.median(values):{form}}{unit} ({min(values):{form}} to {max(values):{form}})"
+
+
+def in_order(values, share):
+    return sorted(values)[min(len(values) - 1, int(share * len(values)))]
+
+
+def gets(words, folder, client):
+    """GETs a second with the socket beside those without, as rows of the table."""
+    files = [os.path.join(folder, f"{name}.db") for name in ("with", "without")]
+    for file in files:
+        store.filled(file, 1)
+    server, (plain, port) = Server(words.program, files[0], f"{folder}/control"), started(words.program, files[1])
+    targets, rows = [mod(0)] * words.gets, []
+    for lanes in (1, 8):
+        took = {it: [] for it in (server.port, port)}
+        for number in range(words.rounds):
+            # by turns the one and the other first
+            for it in sorted(took, reverse=number % 2 == 0):
+                took[it].append(fetched(client, it, targets, lanes)[0])
+        ours, theirs = ([words.gets / seconds for seconds in took[it]] for it in (server.port, port))
+        ratio = statistics.median(one / other for one, other in zip(ours, theirs))
+        text = f"{statistics.median(ours):,.0f} a second, {ratio:.2f} times the {statistics.median(theirs):,.0f} without"
+        rows.append((f"GETs of a `.mod` with `--control`, {clients(lanes)}", text))
+    server.stop()
+    stopped(plain)
+    return rows
+
+
+def clients(count):
+    return "one client" if count == 1 else f"{count} clients"
+
+
+def orders(words, folder, client):
+    """How long orders take under load."""
+    file = os.path.join(folder, "orders.db")
+    store.filled(file, 100)
+    server, took = Server(words.program, file, f"{folder}/control"), []
+    names = [f"key{number:013}" for number in range((words.orders + 1) // 2)]
+    lines = [*(f"reader-add alpha {it}" for it in names), *(f"key-revoke {it}" for it in names)][: words.orders]
+    # longer than the orders take; the rest is cut off
+    load = Load(client, server.port, [mod(n) for n in range(100)], words.clients, 5 + words.orders / 5)
+    time.sleep(BEFORE)
+    for line in lines:
+        begun, ended = server.order(line)
+        took.append(1000 * (ended - begun))
+        time.sleep(0.005)
+    if load.child.poll() is not None:
+        sys.exit("the load ended before the orders did")
+    load.child.kill()
+    load.child.wait()
+    server.stop()
+    figures = f"{statistics.median(took):.1f} ms in the median, {in_order(took, 0.99):.1f} at 99 %, {max(took):.1f} at most"
+    return [(f"an order while {clients(words.clients)} ask, of {len(took)}", figures)]
+
+
+def revoke(words, folder, client):
+    """How long a key's revocation takes on a large store, and whether a request that began after it was answered 200."""
+    file = os.path.join(folder, "large.db")
+    store.filled(file, words.versions)
+    begun = time.monotonic()
+    server, took, late = Server(words.program, file, f"{folder}/control"), [], []
+    opened = time.monotonic() - begun
+    for number in range(words.rounds):
+        key = f"revoked{number:09}"
+        server.order(f"reader-add alpha {key}")
+        targets = [mod(n * 7919 % words.versions, key) for n in range(10_000)]
+        load = Load(client, server.port, targets, words.clients, BEFORE + AFTER)
+        time.sleep(BEFORE)
+        begun, ended = server.order(f"key-revoke {key}")
+        took.append(1000 * (ended - begun))
+        outcomes = load.outcomes()
+        late += [status for at, _, status in outcomes if at > ended]
+        early = [status for _, at, status in outcomes if at < begun]
+        if {*early} != {200} or not late:
+            sys.exit(f"{len(late)} requests began after a revocation, and those before were answered {sorted({*early})}")
+    server.stop()
+    remove(file)
+    name = f"a key is revoked on {words.versions:,} versions ({opened:.0f} s to open) while {clients(words.clients)} ask"
+    text = f"{middle(took, '.1f', ' ms')}; of {len(late):,} requests after `done`, {late.count(200)} are answered 200"
+    return [(name, text)]
+
+
+def copy(words, folder, client):
+    """How long a copy takes beside an extract of the same store, and how long a peer waits meanwhile."""
+    if subprocess.run([words.program, "copy", "--help"], capture_output=True, check=False).returncode:
+        return [("a copy beside an extract", "skipped: the program has no command `copy`")]
+    served, whole, ours, theirs = (os.path.join(folder, f"{name}.db") for name in ("served", "whole", "copy", "extract"))
+    large(whole, words.mib)
+    shutil.copyfile(whole, served)
+    server = Server(words.program, served, f"{folder}/control")
+    turns = [copies(words.program, client, server, whole, ours, theirs) for _ in range(words.copies)]
+    server.stop()
+    took, beside, opening, waited = zip(*turns)
+    ratios = [[one / (other - less) for one, other, less in zip(took, beside, them)] for them in (opening, [0] * len(turns))]
+    size = f"{os.path.getsize(whole) / MIB:,.0f} MiB"
+    rows = [
+        (f"`copy --control` of {size}", f"{middle(took)}, {middle(ratios[1], unit=' times')} the time of `extract`"),
+        ("beside that `extract` without its opening", f"{middle(ratios[0], unit=' times')} its time"),
+        ("a peer waits meanwhile", middle(waited)),
+    ]
+    remove(served, whole)
+    return rows
+
+
+def large(file, count):
+    """A store with so many zips of 1 MiB."""
+    conn = store.made(file)
+    conn.execute("BEGIN")
+    for n in range(count):
+        store.insert(conn, n, MIB)
+    conn.execute("COMMIT")
+    conn.close()
+
+
+def copies(program, client, server, whole, ours, theirs):
+    """The seconds of a copy, of an extract, of the opening that is in it, and those that a peer waited for the copy."""
+    opening, _ = store.answered(whole, [])
+    beside = timed([program, "extract", "--db", whole, "--team", "alpha", "--to", theirs])
+    # (its last request begins once the copy has, and is waited for)
+    load = Load(client, server.port, [mod(0)], 1, 2 * BEFORE)
+    time.sleep(BEFORE)
+    took = timed([program, "copy", "--control", server.control, "--to", ours])
+    waited = max(ended - begun for begun, ended, _ in load.outcomes())
+    if contents(ours) != contents(whole):
+        sys.exit("the copy is not as the store")
+    remove(ours, theirs)
+    return took, beside, opening, waited
+
+
+def timed(words):
+    begun = time.monotonic()
+    subprocess.run(words, check=True)
+    return time.monotonic() - begun
+
+
+def contents(file):
+    """How many rows each table has, and the bytes of the zips."""
+    conn = sqlite3.connect(file)
+    told = [conn.execute(f"SELECT COUNT(*) FROM {it}").fetchone() for it in ("shelf", "access", "version")]
+    told.append(conn.execute("SELECT COUNT(*), SUM(LENGTH(bytes)) FROM piece").fetchone())
+    conn.close()
+    return told
+
+
+def remove(*files):
+    """Removes stores with their logs."""
+    for name in (file + end for file in files for end in ("", "-wal", "-shm")):
+        if os.path.exists(name):
+            os.remove(name)
+
+
+def table(rows):
+    commit = subprocess.run(["git", "-C", ROOT, "rev-parse", "--short", "HEAD"], capture_output=True, text=True, check=False).stdout.strip()
+    lines = [("what", "figure", "program", "command"), ("---",) * 4]
+    lines += [(*it, f"`{commit}`", "`bench/control.py`") for it in rows]
+    return "\n".join(f"| {' | '.join(it)} |" for it in lines)
+
+
+def options():
+    parser = argparse.ArgumentParser(description=__doc__, formatter_class=argparse.RawDescriptionHelpFormatter)
+    parser.add_argument("--program", default=PROGRAM)
+    parser.add_argument("--only", help=f"parts, of {','.join(PARTS)}", default=",".join(PARTS))
+    for name, default, text in (("rounds", 9, "turns of gets, and revocations"), ("gets", 20_000, "GETs of a turn"), ("orders", 200, "orders under load"),
+                                ("clients", 8, "clients at once"), ("versions", 1_000_000, "versions of the store where keys are revoked"),
+                                ("mib", 1_024, "zips of 1 MiB in the store that is copied"), ("copies", 5, "turns of the copy")):
+        parser.add_argument(f"--{name}", type=int, default=default, help=f"{text} ({default:,})")
+    return parser.parse_args()
+
+
+def main():
+    words = options()
+    words.program = store.PROGRAM = os.path.abspath(words.program)
+    if not os.path.exists(words.program):
+        sys.exit("build the program first: ./goshelf --version")
+    rows = []
+    with tempfile.TemporaryDirectory(prefix="goshelf-control-", dir=os.environ.get("STORES")) as folder:
+        client = client_in(folder)
+        for name in words.only.split(","):
+            begun = time.monotonic()
+            rows += {"gets": gets, "orders": orders, "revoke": revoke, "copy": copy}[name](words, folder, client)
+            print(f"{name}: {time.monotonic() - begun:.0f} s", file=sys.stderr, flush=True)
+    print(table(rows))
+
+
+if __name__ == "__main__":
+    main()

@@ -1,7 +1,7 @@
 #!/usr/bin/env python3
 """Speed and memory of `goshelf answer --mem`: makes streams of requests and runs the built program on them.
 
-Build the program first (`./goshelf --version`). Each line tells requests a second, bytes a second in and out,
+Build the program first (`./goshelf --version`); GOSHELF names another program. Each line tells requests a second, bytes a second in and out,
 and the peak memory of the run. With --quick the streams are a tenth as long.
 """
 
@@ -13,7 +13,7 @@ import tempfile
 import time
 
 ROOT = os.path.dirname(os.path.dirname(os.path.abspath(__file__)))
-PROGRAM = os.path.join(ROOT, "crates", "goshelf", "out", "goshelf")
+PROGRAM = os.path.abspath(os.environ.get("GOSHELF") or os.path.join(ROOT, "crates", "goshelf", "out", "goshelf"))
 KEY = "alphakey00000001"
 BLOCK = bytes(range(256)) * 256
 WORDS = ["answer", "--mem", "--team", "alpha", "--key", KEY]

@@ -1,25 +1,27 @@
 #!/usr/bin/env python3
 """Speed and memory of a store in a file: `goshelf answer --db`, beside Python's sqlite3 that inserts the same rows; lists of a long path.
 
-Build the program first (`./goshelf --version`). Each publish is one transaction that is on the disk before it is
-answered, and so is each of sqlite3's (synchronous=FULL). With --quick the stores are a tenth as large.
+Build the program first (`./goshelf --version`); GOSHELF names another program. Each publish is one transaction that is on the disk before it
+is answered, and so is each of sqlite3's (synchronous=FULL). The publishes of both go in turn, each time into a new store. With --publishes
+these alone are measured; with --quick the stores are a tenth as large. STORES names the folder of the stores.
 """
 
 import itertools
 import os
 import sqlite3
+import statistics
 import subprocess
 import sys
 import tempfile
 import time
 
 ROOT = os.path.dirname(os.path.dirname(os.path.abspath(__file__)))
-PROGRAM = os.path.join(ROOT, "crates", "goshelf", "out", "goshelf")
+PROGRAM = os.path.abspath(os.environ.get("GOSHELF") or os.path.join(ROOT, "crates", "goshelf", "out", "goshelf"))
 KEY = "alphakey00000001"
 BLOCK = bytes(range(256)) * 4
 # bytes of a piece of a zip but for its last
 PIECE = 65_536
-ROUNDS = 7
+ROUNDS = 9
 TABLES = """
 CREATE TABLE meta (name TEXT PRIMARY KEY, value INTEGER NOT NULL) STRICT;
 CREATE TABLE shelf (name TEXT PRIMARY KEY, parent TEXT REFERENCES shelf (name)) STRICT;
@@ -110,37 +112,54 @@ def answered(file, requests):
         return seconds, usage.ru_maxrss / 1024
 
 
-def publishes(folder, count, zip_length, name):
-    """Publishes a second of the program and of sqlite3, each into a store of its own."""
-    ours = os.path.join(folder, f"ours{zip_length}.db")
+def published(folder, count, zip_length):
+    """Milliseconds of one of so many publishes, and of one of as many by sqlite3, and the program's peak, each into a new store."""
+    ours, theirs = (os.path.join(folder, f"{name}.db") for name in ("ours", "theirs"))
     made(ours).close()
     opening, _ = answered(ours, [])
     seconds, memory = answered(ours, (publish(n, zip_length) for n in range(count)))
-    theirs = made(os.path.join(folder, f"theirs{zip_length}.db"))
-    theirs.execute("PRAGMA journal_mode = WAL")
-    theirs.execute("PRAGMA synchronous = FULL")
+    conn = made(theirs)
+    conn.execute("PRAGMA journal_mode = WAL")
+    conn.execute("PRAGMA synchronous = FULL")
     started = time.monotonic()
     for n in range(count):
-        theirs.execute("BEGIN")
-        insert(theirs, n, zip_length)
-        theirs.execute("COMMIT")
+        conn.execute("BEGIN")
+        insert(conn, n, zip_length)
+        conn.execute("COMMIT")
     beside = time.monotonic() - started
-    theirs.close()
-    seconds = max(seconds - opening, 1e-9)
+    conn.close()
+    for name in os.listdir(folder):
+        os.remove(os.path.join(folder, name))
+    return 1000 * max(seconds - opening, 1e-9) / count, 1000 * beside / count, memory
+
+
+def publishes(folder, count, zip_length, name):
+    """Prints the medians of turns of publishes by the program and by sqlite3."""
+    with tempfile.TemporaryDirectory(dir=folder) as own:
+        turns = [published(own, count, zip_length) for _ in range(ROUNDS)]
+    ours, theirs, memory = zip(*turns)
+    ratios = [one / other for one, other in zip(ours, theirs)]
     print(
-        f"{count:,} publishes with {name} zips: {count / seconds:,.0f} a second, peak {memory:,.1f} MiB; "
-        f"sqlite3 inserts {count / beside:,.0f} a second ({seconds / beside:.2f} times its time)"
+        f"publishes with {name} zips, medians of {ROUNDS} turns of {count:,}: {middle(ours)} ms, {1000 / statistics.median(ours):,.0f} a second, "
+        f"peak {max(memory):,.1f} MiB; sqlite3 {middle(theirs)} ms: {middle(ratios)} times its time",
+        flush=True,
     )
+
+
+def middle(values):
+    """The median of some values, the least and the most."""
+    return f"{statistics.median(values):.2f} ({min(values):.2f} to {max(values):.2f})"
 
 
 def filled_file(folder, entries):
     """The file of a store of so many versions, with the time and the memory of its opening."""
     file = os.path.join(folder, f"store{entries}.db")
     filled(file, entries)
-    opening, least = answered(file, [])
+    seconds, peaks = zip(*(answered(file, []) for _ in range(ROUNDS)))
     print(
-        f"a store of {entries:,} versions ({os.path.getsize(file) / 2**20:,.1f} MiB): opened in {opening:.2f} s with "
-        f"{least:,.1f} MiB at the peak"
+        f"a store of {entries:,} versions ({os.path.getsize(file) / 2**20:,.1f} MiB): opened in {middle(seconds)} s with "
+        f"{max(peaks):,.1f} MiB at the peak",
+        flush=True,
     )
     return file
 
@@ -192,8 +211,10 @@ def main():
     if not os.path.exists(PROGRAM):
         sys.exit("build the program first: ./goshelf --version")
     with tempfile.TemporaryDirectory(dir=os.environ.get("STORES")) as folder:
-        publishes(folder, 10_000 // scale, 1024, "1 KiB")
-        publishes(folder, 200 // scale, 2**20, "1 MiB")
+        publishes(folder, 1_500 // scale, 1024, "1 KiB")
+        publishes(folder, 100 // scale, 2**20, "1 MiB")
+        if "--publishes" in sys.argv:
+            return
         fetches(folder, 1_000, 100_000 // scale, 1_000_000 // scale)
         on_one_path(folder, 3_900, 1_000 // scale, 40)
 

@@ -301,8 +301,9 @@ def main():
                 wrong[name] = sum(one != other for one, other in zip(first, outcomes)) + abs(len(first) - len(outcomes))
                 rows.append(row)
                 print(f"{name}: {row['rate']:,.0f} answers a second", file=sys.stderr, flush=True)
-    print(f"{len(first):,} requests; statuses {({it: sum(one[0] == it for one in first) for it in sorted({one[0] for one in first})})}")
-    print(table(rows, wrong))
+        # (before the folder goes, which takes a minute where a cache has filled it)
+        print(f"{len(first):,} requests; statuses {({it: sum(one[0] == it for one in first) for it in sorted({one[0] for one in first})})}")
+        print(table(rows, wrong), flush=True)
     with open(sizes.plot, "w", encoding="utf-8") as file:
         file.write(plot([(row["name"], row["latencies"]) for row in rows]))
 

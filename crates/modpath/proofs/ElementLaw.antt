@@ -65,6 +65,7 @@ nil-last : (c : ℕ) (e : List ℕ) → 0 < c → length e ≡ 0 → (get_or e (
 nil-last c [] some none h = let z : 0 ≡ c = eqb-true 0 c h in omega arith
 nil-last c (b ∷ e) some none h = omega arith
 
+-- the last byte of a text is `c`, which is not 0, exactly if the text ends with `c`
 pub ends_exact : (c : ℕ) (e : List ℕ) → 0 < c → ((get_or e (length e - 1) 0 == c) ≡ true) ↔ EndsWith e (c ∷ [])
 ends_exact c e some = (
   λ h. elim (cases_Bool (ltb 0 (length e))) [
@@ -88,6 +89,7 @@ ends_exact c e some = (
 
 -- ---- bytes
 
+-- the test of an element byte passes only letters, digits and `-`, `.`, `_`, `~`
 pub element_byte-to : (b : ℕ) → is_element_byte b ≡ true → IsElementByte b
 element_byte-to b h = elim (or_cases _ _ h) [
   | inr tilde ↦ inr (contains_there 45 (46 ∷ 95 ∷ 126 ∷ []) b (contains_there 46 (95 ∷ 126 ∷ []) b (contains_there 95 (126 ∷ []) b (contains_here 126 [] b (sym (eqb-true b 126 tilde))))))
@@ -106,6 +108,7 @@ element_byte-to b h = elim (or_cases _ _ h) [
 byte-among : (b c : ℕ) → c ≡ b → is_element_byte c ≡ true → is_element_byte b ≡ true
 byte-among b c e h = ap is_element_byte (sym e) ∙ h
 
+-- the test of an element byte passes each letter, each digit and `-`, `.`, `_`, `~`
 pub element_byte-from : (b : ℕ) → IsElementByte b → is_element_byte b ≡ true
 element_byte-from b (inl letter) = or_left _ _ (or_left _ _ (or_left _ _ (or_left _ _ letter)))
 element_byte-from b (inr among) = elim (contains_cases 45 (46 ∷ 95 ∷ 126 ∷ []) b among) [

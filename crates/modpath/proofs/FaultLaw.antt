@@ -62,6 +62,7 @@ dots_check e = bytes_check e >> fault_unless (not (has_dot_end e)) fault.DotEnd
 abbrev names_check : List ℕ → Check
 names_check e = dots_check e >> fault_unless (not (is_reserved (stem e))) fault.Reserved
 
+-- the fault that the check of an element finds is the first rule that the element breaks
 element-to : (e : List ℕ) (f : PathFault) → element_check e ≡ Err f → BreaksElement e f
 element-to e f h = elim (fault-cases (names_check e) (fault_unless (not (has_tilde_number (stem e))) fault.Tilde) f h) [
   | inr tilde ↦
@@ -100,6 +101,7 @@ dots-pass e u v = and_then _ _ (bytes-pass e u) (holds _ fault.DotEnd (no_test _
 names-pass : (e : List ℕ) → HasElementBytes e → (¬ HasDotEnd e) → (¬ IsReserved (stem e)) → names_check e ≡ passed
 names-pass e u v w = and_then _ _ (dots-pass e u v) (holds _ fault.Reserved (no_test _ _ (reserved_names_are_exact (stem e)) w))
 
+-- the check of an element finds the first rule that the element breaks
 element-from : (e : List ℕ) (f : PathFault) → BreaksElement e f → element_check e ≡ Err f
 element-from e fault.Element u =
     fault-first _ _ fault.Element (fault-first _ _ fault.Element (fault-first _ _ fault.Element
@@ -117,6 +119,7 @@ element-from e fault.TooLong u = absurd u
 element-from e fault.First u = absurd u
 element-from e fault.Suffix u = absurd u
 
+-- the fault that the check of elements finds is the first rule that the leftmost bad element breaks
 leftmost-to : (es : List (List ℕ)) (f : PathFault) → elements_check es ≡ Err f → BreaksLeftmost es f
 unfolding check_each
 leftmost-to [] f h = cc h
@@ -174,6 +177,7 @@ length-to text f h = elim (fault-cases _ _ f h) [
 empty-from : (text : List ℕ) → length text ≡ 0 → length_check text ≡ Err fault.Empty
 empty-from text h = fault-first _ _ fault.Empty (faulty _ fault.Empty (le-ltb 0 (length text) (omega arith)))
 
+-- the check of the length refuses more than 255 bytes with `TooLong`
 long-from : (text : List ℕ) → 255 < length text → length_check text ≡ Err fault.TooLong
 long-from text h =
     fault-second _ _ fault.TooLong (holds _ fault.Empty (lt-ltb 0 (length text) (omega arith))) (faulty _ fault.TooLong (lt-leb (length text) 255 h))
@@ -193,6 +197,7 @@ data Found (strict : Bool) (text : List ℕ) (f : PathFault) : Type 0 where
 abbrev first_check : Bool → List ℕ → Check
 first_check strict text = fault_unless (not (strict && not (is_first_element (first_element (elements text))))) fault.First
 
+-- a fault of the check is one of the four cases of `Found`
 found : (strict : Bool) (text : List ℕ) (f : PathFault) → check_of strict text ≡ Err f → Found strict text f
 unfolding check_of
 found strict text f h = elim (fault-cases (length_check text >> elements_check (elements text) >> first_check strict text) (suffix_check (elements text)) f h) [
@@ -220,6 +225,7 @@ loose-found text f (at_element n h) = leftmost-loose text f n (leftmost-to (elem
 loose-found text f (at_first es t e) = cc t
 loose-found text f (at_suffix es t none e) = subst (BreaksLoose text) (sym e) (es, none)
 
+-- a fault that the strict check found is the first rule of module paths that the text breaks
 path-found : (text : List ℕ) (f : PathFault) → Found true text f → BreaksPath text f
 path-found text f (at_length h) = elim (length-to text f h) [
   | inl e ↦ subst (BreaksPath text) (sym e.0) e.1
@@ -268,6 +274,7 @@ loose-from text fault.Tilde u = element-fault false text fault.Tilde u.0 u.1
 loose-from text fault.First u = absurd u
 loose-from text fault.Suffix u = suffix-fault false text u.0 refl u.1
 
+-- the strict check finds the first rule of module paths that a text breaks
 path-from : (text : List ℕ) (f : PathFault) → BreaksPath text f → check_of true text ≡ Err f
 path-from text fault.Empty u = length-fault true text fault.Empty (empty-from text u)
 path-from text fault.TooLong u = length-fault true text fault.TooLong (long-from text u)

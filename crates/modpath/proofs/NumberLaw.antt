@@ -50,6 +50,7 @@ no-zero n h = elim (cases_eq n 0) [
       or_left _ _ (not_from_false _ (ne_eqb (get_or (decimal n) 0 0) 48 (λ e. absurd (omega (arith, e)))))
 ]
 
+-- a text whose number is n is the decimal of n, and n has at most 64 bits
 number-to : (ds : List ℕ) (n : ℕ) → number_of ds ≡ Some n → (ds ≡ decimal n) × (n < 2 ^ 64)
 number-to ds n h =
     let i = if-some _ _ _ h in

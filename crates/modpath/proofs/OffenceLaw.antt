@@ -21,6 +21,7 @@ starts-lower (b ∷ after) h = (b, after, refl, h)
 lower-starts : (rest : List ℕ) → (b : ℕ) × (after : List ℕ) × (rest ≡ b ∷ after) × (is_ascii_lowercase b ≡ true) → starts_lower rest ≡ true
 lower-starts rest u = ap starts_lower u.2 ∙ u.3
 
+-- a fault found at the start of a text is an offence there
 here-to : (text : List ℕ) (f : EscapeFault) → fault_here text ≡ Some f → Offends text f
 here-to [] f h = cc h
 here-to (b ∷ rest) f h = elim (cases_Bool (is_ascii_uppercase b)) [
@@ -36,6 +37,7 @@ here-to (b ∷ rest) f h = elim (cases_Bool (is_ascii_uppercase b)) [
   ]
 ]
 
+-- an offence at the start of a text is the fault found there
 here-from : (text : List ℕ) (f : EscapeFault) → Offends text f → fault_here text ≡ Some f
 here-from text fault.Upper u = ap fault_here u.2 ∙ rw u.3 refl
 here-from text fault.Bang u = ap fault_here u.1 ∙ no-letter u.0 u.2
@@ -54,6 +56,7 @@ option-cases : (o : Option EscapeFault) → (o ≡ None) ⊎ ((g : EscapeFault) 
 option-cases None = inl refl
 option-cases (Some g) = inr (g, refl)
 
+-- the fault of a text is its leftmost offence
 leftmost-to : (text : List ℕ) (f : EscapeFault) → escape_fault text ≡ Some f → IsLeftmostOffence text f
 leftmost-to [] f h = cc h
 leftmost-to (b ∷ rest) f h = elim (option-cases (fault_here (b ∷ rest))) [
@@ -75,6 +78,7 @@ no-offence fault.Upper u = cc u.2
 no-offence fault.Bang u = cc u.1
 no-offence fault.Memory u = u
 
+-- an offence before which there is no other is the fault of the text
 leftmost-from : (text : List ℕ) (f : EscapeFault) (at : ℕ) → Offends (drop at text) f → ((k : ℕ) (g : EscapeFault) → k < at → Offends (drop k text) g → ⊥)
     → escape_fault text ≡ Some f
 leftmost-from [] f zero u none = absurd (no-offence f u)

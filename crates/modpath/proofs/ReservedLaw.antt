@@ -78,6 +78,7 @@ port-parts name word d e low high =
 
 -- ---- the names
 
+-- what holds of each byte from `1` to `9` holds of every byte between them
 one-to-nine : (P : ℕ → Type 0) → P 49 → P 50 → P 51 → P 52 → P 53 → P 54 → P 55 → P 56 → P 57 → (d : ℕ) → 49 ≤ d → d ≤ 57 → P d
 one-to-nine P p1 p2 p3 p4 p5 p6 p7 p8 p9 d low high = elim (cases_eq d 49) [
   | inl e ↦ subst P (sym e) p1
@@ -126,6 +127,7 @@ lpt-name = one-to-nine (λ d. Contains reserved_names (codes "LPT" ++ d ∷ []))
 named : (name word : List ℕ) → upper name ≡ word → Contains reserved_names word → IsReserved name
 named name word e c = subst (Contains reserved_names) (sym e) c
 
+-- a name that the test of reserved names finds is one of the 22 names, in some case
 reserved-to : (name : List ℕ) → is_reserved name ≡ true → IsReserved name
 reserved-to name h = elim (or_cases _ _ h) [
   | inl device ↦ elim (or_cases _ _ device) [
@@ -163,6 +165,7 @@ lpt-from name d low high e =
     let p = port-parts name (codes "LPT") d e low high in
     or_right _ _ (and_from _ _ (and_from _ _ (or_right _ _ (same-from (rest name) (codes "LPT") p.0)) (le-leb 49 (last name) (omega (arith, p.1)))) (le-leb (last name) 57 (omega (arith, p.1))))
 
+-- the test of reserved names finds each of the 22 names, in any case
 reserved-from : (name : List ℕ) → IsReserved name → is_reserved name ≡ true
 reserved-from name c =
     let P : List ℕ → Type 0 = λ word. upper name ≡ word → is_reserved name ≡ true in

@@ -72,6 +72,7 @@ cut-first sep (b ∷ text) h = elim (cases_Bool (b == sep)) [
       (b ∷ r.0, r.1, ap (λ (l : List ℕ). b ∷ l) r.2, rw other r.3)
 ]
 
+-- a text has no separator, or it is a front, a separator and a last part without one
 pub cut-last : (sep : ℕ) (text : List ℕ)
     → (has sep text ≡ false) ⊎ ((front : List ℕ) × (last : List ℕ) × (text ≡ front ++ sep ∷ last) × (has sep last ≡ false))
 cut-last sep [] = inl refl
@@ -83,6 +84,7 @@ cut-last sep (b ∷ text) = elim (cut-last sep text) [
   ]
 ]
 
+-- a text that has a separator can be cut at its first one and at its last one
 pub cut : (sep : ℕ) (text : List ℕ) → has sep text ≡ true → Cut sep text
 cut sep text h =
     let f = cut-first sep text h in

@@ -28,6 +28,7 @@ onto-none sep b parts first others shape other all =
     rw shape (All-cons (λ e. has sep e ≡ false) (b ∷ first) others (rw other (All-head (λ e. has sep e ≡ false) first others none))
     (All-tail (λ e. has sep e ≡ false) first others none))
 
+-- no part of a text that is split at a separator has one
 none-in-parts : (sep : ℕ) (text : List ℕ) → All (λ e. has sep e ≡ false) (slice_split (λ b. b == sep) text)
 none-in-parts sep [] = All-cons (λ e. has sep e ≡ false) [] [] refl (All-nil (λ e. has sep e ≡ false))
 none-in-parts sep (b ∷ text) =

@@ -37,6 +37,7 @@ has-cut sep front back = list_any-append (λ b. b == sep) front (sep ∷ back) �
 
 -- ---- the dot suffix
 
+-- a text after the last dot that gives a suffix is a `v` and the decimal of a number of at most 64 bits, and the suffix is that number's
 dot_after-to : (l : List ℕ) (s : Suffix) → dot_suffix_after l ≡ Some s → (n : ℕ) × (suffix.Dot n ≡ s) × (l ≡ 118 ∷ decimal n) × (n < 2 ^ 64)
 dot_after-to [] s h = cc h
 dot_after-to (b ∷ rest) s h = elim (cases_Bool (b == 118)) [
@@ -73,6 +74,7 @@ dot-to e s h = elim (cases_Bool (has 46 e)) [
       (d.0, d.1, (c.front, c.at_last ∙ ap (λ (l : List ℕ). c.front ++ 46 ∷ l) d.2), d.3)
 ]
 
+-- an element that ends with `.v` and the decimal of n has the dot suffix n, if n has at most 64 bits
 dot-from : (e : List ℕ) (n : ℕ) → EndsWith e (codes ".v" ++ decimal n) → n < 2 ^ 64 → dot_suffix e ≡ Some (suffix.Dot n)
 dot-from e n u bound =
     let some : has 46 e ≡ true = ap (has 46) u.1 ∙ has-cut 46 u.0 (118 ∷ decimal n) in
@@ -102,6 +104,7 @@ dotted_exact text = all_exact (λ d. is_ascii_digit d || (d == 46)) (λ b. IsTru
 abbrev numbered : ℕ → List ℕ → Bool
 numbered b rest = (b == 118) && ltb 0 (length rest) && dotted rest
 
+-- the test `numbered` passes exactly a `v` and then one or more digits and dots
 numbered_exact : (b : ℕ) (rest : List ℕ) → (numbered b rest ≡ true) ↔ Numbered (b ∷ rest)
 numbered_exact b rest = (
   λ h. let p = and_parts _ _ h in let q = and_parts _ _ p.0 in record {
@@ -136,6 +139,7 @@ nil-numbered u = nil-cons u.number u.place
     nil-cons : (rest : List ℕ) → ◌≡◌ {A = List ℕ} [] (118 ∷ rest) → ⊥
     nil-cons rest h = cc h
 
+-- the slash suffix found in the last element of a path is the one that the element has
 slash-to : (e : List ℕ) (s : Suffix) → slash_suffix e ≡ Some s → Ending e s
 slash-to [] s h = subst (Ending []) (same-suffix suffix.None s h) nil-numbered
 slash-to (b ∷ rest) s h = elim (cases_Bool (numbered b rest)) [
@@ -167,6 +171,7 @@ decimal-dotted (d ∷ ds) h =
     let p = and_parts _ _ h in
     and_from _ _ (or_left _ _ p.0) (decimal-dotted ds p.1)
 
+-- the slash suffix that the last element of a path has is found
 slash-from : (e : List ℕ) (s : Suffix) → Ending e s → slash_suffix e ≡ Some s
 slash-from e (suffix.Dot n) u = absurd u
 slash-from e (suffix.Slash n) u =
@@ -258,6 +263,7 @@ ending-suffix text c other (suffix.Slash n) u =
     (λ b. cc (gopkg-from text c b, other), (c.front, c.at_last ∙ ap (λ (l : List ℕ). c.front ++ 47 ∷ l) u.0), u.1, u.2)
 ending-suffix text c other suffix.None u = (λ b. cc (gopkg-from text c b, other), λ v. u (versioned-last text c v))
 
+-- the computed suffix of a text is a suffix that the text has
 suffix-to : (text : List ℕ) (s : Suffix) → suffix_of_elements (elements text) ≡ Some s → HasSuffix text s
 suffix-to text s h = elim (cases_Bool (has 47 text)) [
   | inr none ↦ subst (HasSuffix text) (same-suffix suffix.None s (sym (suffix-whole text none) ∙ h)) (whole-none text none)
@@ -272,6 +278,7 @@ suffix-to text s h = elim (cases_Bool (has 47 text)) [
       ]
 ]
 
+-- the suffix that a text has is its computed suffix
 suffix-from : (text : List ℕ) (s : Suffix) → HasSuffix text s → suffix_of_elements (elements text) ≡ Some s
 suffix-from text (suffix.Dot n) u =
     let some : has 47 text ≡ true = ap (has 47) u.0.1 in

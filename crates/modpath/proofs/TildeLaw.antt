@@ -23,6 +23,7 @@ suffix-passes name i lt le =
     let pass = prefix_len_passes is_ascii_digit (reverse name) j 0 in' in
     ap is_ascii_digit (sym (at ∙ ap (λ k. get_or name k 0) back)) ∙ pass
 
+-- a name that the test of tilde numbers finds ends with a tilde and one or more digits
 tilde-to : (name : List ℕ) → has_tilde_number name ≡ true → EndsInTildeNumber name
 tilde-to name h =
     let p = and_parts _ _ h in
@@ -51,6 +52,7 @@ tilde-to name h =
           (λ i l. let n = length-drop (at + 1) name in ap is_ascii_digit (get_or-drop (at + 1) name i 0) ∙ each (at + 1 + i) (omega arith) (omega arith));
     }
 
+-- behind a tilde, the longest run of digits at the end of a text is all the digits there
 tilde-len : (front digits : List ℕ) → All (λ b. IsTrue (is_ascii_digit b)) digits → suffix_len is_ascii_digit (front ++ 126 ∷ digits) ≡ length digits
 tilde-len front digits all =
     let name : List ℕ = front ++ 126 ∷ digits in

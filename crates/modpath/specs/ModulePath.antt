@@ -1,5 +1,5 @@
--- Module paths in the standard's words: each rule is a relation on texts. `Path` computes the same.
--- (Go Modules Reference, "Module paths" and "Major version suffixes".)
+-- Module paths in the standard's words: each rule is a relation on texts. `Path` has their computed
+-- forms. (Go Modules Reference, "Module paths" and "Major version suffixes".)
 use Rattle.std.specs.Prelude.{ℕ, ◌≡◌, ◌⊎◌, ◌^◌, ◌<◌, ◌≤◌, List, [], ◌∷◌, ◌++◌, length, map, codes, IsTrue}
 use Rattle.std.specs.Char.{is_ascii_alphanumeric, is_ascii_digit, is_ascii_lowercase, to_ascii_uppercase}
 use Rattle.std.specs.Fmt.{decimal}
@@ -24,7 +24,7 @@ pub record AreBetweenSlashes (text : List ℕ) (es : List (List ℕ)) : Type 0 w
   pub joined : join_with_byte 47 es ≡ text
   pub no_slash : All (λ e. ¬ Contains e 47) es
 
--- what stands before the first dot of an element, or all of it where it has none
+-- the text before the first dot of an element, or all of it if it has no dot
 pub record IsStem (e name : List ℕ) : Type 0 where
   pub no_dot : ¬ Contains name 46
   pub place : (e ≡ name) ⊎ BeginsWith e (name ++ codes ".")
@@ -33,7 +33,7 @@ pub record IsStem (e name : List ℕ) : Type 0 where
 abbrev pub IsElementByte : ℕ → Type 0
 IsElementByte b = IsTrue (is_ascii_alphanumeric b) ⊎ Contains (codes "-._~") b
 
--- one or more such bytes
+-- one or more element bytes
 pub record HasElementBytes (e : List ℕ) : Type 0 where
   pub some : 0 < length e
   pub each : All IsElementByte e
@@ -50,11 +50,11 @@ reserved_names =
     ∷ codes "LPT1" ∷ codes "LPT2" ∷ codes "LPT3" ∷ codes "LPT4" ∷ codes "LPT5" ∷ codes "LPT6" ∷ codes "LPT7" ∷ codes "LPT8" ∷ codes "LPT9"
     ∷ []
 
--- one of them, in any case
+-- a reserved name, in any case
 abbrev pub IsReserved : List ℕ → Type 0
 IsReserved name = Contains reserved_names (map to_ascii_uppercase name)
 
--- a tilde and one or more digits stand at its end
+-- a name ends with a tilde and one or more digits
 pub record EndsInTildeNumber (name : List ℕ) : Type 0 where
   pub digits : List ℕ
   pub place : EndsWith name (codes "~" ++ digits)
@@ -74,7 +74,7 @@ pub record IsElement (e : List ℕ) : Type 0 where
 abbrev pub IsFirstElementByte : ℕ → Type 0
 IsFirstElementByte b = IsTrue (is_ascii_lowercase b) ⊎ IsTrue (is_ascii_digit b) ⊎ Contains (codes "-.") b
 
--- an element that may be the first of a module path: such bytes, with a dot, and no dash in front
+-- an element that may be the first of a module path: bytes of that kind, with a dot, and no dash in front
 pub record IsFirstElement (e : List ℕ) : Type 0 where
   pub bytes : All IsFirstElementByte e
   pub dot : Contains e 46
@@ -82,14 +82,14 @@ pub record IsFirstElement (e : List ℕ) : Type 0 where
 
 -- ---- major version suffixes
 
--- the last of two or more elements is a `v` with digits and dots, as if it were a version
+-- the last of two or more elements is a `v` and then one or more digits and dots, as if it were a version
 pub record LooksVersioned (text : List ℕ) : Type 0 where
   pub number : List ℕ
   pub place : EndsWith text (codes "/v" ++ number)
   pub some : 0 < length number
   pub each : All (λ b. IsTrue (is_ascii_digit b) ⊎ (b ≡ 46)) number
 
--- the major version suffix that a path has: `.vN` below `gopkg.in`, elsewhere `/vN` from 2 on, or none
+-- the major version suffix that a path has: `.vN` below `gopkg.in/`, otherwise `/vN` with N from 2 on, or none
 abbrev pub HasSuffix : List ℕ → Suffix → Type 0
 HasSuffix text (suffix.Dot n) = BeginsWith text (codes "gopkg.in/") × EndsWith text (codes ".v" ++ decimal n) × (n < 2 ^ 64)
 HasSuffix text (suffix.Slash n) =
@@ -127,7 +127,7 @@ BreaksElement e fault.TooLong = ⊥
 BreaksElement e fault.First = ⊥
 BreaksElement e fault.Suffix = ⊥
 
--- the same of the leftmost element that breaks one
+-- the first rule that the leftmost bad element of a list breaks
 pub record BreaksLeftmost (es : List (List ℕ)) (f : PathFault) : Type 0 where
   pub front : List (List ℕ)
   pub element : List ℕ
@@ -136,7 +136,7 @@ pub record BreaksLeftmost (es : List (List ℕ)) (f : PathFault) : Type 0 where
   pub before : All IsElement front
   pub breaks : BreaksElement element f
 
--- the length and the elements are those of a path
+-- a text has the length and the elements of a path
 abbrev pub HasPathElements : List ℕ → Type 0
 HasPathElements text = HasPathLength text × All IsElement (elements text)
 

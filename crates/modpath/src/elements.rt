@@ -7,7 +7,8 @@ ghost use Rattle.modpath.specs.Path as Spec;
 use crate::parts::cut;
 use crate::path::PathFault;
 
-/// Whether each element meets the rules of elements, and the first rule that the leftmost breaks.
+/// Passes if each element of `text` meets the rules of elements. Otherwise it fails with the first
+/// rule that the leftmost bad element breaks.
 pub fn check_elements(text: &str) -> Result<(), PathFault>
     ensures { result ≡ Spec.elements_check (Spec.elements text.now) }
 {
@@ -54,7 +55,7 @@ fn has_dot_end(element: &[u8]) -> bool
     element.first() == Some(&b'.') || element.last() == Some(&b'.')
 }
 
-/// The element up to its first dot, or all of it.
+/// The element up to its first dot, or all of it if it has no dot.
 fn stem(element: &[u8]) -> &[u8]
     ensures { result.now ≡ Spec.stem element.now }
 {
@@ -106,7 +107,7 @@ fn has_tilde_number(name: &[u8]) -> bool
     digits > 0 && digits < name.len() && name[name.len() - digits - 1] == b'~'
 }
 
-/// The first element of a path.
+/// The first element of a path: the text before its first slash, or all of it if it has no slash.
 pub fn first_element(text: &[u8]) -> &[u8]
     ensures { result.now ≡ Spec.first_element (Spec.elements text.now) }
 {

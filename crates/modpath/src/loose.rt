@@ -28,10 +28,10 @@ impl Model for LoosePath {
 }
 
 impl LoosePath {
-    /// The loose path that `text` is.
+    /// Returns `text` as a loose path.
     ///
-    /// It fails with the fault that [`check_loose`] finds, and with [`PathError::Memory`] only for a
-    /// text that is a loose path.
+    /// It fails with the fault that [`check_loose`] finds. If `text` is a loose path but memory runs
+    /// out, it fails with [`PathError::Memory`].
     pub fn parse(alloc: Global, text: &str) -> Result<LoosePath, PathError>
         ensures ok { IfOk result (λ p. (p ≡ text.now) × Spec.IsLoosePath text.now) }
         ensures err { IfErr result (Spec.IsFaultOf (Spec.loose_check text.now)) }
@@ -54,7 +54,7 @@ impl LoosePath {
     }
 }
 
-/// The major version suffix that a loose path ends with.
+/// Returns the major version suffix of a loose path, [`Suffix::None`] if it has none.
 ///
 /// It takes no memory. (Go Modules Reference, "Major version suffixes".)
 #[tactic(auto, unfolding(crate::specs::Path::suffix_of))]

@@ -3,7 +3,7 @@
 ghost use Rattle.std.specs.Prelude.{◌≡◌, ◌+◌, ◌-◌, ◌*◌, ◌^◌, ◌<◌, ◌≤◌, IfNone, IfSome};
 ghost use Rattle.modpath.specs.Path as Spec;
 
-/// The number `value` with one digit more, or `None` where it has more than 64 bits.
+/// Returns `value` with one more decimal digit, or `None` if that has more than 64 bits.
 fn next_value(value: u64, digit: u8) -> Option<u64>
     requires { 48 ≤ digit }
     ensures none { IfNone result (2 ^ 64 ≤ value * 10 + (digit - 48)) }
@@ -13,8 +13,8 @@ fn next_value(value: u64, digit: u8) -> Option<u64>
     tens.checked_add(u64::from(digit - b'0'))
 }
 
-/// The number that digits without leading zeros write, or `None` where they are none or it has more
-/// than 64 bits.
+/// Returns the number that `digits` writes in decimal. It returns `None` if `digits` is empty, has a
+/// byte that is not a digit or a leading zero before another digit, or writes more than 64 bits.
 pub fn number_of(digits: &[u8]) -> Option<u64>
     ensures { result ≡ Spec.number_of digits.now }
 {

@@ -1,10 +1,10 @@
-//! The parts of a text that a separator cuts.
+//! Cuts of a text at a separator.
 
 ghost use Rattle.std.specs.List.{slice_split};
 ghost use Rattle.std.specs.Prelude.{◌≡◌, ◌==◌, [], ◌∷◌, MatchOption};
 ghost use Rattle.modpath.specs.Path.{last_or};
 
-/// What stands before the first separator of a text, and what stands behind it.
+/// Returns the texts before and after the first separator of `text`, or `None` if it has no separator.
 pub fn cut(text: &[u8], separator: u8) -> Option<(&[u8], &[u8])>
     ensures { MatchOption result
         (slice_split (λ b. b == separator) text.now ≡ text.now ∷ [])
@@ -18,7 +18,7 @@ pub fn cut(text: &[u8], separator: u8) -> Option<(&[u8], &[u8])>
     None
 }
 
-/// What stands behind the last separator of a text, or all of it.
+/// Returns the text after the last separator of `text`, or all of it if it has no separator.
 pub fn last_part(text: &[u8], separator: u8) -> &[u8]
     ensures { result.now ≡ last_or [] (slice_split (λ b. b == separator) text.now) }
 {

@@ -14,6 +14,7 @@ use Rattle.modver.specs.SemanticVersion.{SemanticVersion}
 pub dots-shape : (text : List ℕ) → (first : List ℕ) × (others : List (List ℕ)) × (between_dots text ≡ first ∷ others)
 dots-shape text = parts-shape text
 
+-- two texts joined by a dot have the parts of the first and then those of the second
 pub dots-append : (xs ys : List ℕ) → between_dots (xs ++ 46 ∷ ys) ≡ between_dots xs ++ between_dots ys
 dots-append [] ys = refl
 dots-append (b ∷ xs) ys = elim (cases_Bool (b == 46)) [

@@ -158,6 +158,7 @@ release-above x s = elim (cases_Bool (is_numeric x)) [ inl nx ↦ rw nx refl | i
 cut : (x : List ℕ) (xs : List (List ℕ)) → flat_map identifier_key (x ∷ xs) ++ 0 ∷ [] ≡ identifier_key x ++ (flat_map identifier_key xs ++ 0 ∷ [])
 cut x xs = append_assoc (identifier_key x) (flat_map identifier_key xs) (0 ∷ [])
 
+-- the keys of two lists of identifiers, each ended by 0, compare as the lists do from the left
 identifiers-order : (xs ys : List (List ℕ)) → list_all is_identifier xs ≡ true → list_all is_identifier ys ≡ true
     → bytes_cmp (flat_map identifier_key xs ++ 0 ∷ []) (flat_map identifier_key ys ++ 0 ∷ []) ≡ slice_cmp identifier_cmp xs ys
 identifiers-order [] [] p q = refl

@@ -24,6 +24,7 @@ use Rattle.modver.proofs.StrictOrders.{precedence-tied, turned, turned-back}
 
 -- ---- rank
 
+-- keys that begin with a class compare by rank of class, then by stamp as a number, and then by what follows the class
 ranked : (xs ys : List (List ℕ)) (s t : Option (List ℕ)) (a b : List ℕ) → IsDigits s → IsDigits t → (xs ≡ [] → s ≡ None) → (ys ≡ [] → t ≡ None)
     → bytes_cmp (class_key xs s ++ a) (class_key ys t ++ b)
     ≡ ordering_then (nat_cmp (rank_from xs s) (rank_from ys t)) (ordering_then (nat_cmp (number_of_stamp s) (number_of_stamp t)) (bytes_cmp a b))
@@ -86,6 +87,7 @@ key-unmarked v = rw (stamp-unmarked v, order-unmarked v) refl
 
 -- ---- the laws
 
+-- keys of order compare as precedence does, and are equal exactly if the versions differ at most in the mark
 pub order-law : OrderKeyIsPrecedence
 order-law u v p q =
     let h = order-key u v p q in
@@ -98,6 +100,7 @@ order-law u v p q =
       );
     }
 
+-- keys of rank compare as rank does, and are equal exactly if the versions differ at most in the mark
 pub rank-law : RankKeyIsRank
 rank-law u v p q =
     let h = rank-key u v p q in

@@ -43,6 +43,7 @@ dash : (text : List ℕ) → fits_form (codes "-") (take 1 text) ≡ true → te
 dash [] h = cc h
 dash (b ∷ rest) h = let same : b ≡ 45 = eqb-true b 45 (and-first (b == 45) _ h) in ap (λ (x : ℕ). x ∷ rest) same
 
+-- an identifier of the form of a stamp and a revision whose time exists is stamped by its first 14 bytes
 form-stamped : (i : List ℕ) → fits_form (codes "dddddddddddddd-hhhhhhhhhhhh") i ≡ true → is_moment (time_of_stamp (take 14 i)) ≡ true → IsStamped i (take 14 i)
 form-stamped i form moment =
     let f = codes "dddddddddddddd-hhhhhhhhhhhh" in
@@ -181,6 +182,7 @@ is-release (i ∷ rest) (Some stamp) h = cc h
 to-release : (ids : List (List ℕ)) (o : Option (List ℕ)) → ids ≡ [] → class_from ids o ≡ class.Release
 to-release ids o e = rw e refl
 
+-- the computed class of a version is the class that it has
 pub each-class : EachVersionHasItsClass
 each-class v = record {
   pseudo = λ time. (

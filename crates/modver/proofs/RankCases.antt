@@ -22,6 +22,7 @@ then-greater Greater s h = inl refl
 abbrev rank : List (List ℕ) → List (List ℕ) → Option (List ℕ) → Option (List ℕ) → Ordering → Ordering
 rank xs ys s t r = ordering_then (nat_cmp (rank_from xs s) (rank_from ys t)) (ordering_then (nat_cmp (number_of_stamp s) (number_of_stamp t)) r)
 
+-- a version that compares as greater by rank is above the other by class
 above-class : (u v : SemanticVersion) (xs ys : List (List ℕ)) (s t : Option (List ℕ)) → s ≡ stamp_of u → t ≡ stamp_of v
     → (xs ≡ [] → s ≡ None) → (ys ≡ [] → t ≡ None)
     → rank xs ys s t (precedence u v) ≡ Greater → IsAboveByClass (class_from xs s) (class_from ys t) u v
@@ -40,6 +41,7 @@ above-class u v (i ∷ xs) (j ∷ ys) (Some x) (Some y) a b f g h = elim (then-g
   | inr both ↦ inr (rw (← a, ← b) (nat_cmp-IsAntisymmetric _ _ both.0), turned precedence precedence_total u v both.1)
 ]
 
+-- a version that is above another by class compares as greater by rank
 class-above : (u v : SemanticVersion) (xs ys : List (List ℕ)) (s t : Option (List ℕ)) → s ≡ stamp_of u → t ≡ stamp_of v
     → (xs ≡ [] → s ≡ None) → (ys ≡ [] → t ≡ None)
     → IsAboveByClass (class_from xs s) (class_from ys t) u v → rank xs ys s t (precedence u v) ≡ Greater

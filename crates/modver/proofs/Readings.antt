@@ -64,6 +64,7 @@ text-one u v p q e =
 
 -- ---- what is computed is so
 
+-- a short text behind whose `v` the parts of a version are read is the canonical text of that version
 parts-canonical : (text rest : List ℕ) (r : Result Parts Error) (v : SemanticVersion) → length text ≤ 128 → text ≡ 118 ∷ rest → version_parts rest ≡ r
     → reading_of_parts r ≡ Ok v → IsCanonical text v
 parts-canonical text rest (Ok p) v short front read h = elim (cases_Bool (is_mark p.4)) [
@@ -82,6 +83,7 @@ bytes-canonical (b ∷ rest) v short h = elim (cases_Bool (b == 118)) [
   | inr other ↦ cc (rw other at h)
 ]
 
+-- a fault found in what was read behind the `v` of a short text is a fault of the text
 parts-fault : (text rest : List ℕ) (r : Result Parts Error) (f : VersionFault) → length text ≤ 128 → text ≡ 118 ∷ rest → version_parts rest ≡ r
     → reading_of_parts r ≡ Err f → IsFault text f
 parts-fault text rest (Ok p) f short front read h = elim (cases_Bool (is_mark p.4)) [
@@ -95,6 +97,7 @@ parts-fault text rest (Err e) f short front read h =
     let same : fault.Form ≡ f = cc h in
     subst (IsFault text) same (short, refused text rest e front read)
 
+-- a fault found in a short text is a fault that the text has
 bytes-fault : (text : List ℕ) (f : VersionFault) → length text ≤ 128 → reading_of_bytes text ≡ Err f → IsFault text f
 bytes-fault [] f short h =
     let same : fault.Form ≡ f = cc h in
@@ -187,6 +190,7 @@ version-of text v = (λ e. canonical-of text v (value-some (reading text) v e), 
 
 -- ---- the test of a version
 
+-- the test of a version is true exactly of the versions that have a canonical text
 pub has-text : HasTextIsExact
 unfolding has_text
 has-text v = (

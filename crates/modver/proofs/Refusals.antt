@@ -43,6 +43,7 @@ part pos acc seg nondigit lead =
     either (seg == 0) _ _ (either (acc == 0) _ _ tt (λ e. cc (ap (λ (x : Error). x.kind) e)))
     (either (is_bad_zero pos seg nondigit lead) _ _ (λ e. cc (ap (λ (x : Error). x.kind) e)) tt)
 
+-- scanning a text never fails for want of memory
 scans : (pos : Position) (acc seg : ℕ) (nondigit lead : Bool) (xs : List ℕ) → BlamesText (scan pos acc seg nondigit lead xs)
 unfolding scan
 scans pos acc seg nondigit lead [] = part pos acc seg nondigit lead

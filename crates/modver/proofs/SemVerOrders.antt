@@ -26,6 +26,7 @@ record Tells {A : Type 0} (p : A → Bool) (R : A → A → Ordering) (B : A →
   pub tied : (x y : A) → p x ≡ true → p y ≡ true → R x y ≡ Equal → x ≡ y
   pub itself : (x : A) → R x x ≡ Equal
 
+-- two lists stay in lexical order if each gets the same first item
 more-common : {A : Type 0} {B : A → A → Type 0} (x : A) (xs ys : List A) → IsLexicallyLower B xs ys → IsLexicallyLower B (x ∷ xs) (x ∷ ys)
 more-common x xs ys (inl g) = inl (record { next = g.next; rest = g.rest; longer = ap (λ l. x ∷ l) g.longer })
 more-common x xs ys (inr d) = inr (record {
@@ -44,6 +45,7 @@ then-less Less s h = inl refl
 then-less Equal s h = inr (refl, h)
 then-less Greater s h = cc h
 
+-- lists that a comparison item by item puts in order are in lexical order of the relation that the comparison decides
 less-lists : {A : Type 0} (p : A → Bool) (R : A → A → Ordering) (B : A → A → Type 0) → Tells p R B → (xs ys : List A) → list_all p xs ≡ true → list_all p ys ≡ true
     → slice_cmp R xs ys ≡ Less → IsLexicallyLower B xs ys
 less-lists p R B t [] [] a b h = cc h
@@ -124,6 +126,7 @@ identifier-itself x = elim (cases_Bool (is_numeric x)) [
   | inr n ↦ rw n (itself-list nat_cmp nat-itself x)
 ]
 
+-- an identifier that compares as less than another is lower
 identifier-below : (x y : List ℕ) → identifier_cmp x y ≡ Less → IsLowerIdentifier x y
 identifier-below x y h = elim (cases_Bool (is_numeric x)) [
   | inl nx ↦ elim (cases_Bool (is_numeric y)) [
@@ -165,6 +168,7 @@ pre_release-less (x ∷ xs) (y ∷ ys) p q h = lists-less is_identifier identifi
 
 -- ---- versions
 
+-- a version that is below another has lower precedence in the words of SemVer
 below-semver : (u v : SemanticVersion) → IsVersion u → IsVersion v → IsBelow u v → HasLowerPrecedence u v
 below-semver u v p q h = elim (then-less _ _ h) [
   | inl major ↦ inl (less-nat u.major v.major major)

@@ -37,6 +37,7 @@ pub record Fourteen (s : List ℕ) : Type 0 where
   pub n : ℕ
   pub same : s ≡ a ∷ b ∷ c ∷ d ∷ e ∷ f ∷ g ∷ h ∷ i ∷ j ∷ k ∷ l ∷ m ∷ n ∷ []
 
+-- a list of length 14 is its 14 items
 pub fourteen : (s : List ℕ) → length s ≡ 14 → Fourteen s
 fourteen [] size = absurd (omega arith)
 fourteen (a ∷ []) size = absurd (omega arith)
@@ -75,6 +76,7 @@ time-number x y p q = time-order x y p.0 q.0 ∙ sym (same_length x y p.1 q.1 (p
 
 -- ---- rank
 
+-- comparing the times of two stamps gives the order that comparing the stamps as numbers gives, after the classes
 ranked : (xs ys : List (List ℕ)) (s t : Option (List ℕ)) (r : Ordering) → IsDigits s → IsDigits t → (xs ≡ [] → s ≡ None) → (ys ≡ [] → t ≡ None)
     → ordering_then (nat_cmp (rank_from xs s) (rank_from ys t)) (ordering_then (time_cmp (option_map time_of_stamp s) (option_map time_of_stamp t)) r)
     ≡ ordering_then (nat_cmp (rank_from xs s) (rank_from ys t)) (ordering_then (nat_cmp (number_of_stamp s) (number_of_stamp t)) r)

@@ -64,6 +64,7 @@ record IsNumber (text : List ℕ) (place n : ℕ) : Type 0 where
   pub same : take n (drop place text) ≡ padded n (number_at text place n)
   pub bound : number_at text place n < 10 ^ n
 
+-- where a form has n digits at a place, a text of the form has there the n digits of the number at that place
 number : (form text : List ℕ) (place n : ℕ) → fits_form form text ≡ true → list_all (λ f. f == 100) (take n (drop place form)) ≡ true → length (take n (drop place form)) ≡ n
     → IsNumber text place n
 number form text place n fits letters size =
@@ -119,6 +120,7 @@ numbers-digits text h = record {
   second = (number time_form text 17 2 h refl refl).bound;
 }
 
+-- a text of the form of a time is the text of the numbers in it
 numbers-same : (text : List ℕ) → has_time_form text ≡ true → text ≡ time_text (numbers text)
 numbers-same text h =
     let number-at : (place n : ℕ) → list_all (λ f. f == 100) (take n (drop place time_form)) ≡ true → length (take n (drop place time_form)) ≡ n
@@ -146,6 +148,7 @@ four k = fit-digits (codes "dddd") (padded 4 k) refl refl (padded-digits 4 k)
 two : (k : ℕ) → fits_form (codes "dd") (padded 2 k) ≡ true
 two k = fit-digits (codes "dd") (padded 2 k) refl refl (padded-digits 2 k)
 
+-- the text of a date and a time of day has the form of a time
 text-form : (at : DateTime) → has_time_form (time_text at) ≡ true
 text-form at =
     let from_second = padded 2 at.second ++ codes "Z" in
@@ -175,6 +178,7 @@ text-numbers at digits = λ i. record {
 abbrev exists : DateTime → Bool
 exists at = is_date at.year at.month at.day && is_time_of_day at.hour at.minute at.second
 
+-- a date and a time of day that pass the computed test exist
 exists-so : (at : DateTime) → exists at ≡ true → Exists at
 exists-so at h =
     let parts = and-both (is_date at.year at.month at.day) _ h in
@@ -189,6 +193,7 @@ exists-so at h =
       second = grind (arith, nat_tests);
     }
 
+-- a date and a time of day that exist pass the computed test
 exists-passes : (at : DateTime) → Exists at → exists at ≡ true
 exists-passes at e =
     rw (
@@ -301,6 +306,7 @@ stamp-of_digits stamp form moment =
     let named : is_moment (time_text at) ≡ true = sym (ap (λ (s : List ℕ). is_moment (time_of_stamp s)) same) ∙ moment in
     record { at = at; digits = digits; exists = subst Exists (text-numbers at digits) (exists-so (numbers (time_text at)) named); same = same }
 
+-- the stamp of a date and a time of day has the form of a stamp
 stamp-text_form : (at : DateTime) → has_stamp_form (stamp_text at) ≡ true
 stamp-text_form at =
     let from_minute = padded 2 at.minute ++ padded 2 at.second in

@@ -1,20 +1,20 @@
--- Keys of order: bytes whose order is that of the versions.
+-- Keys of order and of rank: bytes that sort as the versions do.
 use Rattle.std.specs.Prelude.{ℕ, List, [], ◌∷◌, ◌++◌, length, Option, Some, None, if◌then◌else◌}
 use Rattle.std.specs.Int.{to_be_bytes, w64}
 use Rattle.std.specs.List.{flat_map}
 use Rattle.modver.specs.Class.{stamp_of}
 use Rattle.modver.specs.SemanticVersion.{SemanticVersion, is_numeric}
 
--- a number: 1, how many digits it has, and these; another identifier: 2, its bytes, and 0
+-- a number: 1, how many digits it has, and the digits; any other identifier: 2, its bytes, and 0
 abbrev pub identifier_key : List ℕ → List ℕ
 identifier_key i = if is_numeric i then 1 ∷ length i ∷ i else 2 ∷ (i ++ 0 ∷ [])
 
--- a release: 3, which is more than any identifier begins with; else each identifier, and 0 behind the last
+-- a release: 3, which is above the 1 or 2 before an identifier; a pre-release: each identifier, and 0 after the last
 abbrev pub pre_release_key : List (List ℕ) → List ℕ
 pre_release_key [] = 3 ∷ []
 pre_release_key (i ∷ rest) = flat_map identifier_key (i ∷ rest) ++ 0 ∷ []
 
--- the three numbers in 8 bytes each, the greatest byte first, and then the pre-release; the mark does not enter
+-- the three numbers in 8 bytes each, the most significant byte first, and then the pre-release; the mark does not enter
 unfoldable pub order_key_of : SemanticVersion → List ℕ
 order_key_of v = to_be_bytes w64 v.major ++ (to_be_bytes w64 v.minor ++ (to_be_bytes w64 v.patch ++ pre_release_key v.identifiers))
 

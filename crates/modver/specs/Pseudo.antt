@@ -18,7 +18,7 @@ pub record HasNoBase (v : SemanticVersion) (stamp : List ℕ) : Type 0 where
   pub numbers : (v.minor ≡ 0) × (v.patch ≡ 0)
   pub stamped : IsStamped last stamp
 
--- `vX.Y.Z-0.STAMP-REVISION`: the release before has a patch number that is one less
+-- `vX.Y.Z-0.STAMP-REVISION`: the patch number is one above that of the release before
 pub record FollowsRelease (v : SemanticVersion) (stamp : List ℕ) : Type 0 where
   pub last : List ℕ
   pub identifiers : v.identifiers ≡ codes "0" ∷ last ∷ []

@@ -3,7 +3,7 @@ use Rattle.std.specs.Prelude.{ℕ, ◌≡◌, ◌≢◌, ◌<◌, ◌⊎◌, tru
 use Rattle.std.specs.Str.Parse.{digits_value}
 use Rattle.modver.specs.SemanticVersion.{SemanticVersion, is_numeric}
 
--- one list is lower than another at the first difference, or is followed by more in the other
+-- two lists have a common beginning, and then the first has an item that is lower than the item of the second
 pub record DiffersFirst {A : Type 0} (R : A → A → Type 0) (xs ys : List A) : Type 0 where
   pub common : List A
   pub left : A
@@ -14,11 +14,13 @@ pub record DiffersFirst {A : Type 0} (R : A → A → Type 0) (xs ys : List A) :
   pub right_is : ys ≡ common ++ right ∷ right_rest
   pub lower : R left right
 
+-- the second list begins with the first and is longer
 pub record GoesOn {A : Type 0} (xs ys : List A) : Type 0 where
   pub next : A
   pub rest : List A
   pub longer : ys ≡ xs ++ next ∷ rest
 
+-- one list is lower than another: the other continues it, or it has the lower item at the first difference
 abbrev pub IsLexicallyLower : {A : Type 0} → (A → A → Type 0) → List A → List A → Type 0
 IsLexicallyLower R xs ys = GoesOn xs ys ⊎ DiffersFirst R xs ys
 
@@ -37,7 +39,8 @@ IsNumberBeforeWord x y = (is_numeric x ≡ true) × (is_numeric y ≡ false)
 abbrev pub IsLowerIdentifier : List ℕ → List ℕ → Type 0
 IsLowerIdentifier x y = IsLowerNumber x y ⊎ (IsLowerWord x y ⊎ IsNumberBeforeWord x y)
 
--- a pre-release is lower than the release (11.3), and two go by the first identifiers that differ, or by which has more (11.4)
+-- a pre-release is lower than the release (11.3); two compare by the first identifiers that differ, and if all of the
+-- shorter are equal, the longer is higher (11.4)
 abbrev pub IsLowerPreRelease : List (List ℕ) → List (List ℕ) → Type 0
 IsLowerPreRelease xs [] = xs ≢ []
 IsLowerPreRelease [] (y ∷ ys) = ⊥

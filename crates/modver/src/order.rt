@@ -9,8 +9,8 @@ use crate::time::TimeText;
 use crate::version::{Class, Version};
 use std::cmp::Ordering;
 
-/// The order of precedence, in which the mark does not count. It takes no memory. (SemVer 2.0.0,
-/// section 11.)
+/// Compares two versions by precedence, in which the mark does not count. It takes no memory. (SemVer
+/// 2.0.0, section 11.)
 #[tactic(auto, using(crate::proofs::Orders::precedence_of))]
 pub fn compare(left: &Version, right: &Version) -> Ordering
     ensures { result ≡ precedence left.now right.now }
@@ -29,7 +29,7 @@ fn class_rank(version: &Version) -> u8
     }
 }
 
-// The order of two times, where both are given.
+// Compares two times. They are equal if either is absent.
 fn compare_times(left: Option<TimeText>, right: Option<TimeText>) -> Ordering
     ensures { result ≡ time_cmp left right }
 {
@@ -39,9 +39,9 @@ fn compare_times(left: Option<TimeText>, right: Option<TimeText>) -> Ordering
     }
 }
 
-/// The order of rank, by which the latest version is chosen: releases above pre-releases above
-/// pseudo-versions; among pseudo-versions by stamp, else by precedence. It takes no memory. (Go
-/// Modules Reference, "GOPROXY protocol", `@latest`.)
+/// Compares two versions by rank, the order that chooses the latest version: releases above
+/// pre-releases above pseudo-versions, pseudo-versions by stamp, and then by precedence. It takes no
+/// memory. (Go Modules Reference, "GOPROXY protocol", `@latest`.)
 #[tactic(auto, using(crate::proofs::StampOrder::rank_by))]
 pub fn rank_compare(left: &Version, right: &Version) -> Ordering
     ensures { result ≡ rank_cmp left.now right.now }

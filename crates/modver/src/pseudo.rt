@@ -8,7 +8,7 @@ ghost use Rattle.modver.specs.Time.{time_of_stamp};
 use crate::time::{TimeText, fits_form};
 use crate::version::{Class, Version};
 
-// A text around its last dot.
+// Returns the texts before and after the last dot, or `None` if there is no dot.
 fn cut_last(text: &[u8]) -> Option<(&[u8], &[u8])>
     ensures { MatchOption result
         (between_dots text.now ≡ text.now ∷ [])
@@ -22,7 +22,7 @@ fn cut_last(text: &[u8]) -> Option<(&[u8], &[u8])>
     None
 }
 
-// The time of a stamped identifier.
+// Returns the time of a stamped identifier, or `None` for any other identifier.
 fn time_of_identifier(identifier: &[u8]) -> Option<TimeText>
     ensures { result ≡ option_map time_of_stamp (stamp_of_identifier identifier.now) }
 {
@@ -32,7 +32,8 @@ fn time_of_identifier(identifier: &[u8]) -> Option<TimeText>
     TimeText::of_stamp(&identifier[..14])
 }
 
-// Whether what stands before the last dot of a pre-release may be that of a pseudo-version.
+// Whether `front`, the text before the last dot of a pre-release, may precede the stamped identifier
+// of a pseudo-version.
 fn is_base(front: &[u8], minor: u64, patch: u64) -> bool
     ensures { result ≡ may_precede minor patch (reverse (between_dots front.now)) }
 {
@@ -42,7 +43,7 @@ fn is_base(front: &[u8], minor: u64, patch: u64) -> bool
     }
 }
 
-// The time of the stamp of a pseudo-version.
+// Returns the time of a pseudo-version's stamp, or `None` for any other version.
 pub(crate) fn pseudo_time(version: &Version) -> Option<TimeText>
     ensures { result ≡ option_map time_of_stamp (stamp_of version.now) }
 {
@@ -65,8 +66,8 @@ pub(crate) fn pseudo_time(version: &Version) -> Option<TimeText>
     }
 }
 
-/// The class of a version, with the time of a pseudo-version's stamp. It takes no memory. (Go Modules
-/// Reference, "Pseudo-versions".)
+/// Returns the class of a version, and with it the time of a pseudo-version's stamp. It takes no
+/// memory. (Go Modules Reference, "Pseudo-versions".)
 pub fn class(version: &Version) -> Class
     ensures { result ≡ class_of version.now }
 {

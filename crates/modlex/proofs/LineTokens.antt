@@ -10,7 +10,7 @@ use Rattle.modlex.specs.Symbols.{symbol_of}
 use Rattle.modlex.proofs.TokenSound.{chosen, after_one, tokens_behind-sound}
 use Rattle.std.proofs.lemmas.List.{take_all}
 
--- the same tokens at another place
+-- tokens of the same kinds and texts as `ts`, on line `line` at `at`
 pub record Moved (line at : ℕ) (bytes : List ℕ) (ts : List Lexeme) : Type 0 where
   pub tokens : List Lexeme
   pub are : AreTokens line at bytes tokens
@@ -38,6 +38,7 @@ found_fault : (line at b : ℕ) (bs : List ℕ) (e : TokenFault) (o : Option (Ki
 found_fault line at b bs e None below h = cc
 found_fault line at b bs e (Some x) below h = below (x.1 - 1) (after_fault (lexeme x.0 line at (take x.1 (b ∷ bs)) ∷ []) _ e h)
 
+-- a fault of a line is that the line with this number cannot be split into tokens
 pub tokens_fault : (skipped line at : ℕ) (bs : List ℕ) (e : TokenFault) → tokens_behind skipped line at bs ≡ Err e → e ≡ token_faults.Lex line
 tokens_fault skipped line at [] e h = cc
 tokens_fault (suc skipped) line at (b ∷ bs) e h = tokens_fault skipped line (at + 1) bs e h
@@ -66,6 +67,7 @@ found_few line at b bs ts (Some x) below h =
     let more = after_one (lexeme x.0 line at (take x.1 (b ∷ bs))) _ ts h in
     omega (arith, below (x.1 - 1) more.0 more.1, ap length more.2)
 
+-- a line has at most as many tokens as bytes
 tokens_few : (skipped line at : ℕ) (bs : List ℕ) (ts : List Lexeme) → tokens_behind skipped line at bs ≡ Ok ts → length ts ≤ length bs
 tokens_few zero line at [] ts h = none_few 0 ts h
 tokens_few (suc skipped) line at [] ts h = none_few 0 ts h

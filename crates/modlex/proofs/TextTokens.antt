@@ -50,6 +50,7 @@ lines_each : (line at : ℕ) (ls : List (List ℕ)) (us : List Lexeme) → lines
 lines_each line at [] us h = record { tokens = []; are = tt; joined = (let same : [] ≡ us = cc in same) }
 lines_each line at (l ∷ ls) us h = each_by line at l ls us (line_tokens line at l) refl (λ vs k. lines_each (line + 1) (at + length l + 1) ls vs k) h
 
+-- the computed tokens of a text are exactly those that the rules give it
 pub text_tokens-are : (text : List ℕ) (ts : List Lexeme) → (text_tokens text ≡ Ok ts) ↔ AreTextTokens text ts
 text_tokens-are text ts = (
   λ h. (let e = lines_each 1 0 (lines text) ts h in (e.tokens, e.are, e.joined)),
@@ -76,6 +77,7 @@ none_by line at n place l e is ts are =
     let there = moved n place line at l ts are in
     let some = tokens_behind-all line at l there.tokens there.are in cc
 
+-- a fault of lines is that of the first line, or the fault of the others, and the lines above it have tokens
 first_by : (line at : ℕ) (l : List ℕ) (ls : List (List ℕ)) (e : TokenFault) (r : Result (List Lexeme) TokenFault) → line_tokens line at l ≡ r → (lines_tokens (line + 1) (at + length l + 1) ls ≡ Err e → First (line + 1) (at + length l + 1) ls e) → ◌≡◌ {A = Result (List Lexeme) TokenFault} (elim r [ Err d ↦ Err d | Ok ts ↦ tokens_then ts (lines_tokens (line + 1) (at + length l + 1) ls) ]) (Err e) → First line at (l ∷ ls) e
 first_by line at l ls e (Err d) is more h =
     let same : d ≡ e = cc in
@@ -110,6 +112,7 @@ no_line : (line at n : ℕ) (l : List ℕ) (r : Result (List Lexeme) TokenFault)
 no_line line at n l (Ok ts) is none = absurd (none ts (tokens_are line at l ts is))
 no_line line at n l (Err e) is none = ap (λ d. Err d) (tokens_fault 0 line at l e is)
 
+-- if each line above has tokens and this one cannot be split into tokens, the fault is this line's
 first_line : (line at : ℕ) (before : List (List ℕ)) (l : List ℕ) (others : List (List ℕ)) (tss : List (List Lexeme)) → AreTokensOf line at before tss → ((place : ℕ) (ts : List Lexeme) → ¬ AreTokens (line + length before) place l ts) → lines_tokens line at (before ++ l ∷ others) ≡ Err (faults.Lex (line + length before))
 first_line line at [] l others tss h none =
     let number : line + 0 ≡ line = omega arith in
@@ -122,6 +125,7 @@ first_line line at (m ∷ before) l others (ts ∷ tss) h none =
     let rest = first_line (line + 1) (at + length m + 1) before l others tss h.1 (subst (λ n. (place : ℕ) (us : List Lexeme) → ¬ AreTokens n place l us) number none) in
     ap (line_then (lines_tokens (line + 1) (at + length m + 1) (before ++ l ∷ others))) here ∙ ap (tokens_then ts) rest ∙ ap (λ n. Err (faults.Lex n)) (sym number)
 
+-- the computed fault of a text is exactly that of its first line that cannot be split into tokens
 pub text_tokens-fault : (text : List ℕ) (e : TokenFault) → (text_tokens text ≡ Err e) ↔ ((line : ℕ) × IsFirstWithout text line × (e ≡ faults.Lex line))
 text_tokens-fault text e = (
   λ h. (
@@ -214,6 +218,7 @@ record InLine (text : List ℕ) (at to : ℕ) (ts : List Lexeme) : Type 0 where
   order : AreInOrder text at ts
   within : end_of at ts ≤ to
 
+-- the tokens of a line in a text are in order and end within the line
 line_order : (text front bytes back : List ℕ) (line at : ℕ) (ts : List Lexeme) → text ≡ front ++ (bytes ++ back) → at ≡ length front → AreTokens line at bytes ts → InLine text at (at + length bytes) ts
 unfolding end_of
 line_order text front bytes back line at [] is place h = record { order = tt; within = omega arith }
@@ -251,6 +256,7 @@ line_order text front bytes back line at (t ∷ ts) is place h =
       within = subst (λ n. end_of n ts ≤ at + length bytes) (sym to) (omega (arith, more.within, bytes_len, bytes_parts, bytes_parts2));
     }
 
+-- the tokens of lines that follow one another in a text are in order
 lines_order : (text front : List ℕ) (line at : ℕ) (ls : List (List ℕ)) (tss : List (List Lexeme)) → text ≡ front ++ joined_lines ls → at ≡ length front → AreTokensOf line at ls tss → AreInOrder text at (all_of tss)
 unfolding joined_lines
 lines_order text front line at [] [] is place h = tt

@@ -195,6 +195,7 @@ begins_run : (text rest : List ℕ) → 0 < length text → IsRun text rest → 
 begins_run [] rest some run = absurd (omega (arith, some))
 begins_run (b ∷ text) rest some run = record { first = b; others = text; is = refl; no_blank = name_no_blank b run.0; no_comment = run.1 }
 
+-- a token begins with neither a blank nor a comment
 pub lexeme_begins : (kind : Kind) (text rest : List ℕ) → IsLexeme kind text rest → Begins text rest
 unfolding is_blank
 lexeme_begins ParenLeft text rest h = begins_mark 40 text [] rest h refl refl

@@ -30,7 +30,7 @@ tokens_behind-token line at b bs kind (suc m) no_blank no_comment found positive
     let there : at + 1 + m ≡ at + suc m = omega arith in
     simp (no_blank, no_comment, found, pred) (ap (tokens_then (lexeme kind line at (take (suc m) (b ∷ bs)) ∷ [])) (tokens_behind-skipped m line (at + 1) bs ∙ ap (λ k. tokens_behind 0 line k (drop m bs)) there))
 
--- the same, where the front is read by its index
+-- the tokens from a token on, whose first byte is read by its index
 pub tokens_behind-token_at : (line at : ℕ) (bytes : List ℕ) (kind : Kind) (n : ℕ) → 0 < length bytes → is_blank (get_or bytes 0 0) ≡ false → is_slash_and 47 (get_or bytes 0 0) (drop 1 bytes) ≡ false → lexeme_at bytes ≡ Some (kind, n) → 0 < n → tokens_behind 0 line at bytes ≡ tokens_then (lexeme kind line at (take n bytes) ∷ []) (tokens_behind 0 line (at + n) (drop n bytes))
 tokens_behind-token_at line at [] kind n some no_blank no_comment found positive = absurd (omega arith)
 tokens_behind-token_at line at (b ∷ bs) kind n some no_blank no_comment found positive =

@@ -34,7 +34,7 @@ same_byte b c h = search (rules, tests)
 differs : (b c : ℕ) → (b == c) ≡ false → b ≢ c
 differs b c h e = search (rules, tests)
 
--- a raw string ends at its first grave accent
+-- the first `n` bytes are a content with the property `P` and then the mark
 pub record Closes (P : List ℕ → Type 0) (mark : ℕ) (bs : List ℕ) (n : ℕ) : Type 0 where
   pub content : List ℕ
   pub rest : List ℕ
@@ -42,6 +42,7 @@ pub record Closes (P : List ℕ → Type 0) (mark : ℕ) (bs : List ℕ) (n : �
   pub is : bs ≡ content ++ mark ∷ rest
   pub len : n ≡ suc (length content)
 
+-- the length found for a raw string is that of its content and the grave accent after it
 pub raw_closes : (bs : List ℕ) (n : ℕ) → raw_len bs ≡ Some n → Closes IsRaw 96 bs n
 raw_closes [] n h = cc
 raw_closes (b ∷ bs) n h =
@@ -62,7 +63,7 @@ raw_closes (b ∷ bs) n h =
     (chosen (b == 96) _ _ _ good.1))
     (chosen (not (is_string_byte b)) _ _ _ h)
 
--- a run of name bytes
+-- the first `n` bytes are a run of name bytes, as long as it can be
 pub record RunsOn (bs : List ℕ) (n : ℕ) : Type 0 where
   pub text : List ℕ
   pub rest : List ℕ
@@ -70,6 +71,7 @@ pub record RunsOn (bs : List ℕ) (n : ℕ) : Type 0 where
   pub is : bs ≡ text ++ rest
   pub len : n ≡ length text
 
+-- the length found for a name is that of the longest run of name bytes
 pub name_runs : (bs : List ℕ) (n : ℕ) → name_len bs ≡ Some n → RunsOn bs n
 name_runs [] n h = record { text = []; rest = []; run = tt; is = refl; len = let e : 0 ≡ n = cc in sym e }
 name_runs (b ∷ bs) n h =
@@ -103,6 +105,7 @@ cons_quoted b [] good mark slash quoted = (good, mark, differs b 92 slash)
 cons_quoted b (c ∷ bs) good mark slash quoted =
     (good, mark, subst (λ t. MatchBool t ((is_string_byte c ≡ true) × IsQuoted bs) (IsQuoted (c ∷ bs))) (sym slash) quoted)
 
+-- what closes the string after a first byte, which may be a backslash, closes it with that byte
 quoted_by : (b c : ℕ) (bs : List ℕ) (n k : ℕ) (t : Bool) → (b == 92) ≡ t → is_string_byte b ≡ true → b ≢ 34 → ((j : ℕ) → quoted_len false bs ≡ Some j → Closes IsQuoted 34 bs j) → (quoted_len false (c ∷ bs) ≡ Some k → Closes IsQuoted 34 (c ∷ bs) k) → quoted_len t (c ∷ bs) ≡ Some k → k + 1 ≡ n → Closes IsQuoted 34 (b ∷ c ∷ bs) n
 quoted_by b c bs n k true slash good mark short long h n_is =
     ⊎_elim
@@ -128,6 +131,7 @@ quoted_by b c bs n k false slash good mark short long h n_is =
       len = omega (arith, more.len, n_is);
     }
 
+-- the length found for an interpreted string is that of its content and the quotation mark after it
 pub quoted_closes : (bs : List ℕ) (n : ℕ) → quoted_len false bs ≡ Some n → Closes IsQuoted 34 bs n
 quoted_closes [] n h = cc
 quoted_closes (b ∷ []) n h =
@@ -149,7 +153,7 @@ quoted_closes (b ∷ c ∷ bs) n h =
     (chosen (b == 34) _ _ _ good.1))
     (chosen (not (is_string_byte b)) _ _ _ h)
 
--- what the function cuts off is a token
+-- the first `n` bytes are a token of this kind before the rest
 pub record Cuts (kind : Kind) (bs : List ℕ) (n : ℕ) : Type 0 where
   pub text : List ℕ
   pub rest : List ℕ
@@ -157,6 +161,7 @@ pub record Cuts (kind : Kind) (bs : List ℕ) (n : ℕ) : Type 0 where
   pub is : bs ≡ text ++ rest
   pub len : n ≡ length text
 
+-- a punctuation byte is a token of the kind found for it
 mark_lexeme : (b : ℕ) (kind : Kind) (rest : List ℕ) → punctuation_kind b ≡ Some kind → IsLexeme kind (b ∷ []) rest
 mark_lexeme b kind rest h =
     ⊎_elim (λ p. mark_is 40 ParenLeft p.0 (same_Some _ _ p.1) refl)
@@ -185,6 +190,7 @@ or_false false y h = (refl, h)
 found_pair : (k kind : Kind) (m n : ℕ) → ◌≡◌ {A = Option (Kind × ℕ)} (Some (k, m)) (Some (kind, n)) → (k ≡ kind) × (m ≡ n)
 found_pair k kind m n h = some_pair_parts k kind m n h
 
+-- the word or arrow found at the front, which is not a comment, is a token of that kind and length
 word_cuts : (b : ℕ) (bs : List ℕ) (kind : Kind) (n : ℕ) → is_slash_and 47 b bs ≡ false → word_at b bs ≡ Some (kind, n) → Cuts kind (b ∷ bs) n
 word_cuts b bs kind n no_comment h =
     ⊎_elim
@@ -259,6 +265,7 @@ end_only : (line at : ℕ) (bytes : List ℕ) (ts : List Lexeme) → IsEnd bytes
 end_only line at bytes [] end h = ([], bytes, tt, end, refl)
 end_only line at bytes (t ∷ ts) end h = cc
 
+-- the tokens read from bytes that begin with neither a blank nor a comment are theirs, if that holds of all shorter bytes
 token_sound : (fuel line at b : ℕ) (bs : List ℕ) (ts : List Lexeme) (o : Option (Kind × ℕ)) → ((place : ℕ) (rest : List ℕ) (more : List Lexeme) → length rest ≤ fuel → tokens_behind 0 line place rest ≡ Ok more → AreTokens line place rest more) → length (b ∷ bs) ≤ suc fuel → tokens_behind 0 line at (b ∷ bs) ≡ Ok ts → lexeme_at (b ∷ bs) ≡ o → is_blank b ≡ false → is_slash_and 47 b bs ≡ false → AreTokens line at (b ∷ bs) ts
 token_sound fuel line at b bs ts None below within h found no_blank no_comment =
     let bad = tokens_behind-none line at b bs no_blank no_comment found in cc

@@ -1,4 +1,4 @@
--- The value that is computed of a token is the one that it stands for.
+-- The computed value of a token is the one value that it has.
 use Rattle.std.proofs.Common.{◌≡◌, ◌↔◌, ℕ, ◌+◌, Bool, true, false, ◌==◌, cond, List, [], ◌∷◌, ◌++◌, length, refl, ap, sym, ◌∙◌, subst, MatchBool, rules, tests}
 use Rattle.std.specs.List.{AllByRecursion}
 use Rattle.modlex.specs.declared.lexer.Kind.{Kind}
@@ -42,6 +42,7 @@ between mark content = ap (without_last mark) (without_first-there mark (content
 inside_same : (mark : ℕ) (xs ys text : List ℕ) → text ≡ mark ∷ (xs ++ mark ∷ []) → text ≡ mark ∷ (ys ++ mark ∷ []) → xs ≡ ys
 inside_same mark xs ys text h k = sym (between mark xs) ∙ ap (inside mark) (sym h ∙ k) ∙ between mark ys
 
+-- a token has exactly one value, the computed one
 value_is : (kind : Kind) (text rest : List ℕ) → IsLexeme kind text rest → (value : List ℕ) → HasValue kind text value ↔ (value ≡ value_of_text kind text)
 value_is Quoted text rest lex value =
     let computed : value_of_text Quoted text ≡ plain_text lex.0 = ap (λ x. plain_text (inside 34 x)) lex.2 ∙ ap plain_text (between 34 lex.0) in (

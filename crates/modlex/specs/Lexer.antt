@@ -1,4 +1,4 @@
--- The tokens of a line.
+-- The computed tokens of lines and of texts.
 use Rattle.std.specs.Prelude.{◌≡◌, ℕ, zero, suc, length, ◌+◌, ◌-◌, false, ◌||◌, not, ◌==◌, List, [], ◌∷◌, Option, Some, None, Result, Ok, Err, map, ◌++◌, if◌then◌else◌, take, codes}
 use Rattle.std.specs.Option.{option_map}
 use Rattle.std.specs.Str.{bytes_eq}
@@ -11,7 +11,7 @@ use Rattle.modlex.specs.declared.lexer.TokenFault.TheVariants as faults
 use Rattle.modlex.specs.Lines.{lines}
 use Rattle.modlex.specs.Bytes.{is_blank, is_name_byte, is_slash_and, quoted_len, raw_len, name_len}
 
--- a run of name bytes is a name, or an arrow
+-- a run of name bytes is the arrow if it is `=>`, and otherwise a name
 abbrev pub name_kind : List ℕ → Kind
 name_kind name = if bytes_eq name (codes "=>") then Arrow else Name
 
@@ -33,7 +33,7 @@ word_at b bs =
     else (if not (is_name_byte b) || is_slash_and 42 b bs then None
     else option_map (λ n. (name_kind (b ∷ take n bs), n + 1)) (name_len bs)))
 
--- the token at the front, where neither a blank nor a comment stands
+-- the kind and the length of the token at the front, which is neither a blank nor a comment
 unfoldable pub lexeme_at : List ℕ → Option (Kind × ℕ)
 lexeme_at [] = None
 lexeme_at (b ∷ bs) = elim (punctuation_kind b) [ Some k ↦ Some (k, 1) | None ↦ word_at b bs ]
@@ -51,16 +51,16 @@ view t = record { kind = t.kind; line = t.line; span = t.span; text = t.text.now
 abbrev pub views : List Token → List Lexeme
 views = map view
 
--- the lexeme that a text at a place of a line is
+-- the lexeme of this kind and this text at a place in a line
 abbrev pub lexeme : Kind → ℕ → ℕ → List ℕ → Lexeme
 lexeme kind line at text = record { kind = kind; line = line; span = record { start = at; end = at + length text }; text = text }
 
--- tokens, and then what is read behind them
+-- tokens, and then the tokens read after them, or the fault found there
 abbrev pub tokens_then : List Lexeme → Result (List Lexeme) TokenFault → Result (List Lexeme) TokenFault
 tokens_then front (Ok ts) = Ok (front ++ ts)
 tokens_then front (Err e) = Err e
 
--- the rest of a line, of which the first bytes belong to a token that has been read
+-- the tokens of the rest of a line, whose first `skipped` bytes belong to a token that has been read
 abbrev pub tokens_behind : ℕ → ℕ → ℕ → List ℕ → Result (List Lexeme) TokenFault
 tokens_behind skipped line at [] = Ok []
 tokens_behind (suc skipped) line at (b ∷ bs) = tokens_behind skipped line (at + 1) bs
@@ -76,12 +76,12 @@ tokens_behind zero line at (b ∷ bs) =
 abbrev pub line_tokens : ℕ → ℕ → List ℕ → Result (List Lexeme) TokenFault
 line_tokens line at bytes = tokens_behind 0 line at bytes
 
--- the first of them, as many as a number at most
+-- the first of the tokens read, at most `most`
 abbrev pub first_of : ℕ → Result (List Lexeme) TokenFault → Result (List Lexeme) TokenFault
 first_of most (Ok ts) = Ok (take most ts)
 first_of most (Err e) = Err e
 
--- the tokens of the lines of a text from one with a number on, which begins at a place
+-- the tokens of lines, the first of which has the number `line` and begins at `at`
 abbrev pub lines_tokens : ℕ → ℕ → List (List ℕ) → Result (List Lexeme) TokenFault
 lines_tokens line at [] = Ok []
 lines_tokens line at (l ∷ ls) = elim (line_tokens line at l) [
@@ -92,11 +92,12 @@ lines_tokens line at (l ∷ ls) = elim (line_tokens line at l) [
 abbrev pub text_tokens : List ℕ → Result (List Lexeme) TokenFault
 text_tokens text = lines_tokens 1 0 (lines text)
 
--- What a function returned, seen by view, is what the definition gives, unless memory ran out.
+-- a function failed as the definition does, or memory ran out
 abbrev pub Fails : {Y : Type 0} → TokenFault → Result Y TokenFault → Type 0
 Fails faults.Memory read = Unit {0}
 Fails (faults.Lex line) read = read ≡ Err (faults.Lex line)
 
+-- a function returned what the definition gives, seen through `view`, or failed as it does, or memory ran out
 abbrev pub Gives : {X Y : Type 0} → (X → Y) → Result X TokenFault → Result Y TokenFault → Type 0
 Gives view (Ok x) read = read ≡ Ok (view x)
 Gives view (Err e) read = Fails e read

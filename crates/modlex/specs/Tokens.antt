@@ -1,4 +1,4 @@
--- Which tokens a line has, by cases on what stands in it.
+-- The tokens of lines and of texts, as relations.
 use Rattle.std.specs.Prelude.{◌≡◌, ◌≢◌, ℕ, ◌+◌, ◌<◌, ◌≤◌, Bool, true, false, ◌==◌, List, [], ◌∷◌, ◌++◌, length, codes, slice_range, ◌⊎◌, MatchBool}
 use Rattle.std.specs.List.{AllByRecursion, flat_map}
 use Rattle.modlex.specs.declared.lexer.Kind.{Kind}
@@ -11,16 +11,16 @@ use Rattle.modlex.specs.Lexer.{Lexeme, lexeme}
 abbrev pub AreBlank : List ℕ → Type 0
 AreBlank = AllByRecursion (λ b. is_blank b ≡ true)
 
--- the bytes begin with a slash and this byte
+-- whether the bytes begin with a slash and this byte
 abbrev pub opens : ℕ → List ℕ → Bool
 opens second [] = false
 opens second (b ∷ bs) = is_slash_and second b bs
 
--- behind the last token: nothing, or a comment
+-- what comes after the last token and its blanks: nothing, or a comment
 abbrev pub IsEnd : List ℕ → Type 0
 IsEnd rest = (rest ≡ []) ⊎ (opens 47 rest ≡ true)
 
--- what an interpreted string may hold: a backslash stands with the byte after it
+-- what an interpreted string may hold: no quotation mark, but a backslash takes any byte of a string after it
 abbrev pub IsQuoted : List ℕ → Type 0
 IsQuoted [] = Unit {0}
 IsQuoted (b ∷ []) = (is_string_byte b ≡ true) × (b ≢ 34) × (b ≢ 92)
@@ -30,13 +30,13 @@ IsQuoted (b ∷ c ∷ bs) = (is_string_byte b ≡ true) × (b ≢ 34) × MatchBo
 abbrev pub IsRaw : List ℕ → Type 0
 IsRaw = AllByRecursion (λ b. (is_string_byte b ≡ true) × (b ≢ 96))
 
--- a run of name bytes which goes on as far as it can: it ends before a comment, and no `/*` stands in it
+-- a run of name bytes before a rest, as long as it can be: it ends before a comment, and no `/*` begins in it
 abbrev pub IsRun : List ℕ → List ℕ → Type 0
 IsRun [] [] = Unit {0}
 IsRun [] (c ∷ cs) = (is_name_byte c ≡ false) ⊎ (is_slash_and 47 c cs ≡ true)
 IsRun (b ∷ bs) rest = (is_name_byte b ≡ true) × (is_slash_and 47 b (bs ++ rest) ≡ false) × (is_slash_and 42 b (bs ++ rest) ≡ false) × IsRun bs rest
 
--- the text is a token of this kind, where rest stands behind it
+-- a text is a token of this kind if `rest` comes after it
 abbrev pub IsLexeme : Kind → List ℕ → List ℕ → Type 0
 IsLexeme ParenLeft text rest = text ≡ codes "("
 IsLexeme ParenRight text rest = text ≡ codes ")"
@@ -48,15 +48,15 @@ IsLexeme Raw text rest = (content : List ℕ) × IsRaw content × (text ≡ 96 �
 IsLexeme Arrow text rest = (text ≡ codes "=>") × IsRun text rest
 IsLexeme Name text rest = (0 < length text) × (text ≢ codes "=>") × IsRun text rest
 
--- The tokens of a line with a number, which begins at a place of the text: each stands behind blanks,
--- and behind the last stand blanks and perhaps a comment.
+-- the tokens of a line with this number, which begins at this place of the text: blanks may come before each, and
+-- after the last come blanks and perhaps a comment
 abbrev pub AreTokens : ℕ → ℕ → List ℕ → List Lexeme → Type 0
 AreTokens line at bytes [] = (gap : List ℕ) × (rest : List ℕ) × AreBlank gap × IsEnd rest × (bytes ≡ gap ++ rest)
 AreTokens line at bytes (t ∷ ts) =
     (gap : List ℕ) × (rest : List ℕ) × AreBlank gap × IsLexeme t.kind t.text rest × (bytes ≡ gap ++ (t.text ++ rest))
     × (t ≡ lexeme t.kind line (at + length gap) t.text) × AreTokens line (at + length gap + length t.text) rest ts
 
--- the tokens of each line, of which the first has a number and begins at a place of the text
+-- the tokens of each of several lines, the first of which has this number and begins at this place of the text
 abbrev pub AreTokensOf : ℕ → ℕ → List (List ℕ) → List (List Lexeme) → Type 0
 AreTokensOf line at [] [] = Unit {0}
 AreTokensOf line at (l ∷ ls) (ts ∷ tss) = AreTokens line at l ts × AreTokensOf (line + 1) (at + length l + 1) ls tss
@@ -66,7 +66,7 @@ AreTokensOf line at _ _ = ⊥
 abbrev pub AreTextTokens : List ℕ → List Lexeme → Type 0
 AreTextTokens text ts = (tss : List (List Lexeme)) × AreTokensOf 1 0 (lines text) tss × (flat_map (λ line. line) tss ≡ ts)
 
--- the first line that has no tokens, wherever it begins
+-- the number of the first line that cannot be split into tokens, wherever it begins
 pub record IsFirstWithout (text : List ℕ) (line : ℕ) : Type 0 where
   pub before : List (List ℕ)
   pub faulty : List ℕ
@@ -76,7 +76,7 @@ pub record IsFirstWithout (text : List ℕ) (line : ℕ) : Type 0 where
   pub above : (tss : List (List Lexeme)) × AreTokensOf 1 0 before tss
   pub none : (at : ℕ) (ts : List Lexeme) → ¬ AreTokens line at faulty ts
 
--- each token has the slice of the text at its span as its text, and begins where the one before it ends or behind that
+-- each token's text is the slice of the text at its span, and each token begins at or after the end of the one before
 abbrev pub AreInOrder : List ℕ → ℕ → List Lexeme → Type 0
 AreInOrder text from [] = Unit {0}
 AreInOrder text from (t ∷ ts) =

@@ -1,10 +1,10 @@
--- What a word stands for.
+-- The computed values of tokens.
 use Rattle.std.specs.Prelude.{◌≡◌, ℕ, ◌==◌, List, [], ◌∷◌, ◌++◌, if◌then◌else◌}
 use Rattle.modlex.specs.declared.lexer.Kind.{Kind}
 use Rattle.modlex.specs.declared.lexer.Kind.TheVariants.{Quoted, Raw}
 use Rattle.modlex.specs.Symbols.{Symbol}
 
--- a text without its first byte, or its last, where that is a given byte
+-- a text without its first byte, or without its last, if that is the given byte
 abbrev pub without_first : ℕ → List ℕ → List ℕ
 without_first mark [] = []
 without_first mark (b ∷ bs) = if b == mark then bs else b ∷ bs
@@ -14,11 +14,11 @@ without_last mark [] = []
 without_last mark (b ∷ []) = if b == mark then [] else b ∷ []
 without_last mark (b ∷ c ∷ bs) = b ∷ without_last mark (c ∷ bs)
 
--- what stands between two quotation marks
+-- a text without the mark at its start and the mark at its end
 abbrev pub inside : ℕ → List ℕ → List ℕ
 inside mark text = without_last mark (without_first mark text)
 
--- what a text is where a backslash stands for the character after it
+-- a text without its escaping backslashes: each drops out, and the byte after it stays
 abbrev pub plain_text : List ℕ → List ℕ
 plain_text [] = []
 plain_text (b ∷ []) = if b == 92 then [] else b ∷ []
@@ -29,11 +29,11 @@ value_of_text Quoted text = plain_text (inside 34 text)
 value_of_text Raw text = inside 96 text
 value_of_text _ text = text
 
--- a name stands for itself, a string for its content
+-- the value of a token: the content of a string, and the text of any other token
 unfoldable pub value_of : Symbol → List ℕ
 value_of t = value_of_text t.kind t.text
 
--- a backslash stands in a text, and in a string between quotation marks
+-- a text has a backslash, and a token is a string in quotation marks that has one
 abbrev pub HasBackslash : List ℕ → Type 0
 HasBackslash text = (before : List ℕ) × (behind : List ℕ) × (text ≡ before ++ 92 ∷ behind)
 

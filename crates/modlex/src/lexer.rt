@@ -8,7 +8,7 @@ ghost use Rattle.modlex.specs.Lexer.{punctuation_kind, name_kind, lexeme_at, vie
 
 use std::alloc::{AllocError, AllocFailed, Global};
 
-/// What a token is.
+/// The kind of a token.
 #[derive(Clone, Copy, Debug, PartialEq, Eq)]
 pub enum Kind {
     Name,
@@ -22,7 +22,7 @@ pub enum Kind {
     BracketRight,
 }
 
-/// Where a token stands in the text: its first byte, and the one behind its last.
+/// The place of a token in the text: the index of its first byte, and the index after its last byte.
 #[derive(Clone, Copy, Debug, PartialEq, Eq)]
 pub struct Span {
     pub start: usize,
@@ -38,11 +38,12 @@ pub struct Token<'a> {
     pub text: &'a str,
 }
 
-/// Why a text has no tokens.
+/// Why the tokens of a text or of a line were not returned.
 #[derive(Clone, Copy, Debug, PartialEq, Eq)]
 pub enum TokenFault {
-    /// The line has no tokens.
+    /// The line with this number cannot be split into tokens.
     Lex(usize),
+    /// Memory ran out.
     Memory,
 }
 
@@ -93,7 +94,7 @@ fn is_name_byte(byte: u8) -> bool
         )
 }
 
-/// Whether a slash stands at a place, and then another byte.
+/// Whether the byte at `at` is a slash and the next one is `second`.
 #[tactic(auto, unfolding(crate::specs::Bytes::is_slash_and))]
 fn is_slash_and(second: u8, bytes: &[u8], at: usize) -> bool
     requires { at < length bytes.now }
@@ -102,7 +103,8 @@ fn is_slash_and(second: u8, bytes: &[u8], at: usize) -> bool
     bytes[at] == b'/' && at + 1 < bytes.len() && bytes[at + 1] == second
 }
 
-/// How far an interpreted string goes from behind its first quotation mark to behind its last.
+/// Returns the length of an interpreted string without its first quotation mark. It returns `None` if
+/// the string is not closed or has a byte that no string may have.
 fn quoted_len(bytes: &[u8]) -> Option<usize>
     ensures value { result ≡ quoted_len false bytes.now }
     ensures within { IfSome result (λ n. (0 < n) × (n ≤ length bytes.now)) }
@@ -121,7 +123,8 @@ fn quoted_len(bytes: &[u8]) -> Option<usize>
     None
 }
 
-/// The same of a raw string.
+/// Returns the length of a raw string without its first grave accent. It returns `None` if the string
+/// is not closed or has a byte that no string may have.
 fn raw_len(bytes: &[u8]) -> Option<usize>
     ensures value { result ≡ raw_len bytes.now }
     ensures within { IfSome result (λ n. (0 < n) × (n ≤ length bytes.now)) }
@@ -138,7 +141,7 @@ fn raw_len(bytes: &[u8]) -> Option<usize>
     None
 }
 
-/// How far a name goes on; none where a `/*` stands in it.
+/// Returns the number of bytes by which a name goes on, or `None` if a `/*` is in it.
 #[tactic(auto, using(crate::proofs::Cuts::name_ends))]
 fn name_len(bytes: &[u8]) -> Option<usize>
     ensures value { result ≡ name_len bytes.now }
@@ -156,7 +159,7 @@ fn name_len(bytes: &[u8]) -> Option<usize>
     Some(bytes.len())
 }
 
-/// The kind of a token of one byte.
+/// Returns the kind of a token of one byte, or `None` if the byte is not such a token.
 fn punctuation_kind(byte: u8) -> Option<Kind>
     ensures value { result ≡ punctuation_kind byte }
     ensures ascii { IfSome result (λ _. byte < 128) }
@@ -181,7 +184,8 @@ fn name_kind(name: &[u8]) -> Kind
     }
 }
 
-/// The token at the front, where neither a blank nor a comment stands: its kind and its length.
+/// Returns the kind and the length of the token at the front of `bytes`, or `None` if there is none.
+/// `bytes` begins with neither a blank nor a comment.
 #[tactic(auto, using(crate::proofs::Cuts::cuts), unfolding(crate::specs::Lexer::lexeme_at))]
 fn lexeme_at(bytes: &[u8]) -> Option<(Kind, usize)>
     ensures value { result ≡ lexeme_at bytes.now }
@@ -204,9 +208,10 @@ fn lexeme_at(bytes: &[u8]) -> Option<(Kind, usize)>
     }
 }
 
-/// Replaces what `out` holds by the first tokens of a line, at most `most` of them. The line has a number
-/// and begins at a place of the text. It is read to its end. A line that has no tokens is a fault with that
-/// number.
+/// Replaces the content of `out` by the first tokens of a line, at most `most` of them. `line` is the
+/// number of the line and `start` its place in the whole text. It reads the line to its end, and fails
+/// with [`TokenFault::Lex`] and the number if the line cannot be split into tokens, and with
+/// [`TokenFault::Memory`] if memory runs out.
 pub fn first_tokens<'a>(
     out: &mut Vec<Token<'a>>,
     most: usize,
@@ -255,7 +260,7 @@ pub fn first_tokens<'a>(
     Ok(())
 }
 
-/// Puts a token behind those that are kept, where there is room for it.
+/// Appends a token to `out`, unless `out` has `most` of them. It fails only if memory runs out.
 fn keep_token<'a>(out: &mut Vec<Token<'a>>, most: usize, token: Token<'a>) -> Result<(), AllocError>
     requires { length out.old.items ≤ most }
     ensures kept { IfOk result (λ _. views out.new.items ≡ take most (views out.old.items ++ view token.entry ∷ [])) }
@@ -267,8 +272,9 @@ fn keep_token<'a>(out: &mut Vec<Token<'a>>, most: usize, token: Token<'a>) -> Re
     Ok(())
 }
 
-/// The tokens of a line, which has a number and begins at a place of the text; the fault of a line
-/// that has none bears its number.
+/// Returns the tokens of a line. `line` is the number of the line and `start` its place in the whole
+/// text. It fails with [`TokenFault::Lex`] and the number if the line cannot be split into tokens, and
+/// with [`TokenFault::Memory`] if memory runs out.
 pub fn line_tokens<'a>(
     alloc: Global,
     line: usize,
@@ -283,7 +289,7 @@ pub fn line_tokens<'a>(
     Ok(out)
 }
 
-/// The first line and what stands behind its newline; none for a text of one line.
+/// Returns the first line and the text after its newline, or `None` for a text of one line.
 pub fn cut_line(text: &str) -> Option<(&str, &str)>
     ensures lines { MatchOption result (lines text.now ≡ text.now ∷ [])
         (λ cut. lines text.now ≡ cut.0.now ∷ lines cut.1.now) }
@@ -292,7 +298,9 @@ pub fn cut_line(text: &str) -> Option<(&str, &str)>
     text.split_once('\n')
 }
 
-/// The tokens of a text, line by line, or the number of the first line that has none, from 1 on.
+/// Returns the tokens of a text, line by line. It fails with [`TokenFault::Lex`] and the number, counted
+/// from 1, of the first line that cannot be split into tokens, and with [`TokenFault::Memory`] if memory
+/// runs out.
 pub fn tokens<'a>(alloc: Global, text: &'a str) -> Result<Vec<Token<'a>>, TokenFault>
     ensures { Gives (λ v. views v.items) result (text_tokens text.now) }
 {

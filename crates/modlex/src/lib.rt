@@ -1,13 +1,13 @@
 //! The tokens of go.mod files: the lexer below the reader of the crate `gomod`. (Go Modules Reference,
-//! "go.mod files", "Lexical elements"; where this profile differs, what stands here holds.)
+//! "go.mod files", "Lexical elements"; where this profile differs, the text below holds.)
 //!
-//! A text is cut into lines, each ended by a newline or by the end of the text, and no token goes
+//! A text is split into lines, each ended by a newline or by the end of the text, and no token goes
 //! beyond its line. Spaces, tabs and carriage returns separate tokens, `//` begins a comment, which
-//! goes on to the end of the line, and `(`, `)`, `[`, `]` and `,` are tokens by themselves. A string
-//! stands between two quotation marks, where a backslash stands for the character after it, or
-//! between two grave accents; it holds no control byte. Any other run of bytes without braces,
-//! controls or `/*` is a name, and ends before a comment; the run `=>` is the arrow. Names and strings
-//! are words. A line where something else stands has no tokens, and the first such line is the fault.
+//! runs to the end of the line, and `(`, `)`, `[`, `]` and `,` are tokens by themselves. A string is
+//! enclosed in two quotation marks, where a backslash makes the character after it literal, or in two
+//! grave accents; it has no control byte. Any other run of bytes without braces, control bytes or `/*`
+//! is a name, which ends before a comment; the run `=>` is the arrow. Names and strings are words. A
+//! line with anything else cannot be split into tokens, and the first such line is the fault.
 //!
 //! | text | [`tokens`] |
 //! |---|---|

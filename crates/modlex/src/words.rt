@@ -1,4 +1,4 @@
-//! What a token is, and what a word stands for.
+//! Tests of tokens, and their values.
 
 ghost use Rattle.std.specs.Prelude.{◌≡◌, ◌<◌, IfOk, IsOkAnd, string_bytes, MatchOption, encode_utf8, [], ◌∷◌, ◌++◌, IfSome, length};
 ghost use Rattle.std.specs.Cow.{cow_str_bytes, IsBorrowedStr};
@@ -10,30 +10,30 @@ use std::alloc::{AllocError, Global};
 use std::borrow::CowStr;
 
 impl<'a> Token<'a> {
-    /// Whether it is a name or a string.
+    /// Whether the token is a name or a string.
     pub fn is_word(&self) -> bool
         ensures { result ≡ is_word (symbol self.now) }
     {
         matches!(self.kind, Kind::Name | Kind::Quoted | Kind::Raw)
     }
 
-    /// Whether it is a name, as each keyword is.
+    /// Whether the token is a name, as each keyword is.
     pub fn is_name(&self) -> bool
         ensures { result ≡ is_name_kind self.now.kind }
     {
         matches!(self.kind, Kind::Name)
     }
 
-    /// Whether it is the arrow `=>`.
+    /// Whether the token is the arrow `=>`.
     pub fn is_arrow(&self) -> bool
         ensures { result ≡ is_arrow_kind self.now.kind }
     {
         matches!(self.kind, Kind::Arrow)
     }
 
-    /// The value of the token: of a string its content without marks and backslashes, of any other token
-    /// its text. It is a part of the text, unless a backslash stands in a string between quotation marks. The
-    /// error is that the system is out of memory, for such a string alone.
+    /// Returns the value of the token: the content of a string, without the backslashes that escape, or the
+    /// text of any other token. The value is borrowed from the text, except for a string in quotation marks
+    /// that has a backslash. It fails only for such a string, if memory runs out.
     #[tactic(auto, unfolding(crate::specs::Words::value_of))]
     pub fn value(&self, alloc: Global) -> Result<CowStr<'a>, AllocError>
         ensures value { IfOk result (λ text. cow_str_bytes text ≡ value_of (symbol self.now)) }
@@ -47,7 +47,7 @@ impl<'a> Token<'a> {
     }
 }
 
-/// What stands between two quotation marks.
+/// The text without the mark at its start and the mark at its end, if they are there.
 fn inside(text: &str, mark: char) -> &str
     requires { mark < 128 }
     ensures { result.now ≡ inside mark text.now }
@@ -56,7 +56,7 @@ fn inside(text: &str, mark: char) -> &str
     text.strip_suffix(mark).unwrap_or(text)
 }
 
-/// The first character and the text behind it.
+/// Returns the first character and the text after it, or `None` for an empty text.
 fn split_char(text: &str) -> Option<(char, &str)>
     ensures { MatchOption result (text.now ≡ []) (λ x. text.now ≡ encode_utf8 x.0 ++ x.1.now) }
 {
@@ -65,7 +65,7 @@ fn split_char(text: &str) -> Option<(char, &str)>
     Some((first, chars.as_str()))
 }
 
-/// The texts round the first backslash.
+/// Returns the texts before and after the first backslash, or `None` if there is none.
 fn cut_escape(text: &str) -> Option<(&str, &str)>
     ensures value { MatchOption result (plain_text text.now ≡ text.now)
         (λ x. plain_text text.now ≡ x.0.now ++ plain_text (92 ∷ x.1.now)) }
@@ -75,7 +75,8 @@ fn cut_escape(text: &str) -> Option<(&str, &str)>
     text.split_once('\\')
 }
 
-/// A text in which each backslash stands for the character after it: the text as it stands where it has none.
+/// Returns `text` without its escaping backslashes, each of which makes the character after it literal.
+/// A text that has no backslash is borrowed. It fails only if memory runs out.
 fn plain_text(alloc: Global, text: &str) -> Result<CowStr<'_>, AllocError>
     ensures value { IfOk result (λ out. cow_str_bytes out ≡ plain_text text.now) }
     ensures borrowed { ¬ HasBackslash text.now → IsOkAnd result IsBorrowedStr }
@@ -86,7 +87,7 @@ fn plain_text(alloc: Global, text: &str) -> Result<CowStr<'_>, AllocError>
     }
 }
 
-/// The same, put together anew.
+/// Returns a new string of `text` without its escaping backslashes. It fails only if memory runs out.
 fn unescaped(alloc: Global, text: &str) -> Result<String, AllocError>
     ensures { IfOk result (λ out. string_bytes out ≡ plain_text text.now) }
 {

@@ -72,6 +72,7 @@ none_entries j (d ∷ ds) h =
     ∙ ap (λ l. l ++ entries_under j (flat_map items_of ds)) (directive_entries j d parts.0)
     ∙ none_entries j ds parts.1
 
+-- of the entries so far and those that a move adds, at most one part has an entry of module
 module_once : {known : Keywords} {ds es : List Directive} {o p : Option OpenBlock} {r : Row} (m : Move known ds o r es p) → IsAlone ds o → (entries_under Module (items ds o) ≡ []) ⊎ (entries_under Module (items_more m) ≡ [])
 module_once (blank ds o line) alone = inr refl
 module_once (single ds line k ts a fresh s) alone =
@@ -101,6 +102,7 @@ pub record Above (known : Keywords) (ls : List (List ℕ)) (ds : List Directive)
   pub meant : AreMeant (items ds o) p
   pub bare : p.bare ≡ list_all is_module (keywords_in ds o)
 
+-- no lines are read as no directives, which say nothing
 pub above_start : (known : Keywords) → Above known [] [] None nothing
 above_start known = record {
   read = record {
@@ -142,6 +144,7 @@ pub record Next (known : Keywords) (ls : List (List ℕ)) (c : Context) (p : Par
   pub above : Above known ls directives opened p
   pub context : c ≡ context_at directives opened
 
+-- a line that is read after lines that are read leaves lines that are read, with what it says added
 pub above_line : {known : Keywords} {ls : List (List ℕ)} {ds : List Directive} {o : Option OpenBlock} {p : Parts} (l : List ℕ) (x : Context × Parts) → Above known ls ds o p → bytes_say known (length ls + 1) (context_at ds o) l ≡ Ok x → Next known (ls ++ l ∷ []) x.0 (p ⊕ x.1)
 above_line {known = known} {ls = ls} {ds = ds} {o = o} {p = p} l x a h =
     let b = bytes_ok known (length ls + 1) (place_behind 0 ls) (context_at ds o) l x h in
@@ -158,6 +161,7 @@ above_line {known = known} {ls = ls} {ds = ds} {o = o} {p = p} l x a h =
 
 -- ---- all lines
 
+-- lines that are read after lines that are read leave lines that are read, with what they say added
 pub above_lines : (known : Keywords) (ms ls : List (List ℕ)) (ds : List Directive) (o : Option OpenBlock) (p : Parts) (x : Context × Parts) → Above known ls ds o p → lines_say known (length ls + 1) (context_at ds o) ms ≡ Ok x → Next known (ls ++ ms) x.0 (p ⊕ x.1)
 above_lines known [] ls ds o p x a h =
     let same : ◌≡◌ {A = Context × Parts} (context_at ds o, nothing) x = ok_same _ x h in
@@ -249,6 +253,7 @@ computed_line known ls l ds o before r =
       above = above_move l t.last back.move s c.above here;
     }
 
+-- n lines that can be read by the grammar are computed to say what they mean
 computed_by : (known : Keywords) (n : ℕ) (ls : List (List ℕ)) → length ls ≡ n → (ds : List Directive) (o : Option OpenBlock) → AreRead known ls ds o → Computed known ls ds o
 computed_by known zero ls len ds o r =
     let none = empty_list ls len in

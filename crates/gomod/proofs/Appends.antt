@@ -61,6 +61,7 @@ tokens_of-append line at (m ∷ ls) (us ∷ tss) l ts h k =
     let place : line + length (m ∷ ls) ≡ line + 1 + length ls = omega arith in
     (h.0, tokens_of-append (line + 1) (at + length m + 1) ls tss l ts h.1 (subst (λ n. AreTokens n (place_behind at (m ∷ ls)) l ts) place k))
 
+-- there are as many lists of tokens as lines
 pub tokens_of-length : (line at : ℕ) (ls : List (List ℕ)) (tss : List (List Lexeme)) → AreTokensOf line at ls tss → length tss ≡ length ls
 tokens_of-length line at [] [] h = refl
 tokens_of-length line at [] (t ∷ tss) h = absurd h
@@ -75,6 +76,7 @@ pub record LastTokens (line at : ℕ) (ls : List (List ℕ)) (l : List ℕ) (tss
   pub above : AreTokensOf line at ls front
   pub here : AreTokens (line + length ls) (place_behind at ls) l last
 
+-- the tokens of lines are those of all but the last and then those of the last
 pub tokens_of-last : (line at : ℕ) (ls : List (List ℕ)) (l : List ℕ) (tss : List (List Lexeme)) → AreTokensOf line at (ls ++ l ∷ []) tss → LastTokens line at ls l tss
 tokens_of-last line at [] l [] h = absurd h
 tokens_of-last line at [] l (ts ∷ []) h =

@@ -33,6 +33,7 @@ abbrev pub context_at : List Directive → Option OpenBlock → Context
 context_at ds None = record { block = None; has_module = stands Module ds; stood = stood_in ds }
 context_at ds (Some b) = record { block = Some b.keyword; has_module = stands Module ds || (is_module b.keyword && has_entry b.entries); stood = stood_in ds }
 
+-- a keyword is `Module` by both tests or by neither
 pub module_same : (k : Keyword) → is_keyword Module k ≡ is_module k
 module_same Module = refl
 module_same Go = refl

@@ -52,6 +52,7 @@ meets-true (version text) h = some_of (version_of text) h
 meets-true (fitting_version path text) h = fits_of path (version_of text) h
 meets-true (interval low high) h = above_of (version_of low) (version_of high) h
 
+-- a demand that is met passes its computed test
 pub meets-from : (d : Demand) → IsMet d → meets d ≡ true
 meets-from (module_path text) h = h
 meets-from (loose_path text) h = h
@@ -85,6 +86,7 @@ fails_behind d ds e met f = record {
   unmet = f.unmet;
 }
 
+-- a fault that checking demands finds is that of the first demand that is not met
 pub check-fails : (line : ℕ) (ds : List Demand) (f : GoModFault) → check line ds ≡ Err f → (d : Demand) × FailsFirst ds d × (f ≡ fault_of line d)
 check-fails line [] f h = cc
 check-fails line (d ∷ ds) f h =

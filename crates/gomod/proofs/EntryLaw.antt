@@ -1,4 +1,4 @@
--- What is computed of an entry is what its shape asks, and what its words stand for.
+-- The computed reading of an entry succeeds or fails as the demands of its shape say.
 use Rattle.std.proofs.Common.{◌≡◌, ℕ, Bool, true, false, not, cond, List, [], ◌∷◌, ◌++◌, refl, ap, sym, ◌∙◌, Option, Some, None, Result, Ok, Err}
 use Rattle.std.specs.Option.{is_some}
 use Rattle.gomod.specs.declared.keyword.Keyword.{Keyword}
@@ -114,7 +114,7 @@ interval_success line v w = interval_any line (version_of (value_of v)) (version
 
 -- ---- entries
 
--- two steps, each of which asks its part
+-- two steps that check the demands of two lists, one after the other, check the demands of both
 two_steps : (line : ℕ) (r s : Result (Unit {0}) GoModFault) (ds es : List Demand) → success r ≡ check line ds → success s ≡ check line es → success (r >>= (λ o. s)) ≡ check line (ds ++ es)
 two_steps line r s ds es hr hs = success-chain r (λ o. s) (check line es) (λ o. hs) ∙ ap (λ x. and_then x (check line es)) hr ∙ sym (check-append line ds es)
 
@@ -122,6 +122,7 @@ replace_four_by : (line : ℕ) (b c : Bool) (r s : Result (Unit {0}) GoModFault)
 replace_four_by line true c r s ds es hr hs = hr
 replace_four_by line false c r s ds es hr hs = outcome_when line c s es hs
 
+-- an entry of replace succeeds or fails as the demands of its shape say
 replace_success : (line : ℕ) (ts : List Symbol) → success (replace_entry line ts) ≡ outcome line (demands_of Replace ts)
 unfolding replace_entry replace_three replace_four replace_five
 replace_success line (p ∷ a ∷ f ∷ []) =

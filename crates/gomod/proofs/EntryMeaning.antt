@@ -1,4 +1,4 @@
--- What is computed of an entry is what its words stand for.
+-- The computed meaning of an entry is the meaning of its words.
 use Rattle.std.proofs.Common.{◌≡◌, ℕ, Bool, true, ◌&&◌, cond, List, [], ◌∷◌, refl, ap, sym, ◌∙◌, subst, Option, Some, None, Ok, Err, inl, inr, ⊎_elim}
 use Rattle.gomod.specs.declared.keyword.Keyword.{Keyword}
 use Rattle.gomod.specs.declared.keyword.Keyword.TheVariants.{Module, Go, Toolchain, Require, Exclude, Replace, Retract, Tool, Godebug, Ignore}
@@ -23,7 +23,7 @@ abbrev pub path_list : Option (List ℕ) → List (List ℕ)
 path_list None = []
 path_list (Some path) = path ∷ []
 
--- entries stand for these parts
+-- these parts are the meaning of the entries
 pub record AreMeant (is : List Item) (p : Parts) : Type 0 where
   pub paths : Pointwise (λ e x. IsModuleEntry e.symbols x) (entries_under Module is) (path_list p.module_path)
   pub required : Pointwise (λ e r. IsPair e.symbols r) (entries_under Require is) p.required
@@ -65,6 +65,7 @@ pair_entry_means line (p ∷ v ∷ []) r h =
     pair_means line p v r (guarded (is_word p && is_word v) (pair line p v) (faults.Grammar line) r h).1
 pair_entry_means line _ r h = cc
 
+-- the retraction read from a bracket, two words, a comma and a bracket is the interval that the line names
 interval_means : (line : ℕ) (l v c w r : Symbol) (i : Retraction) → interval line v w ≡ Ok i → IsPlaced (row line (l ∷ v ∷ c ∷ w ∷ r ∷ [])) i
 unfolding interval
 interval_means line l v c w r i h =
@@ -77,6 +78,7 @@ interval_means line l v c w r i h =
     (ap (λ q. q.line) (sym same), inr (l, v, c, w, r, refl, found_is line _ a.0 a.1 ∙ ap (λ q. Some q.versions.low) same, found_is line _ b.0 b.1 ∙ ap (λ q. Some q.versions.high) same)))
     (chosen (is_below b.0 a.0) _ _ _ b.2)
 
+-- the retraction read from an entry of retract is the interval that the line names
 retract_means : (line : ℕ) (ts : List Symbol) (i : Retraction) → retract_entry line ts ≡ Ok i → IsPlaced (row line ts) i
 unfolding retract_entry
 retract_means line (v ∷ []) i h =
@@ -92,10 +94,11 @@ retract_means line (l ∷ v ∷ c ∷ w ∷ r ∷ []) i h =
     interval_means line l v c w r i (guarded (are_interval_kinds l.kind v.kind c.kind w.kind r.kind) (interval line v w) (faults.Grammar line) i h).1
 retract_means line _ i h = cc
 
--- what is computed of an entry is meant by it
+-- these parts are the meaning of an entry, which leaves a file bare
 abbrev Entry : ℕ → Keyword → List Symbol → Parts → Type 0
 Entry line k ts q = AreMeant (item k (row line ts) ∷ []) q × (q.bare ≡ true)
 
+-- the parts computed of an entry are its meaning
 pub entry_means : (line : ℕ) (k : Keyword) (ts : List Symbol) (q : Parts) → entry line k ts ≡ Ok q → Entry line k ts q
 unfolding entry
 entry_means line Module ts q h =

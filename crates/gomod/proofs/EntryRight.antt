@@ -60,6 +60,7 @@ word_kind_opens kinds.ParenRight h = refl
 word_kind_opens kinds.BracketLeft h = refl
 word_kind_opens kinds.BracketRight h = refl
 
+-- a word closes no block
 word_kind_closes : (k : Kind) → is_word_kind k ≡ true → closes_block_kind k ≡ false
 word_kind_closes kinds.Name h = refl
 word_kind_closes kinds.Quoted h = refl
@@ -71,6 +72,7 @@ word_kind_closes kinds.ParenRight h = cc
 word_kind_closes kinds.BracketLeft h = refl
 word_kind_closes kinds.BracketRight h = refl
 
+-- the tokens of an entry are not one opening parenthesis
 pub shape_no_opening : (k : Keyword) (ts : List Symbol) (ds : List Demand) → HasShape k ts ds → is_opening ts ≡ false
 shape_no_opening _ _ _ (module_shape w hw) = word_kind_opens w.kind hw
 shape_no_opening _ _ _ (word_shape k w hk hw) = word_kind_opens w.kind hw
@@ -84,6 +86,7 @@ shape_no_opening _ _ _ (version_by_version p v a q w hp hv ha hq hw) = refl
 shape_no_opening _ _ _ (retract_version v hv) = word_kind_opens v.kind hv
 shape_no_opening _ _ _ (retract_interval l v c w r hl hv hc hw hr) = refl
 
+-- the tokens of an entry are not one closing parenthesis
 pub shape_no_closing : (k : Keyword) (ts : List Symbol) (ds : List Demand) → HasShape k ts ds → is_closing ts ≡ false
 shape_no_closing _ _ _ (module_shape w hw) = word_kind_closes w.kind hw
 shape_no_closing _ _ _ (word_shape k w hk hw) = word_kind_closes w.kind hw

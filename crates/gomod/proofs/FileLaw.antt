@@ -31,7 +31,7 @@ use Rattle.gomod.proofs.Appends.{joined, lines_say-append}
 use Rattle.gomod.proofs.Pass.{join_start}
 use Rattle.gomod.proofs.Above.{Above, above_start, above_lines, above_fault, Next, computed, none_entries}
 
--- ---- what entries stand for is determined
+-- ---- an entry has one meaning
 
 tail_same : (a b : Symbol) (xs ys : List Symbol) → a ∷ xs ≡ b ∷ ys → (a ≡ b) × (xs ≡ ys)
 tail_same a b xs ys h = (cc, cc)
@@ -71,6 +71,7 @@ span_one v i h =
     (λ x. (let bad = x.5 in cc))
     h
 
+-- an interval named by five tokens ends at the versions of the second and the fourth
 span_two : (l v c w r : Symbol) (i : Interval) → IsSpan (l ∷ v ∷ c ∷ w ∷ r ∷ []) i → Ends (value_of v) (value_of w) i
 span_two l v c w r i h =
     ⊎_elim
@@ -121,6 +122,7 @@ all_fit : (path : List ℕ) (rs : List Retraction) → AllByRecursion (FitsPath 
 all_fit path [] h = refl
 all_fit path (r ∷ rs) h = let here = and_from (fits_path path r.versions.low) (fits_path path r.versions.high) h.0.0 h.0.1 in rw here (all_fit path rs h.1)
 
+-- the first unfit retraction of a list stays the first if a fitting retraction is put before it
 unfit_behind : (path : List ℕ) (e : Row) (i : Interval) (es : List Row) (line : ℕ) → IsSpan e.symbols i → FitsPath path i → IsFirstUnfit path es line → IsFirstUnfit path (e ∷ es) line
 unfit_behind path e i es line span fits u = record {
   before = e ∷ u.before;
@@ -134,6 +136,7 @@ unfit_behind path e i es line span fits u = record {
   place = u.place;
 }
 
+-- the line found by the search of an unfit retraction is that of the first unfit retraction
 unfit_from : (path : List ℕ) (es : List Row) (rs : List Retraction) (line : ℕ) → Pointwise IsPlaced es rs → first_unfit path rs ≡ Some line → IsFirstUnfit path es line
 unfit_from path [] [] line h k = cc
 unfit_from path [] (r ∷ rs) line h k = absurd h
@@ -154,6 +157,7 @@ unfit_from path (e ∷ es) (r ∷ rs) line h k =
     })
     (chosen (fits_retraction path r) _ _ _ k)
 
+-- the search of an unfit retraction finds the line of the first one
 unfit_at : (path : List ℕ) (before : List Row) (u : Row) (others : List Row) (rs : List Retraction) (span : Interval) → Pointwise IsPlaced (before ++ u ∷ others) rs → AllByRecursion (λ e. (i : Interval) × IsSpan e.symbols i × FitsPath path i) before → IsSpan u.symbols span → ¬ FitsPath path span → first_unfit path rs ≡ Some u.line
 unfit_at path [] u others [] span h fit is misfit = absurd h
 unfit_at path [] u others (r ∷ rs) span h fit is misfit =
@@ -227,6 +231,7 @@ no_path : (o : Option (List ℕ)) (es : List Row) → es ≡ [] → Pointwise (�
 no_path None es none h = refl
 no_path (Some p) es none h = absurd (subst (λ l. Pointwise (λ e q. IsModuleEntry e.symbols q) l (p ∷ [])) none h)
 
+-- a file whose lines, path and retractions pass is read by the grammar as what was computed
 reads_fitting : (known : Keywords) (bytes : List ℕ) (ds : List Directive) (p : Parts) (path : List ℕ) (m : GoModule) (u : Option ℕ) → IsUtf8 bytes → Above known (lines bytes) ds None p → p.module_path ≡ Some path → first_unfit path p.retractions ≡ u → fitting_module path p u ≡ Ok m → Reads known bytes m
 reads_fitting known bytes ds p path m (Some line) utf8 a is unfit h = cc
 reads_fitting known bytes ds p path m None utf8 a is unfit h =
@@ -261,6 +266,7 @@ next_of known ls x h =
     let n = above_lines known ls [] [] None nothing x (above_start known) h in
     subst (Next known ls x.0) (join_start x.1) n
 
+-- the computed meaning of a file is its meaning by the grammar
 pub reads-from_reading : (known : Keywords) (bytes : List ℕ) (m : GoModule) → reading known bytes ≡ Ok m → Reads known bytes m
 unfolding reading text_says
 reads-from_reading known bytes m h =
@@ -295,6 +301,7 @@ open_file : (last : ℕ) (ds : List Directive) (b : OpenBlock) (p : Parts) → f
 unfolding file_says
 open_file last ds b p = refl
 
+-- the meaning of a file by the grammar is its computed meaning
 pub reading-from_reads : (known : Keywords) (bytes : List ℕ) (m : GoModule) → Reads known bytes m → reading known bytes ≡ Ok m
 reading-from_reads known bytes m r =
     let c = computed known (lines bytes) r.directives None (record { tokens = r.tokens; lexemes = r.lexemes; grammar = r.grammar }) in
@@ -330,6 +337,7 @@ last_fault : (ds : List Directive) (o : Option OpenBlock) (p : Parts) (last : �
 last_fault ds None p last f meant h = last_by ds p last f p.module_path meant refl (sym (closed_file last ds p) ∙ h)
 last_fault ds (Some b) p last f meant h = let e = sym (open_file last ds b p) ∙ h in cc
 
+-- the computed fault of a file is its first fault
 pub faulty-from_reading : (known : Keywords) (bytes : List ℕ) (f : GoModFault) → reading known bytes ≡ Err f → Faulty known bytes f
 unfolding reading text_says
 faulty-from_reading known bytes f h =
@@ -351,6 +359,7 @@ faulty-from_reading known bytes f h =
     (λ bad. inl (λ utf8. both_ways (is_utf8 bytes) bad.0 (is_utf8-from_IsUtf8 bytes utf8), (let same = bad.1 in cc)))
     (chosen (is_utf8 bytes) _ _ _ h)
 
+-- if the first fault of lines is that of a line, reading the lines finds it
 first_said : (known : Keywords) (ls : List (List ℕ)) (f : GoModFault) → HasFirstFault known ls f → lines_say known 1 at_start ls ≡ Err f
 first_said known ls f h =
     let c = computed known h.before h.directives h.opened h.above in
@@ -364,6 +373,7 @@ first_said known ls f h =
     ∙ ap (λ r. joined r (λ d. lines_say known (1 + length h.before) d (h.faulty ∷ h.others))) c.said
     ∙ ap (λ r. r >>= (λ y. Ok (y.0, c.parts ⊕ y.1))) rest
 
+-- if all lines can be read, the fault after the last line is the fault found there
 last_said : (known : Keywords) (ls : List (List ℕ)) (ds : List Directive) (o : Option OpenBlock) (p : Parts) (last : ℕ) (f : GoModFault) → Above known ls ds o p → IsLastFault ds o last f → file_says last (context_at ds o, p) ≡ Err f
 last_said known ls ds (Some b) p last f a h = open_file last ds b p ∙ ap (λ e. Err e) (sym h)
 last_said known ls ds None p last f a h =
@@ -385,6 +395,7 @@ first_text : (known : Keywords) (bytes : List ℕ) (f : GoModFault) → lines_sa
 unfolding text_says
 first_text known bytes f h = ap (λ r. r >>= file_says (length (lines bytes))) h
 
+-- the first fault of a file is its computed fault
 pub reading-from_faulty : (known : Keywords) (bytes : List ℕ) (f : GoModFault) → Faulty known bytes f → reading known bytes ≡ Err f
 reading-from_faulty known bytes f h =
     ⊎_elim
@@ -398,6 +409,7 @@ reading-from_faulty known bytes f h =
     text.1)
     h
 
+-- a file has exactly one meaning or exactly one fault, and not both
 pub reads_or_is_faulty : (known : Keywords) (bytes : List ℕ) → ReadsOrIsFaulty known bytes
 reads_or_is_faulty known bytes = record {
   either = ⊎_elim

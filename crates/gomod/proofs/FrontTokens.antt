@@ -39,7 +39,7 @@ headed line o k said =
 entry_says_long : (line : ℕ) (o : Context) (k : Keyword) (b c d e f g : Symbol) (ts us : List Symbol) → entry_says line o k (b ∷ c ∷ d ∷ e ∷ f ∷ g ∷ ts) ≡ entry_says line o k (b ∷ c ∷ d ∷ e ∷ f ∷ g ∷ us)
 entry_says_long line o k b c d e f g ts us = ap (λ r. r >>= (λ p. Ok (with_entry o k, p))) (entry_long line k b c d e f g ts us)
 
--- the same of the lines that such an entry stands on
+-- a line with an entry of more than five tokens does not depend on the tokens after the sixth
 directive_long : (line : ℕ) (o : Context) (k : Keyword) (b c d e f g : Symbol) (ts us : List Symbol) → directive line o k (b ∷ c ∷ d ∷ e ∷ f ∷ g ∷ ts) ≡ directive line o k (b ∷ c ∷ d ∷ e ∷ f ∷ g ∷ us)
 unfolding directive headed
 directive_long line o k b c d e f g ts us = ap (headed line o k) (entry_says_long line o k b c d e f g ts us)

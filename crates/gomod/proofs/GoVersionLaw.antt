@@ -62,6 +62,7 @@ tail_no_digit tail h =
     (λ x. ⊎_elim (λ e. ap digits_len e) (λ y. ⊎_elim (λ e. ap digits_len e) (λ e. ap digits_len e) y) x.2)
     h
 
+-- what may follow a minor number passes the computed test
 is_tail-from : (tail : List ℕ) → IsTail tail → is_tail tail ≡ true
 unfolding is_tail
 is_tail-from tail h =
@@ -79,6 +80,7 @@ starts tail p h =
     let front = (bytes_eq-Decides p (take (length p) tail)).0 h in
     sym (split_at (length p) tail) ∙ ap (λ l. l ++ drop (length p) tail) (sym front)
 
+-- a text that passes the computed test may follow a minor number
 tail_parts : (tail : List ℕ) → is_tail tail ≡ true → IsTail tail
 unfolding is_tail
 tail_parts tail h =
@@ -101,6 +103,7 @@ minor_from b tail hb ht =
     (ap (λ n. is_decimal (take n (b ++ tail))) len ∙ ap is_decimal (take_at b tail (length b) refl) ∙ hb)
     (ap (λ n. is_tail (drop n (b ++ tail))) len ∙ ap is_tail (drop_at b tail (length b) refl) ∙ is_tail-from tail ht)
 
+-- two decimals with a dot between them and a tail after them pass the test of a Go version
 version_from : (a b tail : List ℕ) → is_decimal a ≡ true → is_decimal b ≡ true → IsTail tail → is_go_version (a ++ 46 ∷ (b ++ tail)) ≡ true
 unfolding is_go_version
 version_from a b tail ha hb ht =
@@ -115,6 +118,7 @@ version_from a b tail ha hb ht =
     (ap (λ n. is_decimal (take n (a ++ 46 ∷ rest))) len ∙ ap is_decimal (take_at a (46 ∷ rest) (length a) refl) ∙ ha))
     (ap (λ n. is_minor (drop (n + 1) (a ++ 46 ∷ rest))) len ∙ ap is_minor cut ∙ minor_from b tail hb ht)
 
+-- a text that passes the test of a Go version has the parts of one
 version_parts : (text : List ℕ) → is_go_version text ≡ true → IsGoVersion text
 unfolding is_go_version is_minor
 version_parts text h =

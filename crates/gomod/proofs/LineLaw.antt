@@ -23,6 +23,7 @@ use Rattle.gomod.proofs.Contexts.{context_at, IsAlone, fresh-stood, stood-fresh,
 
 -- ---- a move is computed
 
+-- of no path and a path, the last is that path
 last_path-none : (p : Option (List ℕ)) → last_path None p ≡ p
 last_path-none None = refl
 last_path-none (Some x) = refl
@@ -39,6 +40,7 @@ outside_is : (known : Keywords) (line : ℕ) (ds : List Directive) (k : Keyword)
 unfolding line_says line_outside
 outside_is known line ds k ts known_k = rw known_k refl
 
+-- a line with a keyword that may come here and an entry that is read says what the keyword and the entry say
 directive_entry : (line : ℕ) (c : Context) (k : Keyword) (ts : List Symbol) (q : Parts) → has_stood c k ≡ false → is_opening ts ≡ false → entry line k ts ≡ Ok q → directive line c k ts ≡ Ok (with_entry c k, header k ⊕ q)
 unfolding directive
 directive_entry line c k ts q fresh no_opening is =
@@ -78,6 +80,7 @@ inside_closes known line ds b alone filled =
 and_itself : (a b : Bool) → b ≡ true → (a && b) ≡ (a && true)
 and_itself a b h = ap (λ x. a && x) h
 
+-- a line that is a move by the grammar is read, and says what the move adds
 pub move_says : {known : Keywords} {ds es : List Directive} {o p : Option OpenBlock} {r : Row} (m : Move known ds o r es p) → IsAlone ds o → Says known r.line (context_at ds o) (context_at es p) r.symbols (items_more m) (keywords_more m)
 unfolding line_says
 move_says (blank ds o line) alone = record { said = nothing; is_said = refl; meant = record { paths = tt; required = tt; retractions = tt }; bare = refl }
@@ -122,6 +125,7 @@ move_says {known = known} (closes ds b line filled) alone = record {
 abbrev pub IsPlain : Symbol → Type 0
 IsPlain t = (t.kind ≡ kinds.ParenLeft → t.text ≡ codes "(") × (t.kind ≡ kinds.ParenRight → t.text ≡ codes ")")
 
+-- a kind that opens a block is the opening parenthesis
 opens_is : (k : Kind) → opens_block_kind k ≡ true → k ≡ kinds.ParenLeft
 opens_is kinds.ParenLeft h = refl
 opens_is kinds.Name h = cc
@@ -133,6 +137,7 @@ opens_is kinds.ParenRight h = cc
 opens_is kinds.BracketLeft h = cc
 opens_is kinds.BracketRight h = cc
 
+-- a kind that closes a block is the closing parenthesis
 closes_is : (k : Kind) → closes_block_kind k ≡ true → k ≡ kinds.ParenRight
 closes_is kinds.ParenRight h = refl
 closes_is kinds.Name h = cc
@@ -144,6 +149,7 @@ closes_is kinds.ParenLeft h = cc
 closes_is kinds.BracketLeft h = cc
 closes_is kinds.BracketRight h = cc
 
+-- a kind that passes the test of a name is a name
 pub name_is : (k : Kind) → is_name_kind k ≡ true → k ≡ kinds.Name
 name_is kinds.Name h = refl
 name_is kinds.Quoted h = cc
@@ -177,6 +183,7 @@ pub record Moves (known : Keywords) (ds : List Directive) (o : Option OpenBlock)
   pub opened : Option OpenBlock
   pub move : Move known ds o r directives opened
 
+-- a line outside a block whose reading succeeds after its keyword is a move by the grammar
 directive_moves : (known : Keywords) (line : ℕ) (ds : List Directive) (k : Keyword) (ts : List Symbol) (x : Context × Parts) → IsKnown known k → AllByRecursion IsPlain ts → directive line (context_at ds None) k ts ≡ Ok x → Moves known ds None (row line (keyword_symbol k ∷ ts))
 unfolding directive
 directive_moves known line ds k ts x known_k plain h =
@@ -209,6 +216,7 @@ named_moves known line ds t ts x (Some k) named name plain h =
     let is = keyword_is known t k name named in
     subst (λ u. Moves known ds None (row line (u ∷ ts))) (sym is.0) (directive_moves known line ds k ts x is.1 plain h)
 
+-- a line inside a block whose reading succeeds is a move by the grammar
 inside_moves : (known : Keywords) (line : ℕ) (ds : List Directive) (b : OpenBlock) (t : Symbol) (ts : List Symbol) (x : Context × Parts) → IsAlone ds (Some b) → AllByRecursion IsPlain (t ∷ ts) → line_inside line (context_at ds (Some b)) b.keyword (t ∷ ts) ≡ Ok x → Moves known ds (Some b) (row line (t ∷ ts))
 unfolding line_inside
 inside_moves known line ds b t ts x alone plain h =

@@ -71,6 +71,7 @@ bytes_fault known line ds o l f alone h =
     inr (x.0, are, says_fault known line ds o (map symbol_of x.0) f alone x.2))
     (fails (as_reader (line_tokens line 0 l)) (λ ts. line_says known line (context_at ds o) (map symbol_of ts)) f h)
 
+-- the fault of a line is the fault that reading its bytes finds
 pub fault_bytes : (known : Keywords) (line : ℕ) (ds : List Directive) (o : Option OpenBlock) (l : List ℕ) (f : GoModFault) → IsAlone ds o → IsLineFault known ds o line l f → bytes_say known line (context_at ds o) l ≡ Err f
 unfolding bytes_say
 fault_bytes known line ds o l f alone h =

@@ -87,6 +87,7 @@ no_fault known ds o line ts f no_unknown no_twice allowed met h =
     a.1)
     h
 
+-- no directive has an entry without tokens
 empty_shape : (k : Keyword) (ds : List Demand) → ¬ HasShape k [] ds
 empty_shape Module ds h = let e = demands-from_shape Module [] ds h in cc
 empty_shape Go ds h = let e = demands-from_shape Go [] ds h in cc
@@ -107,6 +108,7 @@ no_fresh known ds k ts known_k fresh r =
     let same = keyword_same known (keyword_symbol k) r.0 k r.1 known_k in
     both_ways (stands k ds) (fresh (subst (λ j. is_single j ≡ true) same r.2)) (subst (λ j. stands j ds ≡ true) same r.3)
 
+-- a line that is a move by the grammar has no fault
 pub move_no_fault : {known : Keywords} {ds es : List Directive} {o p : Option OpenBlock} {r : Row} (f : GoModFault) → Move known ds o r es p → ¬ IsRowFault known ds o r.line r.symbols f
 move_no_fault {known = known} f (blank ds None line) =
     no_fault known ds None line [] f (λ u. u) (λ r. r) (inl refl) (λ demands a. absurd a)

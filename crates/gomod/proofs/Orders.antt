@@ -25,7 +25,7 @@ pub is_below-from : (u v : Version) → IsBelow u v → is_below u v ≡ true
 unfolding is_below IsBelow
 is_below-from u v h = ap is_lt h
 
--- a canonical text, and one that is none
+-- the version found in a canonical text is its version, and in a faulty text there is none
 pub version_of-canonical : (line : ℕ) (text : List ℕ) (v : Version) → IsCanonical text v → version_found line (version_of text) ≡ Ok v
 unfolding version_of
 version_of-canonical line text v h = ap (version_found line) ((modver.version-of text v).1 h)

@@ -99,6 +99,7 @@ fresh_once known ds t ts k named fresh r =
     let same = keyword_same known t r.0 k r.1 named in
     both_ways (stands k ds) (fresh (subst (λ j. is_single j ≡ true) same r.2)) (subst (λ j. stands j ds ≡ true) same r.3)
 
+-- the fault found in a line after its keyword, outside a block, is the fault of the line
 directive_fault : (known : Keywords) (line : ℕ) (ds : List Directive) (t : Symbol) (ts : List Symbol) (k : Keyword) (f : GoModFault) → IsKeyword known t k → keyword_named known t.text ≡ Some k → directive line (context_at ds None) k ts ≡ Err f → IsRowFault known ds None line (t ∷ ts) f
 unfolding directive
 directive_fault known line ds t ts k f is named h =
@@ -129,6 +130,7 @@ nameless_fault known line ds t ts f nameless is =
       inr (λ r. both_ways (is_name_kind t.kind) nameless (keyword_kind known t r.0 r.1), inl (nameless_denied known t ts nameless, is)),
     )
 
+-- the fault found in a line inside a block is the fault of the line
 inside_fault : (known : Keywords) (line : ℕ) (ds : List Directive) (b : OpenBlock) (t : Symbol) (ts : List Symbol) (f : GoModFault) → IsAlone ds (Some b) → line_inside line (context_at ds (Some b)) b.keyword (t ∷ ts) ≡ Err f → IsRowFault known ds (Some b) line (t ∷ ts) f
 unfolding line_inside
 inside_fault known line ds b t ts f alone h =

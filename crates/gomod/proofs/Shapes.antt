@@ -20,6 +20,7 @@ abbrev pub any_demands : List Symbol → Option (List Demand)
 any_demands (w ∷ []) = when (is_word w) []
 any_demands _ = None
 
+-- the demands on the words of an entry, if the entry has a shape
 abbrev pub demands_of : Keyword → List Symbol → Option (List Demand)
 demands_of Module (w ∷ []) = when (is_word w) (module_path (value_of w) ∷ [])
 demands_of Go (w ∷ []) = when (is_word w) (go_version (value_of w) ∷ [])
@@ -44,6 +45,7 @@ when_some : (b : Bool) (ds es : List Demand) → when b ds ≡ Some es → (b �
 when_some true ds es h = (refl, cc)
 when_some false ds es h = cc
 
+-- a kind that passes the test of an arrow is the arrow
 arrow_is : (k : Kind) → is_arrow_kind k ≡ true → k ≡ kinds.Arrow
 arrow_is kinds.Arrow h = refl
 arrow_is kinds.Name h = cc
@@ -62,6 +64,7 @@ arrow_from k h = ap is_arrow_kind h
 arrow_no_word : (k : Kind) → k ≡ kinds.Arrow → is_word_kind k ≡ false
 arrow_no_word k h = ap is_word_kind h
 
+-- a word is not an arrow
 word_no_arrow : (k : Kind) → is_word_kind k ≡ true → is_arrow_kind k ≡ false
 word_no_arrow kinds.Arrow h = cc
 word_no_arrow kinds.Name h = refl
@@ -80,6 +83,7 @@ demands_any Godebug ts h = refl
 demands_any Ignore ts h = refl
 demands_any _ ts h = cc
 
+-- an entry that has a shape makes the demands computed for it
 pub demands-from_shape : (k : Keyword) (ts : List Symbol) (ds : List Demand) → HasShape k ts ds → demands_of k ts ≡ Some ds
 demands-from_shape _ _ _ (module_shape w hw) = rw hw refl
 demands-from_shape _ _ _ (word_shape k w hk hw) = demands_any k (w ∷ []) hk ∙ ap (λ b. when b []) hw
@@ -123,6 +127,7 @@ any_from : (k : Keyword) (ts : List Symbol) (ds : List Demand) → takes_any_wor
 any_from k (w ∷ []) ds is h = let x = when_some _ _ ds h in shape_as k (w ∷ []) _ ds x.1 (word_shape k w is x.0)
 any_from k _ ds is h = cc
 
+-- an entry for which demands are computed has a shape that makes them
 pub shape-from_demands : (k : Keyword) (ts : List Symbol) (ds : List Demand) → demands_of k ts ≡ Some ds → HasShape k ts ds
 shape-from_demands Module (w ∷ []) ds h = let x = when_some _ _ ds h in shape_as Module (w ∷ []) _ ds x.1 (module_shape w x.0)
 shape-from_demands Go (w ∷ []) ds h = let x = when_some _ _ ds h in shape_as Go (w ∷ []) _ ds x.1 (go_shape w x.0)

@@ -138,6 +138,7 @@ unfolding IsBehind
 all-behind c i [] apart a b = tt
 all-behind c i (j ∷ is) apart a b = ((below-through c.high i.low j.low apart b.0, a.0), all-behind c i is apart a.1 b.1)
 
+-- intervals that begin in order are apart once they are merged
 pub merged-apart : (c : Interval) (is : List Interval) → LowsRise (c ∷ is) → AreApart (merged c is)
 unfolding IsBehind
 merged-apart c [] up = (tt, tt)
@@ -162,12 +163,13 @@ module _ (v : Version) where
   last_has (suc zero) (i ∷ is) = not (is_below i.high v)
   last_has (suc (suc k)) (i ∷ is) = last_has (suc k) is
 
-  -- so many begin not above it, and the others above
+  -- the first `k` intervals do not begin above the version, and the others do
   abbrev pub Parts : ℕ → List Interval → Type 0
   Parts zero is = AllByRecursion (λ (i : Interval). is_below v i.low ≡ true) is
   Parts (suc k) [] = ⊥
   Parts (suc k) (i ∷ is) = (is_below v i.low ≡ false) × Parts k is
 
+  -- of intervals that are apart, one covers the version exactly if the last that does not begin above it does
   pub searched : (k : ℕ) (is : List Interval) → AreApart is → Parts k is → list_any (covers v) is ≡ last_has k is
   searched zero is apart parts = none-covers is parts
   searched (suc k) [] apart parts = absurd parts

@@ -9,6 +9,7 @@ use Rattle.gomod.specs.Grammar.{Row, row, has_symbols, Directive, one, OpenBlock
 use Rattle.gomod.proofs.Lists.{all-append, filter-join, any-none, length-join}
 use Rattle.gomod.proofs.Moves.{Move, blank, single, begins, inside, closes, closed, IsFresh, keywords_more, items_more, keywords_in-move, items-move, rows-move}
 
+-- two keywords that pass the test of equality are equal
 pub same_keyword : (j k : Keyword) → is_keyword j k ≡ true → j ≡ k
 same_keyword Module Module h = refl
 same_keyword Go Go h = refl
@@ -22,6 +23,7 @@ same_keyword Godebug Godebug h = refl
 same_keyword Ignore Ignore h = refl
 same_keyword _ _ h = cc
 
+-- a keyword passes the test of equality with itself
 pub is_keyword-itself : (k : Keyword) → is_keyword k k ≡ true
 is_keyword-itself Module = refl
 is_keyword-itself Go = refl

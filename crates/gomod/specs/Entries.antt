@@ -1,4 +1,4 @@
--- What the entries of directives are: their shapes, what their words have to be, and what they stand for.
+-- The entries of directives: their shapes, the demands on their words, and their meanings.
 use Rattle.std.specs.Prelude.{◌≡◌, ℕ, true, List, [], ◌∷◌, ◌++◌, Some, ◌⊎◌}
 use Rattle.std.specs.List.{AllByRecursion}
 use Rattle.modlex.specs.declared.lexer.Kind.TheVariants as kinds
@@ -14,9 +14,9 @@ use Rattle.gomod.specs.Module.{Interval}
 use Rattle.modlex.specs.Symbols.{Symbol, is_word}
 use Rattle.modlex.specs.Words.{value_of}
 
--- ---- what words have to be
+-- ---- demands on words
 
--- a text and what it has to be; a fitting version is one that its path may have
+-- a demand on a text: what it must be; a fitting version is one that its path may have
 pub data Demand : Type 0 where
   module_path : List ℕ → Demand
   loose_path : List ℕ → Demand
@@ -26,11 +26,11 @@ pub data Demand : Type 0 where
   fitting_version : List ℕ → List ℕ → Demand
   interval : List ℕ → List ℕ → Demand
 
--- the version of a text
+-- a text is the canonical text of a version
 abbrev pub IsVersionOf : List ℕ → Version → Type 0
 IsVersionOf text v = version_of text ≡ Some v
 
--- the text is what it has to be; of an interval the first version is not above the second
+-- the text meets its demand; two texts are an interval if the first version is not above the second
 abbrev pub IsMet : Demand → Type 0
 IsMet (module_path text) = is_path text ≡ true
 IsMet (loose_path text) = is_loose_path text ≡ true
@@ -40,7 +40,7 @@ IsMet (version text) = (v : Version) × IsVersionOf text v
 IsMet (fitting_version path text) = (v : Version) × IsVersionOf text v × (fits_path path v ≡ true)
 IsMet (interval low high) = (u : Version) × (v : Version) × IsVersionOf low u × IsVersionOf high v × (¬ IsBelow v u)
 
--- the fault of a line with a text that is not what it has to be
+-- the fault of a line with a text that does not meet its demand
 abbrev pub fault_of : ℕ → Demand → GoModFault
 fault_of line (module_path text) = faults.Path line
 fault_of line (loose_path text) = faults.Path line
@@ -50,7 +50,7 @@ fault_of line (version text) = faults.Version line
 fault_of line (fitting_version path text) = faults.Version line
 fault_of line (interval low high) = faults.Interval line
 
--- the first that is not met
+-- the first demand that is not met
 pub record FailsFirst (demands : List Demand) (d : Demand) : Type 0 where
   pub before : List Demand
   pub others : List Demand
@@ -66,7 +66,7 @@ IsWord t = is_word t ≡ true
 abbrev pub IsArrow : Symbol → Type 0
 IsArrow t = t.kind ≡ kinds.Arrow
 
--- what the words before the arrow of a replacement have to be, and those behind it
+-- the demands on the words before the arrow of a replacement, and on those after it
 abbrev pub old_demands : Symbol → List Demand
 old_demands p = loose_path (value_of p) ∷ []
 
@@ -79,7 +79,7 @@ new_file_demands f = file_path (value_of f) ∷ []
 abbrev pub new_version_demands : Symbol → Symbol → List Demand
 new_version_demands q w = module_path (value_of q) ∷ fitting_version (value_of q) (value_of w) ∷ []
 
--- An entry of a directive has one of the shapes of the grammar, by which its words, from left to right, have to be these.
+-- an entry of a directive has one of the shapes of the grammar, which makes these demands on its words, from left to right
 pub data HasShape : Keyword → List Symbol → List Demand → Type 0 where
   module_shape : (w : Symbol) → IsWord w → HasShape Module (w ∷ []) (module_path (value_of w) ∷ [])
   go_shape : (w : Symbol) → IsWord w → HasShape Go (w ∷ []) (go_version (value_of w) ∷ [])
@@ -93,19 +93,21 @@ pub data HasShape : Keyword → List Symbol → List Demand → Type 0 where
   retract_interval : (l v c w r : Symbol) → l.kind ≡ kinds.BracketLeft → IsWord v → c.kind ≡ kinds.Comma → IsWord w → r.kind ≡ kinds.BracketRight → HasShape Retract (l ∷ v ∷ c ∷ w ∷ r ∷ []) (version (value_of v) ∷ version (value_of w) ∷ interval (value_of v) (value_of w) ∷ [])
   word_shape : (k : Keyword) (w : Symbol) → takes_any_word k ≡ true → IsWord w → HasShape k (w ∷ []) []
 
--- the entry has a shape, and its words are what they have to be
+-- the entry has a shape, and its words meet the demands
 abbrev pub IsRight : Keyword → List Symbol → Type 0
 IsRight k ts = (demands : List Demand) × HasShape k ts demands × AllByRecursion IsMet demands
 
--- ---- what entries stand for
+-- ---- the meanings of entries
 
+-- an entry of module names this path
 abbrev pub IsModuleEntry : List Symbol → List ℕ → Type 0
 IsModuleEntry ts path = (w : Symbol) × (ts ≡ w ∷ []) × (value_of w ≡ path)
 
+-- an entry names this path and this version
 abbrev pub IsPair : List Symbol → Requirement → Type 0
 IsPair ts r = (p : Symbol) × (v : Symbol) × (ts ≡ p ∷ v ∷ []) × (value_of p ≡ r.path) × IsVersionOf (value_of v) r.version
 
--- a single version is an interval of itself
+-- an entry names this interval; a single version is an interval of itself
 abbrev pub IsSpan : List Symbol → Interval → Type 0
 IsSpan ts i =
     ((v : Symbol) × (ts ≡ v ∷ []) × IsVersionOf (value_of v) i.low × IsVersionOf (value_of v) i.high)

@@ -1,4 +1,4 @@
--- A go.mod file reads, or it is faulty.
+-- A go.mod file can be read, or it is faulty.
 use Rattle.std.specs.Prelude.{◌≡◌, ℕ, List, ◌⊎◌}
 use Rattle.gomod.specs.declared.fault.GoModFault.{GoModFault}
 use Rattle.gomod.specs.declared.keyword.Keyword.{Keyword}
@@ -8,7 +8,7 @@ use Rattle.gomod.specs.Module.{GoModule}
 use Rattle.gomod.specs.Reads.{Reads}
 use Rattle.gomod.specs.Faults.{Faulty}
 
--- just one of the two holds, for one meaning or one fault
+-- a file has exactly one meaning or exactly one fault, and not both
 pub record ReadsOrIsFaulty (known : Keywords) (bytes : List ℕ) : Type 0 where
   pub either : ((m : GoModule) × Reads known bytes m) ⊎ ((f : GoModFault) × Faulty known bytes f)
   pub not_both : (m : GoModule) (f : GoModFault) → Reads known bytes m → ¬ Faulty known bytes f

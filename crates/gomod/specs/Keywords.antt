@@ -1,4 +1,4 @@
--- The keywords of a go.mod file, and the profile, which says which of them are read.
+-- The keywords of a go.mod file, and the profiles, which say which of them are read.
 use Rattle.std.specs.Prelude.{ℕ, Bool, true, false, List, [], ◌∷◌, ◌++◌, codes, Option, Some, None, if◌then◌else◌}
 use Rattle.std.specs.Str.{bytes_eq}
 use Rattle.modlex.specs.declared.lexer.Kind.{Kind}
@@ -28,11 +28,11 @@ unfoldable pub keyword_named : Keywords → List ℕ → Option Keyword
 keyword_named [] name = None
 keyword_named (k ∷ ks) name = if bytes_eq name (spelling k) then Some k else keyword_named ks name
 
--- the first profile, and the second, which has four keywords more
+-- the first profile
 abbrev pub profile_1 : Keywords
 profile_1 = Module ∷ Go ∷ Require ∷ Exclude ∷ Replace ∷ Retract ∷ []
 
--- The second profile has four keywords more.
+-- the second profile: the first, and four more keywords
 abbrev pub profile_2 : Keywords
 profile_2 = profile_1 ++ Toolchain ∷ Tool ∷ Godebug ∷ Ignore ∷ []
 
@@ -50,7 +50,7 @@ has_block Go = false
 has_block Toolchain = false
 has_block _ = true
 
--- whether its entry is one word, which may be any word
+-- whether an entry of the keyword is one word, which may be any word
 abbrev pub takes_any_word : Keyword → Bool
 takes_any_word Toolchain = true
 takes_any_word Tool = true
@@ -58,7 +58,7 @@ takes_any_word Godebug = true
 takes_any_word Ignore = true
 takes_any_word _ = false
 
--- the parentheses of a block
+-- whether a token opens a block, and whether it closes one
 abbrev pub opens_block_kind : Kind → Bool
 opens_block_kind kinds.ParenLeft = true
 opens_block_kind _ = false

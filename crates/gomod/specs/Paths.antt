@@ -1,4 +1,4 @@
--- What a go.mod file asks of its paths and versions, in the words of modpath and modver.
+-- What a go.mod file demands of its paths and versions, in the words of modpath and modver.
 use Rattle.std.specs.Prelude.{ℕ, Bool, List, Option}
 use Rattle.std.specs.Ordering.{is_lt}
 use Rattle.modpath.specs.Path as path
@@ -10,14 +10,14 @@ use Rattle.modver.specs.Precedence as order
 abbrev pub Version : Type 0
 Version = SemanticVersion
 
--- a module path, and a loose path, as may be required
+-- whether a text is a module path, and whether it is a loose path, which a file may require
 unfoldable pub is_path : List ℕ → Bool
 is_path text = path.is_path text
 
 unfoldable pub is_loose_path : List ℕ → Bool
 is_loose_path text = path.is_loose_path text
 
--- the version whose canonical text this is
+-- the version whose canonical text this is, if there is one
 unfoldable pub version_of : List ℕ → Option Version
 version_of text = reading.version_of text
 

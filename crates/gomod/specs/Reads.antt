@@ -1,4 +1,4 @@
--- What a go.mod file says by its grammar.
+-- What a go.mod file says by the grammar.
 use Rattle.std.specs.Prelude.{◌≡◌, ℕ, true, List, [], ◌∷◌, length, map, None, IsUtf8, ◌↔◌}
 use Rattle.std.specs.List.{AllByRecursion}
 use Rattle.gomod.specs.declared.keyword.Keyword.TheVariants.{Module, Require, Retract}
@@ -12,7 +12,7 @@ use Rattle.gomod.specs.Module.{GoModule, Interval}
 use Rattle.gomod.specs.Entries.{IsModuleEntry, IsPair, IsSpan}
 use Rattle.gomod.specs.Grammar.{Row, Directive, AreWritten, rows_from, items, entries_under}
 
--- the two lists are as long as one another, and related place by place
+-- two lists have the same length, and their items are related one by one
 abbrev pub Pointwise : {A B : Type 0} → (A → B → Type 0) → List A → List B → Type 0
 Pointwise R [] [] = Unit {0}
 Pointwise R (x ∷ xs) (y ∷ ys) = R x y × Pointwise R xs ys
@@ -22,7 +22,7 @@ Pointwise R _ _ = ⊥
 abbrev pub rows_of_tokens : List (List Lexeme) → List Row
 rows_of_tokens tss = rows_from 1 (map (map symbol_of) tss)
 
--- the versions of the interval fit the path
+-- the path may have the low and the high version of the interval
 abbrev pub FitsPath : List ℕ → Interval → Type 0
 FitsPath path i = (fits_path path i.low ≡ true) × (fits_path path i.high ≡ true)
 

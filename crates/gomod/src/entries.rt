@@ -1,4 +1,6 @@
-//! The entries of directives: the words of a line, and what they stand for.
+//! The entries of directives: their forms, and the values of their words. Each function for an entry fails with
+//! [`GoModFault::Grammar`] for another form, otherwise with the fault of the leftmost wrong word, or with
+//! [`GoModFault::Memory`] if memory runs out.
 
 ghost use Rattle.std.specs.Prelude.{◌≡◌};
 ghost use Rattle.modlex.specs.Symbols.{symbol, symbols};
@@ -13,14 +15,14 @@ use modpath::{LoosePath, ModulePath, PathError};
 use modver::{Version, VersionFault, compare, fits, fits_loose};
 use std::alloc::Global;
 
-/// A version of a module that another one asks for. (Go Modules Reference, "require directive".)
+/// A version of a module that another module requires. (Go Modules Reference, "require directive".)
 #[derive(Drop)]
 pub struct Requirement {
     pub path: LoosePath,
     pub version: Version,
 }
 
-/// Versions that a module takes back, on a line. (Go Modules Reference, "retract directive".)
+/// The versions that a module retracts on one line. (Go Modules Reference, "retract directive".)
 /// `GoMod` publishes the versions without the line, which only faults need.
 #[derive(Drop)]
 pub(crate) struct Retraction {
@@ -62,7 +64,7 @@ fn version(alloc: Global, line: usize, word: &Token) -> Result<Version, GoModFau
     }
 }
 
-/// The fault of a line with a word that was read as no version.
+/// The fault of a line for the fault of a word that is not a version.
 fn version_fault(line: usize, fault: VersionFault) -> GoModFault
     ensures { result ≡ version_fault line fault }
 {
@@ -82,7 +84,8 @@ pub(crate) fn is_below(left: &Version, right: &Version) -> bool
     compare(left, right).is_lt()
 }
 
-/// A version that a module path may have.
+/// Returns the version that `word` names. It fails with [`GoModFault::Version`] if `word` is not a
+/// version or the module path may not have it.
 #[tactic(auto, unfolding(crate::specs::Reading::fitting_word, crate::specs::Paths::fits_path))]
 fn fitting(
     alloc: Global,
@@ -100,7 +103,8 @@ fn fitting(
     }
 }
 
-/// A version that a loose path may have.
+/// Returns the version that `word` names. It fails with [`GoModFault::Version`] if `word` is not a
+/// version or the loose path may not have it.
 #[tactic(auto, unfolding(crate::specs::Reading::fitting_word, crate::specs::Paths::fits_path))]
 fn fitting_loose(
     alloc: Global,
@@ -118,7 +122,7 @@ fn fitting_loose(
     }
 }
 
-/// `module`: a module path.
+/// Reads an entry of `module`: a module path.
 #[tactic(auto, unfolding(crate::specs::Reading::module_entry))]
 pub(crate) fn module_entry(
     alloc: Global,
@@ -133,7 +137,7 @@ pub(crate) fn module_entry(
     }
 }
 
-/// `go`: a Go version.
+/// Checks an entry of `go`: a Go version.
 #[tactic(auto, unfolding(crate::specs::Reading::go_entry))]
 pub(crate) fn go_entry(alloc: Global, line: usize, tokens: &[Token]) -> Result<(), GoModFault>
     ensures { Gives (λ o. o) result (go_entry line (symbols tokens.now)) }
@@ -151,7 +155,7 @@ pub(crate) fn go_entry(alloc: Global, line: usize, tokens: &[Token]) -> Result<(
     }
 }
 
-/// `toolchain`, `tool`, `godebug` and `ignore`: one word, which may be any word.
+/// Checks an entry of `toolchain`, `tool`, `godebug` or `ignore`: one word, which may be any word.
 /// The word may be empty, a string, or one that the go command refuses.
 #[tactic(auto, unfolding(crate::specs::Reading::word_entry))]
 pub(crate) fn word_entry(line: usize, tokens: &[Token]) -> Result<(), GoModFault>
@@ -177,7 +181,7 @@ fn pair(
     Ok(Requirement { path, version })
 }
 
-/// `require` and `exclude`: a loose path, and a version that it may have.
+/// Reads an entry of `require` or `exclude`: a loose path, and a version that it may have.
 #[tactic(auto, unfolding(crate::specs::Reading::pair_entry))]
 pub(crate) fn pair_entry(
     alloc: Global,
@@ -229,7 +233,7 @@ fn new_file(alloc: Global, line: usize, word: &Token) -> Result<(), GoModFault>
     }
 }
 
-/// A path, an arrow and a file path.
+/// Checks a replacement of three tokens: a path, an arrow and a file path.
 #[tactic(auto, unfolding(crate::specs::Reading::replace_three))]
 fn replace_three(
     alloc: Global,
@@ -248,7 +252,8 @@ fn replace_three(
     Err(GoModFault::Grammar(line))
 }
 
-/// A path, an arrow, a path and a version; or a path, a version, an arrow and a file path.
+/// Checks a replacement of four tokens: a path, an arrow, a path and a version; or a path, a version,
+/// an arrow and a file path.
 #[tactic(auto, unfolding(crate::specs::Reading::replace_four))]
 fn replace_four(
     alloc: Global,
@@ -272,7 +277,7 @@ fn replace_four(
     Err(GoModFault::Grammar(line))
 }
 
-/// A path, a version, an arrow, a path and a version.
+/// Checks a replacement of five tokens: a path, a version, an arrow, a path and a version.
 #[tactic(auto, unfolding(crate::specs::Reading::replace_five))]
 fn replace_five(
     alloc: Global,
@@ -298,8 +303,8 @@ fn replace_five(
     Err(GoModFault::Grammar(line))
 }
 
-/// `replace`: a loose path and perhaps a version of it, an arrow, and a file path or a module path
-/// with a version.
+/// Checks an entry of `replace`: a loose path and perhaps a version of it, an arrow, and a file path or
+/// a module path with a version.
 #[tactic(auto, unfolding(crate::specs::Reading::replace_entry))]
 pub(crate) fn replace_entry(alloc: Global, line: usize, tokens: &[Token]) -> Result<(), GoModFault>
     ensures { Gives (λ o. o) result (replace_entry line (symbols tokens.now)) }
@@ -343,7 +348,7 @@ fn interval(
     }
 }
 
-/// `retract`: a version, or a closed interval of them.
+/// Reads an entry of `retract`: a version, or a closed interval of versions.
 #[tactic(auto, unfolding(crate::specs::Reading::retract_entry))]
 pub(crate) fn retract_entry(
     alloc: Global,

@@ -1,4 +1,4 @@
-//! Why a go.mod file does not read.
+//! Why a go.mod file cannot be read.
 
 ghost use Rattle.std.specs.Prelude.{◌≡◌};
 ghost use Rattle.gomod.specs.Faults.{line_of};
@@ -6,46 +6,46 @@ ghost use Rattle.gomod.specs.Faults.{line_of};
 use std::alloc::{AllocError, AllocFailed};
 use thiserror::Error;
 
-/// Why a go.mod file does not read. A number is that of the line, from 1 on.
+/// Why a go.mod file cannot be read. A number is that of the line, counted from 1.
 #[derive(Clone, Copy, Debug, Error, PartialEq, Eq)]
 pub enum GoModFault {
-    /// The bytes are no UTF-8.
+    /// The bytes are not UTF-8.
     #[error("the file is not UTF-8")]
     Utf8,
-    /// The line has no tokens.
+    /// The line cannot be split into tokens.
     #[error("line {0} has no tokens")]
     Lex(usize),
-    /// The line is not one that the grammar allows there, or a block is open after it, the last.
+    /// The grammar does not allow the line where it is, or it is the last line and a block is open after it.
     #[error("line {0} does not have the form of a directive")]
     Grammar(usize),
-    /// A word is no module path, no loose path or no file path where one stands.
+    /// A word is not the module path, the loose path or the file path that its place demands.
     #[error("line {0} has a malformed path")]
     Path(usize),
-    /// A word is no canonical version, or one that its path may not have.
+    /// A word is not a canonical version, or is one that its path may not have.
     #[error("line {0} has a malformed version, or one that does not fit its path")]
     Version(usize),
-    /// The word of a go directive is no Go version.
+    /// The word of a go directive is not a Go version.
     #[error("line {0} has a malformed Go version")]
     GoVersion(usize),
     /// There is no module directive.
     #[error("there is no module directive")]
     NoModule,
-    /// The line is a second directive of a keyword that may stand once.
+    /// The line is a second directive of a keyword that a file may have once.
     #[error("line {0} repeats a directive that may stand once")]
     Twice(usize),
     /// The low version of the interval is above its high one.
     #[error("line {0} has an interval whose versions are reversed")]
     Interval(usize),
-    /// The line begins with a name that is no keyword.
+    /// The line begins with a name that is not a keyword.
     #[error("line {0} begins with an unknown directive")]
     Unknown(usize),
-    /// The system is out of memory.
+    /// Memory ran out.
     #[error("out of memory")]
     Memory,
 }
 
 impl GoModFault {
-    /// The number of the line; 0 for a fault that has none.
+    /// Returns the line number of the fault, or 0 if it has none.
     pub fn line(&self) -> usize
         ensures { result ≡ line_of self.now }
     {

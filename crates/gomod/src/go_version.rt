@@ -1,4 +1,4 @@
-//! The words of go and replace that are neither a module path nor a version.
+//! The words of go and replace that are neither a module path nor a version: Go versions and file paths.
 
 ghost use Rattle.std.specs.Prelude.{◌≡◌, ◌≤◌, length};
 ghost use Rattle.std.specs.List.{list_all};
@@ -21,7 +21,7 @@ fn is_decimal(text: &[u8]) -> bool
     all_digits(text) && (*first != b'0' || others.is_empty())
 }
 
-/// Whether a text may stand behind the minor number: nothing, a patch, a candidate or a beta.
+/// Whether a text may follow the minor number: nothing, a patch, a release candidate or a beta.
 #[tactic(auto, unfolding(crate::specs::GoVersion::is_tail))]
 fn is_tail(tail: &[u8]) -> bool
     ensures { result ≡ is_tail tail.now }
@@ -32,7 +32,7 @@ fn is_tail(tail: &[u8]) -> bool
         || (tail.starts_with(b"beta".as_slice()) && is_decimal(&tail[4..]))
 }
 
-/// How many digits stand at the front.
+/// Returns how many digits a text begins with.
 fn digits_len(text: &[u8]) -> usize
     ensures value { result ≡ digits_len text.now }
     ensures within { result ≤ length text.now }
@@ -45,7 +45,7 @@ fn digits_len(text: &[u8]) -> usize
     text.len()
 }
 
-/// How many bytes stand before the first dot.
+/// Returns how many bytes come before the first dot, or the length of a text that has no dot.
 fn dot_at(text: &[u8]) -> usize
     ensures value { result ≡ dot_at text.now }
     ensures within { result ≤ length text.now }
@@ -66,7 +66,7 @@ fn is_minor(rest: &[u8]) -> bool
     is_decimal(minor) && is_tail(tail)
 }
 
-/// Whether a text is a Go version, as `1.21`, `1.21.3`, `1.21rc1` or `1.21beta2`.
+/// Whether a text is a Go version, such as `1.21`, `1.21.3`, `1.21rc1` or `1.21beta2`.
 #[tactic(auto, unfolding(crate::specs::GoVersion::is_go_version))]
 pub(crate) fn is_go_version(text: &[u8]) -> bool
     ensures { result ≡ is_go_version text.now }

@@ -19,7 +19,7 @@ pub(crate) enum Keyword {
 }
 
 impl Keyword {
-    /// The keyword that a name is.
+    /// Returns the keyword with this name, or `None` if there is none.
     #[tactic(auto, unfolding(crate::specs::Keywords::keyword_named))]
     pub(crate) fn named(name: &str) -> Option<Keyword>
         ensures { result ≡ keyword_named profile_in_force name.now }
@@ -45,7 +45,7 @@ impl Keyword {
         matches!(self, Keyword::Module)
     }
 
-    /// Whether its directive may be a block.
+    /// Whether a directive with this keyword may be a block.
     pub(crate) fn has_block(self) -> bool
         ensures { result ≡ has_block self }
     {

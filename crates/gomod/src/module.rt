@@ -22,7 +22,7 @@ pub struct GoMod {
     path: ModulePath,
     required: Vec<Requirement>,
     retractions: Vec<Retraction>,
-    /// The same versions as those of the retractions.
+    /// The versions of the retractions, for a search.
     stretches: Stretches,
     bare: bool,
 }
@@ -43,7 +43,8 @@ impl Model for GoMod {
 }
 
 impl GoMod {
-    /// Reads a go.mod file, or names its first fault.
+    /// Reads a go.mod file. It fails with the first fault of the file, or with [`GoModFault::Memory`] if
+    /// memory runs out, which cannot happen for bytes that are not UTF-8.
     #[tactic(auto, unfolding(crate::specs::Reading::reading))]
     pub fn read(alloc: Global, bytes: &[u8]) -> Result<GoMod, GoModFault>
         ensures value { Gives (λ m. m) result (reading profile_in_force bytes.now) }
@@ -62,7 +63,7 @@ impl GoMod {
         &self.path
     }
 
-    /// What the module requires, in the file's order.
+    /// What the module requires, in the order of the file.
     /// The name is not `requires`, which is a keyword of the language.
     pub fn required(&self) -> &[Requirement]
         ensures { result.now ≡ self.now.required }
@@ -70,7 +71,7 @@ impl GoMod {
         &self.required
     }
 
-    /// Whether the module takes a version back.
+    /// Whether the module retracts a version.
     pub fn retracts(&self, version: &Version) -> bool
         ensures value { result ≡ is_retracted self.now version.now }
         ensures retracted { IsTrue result ↔ IsRetracted self.now version.now }
@@ -96,7 +97,8 @@ impl Retraction {
     }
 }
 
-/// The line of the first retraction that doesn't fit the path.
+/// Returns the line of the first retraction with a version that the path may not have, or `None` if
+/// there is no such retraction.
 fn first_unfit(path: &ModulePath, retractions: &[Retraction]) -> Option<usize>
     ensures { result ≡ first_unfit path.now retractions.now }
 {
@@ -108,8 +110,9 @@ fn first_unfit(path: &ModulePath, retractions: &[Retraction]) -> Option<usize>
     None
 }
 
-/// What all lines say, of which the last has a number.
-/// An open block comes before a missing module directive.
+/// Returns what all lines say, the last of which has the number `last`. It fails with the first of:
+/// [`GoModFault::Grammar`] if a block is open, [`GoModFault::NoModule`], [`GoModFault::Version`] of a
+/// retraction that does not fit the path, [`GoModFault::Memory`].
 #[tactic(auto, unfolding(crate::specs::Reading::file_says))]
 fn finish(alloc: Global, reader: Reader, last: usize) -> Result<GoMod, GoModFault>
     ensures { Gives (λ m. m) result (file_says last (state_of reader)) }

@@ -9,11 +9,11 @@ use modver::Version;
 use std::alloc::{AllocError, Global};
 use std::marker::Model;
 
-/// All versions from a low one to a high one, which may be one and the same.
+/// All versions from a low one to a high one, which may be equal.
 #[derive(Drop)]
 pub(crate) struct Stretch {
     pub(crate) low: Version,
-    /// The high one, where it is not the low one.
+    /// The high one. `None` means that it is the low one.
     above: Option<Version>,
 }
 
@@ -27,7 +27,7 @@ impl Model for Stretch {
 }
 
 impl Stretch {
-    /// A version alone.
+    /// Returns the stretch of one version.
     pub(crate) fn one(version: Version) -> Stretch
         ensures { result ≡ record { low = version; high = version } }
     {
@@ -55,7 +55,7 @@ impl Stretch {
         }
     }
 
-    /// Whether a version is not above all of them.
+    /// Whether a version is not above the high one.
     pub(crate) fn reaches(&self, version: &Version) -> bool
         ensures { result ≡ not (lies_below self.now.high version.now) }
     {
@@ -69,7 +69,7 @@ impl Stretch {
         above.unwrap_or(low)
     }
 
-    /// The same versions once more; an error where there is no memory for them.
+    /// Returns a copy. It fails only if memory runs out.
     pub(crate) fn copy(&self, alloc: Global) -> Result<Stretch, AllocError>
         ensures { IfOk result (λ s. s ≡ self.now) }
     {
@@ -81,7 +81,7 @@ impl Stretch {
         Ok(Stretch { low, above })
     }
 
-    /// Makes it one with another that it meets, and that begins no lower.
+    /// Extends it to the end of `other`, which it meets and which begins no lower.
     pub(crate) fn join(&mut self, other: Stretch)
         ensures { self.new ≡ joined self.old other }
     {

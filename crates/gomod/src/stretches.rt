@@ -1,4 +1,4 @@
-//! The versions that a module takes back, as stretches in order and apart: they are searched by halves.
+//! The versions that a module retracts, as stretches in order and apart, for a binary search.
 
 ghost use Rattle.std.specs.Prelude.{◌≡◌, ◌++◌, List, [], ◌∷◌, IfOk, map};
 ghost use Rattle.std.specs.List.{list_any};
@@ -16,7 +16,8 @@ use std::marker::Model;
 
 /// Stretches that are in order and apart.
 /// A legal file can hold nearly 150,000 retractions, and `@latest` asks about every version of a path.
-/// So the file is sorted once, when it is read, by a sort that is never quadratic, and `has` takes no memory.
+/// So the retractions are sorted once, when the file is read, by a sort that is never quadratic, and
+/// `has` takes no memory.
 #[derive(Drop)]
 pub(crate) struct Stretches {
     items: Vec<Stretch>,
@@ -35,7 +36,8 @@ impl Model for Stretches {
 }
 
 impl Stretches {
-    /// Those of some retractions; an error where there is no memory for them.
+    /// Returns stretches that contain the versions of the retractions and no others. It fails only if
+    /// memory runs out.
     pub(crate) fn of(alloc: Global, retractions: &[Retraction]) -> Result<Stretches, AllocError>
         ensures { IfOk result (λ s. (v : Version)
             → list_any (covers v) s ≡ list_any (covers v) (map interval_of retractions.now)) }
@@ -46,7 +48,7 @@ impl Stretches {
         Ok(Stretches { items })
     }
 
-    /// Whether one of them has the version. It takes no memory.
+    /// Whether a stretch contains the version. It takes no memory.
     pub(crate) fn has(&self, version: &Version) -> bool
         ensures { result ≡ list_any (covers version.now) self.now }
     {
@@ -54,7 +56,7 @@ impl Stretches {
     }
 }
 
-/// The intervals of some retractions, in their order.
+/// Returns copies of the stretches of retractions, in their order. It fails only if memory runs out.
 fn copies(alloc: Global, retractions: &[Retraction]) -> Result<Vec<Stretch>, AllocError>
     ensures { IfOk result (λ v. v.items ≡ map interval_of retractions.now) }
 {
@@ -65,7 +67,7 @@ fn copies(alloc: Global, retractions: &[Retraction]) -> Result<Vec<Stretch>, All
     Ok(copies)
 }
 
-/// Sorts them by where they begin.
+/// Sorts stretches by their low versions. It fails only if memory runs out.
 fn put_in_order(stretches: &mut Vec<Stretch>) -> Result<(), AllocError>
     ensures same { IfOk result (λ _. IsPermutation stretches.old.items stretches.new.items) }
     ensures rise { IfOk result (λ _. LowsRise stretches.new.items) }
@@ -74,7 +76,8 @@ fn put_in_order(stretches: &mut Vec<Stretch>) -> Result<(), AllocError>
     Ok(())
 }
 
-/// The stretch that the next one may still meet, behind those that are done.
+/// Joins `next` to `current` if they meet, and otherwise appends `current` to `done`. It returns the
+/// stretch that a later one may still meet. It fails only if memory runs out.
 fn step(
     done: &mut Vec<Stretch>,
     current: Option<Stretch>,
@@ -94,7 +97,7 @@ fn step(
     Ok(last)
 }
 
-/// The stretches that are done, and the last one behind them.
+/// Returns the stretches that are done, with `current` after them. It fails only if memory runs out.
 fn ended(mut done: Vec<Stretch>, current: Option<Stretch>) -> Result<Vec<Stretch>, AllocError>
     ensures { IfOk result (λ v. v.items ≡ done.items ++ merged_after current []) }
 {
@@ -104,7 +107,8 @@ fn ended(mut done: Vec<Stretch>, current: Option<Stretch>) -> Result<Vec<Stretch
     Ok(done)
 }
 
-/// Stretches that are in order, each joined to the one before it where they meet.
+/// Returns the stretches, which come in order, with each joined to the one before it if they meet. It
+/// fails only if memory runs out.
 fn merged(alloc: Global, stretches: Vec<Stretch>) -> Result<Vec<Stretch>, AllocError>
     ensures { IfOk result (λ v. v.items ≡ merged_all stretches.items) }
 {
@@ -116,7 +120,7 @@ fn merged(alloc: Global, stretches: Vec<Stretch>) -> Result<Vec<Stretch>, AllocE
     ended(done, current)
 }
 
-/// Whether a stretch has the version: of those that begin not above it the last alone can.
+/// Whether a stretch contains the version. Only the last of those that do not begin above it can.
 fn some_has(stretches: &[Stretch], version: &Version) -> bool
     requires { AreApart stretches.now }
     ensures { result ≡ list_any (covers version.now) stretches.now }

@@ -47,7 +47,7 @@ module _ (vs : List SemanticVersion) (m : Option GoModule) where
     is_last : (k : ℕ) (u : SemanticVersion) → k ≡ n → slice_get vs k ≡ Some u → x ≡ u
     is_last k u same e = some_same x u (sym at ∙ sym (ap (slice_get vs) same) ∙ e)
 
-    -- a version that is not looked at
+    -- a version that does not count leaves the best as it is
     pub passed_over : (best : Option ℕ) → IsBest vs m n best → is_kept m x ≡ false → IsBest vs m (n + 1) best
     passed_over None none out = λ k u less e h. elim (last_or_before k n less) [
       | inl same ↦ true≢false (sym h ∙ ap (is_kept m) (sym (is_last k u same e)) ∙ out)
@@ -63,7 +63,7 @@ module _ (vs : List SemanticVersion) (m : Option GoModule) where
       ],
     )
 
-    -- one that is not above the highest so far
+    -- a version that is not above the best leaves it as it is
     pub not_above : (best : Option ℕ) → IsBest vs m n best → is_higher vs x best ≡ false → IsBest vs m (n + 1) best
     not_above None none low = absurd (true≢false low)
     not_above (Some p) b low = (
@@ -84,7 +84,7 @@ module _ (vs : List SemanticVersion) (m : Option GoModule) where
     itself : ¬ IsAbove x x
     itself = (rank-orders []).irreflexive x
 
-    -- one that is above it
+    -- a version that counts and is above the best is the new best
     pub above : (best : Option ℕ) → IsBest vs m n best → is_kept m x ≡ true → is_higher vs x best ≡ true → IsBest vs m (n + 1) (Some n)
     above None none h high = (
       x,
@@ -106,7 +106,7 @@ module _ (vs : List SemanticVersion) (m : Option GoModule) where
           ],
         )
 
-  -- after the last version
+  -- the best of all versions names the top of those that count
   pub named : (best : Option ℕ) → IsBest vs m (length vs) best → NamesTop vs (kept vs m) best
   named None none = λ v h. none h.0.0 v h.0.1 (found vs h.0.0 v h.0.1 h.0.2) h.1
   named (Some p) b =

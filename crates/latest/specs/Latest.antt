@@ -16,28 +16,28 @@ Versions = SemanticVersion → Type 0
 abbrev pub among : List SemanticVersion → Versions
 among vs v = Contains vs v
 
--- those that a go.mod does not retract
+-- the versions of a list that a go.mod does not retract
 abbrev pub unretracted : List SemanticVersion → GoModule → Versions
 unretracted vs m v = Contains vs v × (¬ IsRetracted m v)
 
--- it is in the set, and nothing in the set is above it
+-- a version is in the set, and nothing in the set is above it
 pub record IsTop (set : Versions) (v : SemanticVersion) : Type 0 where
   pub member : set v
   pub highest : (u : SemanticVersion) → set u → ¬ IsAbove u v
 
--- the answer is a place in the list where the top of the set stands; with none, the set is empty
+-- the answer is the index of a top of the set in the list; `None` means that the set is empty
 abbrev pub NamesTop : List SemanticVersion → Versions → Option ℕ → Type 0
 NamesTop vs set (Some place) = (v : SemanticVersion) × (slice_get vs place ≡ Some v) × IsTop set v
 NamesTop vs set None = (v : SemanticVersion) → ¬ set v
 
--- ---- the same for a scan
+-- ---- the highest version of a scan
 
--- whether a version is looked at: where a go.mod is given, one that it does not retract
+-- whether a version counts: any version if no go.mod is given, and otherwise one that the go.mod does not retract
 abbrev pub is_kept : Option GoModule → SemanticVersion → Bool
 is_kept None v = true
 is_kept (Some m) v = not (is_retracted m v)
 
--- the versions of a list that are looked at
+-- the versions of a list that count
 abbrev pub kept : List SemanticVersion → Option GoModule → Versions
 kept vs m v = Contains vs v × (is_kept m v ≡ true)
 
@@ -49,21 +49,21 @@ abbrev pub is_above_at : SemanticVersion → Option SemanticVersion → Bool
 is_above_at v None = true
 is_above_at v (Some u) = is_greater (rank_cmp v u)
 
--- whether a version is above the one at a place, or there is none
+-- whether a version is above the one at an index, or there is no version at the index
 abbrev pub is_higher : List SemanticVersion → SemanticVersion → Option ℕ → Bool
 is_higher vs v None = true
 is_higher vs v (Some place) = is_above_at v (slice_get vs place)
 
--- among the first n versions, nothing that is looked at is above this one
+-- of the first n versions, none that counts is above this one
 abbrev pub IsHighest : List SemanticVersion → Option GoModule → ℕ → SemanticVersion → Type 0
 IsHighest vs m n v = (k : ℕ) (u : SemanticVersion) → k < n → slice_get vs k ≡ Some u → is_kept m u ≡ true → ¬ IsAbove u v
 
--- the highest of the first n versions stands at this place, or none of them is looked at
+-- the index of the highest version that counts among the first n; `None` means that none of them counts
 abbrev pub IsBest : List SemanticVersion → Option GoModule → ℕ → Option ℕ → Type 0
 IsBest vs m n None = (k : ℕ) (u : SemanticVersion) → k < n → slice_get vs k ≡ Some u → is_kept m u ≡ true → ⊥
 IsBest vs m n (Some p) = (v : SemanticVersion) × (slice_get vs p ≡ Some v) × (is_kept m v ≡ true) × IsHighest vs m n v
 
--- of versions that fit one path, one at most is the top, and one at most the top of those that a go.mod does not retract
+-- of versions that fit one path, at most one is the top, and at most one is the top of those that a go.mod does not retract
 abbrev pub TopIsOne : Type 0
 TopIsOne = (path : List ℕ) (vs : List SemanticVersion) → ((x : SemanticVersion) → Contains vs x → IsVersionOf path x) → (u v : SemanticVersion)
     → (IsTop (among vs) u → IsTop (among vs) v → u ≡ v) × ((m : GoModule) → IsTop (unretracted vs m) u → IsTop (unretracted vs m) v → u ≡ v)

@@ -1,7 +1,8 @@
-//! Laws of the definitions. Nothing runs here: what holds is the contract.
+//! Laws of the definitions. The function does nothing when it runs: its contract is the law.
 ghost use Rattle.latest.specs.Latest.{TopIsOne};
 
-/// Among versions that fit one path, at most one is the top.
+/// Of versions that fit one path, at most one is the top, and at most one is the top of those that a
+/// go.mod does not retract.
 pub fn top_is_one()
     ensures { TopIsOne }
 {}

@@ -1,8 +1,8 @@
 //! Which version of a path is the latest. (Go Modules Reference, "GOPROXY protocol", on `@latest`.)
 //!
-//! Releases stand above pre-releases, these above pseudo-versions: the order of rank. The go.mod of the highest
-//! version of a path retracts versions by closed intervals; the latest version is the highest that it does not
-//! retract, and it may retract itself.
+//! Rank puts releases above pre-releases above pseudo-versions. The go.mod of the highest version of a path
+//! retracts versions by closed intervals, which may contain the highest version itself. The latest version is
+//! the highest one that this go.mod does not retract.
 //!
 //! | versions | the highest retracts | latest |
 //! |---|---|---|
@@ -21,22 +21,22 @@ use gomod::GoMod;
 use modver::{Version, rank_compare};
 use std::cmp::Ordering;
 
-/// The place of the highest of some versions of a path, by rank; `None` for no versions. It takes no memory.
+/// Returns the index of the highest version by rank, or `None` if there are no versions. It takes no memory.
 pub fn top(versions: &[Version]) -> Option<usize>
     ensures { NamesTop versions.now (among versions.now) result }
 {
     top_of_kept(versions, None)
 }
 
-/// The place of the highest of some versions of a path that a go.mod does not retract; `None` where it retracts each.
-/// It takes no memory.
+/// Returns the index of the highest version by rank that a go.mod does not retract, or `None` if it retracts every
+/// version. It takes no memory.
 pub fn latest(versions: &[Version], gomod: &GoMod) -> Option<usize>
     ensures { NamesTop versions.now (unretracted versions.now gomod.now) result }
 {
     top_of_kept(versions, Some(gomod))
 }
 
-/// Whether a version is looked at: where a go.mod is given, one that it does not retract.
+/// Whether a version counts: any version if no go.mod is given, and otherwise one that the go.mod does not retract.
 fn is_kept(retractions: Option<&GoMod>, version: &Version) -> bool
     ensures { result ≡ is_kept (option_copied retractions.entry) version.now }
 {
@@ -46,7 +46,7 @@ fn is_kept(retractions: Option<&GoMod>, version: &Version) -> bool
     }
 }
 
-/// The place of the highest version that is looked at.
+/// Returns the index of the highest version that counts, or `None` if none does.
 fn top_of_kept(versions: &[Version], retractions: Option<&GoMod>) -> Option<usize>
     ensures { NamesTop versions.now (kept versions.now (option_copied retractions.entry)) result }
 {
@@ -57,8 +57,8 @@ fn top_of_kept(versions: &[Version], retractions: Option<&GoMod>) -> Option<usiz
     highest
 }
 
-/// The place of the highest version up to this one, from the highest before it. A version that isn't above that is not
-/// held against the retractions.
+/// Returns the index of the highest version that counts among those up to `place`, from the index of the highest before
+/// `place`. A version that is not above that one is not compared with the retractions.
 fn better(
     versions: &[Version],
     retractions: Option<&GoMod>,
@@ -79,7 +79,7 @@ fn better(
     Some(place)
 }
 
-/// Whether a version is above the one at a place, or there is no such place.
+/// Whether a version is above the one at an index, or there is no version at the index.
 fn is_higher(versions: &[Version], version: &Version, highest: Option<usize>) -> bool
     ensures { result ≡ is_higher versions.now version.now highest }
 {

@@ -13,6 +13,6 @@ file_line gomod = encode_lower (sha256 gomod) ++ codes "  go.mod\n"
 abbrev pub hash_of : List ℕ → List ℕ
 hash_of gomod = codes "h1:" ++ encode_of standard (sha256 (file_line gomod))
 
--- the path, the version and the hash
+-- the go.sum line: the path, a space, the version, `/go.mod`, a space and the hash
 abbrev pub line_of : List ℕ → List ℕ → List ℕ → List ℕ
 line_of path version gomod = path ++ (codes " " ++ (version ++ (codes "/go.mod " ++ hash_of gomod)))

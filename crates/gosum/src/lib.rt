@@ -1,8 +1,8 @@
 //! The `h1` hash of a go.mod and its go.sum line. (Go Modules Reference, "go.sum files".)
 //!
-//! The hash of a go.mod is made as that of a folder with this one file: the SHA-256 of the bytes in lower-case
-//! hexadecimal, two spaces, `go.mod` and a newline make one line of 73 bytes, and `h1:` with the SHA-256 of that
-//! line in padded base64 is the hash, 47 bytes.
+//! The hash of a go.mod is that of a folder with this one file. The SHA-256 of the bytes in lower-case hexadecimal,
+//! two spaces, `go.mod` and a newline make one line of 73 bytes. The hash is `h1:` and the SHA-256 of that line in
+//! padded base64, 47 bytes.
 //!
 //! | go.mod | hash |
 //! |---|---|
@@ -19,7 +19,7 @@ use modver::Version;
 use sha2::{Digest, Sha256};
 use std::alloc::{AllocError, Global};
 
-/// The `h1` hash of a go.mod: 47 bytes of ASCII. An `Err` tells that memory was refused.
+/// Returns the `h1` hash of a go.mod: 47 bytes of ASCII. It fails only if memory runs out.
 pub fn h1_of_mod(alloc: Global, gomod: &[u8]) -> Result<String, AllocError>
     ensures value { IfOk result (λ hash. string_bytes hash ≡ hash_of gomod.now) }
 {
@@ -30,7 +30,7 @@ pub fn h1_of_mod(alloc: Global, gomod: &[u8]) -> Result<String, AllocError>
     Ok(hash)
 }
 
-/// The line whose SHA-256 is the hash.
+/// Returns the line whose SHA-256 makes the hash. It fails only if memory runs out.
 fn file_line(alloc: Global, gomod: &[u8]) -> Result<String, AllocError>
     ensures { IfOk result (λ line. string_bytes line ≡ file_line gomod.now) }
 {
@@ -40,8 +40,8 @@ fn file_line(alloc: Global, gomod: &[u8]) -> Result<String, AllocError>
     Ok(line)
 }
 
-/// The go.sum line of the go.mod of a version, with no newline: the path, a space, the version, `/go.mod`,
-/// a space and the hash. An `Err` tells that memory was refused.
+/// Returns the go.sum line of the go.mod of a version, without a newline: the path, a space, the version,
+/// `/go.mod`, a space and the hash. It fails only if memory runs out.
 pub fn sum_line(
     alloc: Global,
     path: &ModulePath,

@@ -10,6 +10,7 @@ use Rattle.wire.specs.declared.head.Head.{Head}
 use Rattle.wire.proofs.HeadLemmas.{BeginsWith-append}
 use Rattle.wire.proofs.StreamLemmas.{unfinished}
 
+-- a message that has begun has still begun when more bytes come
 pub HasBegun-append : (bytes more : List ℕ) (wanted : ℕ) → HasBegun bytes wanted → HasBegun (bytes ++ more) wanted
 HasBegun-append bytes more wanted begun =
     let sum = begun.sum in
@@ -61,12 +62,12 @@ unfinished_more start wanted items held more is awaits few =
     (unfinished_begun (drop start items ++ more) wanted (λ _. HasBegun-append (drop start items) more wanted (awaits some))
     (omega (arith, length-append (drop start items) more, length-drop start items)))
 
--- two framings of the same bytes that failed alike are the same
+-- two framings with equal bytes and equal failures are equal
 pub same_framing : (held others : List ℕ) (f g : Option Bad) → held ≡ others → f ≡ g
     → let one : Framing = record { held = held; failure = f } in let two : Framing = record { held = others; failure = g } in one ≡ two
 same_framing held others f g p q = λ i. record { held = p i; failure = q i }
 
--- what is left behind the first so many of the bytes held
+-- the bytes held after the first `n`
 pub left_behind : (start n at : ℕ) (items held : List ℕ) → drop start items ≡ held → at ≡ start + n → drop at items ≡ drop n held
 left_behind start n at items held is here =
     ap (λ (k : ℕ). drop k items) here ∙ sym (drop-drop n start items) ∙ ap (drop n) is

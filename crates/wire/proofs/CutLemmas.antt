@@ -13,6 +13,7 @@ around-none byte text found is none = elim (cases_Bool (nat_lt (position_or_len 
   | inr outside ↦ rw outside refl
 ]
 
+-- a text whose search found a byte at `at` is cut there
 pub around-some : (byte at : ℕ) (text : List ℕ) (found : Option ℕ) → found ≡ position (λ b. b == byte) text → found ≡ Some at
     → around byte text ≡ Some (take at text, take (length text - (at + 1)) (drop (at + 1) text))
 unfolding around

@@ -54,6 +54,7 @@ method_token bytes b token (ends, m, word, e) = (
 pub method_space : (bytes : List ℕ) → EndsIn place.Method bytes → EndsIn place.Target (bytes ++ 32 ∷ [])
 method_space bytes (ends, m, word, e) = (ends, m, [], word, All-nil _, ap (λ (t : List ℕ). t ++ 32 ∷ []) e)
 
+-- bytes that end in a target still do after one more byte of a target
 pub target_more : (bytes : List ℕ) (b : ℕ) → is_uri_byte b ≡ true → EndsIn place.Target bytes → EndsIn place.Target (bytes ++ b ∷ [])
 target_more bytes b uri (ends, m, t, word, all, e) = (
   ends,
@@ -99,6 +100,7 @@ section_feed : (fields : List Field) (last : LineEnd) → (front : List ℕ) × 
 section_feed fields lf = (_, refl)
 section_feed fields crlf = (_, sym (append_assoc _ (13 ∷ []) (10 ∷ [])))
 
+-- the text of a head ends in a line feed
 head_feed : (h : RequestHead) → (front : List ℕ) × (print_request h ≡ front ++ 10 ∷ [])
 unfolding print_request
 head_feed h =
@@ -206,6 +208,7 @@ lines_may : (bytes rest : List ℕ) → HasLines bytes rest → Completes FieldL
 lines_may bytes rest ((s, fs), (middle, start, lines)) line =
     request_may (Completes_next RequestStart_deterministic {a = s} start (Section_after_lines fs lines (Section_of_line (inr line))))
 
+-- bytes that end in a part of a head may become a head
 pub place_may : (p : Place) (bytes : List ℕ) → EndsIn p bytes → MayBecomeRequest bytes
 place_may place.Blank bytes (ends, e) =
     request_may_from_line (inl (line_blank (BlankLines_after ends (e ∙ sym (append-nil (print_blank ends))) some_newline)))

@@ -148,6 +148,7 @@ abbrev HeadersOr : List Field → LineEnd → List ℕ → Type 0
 HeadersOr fs last front =
     ((gs : List Field) × FieldLines gs front []) ⊎ ((q : List ℕ) × (front ≡ print_section fs last ++ q))
 
+-- a header and then some or all headers of a section are some or all headers of the section with that header in front
 headers_line : (f : Field) (fs : List Field) (last : LineEnd) (front g : List ℕ) → IsField f → front ≡ print_field f ++ g
     → HeadersOr fs last g → HeadersOr (f ∷ fs) last front
 headers_line f fs last front g good is (inl (gs, (all, e))) =
@@ -174,6 +175,7 @@ headers_end : (last : LineEnd) (front rest after : List ℕ) → (front ≡ []) 
 headers_end last front rest after (inl none) = inl ([], (All-nil IsField, none))
 headers_end last front rest after (inr (q, is, ends, e)) = inr (q, is)
 
+-- bytes up to the end of a line of a section are some of its headers, or all of it and more
 cut_headers : (fs : List Field) (last : LineEnd) (front rest after : List ℕ) → All IsField fs → EndsLine front
     → front ++ rest ≡ print_section fs last ++ after → HeadersOr fs last front
 cut_headers [] last front rest after all ends e = headers_end last front rest after (cut_line (print_end last) front rest after (end_line last) ends e)
@@ -195,6 +197,7 @@ BlankOrLines front = EndsIn place.Blank front ⊎ EndsIn place.Line front
 start_regroup : (m t v e s : List ℕ) → m ++ 32 ∷ (t ++ 32 ∷ (v ++ (e ++ s))) ≡ ((m ++ 32 ∷ (t ++ 32 ∷ v)) ++ e) ++ s
 start_regroup m t v e s = simp (append_assoc, cons-append)
 
+-- bytes that begin with the empty lines and the request line of a head are read as these
 start_at : (h : RequestHead) (bytes rest : List ℕ) → IsRequestHead h
     → bytes ≡ print_blank h.blank ++ ((start_text h ++ print_end h.line_end) ++ rest)
     → RequestStart (h.blank, (h.method, (h.target, (h.minor, h.line_end)))) bytes rest
@@ -212,6 +215,7 @@ start_at h bytes rest is e = (
 )
 
 module _ (h : RequestHead) (is : IsRequestHead h) (front tail : List ℕ) (none : HasNoRequest (front ++ tail)) where
+  -- bytes that begin with the empty lines and the request line of a head, and then some or all of its headers, end in a line
   behind_start : (g : List ℕ) → front ≡ print_blank h.blank ++ ((start_text h ++ print_end h.line_end) ++ g)
       → HeadersOr h.fields h.last g → BlankOrLines front
   behind_start g e (inl (gs, lines)) =

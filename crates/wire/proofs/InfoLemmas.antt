@@ -14,6 +14,7 @@ use Rattle.wire.specs.Info.{info_object}
 use Rattle.wire.specs.Reply.{info_bytes}
 use Rattle.wire.proofs.PlainBytes.{is_plain_byte, version-plain}
 
+-- a text of plain bytes is written in JSON as it is, between quotation marks
 pub plain-quoted : (text : List ℕ) → list_all is_plain_byte text ≡ true → compact_text (string text) ≡ 34 ∷ (text ++ codes "\"")
 unfolding serde_json_on_literals
 plain-quoted [] h = refl
@@ -38,6 +39,7 @@ digit-plain b h = grind (arith, nat_tests)
 hex-plain : (b : ℕ) → is_lower_hex b ≡ true → is_plain_byte b ≡ true
 hex-plain b h = grind (arith, nat_tests)
 
+-- a byte that matches a plain byte of a form is plain
 fits-plain-byte : (form b : ℕ) → is_plain_byte form ≡ true → fits_byte form b ≡ true → is_plain_byte b ≡ true
 fits-plain-byte form b plain h = elim (cases_Bool (form == 100)) [
   | inl digit ↦ digit-plain b (rw digit at h)
@@ -66,6 +68,7 @@ time-plain text is = fits-plain (codes "dddd-dd-ddTdd:dd:ddZ") text refl (time-f
 regrouped : (a b c d e : List ℕ) → (((a ++ b) ++ c) ++ d) ++ e ≡ a ++ (b ++ (c ++ (d ++ e)))
 regrouped a b c d e = simp append_assoc
 
+-- the JSON object of a version and its time is written as `info_bytes`
 pub info-written : (v : SemanticVersion) (time : Option (List ℕ)) → IsVersion v → IfSome time IsTime → compact_text (info_object v time) ≡ info_bytes v time
 unfolding serde_json_on_literals
 info-written v None is none =

@@ -6,7 +6,7 @@ use Rattle.matchit.specs.Rows.{RowsOf}
 use Rattle.matchit.specs.declared.error.InsertError.{InsertError}
 use Rattle.matchit.specs.declared.error.InsertError.TheVariants.{Conflict, InvalidParamSegment, InvalidParam, InvalidCatchAll, OutOfMemory}
 
--- where no route conflicts with it, only for want of memory
+-- a route that conflicts with none is refused only for want of memory
 pub only_memory : {T : Type 0} (p : List ℕ) (rows : RowsOf (RouteOf T)) (e : InsertError) → nearest p rows ≡ None → Refused p rows e → e ≡ OutOfMemory
 only_memory p rows (Conflict with) none (found, is, same) = cc
 only_memory p rows InvalidParamSegment none refused = absurd refused
@@ -14,7 +14,7 @@ only_memory p rows InvalidParam none refused = absurd refused
 only_memory p rows InvalidCatchAll none refused = absurd refused
 only_memory p rows OutOfMemory none refused = refl
 
--- the same of a result that fails for it
+-- a result that fails with `e` fails for want of memory, if `e` is that error
 pub gives_memory : {A : Type 0} (result : Result A InsertError) (e : InsertError) → IsErrAnd result (λ x. x ≡ e) → e ≡ OutOfMemory → IfErr result (λ x. x ≡ OutOfMemory)
 gives_memory (Ok value) e fails is = tt
 gives_memory (Err x) e fails is = fails ∙ is

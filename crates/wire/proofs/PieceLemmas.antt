@@ -23,6 +23,7 @@ ReadsMessages-join bytes (m ∷ ms) more between rest (after, first, others) nex
 
 -- ---- from the pieces to the stream
 
+-- the bytes of messages, one after another, and a rest are read as these messages and the rest
 pieces_read : (pieces : List (List ℕ)) (messages : List Request) (rest : List ℕ) → AreMessages pieces messages
     → ReadsMessages (concat pieces ++ rest) messages rest
 pieces_read [] [] rest are = refl
@@ -58,6 +59,7 @@ message_piece bytes m rest (h, n, x, small, long, is) =
       ),
     )
 
+-- bytes that are read as messages and a rest are the bytes of these messages, one after another, and the rest
 pieces_of : (bytes : List ℕ) (messages : List Request) (rest : List ℕ) → ReadsMessages bytes messages rest
     → (pieces : List (List ℕ)) × (bytes ≡ concat pieces ++ rest) × AreMessages pieces messages
 pieces_of bytes [] rest e = ([], e, tt)

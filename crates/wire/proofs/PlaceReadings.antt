@@ -1,4 +1,4 @@
--- Module paths and versions around `/@`, computed, are what they are.
+-- The computed readings of module paths and versions before and after `/@` agree with their definitions.
 use Rattle.std.proofs.Common.{◌≡◌, ℕ, List, [], ◌++◌, codes, Option, Some, None, Ok, Err, true, is_ok, if◌then◌else◌, refl, sym, ap, ◌∙◌, subst}
 use Rattle.std.proofs.lemmas.List.{append-nil}
 use Rattle.std.specs.Option.{option_and_then, option_map}
@@ -61,6 +61,7 @@ pair-is path version place h =
       inner.1 ∙ ap (λ (p : Place). Some p.version) inner.2,
     )
 
+-- the path and the version computed of a text are those that the text names
 pub place-is : (text : List ℕ) (place : Place) → place_of text ≡ Some place → IsPlace text place.path place.version []
 unfolding place_of
 place-is text place h =

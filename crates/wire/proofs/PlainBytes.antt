@@ -97,6 +97,7 @@ escaped-no_at (b ∷ rest) h =
       | inr lower ↦ let other : (b == 64) ≡ false = grind (arith, nat_tests, both.0) in rw (lower, other) ih
     ]
 
+-- the escaped form of a text of plain bytes is ASCII
 pub escaped-ascii : (text : List ℕ) → list_all is_plain_byte text ≡ true → IsAscii (escaped text)
 escaped-ascii [] h = IsAscii-nil
 escaped-ascii (b ∷ rest) h =

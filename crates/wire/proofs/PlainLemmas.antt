@@ -53,7 +53,7 @@ pub plain-refused : (bytes text : List ℕ) (fault : EscapeFault) → text ≡ b
 plain-refused bytes text fault same (inl memory) other = absurd (other memory)
 plain-refused bytes text fault same (inr some) other = plain-fault bytes fault (rw same at some)
 
--- a text of bytes that stand for themselves
+-- a text of bytes that are their own escaped forms is its own escaped form, and has no `!`
 pub unescaped-itself : (text : List ℕ) → list_all stands_for_itself text ≡ true → IsUnescaped text text
 unescaped-itself [] h = record { same = refl; no_bang = refl }
 unescaped-itself (b ∷ rest) h =
@@ -67,7 +67,7 @@ unescaped-itself (b ∷ rest) h =
 pub plain-itself : (text : List ℕ) → IsUtf8 text → list_all stands_for_itself text ≡ true → plain_of text ≡ Some text
 plain-itself text utf8 h = plain-some text text utf8 (unescaped-itself text h)
 
--- what a text stands for
+-- the text computed of an escaped form is the text that has this escaped form
 plain-by : (text plain : List ℕ) → is_utf8 text ≡ true → (fault : Option EscapeFault) → escape_fault text ≡ fault → plain_of text ≡ Some plain
     → IsUnescaped text plain
 unfolding plain_of

@@ -1,4 +1,4 @@
--- What a GET asks for by the rest behind the key, computed, is what it asks for.
+-- The computed reading of the rest after the key is what a GET asks for.
 use Rattle.std.proofs.Common.{◌≡◌, ◌≢◌, ◌==◌, ℕ, ◌+◌, ◌<◌, nat_lt, List, [], ◌∷◌, ◌++◌, length, drop, codes, Option, Some, None, true, false, get_or, refl, sym, ap, ◌∙◌, subst, inl, inr, arith, append_assoc, length-append}
 use Rattle.std.proofs.lemmas.Bool.{cases_Bool, false_from_ne_true, lt-ltb}
 use Rattle.std.proofs.lemmas.Bool.Decides.{Decides-eqb}
@@ -108,7 +108,7 @@ other-ends front other x y e l =
     let fronts : length front ≡ length other = omega (arith, ap length e, length-append front x, length-append other y, l) in
     sym (drop_at front x (length front) refl) ∙ ap (drop (length front)) e ∙ drop_at other y (length front) (sym fronts)
 
--- the last bytes of two texts that are the same
+-- the last bytes of two equal texts are equal
 same-last : (front other x y : List ℕ) (a b : ℕ) → front ++ (x ++ a ∷ []) ≡ other ++ (y ++ b ∷ []) → a ≡ b
 same-last front other x y a b e =
     let same : (front ++ x) ++ a ∷ [] ≡ (other ++ y) ++ b ∷ [] = append_assoc front x (a ∷ []) ∙ e ∙ sym (append_assoc other y (b ∷ [])) in
@@ -142,6 +142,7 @@ no-list version p = elim (cases_Bool (text_eq (version ++ ending_of p) (codes "l
     apart part.GoMod e = omega (arith, same-last version [] (codes ".mo") (codes "lis") 100 116 e)
     apart part.Zip e = omega (arith, same-last version [] (codes ".zi") (codes "lis") 112 116 e)
 
+-- a version and the ending of a part after `v/` are read as a query for that part of the version
 part-taken : (path name : List ℕ) (v : SemanticVersion) (p : Part) → version_from name ≡ Some v
     → of_path path (codes "v/" ++ (name ++ ending_of p)) ≡ Some (query_for p path v)
 part-taken path name v p is = rw (no-list name p, without-ending-taken name p, is) refl
@@ -199,6 +200,7 @@ part-query rest path v part.Info is = is
 part-query rest path v part.GoMod is = is
 part-query rest path v part.Zip is = is
 
+-- what is computed for the part of a version is a query of the rest
 part-is : (rest path behind : List ℕ) (asked : Query) → percent_decode rest ≡ escaped path ++ (codes "/@" ++ behind) → IsPath path
     → part_of path behind ≡ Some asked → IsQuery rest asked
 part-is rest path behind asked whole is h =
@@ -215,6 +217,7 @@ part-is rest path behind asked whole is h =
     } in
     subst (IsQuery rest) inner.2 (part-query rest path inner.0 p place)
 
+-- what is computed for a path and the text after `/@` is a query of the rest
 of-path-is : (rest path behind : List ℕ) (asked : Query) → percent_decode rest ≡ escaped path ++ (codes "/@" ++ behind) → IsPath path
     → of_path path behind ≡ Some asked → IsQuery rest asked
 of-path-is rest path behind asked whole is h = elim (cases_Bool (text_eq behind (codes "latest"))) [
@@ -241,6 +244,7 @@ asked-is rest asked h =
     let whole = cut-is text (outer.0).0 (outer.0).1 outer.1 ∙ (λ i. path.0 i ++ (codes "/@" ++ (outer.0).1)) in
     of-path-is rest inner.0 (outer.0).1 asked whole path.1 inner.2
 
+-- what is computed for the text after a plain `-/` is a query of the rest
 own-query : (rest behind : List ℕ) (asked : Query) → rest ≡ codes "-/" ++ behind → own_of (percent_decode behind) ≡ Some asked → IsQuery rest asked
 own-query rest behind asked whole h = elim (cases_Bool (text_eq (percent_decode behind) (codes "modules"))) [
   | inl modules ↦

@@ -59,7 +59,7 @@ module _ {K : Type 0} where
       by true = or_none (seek 0 ((t, a) ∷ (u, b) ∷ []) p)
       by false = or_none (seek 0 [] p) ∙ seek_nothing 0 p
 
-  -- the same of one row
+  -- one row that begins with a byte
   pub seek_one : (x : ℕ) (t : List ℕ) (a : K) (y : ℕ) (p : List ℕ) → (x == 256) ≡ false → (x == 257) ≡ false
       → seek 0 ((x ∷ t, a) ∷ []) (y ∷ p) ≡ cond (x == y) (seek 0 ((t, a) ∷ []) p) None
   unfolding seek
@@ -167,6 +167,7 @@ cuts_none text none = false_from_ne_true (cuts text (47 ∷ [])) never
 
 -- ---- forwards
 
+-- the bytes after a key and a slash are bytes too
 behind_bytes : (key rest : List ℕ) → AreBytes (key ++ (47 ∷ rest)) → AreBytes rest
 behind_bytes [] rest bytes = λ i. bytes (suc i)
 behind_bytes (b ∷ key) rest bytes = behind_bytes key rest (λ i. bytes (suc i))

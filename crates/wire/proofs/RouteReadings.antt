@@ -21,6 +21,7 @@ use Rattle.wire.proofs.WalkLemmas.{walk_path, walk_shelf}
 
 -- ---- keys
 
+-- a key and a rest that pass have a key that is not empty, and are unchanged
 with-key-is : (parts out : List ℕ × List ℕ) → with_key parts ≡ Some out → (0 < length parts.0) × (parts ≡ out)
 with-key-is parts out h = elim (cases_Bool (length parts.0 == 0)) [
   | inl none ↦ cc (rw none at h)
@@ -33,6 +34,7 @@ pub record IsSplit (text key rest : List ℕ) : Type 0 where
   pub some : 0 < length key
   pub no_slash : list_any (λ b. b == 47) key ≡ false
 
+-- a text that is computed to split into a key and a rest is `/k/`, the key, a slash and the rest
 pub split-is : (text key rest : List ℕ) → split_of text ≡ Some (key, rest) → IsSplit text key rest
 unfolding split_of
 split-is text key rest h =
@@ -91,6 +93,7 @@ area-is rest asked a h = elim (cases_Bool (is_own rest)) [
 
 -- ---- both
 
+-- a target that is computed to have a route is split at its key, and the rest is in that area
 pub routed-is : (text key rest : List ℕ) (a : Area) → routed_of text ≡ Some (a, key, rest)
     → (behind : List ℕ) × IsSplit text key behind × (area_of behind ≡ Some (a, rest))
 unfolding routed_of
@@ -150,6 +153,7 @@ pub record IsWalked (target : List ℕ) (route : RouteOf Area) : Type 0 where
 split-of : (target key rest : List ℕ) → Splits target key rest → IsSplit target key rest
 split-of target key rest splits = record { whole = splits.whole; some = splits.some_key; no_slash = splits.no_slash }
 
+-- a target that splits is walked by the shelf's route if its rest begins with a plain `-/`, and otherwise by that of paths
 walked-by : (target key behind : List ℕ) → Splits target key behind → IsUtf8 target → IsWalked target (cond (is_own behind) shelf_route path_route)
 walked-by target key behind splits utf8 =
     let is = split-of target key behind splits in
@@ -200,6 +204,7 @@ pub record AreTaken (target : List ℕ) (a : Area) (pairs : List (List ℕ × Li
   pub texts : IsUtf8 key × IsUtf8 rest
   pub are : pairs ≡ (codes "key", key) ∷ (codes "rest", rest) ∷ []
 
+-- the parameters of the route that a target matches are its key and its rest
 pub found-params : (target path : List ℕ) (route : RouteOf Area) → AreBytes target → IsUtf8 target → path ≡ target → first routes target ≡ Some route
     → AreTaken target route.value (walk route.pattern route.text path route.names 0 0)
 found-params target path route bytes utf8 same found =

@@ -79,6 +79,7 @@ none-passes byte (b ∷ text) = elim (cases_Bool (b == byte)) [
   | inr other ↦ let on : 1 + position_or_len (λ x. x == byte) text ≡ suc (position_or_len (λ x. x == byte) text) = omega arith in rw (other, on, other) (none-passes byte text)
 ]
 
+-- the texts before and after the first `byte` make the text with the byte between them, and the first has no such byte
 pub around-is : (byte : ℕ) (text front rest : List ℕ) → around byte text ≡ Some (front, rest)
     → (text ≡ front ++ (byte ∷ rest)) × (list_any (λ b. b == byte) front ≡ false)
 unfolding around

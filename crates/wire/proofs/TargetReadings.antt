@@ -1,4 +1,4 @@
--- What a request asks for, computed, is what it asks for.
+-- The computed reading of a request is what the request asks for.
 use Rattle.std.proofs.Common.{◌≡◌, ℕ, List, [], ◌∷◌, ◌++◌, codes, Option, Some, None, Ok, Err, IfOk, Result, nat_eq, refl, sym, ◌∙◌, subst, inl, inr}
 use Rattle.std.proofs.lemmas.Bool.{cases_Bool, false_from_ne_true}
 use Rattle.std.proofs.lemmas.Str.{IsUtf8-from_is_utf8, is_utf8-from_IsUtf8}
@@ -42,6 +42,7 @@ put-asks method text key behind rest area.Path m keyed in_area (Some place) e =
     let same = area-is behind rest area.Path in_area in
     (m, (behind, keyed, place-is (percent_decode behind) place (subst (λ (l : List ℕ). place_of (percent_decode l) ≡ Some place) (sym same) e)))
 
+-- what is computed by the route of a target is what the request asks for, unless it is unreadable
 route-asks : (method text : List ℕ) → IsUtf8 text → (found : Option (Area × List ℕ × List ℕ)) → routed_of text ≡ found → AsksAny method text (asked_or method found)
 route-asks method text utf8 None e = tt
 route-asks method text utf8 (Some (a, key, rest)) e =
@@ -63,6 +64,7 @@ target-asks method text = elim (cases_Bool (is_utf8 text)) [
   | inr other ↦ rw other tt
 ]
 
+-- what a request asks for is its computed reading
 pub target-taken : (method text : List ℕ) (asked : Target) → Asks method text asked → target_of method text ≡ asked
 unfolding target_of
 target-taken method text target.Unreadable a = absurd a

@@ -20,6 +20,7 @@ use Rattle.wire.proofs.QueryReadings.{dash-decoded}
 use Rattle.wire.proofs.PlainBytes.{ascii-from, escaped-ascii, path-plain, version-plain}
 use Rattle.wire.proofs.RouteReadings.{IsSplit, split-taken}
 
+-- a hexadecimal digit is ASCII
 digit-ascii : (c : ℕ) → is_digit c 16 ≡ true → c < 128
 digit-ascii c h = elim (cases_Bool (nat_lt c 128)) [
   | inl low ↦ ltb-true c 128 low
@@ -83,6 +84,7 @@ own-ascii rest text plain is =
     let decoded : percent_decode rest ≡ codes "-/" ++ text = ap percent_decode is.whole ∙ dash-decoded is.behind ∙ (λ i. codes "-/" ++ is.decodes i) in
     subst IsAscii (sym decoded) (IsAscii-append (codes "-/") text (ascii-from (codes "-/") refl) plain)
 
+-- a rest that is a query decodes to ASCII
 query-ascii : (rest : List ℕ) (asked : Query) → IsQuery rest asked → IsAscii (percent_decode rest)
 query-ascii rest (query.Info path version) is = place-ascii (percent_decode rest) path version (codes ".info") (ascii-from (codes ".info") refl) is
 query-ascii rest (query.GoMod path version) is = place-ascii (percent_decode rest) path version (codes ".mod") (ascii-from (codes ".mod") refl) is

@@ -36,12 +36,13 @@ module _ (target key rest : List ℕ) (splits : Splits target key rest) where
       let n : 3 + length key - 3 ≡ length key = omega arith in
       (λ i. take (n i) (after_k i)) ∙ take_at key (47 ∷ rest) (length key) refl
 
-  -- what is left from a place on
+  -- the target from a place in its rest on is the rest without the bytes before that place
   left : (place n : ℕ) → place ≡ 3 + (length key + 1) + n → take (length target - place) (drop place target) ≡ drop n rest
   left place n at =
       let after = ap (λ m. drop m target) at ∙ sym (drop-drop n (3 + (length key + 1)) target) ∙ ap (λ t. drop n t) after_key in
       ap (λ t. take (length target - place) t) after ∙ take_all (length target - place) (drop n rest) (omega (arith, long, length-drop n rest))
 
+  -- the route of paths takes the key and the rest of a target
   pub walk_path : walk path_route.pattern path_route.text target path_route.names 0 0 ≡ (codes "key", key) ∷ (codes "rest", rest) ∷ []
   walk_path =
       let l0 : ltb 0 (length target) ≡ true = lt-ltb 0 _ (omega (arith, long)) in
@@ -55,6 +56,7 @@ module _ (target key rest : List ℕ) (splits : Splits target key rest) where
       let all = left (3 + length key + 1) 0 (omega arith) in
       rw (l0, l1, l2, stop, l3, e1, e2, e3, e4) (λ i. (codes "key", taken i) ∷ (codes "rest", all i) ∷ [])
 
+  -- the route of the shelf takes the key, and the rest without its `-/`
   pub walk_shelf : (behind : List ℕ) → rest ≡ codes "-/" ++ behind
       → walk shelf_route.pattern shelf_route.text target shelf_route.names 0 0 ≡ (codes "key", key) ∷ (codes "rest", behind) ∷ []
   walk_shelf behind is =

@@ -1,4 +1,4 @@
--- The part of a head that some bytes end in.
+-- The part of a head in which some bytes end.
 use Rattle.std.specs.Prelude.{◌≡◌, ℕ, ◌≤◌, List, [], ◌∷◌, ◌++◌, length, take, Option, ⊤}
 use Rattle.std.specs.Option.{ForSome}
 use Rattle.httparse.specs.Ascii.{line_feed, carriage_return, colon}
@@ -24,16 +24,16 @@ EndsIn place.HeaderValue bytes = (name raw : List ℕ) × IsToken name × AllPas
 EndsIn place.Return bytes =
     (name raw : List ℕ) × IsToken name × AllPass is_value_byte raw × HasLines bytes (name ++ colon ∷ raw ++ carriage_return ∷ [])
 
--- and no head is whole in them
+-- the bytes end in that part of a head, and no whole head begins them
 abbrev pub Stands : Place → List ℕ → Type 0
 Stands place bytes = EndsIn place bytes × HasNoRequest bytes
 
--- the first of the bytes were looked at
+-- the first bytes were scanned: they end in that part of a head, and no whole head begins them
 pub record WasLookedAt (bytes : List ℕ) (looked : Looked) : Type 0 where
   pub fits : looked.len ≤ length bytes
   pub stands : Stands looked.place (take looked.len bytes)
 
--- so were they where anything was looked at
+-- if there is a scan, it is one of the first bytes
 pub record HasLooked (bytes : List ℕ) (looked : Option Looked) : Type 0 where
   pub was : ForSome looked (WasLookedAt bytes)
 

@@ -22,9 +22,9 @@ pub record IsPlace (text path : List ℕ) (version : SemanticVersion) (ending : 
   pub path_is : IsPath path
   pub version_is : IsCanonical (version_text version) version
 
--- ---- the same, computed
+-- ---- computed forms of the readings above
 
--- a text without its first or its last part
+-- a text without this start, or without this ending, if it has it
 abbrev pub without_start : List ℕ → List ℕ → Option (List ℕ)
 without_start start text = if pointwise nat_eq (take (length start) text) start then Some (drop (length start) text) else None
 
@@ -32,7 +32,7 @@ abbrev pub without_end : List ℕ → List ℕ → Option (List ℕ)
 without_end ending text =
     if pointwise nat_eq (drop (length text - length ending) text) ending then Some (take (length text - length ending) text) else None
 
--- a text around the first of these bytes in it
+-- the texts before and after the first `byte` in a text, if there is one
 unfoldable pub around : ℕ → List ℕ → Option (List ℕ × List ℕ)
 around byte text =
     if nat_lt (position_or_len (λ b. b == byte) text) (length text)
@@ -41,15 +41,15 @@ around byte text =
 abbrev pub without_slash : List ℕ × List ℕ → Option (List ℕ × List ℕ)
 without_slash parts = option_map (λ front. (front, parts.1)) (without_end (codes "/") parts.0)
 
--- a text around `/@`, where no other `@` stands before it
+-- the texts before and after `/@`, if its `@` is the first in the text
 unfoldable pub cut_of : List ℕ → Option (List ℕ × List ℕ)
 cut_of text = option_and_then without_slash (around 64 text)
 
--- a byte that stands for itself in the escaped form
+-- a byte that is its own escaped form
 abbrev pub stands_for_itself : ℕ → Bool
 stands_for_itself b = not (b == 33) && not (is_ascii_uppercase b)
 
--- the text without each `!`, with an upper-case letter behind it
+-- a text without its `!`s, and with the letter after each in upper case; `bang`: the byte before the text is a `!`
 abbrev pub unescaped_after : Bool → List ℕ → List ℕ
 unescaped_after bang [] = []
 unescaped_after true (b ∷ rest) = (b - 32) ∷ unescaped_after false rest
@@ -58,23 +58,23 @@ unescaped_after false (b ∷ rest) = if b == 33 then unescaped_after true rest e
 abbrev pub unescaped : List ℕ → List ℕ
 unescaped text = unescaped_after false text
 
--- the text whose escaped form this is
+-- the text whose escaped form this is, if there is one
 unfoldable pub plain_of : List ℕ → Option (List ℕ)
 plain_of text = if is_utf8 text && is_none (escape_fault text) then Some (unescaped text) else None
 
--- the module path whose escaped form this is
+-- the module path whose escaped form this is, if there is one
 abbrev pub path_of : List ℕ → Option (List ℕ)
 path_of text = option_and_then (λ plain. if is_path plain then Some plain else None) (plain_of text)
 
--- the version whose escaped form this is
+-- the version whose escaped form this is, if there is one
 abbrev pub version_from : List ℕ → Option SemanticVersion
 version_from text = option_and_then version_of (plain_of text)
 
--- a path and a version
+-- a path and a version, if both are there
 abbrev pub pair : Option (List ℕ) → Option SemanticVersion → Option Place
 pair path version = option_and_then (λ p. option_map (λ v. record { path = p; version = v }) version) path
 
--- the path and the version around `/@v/`
+-- the path before `/@v/` and the version after it, if the text has this form
 unfoldable pub place_of : List ℕ → Option Place
 place_of text =
     option_and_then (λ (parts : List ℕ × List ℕ). option_and_then (λ name. pair (path_of parts.0) (version_from name)) (without_start (codes "v/") parts.1)) (cut_of text)

@@ -1,4 +1,4 @@
--- What a GET asks for by the rest behind the key. (Go Modules Reference, "GOPROXY protocol"; `-/` is this server's own.)
+-- What a GET asks for by the rest after the key. (Go Modules Reference, "GOPROXY protocol"; `-/` is this server's own.)
 use Rattle.std.specs.Prelude.{◌≡◌, ℕ, nat_eq, Bool, List, [], ◌++◌, codes, Option, Some, None, option_map, if◌then◌else◌}
 use Rattle.std.specs.Option.{option_and_then}
 use Rattle.std.specs.Cmp.Lexicographic.{pointwise}
@@ -19,7 +19,8 @@ pub record IsOwn (rest text : List ℕ) : Type 0 where
   pub whole : rest ≡ codes "-/" ++ behind
   pub decodes : percent_decode behind ≡ text
 
--- the same, where the text is `gosum/`, and then a path, `/@v/` and a version in their escaped forms
+-- the rest begins with a plain `-/`, and what follows it decodes to `gosum/` and then a path, `/@v/` and a version, the path
+-- and the version in their escaped forms
 pub record IsOwnPlace (rest path : List ℕ) (version : SemanticVersion) : Type 0 where
   pub text : List ℕ
   pub own : IsOwn rest (codes "gosum/" ++ text)
@@ -35,13 +36,13 @@ IsQuery rest (query.Latest path) = IsPathWith (percent_decode rest) path (codes 
 IsQuery rest query.Modules = IsOwn rest (codes "modules")
 IsQuery rest (query.GoSum path version) = IsOwnPlace rest path version
 
--- ---- the same, computed
+-- ---- computed forms of the readings above
 
--- two texts are the same
+-- whether two texts are equal
 abbrev pub text_eq : List ℕ → List ℕ → Bool
 text_eq = pointwise nat_eq
 
--- the first of two
+-- the first of two values, or the second if there is no first
 abbrev pub first_some : {A : Type 0} → Option A → Option A → Option A
 first_some (Some x) other = Some x
 first_some None other = other
@@ -56,11 +57,11 @@ ending_of part.Zip = codes ".zip"
 abbrev pub asked_by : Part → List ℕ → Option (List ℕ × Part)
 asked_by p name = option_map (λ version. (version, p)) (without_end (ending_of p) name)
 
--- a name without its ending, and the part that the ending asks for
+-- a name without its ending, and the part for which the ending asks
 abbrev pub without_ending : List ℕ → Option (List ℕ × Part)
 without_ending name = first_some (asked_by part.Info name) (first_some (asked_by part.GoMod name) (asked_by part.Zip name))
 
--- a name behind `v/` without its last ending, and the part of a version that the ending asks for
+-- a name after `v/` without its last ending, and the part of a version for which the ending asks
 abbrev pub split_part : List ℕ → Option (List ℕ × Part)
 split_part asked = option_and_then without_ending (without_start (codes "v/") asked)
 
@@ -73,7 +74,7 @@ query_for part.Zip path version = query.Zip path version
 abbrev pub part_of : List ℕ → List ℕ → Option Query
 part_of path asked = option_and_then (λ (found : List ℕ × Part). option_map (λ v. query_for found.1 path v) (version_from found.0)) (split_part asked)
 
--- what is asked of a path, by what stands behind `/@`
+-- what is asked of a path, by the text after `/@`
 abbrev pub of_path : List ℕ → List ℕ → Option Query
 of_path path asked =
     if text_eq asked (codes "latest") then Some (query.Latest path)
@@ -85,7 +86,7 @@ unfoldable pub asked_of : List ℕ → Option Query
 asked_of text =
     option_and_then (λ (parts : List ℕ × List ℕ). option_and_then (λ path. of_path path parts.1) (path_of parts.0)) (cut_of text)
 
--- the go.sum line of the version at a place
+-- the query for the go.sum line of a version
 abbrev pub sum_at : Place → Query
 sum_at place = query.GoSum place.path place.version
 

@@ -7,7 +7,7 @@ use Rattle.wire.specs.declared.reply.Kind.TheVariants as kind
 use Rattle.wire.specs.declared.reply.Fixed.{Fixed}
 use Rattle.wire.specs.declared.reply.Fixed.TheVariants as fixed
 
--- the phrase of a status code; one that has none is given no text
+-- the phrase of a status code, empty if it has none
 unfoldable pub phrase : ℕ → List ℕ
 phrase code = unwrap_or (reason_phrase code) []
 
@@ -15,7 +15,7 @@ phrase code = unwrap_or (reason_phrase code) []
 abbrev pub status_text : ℕ → List ℕ
 status_text code = code_digits code ++ codes " " ++ phrase code
 
--- what a body is
+-- the value of `Content-Type` for a kind of body
 abbrev pub kind_text : Kind → List ℕ
 kind_text kind.TextPlain = codes "text/plain; charset=utf-8"
 kind_text kind.Json = codes "application/json"
@@ -56,7 +56,7 @@ fixed_status fixed.IncompatibleGoMod = 422
 fixed_status fixed.Unavailable = 503
 fixed_status fixed.Full = 507
 
--- its body without the newline
+-- the body of a fixed reply without the newline
 abbrev pub fixed_text : Fixed → List ℕ
 fixed_text fixed.AlreadyPublished = codes "already published"
 fixed_text fixed.Published = codes "published"
@@ -79,11 +79,11 @@ fixed_text fixed.Full = codes "full"
 abbrev pub fixed_bytes : Fixed → List ℕ
 fixed_bytes answer = reply_bytes (fixed_status answer) kind.TextPlain (fixed_text answer ++ codes "\n")
 
--- its line in a list of outcomes: the number of its status, a space and its body without the newline
+-- the line of a fixed reply in a list of outcomes: the number of its status, a space and its body without the newline
 abbrev pub line_bytes : Fixed → List ℕ
 line_bytes answer = code_digits (fixed_status answer) ++ codes " " ++ fixed_text answer
 
--- the body that tells a version and its time, where it has one (Go Modules Reference, "GOPROXY protocol", `.info`)
+-- the body of a version and its time, if it has one (Go Modules Reference, "GOPROXY protocol", `.info`)
 abbrev pub info_bytes : SemanticVersion → Option (List ℕ) → List ℕ
 info_bytes version (Some time) = codes "{\"Time\":\"" ++ time ++ codes "\",\"Version\":\"" ++ version_text version ++ codes "\"}"
 info_bytes version None = codes "{\"Version\":\"" ++ version_text version ++ codes "\"}"

@@ -8,7 +8,7 @@ use Rattle.wire.specs.Place.{around, without_start}
 use Rattle.wire.specs.declared.routes.Area.{Area}
 use Rattle.wire.specs.declared.routes.Area.TheVariants as area
 
--- both, as the router keeps them
+-- both routes, as the router keeps them
 abbrev pub shelf_route : RouteOf Area
 shelf_route = record {
   pattern = 47 ∷ 107 ∷ 47 ∷ 256 ∷ 47 ∷ 45 ∷ 47 ∷ 257 ∷ [];
@@ -28,19 +28,20 @@ path_route = record {
 abbrev pub routes : RowsOf (RouteOf Area)
 routes = (shelf_route.pattern, shelf_route) ∷ (path_route.pattern, path_route) ∷ []
 
--- a key is not empty
+-- a key and a rest, if the key is not empty
 abbrev pub with_key : List ℕ × List ℕ → Option (List ℕ × List ℕ)
 with_key parts = if length parts.0 == 0 then None else Some parts
 
--- the key of a target, which has no slash, and what stands behind it
+-- the key of a target, which has no slash, and the text after the slash that ends it
 unfoldable pub split_of : List ℕ → Option (List ℕ × List ℕ)
 split_of text = option_and_then with_key (option_and_then (around 47) (without_start (codes "/k/") text))
 
--- it begins with a plain `-/`, and goes on
+-- whether a rest begins with a plain `-/` and has more bytes
 abbrev pub is_own : List ℕ → Bool
 is_own rest = starts_with nat_eq rest (codes "-/") && nat_lt 2 (length rest)
 
--- what stands behind a key is asked of the shelf itself, without that start, or of a module path
+-- the area about which the rest after a key asks, and the rest there: the shelf itself, without the `-/`, or a module path;
+-- an empty rest has no area
 abbrev pub area_of : List ℕ → Option (Area × List ℕ)
 area_of rest =
     if is_own rest then Some (area.Shelf, drop 2 rest)

@@ -28,17 +28,17 @@ Asks method text (target.Get key asked) = (method ≡ codes "GET") × ((rest : L
 Asks method text (target.Put key path version) =
     (method ≡ codes "PUT") × ((rest : List ℕ) × IsKeyed text key rest × IsPlace (percent_decode rest) path version [])
 
--- the same, and everything else is unreadable
+-- what a request reads as: what it asks for, or unreadable if it asks for nothing
 abbrev pub ReadsTarget : List ℕ → List ℕ → Target → Type 0
 ReadsTarget method text target.Unreadable = (asked : Target) → ¬ (Asks method text asked)
 ReadsTarget method text (target.Get key asked) = Asks method text (target.Get key asked)
 ReadsTarget method text (target.Put key path version) = Asks method text (target.Put key path version)
 
--- a target and what it decodes to behind its key are text
+-- a target is text, and the rest after its key decodes to text
 abbrev pub IsTextThroughout : List ℕ → Type 0
 IsTextThroughout text = IsUtf8 text × ((key rest : List ℕ) → IsKeyed text key rest → IsUtf8 (percent_decode rest))
 
--- ---- the same, computed
+-- ---- computed forms of the readings above
 
 abbrev pub get_of : List ℕ → Option Query → Target
 get_of key (Some asked) = target.Get key asked

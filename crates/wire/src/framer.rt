@@ -1,4 +1,4 @@
-//! The framer: messages out of bytes that come in any pieces.
+//! The framer, which splits bytes that come in any pieces into messages.
 ghost use Rattle.std.specs.Prelude.{◌≡◌, ℕ, ◌+◌, ◌≤◌, ◌<◌, List, [], ◌++◌, length, drop, vec_len, None, IfOk, OnOk, OnErr, IfSome, IsTrue, ◌↔◌};
 ghost use Rattle.wire.specs.Framing.{Answers, IsBad, IsUnfinished, HasMessage, GivesBody, TakesOff};
 
@@ -11,42 +11,42 @@ use std::alloc::Global;
 use std::marker::Model;
 use std::mem;
 
-/// Why a stream can't go on: the reply that ends it.
+/// Why a stream cannot go on, and the status of the reply that ends it.
 #[derive(Clone, Copy, Debug, Drop, PartialEq, Eq)]
 pub enum Bad {
-    /// 400: however the bytes go on, no message and no good head of too large a body begins them.
+    /// 400: however the bytes go on, they begin with neither a message nor a good head of too large a body.
     BadRequest,
     /// 413: they begin with a good head whose body is too large.
     TooLarge,
 }
 
-/// What the bytes held give.
+/// What [`Framer::next`] finds at the front of the bytes that it holds.
 #[derive(Debug, Drop)]
 pub enum Next {
-    /// The message at their front, which is taken off.
+    /// A message, which is removed from the bytes.
     Message(Message),
-    /// They begin with no whole message, and may begin one.
+    /// The bytes do not begin with a whole message, but may be the beginning of one.
     NeedMore,
-    /// The stream can't go on, now or later.
+    /// The stream cannot go on, now or later.
     Bad(Bad),
 }
 
-/// A body of fewer bytes is copied when it is handed out.
+/// A body of fewer bytes is copied when it is returned.
 const LARGE: usize = 4_096;
 
-/// Takes the bytes of a stream in any pieces, and hands out its messages. How the bytes are cut does not matter, and the
-/// work is linear in them: each byte of a body is moved a bounded number of times, and a head is read again only until it is
-/// whole. Room for all of a message is made once its head is whole, and a large body is handed out in the buffer that it was
-/// gathered in.
+/// Takes the bytes of a stream in any pieces, and returns its messages. How the bytes are cut does not matter, and the
+/// work is linear in them: each byte of a body is moved a bounded number of times, and a head is read again only until it
+/// is whole. Once the head is whole, the framer makes room for all of the message, and it returns a large body in the
+/// buffer in which it collected it.
 #[derive(Drop)]
 pub struct Framer {
-    /// What was fed, but for a front that was dropped.
+    /// The bytes that were fed, without a front that was dropped.
     bytes: Vec<u8>,
-    /// The bytes before it were handed out.
+    /// The bytes before this index were returned.
     start: usize,
-    /// The length of the message that has begun, once its head is whole; else 0.
+    /// The length of the message that has begun if its head is whole, and otherwise 0.
     wanted: usize,
-    /// What was looked at of a head that is not whole.
+    /// The scan of a head that is not whole.
     looked: Option<Looked>,
     failure: Option<Bad>,
 }
@@ -65,7 +65,7 @@ impl Model for Framer {
         × Awaits (drop f.start f.bytes.items) f.wanted × HasLooked (drop f.start f.bytes.items) f.looked };
 }
 
-/// Takes the first n bytes off.
+/// Removes the first `n` bytes.
 fn remove_front(bytes: &mut Vec<u8>, n: usize)
     requires { n ≤ vec_len bytes.old }
     ensures { bytes.new.items ≡ drop n bytes.old.items }
@@ -75,7 +75,7 @@ fn remove_front(bytes: &mut Vec<u8>, n: usize)
 }
 
 impl Framer {
-    /// A framer that holds nothing. It takes no memory yet.
+    /// Returns a framer that holds nothing. It takes no memory yet.
     pub fn new(alloc: Global) -> Framer
         ensures { result ≡ record { held = []; failure = None } }
     {
@@ -88,7 +88,7 @@ impl Framer {
         }
     }
 
-    /// Takes the next bytes of the stream. `Memory` where there is no room for them; an `Err` changes nothing.
+    /// Adds the next bytes of the stream. It fails with `Memory` if there is no room for them, and then changes nothing.
     pub fn feed(&mut self, bytes: &[u8]) -> Result<(), Memory>
         ensures ok { OnOk result (self.new ≡ record self.old { held = self.old.held ++ bytes.now }) }
         ensures err { OnErr result (self.new ≡ self.old) }
@@ -99,7 +99,7 @@ impl Framer {
         Ok(())
     }
 
-    /// Makes room for all that is missing of the message that has begun.
+    /// Makes room for all that is missing of the message that has begun. It fails only if memory runs out.
     /// A peer that announces a long body gets address space for it, and uses as much memory as it sends.
     fn make_room(&mut self) -> Result<(), Memory>
         ensures { self.new ≡ self.old }
@@ -109,15 +109,15 @@ impl Framer {
         Ok(())
     }
 
-    /// How many bytes are still to come of the message that has begun, or 0 if no head is whole. While fewer come, the message
-    /// is not whole.
+    /// Returns how many bytes of the message that has begun are still to come, or 0 if no head is whole. Until that many
+    /// have come, the message is not whole.
     pub fn missing(&self) -> usize
         ensures { (bytes : List ℕ) → length bytes < result → IsUnfinished (self.now.held ++ bytes) }
     {
         self.wanted.saturating_sub(self.bytes.len() - self.start)
     }
 
-    /// Drops the bytes that were handed out, once they are no fewer than the rest: so each byte is moved at most twice.
+    /// Drops the bytes that were returned once they are at least as many as the rest, so each byte is moved at most twice.
     fn drop_used(&mut self)
         ensures { self.new ≡ self.old }
     {
@@ -127,8 +127,9 @@ impl Framer {
         }
     }
 
-    /// The next message of the stream. `Memory` where there is no room to hand out a whole message; an `Err` changes
-    /// nothing. A stream that has failed fails the same way from then on.
+    /// Removes and returns the next message of the stream, or returns [`Next::NeedMore`] if it is not whole, or
+    /// [`Next::Bad`] if the stream cannot go on, and then again at every later call. It fails with `Memory` if there is no
+    /// room for the parts of a whole message, and then changes nothing.
     pub fn next(&mut self) -> Result<Next, Memory>
         ensures answer { IfOk result (λ next. Answers self.old next self.new) }
         ensures again { IfSome self.old.failure (λ bad. result ≡ Ok (Next.Bad bad)) }
@@ -166,9 +167,9 @@ impl Framer {
         }
     }
 
-    /// Whether what came since plainly only goes on with a head that is not whole. Nothing before it is looked at again.
-    /// So a head that comes byte by byte is parsed about once a line. Parsing only when the bytes have doubled would
-    /// delay the 400 of a head that cannot go on.
+    /// Whether the bytes that came since the last scan plainly continue a head and do not complete it. The bytes before
+    /// them are not scanned again, so a head that comes byte by byte is parsed about once a line. Parsing only when the
+    /// bytes have doubled would delay the 400 of a head that cannot go on.
     fn stays_open(&mut self) -> bool
         ensures same { self.new ≡ self.old }
         ensures open { IsTrue result → IsUnfinished self.old.held }
@@ -183,8 +184,9 @@ impl Framer {
         true
     }
 
-    /// Takes a head and a body off, and gives the body: in a copy, or in the buffer itself where the body is large and no less than
-    /// half of what it holds. `Memory` where there is no room for the copy, or for what follows the body; an `Err` changes nothing.
+    /// Removes a head and a body, and returns the body: in a copy, or in the buffer itself if the body is large and at least
+    /// half of what the buffer holds. It fails with `Memory` if there is no room for the copy, or for the bytes after the
+    /// body, and then changes nothing.
     fn take_body(&mut self, head: usize, body: usize) -> Result<Vec<u8>, Memory>
         requires whole { head + body ≤ length self.old.held }
         requires sound { self.old.failure ≡ None }
@@ -197,7 +199,7 @@ impl Framer {
         self.give_body(head, body)
     }
 
-    /// Takes a head and a body off, and gives a copy of the body.
+    /// Removes a head and a body, and returns a copy of the body. It fails only if memory runs out, and then changes nothing.
     fn copy_body(&mut self, head: usize, body: usize) -> Result<Vec<u8>, Memory>
         requires whole { head + body ≤ length self.old.held }
         requires sound { self.old.failure ≡ None }
@@ -212,7 +214,8 @@ impl Framer {
         Ok(copy)
     }
 
-    /// Takes a head and a body off, and gives the body in the buffer; what follows it is copied.
+    /// Removes a head and a body, and returns the body in the buffer; the bytes after it are copied. It fails only if memory
+    /// runs out, and then changes nothing.
     fn give_body(&mut self, head: usize, body: usize) -> Result<Vec<u8>, Memory>
         requires whole { head + body ≤ length self.old.held }
         requires sound { self.old.failure ≡ None }
@@ -230,7 +233,7 @@ impl Framer {
         Ok(taken)
     }
 
-    /// The stream can't go on.
+    /// Records that the stream cannot go on, and returns the answer.
     fn fail(&mut self, bad: Bad) -> Next
         requires { IsBad self.old.held bad }
         ensures failed { self.new ≡ record self.old { failure = Some bad } }
@@ -240,8 +243,8 @@ impl Framer {
         Next::Bad(bad)
     }
 
-    /// Whether no byte is left after the messages that were handed out. A lone CR LF that is left at the end of a stream is
-    /// a rest like any other, and gets a 400.
+    /// Whether no byte is left after the messages that were returned. A lone CR LF at the end of a stream is a rest like
+    /// any other, and gets a 400.
     pub fn is_empty(&self) -> bool
         ensures { IsTrue result ↔ (self.now.held ≡ []) }
     {

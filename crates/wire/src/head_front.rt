@@ -1,4 +1,4 @@
-//! Heads that are not whole: what follows is looked at byte by byte, as long as its place in a head is plain.
+//! Heads that are not whole: new bytes are scanned one by one, as long as their place in a head is plain.
 ghost use Rattle.std.specs.Prelude.{◌≡◌, ℕ, ◌≤◌, List, [], ◌∷◌, ◌++◌, length, take, IfSome, IsTrue, IsFalse};
 ghost use Rattle.std.specs.List.{list_all};
 ghost use Rattle.httparse.specs.Grammar.{is_token_byte, is_uri_byte, is_value_byte};
@@ -8,12 +8,12 @@ ghost use Rattle.wire.specs.HeadFront.{Stands, WasLookedAt, EndsLine};
 
 use crate::head::HEAD_LIMIT;
 
-/// The part of a head that bytes end in, where more bytes may follow in it (RFC 9112, sections 2 to 5).
+/// The part of a head in which the bytes end, and in which more bytes may follow (RFC 9112, sections 2 to 5).
 #[derive(Clone, Copy, Drop)]
 pub(crate) enum Place {
-    /// Behind empty lines before the request line.
+    /// After any empty lines before the request line.
     Blank,
-    /// Behind the carriage return of one.
+    /// After the carriage return of such an empty line.
     BlankReturn,
     Method,
     Target,
@@ -21,32 +21,32 @@ pub(crate) enum Place {
     Line,
     HeaderName,
     HeaderValue,
-    /// Behind the carriage return of a header.
+    /// After the carriage return of a header.
     Return,
 }
 
-/// A byte of a method or of a header's name.
+/// Whether a byte may be in a method or in the name of a header.
 fn is_token(byte: u8) -> bool
     ensures { result ≡ is_token_byte byte }
 {
     byte.is_ascii_alphanumeric() || b"!#$%&'*+-.^_`|~".contains(&byte)
 }
 
-/// A byte of a target.
+/// Whether a byte may be in a target.
 fn is_uri(byte: u8) -> bool
     ensures { result ≡ is_uri_byte byte }
 {
     byte > b' ' && byte != 127
 }
 
-/// A byte of a header's value.
+/// Whether a byte may be in the value of a header.
 fn is_value(byte: u8) -> bool
     ensures { result ≡ is_value_byte byte }
 {
     byte == b'\t' || (byte >= b' ' && byte != 127)
 }
 
-/// Whether each byte is one of a line end.
+/// Whether each byte is a carriage return or a line feed.
 fn are_newlines(bytes: &[u8]) -> bool
     ensures { result ≡ list_all is_newline bytes.now }
 {
@@ -54,7 +54,7 @@ fn are_newlines(bytes: &[u8]) -> bool
 }
 
 impl Place {
-    /// The place behind one byte more, where it is plain that a head may go on so.
+    /// Returns the place after one more byte, or `None` if it is not plain that a head may go on with this byte.
     fn behind(self, byte: u8) -> Option<Place>
         ensures { IfSome result (λ place. (bytes : List ℕ) → Stands self bytes → Stands place (bytes ++ byte ∷ [])) }
     {
@@ -75,7 +75,7 @@ impl Place {
         }
     }
 
-    /// The place behind more bytes, where it is plain of each.
+    /// Returns the place after more bytes, or `None` if it is not plain that a head may go on with each.
     fn behind_all(self, more: &[u8]) -> Option<Place>
         ensures { IfSome result (λ place. (bytes : List ℕ) → Stands self bytes → Stands place (bytes ++ more.now)) }
     {
@@ -87,7 +87,7 @@ impl Place {
     }
 }
 
-/// How many of the bytes held were looked at, and the part of a head that they end in.
+/// A scan: how many of the bytes held were scanned, and the part of a head in which they end.
 #[derive(Clone, Copy, Drop)]
 pub(crate) struct Looked {
     pub(crate) place: Place,
@@ -95,7 +95,8 @@ pub(crate) struct Looked {
 }
 
 impl Looked {
-    /// The same with the bytes that have come since, where no head is whole in them and one may be, plainly.
+    /// Returns the scan with the bytes that have come since, or `None` if it is not plain that no whole head begins the
+    /// bytes and more bytes may complete one.
     pub(crate) fn on(self, bytes: &[u8]) -> Option<Looked>
         requires { WasLookedAt bytes.now self }
         ensures { IfSome result (λ looked. WasLookedAt bytes.now looked × MayBeginHead bytes.now) }
@@ -111,7 +112,7 @@ impl Looked {
     }
 }
 
-/// Where the last line begins.
+/// Returns the index at which the last line begins.
 fn last_line(bytes: &[u8]) -> usize
     ensures within { result ≤ length bytes.now }
     ensures ends { EndsLine (take result bytes.now) }
@@ -123,7 +124,7 @@ fn last_line(bytes: &[u8]) -> usize
     at
 }
 
-/// The part of a head that its first lines end in.
+/// Returns the part of a head in which its first lines end.
 fn first_place(lines: &[u8]) -> Place
     ensures { (more : List ℕ) → EndsLine lines.now → MayBeginHead (lines.now ++ more) → Stands result lines.now }
 {
@@ -133,7 +134,7 @@ fn first_place(lines: &[u8]) -> Place
     Place::Line
 }
 
-/// The part that the beginning of a head ends in, where that is plain from its last line.
+/// Scans the beginning of a head. It returns `None` if the last line does not plainly show the part in which it ends.
 pub(crate) fn look(bytes: &[u8]) -> Option<Looked>
     requires { MayBeginHead bytes.now }
     ensures { IfSome result (WasLookedAt bytes.now) }

@@ -1,4 +1,4 @@
-//! The body that tells a version and its time.
+//! The JSON body of a version and its time.
 ghost use Rattle.std.specs.Prelude.{◌≡◌, IfOk, IfSome, OnOk};
 ghost use Rattle.modver.specs.SemanticVersion.{IsVersion};
 ghost use Rattle.modver.specs.Time.{IsTime};
@@ -11,7 +11,7 @@ use modver::{TimeText, Version};
 use serde_json::{Value, json};
 use std::alloc::{AllocError, Global};
 
-/// The object that tells a version and its time, where it has one.
+/// Returns the JSON object of a version and its time, if it has one. It fails only if memory runs out.
 fn info(alloc: Global, version: &Version, time: Option<TimeText>) -> Result<Value, AllocError>
     ensures told { IfOk result (λ value. view value ≡ info_object version.now time) }
     ensures valid { OnOk result (IsVersion version.now × IfSome time IsTime) }
@@ -22,8 +22,8 @@ fn info(alloc: Global, version: &Version, time: Option<TimeText>) -> Result<Valu
     }
 }
 
-/// The JSON body with a version and its time, if it has one, as `{"Version":"v1.0.0"}`. `Memory` if there is no room for
-/// it.
+/// Returns the JSON body of a version and its time, if it has one, such as `{"Version":"v1.0.0"}`. It fails only if
+/// memory runs out.
 pub fn info_body(
     alloc: Global,
     version: &Version,

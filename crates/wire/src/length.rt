@@ -4,8 +4,8 @@ ghost use Rattle.std.specs.Char.{is_ascii_digit};
 ghost use Rattle.std.specs.List.{list_all};
 ghost use Rattle.wire.specs.Length as spec;
 
-/// The number that a length value writes, which is `0` or one to ten digits without a leading zero. None for any other
-/// text.
+/// Returns the number that a length value writes, or `None` for any other text. A length value is `0` or one to ten
+/// digits without a leading zero.
 pub fn length_value(text: &[u8]) -> Option<usize>
     ensures { result ≡ spec.length_value text.now }
 {

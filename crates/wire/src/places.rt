@@ -1,4 +1,4 @@
-//! Module paths and versions as they stand in targets: in their escaped form, around `/@`.
+//! Module paths and versions in targets: in their escaped forms, before and after `/@`.
 ghost use Rattle.std.specs.Prelude.{◌≡◌, None, Some, IfOk, MatchOption, option_map};
 ghost use Rattle.std.specs.Cow.{cow_str_bytes};
 ghost use Rattle.std.specs.List.{list_all};
@@ -17,7 +17,7 @@ pub(crate) struct Place {
     pub(crate) version: Version,
 }
 
-/// A text around the first of these bytes in it.
+/// Returns the texts before and after the first `byte` in a text, or `None` if there is none.
 #[tactic(auto, unfolding(crate::specs::Place::around))]
 fn split_at_byte(text: &[u8], byte: u8) -> Option<(&[u8], &[u8])>
     ensures { MatchOption result (around byte text.now ≡ None) (λ parts. around byte text.now ≡ Some (parts.0.now, parts.1.now)) }
@@ -26,7 +26,7 @@ fn split_at_byte(text: &[u8], byte: u8) -> Option<(&[u8], &[u8])>
     Some((&text[..at], &text[at + 1..]))
 }
 
-/// What stands before and behind `/@`.
+/// Returns the texts before and after `/@`, or `None` if the text has no `@` or no slash directly before the first one.
 /// It cuts at the first `@`, because no module path contains one.
 #[tactic(auto, unfolding(crate::specs::Place::cut_of))]
 pub(crate) fn cut(text: &[u8]) -> Option<(&[u8], &[u8])>
@@ -37,7 +37,8 @@ pub(crate) fn cut(text: &[u8]) -> Option<(&[u8], &[u8])>
     Some((path, back))
 }
 
-/// The module path and the version around `/@v/`.
+/// Returns the module path before `/@v/` and the version after it, or `None` if the text does not have this form. It
+/// fails only if memory runs out.
 #[tactic(auto, unfolding(crate::specs::Place::place_of))]
 pub(crate) fn read_place(alloc: Global, text: &[u8]) -> Result<Option<Place>, Memory>
     ensures { IfOk result (λ found. found ≡ place_of text.now) }
@@ -57,7 +58,8 @@ pub(crate) fn read_place(alloc: Global, text: &[u8]) -> Result<Option<Place>, Me
     Ok(Some(Place { path, version }))
 }
 
-/// The module path whose escaped form the bytes are.
+/// Returns the module path whose escaped form the bytes are, or `None` if there is none. It fails only if memory runs
+/// out.
 pub(crate) fn read_path(alloc: Global, bytes: &[u8]) -> Result<Option<ModulePath>, Memory>
     ensures { IfOk result (λ found. found ≡ path_of bytes.now) }
 {
@@ -71,7 +73,7 @@ pub(crate) fn read_path(alloc: Global, bytes: &[u8]) -> Result<Option<ModulePath
     }
 }
 
-/// The version whose escaped form the bytes are.
+/// Returns the version whose escaped form the bytes are, or `None` if there is none. It fails only if memory runs out.
 pub(crate) fn read_version(alloc: Global, bytes: &[u8]) -> Result<Option<Version>, Memory>
     ensures { IfOk result (λ found. found ≡ version_from bytes.now) }
 {
@@ -87,7 +89,8 @@ pub(crate) fn read_version(alloc: Global, bytes: &[u8]) -> Result<Option<Version
     }
 }
 
-/// The text whose escaped form the bytes are: the bytes as they stand where each stands for itself, and else put together anew.
+/// Returns the text whose escaped form the bytes are, or `None` if there is none. If each byte is its own escaped form,
+/// the text is borrowed; otherwise it is a new string. It fails only if memory runs out.
 fn read_plain(alloc: Global, bytes: &[u8]) -> Result<Option<CowStr<'_>>, Memory>
     ensures { IfOk result (λ found. option_map cow_str_bytes found ≡ plain_of bytes.now) }
 {
@@ -105,7 +108,7 @@ fn read_plain(alloc: Global, bytes: &[u8]) -> Result<Option<CowStr<'_>>, Memory>
     }
 }
 
-/// Whether each byte stands for itself in the escaped form: none is a `!` or an upper-case letter.
+/// Whether each byte is its own escaped form: none is a `!` or an upper-case letter.
 fn stand_for_themselves(bytes: &[u8]) -> bool
     ensures { result ≡ list_all stands_for_itself bytes.now }
 {

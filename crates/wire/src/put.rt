@@ -1,4 +1,4 @@
-//! Writing replies: into buffers on the stack, which takes no memory, and heads into memory.
+//! Writes replies into buffers on the stack, which takes no memory, and heads into memory.
 ghost use Rattle.std.specs.Prelude.{◌≡◌, ◌+◌, ◌≤◌, ◌++◌, length, take, IfOk};
 ghost use Rattle.wire.specs.Reply.{phrase, head_with, head_bytes, fixed_text, fixed_bytes, line_bytes};
 
@@ -8,8 +8,8 @@ use http::StatusCode;
 use itoa::Buffer;
 use std::alloc::Global;
 
-/// The head of a reply whose body has that many bytes, with the empty line that ends it (RFC 9112, sections 4 and 5).
-/// `Memory` where there is no room for it.
+/// Returns the head of a reply whose body has `len` bytes, with the empty line that ends it (RFC 9112, sections 4 and
+/// 5). It fails only if memory runs out.
 pub fn reply_head(
     alloc: Global,
     status: StatusCode,
@@ -28,7 +28,7 @@ pub fn reply_head(
     Ok(text.into_bytes())
 }
 
-/// Puts the head of a 200 whose body has that many bytes at the front of the buffer, and returns the head's length.
+/// Writes the head of a 200 whose body has `len` bytes to the front of the buffer, and returns the length of the head.
 #[tactic(auto, unfolding(crate::specs::Reply::phrase))]
 pub fn put_head(kind: Kind, len: usize, buf: &mut [u8; 160]) -> usize
     ensures text { take result buf.new ≡ head_bytes 200 kind len }
@@ -38,7 +38,7 @@ pub fn put_head(kind: Kind, len: usize, buf: &mut [u8; 160]) -> usize
     put_head_with(StatusCode::OK, kind, digits.format(len).as_bytes(), buf)
 }
 
-/// Puts the whole reply at the front of the buffer, and returns its length.
+/// Writes the whole reply to the front of the buffer, and returns its length.
 pub fn fixed(answer: Fixed, buf: &mut [u8; 160]) -> usize
     ensures text { take result buf.new ≡ fixed_bytes answer }
     ensures short { result ≤ 160 }
@@ -56,7 +56,7 @@ pub fn fixed(answer: Fixed, buf: &mut [u8; 160]) -> usize
     put(buf, at, &body[..len])
 }
 
-/// Puts the number of the status, a space and the fixed body without its newline at the front of the buffer, as
+/// Writes the number of the status, a space and the fixed body without its newline to the front of the buffer, such as
 /// `422 bad-time`, and returns their length.
 pub fn fixed_line(answer: Fixed, buf: &mut [u8; 40]) -> usize
     ensures text { take result buf.new ≡ line_bytes answer }
@@ -67,7 +67,7 @@ pub fn fixed_line(answer: Fixed, buf: &mut [u8; 40]) -> usize
     put_text(answer, buf, at)
 }
 
-/// Puts a text into the buffer, and answers where it ends.
+/// Writes a text to the buffer at `at`, and returns the index after it.
 fn put(buf: &mut [u8], at: usize, text: &[u8]) -> usize
     requires { at + length text.now ≤ length buf.old }
     ensures end { result ≡ at + length text.now }
@@ -78,7 +78,7 @@ fn put(buf: &mut [u8], at: usize, text: &[u8]) -> usize
     end
 }
 
-/// Puts a head with these digits as the length at the front of the buffer, and answers the head's length.
+/// Writes a head with these digits as the length to the front of the buffer, and returns the length of the head.
 fn put_head_with(status: StatusCode, kind: Kind, digits: &[u8], buf: &mut [u8]) -> usize
     requires phrase { length (phrase status) ≤ 20 }
     requires room { 115 + length digits.now ≤ length buf.old }
@@ -96,7 +96,7 @@ fn put_head_with(status: StatusCode, kind: Kind, digits: &[u8], buf: &mut [u8]) 
     put(buf, at, b"\r\nConnection: close\r\n\r\n")
 }
 
-/// Puts a fixed body without its newline into the buffer, and answers where it ends.
+/// Writes a fixed body without its newline to the buffer at `at`, and returns the index after it.
 fn put_text(answer: Fixed, buf: &mut [u8], at: usize) -> usize
     requires { at + 30 ≤ length buf.old }
     ensures text { take result buf.new ≡ take at buf.old ++ fixed_text answer }
@@ -122,7 +122,7 @@ fn put_text(answer: Fixed, buf: &mut [u8], at: usize) -> usize
     }
 }
 
-/// Puts `bad-gomod` and the line into the buffer, and answers where they end.
+/// Writes `bad-gomod` and the line to the buffer at `at`, and returns the index after them.
 fn put_bad_gomod(line: u64, buf: &mut [u8], at: usize) -> usize
     requires { at + 30 ≤ length buf.old }
     ensures text { take result buf.new ≡ take at buf.old ++ fixed_text (Fixed.BadGoMod line) }

@@ -14,7 +14,7 @@ use percent_encoding::percent_decode;
 use std::alloc::Global;
 use std::borrow::CowSlice;
 
-/// A part of a version, which the ending of a name asks for.
+/// A part of a version, for which the ending of a name asks.
 #[derive(Clone, Copy, Drop)]
 pub(crate) enum Part {
     Info,
@@ -22,14 +22,14 @@ pub(crate) enum Part {
     Zip,
 }
 
-/// A rest, percent-decoded once; one without an escape is not copied.
+/// Returns a rest, percent-decoded once. A rest without an escape is borrowed. It fails only if memory runs out.
 pub(crate) fn decoded(alloc: Global, rest: &str) -> Result<CowSlice<'_, u8, Global>, Memory>
     ensures { IfOk result (λ text. cow_slice_items text ≡ percent_decoded rest.now) }
 {
     Ok(percent_decode(rest.as_bytes()).into_cow(alloc)?)
 }
 
-/// What a GET asks for in an area.
+/// Returns what a GET asks for in an area, or `None` if the rest is unreadable. It fails only if memory runs out.
 pub(crate) fn read_query(alloc: Global, area: Area, rest: &str) -> Result<Option<Query>, Memory>
     ensures { IfOk result (λ found. found ≡ spec.query_in area rest.now) }
 {
@@ -40,7 +40,7 @@ pub(crate) fn read_query(alloc: Global, area: Area, rest: &str) -> Result<Option
     }
 }
 
-/// What is asked of the shelf itself.
+/// Returns what a text asks of the shelf itself, or `None` if it is unreadable. It fails only if memory runs out.
 fn read_own(alloc: Global, text: &[u8]) -> Result<Option<Query>, Memory>
     ensures { IfOk result (λ found. found ≡ spec.own_of text.now) }
 {
@@ -53,7 +53,8 @@ fn read_own(alloc: Global, text: &[u8]) -> Result<Option<Query>, Memory>
     }
 }
 
-/// The query for the go.sum line of the version at a place.
+/// Returns the query for the go.sum line of the version that a text names, or `None` if it names none. It fails only if
+/// memory runs out.
 fn read_summed(alloc: Global, text: &[u8]) -> Result<Option<Query>, Memory>
     ensures { IfOk result (λ found. found ≡ spec.summed_of text.now) }
 {
@@ -63,7 +64,7 @@ fn read_summed(alloc: Global, text: &[u8]) -> Result<Option<Query>, Memory>
     }
 }
 
-/// What is asked of a module path.
+/// Returns what a text asks of a module path, or `None` if it is unreadable. It fails only if memory runs out.
 #[tactic(auto, unfolding(crate::specs::Query::asked_of))]
 fn read_asked(alloc: Global, text: &[u8]) -> Result<Option<Query>, Memory>
     ensures { IfOk result (λ found. found ≡ spec.asked_of text.now) }
@@ -81,7 +82,7 @@ fn read_asked(alloc: Global, text: &[u8]) -> Result<Option<Query>, Memory>
     }
 }
 
-/// What is asked of a version.
+/// Returns what is asked of a version of the path, or `None` if `asked` is unreadable. It fails only if memory runs out.
 fn read_part(alloc: Global, path: ModulePath, asked: &[u8]) -> Result<Option<Query>, Memory>
     ensures { IfOk result (λ found. found ≡ spec.part_of path asked.now) }
 {
@@ -94,7 +95,8 @@ fn read_part(alloc: Global, path: ModulePath, asked: &[u8]) -> Result<Option<Que
     Ok(Some(query_for(part, path, version)))
 }
 
-/// A name behind `v/` without its last ending, and the part of a version that the ending asks for.
+/// Returns the name after `v/` without its last ending, and the part of a version for which the ending asks, or `None`
+/// for any other text.
 fn split_part(asked: &[u8]) -> Option<(&[u8], Part)>
     ensures { MatchOption result (spec.split_part asked.now ≡ None) (λ found. spec.split_part asked.now ≡ Some (found.0.now, found.1)) }
 {
@@ -109,7 +111,7 @@ fn split_part(asked: &[u8]) -> Option<(&[u8], Part)>
     Some((version, Part::Zip))
 }
 
-/// The query for a part of a version.
+/// Returns the query for a part of a version.
 fn query_for(part: Part, path: ModulePath, version: Version) -> Query
     ensures { result ≡ spec.query_for part path version }
 {

@@ -1,10 +1,10 @@
-//! Replies: their statuses, the kinds of their bodies, and those whose body is fixed.
+//! Replies: their statuses, the kinds of their bodies, and the replies whose body is fixed.
 ghost use Rattle.std.specs.Prelude.{◌≡◌, ◌≤◌, length};
 ghost use Rattle.wire.specs.Reply.{kind_text, fixed_status, phrase};
 
 pub use http::StatusCode;
 
-/// The phrase of a status, as a status line has it (RFC 9112, section 4); none is the empty one.
+/// Returns the phrase of a status in a status line (RFC 9112, section 4), which is empty if the status has none.
 #[tactic(auto, unfolding(crate::specs::Reply::phrase))]
 pub(crate) fn phrase_of(status: StatusCode) -> &'static str
     ensures { result.now ≡ phrase status }
@@ -12,7 +12,7 @@ pub(crate) fn phrase_of(status: StatusCode) -> &'static str
     status.canonical_reason().unwrap_or("")
 }
 
-/// What a body is: the value of `Content-Type`.
+/// The kind of a body: the value of `Content-Type`.
 #[derive(Clone, Copy, Debug, Drop, PartialEq, Eq)]
 pub enum Kind {
     /// `text/plain; charset=utf-8`
@@ -23,7 +23,7 @@ pub enum Kind {
     Zip,
 }
 
-/// A reply whose bytes are fixed, but for the line of `BadGoMod`.
+/// A reply whose bytes are fixed, except for the line of `BadGoMod`.
 #[derive(Clone, Copy, Debug, Drop, PartialEq, Eq)]
 pub enum Fixed {
     AlreadyPublished,
@@ -37,7 +37,7 @@ pub enum Fixed {
     MajorMismatch,
     BadTime,
     TimeMismatch,
-    /// A go.mod that does not read, with the line of its fault; 0 where the fault has none.
+    /// A go.mod that cannot be read, with the line of its fault, or 0 if the fault has none.
     BadGoMod(u64),
     ModulePath,
     IncompatibleGoMod,

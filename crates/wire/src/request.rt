@@ -3,8 +3,9 @@ use modpath::ModulePath;
 use modver::Version;
 use text::Text;
 
-/// What the target of a GET names. It is not `Query` of the crate `shelf`, which is what the machine is asked: a go.sum line is a case
-/// of this one alone, since the machine is asked for the go.mod, and `wire` knows of no machine. `engine` makes that one of this.
+/// What the target of a GET names. The `Query` of the crate `shelf` is another type, which the machine answers: `wire`
+/// knows no machine, and a go.sum line is a case of this type alone, since it is the go.mod that the machine returns.
+/// `engine` converts this type into that one.
 #[derive(Drop)]
 pub enum Query {
     /// A version with its time.

@@ -7,16 +7,16 @@ use crate::message::Memory;
 use matchit::{InsertError, Router};
 use std::alloc::Global;
 
-/// What the rest of a target is asked of.
+/// What the rest of a target asks about.
 #[derive(Clone, Copy, Drop)]
 pub(crate) enum Area {
-    /// The shelf itself: the rest stands behind a plain `-/`.
+    /// The shelf itself: the rest follows a plain `-/`.
     Shelf,
     /// A module path.
     Path,
 }
 
-/// A target by its route.
+/// A target, split by its route.
 #[derive(Clone, Copy, Drop)]
 pub(crate) struct Routed<'t> {
     pub(crate) area: Area,
@@ -24,8 +24,8 @@ pub(crate) struct Routed<'t> {
     pub(crate) rest: &'t str,
 }
 
-/// The router of targets, which is made at the first of them and kept for those that follow; where there was no memory for it,
-/// the next target makes it anew.
+/// The router of targets. The first target makes it, and later ones reuse it. If memory ran out, the next target makes
+/// it again.
 #[derive(Drop)]
 pub struct RouteTable {
     alloc: Global,
@@ -33,7 +33,7 @@ pub struct RouteTable {
     ghost both: { ForSome router (λ router. router ≡ spec.routes) },
 }
 
-/// The router of both routes. They do not conflict, so only memory can be refused.
+/// Returns the router of both routes. They do not conflict, so it fails only if memory runs out.
 fn both_routes(alloc: Global) -> Result<Router<Area>, InsertError>
     ensures ok { IfOk result (λ routes. routes ≡ spec.routes) }
     ensures memory { IfErr result (λ e. e ≡ InsertError.OutOfMemory) }
@@ -45,7 +45,7 @@ fn both_routes(alloc: Global) -> Result<Router<Area>, InsertError>
 }
 
 impl RouteTable {
-    /// A table whose router is still to be made. It takes no memory yet.
+    /// Returns a table whose router is still to be made. It takes no memory yet.
     pub fn new(alloc: Global) -> RouteTable {
         RouteTable {
             alloc,
@@ -58,8 +58,8 @@ impl RouteTable {
         self.alloc
     }
 
-    /// A target by its route, if it has one.
-    /// The key is all up to the next slash, as it is. A malformed key is in no world, so it is an unknown one.
+    /// Returns a target, split by its route, or `None` if it has no route. It fails only if memory runs out.
+    /// The key is all bytes up to the next slash, unchanged. No world has a malformed key, so it is an unknown key.
     pub(crate) fn route_of<'t>(&mut self, target: &'t str) -> Result<Option<Routed<'t>>, Memory>
         ensures { IfOk result (λ found. MatchOption found (spec.routed_of target.now ≡ None)
             (λ r. spec.routed_of target.now ≡ Some (r.area, r.key.now, r.rest.now))) }
@@ -74,7 +74,7 @@ impl RouteTable {
     }
 }
 
-/// The router, or the one reason why there is none.
+/// Returns the router of both routes. It fails only if memory runs out.
 fn made_router(alloc: Global) -> Result<Router<Area>, Memory>
     ensures { IfOk result (λ routes. routes ≡ spec.routes) }
 {
@@ -84,7 +84,7 @@ fn made_router(alloc: Global) -> Result<Router<Area>, Memory>
     }
 }
 
-/// The area, the key and the rest of a target, by the router.
+/// Returns the area, the key and the rest of a target, or `None` if it has no route.
 fn split<'t>(routes: &Router<Area>, target: &'t str) -> Option<Routed<'t>>
     requires { routes.now ≡ spec.routes }
     ensures { MatchOption result (spec.routed_of target.now ≡ None)

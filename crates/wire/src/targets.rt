@@ -1,4 +1,4 @@
-//! Reading targets.
+//! Reads targets.
 ghost use Rattle.std.specs.Prelude.{◌≡◌, IfOk};
 ghost use Rattle.wire.specs.Query.{query_in};
 ghost use Rattle.wire.specs.Route.{routed_of};
@@ -12,9 +12,9 @@ use crate::routes::{Area, RouteTable, Routed};
 use std::alloc::Global;
 use text::Text;
 
-/// What a request with this method and this target asks for; both are compared as they stand. The target need not be
-/// UTF-8: one that is not, or decodes to bytes that are not, is unreadable. `Memory` where there is no room for the parts
-/// of a target or for the routes, and then nothing is said of it.
+/// Returns what a request with this method and this target asks for; both are compared byte for byte. A target that is
+/// not UTF-8, or decodes to bytes that are not, is unreadable. It fails with `Memory`, which says nothing about the
+/// target, if there is no room for the parts of the target or for the routes.
 pub fn target(table: &mut RouteTable, method: &[u8], target: &[u8]) -> Result<Target, Memory>
     ensures value { IfOk result (λ asked. asked ≡ target_of method.now target.now) }
     ensures reads { IfOk result (ReadsTarget method.now target.now) }
@@ -22,7 +22,7 @@ pub fn target(table: &mut RouteTable, method: &[u8], target: &[u8]) -> Result<Ta
     read_target(table, method, target)
 }
 
-/// Computes what a request asks for.
+/// Computes what a request asks for. It fails only if memory runs out.
 fn read_target(table: &mut RouteTable, method: &[u8], target: &[u8]) -> Result<Target, Memory>
     ensures { IfOk result (λ asked. asked ≡ target_of method.now target.now) }
 {
@@ -32,7 +32,7 @@ fn read_target(table: &mut RouteTable, method: &[u8], target: &[u8]) -> Result<T
     }
 }
 
-/// What a request with this method asks for by a target that is text.
+/// Returns what a request with this method asks for by a target that is text. It fails only if memory runs out.
 /// Methods are compared as text: `http::Method` allocates for more than 15 bytes, so a 404 could become a 503.
 fn read_text(table: &mut RouteTable, method: &[u8], text: &str) -> Result<Target, Memory>
     ensures { IfOk result (λ asked. asked ≡ asked_or method.now (routed_of text.now)) }
@@ -48,7 +48,7 @@ fn read_text(table: &mut RouteTable, method: &[u8], text: &str) -> Result<Target
     }
 }
 
-/// What a GET asks for by its route.
+/// Returns what a GET asks for by its route. It fails only if memory runs out.
 fn get(alloc: Global, route: Routed<'_>) -> Result<Target, Memory>
     ensures { IfOk result (λ asked. asked ≡ get_of route.entry.key.now (query_in route.entry.area route.entry.rest.now)) }
 {
@@ -61,7 +61,7 @@ fn get(alloc: Global, route: Routed<'_>) -> Result<Target, Memory>
     }
 }
 
-/// What a PUT asks for by its route: a publish to a module path.
+/// Returns what a PUT asks for by its route: a publish to a module path. It fails only if memory runs out.
 fn put(alloc: Global, route: Routed<'_>) -> Result<Target, Memory>
     ensures { IfOk result (λ asked. asked ≡ put_of route.entry.key.now (place_in route.entry.area route.entry.rest.now)) }
 {

@@ -1,14 +1,15 @@
-//! Messages out of a stream. (RFC 9112.)
+//! Messages of streams. (RFC 9112.)
 use crate::rows::{Subject, bytes, column, named, on_one_line, wrong_row};
 use std::alloc::{AllocError, Global};
 use std::test::Fail;
 use wire::{Bad, Framer, Memory, Message, Next, length_value};
 
-/// - `length`: the text of a header, and the number that it writes; `-` for none.
-/// - `stream`: a stream, its messages however it is cut, each with its body behind `+`, and how it ends: `empty`, 400, 413, or `more` and
-///   how many bytes of a body are missing.
-/// - `last`: a stream, what it gives without its last byte, and then what it gives with it. The second column is repeated as often as
-///   the third says, and shown as `*`; the fourth follows. A head has at most 64 headers and 16,384 bytes.
+/// - `length`: the text of a header, and the number that it writes, or `-` if it writes none.
+/// - `stream`: a stream, its messages however it is cut, each with its body after `+`, and how it ends: `empty`, 400, 413, or `more`
+///   and how many bytes of a body are missing.
+/// - `last`: a stream, its messages and end without its last byte, and then those with it. The stream repeats the second column as
+///   often as the third says, and the fourth follows; the result shows the repeated part as `*`. A head has at most 64 headers and
+///   16,384 bytes.
 const ROWS: &str = "\
 length|0|0
 length|1|1
@@ -86,7 +87,7 @@ last|PUT /a HTTP/1.1\r;Content-Length: 5000\r;\r;|more 0 then more 5000
 last|PUT /a HTTP/1.1\r;Content-Length: 5000\r;\r;|x|5000|GET /b HTTP/1.1\r;\r;|PUT /a + * more 0 then PUT /a + * GET /b +  empty
 ";
 
-/// Puts these words behind the text, with a space behind each.
+/// Appends the words to the text, each with a space after it.
 fn put_words(text: &mut Vec<u8>, words: &[&[u8]]) -> Result<(), AllocError> {
     for word in words {
         text.extend_from_slice(word)?;
@@ -95,7 +96,7 @@ fn put_words(text: &mut Vec<u8>, words: &[&[u8]]) -> Result<(), AllocError> {
     Ok(())
 }
 
-/// Puts the values of the headers of this name behind the text.
+/// Appends the values of the headers of this name to the text, each after the name.
 fn put_values(text: &mut Vec<u8>, name: &[u8], values: &[Vec<u8>]) -> Result<(), AllocError> {
     for value in values {
         put_words(text, &[name, value.as_slice()])?;
@@ -103,7 +104,7 @@ fn put_values(text: &mut Vec<u8>, name: &[u8], values: &[Vec<u8>]) -> Result<(),
     Ok(())
 }
 
-/// Puts a message behind the text: its method, target, lengths and times, and its body behind a `+`.
+/// Appends a message to the text: its method, target, lengths and times, and its body after a `+`.
 fn put_message(text: &mut Vec<u8>, message: &Message) -> Result<(), AllocError> {
     put_words(
         text,
@@ -114,7 +115,7 @@ fn put_message(text: &mut Vec<u8>, message: &Message) -> Result<(), AllocError> 
     put_words(text, &[b"+", message.body.as_slice()])
 }
 
-/// Puts the messages that are whole behind the text, and returns what follows them.
+/// Appends the messages that are whole to the text, and returns what follows them.
 fn take(framer: &mut Framer, text: &mut Vec<u8>) -> Result<&'static str, Memory> {
     for _ in 0..8u8 {
         match framer.next()? {
@@ -127,7 +128,7 @@ fn take(framer: &mut Framer, text: &mut Vec<u8>) -> Result<&'static str, Memory>
     Ok("more than 8 messages")
 }
 
-/// The messages of a stream and how it ends. The front comes in one piece, and the back in pieces of `step` bytes.
+/// Returns the messages of a stream and how it ends. The front comes in one piece, and the back in pieces of `step` bytes.
 fn handed_out(alloc: Global, front: &[u8], back: &[u8], step: usize) -> Result<Vec<u8>, Memory> {
     let mut framer = Framer::new(alloc);
     let mut text = Vec::new(alloc);
@@ -146,8 +147,8 @@ fn handed_out(alloc: Global, front: &[u8], back: &[u8], step: usize) -> Result<V
     Ok(text)
 }
 
-/// What a stream gives in one piece. It must give the same if it is cut in two at any of the first `places` bytes, and if the bytes
-/// after the cut come one by one.
+/// Returns the messages and the end of a stream in one piece. They must not change if the stream is cut in two at any of the first
+/// `places` bytes, nor if the bytes after the cut come one by one; otherwise it returns `the cut matters`.
 fn however_cut(alloc: Global, stream: &[u8], places: usize) -> Result<Vec<u8>, Memory> {
     let whole = handed_out(alloc, stream, b"", 1)?;
     for cut in 0..places.min(stream.len()) {
@@ -161,7 +162,7 @@ fn however_cut(alloc: Global, stream: &[u8], places: usize) -> Result<Vec<u8>, M
     Ok(whole)
 }
 
-/// What a stream gives without its last byte, and with it, in one piece and byte by byte.
+/// Returns the messages and the end of a stream without its last byte, and then with it, in one piece and byte by byte.
 fn at_the_last_byte(alloc: Global, stream: &[u8]) -> Result<Vec<u8>, Memory> {
     let (front, _) = stream.split_at(stream.len().saturating_sub(1));
     let mut text = however_cut(alloc, front, 1)?;
@@ -170,7 +171,7 @@ fn at_the_last_byte(alloc: Global, stream: &[u8]) -> Result<Vec<u8>, Memory> {
     Ok(text)
 }
 
-/// What the call of a row returns.
+/// Makes the call of a row, and returns its result as a text.
 pub fn given(alloc: Global, row: &str) -> Result<String, Fail> {
     let times = column(row, 3).parse::<usize>().unwrap_or(1);
     let filling = column(row, 2).repeat(alloc, times)?;

@@ -1,12 +1,12 @@
-//! Which texts read as go.mod files, and the faults of the others. (Go Modules Reference, "go.mod files".)
+//! Which texts can be read as go.mod files, and the faults of the others. (Go Modules Reference, "go.mod files".)
 use crate::rows::{Subject, bytes, column, wrong_row};
 use gomod::{GoMod, GoModFault};
 use std::alloc::{AllocError, Global};
 use std::test::Fail;
 
-/// - `read`: a text, and its first fault as a go.mod; otherwise `bare` if its module directive stands alone, and `more` if not.
+/// - `read`: a text, and its first fault as a go.mod; if it has none, `bare` if module is its only directive, and otherwise `more`.
 /// - `line`: a text, and the line of its fault.
-/// - `parentheses`: what follows 100,000 opening parentheses, and the fault.
+/// - `parentheses`: the text after 100,000 opening parentheses, and the fault of the whole.
 const ROWS: &str = "\
 read||NoModule
 read|module example.com/a;retract [v1.1.0, v1.0.0];|Interval(2)
@@ -130,7 +130,7 @@ parentheses||Grammar(1)
 parentheses|{|Lex(1)
 ";
 
-/// What a text is as a go.mod.
+/// Returns `bare` or `more` for a text that can be read as a go.mod, and its fault for any other.
 fn read(alloc: Global, text: &[u8]) -> Result<String, AllocError> {
     match GoMod::read(alloc, text) {
         Ok(module) if module.is_bare() => String::from_str(alloc, "bare"),
@@ -139,13 +139,13 @@ fn read(alloc: Global, text: &[u8]) -> Result<String, AllocError> {
     }
 }
 
-/// The line of the fault of a text.
+/// Returns the line of the fault of a text.
 fn line(alloc: Global, text: &[u8]) -> Result<String, AllocError> {
     let fault = GoMod::read(alloc, text).err();
     format!(in alloc; "{}", fault.unwrap_or(GoModFault::Memory).line())
 }
 
-/// What the call of a row returns.
+/// Makes the call of a row, and returns its result as a text.
 pub fn given(alloc: Global, row: &str) -> Result<String, AllocError> {
     let mut text = bytes(alloc, column(row, 1))?;
     match column(row, 0) {

@@ -5,15 +5,15 @@ use modver::{Version, VersionFault};
 use std::alloc::{AllocError, Global};
 use std::test::Fail;
 
-/// How a file with many intervals begins.
+/// The beginning of a file with many intervals.
 const MANY: &str = "\
 example.com/many||v1.0.0 v1.0.5 v1.7.3 v1.149.0 v1.150.5 v1.298.0 v1.299.1-rc.1 v1.299.5|v1.0.0-rc.1 v1.0.6 v1.7.6 v1.8.0-rc.1 v1.149.6 v1.298.7 v1.299.6 v1.300.0
 module example.com/many
 retract (
 ";
 
-/// Files, with `====` between them. The first line says of the file below it: the module's path; what it requires; versions that it
-/// retracts; and versions that it does not.
+/// Files, with `====` between them. The first line has what the file below it says: the path of the module; what it requires; some
+/// versions that it retracts; and some that it does not.
 const FILES: &str = "\
 example.com/a||v1.0.5 v1.1.0-rc.1 v1.1.0|v1.0.5-rc.1 v1.1.1
 module example.com/a
@@ -257,7 +257,7 @@ go 1.9.2\r
 require (\r
 )";
 
-/// What a file requires, as words.
+/// Returns what a file requires, as words.
 fn required(alloc: Global, module: &GoMod) -> Result<String, AllocError> {
     let mut words = String::new(alloc);
     for requirement in module.required() {
@@ -269,7 +269,7 @@ fn required(alloc: Global, module: &GoMod) -> Result<String, AllocError> {
     Ok(words)
 }
 
-/// Whether a file retracts each of these versions, or none.
+/// Whether a file retracts every one of these versions if `each`, and otherwise none of them.
 fn retracts(alloc: Global, module: &GoMod, texts: &str, each: bool) -> Result<bool, VersionFault> {
     for text in texts.split_whitespace() {
         if module.retracts(&Version::parse(alloc, text)?) != each {
@@ -290,7 +290,7 @@ fn says(alloc: Global, said: &str, text: &str) -> Result<bool, Fail> {
     )
 }
 
-/// A file whose go.mod retracts the first patches of 300 minor versions, the last version first.
+/// Returns a file that retracts patches 0 to 5 of 300 minor versions, the last minor version first.
 fn with_retractions(alloc: Global) -> Result<String, AllocError> {
     let mut text = String::from_str(alloc, MANY)?;
     for minor in (0..300u32).rev() {
@@ -301,7 +301,7 @@ fn with_retractions(alloc: Global) -> Result<String, AllocError> {
     Ok(text)
 }
 
-/// The first line of the first file that does not say what it should; empty if there is none.
+/// Returns the first line of the first file that does not say what its first line says, empty if there is no such file.
 fn wrong_file<'a>(alloc: Global, files: &'a str) -> Result<&'a str, Fail> {
     for file in files.split("====\n") {
         let (said, text) = file.split_once('\n').ok_or("a file of one line")?;

@@ -16,7 +16,7 @@ hash|\u{0}ÿ|h1:/66P85L8BekpLj/oChmaHmVoS1SwEuBPpBSZ2Nbp/9w=
 line|module example.com/lib;|example.com/lib v1.0.0/go.mod h1:4OAnUP7RpKJ0hg7ydNi+A/luktLxx7xSrw0c+FeAtlc=
 ";
 
-/// The hash, or the line, of the go.mod of a row.
+/// Returns the hash, or the go.sum line, of the go.mod of a row.
 pub fn given(alloc: Global, row: &str) -> Result<String, Fail> {
     let gomod = bytes(alloc, column(row, 1))?;
     if column(row, 0) == "hash" {

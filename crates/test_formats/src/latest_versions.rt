@@ -5,8 +5,8 @@ use latest::{latest, top};
 use std::alloc::Global;
 use std::test::Fail;
 
-/// - `top`: versions, and the place of the highest; `-` for none.
-/// - `latest`: versions, a go.mod, and the place of the highest that it does not retract; `-` for none.
+/// - `top`: versions, and the index of the highest, or `-` if there is none.
+/// - `latest`: versions, a go.mod, and the index of the highest that it does not retract, or `-` if there is none.
 const ROWS: &str = "\
 top||-
 top|v1.0.0-rc.10 v1.0.0 v1.0.0-rc.2|1
@@ -23,7 +23,7 @@ latest|v1.0.0 v1.0.1 v1.1.0-rc.1|module example.com/rg;retract v1.0.1;retract [v
 latest||module example.com/a;|-
 ";
 
-/// The place that a row names.
+/// Returns the index that the call of a row returns.
 pub fn given(alloc: Global, row: &str) -> Result<String, Fail> {
     let list = versions_of(alloc, column(row, 1))?;
     if column(row, 0) == "top" {

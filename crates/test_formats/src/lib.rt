@@ -1,4 +1,4 @@
-//! The worked rows of what shelves are made of: module paths, versions, go.mod files, the latest version, go.sum lines, and the
+//! Worked rows for the formats below the shelves: module paths, versions, go.mod files, the latest version, go.sum lines, and the
 //! messages and replies of HTTP/1.1.
 //!
 //! Each table is one text whose lines are rows, and `rows::wrong_row` returns the first row that does not hold. At least one row calls
@@ -10,8 +10,8 @@
 //! | `module_paths` | `modpath` | module paths, loose paths, their suffixes and faults; escaped forms |
 //! | `versions` | `modver` | versions, their classes and faults; times; copies; the paths that a version fits |
 //! | `orders` | `modver` | precedence and rank, each list compared with each of its versions; keys byte by byte |
-//! | `tokens` | `modlex` | tokens of texts and lines, what they stand for, and faults |
-//! | `gomod_faults` | `gomod` | what reads as a go.mod, what is bare, and the first fault of the others |
+//! | `tokens` | `modlex` | tokens of texts and lines, their values, and faults |
+//! | `gomod_faults` | `gomod` | what can be read as a go.mod, what is bare, and the first fault of the others |
 //! | `gomod_files` | `gomod` | what whole files require and retract |
 //! | `latest_versions` | `latest` | the highest version, and the latest |
 //! | `hashes` | `gosum` | hashes and go.sum lines |

@@ -89,7 +89,7 @@ unescape|example.com/!1|Bang
 unescape|!é|Bang
 ";
 
-/// The suffix of a module path, or the fault of its text; `-` if `check` and `ModulePath::parse` differ.
+/// Returns the suffix of a module path, or the fault of its text, or `-` if `check` and `ModulePath::parse` disagree.
 fn path(alloc: Global, text: &str) -> Result<String, AllocError> {
     let checked = check(text).err();
     match ModulePath::parse(alloc, text) {
@@ -109,7 +109,7 @@ fn path(alloc: Global, text: &str) -> Result<String, AllocError> {
     }
 }
 
-/// The suffix of a loose path, or the fault of its text; `-` if `check_loose` and `LoosePath::parse` differ.
+/// Returns the suffix of a loose path, or the fault of its text, or `-` if `check_loose` and `LoosePath::parse` disagree.
 fn loose(alloc: Global, text: &str) -> Result<String, AllocError> {
     let checked = check_loose(text).err();
     match LoosePath::parse(alloc, text) {
@@ -136,7 +136,7 @@ fn loose(alloc: Global, text: &str) -> Result<String, AllocError> {
     }
 }
 
-/// What an escaped form stands for, or its fault.
+/// Returns the text whose escaped form this is, or the fault of the escaped form.
 fn unescaped(alloc: Global, text: &str) -> Result<String, AllocError> {
     match unescape(alloc, text) {
         Ok(plain) => Ok(plain),
@@ -144,7 +144,7 @@ fn unescaped(alloc: Global, text: &str) -> Result<String, AllocError> {
     }
 }
 
-/// What the call of a row returns.
+/// Makes the call of a row, and returns its result as a text.
 pub fn given(alloc: Global, row: &str) -> Result<String, AllocError> {
     let text = column(row, 1);
     match column(row, 0) {

@@ -9,9 +9,9 @@ use std::test::Fail;
 /// - `precedence` and `rank`: versions in ascending order.
 /// - `equal`: versions of one precedence.
 ///
-/// Each version is compared with each, and so are their keys. The first list is the standard's. The next show numbers of any length,
-/// and each part of an order key: the numbers byte by byte, the kind of an identifier, its digits, its letters, where it ends, whether
-/// more follow, and whether there is one. The last shows each class, and then stamps or precedence.
+/// Each version is compared with each, and so are their keys. The first list is the standard's. The next two show numbers of any
+/// length, and each part of an order key: the numbers byte by byte, the kind of an identifier, its digits, its letters, where it
+/// ends, whether more follow, and whether there is one. The list of `rank` shows each class, and then stamps or precedence.
 const ORDERS: &str = "\
 precedence|v1.0.0-alpha v1.0.0-alpha.1 v1.0.0-alpha.beta v1.0.0-beta v1.0.0-beta.2 v1.0.0-beta.11 v1.0.0-rc.1 v1.0.0 v2.0.0 v2.1.0 v2.1.1|true
 precedence|v1.0.0-999999999999999999999999999999999999999999999999999999999999999999999999999999999999999999999999999 v1.0.0-1000000000000000000000000000000000000000000000000000000000000000000000000000000000000000000000000000 v1.0.0-9999999999999999999999999999999999999999999999999999999999999999999999999999999999999999999999999999 v1.0.0-rc.2 v1.0.0-rc.10 v1.0.0|true
@@ -20,7 +20,7 @@ rank|v0.0.1-0.20230101000000-bbbbbbbbbbbb v0.0.0-20240101000000-aaaaaaaaaaaa v0.
 equal|v2.0.0-rc.1 v2.0.0-rc.1+incompatible|true
 ";
 
-/// How two versions compare; None if their keys compare otherwise.
+/// Returns how two versions compare, or `None` if their keys compare differently.
 fn compared(
     alloc: Global,
     call: &str,
@@ -41,7 +41,7 @@ fn compared(
     Ok(if order == keys { Some(order) } else { None })
 }
 
-/// Whether the versions of a row compare as their places do, or are equal.
+/// Whether the versions of a row compare as their places in the row do, or for `equal` whether they are equal.
 fn are_ordered(alloc: Global, row: &str) -> Result<bool, Fail> {
     let call = column(row, 0);
     let list = versions_of(alloc, column(row, 1))?;
@@ -60,7 +60,7 @@ fn are_ordered(alloc: Global, row: &str) -> Result<bool, Fail> {
     Ok(true)
 }
 
-/// Whether the versions of a row stand as it says.
+/// Whether the versions of a row compare as it says.
 pub fn given(alloc: Global, row: &str) -> Result<String, Fail> {
     Ok(format!(in alloc; "{}", are_ordered(alloc, row)?)?)
 }
@@ -72,7 +72,7 @@ fn versions_are_ordered(rt: HostRuntime) -> Result<(), Fail> {
     Ok(())
 }
 
-/// A version; what its rank key has before its order key; and its order key. Bytes in hexadecimal.
+/// A version; the front of its rank key, before the order key; and its order key. Bytes are in hexadecimal.
 const KEYS: &str = "\
 v1.0.0|03|0000000000000001 0000000000000000 0000000000000000 03
 v1.0.0-rc.10|02|0000000000000001 0000000000000000 0000000000000000 02 7263 00 01 02 3130 00
@@ -88,7 +88,7 @@ v0.0.0-20240101000000-aaaaaaaaaaaa|01 3230323430313031303030303030|0000000000000
 v0.0.1-0.20191109021931-daa7c04131f5|01 3230313931313039303231393331|0000000000000000 0000000000000000 0000000000000001 01 01 30 02 3230313931313039303231393331 2d 646161376330343133316635 00 00
 ";
 
-/// The order key of a version, if its rank key is that key behind this front; otherwise its rank key.
+/// Returns the order key of a version if its rank key is the front of the row and then the order key, and otherwise its rank key.
 pub fn key(alloc: Global, row: &str) -> Result<String, Fail> {
     let version = Version::parse(alloc, column(row, 0))?;
     let order = hex::encode(alloc, order_key(alloc, &version)?)?;

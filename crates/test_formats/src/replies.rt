@@ -6,10 +6,10 @@ use std::test::Fail;
 use wire::{Fixed, Kind, StatusCode, fixed, fixed_line, info_body, put_head, reply_head};
 
 /// - `fixed` and `line`: a reply with a fixed body, and its bytes or its line.
-/// - `zip` and `made`: the head of a zip of no bytes, put into a buffer or made.
+/// - `zip` and `made`: the head of a zip of no bytes, written to a buffer or to memory.
 /// - `info`: a version, its time, and the body of its `.info`.
 ///
-/// `;` stands for a newline, and in `text/plain; charset=utf-8` for itself.
+/// `;` is a newline, except in `text/plain; charset=utf-8`.
 const ROWS: &str = "\
 fixed|AlreadyPublished|HTTP/1.1 200 OK\r;Content-Type: text/plain; charset=utf-8\r;Content-Length: 18\r;Connection: close\r;\r;already published;
 fixed|Published|HTTP/1.1 201 Created\r;Content-Type: text/plain; charset=utf-8\r;Content-Length: 10\r;Connection: close\r;\r;published;
@@ -73,7 +73,7 @@ const FIXED: &[Fixed] = &[
     Fixed::Full,
 ];
 
-/// The fixed reply of this name.
+/// Returns the fixed reply of this name. It fails if there is none.
 fn reply_of(alloc: Global, name: &str) -> Result<Fixed, Fail> {
     for answer in FIXED {
         if named(alloc, Some(*answer))?.as_str() == name {
@@ -83,7 +83,7 @@ fn reply_of(alloc: Global, name: &str) -> Result<Fixed, Fail> {
     Err(Fail::new("no such reply"))
 }
 
-/// The body of the `.info` of a version and a time.
+/// Returns the body of the `.info` of a version and a time.
 fn info(alloc: Global, row: &str) -> Result<String, Fail> {
     let version = Version::parse(alloc, column(row, 1))?;
     on_one_line(
@@ -92,7 +92,7 @@ fn info(alloc: Global, row: &str) -> Result<String, Fail> {
     )
 }
 
-/// What the call of a row returns.
+/// Makes the call of a row, and returns its result as a text.
 pub fn given(alloc: Global, row: &str) -> Result<String, Fail> {
     let mut buf = [0; 160];
     let mut line = [0; 40];

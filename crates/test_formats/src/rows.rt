@@ -1,5 +1,5 @@
-//! How rows are read. A row is a line of a table, with `|` between its columns: the call, what it takes, and last what it returns.
-//! `;` stands for a newline and `ÿ` for the byte 255.
+//! Reads rows. A row is a line of a table, with `|` between its columns: the call, its arguments, and last what it returns. In a row,
+//! `;` is a newline and `ÿ` the byte 255.
 use crate::{
     framing, gomod_faults, hashes, latest_versions, module_paths, orders, replies, targets, tokens,
     versions,
@@ -9,7 +9,7 @@ use std::alloc::{AllocError, Global};
 use std::fmt::Debug;
 use std::test::Fail;
 
-/// The module whose calls a table makes.
+/// The module to whose calls a table belongs.
 #[derive(Clone, Copy)]
 pub enum Subject {
     Framing,
@@ -25,7 +25,7 @@ pub enum Subject {
     Versions,
 }
 
-/// What the call of a row returns, as a text.
+/// Makes the call of a row, and returns its result as a text.
 fn given(alloc: Global, subject: Subject, row: &str) -> Result<String, Fail> {
     match subject {
         Subject::Framing => framing::given(alloc, row),
@@ -42,7 +42,8 @@ fn given(alloc: Global, subject: Subject, row: &str) -> Result<String, Fail> {
     }
 }
 
-/// The first row whose call returns something else than its last column, and what it returns; empty if there is none.
+/// Returns the first row whose call does not return its last column, and what the call returns. It returns an empty text if there is
+/// no such row, and fails with the first call that fails.
 pub fn wrong_row(alloc: Global, subject: Subject, rows: &str) -> Result<String, Fail> {
     for row in rows.lines() {
         let (call, wanted) = row.rsplit_once('|').ok_or("a row of one column")?;
@@ -54,17 +55,17 @@ pub fn wrong_row(alloc: Global, subject: Subject, rows: &str) -> Result<String, 
     Ok(String::new(alloc))
 }
 
-/// A column of a row; empty if the row has fewer.
+/// Returns a column of a row, empty if the row has fewer columns.
 pub fn column(row: &str, place: usize) -> &str {
     row.split('|').nth(place).unwrap_or("")
 }
 
-/// The text that a column writes with `;` for each newline.
+/// Returns the text that a column writes with `;` for each newline.
 pub fn with_lines(alloc: Global, column: &str) -> Result<String, AllocError> {
     column.replace(alloc, ";", "\n")
 }
 
-/// The bytes that a column writes with `;` for each newline and `ÿ` for each byte 255.
+/// Returns the bytes that a column writes with `;` for each newline and `ÿ` for each byte 255.
 pub fn bytes(alloc: Global, column: &str) -> Result<Vec<u8>, AllocError> {
     let text = with_lines(alloc, column)?;
     let mut bytes = Vec::new(alloc);
@@ -77,12 +78,12 @@ pub fn bytes(alloc: Global, column: &str) -> Result<Vec<u8>, AllocError> {
     Ok(bytes)
 }
 
-/// The text of these bytes, with `;` for each newline.
+/// Returns the text of these bytes, with `;` for each newline. It fails if they are not text.
 pub fn on_one_line(alloc: Global, bytes: &[u8]) -> Result<String, Fail> {
     Ok(str::from_utf8(bytes)?.replace(alloc, "\n", ";")?)
 }
 
-/// A value by its name; `-` for none.
+/// Returns the name of a value, or `-` for `None`.
 pub fn named<F: Debug + Copy>(alloc: Global, value: Option<F>) -> Result<String, AllocError> {
     match value {
         Some(value) => format!(in alloc; "{value:?}"),
@@ -90,7 +91,7 @@ pub fn named<F: Debug + Copy>(alloc: Global, value: Option<F>) -> Result<String,
     }
 }
 
-/// The versions that the words of a column write.
+/// Returns the versions that the words of a column write. It fails if a word is not a version.
 pub fn versions_of(alloc: Global, column: &str) -> Result<Vec<Version>, Fail> {
     let mut list = Vec::new(alloc);
     for text in column.split_whitespace() {

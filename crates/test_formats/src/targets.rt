@@ -91,7 +91,7 @@ HEAD /k/key/example.com/lib/@v/v1.0.0.mod|-
 GET /k/kÿ/example.com/lib/@v/v1.0.0.mod|-
 ";
 
-/// What a query asks for, as a word.
+/// Returns what a query asks for, as a word.
 fn word(query: &Query) -> &'static str {
     match query {
         Query::Info { .. } => "info",
@@ -104,7 +104,7 @@ fn word(query: &Query) -> &'static str {
     }
 }
 
-/// The path of a query; empty if it names none.
+/// Returns the path of a query, empty if it names none.
 fn path(query: &Query) -> &str {
     match query {
         Query::Info { path, .. }
@@ -117,7 +117,7 @@ fn path(query: &Query) -> &str {
     }
 }
 
-/// The version of a query; empty if it names none.
+/// Returns the version of a query, empty if it names none.
 fn version(query: &Query) -> &str {
     match query {
         Query::Info { version, .. }
@@ -128,7 +128,7 @@ fn version(query: &Query) -> &str {
     }
 }
 
-/// The word, the key, the path and the version of a target, with spaces between them.
+/// Returns the word, the key, the path and the version of a target, with spaces between them, or `-` if it is unreadable.
 fn shown(alloc: Global, target: &Target) -> Result<String, AllocError> {
     match target {
         Target::Unreadable => String::from_str(alloc, "-"),
@@ -152,7 +152,7 @@ fn shown(alloc: Global, target: &Target) -> Result<String, AllocError> {
     }
 }
 
-/// What a request asks for, as a text.
+/// Returns what a request asks for, as a text.
 fn asked(
     alloc: Global,
     routes: &mut RouteTable,
@@ -163,7 +163,7 @@ fn asked(
     Ok(shown(alloc, &asked)?)
 }
 
-/// What the request of a row asks for, if a table of routes says so twice.
+/// Returns what the request of a row asks for. It fails if a table of routes gives another answer the second time.
 pub fn given(alloc: Global, row: &str) -> Result<String, Fail> {
     let (method, text) = row.split_once(' ').ok_or("no target")?;
     let text = bytes(alloc, text)?;

@@ -1,4 +1,4 @@
-//! Tokens of texts and of lines, and what they stand for. (Go Modules Reference, "go.mod files", lexical elements.)
+//! Tokens of texts and of lines, and their values. (Go Modules Reference, "go.mod files", lexical elements.)
 use crate::rows::{Subject, column, named, with_lines, wrong_row};
 use modlex::{Token, TokenFault, cut_line, first_tokens, line_tokens, tokens};
 use std::alloc::{AllocError, Global};
@@ -6,9 +6,9 @@ use std::borrow::CowStr;
 use std::test::Fail;
 
 /// - `tokens`: a text, and the kind, line, span and slice of each token, or the fault.
-/// - `line_tokens` and `first_tokens`: line 7 of a text, from byte 20 on, and its tokens or the first two of them, or the fault.
-/// - `cut_line`: a text, and its first line and what follows; `-` for a text of one line.
-/// - `word`: a text of one token; whether it is a word, a name and the arrow; whether its value is a part of the text; and the value.
+/// - `line_tokens` and `first_tokens`: line 7 of a text, which begins at byte 20, and its tokens or the first two of them, or the fault.
+/// - `cut_line`: a text, and its first line and what follows, or `-` for a text of one line.
+/// - `word`: a text of one token; whether it is a word, a name, the arrow; whether its value is borrowed from the text; and the value.
 const ROWS: &str = "\
 tokens|go 1.21rc1;a => // x;[\"b\\\"\",`c`];( =>x)|Name 1 0-2 go, Name 1 3-10 1.21rc1, Name 2 11-12 a, Arrow 2 13-15 =>, BracketLeft 3 21-22 [, Quoted 3 22-27 \"b\\\"\", Comma 3 27-28 ,, Raw 3 28-31 `c`, BracketRight 3 31-32 ], ParenLeft 4 33-34 (, Name 4 35-38 =>x, ParenRight 4 38-39 )
 tokens|a;b {|Lex(2)
@@ -27,7 +27,7 @@ word|=>|false false true true [=>]
 word|,|false false false true [,]
 ";
 
-/// The kind, the line, the span and the slice of each token.
+/// Returns the kind, the line, the span and the slice of each token.
 fn shown(alloc: Global, found: &[Token]) -> Result<String, AllocError> {
     let mut text = String::new(alloc);
     for token in found {
@@ -44,7 +44,7 @@ fn shown(alloc: Global, found: &[Token]) -> Result<String, AllocError> {
     Ok(text)
 }
 
-/// The tokens that a call finds.
+/// Returns the tokens that a call finds, or its fault.
 fn found<'a>(alloc: Global, call: &str, text: &'a str) -> Result<Vec<Token<'a>>, TokenFault> {
     match call {
         "line_tokens" => line_tokens(alloc, 7, 20, text),
@@ -57,7 +57,7 @@ fn found<'a>(alloc: Global, call: &str, text: &'a str) -> Result<Vec<Token<'a>>,
     }
 }
 
-/// What kind of word a token is, and its value.
+/// Returns which tests a token passes, whether its value is borrowed, and the value.
 fn word(alloc: Global, token: &Token) -> Result<String, AllocError> {
     let value = token.value(alloc)?;
     let is_part = matches!(value, CowStr::Borrowed(_));
@@ -68,7 +68,7 @@ fn word(alloc: Global, token: &Token) -> Result<String, AllocError> {
     )
 }
 
-/// What the call of a row returns.
+/// Makes the call of a row, and returns its result as a text.
 pub fn given(alloc: Global, row: &str) -> Result<String, AllocError> {
     let call = column(row, 0);
     let text = with_lines(alloc, column(row, 1))?;

@@ -5,7 +5,7 @@ use modver::{Class, Version, class, fits, fits_loose, read_time};
 use std::alloc::{AllocError, Global};
 use std::test::Fail;
 
-/// - `version`: a text, and the class of the version that it writes, its time for a pseudo-version, or its fault.
+/// - `version`: a text, and the class of the version that it writes, or the time of a pseudo-version, or the fault of the text.
 /// - `time`: a text, and the time that it writes or its fault.
 /// - `copy`: a version, its copy, and whether the copy is marked `+incompatible`.
 /// - `fits` and `fits_loose`: a path, a version, and whether the version fits the path.
@@ -112,7 +112,7 @@ fits_loose|mymod/v2|v1.0.0|false
 fits_loose|gopkg.in/yaml.v1|v0.0.0-20160105164936-4f90aeace3a2|true
 ";
 
-/// The class of a version, of a pseudo-version its time, or the fault of its text.
+/// Returns the class of a version, or the time of a pseudo-version, or the fault of the text.
 fn version(alloc: Global, text: &str) -> Result<String, AllocError> {
     match Version::parse(alloc, text) {
         Ok(version) if version.as_str() == text => match class(&version) {
@@ -125,7 +125,7 @@ fn version(alloc: Global, text: &str) -> Result<String, AllocError> {
     }
 }
 
-/// The text of a time, or the fault of a text that is none.
+/// Returns the text of a time, or the fault of a text that is not a time.
 fn time(alloc: Global, text: &str) -> Result<String, AllocError> {
     match read_time(text) {
         Ok(time) => String::from_str(alloc, time.as_str()),
@@ -133,7 +133,7 @@ fn time(alloc: Global, text: &str) -> Result<String, AllocError> {
     }
 }
 
-/// The text of the copy of a version, and whether it is marked.
+/// Returns the text of the copy of a version, and whether the copy is marked.
 fn copy(alloc: Global, text: &str) -> Result<String, Fail> {
     let copy = Version::parse(alloc, text)?.copy(alloc)?;
     Ok(format!(in alloc; "{} {}", copy.as_str(), copy.is_marked())?)
@@ -148,7 +148,7 @@ fn fit(alloc: Global, row: &str) -> Result<bool, Fail> {
     Ok(fits_loose(&LoosePath::parse(alloc, column(row, 1))?, &version))
 }
 
-/// What the call of a row returns.
+/// Makes the call of a row, and returns its result as a text.
 pub fn given(alloc: Global, row: &str) -> Result<String, Fail> {
     let text = column(row, 1);
     match column(row, 0) {

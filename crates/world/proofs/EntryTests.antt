@@ -59,6 +59,7 @@ gomod_so path is_marked bytes (Module m) read sound named bare = record {
   bare = λ is. not-false m.bare (ap (λ b. b && not m.bare) (sym is) ∙ bare);
 }
 
+-- if the texts name a path and the version v and the test passes, the entry may stand there
 version_so : (s path version : List ℕ) (e : Entry) (v : SemanticVersion) → is_path path ≡ true → version_of version ≡ Some v → goes_with (Some path) (Some v) e ≡ true → IsEntry (place s path version) e
 version_so s path version e v well named at =
     let all = and_parts (is_none (own_misfit path v e)) (is_none (module_misfit path v.marked (reading_of e.gomod))) at in
@@ -75,6 +76,7 @@ version_so s path version e v well named at =
       reads = gomod_so path v.marked e.gomod (reading_of e.gomod) refl gomod.0 gomod.1 gomod.2;
     }
 
+-- if the test passes, the entry may stand at the place
 entry_so : (s path version : List ℕ) (e : Entry) → is_entry path version e ≡ true → IsEntry (place s path version) e
 entry_so s path version e =
     elim (is_path path) as (λ b. is_path path ≡ b → goes_with (cond b (Some path) None) (version_of version) e ≡ true → IsEntry (place s path version) e) [

@@ -26,6 +26,7 @@ each_has_a_kind w s is there = by_parent (map.get w.shelves s) refl there
     by_parent (Some None) at there = elim (top_kind w s at) [ inl same ↦ inl same | inr group ↦ inr (inl group) ]
     by_parent (Some (Some parent)) at there = inr (inr (parent, at))
 
+-- in a world, each shelf above s is common or a group of which s is a member
 group_seen : (w : World) → IsWorld w → (s t : List ℕ) (o : Option (List ℕ)) → group_of w s ≡ o → is_among (above o) t ≡ true → (t ≡ common) ⊎ IsMember w s t
 group_seen w is s t None at seen = inl (only_common t seen)
 group_seen w is s t (Some g) at seen =

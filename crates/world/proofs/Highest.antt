@@ -92,6 +92,7 @@ module _ (m : GoModule) (v : SemanticVersion) where
   abbrev IsLeft : List SemanticVersion → Type 0
   IsLeft vs = Contains vs v × (¬ IsRetracted m v)
 
+  -- v is in the list without the retracted versions exactly if it is in the list and the go.mod does not retract it
   pub left : (vs : List SemanticVersion) → Contains (unretracted m vs) v ↔ IsLeft vs
   left [] = (λ at. absurd (no_member v at), λ h. absurd (no_member v h.0))
   left (x ∷ vs) =

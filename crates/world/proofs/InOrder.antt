@@ -37,14 +37,14 @@ module _ {K : Type 0} {R : K → K → Ordering} (o : IsTotalOrder R) where
   found : (q : K) (ks : List K) → is_some (map.find R q (bare ks)) ≡ list_any (eq_by_cmp R q) ks
   found q ks = is_some-find R q (bare ks) ∙ ap (list_any (eq_by_cmp R q)) (keys_bare ks)
 
-  -- they are exactly the members
+  -- a set in its order has exactly its members
   pub in_order-members : (s : set.FinSet R) (q : K) → list_any (eq_by_cmp R q) (in_order s) ≡ set.contains s q
   unfolding in_order
   in_order-members s q =
       sym (map.contains_key-keys (map.from_entries {R = R} (bare (set.items s))) q)
       ∙ ap is_some (map.get-from_entries o (bare (set.items s)) q) ∙ found q (set.items s) ∙ sym (set.contains-items s q)
 
-  -- of a set of keys that rise, these keys
+  -- a set made from rising keys has these keys in its order
   pub in_order-from_list : map.IsAntisymmetric R → (ks : List K) → T (map.is_sorted R (bare ks)) → in_order (set.from_list {R = R} ks) ≡ ks
   unfolding in_order
   in_order-from_list exact ks rise =
@@ -112,13 +112,13 @@ module _ {K X : Type 0} (R : K → K → Ordering) where
   keys_rise (e ∷ es) up = both _ _ (below_keys e.0 es (first _ _ up)) (keys_rise es (second _ _ up))
 
 module _ {K : Type 0} {R : K → K → Ordering} (o : IsTotalOrder R) (exact : map.IsAntisymmetric R) (s : set.FinSet R) where
-  -- of a set that has the keys of a map, these keys
+  -- a set that has the keys of a map has them in the order of the map
   pub in_order-keys : {X : Type 0} (m : map.FinMap R X) → ((q : K) → set.contains s q ≡ is_some (map.get m q)) → in_order s ≡ map.keys m
   in_order-keys m same =
       ap in_order (set.same_set o exact s (set.from_list (map.keys m)) (λ q. same q ∙ map.contains_key-keys m q ∙ sym (set.contains-from_list o (map.keys m) q)))
       ∙ in_order-from_list o exact (map.keys m) (keys_rise R (map.entries m) (map.entries_sorted m))
 
-  -- of a set that has nothing
+  -- a set that has nothing is the empty list in its order
   pub in_order-nothing : ((q : K) → set.contains s q ≡ false) → in_order s ≡ []
   in_order-nothing none = ap in_order (set.same_set o exact s (set.from_list []) (λ q. none q ∙ sym (set.contains-from_list o [] q))) ∙ in_order-from_list o exact [] tt
 

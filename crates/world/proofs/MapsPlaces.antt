@@ -63,7 +63,8 @@ is_tied Less e = cc
 is_tied Equal e = refl
 is_tied Greater e = cc
 
--- Blocks of entries, one for each key a of a map: where the block of a key holds q only under the key that ties with a, q is found in that block.
+-- Blocks of entries, one for each key of a map: where the block of a key holds q only under the key that ties with a, q is found
+-- in the block of a.
 module _ {A Y K X : Type 0} {R : A → A → Ordering} (o : IsTotalOrder R) (S : K → K → Ordering) (block : A × Y → List (K × X)) (inner : Y → Option X) (q : K) (a : A)
     (in_block : (e : A × Y) → map.find S q (block e) ≡ cond (eq_by_cmp R a e.0) (inner e.1) None) where
   pub find_blocks : (es : List (A × Y)) → T (map.is_sorted R es) → map.find S q (flat_map block es) ≡ option_and_then inner (map.find R a es)
@@ -158,6 +159,7 @@ pub under_or_empty : (o : Option (map.FinMap text_cmp (map.FinMap text_cmp Entry
 under_or_empty None p v = under_nothing p v
 under_or_empty (Some paths) p v = refl
 
+-- after an entry was put at s, p and v, a place has that entry if its three parts tie with these, and what it had otherwise
 get_put_at : (m : Nested) (s p v : List ℕ) (e : Entry) (q : Place)
     → get_at (put_at m s p v e) q ≡ cond (eq_by_cmp text_cmp q.shelf s) (cond (eq_by_cmp text_cmp q.path p) (cond (eq_by_cmp text_cmp q.version v) (Some e) (get_at m q)) (get_at m q)) (get_at m q)
 get_put_at m s p v e q =

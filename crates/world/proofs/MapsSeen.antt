@@ -42,7 +42,7 @@ has_keys m t =
     ∙ ap (λ b. b || list_any (eq_by_cmp text_cmp t) (map.keys m)) (set.contains-empty text_cmp t)
     ∙ sym (map.contains_key-keys m t)
 
--- a set that gets the texts of a map becomes its union with one that has the same
+-- a set that gets the texts of a map becomes its union with a set of these texts
 more_keys : {X : Type 0} (s u : set.FinSet text_cmp) (m : map.FinMap text_cmp X) → ((t : List ℕ) → set.contains u t ≡ is_some (map.get m t)) → with_texts s (map.keys m) ≡ set.union s u
 more_keys s u m same = set.same_set texts_total texts_exact _ _ (λ t.
     contains_more s (map.keys m) t ∙ ap (λ b. set.contains s t || b) (sym (map.contains_key-keys m t) ∙ sym (same t)) ∙ sym (set.contains-union texts_total s u t))

@@ -10,7 +10,7 @@ use Rattle.modver.proofs.Readings.{version-of, not-faulty}
 pub names_version : (t : List ℕ) (v : SemanticVersion) → IsCanonical t v → Some v ≡ version_of t
 names_version t v canonical = sym ((version-of t v).1 canonical)
 
--- and a faulty one none
+-- a faulty text names no version
 pub names_none : (t : List ℕ) (f : VersionFault) → IsFault t f → None ≡ version_of t
 names_none t f faulty = elim (version_of t) as (λ o. version_of t ≡ o → None ≡ o) [
   | None ↦ λ _. refl

@@ -25,7 +25,7 @@ module _ (w : World) (is : IsWorld w) (s p : List ℕ) (vs : List SemanticVersio
       ∙ ap (λ o. highest_left o (versions_of w s p)) (is_read ∙ ap module_of is_shown)
       ∙ ap (latest_by w s p) (is_top p all_fit ∙ ap highest are)
 
--- by what was read of a store: the versions of the path
+-- the latest version, by the versions of the path as they were read from a store
 module _ (old mid : Shown) (sound : (w : World) → old.stands w → IsWorld w) (s p : List ℕ) (vs : List SemanticVersion) (read : Reads old mid (Ok vs) (λ w. versions_of w s p)) where
   pub none_read : ((path : List ℕ) → AllOf path vs → None ≡ highest vs) → Reads old mid (Ok None) (λ w. latest_of w s p)
   none_read none = record {
@@ -39,7 +39,7 @@ module _ (old mid : Shown) (sound : (w : World) → old.stands w → IsWorld w) 
         };
   }
 
-  -- and then the go.mod of the highest
+  -- the latest version, if the go.mod of the highest was read after them
   pub latest_read : (new : Shown) (top : SemanticVersion) (shown : Option Heading) (m : Option GoModule) (v : Option SemanticVersion)
       → ((path : List ℕ) → AllOf path vs → Some top ≡ highest vs) → Reads mid new (Ok shown) (λ w. heading w s p (version_text top))
       → m ≡ module_of shown → ((path : List ℕ) → AllOf path vs → v ≡ highest_left m vs) → Reads old new (Ok v) (λ w. latest_of w s p)

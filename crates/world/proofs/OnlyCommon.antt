@@ -16,7 +16,7 @@ none_is_none x e = true≢false (sym (ap is_some e))
 none_in_empty : {K X : Type 0} (R : K → K → Ordering) (q : K) (x : X) → map.get (map.empty {X = X} {R = R}) q ≡ Some x → ⊥
 none_in_empty R q x e = none_is_none x (sym (map.get-empty R q) ∙ e)
 
--- of one text a map has what was put there, and nothing of another
+-- a map with one text has what was put there, and nothing at another text
 one_text : {X : Type 0} (b : Bool) (x y : X) → cond b (Some x) None ≡ Some y → (b ≡ true) × (x ≡ y)
 one_text true x y e = (refl, cc e)
 one_text false x y e = cc e

@@ -45,7 +45,7 @@ module _ {K X : Type 0} {R : K → K → Ordering} (o : IsTotalOrder R) where
   pub get_put : (m : map.FinMap R X) (q : K) (x : X) → map.get (map.insert m q x) q ≡ Some x
   get_put m q x = map.get-insert o m q x q ∙ ap (λ r. cond (is_eq r) (Some x) (map.get m q)) (tied_itself o q)
 
-  -- and elsewhere
+  -- an insertion changes nothing at another key
   pub get_elsewhere : map.IsAntisymmetric R → (m : map.FinMap R X) (q : K) (x : X) (p : K) → (p ≡ q → ⊥) → map.get (map.insert m q x) p ≡ map.get m p
   get_elsewhere exact m q x p apart = map.get-insert o m q x p ∙ ap (λ b. cond b (Some x) (map.get m p)) (false_from_ne_true _ (λ e. apart (tells_apart exact p q e)))
 

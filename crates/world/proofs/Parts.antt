@@ -75,6 +75,7 @@ gone true true o h = absurd (true≢false (h refl))
 gone true false o h = refl
 gone false c o h = refl
 
+-- if a shelf s has no more versions of a path than the limit, it has no more of them in what t sees
 few_left : (w : World) (t s p : List ℕ) → count w s p ≤ version_limit → count (part w t) s p ≤ version_limit
 few_left w t s p few =
     let test : Place → Bool = λ q. bytes_eq q.shelf s && bytes_eq q.path p in
@@ -94,6 +95,7 @@ few_left w t s p few =
 
 -- ---- it is a world
 
+-- what a shelf sees of a world is a world
 pub part_is_world : PartIsWorld
 part_is_world w t is = record {
   has_common = parent_left w t common (sees_common w t) ∙ is.has_common;

@@ -1,4 +1,4 @@
--- What the first profile reads, the second reads the same, so a world of the first is one of the second.
+-- Each go.mod that the first profile reads, the second reads with the same result, so a world of the first is one of the second.
 use Rattle.std.proofs.Common.{◌≡◌, ℕ, List, Bool, ap, Result, Ok, Err}
 use Rattle.gomod.proofs.FileLaw.{reads-from_reading, reading-from_reads}
 use Rattle.gomod.proofs.MoreKeywords.{reads_more, profile_1-within}
@@ -25,6 +25,7 @@ reads_still bytes m e =
 gomod_still : (path : List ℕ) (is_marked : Bool) (bytes : List ℕ) → IsGoModBy profile_1 path is_marked bytes → IsGoModBy profile_2 path is_marked bytes
 gomod_still path is_marked bytes is = record { says = is.says; reads = reads_still bytes is.says is.reads; names = is.names; bare = is.bare }
 
+-- an entry that may stand at a place by the first profile may stand there by the second
 entry_still : (q : Place) (e : Entry) → IsEntryBy profile_1 q e → IsEntryBy profile_2 q e
 entry_still q e is = record {
   path = is.path;
@@ -36,6 +37,7 @@ entry_still q e is = record {
   reads = gomod_still q.path is.version.0.marked e.gomod is.reads;
 }
 
+-- a world by the first profile is a world by the second
 pub world_still : Profile2KeepsWorlds
 world_still w is = record {
   has_common = is.has_common;

@@ -29,6 +29,7 @@ some_or : (b : Bool) (e : Entry) (o : Option Entry) → is_some (cond b (Some e)
 some_or true e o = refl
 some_or false e o = refl
 
+-- a text is among the versions of a path on a shelf exactly if these entries have one at its place
 pub contains_among : (s p v : List ℕ) (es : List (Place × Entry)) → set.contains (versions_among s p es) v ≡ is_some (map.find place_cmp (place s p v) es)
 contains_among s p v [] = set.contains-empty text_cmp v
 contains_among s p v (e ∷ es) =
@@ -63,7 +64,7 @@ contains_versions w s p v = contains_on w (chain w s) p v
 
 -- ---- paths
 
--- of some version of the path, an entry is found
+-- these entries have one of some version of the path on the shelf
 abbrev pub FoundAmong : List ℕ → List ℕ → List (Place × Entry) → Type 0
 FoundAmong s p es = (v : List ℕ) × (is_some (map.find place_cmp (place s p v) es) ≡ true)
 
@@ -84,6 +85,7 @@ found_first s p e es same_shelf same_path = (
       ∙ or_left _ _ (version_tie s p e.0.version e.0 same_shelf same_path ∙ ap is_eq (tied_itself texts_total e.0.version)),
 )
 
+-- a path is among the paths on a shelf exactly if these entries have one of some version of it there
 pub path_among : (s p : List ℕ) (es : List (Place × Entry)) → (set.contains (paths_among s es) p ≡ true) ↔ FoundAmong s p es
 path_among s p [] = (λ at. absurd (true≢false (sym at ∙ set.contains-empty text_cmp p)), λ found. absurd (true≢false (sym found.1)))
 path_among s p (e ∷ es) =
@@ -113,6 +115,7 @@ path_among s p (e ∷ es) =
 abbrev FoundOn : World → List (List ℕ) → List ℕ → Type 0
 FoundOn w ss p = (v : List ℕ) × (is_some (first_on w ss p v) ≡ true)
 
+-- a path is among the paths on these shelves exactly if one of them has an entry at some version of it
 path_on : (w : World) (ss : List (List ℕ)) (p : List ℕ) → (set.contains (paths_on w ss) p ≡ true) ↔ FoundOn w ss p
 path_on w [] p = (λ at. absurd (true≢false (sym at ∙ set.contains-empty text_cmp p)), λ found. absurd (true≢false (sym found.1)))
 path_on w (s ∷ ss) p =

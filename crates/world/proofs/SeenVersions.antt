@@ -40,6 +40,7 @@ versions_are_seen w s p v =
 abbrev NamedBy : List (List ℕ) → SemanticVersion → Type 0
 NamedBy ts v = (t : List ℕ) × Contains ts t × (version_of t ≡ Some v)
 
+-- a version is among those that the texts name exactly if one of the texts names it
 named_by : (ts : List (List ℕ)) (v : SemanticVersion) → Contains (named ts) v ↔ NamedBy ts v
 named_by [] v = (λ at. absurd (no_member v at), λ h. absurd (no_member h.0 h.1))
 named_by (t ∷ ts) v =
@@ -63,7 +64,7 @@ named_by (t ∷ ts) v =
       )
     ] refl
 
--- those that the texts of a set name
+-- the versions that the texts of a set name
 module _ (v : SemanticVersion) where
   abbrev NamedIn : set.FinSet text_cmp → Type 0
   NamedIn ts = (t : List ℕ) × (set.contains ts t ≡ true) × (version_of t ≡ Some v)
@@ -76,7 +77,7 @@ module _ (v : SemanticVersion) where
 
 -- ---- the versions of a path that a shelf sees
 
--- those that the texts on some shelves name, shelf by shelf, are those that all of them name
+-- the texts on some shelves, shelf by shelf, name the versions that all of these texts together name
 named_on_members : (w : World) (ss : List (List ℕ)) (p : List ℕ) (v : SemanticVersion) → Contains (named_on w ss p) v ↔ Contains (named (in_order (versions_on w ss p))) v
 named_on_members w [] p v = (
   λ at. absurd (no_member v at),
@@ -100,7 +101,7 @@ named_on_members w (s ∷ ss) p v =
           ],
     )
 
--- so those of its chain, in whatever order, are those that a shelf sees
+-- the versions that the texts on the chain of a shelf name, by precedence, are those that the shelf sees
 pub on_chain : (w : World) (s p : List ℕ) → in_order (by_precedence (named_on w (chain w s) p)) ≡ versions_of w s p
 on_chain w s p = ap in_order (same_versions _ _ (λ v. named_on_members w (chain w s) p v))
 
@@ -123,6 +124,7 @@ module _ (w : World) (is : IsWorld w) (s p : List ℕ) where
   pub entry_at : (t : List ℕ) (seen : IsSeen w s p t) → IsEntry (place seen.0.shelf p t) seen.0.entry
   entry_at t seen = entry_by profile_in_force w s p t is seen
 
+  -- the texts of the versions that a shelf sees of a path name exactly the versions that it sees
   named_members : (v : SemanticVersion) → Contains (named (in_order (versions_seen w s p))) v ↔ seen_versions w s p v
   named_members v =
       let vs = versions_seen w s p in (

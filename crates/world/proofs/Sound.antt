@@ -61,13 +61,14 @@ module _ (w : World) (s : List ℕ) (parent : Option (List ℕ)) where
   new_or_stood x at = elim (or_cases (eq_by_cmp text_cmp x s) _ (sym (has_put x) ∙ at)) [ inl here ↦ inl (tells_apart texts_exact x s here) | inr old ↦ inr old ]
 
   module _ (fresh : map.contains_key w.shelves s ≡ false) where
-    -- and keeps its parent
+    -- a shelf that is there keeps its parent
     pub parent_still : (x : List ℕ) → map.contains_key w.shelves x ≡ true → map.get (with_shelf w s parent).shelves x ≡ map.get w.shelves x
     parent_still x stands = get_elsewhere texts_total texts_exact w.shelves s parent x (λ same. true≢false (sym stands ∙ ap (map.contains_key w.shelves) same ∙ fresh))
 
     put_still : (x : List ℕ) (o : Option (List ℕ)) → map.get w.shelves x ≡ Some o → map.get (with_shelf w s parent).shelves x ≡ Some o
     put_still x o at = parent_still x (ap is_some at) ∙ at
 
+    -- a world with a new shelf is a world if the name is a team's and the parent, if any, exists and has no parent
     pub shelf_stands : IsWorld w → is_team_name s ≡ true → ((g : List ℕ) → parent ≡ Some g → map.get w.shelves g ≡ Some None) → IsWorld (with_shelf w s parent)
     shelf_stands is named tops = record {
       has_common = put_still common None is.has_common;
@@ -109,6 +110,7 @@ count_after w q e s p room few =
           omega (arith, same, few)
     ] refl
 
+-- a world with an entry more is a world if there was room for the entry
 pub entry_added : (w : World) (q : Place) (e : Entry) → IsWorld w → IsRoomFor w q e → IsWorld (with_entry w q e)
 entry_added w q e is room = record {
   has_common = is.has_common;
@@ -127,6 +129,7 @@ entry_added w q e is room = record {
   few = λ s p. count_after w q e s p room.room (is.few s p);
 }
 
+-- a world with a key more is a world if the key is well formed and its shelf exists
 pub key_stands : (w : World) (k : List ℕ) (h : Holder) → IsWorld w → is_key k ≡ true → map.contains_key w.shelves h.shelf ≡ true → IsWorld (with_key w k h)
 key_stands w k h is named stands = record {
   has_common = is.has_common;
@@ -153,6 +156,7 @@ left_before false old y e = e
 key_before : (w : World) (k j : List ℕ) (h : Holder) → map.get (without_key w k).keys j ≡ Some h → map.get w.keys j ≡ Some h
 key_before w k j h at = left_before (eq_by_cmp text_cmp j k) (map.get w.keys j) h (sym (map.get-remove texts_total w.keys k j) ∙ at)
 
+-- a world with a key less is a world
 pub key_gone : (w : World) (k : List ℕ) → IsWorld w → IsWorld (without_key w k)
 key_gone w k is = record {
   has_common = is.has_common;

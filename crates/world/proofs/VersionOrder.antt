@@ -61,6 +61,7 @@ same_mark true false e = cc e
 same_mark false true e = cc e
 same_mark false false e = refl
 
+-- identifiers that tie one by one, and whose joined texts with the marks are equal, are equal, and so are the marks
 identifiers_same : (x y : List ℕ) (xs ys : List (List ℕ)) (m n : Bool) → slice_cmp identifier_cmp (x ∷ xs) (y ∷ ys) ≡ Equal
     → join_with_byte 46 (x ∷ xs) ++ build_text (mark_of m) ≡ join_with_byte 46 (y ∷ ys) ++ build_text (mark_of n) → (x ∷ xs ≡ y ∷ ys) × (m ≡ n)
 identifiers_same x y [] [] m n tie e =
@@ -95,6 +96,7 @@ behind_numbers : (a b c : ℕ) (xs ys : List (List ℕ)) (u v : List ℕ) → te
 behind_numbers a b c xs ys u v e =
     append_cancel_left (decimal c) _ _ (tail_same 46 _ _ (append_cancel_left (decimal b) _ _ (tail_same 46 _ _ (append_cancel_left (decimal a) _ _ (tail_same 118 _ _ e)))))
 
+-- two versions that tie in the order are equal
 pub versions_exact : IsAntisymmetric version_cmp
 versions_exact u v e =
     let tie : precedence u v ≡ Equal = then_first (precedence u v) _ e in

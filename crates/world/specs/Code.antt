@@ -1,4 +1,4 @@
--- The codes of a world and of a version, by which a proof tells them apart.
+-- Codes of worlds and of versions: encodings that lose nothing, so proofs can tell two values apart.
 use Rattle.std.specs.Prelude.{ℕ, List, Bool, true, false, refl, ◌≡◌, Option}
 use Rattle.std.specs.Coded.{Coded, code_by, coded×, coded_ℕ, coded_list, coded_bool, coded_option}
 use Rattle.std.specs.FinMap as map

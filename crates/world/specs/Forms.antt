@@ -1,4 +1,4 @@
--- The forms of paths and of versions, by the definitions of their own crates.
+-- The forms of paths and of versions, as their own crates define them.
 use Rattle.std.specs.Prelude.{ℕ, List, if◌then◌else◌, Option, Some, None}
 use Rattle.modver.specs.Reading.{IsCanonical}
 use Rattle.modver.specs.SemanticVersion.{SemanticVersion}
@@ -11,6 +11,6 @@ pub use Rattle.modpath.specs.Path.{IsPath, is_path, suffix_of}
 abbrev pub path_of : List ℕ → Option (List ℕ)
 path_of t = if is_path t then Some t else None
 
--- a text is that of some version
+-- the text is that of some version
 abbrev pub IsVersionText : List ℕ → Type 0
 IsVersionText t = (v : SemanticVersion) × IsCanonical t v

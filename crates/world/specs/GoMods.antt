@@ -1,4 +1,4 @@
--- What a go.mod says to a publish, and when it goes with a path and a version.
+-- What a go.mod says to a publish, and when it fits a path and a version.
 use Rattle.std.specs.Prelude.{ℕ, ◌≡◌, Bool, true, List, Option, Some, None, Result, Ok, Err}
 use Rattle.gomod.specs.Faults.{line_of}
 use Rattle.gomod.specs.Module.{GoModule}
@@ -9,20 +9,20 @@ use Rattle.gomod.specs.declared.fault.GoModFault.{GoModFault}
 use Rattle.world.specs.declared.reading.Reading.{Reading}
 use Rattle.world.specs.declared.reading.Reading.TheVariants.{Module, Fault}
 
--- the file with these bytes says this
+-- by the profile in force, the file with these bytes says this
 abbrev pub Says : List ℕ → GoModule → Type 0
 Says bytes m = Reads profile_in_force bytes m
 
--- the same computed: what a file says, or the line of its fault
+-- the result of reading a file: what it says, or the line of its fault
 abbrev pub told : Result GoModule GoModFault → Reading
 told (Ok m) = Module m
 told (Err f) = Fault (line_of f)
 
--- what reading a go.mod by these keywords gives
+-- the result of reading a go.mod by these keywords
 abbrev pub reading_by : Keywords → List ℕ → Reading
 reading_by known bytes = told (gomod.reading known bytes)
 
--- what reading a go.mod gives
+-- the result of reading a go.mod by the profile in force
 abbrev pub reading_of : List ℕ → Reading
 reading_of bytes = reading_by profile_in_force bytes
 
@@ -31,13 +31,13 @@ abbrev pub module_told : Reading → Option GoModule
 module_told (Module m) = Some m
 module_told (Fault line) = None
 
--- by these keywords a go.mod reads, names the path, and is bare where the version has the mark
+-- by these keywords the go.mod reads, names the path, and is bare if the version has the mark
 pub record IsGoModBy (known : Keywords) (path : List ℕ) (is_marked : Bool) (bytes : List ℕ) : Type 0 where
   pub says : GoModule
   pub reads : reading_by known bytes ≡ Module says
   pub names : says.path ≡ path
   pub bare : is_marked ≡ true → says.bare ≡ true
 
--- so it is by the profile in force
+-- by the profile in force the go.mod reads, names the path, and is bare if the version has the mark
 abbrev pub IsGoModOf : List ℕ → Bool → List ℕ → Type 0
 IsGoModOf path is_marked bytes = IsGoModBy profile_in_force path is_marked bytes

@@ -1,4 +1,4 @@
--- Lists of versions that are kept.
+-- Lists of versions that a store keeps.
 use Rattle.std.specs.Prelude.{ℕ, ◌≡◌, ◌&&◌, List, Bool, bytes_eq, length}
 use Rattle.std.specs.List.{All, sum_by}
 use Rattle.world.specs.World.{World}
@@ -9,14 +9,14 @@ use Rattle.world.specs.declared.kept_lists.KeptList.{KeptList}
 abbrev pub is_of : List ℕ → List ℕ → KeptList → Bool
 is_of s p list = bytes_eq list.shelf s && bytes_eq list.path p
 
--- how many versions some lists have
+-- how many versions the lists hold together
 abbrev pub versions_in : List KeptList → ℕ
 versions_in lists = sum_by (λ (list : KeptList). length list.versions) lists
 
--- a list has the versions of its path that its shelf sees, in ascending precedence
+-- the list holds the versions of its path that its shelf sees, in ascending precedence
 abbrev pub IsListIn : World → KeptList → Type 0
 IsListIn w list = list.versions ≡ versions_of w list.shelf list.path
 
--- so has each
+-- each list holds the versions of its path that its shelf sees
 abbrev pub AreLists : World → List KeptList → Type 0
 AreLists w lists = All (IsListIn w) lists

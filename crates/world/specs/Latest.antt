@@ -12,38 +12,38 @@ use Rattle.world.specs.World.{World, heading}
 
 -- ---- the highest of a list
 
--- each is a version of the path
+-- each version fits the path
 abbrev pub AllOf : List ℕ → List SemanticVersion → Type 0
 AllOf path vs = (v : SemanticVersion) → Contains vs v → IsVersionOf path v
 
--- the higher of two versions
+-- the higher of two versions by rank; the first, if there is no second or the two are equal in rank
 abbrev pub higher : SemanticVersion → Option SemanticVersion → SemanticVersion
 higher v None = v
 higher v (Some u) = if is_greater (rank_cmp u v) then u else v
 
--- the highest of a list
+-- the highest version of a list by rank
 abbrev pub highest : List SemanticVersion → Option SemanticVersion
 highest [] = None
 highest (v ∷ vs) = Some (higher v (highest vs))
 
--- those of a list that a go.mod does not retract
+-- the versions of a list that a go.mod does not retract
 abbrev pub unretracted : GoModule → List SemanticVersion → List SemanticVersion
 unretracted m [] = []
 unretracted m (v ∷ vs) = if is_retracted m v then unretracted m vs else v ∷ unretracted m vs
 
--- ---- of what a shelf sees
+-- ---- the latest version that a shelf sees
 
--- what the go.mod of a version says
+-- what the go.mod of a version says, if it reads
 abbrev pub module_of : Option Heading → Option GoModule
 module_of None = None
 module_of (Some shown) = module_told (reading_of shown.gomod)
 
--- the highest of some versions that this go.mod does not retract
+-- the highest of those versions that the go.mod does not retract; None without a go.mod
 abbrev pub highest_left : Option GoModule → List SemanticVersion → Option SemanticVersion
 highest_left None vs = None
 highest_left (Some m) vs = highest (unretracted m vs)
 
--- the same by the go.mod of this version, the highest
+-- the highest version of a path that a shelf sees and that the go.mod of this version does not retract, if the version exists
 abbrev pub latest_by : World → List ℕ → List ℕ → Option SemanticVersion → Option SemanticVersion
 latest_by w s p None = None
 latest_by w s p (Some top) = highest_left (module_of (heading w s p (version_text top))) (versions_of w s p)

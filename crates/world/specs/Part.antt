@@ -4,16 +4,16 @@ use Rattle.std.specs.FinMap as map
 use Rattle.world.specs.declared.entry.Holder.{Holder}
 use Rattle.world.specs.World.{World, IsWorld, chain, is_among, sees}
 
--- a shelf that stands and has a parent
+-- the shelf exists and has a parent
 abbrev pub IsTeam : World → List ℕ → Type 0
 IsTeam w t = (parent : List ℕ) × (map.get w.shelves t ≡ Some (Some parent))
 
--- whether what a key holds belongs to one of these shelves
+-- whether there is a holder and its shelf is one of these
 abbrev pub is_held : List (List ℕ) → Option Holder → Bool
 is_held ss None = false
 is_held ss (Some h) = is_among ss h.shelf
 
--- the shelves that a shelf sees, each with its parent, their entries and their keys with their rights, and nothing else
+-- the shelves that a shelf sees, each with its parent, their entries, their keys with their rights, and nothing else
 abbrev pub part : World → List ℕ → World
 part w t = record {
   keys = map.retain_keys w.keys (λ k. is_held (chain w t) (map.get w.keys k));
@@ -21,10 +21,10 @@ part w t = record {
   entries = map.retain_keys w.entries (λ q. is_among (chain w t) q.shelf);
 }
 
--- Of a world it is a world.
+-- What a shelf sees of a world is a world.
 abbrev pub PartIsWorld : Type 0
 PartIsWorld = (w : World) (t : List ℕ) → IsWorld w → IsWorld (part w t)
 
--- Of a shelf that stands, its shelves are those that it sees, each of them.
+-- If a shelf exists, the world that it sees has exactly the shelves that it sees.
 abbrev pub PartHasTheChain : Type 0
 PartHasTheChain = (w : World) (t s : List ℕ) → IsWorld w → map.contains_key w.shelves t ≡ true → map.contains_key (part w t).shelves s ≡ sees w t s

@@ -1,4 +1,4 @@
--- The paths and the versions of a world read, each as the text that it is.
+-- The texts of the paths and versions in a world can be read, and mean themselves.
 use Rattle.std.specs.Prelude.{ℕ, ◌≡◌, List, Some}
 use Rattle.std.specs.FinMap as map
 use Rattle.modver.specs.Reading.{version_of}
@@ -9,17 +9,17 @@ use Rattle.world.specs.Forms.{path_of}
 use Rattle.world.specs.Visible.{IsSeen}
 use Rattle.world.specs.World.{World, IsWorld}
 
--- the texts read as a path and as a version, whose texts they are
+-- the first text reads as the path that it is, and the second as a version whose text it is
 pub record PlaceReads (path version : List ℕ) : Type 0 where
   pub as_path : path_of path ≡ Some path
   pub named : SemanticVersion
   pub as_version : version_of version ≡ Some named
   pub text : version_text named ≡ version
 
--- In a world the path and the version of each entry read.
+-- In a world the path and the version of each entry can be read.
 abbrev pub PlacesRead : Type 0
 PlacesRead = (w : World) (q : Place) (e : Entry) → IsWorld w → map.get w.entries q ≡ Some e → PlaceReads q.path q.version
 
--- So do those of each entry that a shelf sees.
+-- In a world the path and the version of each entry that a shelf sees can be read.
 abbrev pub SeenPlacesRead : Type 0
 SeenPlacesRead = (w : World) (s p v : List ℕ) → IsWorld w → IsSeen w s p v → PlaceReads p v

@@ -1,4 +1,4 @@
--- Versions in the order of their precedence, and those of a path that a shelf sees.
+-- Versions in order of precedence, and the versions of a path that a shelf sees.
 use Rattle.std.specs.Prelude.{ℕ, ◌↔◌, List, [], ◌∷◌, ◌++◌, Contains, Option, Some, None}
 use Rattle.std.proofs.lemmas.Cmp.{nat_list_cmp_total, on_total, then_total}
 use Rattle.std.specs.Cmp.{IsTotalOrder}
@@ -15,28 +15,29 @@ use Rattle.world.specs.Lines.{in_order, EachToNext}
 use Rattle.world.specs.Visible.{seen_versions, versions_among, versions_seen}
 use Rattle.world.specs.World.{World, IsWorld}
 
--- ---- what texts name
+-- ---- the versions that texts name
 
+-- the versions with one more in front, if there is one
 abbrev pub with_version : Option SemanticVersion → List SemanticVersion → List SemanticVersion
 with_version None vs = vs
 with_version (Some v) vs = v ∷ vs
 
--- the versions that texts name
+-- the versions that the texts name, in the order of the texts
 abbrev pub named : List (List ℕ) → List SemanticVersion
 named [] = []
 named (t ∷ ts) = with_version (version_of t) (named ts)
 
 -- ---- by precedence
 
--- the order of precedence, and where that is equal of the texts
+-- the order of versions: by precedence, and by their texts where that is equal
 abbrev pub version_cmp : SemanticVersion → SemanticVersion → Ordering
 version_cmp = then_cmp precedence (on version_text (slice_cmp nat_cmp))
 
--- it is a total order
+-- this order of versions is total
 pub versions_total : IsTotalOrder version_cmp
 versions_total = then_total precedence_total (on_total version_text nat_list_cmp_total)
 
--- the versions of a list by precedence, each once
+-- the versions of a list as a set in this order, each once
 abbrev pub by_precedence : List SemanticVersion → set.FinSet version_cmp
 by_precedence [] = set.empty
 by_precedence (v ∷ vs) = set.insert (by_precedence vs) v
@@ -55,6 +56,6 @@ pub record AreVersions (w : World) (s p : List ℕ) (vs : List SemanticVersion) 
   pub members : (v : SemanticVersion) → Contains vs v ↔ seen_versions w s p v
   pub ascend : EachToNext IsBelow vs
 
--- So it is in a world.
+-- In a world, the list of the versions that a shelf sees has exactly those, each below the next.
 abbrev pub VersionsAscend : Type 0
 VersionsAscend = (w : World) (s p : List ℕ) → IsWorld w → AreVersions w s p (versions_of w s p)

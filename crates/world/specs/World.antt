@@ -1,4 +1,4 @@
--- What stands on the shelves, and what each shelf sees of it.
+-- Worlds: what stands on the shelves, whose the keys are, and what each shelf sees.
 use Rattle.std.specs.Prelude.{ℕ, List, [], ◌∷◌, Bool, true, ◌&&◌, if◌then◌else◌, Option, Some, None, bytes_eq, ◌≡◌, ◌≤◌, ◌⊎◌, length, option_map, unwrap_or}
 use Rattle.std.specs.List.{list_any}
 use Rattle.std.specs.Option.{option_or}
@@ -28,11 +28,12 @@ text_cmp = slice_cmp nat_cmp
 abbrev pub place_cmp : Place → Place → Ordering
 place_cmp a b = ordering_then (text_cmp a.shelf b.shelf) (ordering_then (text_cmp a.path b.path) (text_cmp a.version b.version))
 
+-- the place of a shelf, a path and a version
 abbrev pub place : List ℕ → List ℕ → List ℕ → Place
 place s p v = record { shelf = s; path = p; version = v }
 
--- the keys with their shelf and right, the shelves by their names, each with its parent, and the entries.
--- Common and groups have no parent; that of a team is its group, or common.
+-- A world has keys, each with its shelf and right; shelves by name, each with its parent if it has one; and entries by place.
+-- Common and groups have no parent; the parent of a team is its group, or common.
 pub record World : Type 0 where
   pub keys : map.FinMap text_cmp Holder
   pub shelves : map.FinMap text_cmp (Option (List ℕ))
@@ -40,7 +41,7 @@ pub record World : Type 0 where
 
 -- ---- what a shelf sees
 
--- the group of a shelf by its parent, if it is there and has one: a parent that is not common
+-- the group in what stands at a shelf's name: a parent that is not common
 abbrev pub group_in : Option (Option (List ℕ)) → Option (List ℕ)
 group_in None = None
 group_in (Some None) = None
@@ -50,12 +51,12 @@ group_in (Some (Some parent)) = if bytes_eq parent common then None else Some pa
 abbrev pub group_of : World → List ℕ → Option (List ℕ)
 group_of w s = group_in (map.get w.shelves s)
 
--- the shelves above one of this group, or of none
+-- the shelves above a shelf of this group, or of no group
 abbrev pub above : Option (List ℕ) → List (List ℕ)
 above None = common ∷ []
 above (Some group) = group ∷ common ∷ []
 
--- the shelves that a shelf sees, the nearest first: its own, its group if it has one, and common
+-- the shelves that a shelf sees, the nearest first: itself, its group if it has one, and common
 abbrev pub chain : World → List ℕ → List (List ℕ)
 chain w s = s ∷ above (group_of w s)
 
@@ -63,11 +64,11 @@ chain w s = s ∷ above (group_of w s)
 abbrev pub is_among : List (List ℕ) → List ℕ → Bool
 is_among ss t = list_any (bytes_eq t) ss
 
--- whether a shelf sees another
+-- whether the first shelf sees the second
 abbrev pub sees : World → List ℕ → List ℕ → Bool
 sees w s t = is_among (chain w s) t
 
--- an entry, with the shelf that it stands on
+-- an entry, if there is one, with the shelf that it stands on
 abbrev pub seen_at : Option Entry → List ℕ → Option Seen
 seen_at None s = None
 seen_at (Some e) s = Some (record { shelf = s; entry = e })
@@ -81,15 +82,15 @@ first_on w (s ∷ ss) p v = option_or (seen_at (map.get w.entries (place s p v))
 abbrev pub view : World → List ℕ → List ℕ → List ℕ → Option Seen
 view w s p v = first_on w (chain w s) p v
 
--- what an entry shows without its zip
+-- an entry without its zip
 abbrev pub heading_of : Entry → Heading
 heading_of e = record { gomod = e.gomod; time = e.time }
 
--- what is seen of an entry without its zip
+-- what is seen of an entry, without its zip
 abbrev pub without_zip : Option Seen → Option Heading
 without_zip seen = option_map (λ it. heading_of it.entry) seen
 
--- what a shelf sees of a version without its zip
+-- what a shelf sees of a version, without its zip
 abbrev pub heading : World → List ℕ → List ℕ → List ℕ → Option Heading
 heading w s p v = without_zip (view w s p v)
 
@@ -101,58 +102,59 @@ on_shelf w s = map.retain_keys w.entries (λ q. bytes_eq q.shelf s)
 abbrev pub count : World → List ℕ → List ℕ → ℕ
 count w s p = map.len (map.retain_keys w.entries (λ q. bytes_eq q.shelf s && bytes_eq q.path p))
 
--- ---- one more, or one less
+-- ---- one entry, key or shelf more, or one key less
 
--- one more entry
+-- the world with an entry put at a place
 abbrev pub with_entry : World → Place → Entry → World
 with_entry w q e = record { keys = w.keys; shelves = w.shelves; entries = map.insert w.entries q e }
 
--- one more key
+-- the world with a key added
 abbrev pub with_key : World → List ℕ → Holder → World
 with_key w k h = record { keys = map.insert w.keys k h; shelves = w.shelves; entries = w.entries }
 
--- one key less
+-- the world without a key
 abbrev pub without_key : World → List ℕ → World
 without_key w k = record { keys = map.remove w.keys k; shelves = w.shelves; entries = w.entries }
 
--- one more shelf, with its parent
+-- the world with a shelf added, with its parent
 abbrev pub with_shelf : World → List ℕ → Option (List ℕ) → World
 with_shelf w s parent = record { keys = w.keys; shelves = map.insert w.shelves s parent; entries = w.entries }
 
--- one more team, of a group or of none
+-- the world with a team added, of a group or of no group
 abbrev pub with_team : World → List ℕ → Option (List ℕ) → World
 with_team w s group = with_shelf w s (Some (unwrap_or group common))
 
--- one more group
+-- the world with a group added
 abbrev pub with_group : World → List ℕ → World
 with_group w s = with_shelf w s None
 
--- the shelf `common`, and nothing on it
+-- the world with the shelf `common`, no other shelf, no key and no entry
 abbrev pub only_common : World
 only_common = record { keys = map.empty; shelves = map.insert map.empty common None; entries = map.empty }
 
--- ---- what every world keeps
+-- ---- what holds of every world
 
--- the most bytes of a go.mod
+-- the most bytes that a go.mod may have
 abbrev pub gomod_limit : ℕ
 gomod_limit = 1048576
 
--- the most bytes of a zip
+-- the most bytes that a zip may have
 abbrev pub zip_limit : ℕ
 zip_limit = 16777216
 
--- the most versions of one path on one shelf
+-- the most versions of one path that a shelf may have
 abbrev pub version_limit : ℕ
 version_limit = 4096
 
--- the time of a pseudo-version is that of its stamp; another version has a time, or none
+-- this may be the time of an entry with a version of this class: for a pseudo-version it is that of its stamp, for any other
+-- version it is absent or well formed
 abbrev pub IsTimeOf : Class → Option (List ℕ) → Type 0
 IsTimeOf (class.Pseudo stamp) time = time ≡ Some stamp
 IsTimeOf c None = Unit {0}
 IsTimeOf c (Some time) = IsTime time
 
--- by these keywords an entry may stand at a place: path and version are well formed and go together, the files are
--- within the limits, the time is that of the version, and the go.mod is that of the path
+-- By these keywords an entry may stand at a place: path and version are well formed and fit each other, the files are within
+-- the limits, the time may be that of the version, and the go.mod is that of the path and the version.
 pub record IsEntryBy (known : Keywords) (q : Place) (e : Entry) : Type 0 where
   pub path : IsPath q.path
   pub version : IsVersionText q.version
@@ -162,26 +164,26 @@ pub record IsEntryBy (known : Keywords) (q : Place) (e : Entry) : Type 0 where
   pub time : IsTimeOf (class_of version.0) e.time
   pub reads : IsGoModBy known q.path version.0.marked e.gomod
 
--- so it is by the profile in force
+-- by the profile in force an entry may stand at a place
 abbrev pub IsEntry : Place → Entry → Type 0
 IsEntry q e = IsEntryBy profile_in_force q e
 
--- What every world keeps whose go.mods are read by these keywords.
+-- What holds of every world whose go.mods are read by these keywords.
 pub record IsWorldBy (known : Keywords) (w : World) : Type 0 where
-  -- common is there and has no parent, and each other shelf has the name of a team
+  -- common exists and has no parent, and each other shelf has the name of a team
   pub has_common : map.get w.shelves common ≡ Some None
   pub team_names : (s : List ℕ) → map.contains_key w.shelves s ≡ true → (s ≡ common) ⊎ (is_team_name s ≡ true)
-  -- each parent is there and has none: it is common or a group
+  -- each parent exists and has no parent itself: it is common or a group
   pub parents : (s parent : List ℕ) → map.get w.shelves s ≡ Some (Some parent) → map.get w.shelves parent ≡ Some None
-  -- each key is well formed, and its shelf is there
+  -- each key is well formed, and its shelf exists
   pub key_names : (k : List ℕ) (h : Holder) → map.get w.keys k ≡ Some h → is_key k ≡ true
   pub keys_stand : (k : List ℕ) (h : Holder) → map.get w.keys k ≡ Some h → map.contains_key w.shelves h.shelf ≡ true
-  -- each entry may stand at its place, and its shelf is there
+  -- each entry may stand at its place, and its shelf exists
   pub entries_fit : (q : Place) (e : Entry) → map.get w.entries q ≡ Some e → IsEntryBy known q e
   pub entries_stand : (q : Place) (e : Entry) → map.get w.entries q ≡ Some e → map.contains_key w.shelves q.shelf ≡ true
   -- no shelf has more versions of a path than the limit
   pub few : (s p : List ℕ) → count w s p ≤ version_limit
 
--- What every world keeps: its go.mods are read by the profile in force.
+-- What holds of every world: its go.mods are read by the profile in force.
 abbrev pub IsWorld : World → Type 0
 IsWorld w = IsWorldBy profile_in_force w

@@ -1,4 +1,4 @@
-//! Counts of versions that are kept.
+//! Counts of versions that a store keeps.
 ghost use Rattle.std.specs.Prelude.{◌≡◌, ◌⊎◌, None};
 ghost use Rattle.std.specs.FinMap as map;
 ghost use Rattle.world.specs.World.{World, place, count, with_entry};
@@ -9,9 +9,8 @@ use crate::maps::text_map::TextMap;
 use std::alloc::Global;
 use std::marker::Model;
 
-/// How many versions of some paths stand on some shelves, by shelf and path, so that a store need not
-/// count them again. Contracts see the map of them.
-/// With a kept count a publish costs the same however many versions its path has.
+/// How many versions of some paths stand on some shelves, so that a store need not count them again: with a kept count a
+/// publish costs as much however many versions its path has. Contracts see a map by shelf and path.
 #[derive(Drop)]
 pub struct Counts {
     shelves: TextMap<TextMap<u64>>,
@@ -31,7 +30,7 @@ impl Model for Counts {
 }
 
 impl Counts {
-    /// No count. It takes no memory.
+    /// Returns an empty `Counts`. Allocates nothing.
     pub fn new(alloc: Global) -> Counts
         ensures { result ≡ map.empty }
     {
@@ -40,14 +39,14 @@ impl Counts {
         }
     }
 
-    /// The count of a path on a shelf, if it is kept.
+    /// Returns the count of a path on a shelf, or None if it is not kept.
     pub fn get(&self, shelf: &str, path: &str) -> Option<u64>
         ensures { result ≡ get_under self.now shelf.now path.now }
     {
         self.shelves.get_under(shelf, path).copied()
     }
 
-    /// Keeps the count of a path on a shelf. Without memory it forgets all counts.
+    /// Keeps the count of a path on a shelf. If memory runs out, it forgets all counts instead.
     pub fn keep(&mut self, alloc: Global, shelf: &str, path: &str, number: u64)
         ensures kept { (self.new ≡ put_under self.old shelf.now path.now number) ⊎ (self.new ≡ map.empty) }
         ensures counts { (w : World) → AreCounts w self.old → number ≡ count w shelf.now path.now → AreCounts w self.new }
@@ -61,7 +60,8 @@ impl Counts {
         }
     }
 
-    /// Counts one more version of a path on a shelf, where its count is kept.
+    /// Counts one more version of a path on a shelf if that count is kept. If memory runs out or the count cannot grow, it
+    /// forgets all counts instead.
     pub fn raise(&mut self, alloc: Global, shelf: &str, path: &str)
         ensures { (w : World) (v : _) (e : _) → map.get w.entries (place shelf.now path.now v) ≡ None
             → AreCounts w self.old → AreCounts (with_entry w (place shelf.now path.now v) e) self.new }

@@ -1,4 +1,4 @@
-//! What stands on a shelf, and who may ask for it.
+//! What stands on a shelf, and what a key holds.
 ghost use Rattle.std.specs.Prelude.{◌≡◌, IfOk};
 ghost use Rattle.world.specs.World.{place, heading_of};
 
@@ -8,16 +8,16 @@ use std::alloc::{AllocError, Global};
 use std::marker::Model;
 use text::Text;
 
-/// The most bytes of a go.mod.
+/// A go.mod has at most this many bytes.
 pub const MAX_GOMOD: usize = 1_048_576;
 
-/// The most bytes of a zip.
+/// A zip has at most this many bytes.
 pub const MAX_ZIP: usize = 16_777_216;
 
-/// The most versions of one path on one shelf.
+/// A shelf has at most this many versions of one path.
 pub const MAX_VERSIONS: u64 = 4_096;
 
-/// Where an entry stands. The path and the version are their texts.
+/// Where an entry stands: a shelf, and the texts of a path and a version.
 #[derive(PartialEq, Eq, PartialOrd, Ord, Drop)]
 pub struct Place {
     pub shelf: Text,
@@ -33,21 +33,21 @@ pub struct Entry {
     pub time: Option<TimeText>,
 }
 
-/// What a published version shows without its zip.
+/// What a published version shows without its zip: its go.mod and its time.
 #[derive(Drop)]
 pub struct Heading {
     pub gomod: Bytes,
     pub time: Option<TimeText>,
 }
 
-/// An entry, with the shelf that it stands on.
+/// An entry with the shelf that it stands on.
 #[derive(Drop)]
 pub struct Seen {
     pub shelf: Text,
     pub entry: Entry,
 }
 
-/// An entry with the shelf that it stands on, both borrowed.
+/// A borrowed entry with the shelf that it stands on.
 #[derive(Drop)]
 pub struct SeenRef<'a> {
     pub shelf: &'a str,
@@ -62,7 +62,7 @@ impl<'a> Model for SeenRef<'a> {
     ghost view = { λ s. record { shelf = s.shelf.now; entry = s.entry.now } };
 }
 
-/// An entry whose files are borrowed from whoever holds them.
+/// An entry whose files are borrowed.
 #[derive(Drop)]
 pub struct EntryRef<'a> {
     pub gomod: &'a [u8],
@@ -87,7 +87,7 @@ pub enum Right {
     Publishes,
 }
 
-/// What a key belongs to and may do.
+/// The shelf that a key belongs to, and what the key may do.
 #[derive(Drop)]
 pub struct Holder {
     pub shelf: Text,
@@ -95,7 +95,7 @@ pub struct Holder {
 }
 
 impl Place {
-    /// The place of a shelf, a path and a version.
+    /// Returns the place of a shelf, a path and a version. Fails only if memory runs out.
     pub fn new(alloc: Global, shelf: &str, path: &str, version: &str) -> Result<Place, AllocError>
         ensures { IfOk result (λ q. q ≡ place shelf.now path.now version.now) }
     {
@@ -111,7 +111,7 @@ impl Place {
 }
 
 impl<'a> SeenRef<'a> {
-    /// A copy of both.
+    /// Returns a copy of the shelf and the entry. Fails only if memory runs out.
     pub fn copy(&self, alloc: Global) -> Result<Seen, AllocError>
         ensures { IfOk result (λ s. s ≡ self.now) }
     {
@@ -122,7 +122,7 @@ impl<'a> SeenRef<'a> {
 }
 
 impl Entry {
-    /// A copy of borrowed files.
+    /// Returns an entry with copies of the borrowed files. Fails only if memory runs out.
     pub fn copy_of(alloc: Global, entry: &EntryRef) -> Result<Entry, AllocError>
         ensures { IfOk result (λ e. e ≡ entry.now) }
     {
@@ -135,7 +135,7 @@ impl Entry {
         })
     }
 
-    /// A copy of the entry without its zip.
+    /// Returns a copy of the entry without its zip. Fails only if memory runs out.
     pub fn heading(&self, alloc: Global) -> Result<Heading, AllocError>
         ensures { IfOk result (λ h. h ≡ heading_of self.now) }
     {
@@ -146,7 +146,7 @@ impl Entry {
         })
     }
 
-    /// The files of the entry, borrowed.
+    /// Returns the entry with its files borrowed.
     pub fn as_ref(&self) -> EntryRef
         ensures { result ≡ self.now }
     {
@@ -159,7 +159,7 @@ impl Entry {
 }
 
 impl Holder {
-    /// A shelf and a right.
+    /// Returns the holder with a copy of the shelf's name and this right. Fails only if memory runs out.
     pub fn new(alloc: Global, shelf: &str, right: Right) -> Result<Holder, AllocError>
         ensures { IfOk result (λ h. h ≡ record { shelf = shelf.now; right = right }) }
     {
@@ -167,7 +167,7 @@ impl Holder {
         Ok(Holder { shelf, right })
     }
 
-    /// A copy of it.
+    /// Returns a copy of the holder. Fails only if memory runs out.
     pub fn copy(&self, alloc: Global) -> Result<Holder, AllocError>
         ensures { IfOk result (λ h. h ≡ self.now) }
     {

@@ -1,5 +1,5 @@
-//! What an entry must pass to stand at a path and a version: one table of checks, for a publish and
-//! for a store that takes over tables.
+//! What an entry must pass to stand at a path and a version: one table of checks, which a publish and a store that takes
+//! over tables share.
 ghost use Rattle.std.specs.Prelude.{◌≡◌, IfOk};
 ghost use Rattle.world.specs.EntryTest as spec;
 
@@ -16,19 +16,19 @@ use std::alloc::{AllocError, Global};
 pub enum Misfit {
     /// The go.mod or the zip has more bytes than its limit.
     TooLarge,
-    /// The path has no such version. (Go Modules Reference, "Major version suffixes".)
+    /// The version does not fit the path. (Go Modules Reference, "Major version suffixes".)
     Version,
-    /// The time is not that of the version: that of its stamp, for a pseudo-version.
+    /// The version is a pseudo-version, and the entry does not have the time of its stamp.
     Time,
-    /// The go.mod does not read; the number of the faulty line, 0 where the fault has none.
+    /// The go.mod does not read. The number of the faulty line, or 0 if the fault has none.
     GoMod(usize),
     /// The go.mod names another path.
     ModulePath,
-    /// The version has the mark, and the go.mod has more than its module directive.
+    /// The version is marked `+incompatible`, and the go.mod has more than its module directive.
     NotBare,
 }
 
-/// The first check of an entry that fails, apart from those of its go.mod. It takes no memory.
+/// Returns the first check of an entry that fails, apart from those of its go.mod, or None if all pass. Allocates nothing.
 pub fn own_misfit(path: &ModulePath, version: &Version, entry: &EntryRef) -> Option<Misfit>
     ensures { result ≡ spec.own_misfit path.now version.now entry.now }
 {
@@ -44,7 +44,7 @@ pub fn own_misfit(path: &ModulePath, version: &Version, entry: &EntryRef) -> Opt
     None
 }
 
-/// The first check of a go.mod, as it was read, that fails. It takes no memory.
+/// Returns the first check of a go.mod, as it was read, that fails, or None if all pass. Allocates nothing.
 pub fn module_misfit(path: &ModulePath, version: &Version, gomod: &Reading) -> Option<Misfit>
     ensures { result ≡ spec.module_misfit path.now version.now.marked gomod.now }
 {
@@ -54,7 +54,7 @@ pub fn module_misfit(path: &ModulePath, version: &Version, gomod: &Reading) -> O
     }
 }
 
-/// The first check of a go.mod that reads that fails.
+/// Returns the first check that fails of a go.mod that reads, or None if all pass.
 fn misfit_of(path: &ModulePath, version: &Version, says: &GoMod) -> Option<Misfit>
     ensures { result ≡ spec.module_misfit path.now version.now.marked (Reading.Module says.now) }
 {
@@ -67,9 +67,9 @@ fn misfit_of(path: &ModulePath, version: &Version, says: &GoMod) -> Option<Misfi
     None
 }
 
-/// The version that a text is, if an entry may stand at it and at the path that another text is: both are
-/// well formed, and no check of the entry fails. (Go Modules Reference, "Module paths", "Versions" and
-/// "go.mod files".)
+/// Returns the version that a text names, if an entry may stand at it and at the path that another text is, and None
+/// otherwise: if one of the texts is malformed, or a check of the entry fails. Fails only if memory runs out.
+/// (Go Modules Reference, "Module paths", "Versions" and "go.mod files".)
 pub fn fitting_version(
     alloc: Global,
     path: &str,
@@ -100,7 +100,8 @@ fn is_small(entry: &EntryRef) -> bool
     entry.gomod.len() <= MAX_GOMOD && entry.zip.len() <= MAX_ZIP
 }
 
-/// The type of a time holds only a time.
+/// Whether this may be the time of an entry whose version has this class. A `TimeText` holds only well-formed times, so only
+/// a pseudo-version needs a comparison.
 fn is_time_of(class: Class, time: Option<TimeText>) -> bool
     ensures { result ≡ spec.is_time_of class time }
 {

@@ -7,7 +7,7 @@ use modpath::{ModulePath, PathError};
 use modver::{Version, VersionFault};
 use std::alloc::{AllocError, Global};
 
-/// The path that a text is, if it is one.
+/// Returns the module path that a text is, or None if it is no module path. Fails only if memory runs out.
 pub fn path_of(alloc: Global, text: &str) -> Result<Option<ModulePath>, AllocError>
     ensures { IfOk result (λ p. p ≡ path_of text.now) }
 {
@@ -18,7 +18,7 @@ pub fn path_of(alloc: Global, text: &str) -> Result<Option<ModulePath>, AllocErr
     }
 }
 
-/// The version that a text names, if it names one.
+/// Returns the version that a text names, or None if it names no version. Fails only if memory runs out.
 pub fn version_of(alloc: Global, text: &str) -> Result<Option<Version>, AllocError>
     ensures { IfOk result (λ v. v ≡ version_of text.now) }
 {

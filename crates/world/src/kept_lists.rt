@@ -1,4 +1,4 @@
-//! Lists of versions that are kept.
+//! Lists of versions that a store keeps.
 
 ghost use Rattle.std.specs.Prelude.{◌≡◌, ◌+◌, ◌≤◌, [], length, IfOk, IfSome};
 ghost use Rattle.std.specs.List.{position};
@@ -12,14 +12,14 @@ use std::alloc::{AllocError, Global};
 use std::marker::Model;
 use text::Text;
 
-/// The most versions that are kept, in all lists. One takes some 200 bytes.
-/// The figure bounds the memory, not the answers: a longer list is found again each time.
+/// All kept lists together hold at most this many versions, of some 200 bytes each.
+/// The figure bounds memory, not answers: a longer list is found again each time.
 const MOST_VERSIONS: usize = 65_536;
 
-/// The most lists that are kept. One is found by going over them.
+/// At most this many lists are kept. A lookup goes over all of them.
 const MOST_LISTS: usize = 256;
 
-/// The versions of a path that a shelf sees, as they were found.
+/// A list of the versions of a path that a shelf sees, as they were found.
 #[derive(Drop)]
 pub struct KeptList {
     pub shelf: Text,
@@ -28,7 +28,7 @@ pub struct KeptList {
 }
 
 impl KeptList {
-    /// Whether it is that of a shelf and a path.
+    /// Whether the list is that of a shelf and a path.
     fn is_of(&self, shelf: &str, path: &str) -> bool
         ensures { result ≡ is_of shelf.now path.now self.now }
     {
@@ -36,7 +36,7 @@ impl KeptList {
     }
 }
 
-/// Of some paths the versions that a shelf sees, in ascending precedence. Contracts see the lists.
+/// The versions that some shelves see of some paths, each list in ascending precedence. Contracts see the lists.
 #[derive(Drop)]
 pub struct KeptLists {
     lists: Vec<KeptList>,
@@ -56,7 +56,7 @@ impl Model for KeptLists {
 }
 
 impl KeptLists {
-    /// No list. It takes no memory.
+    /// Returns an empty `KeptLists`. Allocates nothing.
     pub fn new(alloc: Global) -> KeptLists
         ensures { result ≡ [] }
     {
@@ -65,7 +65,7 @@ impl KeptLists {
         }
     }
 
-    /// Takes out the versions of a path that a shelf sees, where their list is kept.
+    /// Takes out and returns the versions of a path that a shelf sees, or returns None if their list is not kept.
     /// `latest` takes the list and puts it back, so it copies nothing.
     pub fn take(&mut self, shelf: &str, path: &str) -> Option<Versions>
         ensures others { (w : World) → AreLists w self.old → AreLists w self.new }
@@ -77,9 +77,9 @@ impl KeptLists {
         Some(list.versions)
     }
 
-    /// Keeps the versions of a path that a shelf sees. Where they have no room beside the others all
-    /// others are forgotten first, and without memory all are; a list that has no room at all is not kept,
-    /// nor is an empty one, which is soon found.
+    /// Keeps the versions of a path that a shelf sees. If they have no room beside the other lists, it forgets those first; if
+    /// memory runs out, it forgets all lists. It does not keep a list that is too long for any room, nor an empty one, which is
+    /// found quickly.
     pub fn keep(&mut self, alloc: Global, shelf: &str, path: &str, versions: Versions)
         ensures { (w : World) → AreLists w self.old → versions ≡ versions_of w shelf.now path.now → AreLists w self.new }
     {
@@ -95,7 +95,7 @@ impl KeptLists {
         }
     }
 
-    /// Keeps a copy of the versions of a path that a shelf sees. Without memory for it all lists are forgotten.
+    /// Keeps a copy of the versions of a path that a shelf sees. If memory runs out, it forgets all lists.
     pub fn keep_copy(&mut self, alloc: Global, shelf: &str, path: &str, versions: &[Version])
         ensures { (w : World) → AreLists w self.old → versions.now ≡ versions_of w shelf.now path.now → AreLists w self.new }
     {
@@ -105,8 +105,8 @@ impl KeptLists {
         }
     }
 
-    /// Forgets the lists of a path, which gets one more version.
-    /// The lists of all shelves, because every shelf sees what is stored on `common`.
+    /// Forgets the lists of a path that gets one more version. It forgets them for every shelf, because every shelf sees what is
+    /// stored on `common`.
     pub fn forget(&mut self, path: &str)
         ensures { (w : World) (s v : _) (e : _) → AreLists w self.old
             → AreLists (with_entry w (place s path.now v) e) self.new }
@@ -114,14 +114,14 @@ impl KeptLists {
         self.lists.retain(|list| list.path.as_str() != path);
     }
 
-    /// Where the list of a shelf and a path stands, if it is kept.
+    /// Returns the index of the list of a shelf and a path, or None if it is not kept.
     fn place(&self, shelf: &str, path: &str) -> Option<usize>
         ensures { result ≡ position (is_of shelf.now path.now) self.now }
     {
         self.lists.iter().position(|list| list.is_of(shelf, path))
     }
 
-    /// How many versions the lists have.
+    /// Returns how many versions all lists hold together.
     fn size(&self) -> usize
         ensures { result ≡ versions_in self.now }
     {
@@ -132,7 +132,7 @@ impl KeptLists {
         size
     }
 
-    /// Puts in a list that has room.
+    /// Adds a list, for which there must be room. Fails only if memory runs out.
     fn add(
         &mut self,
         alloc: Global,
@@ -155,7 +155,7 @@ impl KeptLists {
     }
 }
 
-/// A copy of the versions.
+/// Returns a copy of the versions. Fails only if memory runs out.
 fn copied(alloc: Global, versions: &[Version]) -> Result<Versions, AllocError>
     ensures { IfOk result (λ copy. copy ≡ versions.now) }
 {

@@ -6,20 +6,20 @@ ghost use Rattle.world.specs.Places.{PlacesRead, SeenPlacesRead};
 ghost use Rattle.world.specs.Profiles.{Profile2KeepsWorlds};
 ghost use Rattle.world.specs.Versions.{VersionsAscend};
 
-/// The test of an entry passes exactly those that may stand at their place.
+/// The test of an entry passes exactly those entries that may stand at their place.
 pub fn entry_tests()
     ensures { EntryTestIsExact }
 {}
 
-/// A shelf is `common`, a group or a team, and sees itself, `common`, and the group that it is a member of. Without groups
-/// it sees itself and `common`.
+/// A shelf is `common`, a group or a team, and sees itself, `common`, and the group that it is a member of. In a world without
+/// groups it sees itself and `common`.
 pub fn groups()
     ensures kinds { EachHasAKind }
     ensures sight { SeesItsGroup }
     ensures alone { SeesItselfAndCommon }
 {}
 
-/// What a shelf sees of a world is a world, with the shelves that it sees, each of them.
+/// What a shelf sees of a world is a world, and the shelves of that world are exactly those that the shelf sees.
 pub fn parts()
     ensures world { PartIsWorld }
     ensures chain { PartHasTheChain }
@@ -30,7 +30,7 @@ pub fn versions_ascend()
     ensures { VersionsAscend }
 {}
 
-/// The path and the version of each entry of a world read, and so do those of each entry that a shelf sees.
+/// The path and the version of each entry of a world can be read, and so can those of each entry that a shelf sees.
 pub fn places_read()
     ensures entries { PlacesRead }
     ensures seen { SeenPlacesRead }

@@ -1,10 +1,10 @@
-//! What stands on the shelves and whose the keys are; what a store of them has to do; and the store in memory.
+//! The shelves, their entries and their keys; the trait of a store that keeps them; and a store in memory.
 //!
-//! There is the shelf `common`, and one shelf for each group and for each team, which may be a member of one group, for
-//! good. An entry stands at a shelf, a module path and a version, and holds the go.mod and the zip as they were
-//! received, and a time where it has one. A key belongs to one shelf, and may read, or read and publish. A shelf sees
-//! of each version its own entry if there is one, else that of its group if it has one and that is there, else that of
-//! `common`.
+//! There is the shelf `common`, and one shelf for each group and for each team. A team may be a member of one group, and
+//! stays in it. An entry stands at a shelf, a module path and a version. It holds the go.mod and the zip as they were
+//! received, and a time if it has one. A key belongs to one shelf, and may read, or read and publish. Of each version a
+//! shelf sees its own entry if there is one, otherwise that of its group if the shelf has a group and the group has an
+//! entry, otherwise that of `common`.
 //!
 //! | on the shelves | `gamma`, of the group `platform`, sees | `platform` sees | `alpha`, of no group, sees |
 //! |---|---|---|---|
@@ -13,14 +13,20 @@
 //! | `platform` has it too, with the zip `h` | `m` | `h` | nothing |
 //! | `common` has it too, with the zip `c` | `m` | `h` | `c` |
 //!
-//! Nothing here knows of requests: the crate `shelf` answers them over any [`shelves::Shelves`]. A contract says
+//! This crate knows nothing of requests: the crate `shelf` answers them over any [`shelves::Shelves`]. A contract says
 //! what a call does in each world that the store stands for, and to what a crash may leave.
-//! [`map_shelves::MapShelves`] keeps the shelves in ordered maps. [`entry_test`] has the checks of an entry, for a
-//! publish and for a store that takes over tables, and [`laws`] says that they are exact. [`entry`] has what stands
-//! on a shelf and what a key holds, [`names`] the rules of team names and keys, [`forms`] the path and the version
-//! that a text is, [`reading`] what a go.mod says, [`standing`] how an entry that is handed in stands to what is
-//! there, [`versions`] the order of versions and the choice of the latest, and [`registry`] what a command of the registry
-//! comes to and why a store fails. [`counts`] and [`kept_lists`] are what a store keeps of its answers to give them again.
+//!
+//! - [`entry`]: what stands on a shelf, and what a key holds.
+//! - [`names`]: the rules of team names and keys. [`forms`]: the path and the version that a text names.
+//! - [`reading`]: what a go.mod says. [`entry_test`]: the checks that an entry must pass, both for a publish and for a
+//!   store that takes over tables.
+//! - [`standing`]: how an entry that is handed in compares with what is there.
+//! - [`versions`]: the order of versions, and the choice of the latest.
+//! - [`registry`]: the outcome of a registry command, and why a store fails.
+//! - [`shelves`]: the trait of a store. [`map_shelves::MapShelves`]: a store in ordered maps.
+//! - [`counts`] and [`kept_lists`]: answers that a store keeps so that it need not find them again.
+//! - [`laws`]: what holds of worlds, for instance that the test of an entry is exact.
+//!
 //! Contracts see the types of [`bytes`], [`version_list`] and [`text_set`] as lists and sets.
 #![tactic(auto)]
 

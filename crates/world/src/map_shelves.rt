@@ -1,4 +1,4 @@
-//! Shelves in memory.
+//! A store in memory.
 ghost use Rattle.std.specs.Prelude.{◌≡◌, ◌++◌, option_copied, unwrap_or, IfOk, IsOk, OnOk, OnErr};
 ghost use Rattle.std.specs.FinMap as map;
 ghost use Rattle.std.specs.FinSet as set;
@@ -29,7 +29,7 @@ use std::alloc::{AllocError, Global};
 use std::marker::Model;
 use text::Text;
 
-/// Shelves in ordered maps, and the lists of versions that were asked of them. Contracts see their world.
+/// Shelves in ordered maps, with the lists of versions that they were asked for. Contracts see the world.
 #[derive(Drop)]
 pub struct MapShelves {
     alloc: Global,
@@ -54,7 +54,7 @@ impl Model for MapShelves {
 }
 
 impl MapShelves {
-    /// The shelf `common` alone.
+    /// Returns a store with the shelf `common` and nothing else. Fails only if memory runs out.
     pub fn new(alloc: Global) -> Result<MapShelves, AllocError>
         ensures { IfOk result (λ m. m ≡ only_common) }
     {
@@ -69,7 +69,7 @@ impl MapShelves {
         })
     }
 
-    /// The group of a shelf, if it has one.
+    /// Returns the group of a shelf, or None if it has none.
     fn group_of(&self, shelf: &str) -> Option<&str>
         ensures { option_copied result ≡ group_of self.now shelf.now }
     {
@@ -82,7 +82,7 @@ impl MapShelves {
         Some(parent.as_str())
     }
 
-    /// What stands on a shelf.
+    /// Returns the entry of a version that stands on a shelf, or None if there is none.
     fn seen_on<'a>(
         &'a self,
         shelf: &'a str,
@@ -95,7 +95,7 @@ impl MapShelves {
         Some(SeenRef { shelf, entry })
     }
 
-    /// What is seen above a shelf of this group, or of none.
+    /// Returns the entry of a version that a shelf of this group, or of no group, sees above itself, or None if there is none.
     fn seen_above<'a>(
         &'a self,
         group: Option<&'a str>,
@@ -113,7 +113,7 @@ impl MapShelves {
         }
     }
 
-    /// What a shelf sees of a version.
+    /// Returns the entry of a version that a shelf sees, or None if it sees none.
     fn seen<'a>(
         &'a self,
         shelf: &'a str,
@@ -128,7 +128,8 @@ impl MapShelves {
         }
     }
 
-    /// Adds the versions of a path above a shelf of this group, or of none, to others.
+    /// Appends to `versions` those of a path that stand on the shelves above a shelf of this group, or of no group.
+    /// Fails only if memory runs out.
     fn add_versions_above(
         &self,
         group: Option<&str>,
@@ -148,7 +149,8 @@ impl MapShelves {
             .add_versions(self.alloc, COMMON, path, versions)
     }
 
-    /// The versions of a path that a shelf sees, in no order; one that stands on more of its shelves is there as often.
+    /// Returns the versions of a path that a shelf sees, in no particular order; a version that stands on several of the shelves
+    /// that it sees occurs as often. Fails only if memory runs out.
     fn versions_seen(&self, shelf: &str, path: &str) -> Result<Vec<Version>, AllocError>
         ensures { IfOk result (λ vs. in_order (by_precedence vs.items) ≡ versions_of self.now shelf.now path.now) }
     {
@@ -159,7 +161,7 @@ impl MapShelves {
         Ok(versions)
     }
 
-    /// Puts the paths above a shelf of this group, or of none, into a set.
+    /// Puts the paths on the shelves above a shelf of this group, or of no group, into a set. Fails only if memory runs out.
     fn add_paths_above(&self, group: Option<&str>, paths: &mut TextSet) -> Result<(), AllocError>
         ensures { OnOk result (paths.new ≡ set.union paths.old (paths_on self.now (above (option_copied group.entry)))) }
     {
@@ -170,8 +172,8 @@ impl MapShelves {
         self.entries.add_paths(self.alloc, COMMON, paths)
     }
 
-    /// The versions of a path that a shelf sees, in ascending precedence: those that are kept, which
-    /// are so no longer, or else as they are found.
+    /// Returns the versions of a path that a shelf sees, in ascending precedence. Takes the kept list out if there is one, and
+    /// looks the versions up otherwise. Fails only if memory runs out.
     fn take_versions(&mut self, shelf: &str, path: &str) -> Result<Versions, AllocError>
         ensures stays { self.new ≡ self.old }
         ensures found { IfOk result (λ vs. vs ≡ versions_of self.old shelf.now path.now) }
@@ -182,7 +184,7 @@ impl MapShelves {
         sorted(self.alloc, self.versions_seen(shelf, path)?)
     }
 
-    /// A copy of what a shelf sees of a version, without its zip.
+    /// Returns a copy of what a shelf sees of a version without its zip, or None if it sees no entry. Fails only if memory runs out.
     fn heading_seen(
         &self,
         shelf: &str,
@@ -197,7 +199,8 @@ impl MapShelves {
         }
     }
 
-    /// The latest of the versions of a path that a shelf sees, which are given.
+    /// Returns the latest of the versions of a path that a shelf sees, which are given, or None if there is none.
+    /// Fails only if memory runs out.
     fn latest_among(
         &self,
         shelf: &str,
@@ -217,7 +220,7 @@ impl MapShelves {
 }
 
 impl MapShelves {
-    /// Whether this is a group.
+    /// Whether the name is that of a group.
     fn is_group(&self, name: &str) -> bool
         ensures { result ≡ is_group self.now name.now }
     {
@@ -227,7 +230,7 @@ impl MapShelves {
         }
     }
 
-    /// Whether a group is named that is none.
+    /// Whether a group is named and does not exist.
     fn lacks_group(&self, group: Option<&str>) -> bool
         ensures { result ≡ lacks_group self.now (option_copied group.entry) }
     {
@@ -237,8 +240,8 @@ impl MapShelves {
         }
     }
 
-    /// Puts in a shelf that is not there. All lists of versions are forgotten, as one that was asked of
-    /// it before may have more now.
+    /// Adds a shelf that is not there yet. It forgets all lists of versions, because one that was asked of this shelf before may
+    /// be longer now. Fails only if memory runs out.
     fn add_shelf(&mut self, name: &str, parent: Option<Text>) -> Result<(), AllocError>
         ensures ok { OnOk result (self.new ≡ with_shelf self.old name.now parent) }
         ensures err { OnErr result (self.new ≡ self.old) }
@@ -249,7 +252,7 @@ impl MapShelves {
     }
 }
 
-/// The parent of a team of this group, or of none.
+/// Returns the parent of a team of this group, or of no group.
 fn parent_of(group: Option<&str>) -> &str
     ensures { result.now ≡ unwrap_or (option_copied group.entry) common }
 {
@@ -305,7 +308,7 @@ impl Shelves for MapShelves {
         Ok(self.heading_seen(shelf, path, version)?)
     }
 
-    /// How an entry that is handed in stands to what the shelf sees of the version. It takes no memory.
+    /// Returns how an entry that is handed in compares with what the shelf sees of the version. Never fails, and allocates nothing.
     fn compare(
         &mut self,
         shelf: &str,
@@ -345,7 +348,7 @@ impl Shelves for MapShelves {
         Ok(paths)
     }
 
-    /// How many versions of the path stand on the shelf. It takes no memory.
+    /// Returns how many versions of the path stand on the shelf. Never fails, and allocates nothing.
     fn count(&mut self, shelf: &str, path: &ModulePath) -> Result<u64, StoreFault>
         ensures reads { Reads (in_memory self.old) (in_memory self.new) result (λ w. count w shelf.now path.now) }
         ensures cause { HasCause 0 0 result }
@@ -411,7 +414,7 @@ impl Shelves for MapShelves {
         Ok(Registered::Done)
     }
 
-    /// Takes a key away. It takes no memory.
+    /// Takes a key away. Returns `Done`, or `NoKey` if there is no such key. Never fails, and allocates nothing.
     fn key_revoke(&mut self, key: &str) -> Result<Registered, StoreFault>
         ensures does { Does (in_memory self.old) (in_memory self.new) result
             (λ w. key_revoked w key.now) (λ w. after_key_revoke w key.now (key_revoked w key.now)) }

@@ -1,3 +1,3 @@
-//! Ordered maps, which contracts see as the finite maps that they stand for.
+//! Ordered maps, which contracts see as finite maps.
 pub mod entry_map;
 pub mod text_map;

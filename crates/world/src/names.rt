@@ -1,4 +1,4 @@
-//! The rules of names.
+//! The rules of team names and keys.
 ghost use Rattle.std.specs.Prelude.{◌≡◌, ◌||◌, nat_eq};
 ghost use Rattle.std.specs.List.{list_all};
 ghost use Rattle.world.specs.Names as spec;
@@ -6,7 +6,7 @@ ghost use Rattle.world.specs.Names as spec;
 /// The shelf that every shelf sees.
 pub const COMMON: &str = "common";
 
-/// 1 to 32 bytes of `a-z0-9-`, the first a letter, and not `common`.
+/// Whether the name has 1 to 32 bytes of `a-z0-9-`, begins with a letter, and is not `common`.
 pub fn is_team_name(name: &str) -> bool
     ensures { result ≡ spec.is_team_name name.now }
 {
@@ -14,7 +14,7 @@ pub fn is_team_name(name: &str) -> bool
     bytes.len() <= 32 && begins_lower(bytes) && all_name_bytes(bytes) && name != COMMON
 }
 
-/// 16 to 64 bytes of `a-z0-9`.
+/// Whether the key has 16 to 64 bytes of `a-z0-9`.
 pub fn is_key(key: &str) -> bool
     ensures { result ≡ spec.is_key key.now }
 {

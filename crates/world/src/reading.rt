@@ -7,17 +7,18 @@ use crate::entry::Heading;
 use gomod::{GoMod, GoModFault};
 use std::alloc::{AllocError, Global};
 
-/// What reading a go.mod gave.
+/// The result of reading a go.mod.
 #[derive(Drop)]
 pub enum Reading {
     /// What the file says.
     Module(GoMod),
-    /// It does not read; the number of the faulty line, 0 where the fault has none.
+    /// The file does not read. The number of the faulty line, or 0 if the fault has none.
     Fault(usize),
 }
 
 impl Reading {
-    /// Reads a go.mod, or gives the line of its fault. Fails only if memory ran out. (Go Modules Reference, "go.mod files".)
+    /// Returns what a go.mod says, or the line of its fault. Fails only if memory runs out.
+    /// (Go Modules Reference, "go.mod files".)
     pub fn of(alloc: Global, bytes: &[u8]) -> Result<Reading, AllocError>
         ensures { IfOk result (λ r. r ≡ reading_of bytes.now) }
     {
@@ -29,7 +30,8 @@ impl Reading {
     }
 }
 
-/// What the go.mod of a version says.
+/// Returns what the go.mod of a version says, or None if there is no version or its go.mod does not read.
+/// Fails only if memory runs out.
 pub fn gomod_in(alloc: Global, heading: Option<Heading>) -> Result<Option<GoMod>, AllocError>
     ensures { IfOk result (λ m. m ≡ module_of heading) }
 {

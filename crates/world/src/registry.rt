@@ -1,4 +1,4 @@
-//! What a command of the registry comes to, and why a store could not do it.
+//! The outcome of a registry command, and why a store fails.
 ghost use Rattle.std.specs.Prelude.{◌≡◌};
 ghost use Rattle.world.specs.declared.registry.StoreFault.TheVariants.{Memory};
 
@@ -8,24 +8,24 @@ use std::alloc::AllocError;
 #[derive(Clone, Copy, Debug, PartialEq, Eq)]
 pub enum Registered {
     Done,
-    /// The name or the key breaks its rule.
+    /// The name or the key is malformed.
     Name,
-    /// The name or the key is there already.
+    /// The name or the key exists already.
     Taken,
-    /// There is no shelf of that name.
+    /// No shelf has the name.
     NoTeam,
-    /// There is no such key.
+    /// The key does not exist.
     NoKey,
-    /// There is no such group.
+    /// The group does not exist.
     NoGroup,
 }
 
-/// Why a store could not do what it was asked. The world is as before.
+/// Why a store could not do what was asked. Its world is unchanged.
 #[derive(Clone, Copy, Debug, PartialEq, Eq)]
 pub enum StoreFault {
     /// A device failed.
     Device,
-    /// There was no memory.
+    /// Memory ran out.
     Memory,
 }
 

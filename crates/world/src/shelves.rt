@@ -1,4 +1,4 @@
-//! A store of shelves.
+//! The trait of a store of shelves.
 use crate::entry::{EntryRef, Heading, Holder, Right, Seen};
 use crate::registry::{Registered, StoreFault};
 use crate::standing::Standing;
@@ -7,8 +7,9 @@ use crate::version_list::Versions;
 use modpath::ModulePath;
 use modver::Version;
 
-/// A store. What a call does is said in each world that the store stands for before it, as far as
-/// no answer of a disk was wrong. After a call that fails the store stands for the same world; a crash may leave the change, whole.
+/// A store. The contract of a call says what it does in each world that the store stands for before it, as long as no disk
+/// gave a wrong answer. A call fails with `Device` if a device failed, and with `Memory` if memory ran out. After a call that
+/// fails, the store stands for the world that it stood for before. A crash may leave the change, but only whole.
 pub trait Shelves {
     ghost use Rattle.std.specs.Prelude.{ℕ, ◌≡◌, option_copied};
     ghost use Rattle.std.specs.FinMap as map;
@@ -21,22 +22,22 @@ pub trait Shelves {
     ghost use Rattle.world.specs.Visible.{paths_seen};
     ghost use Rattle.world.specs.Store.{Shown, Does, DoesWhere, Reads, IsRoomFor, HasCause};
 
-    /// What is known of it.
+    /// What is known of the store.
     ghost shown: { Self → Shown };
 
-    /// How often a device has failed. It stays once it cannot grow.
+    /// How often a device has failed. The count stays once it cannot grow.
     ghost failure_count: { Self → ℕ };
 
-    /// The count of failures. It takes no memory.
+    /// Returns how often a device has failed. Allocates nothing.
     fn failures(&self) -> u64
         ensures { result ≡ failure_count self.now };
 
-    /// What the key holds, if there is such a key.
+    /// Returns what the key holds, or None if there is no such key.
     fn key(&mut self, key: &str) -> Result<Option<Holder>, StoreFault>
         ensures reads { Reads (shown self.old) (shown self.new) result (λ w. map.get w.keys key.now) }
         ensures cause { HasCause (failure_count self.old) (failure_count self.new) result };
 
-    /// What the shelf sees of the version.
+    /// Returns the entry of the version that the shelf sees, with the shelf that it stands on, or None if the shelf sees none.
     fn entry(
         &mut self,
         shelf: &str,
@@ -46,7 +47,7 @@ pub trait Shelves {
         ensures reads { Reads (shown self.old) (shown self.new) result (λ w. view w shelf.now path.now (version_text version.now)) }
         ensures cause { HasCause (failure_count self.old) (failure_count self.new) result };
 
-    /// What the shelf sees of the version without its zip.
+    /// Returns what the shelf sees of the version without its zip, or None if the shelf sees no entry.
     fn heading(
         &mut self,
         shelf: &str,
@@ -56,7 +57,7 @@ pub trait Shelves {
         ensures reads { Reads (shown self.old) (shown self.new) result (λ w. heading w shelf.now path.now (version_text version.now)) }
         ensures cause { HasCause (failure_count self.old) (failure_count self.new) result };
 
-    /// How an entry that is handed in stands to what the shelf sees of the version.
+    /// Returns how an entry that is handed in compares with what the shelf sees of the version.
     fn compare(
         &mut self,
         shelf: &str,
@@ -67,28 +68,28 @@ pub trait Shelves {
         ensures reads { Reads (shown self.old) (shown self.new) result (λ w. standing w shelf.now path.now (version_text version.now) entry.now) }
         ensures cause { HasCause (failure_count self.old) (failure_count self.new) result };
 
-    /// The versions of the path that the shelf sees, each once, in ascending precedence. (SemVer 2.0.0, section 11.)
+    /// Returns the versions of the path that the shelf sees, each once, in ascending precedence. (SemVer 2.0.0, section 11.)
     fn versions(&mut self, shelf: &str, path: &ModulePath) -> Result<Versions, StoreFault>
         ensures reads { Reads (shown self.old) (shown self.new) result (λ w. versions_of w shelf.now path.now) }
         ensures cause { HasCause (failure_count self.old) (failure_count self.new) result };
 
-    /// The latest version of the path: of those that the shelf sees the highest by rank that the go.mod of the highest
-    /// does not retract. (Go Modules Reference, "GOPROXY protocol", on `@latest`.)
+    /// Returns the latest version of the path, or None if there is none: among the versions that the shelf sees, the highest by
+    /// rank that the go.mod of the highest does not retract. (Go Modules Reference, "GOPROXY protocol", on `@latest`.)
     fn latest(&mut self, shelf: &str, path: &ModulePath) -> Result<Option<Version>, StoreFault>
         ensures reads { Reads (shown self.old) (shown self.new) result (λ w. latest_of w shelf.now path.now) }
         ensures cause { HasCause (failure_count self.old) (failure_count self.new) result };
 
-    /// The paths that the shelf sees.
+    /// Returns the paths that the shelf sees.
     fn paths(&mut self, shelf: &str) -> Result<TextSet, StoreFault>
         ensures reads { Reads (shown self.old) (shown self.new) result (λ w. paths_seen w shelf.now) }
         ensures cause { HasCause (failure_count self.old) (failure_count self.new) result };
 
-    /// How many versions of the path stand on the shelf.
+    /// Returns how many versions of the path stand on the shelf.
     fn count(&mut self, shelf: &str, path: &ModulePath) -> Result<u64, StoreFault>
         ensures reads { Reads (shown self.old) (shown self.new) result (λ w. count w shelf.now path.now) }
         ensures cause { HasCause (failure_count self.old) (failure_count self.new) result };
 
-    /// Puts an entry where there is room for it.
+    /// Puts an entry at a place, in each world in which there is room for it.
     fn insert(
         &mut self,
         shelf: &str,
@@ -100,30 +101,33 @@ pub trait Shelves {
             (shown self.old) (shown self.new) result (λ _. tt) (λ w. with_entry w (place shelf.now path.now (version_text version.now)) entry.now) }
         ensures cause { HasCause (failure_count self.old) (failure_count self.new) result };
 
-    /// Adds a team, as a member of a group or of none.
+    /// Adds a team, as a member of a group if one is named. Returns `Done`, or why the team was not added: `Name` if the name is
+    /// malformed, otherwise `Taken` if a shelf has it, otherwise `NoGroup` if the group does not exist.
     fn team_add(&mut self, name: &str, group: Option<&str>) -> Result<Registered, StoreFault>
         ensures does { Does (shown self.old) (shown self.new) result (λ w. team_added w name.now (option_copied group.entry))
             (λ w. after_team_add w name.now (option_copied group.entry) (team_added w name.now (option_copied group.entry))) }
         ensures cause { HasCause (failure_count self.old) (failure_count self.new) result };
 
-    /// Adds a group.
+    /// Adds a group. Returns `Done`, or why the group was not added: `Name` if the name is malformed, otherwise `Taken` if a shelf
+    /// has it.
     fn group_add(&mut self, name: &str) -> Result<Registered, StoreFault>
         ensures does { Does (shown self.old) (shown self.new) result (λ w. group_added w name.now) (λ w. after_group_add w name.now (group_added w name.now)) }
         ensures cause { HasCause (failure_count self.old) (failure_count self.new) result };
 
-    /// Adds a key to a shelf.
+    /// Adds a key to a shelf. Returns `Done`, or why the key was not added: `Name` if the key is malformed, otherwise `NoTeam` if
+    /// there is no such shelf, otherwise `Taken` if the key exists.
     fn key_add(&mut self, shelf: &str, key: &str, right: Right) -> Result<Registered, StoreFault>
         ensures does { Does (shown self.old) (shown self.new) result (λ w. key_added w shelf.now key.now) (λ w. after_key_add w shelf.now key.now right (key_added w shelf.now key.now)) }
         ensures cause { HasCause (failure_count self.old) (failure_count self.new) result };
 
-    /// Takes a key away.
+    /// Takes a key away. Returns `Done`, or `NoKey` if there is no such key.
     fn key_revoke(&mut self, key: &str) -> Result<Registered, StoreFault>
         ensures does { Does (shown self.old) (shown self.new) result (λ w. key_revoked w key.now) (λ w. after_key_revoke w key.now (key_revoked w key.now)) }
         ensures cause { HasCause (failure_count self.old) (failure_count self.new) result };
 
-    // What it stands for is a world.
+    // Each world that a store stands for is well formed.
     ghost sound: { (s : Self) (w : World) → (shown s).stands w → IsWorld w };
 
-    // Where a crash leaves one world alone, it leaves that world or any other.
+    // If a crash leaves this world alone, it leaves this world or any other, which says less.
     ghost wider: { (s : Self) (w x : World) → (shown s).leaves w w → (shown s).leaves w x };
 }

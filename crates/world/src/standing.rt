@@ -1,22 +1,22 @@
-//! How an entry that is handed in stands to what is there already.
+//! How an entry that is handed in compares with what is there already.
 ghost use Rattle.std.specs.Prelude.{◌≡◌, Some};
 ghost use Rattle.world.specs.Standing as spec;
 
 use crate::entry::EntryRef;
 use modver::TimeText;
 
-/// How an entry that is handed in stands to what a shelf sees of its version.
+/// How an entry that is handed in compares with what a shelf sees of its version.
 #[derive(Clone, Copy, Debug, PartialEq, Eq)]
 pub enum Standing {
     /// The shelf sees no entry.
     Absent,
-    /// It sees one with the same go.mod, the same zip and the same time.
+    /// The shelf sees an entry with the same go.mod, the same zip and the same time.
     Same,
-    /// It sees another one.
+    /// The shelf sees an entry that differs in at least one of these.
     Other,
 }
 
-/// How an entry stands to one that is there. It takes no memory.
+/// Returns `Same` if the two entries have the same files and the same time, otherwise `Other`. Allocates nothing.
 pub fn standing_to(there: &EntryRef, entry: &EntryRef) -> Standing
     ensures { result ≡ spec.standing_to (Some there.now) entry.now }
 {

@@ -29,7 +29,7 @@ impl Model for TextSet {
 }
 
 impl TextSet {
-    /// The empty set. It takes no memory.
+    /// Returns the empty set. Allocates nothing.
     pub fn new(alloc: Global) -> TextSet
         ensures { result ≡ set.empty }
     {
@@ -38,21 +38,21 @@ impl TextSet {
         }
     }
 
-    /// Whether it has no text.
+    /// Whether the set has no text.
     pub fn is_empty(&self) -> bool
         ensures { IsTrue result ↔ (self.now ≡ set.empty) }
     {
         self.tree.is_empty()
     }
 
-    /// Whether it has the text.
+    /// Whether the set has the text.
     pub fn contains(&self, text: &str) -> bool
         ensures { result ≡ set.contains self.now text.now }
     {
         self.tree.contains(text)
     }
 
-    /// Puts a text into the set. Without memory the set stays as it was.
+    /// Puts a text into the set. Fails only if memory runs out, and then leaves the set as it was.
     pub fn insert(&mut self, text: String) -> Result<(), AllocError>
         ensures ok { OnOk result (self.new ≡ set.insert self.old (string_bytes text)) }
         ensures err { OnErr result (self.new ≡ self.old) }
@@ -61,14 +61,14 @@ impl TextSet {
         Ok(())
     }
 
-    /// The texts in order. It takes no memory.
+    /// Returns the texts in order. Allocates nothing.
     pub fn iter(&self) -> Iter<'_, String>
         ensures { each string_bytes result ≡ in_order self.now }
     {
         self.tree.iter()
     }
 
-    /// The texts in order, each ended by a newline, or that there was no memory for them.
+    /// Returns the texts in order, each ended by a newline. Fails only if memory runs out.
     pub fn lines(&self, alloc: Global) -> Result<Bytes, AllocError>
         ensures { IfOk result (λ b. b ≡ lines_of (in_order self.now)) }
     {

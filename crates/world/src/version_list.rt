@@ -1,4 +1,4 @@
-//! Versions in a list.
+//! A list of versions.
 ghost use Rattle.std.specs.Prelude.{◌≡◌, IfOk, map as each};
 ghost use Rattle.modver.specs.SemanticVersion.{version_text};
 ghost use Rattle.world.specs.Lines.{lines_of};
@@ -8,7 +8,7 @@ use modver::Version;
 use std::alloc::{AllocError, Global};
 use std::marker::Model;
 
-/// Versions, which contracts see as a list.
+/// A vector of versions, which contracts see as a list.
 #[derive(Drop)]
 pub struct Versions {
     list: Vec<Version>,
@@ -24,28 +24,28 @@ impl Model for Versions {
 }
 
 impl Versions {
-    /// The versions of a vector. It takes no memory.
+    /// Returns the versions of a vector. Allocates nothing.
     pub fn new(list: Vec<Version>) -> Versions
         ensures { result ≡ list.items }
     {
         Versions { list }
     }
 
-    /// The versions in order.
+    /// Returns the versions in order.
     pub fn as_slice(&self) -> &[Version]
         ensures { result.now ≡ self.now }
     {
         self.list.as_slice()
     }
 
-    /// Their vector. It takes no memory.
+    /// Returns the vector of the versions. Allocates nothing.
     pub fn into_vec(self) -> Vec<Version>
         ensures { result.items ≡ self }
     {
         self.list
     }
 
-    /// The texts of the versions in order, each ended by a newline, or that there was no memory for them.
+    /// Returns the texts of the versions in order, each ended by a newline. Fails only if memory runs out.
     pub fn lines(&self, alloc: Global) -> Result<Bytes, AllocError>
         ensures { IfOk result (λ b. b ≡ lines_of (each version_text self.now)) }
     {

@@ -1,4 +1,4 @@
-//! A set of versions in the order of their precedence.
+//! A set of versions in order of precedence.
 ghost use Rattle.std.specs.Prelude.{◌≡◌, IfOk, OnOk, OnErr};
 ghost use Rattle.std.specs.FinSet as set;
 ghost use Rattle.world.specs.Lines.{in_order};
@@ -10,8 +10,7 @@ use std::cmp::Ordering;
 use std::collections::BTreeSet;
 use std::marker::Model;
 
-/// A version that is compared by precedence, and where that is equal by its text.
-/// (SemVer 2.0.0, section 11.)
+/// A version that is compared by precedence, and by its text where the precedence is equal. (SemVer 2.0.0, section 11.)
 #[derive(Drop)]
 struct Ranked {
     version: Version,
@@ -98,7 +97,7 @@ impl Model for VersionSet {
 }
 
 impl VersionSet {
-    /// The empty set. It takes no memory.
+    /// Returns the empty set. Allocates nothing.
     pub fn new(alloc: Global) -> VersionSet
         ensures { result ≡ set.empty }
     {
@@ -107,7 +106,7 @@ impl VersionSet {
         }
     }
 
-    /// Puts a version into the set. Without memory the set stays as it was.
+    /// Puts a version into the set. Fails only if memory runs out, and then leaves the set as it was.
     pub fn insert(&mut self, version: Version) -> Result<(), AllocError>
         ensures ok { OnOk result (self.new ≡ set.insert self.old version) }
         ensures err { OnErr result (self.new ≡ self.old) }
@@ -116,7 +115,7 @@ impl VersionSet {
         Ok(())
     }
 
-    /// The versions in their order, or that there was no memory for them.
+    /// Returns the versions in the order of the set. Fails only if memory runs out.
     pub fn into_list(self, alloc: Global) -> Result<Versions, AllocError>
         ensures { IfOk result (λ vs. vs ≡ in_order self) }
     {

@@ -1,4 +1,4 @@
-//! The versions that texts name, by their precedence, and the highest of them by rank.
+//! The versions that texts name: their precedence, and the highest of them by rank.
 ghost use Rattle.std.specs.Prelude.{◌≡◌, ◌++◌, ℕ, List, IfOk, OnOk, option_copied};
 ghost use Rattle.std.specs.FinMap as map;
 ghost use Rattle.world.specs.Latest as spec;
@@ -16,7 +16,7 @@ use latest::{latest, top};
 use modver::Version;
 use std::alloc::{AllocError, Global};
 
-/// The versions that texts name, in the order of the texts.
+/// Returns the versions that the texts name, in the order of the texts. Fails only if memory runs out.
 fn named(alloc: Global, texts: &TextSet) -> Result<Vec<Version>, AllocError>
     ensures { IfOk result (λ vs. vs.items ≡ named (in_order texts.now)) }
 {
@@ -29,7 +29,7 @@ fn named(alloc: Global, texts: &TextSet) -> Result<Vec<Version>, AllocError>
     Ok(versions)
 }
 
-/// Adds the versions that the texts of a map name to others, in the order of the texts.
+/// Appends the versions that the texts of a map name to `versions`, in the order of the texts. Fails only if memory runs out.
 pub fn add_named<V>(
     alloc: Global,
     texts: &TextMap<V>,
@@ -45,7 +45,7 @@ pub fn add_named<V>(
     Ok(())
 }
 
-/// The versions of a list by precedence, each once.
+/// Returns the versions of a list in a set ordered by precedence. Fails only if memory runs out.
 fn by_precedence(alloc: Global, mut versions: Vec<Version>) -> Result<VersionSet, AllocError>
     ensures { IfOk result (λ s. s ≡ by_precedence versions.items) }
 {
@@ -56,21 +56,22 @@ fn by_precedence(alloc: Global, mut versions: Vec<Version>) -> Result<VersionSet
     Ok(set)
 }
 
-/// The versions of a list in ascending precedence, each once. (SemVer 2.0.0, section 11.)
+/// Returns the versions of a list in ascending precedence, each once. Fails only if memory runs out. (SemVer 2.0.0, section 11.)
 pub fn sorted(alloc: Global, versions: Vec<Version>) -> Result<Versions, AllocError>
     ensures { IfOk result (λ vs. vs ≡ in_order (by_precedence versions.items)) }
 {
     by_precedence(alloc, versions)?.into_list(alloc)
 }
 
-/// The versions that texts name, in ascending precedence. (SemVer 2.0.0, section 11.)
+/// Returns the versions that the texts name, in ascending precedence, each once. Fails only if memory runs out.
+/// (SemVer 2.0.0, section 11.)
 pub fn ascending(alloc: Global, texts: &TextSet) -> Result<Versions, AllocError>
     ensures { IfOk result (λ vs. vs ≡ in_order (by_precedence (named (in_order texts.now)))) }
 {
     sorted(alloc, named(alloc, texts)?)
 }
 
-/// The highest of some versions of a path, by rank. It takes no memory.
+/// Returns the highest by rank of some versions of one path, or None if there are none. Allocates nothing.
 pub fn highest(versions: &[Version]) -> Option<&Version>
     ensures { (path : List ℕ) → AllOf path versions.now → option_copied result ≡ spec.highest versions.now }
 {
@@ -78,7 +79,8 @@ pub fn highest(versions: &[Version]) -> Option<&Version>
     versions.get(place)
 }
 
-/// The highest of those that a go.mod does not retract. It takes no memory.
+/// Returns the highest by rank of those versions of one path that the go.mod does not retract, or None if there are none.
+/// Allocates nothing.
 pub fn highest_left<'a>(versions: &'a [Version], gomod: &GoMod) -> Option<&'a Version>
     ensures { (path : List ℕ) → AllOf path versions.now → option_copied result ≡ spec.highest (spec.unretracted gomod.now versions.now) }
 {
@@ -86,7 +88,8 @@ pub fn highest_left<'a>(versions: &'a [Version], gomod: &GoMod) -> Option<&'a Ve
     versions.get(place)
 }
 
-/// The highest of some versions of a path that a go.mod does not retract.
+/// Returns the highest by rank of those versions of one path that the go.mod does not retract, or None if there are none
+/// or there is no go.mod. Fails only if memory runs out.
 pub fn latest_left(
     alloc: Global,
     versions: &[Version],

@@ -15,7 +15,7 @@ use modver::Version;
 use std::alloc::{AllocError, Global};
 use std::marker::Model;
 
-/// Entries by shelf, then by path, then by version, which contracts see as a finite map from their places.
+/// Entries by shelf, then by path, then by version, which contracts see as a finite map from places.
 /// The maps are nested, so a lookup needs no owned text and a count is a length.
 #[derive(Drop)]
 pub struct EntryMap {
@@ -40,6 +40,7 @@ impl Model for EntryMap {
 }
 
 impl EntryMap {
+    /// Returns the empty map.
     pub fn new(alloc: Global) -> EntryMap
         ensures { result ≡ map.empty }
     {
@@ -48,14 +49,14 @@ impl EntryMap {
         }
     }
 
-    /// What stands at a place.
+    /// Returns the entry at a place, or None if there is none.
     pub fn get(&self, shelf: &str, path: &str, version: &str) -> Option<&Entry>
         ensures { option_copied result ≡ map.get self.now (place shelf.now path.now version.now) }
     {
         self.shelves.get(shelf)?.get_under(path, version)
     }
 
-    /// How many versions of a path stand on a shelf.
+    /// Returns how many versions of a path stand on a shelf.
     pub fn count(&self, shelf: &str, path: &str) -> usize
         ensures { result ≡ map.len (map.retain_keys self.now (λ q. bytes_eq q.shelf shelf.now && bytes_eq q.path path.now)) }
     {
@@ -65,7 +66,7 @@ impl EntryMap {
         }
     }
 
-    /// Adds the versions of a path on a shelf to others.
+    /// Appends the versions of a path on a shelf to `versions`. Fails only if memory runs out.
     pub fn add_versions(
         &self,
         alloc: Global,
@@ -81,7 +82,7 @@ impl EntryMap {
         }
     }
 
-    /// Puts the paths on a shelf into a set.
+    /// Puts the paths on a shelf into a set. Fails only if memory runs out.
     pub fn add_paths(
         &self,
         alloc: Global,
@@ -96,7 +97,7 @@ impl EntryMap {
         }
     }
 
-    /// Puts an entry at a place.
+    /// Puts an entry at a place. Fails only if memory runs out, and then leaves the map as it was.
     pub fn insert(
         &mut self,
         alloc: Global,

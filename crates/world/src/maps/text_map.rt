@@ -33,6 +33,7 @@ impl<V> Model for TextMap<V> {
 }
 
 impl<V> TextMap<V> {
+    /// Returns the empty map.
     pub fn new(alloc: Global) -> TextMap<V>
         ensures { result ≡ map.empty }
     {
@@ -41,33 +42,35 @@ impl<V> TextMap<V> {
         }
     }
 
-    /// What stands at the text.
+    /// Returns the value at the text, or None if there is none.
     pub fn get(&self, key: &str) -> Option<&V>
         ensures { option_copied result ≡ map.get self.now key.now }
     {
         self.tree.get(key)
     }
 
+    /// Whether the map has a value at the text.
     pub fn contains_key(&self, key: &str) -> bool
         ensures { result ≡ map.contains_key self.now key.now }
     {
         self.tree.contains_key(key)
     }
 
+    /// Returns how many texts the map has.
     pub fn len(&self) -> usize
         ensures { result ≡ map.len self.now }
     {
         self.tree.len()
     }
 
-    /// Its texts in order. It takes no memory.
+    /// Returns the texts in order. Allocates nothing.
     pub fn keys(&self) -> Keys<'_, String, V>
         ensures { each string_bytes result ≡ map.keys self.now }
     {
         self.tree.keys()
     }
 
-    /// Puts its texts into a set.
+    /// Puts the texts of the map into a set. Fails only if memory runs out.
     pub fn add_keys(&self, alloc: Global, texts: &mut TextSet) -> Result<(), AllocError>
         ensures { OnOk result (texts.new ≡ with_texts texts.old (map.keys self.now)) }
     {
@@ -79,7 +82,7 @@ impl<V> TextMap<V> {
 }
 
 impl<V> TextMap<V> {
-    /// What stands at the text, to change it.
+    /// Returns the value at the text, to be changed in place, or None if there is none.
     pub fn get_mut(&mut self, key: &str) -> Option<&mut V>
         ensures* lends { sem 𝓛 (LendsValue V.row self.entry key.now result) }
         ensures value { option_copied_mut result ≡ map.get self.old key.now }
@@ -89,7 +92,7 @@ impl<V> TextMap<V> {
 }
 
 impl<V: Drop> TextMap<V> {
-    /// Puts a value at the text.
+    /// Puts a value at the text. Fails only if memory runs out, and then leaves the map as it was.
     pub fn insert(&mut self, key: String, value: V) -> Result<(), AllocError>
         ensures ok { OnOk result (self.new ≡ map.insert self.old (string_bytes key) value) }
         ensures err { OnErr result (self.new ≡ self.old) }
@@ -98,7 +101,7 @@ impl<V: Drop> TextMap<V> {
         Ok(())
     }
 
-    /// Takes what stands at the text away.
+    /// Removes and returns the value at the text, or returns None if there is none.
     pub fn remove(&mut self, key: &str) -> Option<V>
         ensures value { result ≡ map.get self.old key.now }
         ensures rest { self.new ≡ map.remove self.old key.now }
@@ -108,7 +111,7 @@ impl<V: Drop> TextMap<V> {
 }
 
 impl<V> TextMap<TextMap<V>> {
-    /// What stands at the second text in the map at the first one.
+    /// Returns the value at the second text of the map at the first one, or None if there is none.
     pub fn get_under(&self, first: &str, second: &str) -> Option<&V>
         ensures { option_copied result ≡ get_under self.now first.now second.now }
     {
@@ -117,7 +120,8 @@ impl<V> TextMap<TextMap<V>> {
 }
 
 impl<V: Drop> TextMap<TextMap<V>> {
-    /// Puts a value into the map at the first text, which is made where none is there.
+    /// Puts a value at the second text into the map at the first one, and makes that map if there is none.
+    /// Fails only if memory runs out, and then leaves the maps as they were.
     pub fn insert_under(
         &mut self,
         alloc: Global,

@@ -44,6 +44,7 @@ both_store w x ss q (Some e) agree = record {
   seen = λ u su p v. get_put_both places_total w.entries x.entries q e (place u p v) (agree.seen u su p v);
 }
 
+-- worlds that agree on these shelves still agree if one of them gets an entry on another shelf
 one_stores : (w x : World) (ss : List (List ℕ)) (q : Place) (o : Option Entry) → is_among ss q.shelf ≡ false → Agree w x ss → Agree (stored w q o) x ss
 one_stores w x ss q None apart agree = agree
 one_stores w x ss q (Some e) apart agree = record {
@@ -128,6 +129,7 @@ key_alike w x t k e f =
     ap (λ m. if not (is_key k) then Name else if not (map.contains_key m t) then NoTeam else if map.contains_key w.keys k then Taken else Done) e
     ∙ ap (λ m. if not (is_key k) then Name else if not (map.contains_key x.shelves t) then NoTeam else if map.contains_key m k then Taken else Done) f
 
+-- in worlds that agree, a kept event gets equal replies and leads to worlds that agree
 pub event_alike : (w x : World) (ss : List (List ℕ)) (e : Event) → is_kept w ss e ≡ true → IsWorld w → Reaches w ss → Agree w x ss → Alike (reply_to w e) (reply_to x e) (after w e) (after x e) ss
 event_alike w x ss (Asked Unreadable) near is all agree = record { reply = refl; worlds = agree }
 event_alike w x ss (Asked (Get k q)) near is all agree = record {

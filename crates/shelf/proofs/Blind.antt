@@ -45,6 +45,7 @@ low_seen w x s t is low st u tu = same_places w x u (low.entries u (sees_through
 
 -- ---- worlds that agree
 
+-- worlds in which s sees the same shelves agree on those exactly if they are the same to s and have one registry
 pub agree_is_low : AgreeIsLow
 agree_is_low w x s chains = (
   λ agree. (

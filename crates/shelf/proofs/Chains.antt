@@ -105,6 +105,6 @@ later_through w new later es answers run then = record {
 abbrev pub Reaches : World → List (List ℕ) → Type 0
 Reaches w ss = (t u : List ℕ) → map.contains_key w.shelves t ≡ true → is_among ss t ≡ true → sees w t u ≡ true → is_among ss u ≡ true
 
--- so it is among those that s sees later
+-- if s later sees a shelf that stands now, it later sees each shelf that this one sees now
 pub reaches : (w later : World) (s : List ℕ) → Later w later → Reaches w (chain later s)
 reaches w later s then t u stands among seen = sees_through later then.is s t u among (subst (λ ss. is_among ss u ≡ true) (sym (then.same t stands).chains) seen)

@@ -48,7 +48,7 @@ refused p right reading there n d e =
     ap (λ o. unwrap_or o Published) (failing_after (request_checks p right) (gomod_checks p reading ++ shelf_checks there n)
     ∙ ap (λ o. option_or o (first_failing (gomod_checks p reading ++ shelf_checks there n))) e)
 
--- else it is judged by its go.mod
+-- a publish that passes its own checks is judged by its go.mod, and then by what stands
 judged : (p : Publish) (right : Option Right) (reading : Option Reading) (there : Standing) (n : ℕ)
     → first_failing (request_checks p right) ≡ None
     → first_failing (request_checks p right ++ gomod_checks p reading ++ shelf_checks there n) ≡ option_or (first_failing (gomod_checks p reading)) (first_failing (shelf_checks there n))
@@ -62,7 +62,7 @@ pub refused_by_gomod : (p : Publish) (right : Option Right) (reading : Option Re
 refused_by_gomod p right reading there n d e f =
     ap (λ o. unwrap_or o Published) (judged p right reading there n e ∙ ap (λ o. option_or o (first_failing (shelf_checks there n))) f)
 
--- and then by what stands
+-- a publish that passes its own checks and those of its go.mod is judged by what stands
 pub compared : (p : Publish) (right : Option Right) (reading : Option Reading) (there : Standing) (n : ℕ)
     → first_failing (request_checks p right) ≡ None → first_failing (gomod_checks p reading) ≡ None
     → decided p right reading there n ≡ unwrap_or (first_failing (shelf_checks there n)) Published
@@ -78,13 +78,13 @@ refused_first p right d e = failing_after (request_checks p (Some right)) (gomod
 pub then_by_gomod : (p : Publish) (right : Right) → first_failing (request_checks p (Some right)) ≡ None → own_refusal p right ≡ first_failing (gomod_checks p (gomod_of p))
 then_by_gomod p right e = failing_after (request_checks p (Some right)) (gomod_checks p (gomod_of p)) ∙ ap (λ o. option_or o (first_failing (gomod_checks p (gomod_of p)))) e
 
--- what is refused so is refused whatever stands
+-- a publish that is refused for itself or its go.mod is refused whatever stands
 pub refused_alone : (w : World) (h : Holder) (p : Publish) (d : Decision) → own_refusal p h.right ≡ Some d → decision w (Some h) p ≡ d
 refused_alone w h p d e =
     let checks = shelf_checks (standing_of w h.shelf p) (count w h.shelf p.path) in
     ap (λ o. unwrap_or o Published) (failing_after (request_checks p (Some h.right) ++ gomod_checks p (gomod_of p)) checks ∙ ap (λ o. option_or o (first_failing checks)) e)
 
--- and what is not is judged by what stands
+-- a publish that is not refused for itself or its go.mod is judged by what stands
 pub judged_by_shelf : (w : World) (h : Holder) (p : Publish) → own_refusal p h.right ≡ None → decision w (Some h) p ≡ shelf_decision w h.shelf p
 judged_by_shelf w h p e =
     let checks = shelf_checks (standing_of w h.shelf p) (count w h.shelf p.path) in
@@ -210,6 +210,7 @@ pub body_of : (p : Publish) (o : Option Body) (e : Entry) → option_map (entry_
 body_of p None e is = cc
 body_of p (Some b) e is = (b, refl, cc)
 
+-- if the decision on a publish to a shelf that exists is `Published`, there is room for its entry
 pub room_for : (w : World) (h : Holder) (p : Publish) (e : Entry) → map.contains_key w.shelves h.shelf ≡ true → decision w (Some h) p ≡ Published → offered p ≡ Some e → IsRoomFor w (place_of h.shelf p) e
 room_for w h p e stands is_published is_offered =
     let is = accepted p (Some h.right) (gomod_of p) (standing_of w h.shelf p) (count w h.shelf p.path) is_published in
@@ -257,11 +258,11 @@ publishes : (right : Right) → not (may_publish (Some right)) ≡ false → rig
 publishes Publishes may = refl
 publishes Reads may = absurd (true≢false may)
 
--- whoever may publish passes the same checks
+-- what passes with one key passes with any key that may publish
 pub passes_again : (p : Publish) (right : Right) (reading : Option Reading) → Passing p (Some right) reading → Passing p (Some Publishes) reading
 passes_again p right reading is = subst (λ r. Passing p (Some r) reading) (publishes right is.own.1.1.0) is
 
--- and of such a publish, by a key that may publish, the like is there
+-- a publish that passes the checks, where the shelf sees an equal entry, gets the answer `Same`
 pub same_decided : (p : Publish) (right : Option Right) (reading : Option Reading) (there : Standing) (n : ℕ) → Passing p right reading → there ≡ standing.Same
     → decided p right reading there n ≡ Same
 same_decided p right reading there n is same =

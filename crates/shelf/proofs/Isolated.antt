@@ -25,6 +25,8 @@ ends_later w new es answers is run = later_through w new new es answers run (lat
 abbrev ToldAlike : List Bool → List Event → List Reply → World → World → List ℕ → Type 0
 ToldAlike marks es told x new s = (marked marks told ≡ replies x (marked marks es)) × Agree new (after_all x (marked marks es)) (chain new s)
 
+-- a run and the machine over the purged list, from worlds that agree, give the kept events equal replies and lead to worlds that
+-- agree, for what s sees at the end
 told_alike : (w x new : World) (s : List ℕ) (es : List Event) (answers : List Answer) → IsWorld w → Agree w x (chain new s) → Run w es answers new
     → ToldAlike (kept w (chain new s) (answered es answers)) (answered es answers) (replies_of answers) x new s
 told_alike w x new s [] [] is agree run = (refl, subst (λ y. Agree y x (chain new s)) (sym run) agree)
@@ -88,6 +90,8 @@ first_of y other e es (Failed fault ∷ rest) run all = absurd all.0
 abbrev PurgedTold : List Bool → List Answer → List Answer → World → World → List (List ℕ) → Type 0
 PurgedTold marks answers purged new other ss = (marked marks answers ≡ purged) × Agree new other ss
 
+-- a run from w, with the events kept by x, and a run from y over the purged list answer the kept events alike and end in worlds
+-- that agree, if w agrees with both and no kept event met a fault
 purged_told : (w x y new other later : World) (s : List ℕ) (es : List Event) (answers purged : List Answer) → IsWorld w → Later new later → Three w x y (chain later s)
     → Run w es answers new → KeptAnswered x (chain later s) es answers → Run y (marked (kept x (chain later s) es) es) purged other → AllReplied purged
     → PurgedTold (kept x (chain later s) es) answers purged new other (chain later s)
@@ -133,6 +137,7 @@ purged_runs_agree old old_too new new_too s events answers purged is agree run t
 
 -- ---- the purge with the faults and without
 
+-- if no kept event met a fault, purging all events and purging those that were answered gives one list, from worlds that agree
 purged_alike : (w x new : World) (s : List ℕ) (es : List Event) (answers : List Answer) → IsWorld w → Agree w x (chain new s) → Run w es answers new → KeptAnswered x (chain new s) es answers
     → marked (kept x (chain new s) es) es ≡ marked (kept w (chain new s) (answered es answers)) (answered es answers)
 purged_alike w x new s [] [] is agree run told = refl

@@ -62,6 +62,7 @@ module _ (w : World) (is : IsWorld w) (s p : List ℕ) where
 
   -- ---- the go.mod of the highest
 
+  -- if m was read from the go.mod of the highest version of the list, the go.mod of the highest version that s sees says m
   highest_says : (top : SemanticVersion) (m : GoModule) → highest vs ≡ Some top → module_of (heading w s p (version_text top)) ≡ Some m → HighestSays w s p m
   highest_says top m e f =
       let is_top = top_seen top (highest_top vs top e) in
@@ -91,6 +92,7 @@ module _ (w : World) (is : IsWorld w) (s p : List ℕ) where
 
   -- ---- the latest version
 
+  -- the latest version is the highest of those that the go.mod of the highest does not retract
   some_latest : (v : SemanticVersion) → latest_of w s p ≡ Some v → IsTop (unretracted_versions w s p) v
   some_latest v latest = elim (highest vs) as (λ o. highest vs ≡ o → latest_by w s p o ≡ Some v → IsTop (unretracted_versions w s p) v) [
     | None ↦ λ _ e. cc e
@@ -158,6 +160,7 @@ told_some w is s p v e =
     let seen = (some_latest w is s p v e).member.2.1 in
     (seen.0, seen.1, ap (latest_reply w s p) e ∙ ap (λ o. info_reply v (without_zip o)) seen.1)
 
+-- the reply to the query for the latest version is v with this time exactly if v is the latest version and has this time
 pub latest_is_told : LatestIsTold
 latest_is_told w s p v time is = (
   λ e. elim (latest_of w s p) as (λ o. latest_of w s p ≡ o → IsTop (unretracted_versions w s p) v × HasTime w s p v time) [
@@ -172,6 +175,7 @@ latest_is_told w s p v time is = (
   λ h. ap (latest_reply w s p) ((latest_is_the_top w s p v is).1 h.0) ∙ ap (λ o. info_reply v (without_zip o)) h.1.1 ∙ ap (reply.Info v) h.1.2,
 )
 
+-- the latest version is not found exactly if the go.mod of the highest leaves no version
 pub latest_is_not_found : LatestIsNotFound
 latest_is_not_found w s p is = (
   λ e. elim (latest_of w s p) as (λ o. latest_of w s p ≡ o → (v : SemanticVersion) → ¬ unretracted_versions w s p v) [

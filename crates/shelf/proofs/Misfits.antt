@@ -24,7 +24,7 @@ malformed_passes (class.Pseudo stamp) = ap not (text_self stamp)
 malformed_passes class.Release = refl
 malformed_passes class.Pre = refl
 
--- so where the test of the entry fails at its time, the check of the given time does not fail before
+-- if a malformed given time never fails the check of the entry's time, the first check of the entry that fails decides the answer
 first_told : (a b t c : Bool) (m : Misfit) → (t ≡ true → c ≡ false) → first_failing ((a, misfit.TooLarge) ∷ (b, misfit.Version) ∷ (c, misfit.Time) ∷ []) ≡ Some m
     → Some (told m) ≡ first_failing ((a, TooLarge) ∷ (b, Refused refusal.MajorMismatch) ∷ (t, Refused refusal.BadTime) ∷ (c, Refused refusal.TimeMismatch) ∷ [])
 first_told true b t c m apart e = sym (ap (option_map told) e)

@@ -1,4 +1,4 @@
--- What a shelf is told of what it sees, as a world of its own.
+-- What a shelf sees, as a world of its own, answers the shelf as the whole world does.
 use Rattle.std.proofs.Common.{◌≡◌, ℕ, List, [], ◌∷◌, Bool, true, false, cond, refl, ◌∙◌, sym, ap, subst, Option, Some, None}
 use Rattle.std.specs.Prelude.{is_some}
 use Rattle.std.specs.FinMap as map
@@ -109,7 +109,7 @@ told_by_machine w new (e ∷ es) [] run = absurd run
 told_by_machine w new (e ∷ es) (Replied r ∷ answers) run = ap (λ q. q ∷ replies_of answers) run.0 ∙ ap (λ rs. reply_to w e ∷ rs) (told_by_machine (after w e) new es answers run.1)
 told_by_machine w new (e ∷ es) (Failed fault ∷ answers) run = told_by_machine w new es answers run
 
--- and it leads where the machine leads
+-- a run leads where the machine leads with the events that were answered
 pub run_leads : (w new : World) (es : List Event) (answers : List Answer) → Run w es answers new → new ≡ after_all w (answered es answers)
 run_leads w new [] [] run = run
 run_leads w new [] (a ∷ answers) run = absurd run
@@ -158,7 +158,7 @@ shelves_through w new (GroupAdd g ∷ es) (a ∷ answers) asked run = absurd ask
 shelves_through w new (KeyAdd t k right ∷ es) (a ∷ answers) asked run = absurd asked
 shelves_through w new (KeyRevoke k ∷ es) (a ∷ answers) asked run = absurd asked
 
--- so what is later than its begin is later than its end
+-- a world later than the begin of a run of requests is later than its end
 pub later_than_asked : (w new later : World) (es : List Event) (answers : List Answer) → AllAsked es → Run w es answers new → Later w later → Later new later
 later_than_asked w new later es answers asked run then =
     let same = sym (shelves_through w new es answers asked run) in

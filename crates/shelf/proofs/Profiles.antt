@@ -57,6 +57,7 @@ decision_in_force : (w : World) (o : Option Holder) (p : Publish) → decision_b
 decision_in_force w None p = refl
 decision_in_force w (Some h) p = refl
 
+-- by the profile in force, each event gets the reply of the machine and leads to its world
 pub in_force : ProfileInForceIsTheMachine
 in_force w (Asked Unreadable) = record { replies = refl; worlds = refl }
 in_force w (Asked (Get k q)) = record { replies = keyed_in_force w (map.get w.keys k) q; worlds = refl }
@@ -121,6 +122,7 @@ module _ (w : World) (is : IsWorldBy profile_1 w) where
         ap (λ o. decision_by known w o p) found ∙ refused p (Some h.right) (gomod_by known p) (standing_of w h.shelf p) (count w h.shelf p.path) d e in
         alike k p (so profile_1 ∙ sym (so profile_2))
 
+    -- a publish whose go.mod the first profile does not read, and that passes the checks before that, is refused for it
     unread : (line : ℕ) → reading_by profile_1 b.gomod ≡ Fault line → first_failing (request_checks p (Some h.right)) ≡ None → IsUnread profile_1 w (Asked (Put k p))
     unread line fault passes =
         let failing = ap (λ r. first_failing (gomod_checks p r)) (read_by profile_1 ∙ ap (λ (r : Reading). Some r) fault) in

@@ -68,6 +68,7 @@ acceptance : (r : Reply) → IsAcceptance (Replied r) → (d : Decision) × (r �
 acceptance (reply.Decided d) is = (d, refl, is)
 acceptance r is = absurd is
 
+-- after a run that accepted each of these publishes with a key of s, s sees each as it was handed in
 all_kept : (w mid : World) (s k : List ℕ) (ps : List Publish) (answers : List Answer) → IsWorld w → belongs w k s → Run w (puts k ps) answers mid → AllAccepted answers → AllKept mid s ps
 all_kept w mid s k [] answers is own run all = tt
 all_kept w mid s k (p ∷ ps) [] is own run all = absurd run

@@ -148,7 +148,7 @@ runs_unasked shown w e fault stands = record {
 }
 
 module _ (old new : Shown) (w : World) (e : Event) where
-  -- it was answered
+  -- the event was answered
   pub runs_replied : (r : Reply) → DoesAt old new w (Ok r) (reply_to w e) (after w e) → RunsAt old new w (e ∷ []) (Replied r ∷ [])
   runs_replied r does = record {
     run = (does.answer, refl);
@@ -164,7 +164,7 @@ module _ (old new : Shown) (w : World) (e : Event) where
     ];
   }
 
-  -- it met a fault
+  -- the event met a fault
   pub runs_failed : {T : Type 0} (fault : StoreFault) (value : T) → DoesAt {T = T} old new w (Err fault) value (after w e)
       → RunsAt old new w (e ∷ []) (Failed fault ∷ [])
   runs_failed fault value does = record {
@@ -178,7 +178,7 @@ module _ (old new : Shown) (w : World) (e : Event) where
     ];
   }
 
-  -- it was answered and changed nothing, and the answer was lost
+  -- the event was answered and changed nothing, and its answer was lost
   pub runs_lost : {T : Type 0} (x value : T) (fault : StoreFault) → DoesAt old new w (Ok x) value (after w e) → after w e ≡ w
       → RunsAt old new w (e ∷ []) (Failed fault ∷ [])
   runs_lost told value fault does same = record {
@@ -195,6 +195,7 @@ module _ (old new : Shown) (w : World) (e : Event) where
 -- ---- more events
 
 module _ (old mid new : Shown) where
+  -- two runs of a store in one world, one after the other, are one run of all their events
   at_joined : (w : World) (events more : List Event) (answers last : List Answer) → RunsAt old mid w events answers
       → RunsAt mid new (world_after w events answers) more last → RunsAt old new w (events ++ more) (answers ++ last)
   at_joined w events more answers last first next =

@@ -110,6 +110,7 @@ entry_is_seen : (o : Option Seen) (e : Entry) → option_map (λ (x : Seen). x.e
 entry_is_seen None e is = cc
 entry_is_seen (Some x) e is = (x, refl, cc)
 
+-- after a publish is stored, its shelf sees it as it was handed in
 kept_published : (w : World) (h : Holder) (p : Publish) → decision w (Some h) p ≡ Published → Kept (after_decision w (Some h) p Published) h.shelf p
 kept_published w h p is =
     let checks = accepted p (Some h.right) (gomod_of p) (standing_of w h.shelf p) _ is in
@@ -128,6 +129,7 @@ kept_published w h p is =
       is_offered = offer;
     }
 
+-- a shelf sees a publish as it was handed in if the decision on it is `Same`
 kept_same : (w : World) (h : Holder) (p : Publish) → decision w (Some h) p ≡ Same → Kept w h.shelf p
 kept_same w h p is =
     let checks = same_again p (Some h.right) (gomod_of p) (standing_of w h.shelf p) _ is in
@@ -173,6 +175,7 @@ same_body p b e body offer = some_same _ _ (sym offer ∙ ap (option_map (entry_
     some_same : (x y : Entry) → Some x ≡ Some y → x ≡ y
     some_same x y e = cc
 
+-- if s sees a publish as it was handed in, the query for one of its parts gets the reply that has it
 answered_with : (w : World) (s : List ℕ) (p : Publish) (b : Body) (q : Query) (r : Reply) → Kept w s p → p.body ≡ Some b → asks_back p b q r → query_reply w s q ≡ r
 answered_with w s p b (query.GoMod path version) r kept body back =
     ap (λ x. gomod_reply (heading w s x (version_text version))) back.0 ∙ ap (λ x. gomod_reply (heading w s p.path (version_text x))) back.1 ∙ ap (λ o. gomod_reply (without_zip o)) kept.is_seen

@@ -56,7 +56,7 @@ seen_on_none w (s ∷ ss) p v none =
 
 -- ---- an entry that is put where its shelf sees nothing
 
--- of these shelves, those that follow t are seen by t
+-- t sees each of these shelves that follows t
 Nested : World → List ℕ → List (List ℕ) → Type 0
 Nested w t [] = Unit {0}
 Nested w t (u ∷ us) = ((u ≡ t) → (x : List ℕ) → is_among us x ≡ true → sees w t x ≡ true) × Nested w t us
@@ -76,6 +76,8 @@ nested_chain w t s = (
   nested_above w t (group_of w s),
 )
 
+-- if t sees each of these shelves that follows t, and saw nothing of a version, an entry of it put on t leaves what they have
+-- first of it
 stays_on : (w : World) (ss : List (List ℕ)) (t p v : List ℕ) (e : Entry) (seen : Seen) → Nested w t ss → view w t p v ≡ None
     → first_on w ss p v ≡ Some seen → first_on (with_entry w (place t p v) e) ss p v ≡ Some seen
 unfolding Nested
@@ -107,6 +109,7 @@ elsewhere_on w (s ∷ ss) q p v e apart =
     ap (λ o. option_or (seen_at o s) (first_on (with_entry w q e) ss p v)) (get_elsewhere places_total places_exact w.entries q e (place s p v) (apart s))
     ∙ ap (λ o. option_or (seen_at (map.get w.entries (place s p v)) s) o) (elsewhere_on w ss q p v e apart)
 
+-- what s sees of a version stays so when a shelf gets an entry of a version of which it saw nothing
 stays_with : (w : World) (s t p v p2 v2 : List ℕ) (e : Entry) (seen : Seen) → view w t p2 v2 ≡ None → view w s p v ≡ Some seen → view (with_entry w (place t p2 v2) e) s p v ≡ Some seen
 stays_with w s t p v p2 v2 e seen none found =
     let after : World = with_entry w (place t p2 v2) e in

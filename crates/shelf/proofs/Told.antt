@@ -1,4 +1,4 @@
--- What a shelf is told of its paths and of the versions of a path.
+-- What a shelf learns of its paths and of the versions of a path.
 use Rattle.std.proofs.Common.{◌≡◌, ℕ, List, [], ◌∷◌, Bool, true, false, cond, refl, ◌∙◌, sym, subst, inl, inr, ◌⊎◌}
 use Rattle.std.specs.Prelude.{◌↔◌, Contains}
 use Rattle.std.specs.List.{filter}
@@ -31,6 +31,7 @@ paths_are_seen w s p =
       λ seen. found.1 (seen.0, (some_of (view w s p seen.0)).1 seen.1),
     )
 
+-- the reply to the query for modules has the paths of which the shelf sees some version, in the order of their bytes
 pub paths_are_told : PathsAreTold
 paths_are_told w s =
     let ps = paths_seen w s in (
@@ -52,6 +53,7 @@ class_listed v = by_class (class_of v)
     by_class class.Pre = (λ e. inr refl, λ h. refl)
     by_class (class.Pseudo time) = (λ e. absurd (true≢false (sym e)), λ h. elim h [ inl e ↦ cc e | inr e ↦ cc e ])
 
+-- a version is in the list of a path exactly if it is among its versions and is a release or a pre-release
 listed_members : (vs : List SemanticVersion) (v : SemanticVersion) → Contains (listed vs) v ↔ (Contains vs v × IsListed v)
 listed_members [] v = (λ at. absurd (no_member v at), λ h. absurd (no_member v h.0))
 listed_members (x ∷ vs) v =
@@ -101,6 +103,7 @@ module _ {A : Type 0} (R : A → A → Type 0) (through : (x y z : A) → R x y 
   ]
 
 module _ (w : World) (is : IsWorld w) (s p : List ℕ) where
+  -- the list of a path has the releases and pre-releases that the shelf sees, each below the next
   are_listed : AreListed w s p (listed (versions_of w s p))
   are_listed =
       let vs = versions_of w s p in

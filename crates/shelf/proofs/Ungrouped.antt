@@ -46,7 +46,7 @@ or_none : {X : Type 0} (o : Option X) → option_or o None ≡ o
 or_none None = refl
 or_none (Some x) = refl
 
--- with these names of its shelves a world is one without groups
+-- the world as one without groups, with these names of its shelves
 abbrev named_so : World → set.FinSet text_cmp → Ungrouped
 named_so w names = record { keys = w.keys; shelves = names; entries = w.entries }
 
@@ -160,6 +160,7 @@ module _ (w : World) (is : IsWorld w) (none : HasNoGroup w) (names : set.FinSet 
     abbrev Told : Event → Type 0
     Told e = (machine.reply_to w (event_in e) ≡ alone.reply_to u e) × IsOf (alone.after u e) (machine.after w (event_in e))
 
+    -- to each event the machine replies as the one without groups, and leads to what that one leads to
     told : (e : Event) → Told e
     told (Asked Unreadable) = (refl, is_of)
     told (Asked (Get k q)) = (same_keyed (map.get w.keys k) q, is_of)

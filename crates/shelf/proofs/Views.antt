@@ -12,11 +12,11 @@ pub use Rattle.world.proofs.Sees.{sees_itself, sees_common, only_common, sees_th
 
 -- ---- what worlds that agree show
 
--- the same entry at each place of one shelf
+-- the worlds have equal entries at each place of one shelf
 abbrev pub SameOn : World → World → List ℕ → Type 0
 SameOn w x t = (p v : List ℕ) → map.get w.entries (place t p v) ≡ map.get x.entries (place t p v)
 
--- the same on each shelf that s sees
+-- the worlds have equal entries on each shelf that s sees
 abbrev pub SameSeen : World → World → List ℕ → Type 0
 SameSeen w x s = (t : List ℕ) → sees w s t ≡ true → SameOn w x t
 
@@ -36,6 +36,7 @@ pub guarded : {A : Type 0} (b : Bool) (x y : Option A) → (b ≡ true → x ≡
 guarded true x y same = same refl
 guarded false x y same = refl
 
+-- worlds with equal entries on a shelf have equally many versions of a path there
 pub count_same : (w x : World) (s p : List ℕ) → SameOn w x s → count w s p ≡ count x s p
 count_same w x s p same =
     let test : Place → Bool = λ q. bytes_eq q.shelf s && bytes_eq q.path p in

@@ -19,27 +19,27 @@ use Rattle.world.specs.World.{World, IsWorld}
 use Rattle.shelf.specs.Machine.{Run, entry_of}
 use Rattle.shelf.specs.Isolation.{belongs}
 
+-- the event met a fault
 abbrev pub IsFailed : Answer → Type 0
 IsFailed (Replied r) = ⊥
 IsFailed (Failed fault) = Unit {0}
 
--- a query of one version
+-- the query asks for one version
 abbrev pub IsOfVersion : Query → Type 0
 IsOfVersion (query.GoMod path version) = Unit {0}
 IsOfVersion (query.Zip path version) = Unit {0}
 IsOfVersion (query.Info path version) = Unit {0}
 IsOfVersion q = ⊥
 
--- what is told of one version that was found
+-- the reply shows one version that was found
 abbrev pub IsFound : Reply → Type 0
 IsFound (reply.GoMod b) = Unit {0}
 IsFound (reply.Zip b) = Unit {0}
 IsFound (reply.Info v time) = Unit {0}
 IsFound r = ⊥
 
--- Once a query of one version by a key of s found it, then after any events the same query by any key that then
--- belongs to s is answered the same, or meets a fault. A run may be cut at any event, so this holds from
--- each event of a run on.
+-- Once a query of one version with a key of s has found it, then after any events the query with any key that then belongs to s
+-- gets an equal reply, or meets a fault. A run may be cut at any event, so this holds from each event of a run on.
 abbrev pub StaysServed : Type 0
 StaysServed =
     (old mid new : World) (s k later : List ℕ) (q : Query) (r : Reply) (events : List Event) (answers : List Answer) (a : Answer)
@@ -48,21 +48,21 @@ StaysServed =
     → belongs mid later s → Run mid (Asked (Get later q) ∷ []) (a ∷ []) new
     → (a ≡ Replied r) ⊎ IsFailed a
 
--- a publish that is stored, now or before
+-- the publish is stored, now or before
 abbrev pub IsAccepted : Decision → Type 0
 IsAccepted Published = Unit {0}
 IsAccepted Same = Unit {0}
 IsAccepted d = ⊥
 
--- what a query of the path and version of a publish asks of what it handed in
+-- the query asks for something that the publish handed in, and this is the reply that has it
 abbrev pub asks_back : Publish → Body → Query → Reply → Type 0
 asks_back p b (query.GoMod path version) r = (path ≡ p.path) × (version ≡ p.version) × (r ≡ reply.GoMod b.gomod)
 asks_back p b (query.Zip path version) r = (path ≡ p.path) × (version ≡ p.version) × (r ≡ reply.Zip b.zip)
 asks_back p b (query.Info path version) r = (path ≡ p.path) × (version ≡ p.version) × (r ≡ reply.Info version (entry_of p b).time)
 asks_back p b q r = ⊥
 
--- Once a publish by a key of s was accepted, then after any events each key that belongs to s gets its go.mod,
--- its zip and its time, or meets a fault.
+-- Once a publish with a key of s was accepted, then after any events each key that belongs to s gets its go.mod, its zip and
+-- its time, or meets a fault.
 abbrev pub AcceptedIsServed : Type 0
 AcceptedIsServed =
     (old mid new : World) (s k later : List ℕ) (p : Publish) (b : Body) (d : Decision) (q : Query) (r : Reply) (events : List Event) (answers : List Answer) (a : Answer)
@@ -73,26 +73,28 @@ AcceptedIsServed =
 
 -- ---- a list of publishes that comes again
 
--- the publishes as requests with a key
+-- the publishes as requests with this key
 abbrev pub puts : List ℕ → List Publish → List Event
 puts k [] = []
 puts k (p ∷ ps) = Asked (Put k p) ∷ puts k ps
 
+-- the answer accepts a publish
 abbrev pub IsAcceptance : Answer → Type 0
 IsAcceptance (Replied (reply.Decided d)) = IsAccepted d
 IsAcceptance a = ⊥
 
+-- each answer accepts a publish
 abbrev pub AllAccepted : List Answer → Type 0
 AllAccepted [] = Unit {0}
 AllAccepted (a ∷ answers) = IsAcceptance a × AllAccepted answers
 
--- the same is there already, or a fault
+-- each answer says that an equal entry is there already, or is a fault
 abbrev pub AllSameOrFailed : List Answer → Type 0
 AllSameOrFailed [] = Unit {0}
 AllSameOrFailed (a ∷ answers) = ((a ≡ Replied (reply.Decided Same)) ⊎ IsFailed a) × AllSameOrFailed answers
 
--- Once a list of publishes by a key of s was accepted throughout, then after any events the same list by a key
--- that then may publish to s is answered 'the same is there already' throughout, faults aside, and changes nothing.
+-- Once each publish of a list with a key of s was accepted, then after any events the list with a key that may then publish to s
+-- changes nothing, and each of its publishes gets the answer that an equal entry is there already, or meets a fault.
 abbrev pub RepeatedListChangesNothing : Type 0
 RepeatedListChangesNothing =
     (old mid later new : World) (s k again : List ℕ) (ps : List Publish) (events : List Event) (accepted told repeated : List Answer)

@@ -1,4 +1,4 @@
--- What a shelf can tell of the requests of others: nothing.
+-- What a shelf can learn of the requests of others: nothing.
 use Rattle.std.specs.Prelude.{ℕ, ◌≡◌, List, [], ◌∷◌, ◌++◌, length, Bool, true, false, Option, Some, None, ◌↔◌}
 use Rattle.std.specs.FinMap as map
 use Rattle.world.specs.declared.entry.Holder.{Holder}
@@ -12,40 +12,40 @@ use Rattle.world.specs.World.{World, IsWorld, chain, on_shelf, place}
 pub use Rattle.world.specs.World.{is_among, sees}
 use Rattle.shelf.specs.Machine.{after, after_all, ask_reply, after_ask, replies, Run, answered, replies_of}
 
--- ---- whose a request is
+-- ---- the key of a request
 
 -- the key belongs to the shelf
 abbrev pub belongs : World → List ℕ → List ℕ → Type 0
 belongs w k s = (h : Holder) × (map.get w.keys k ≡ Some h) × (h.shelf ≡ s)
 
--- the key that a request is made with
+-- the key that a request is made with, if it is readable
 abbrev pub key_of : Ask → Option (List ℕ)
 key_of Unreadable = None
 key_of (Get k q) = Some k
 key_of (Put k p) = Some k
 
--- the same of an event; a command of the registry is made with none
+-- the key that an event is made with, if it is a readable request; a registry command has none
 abbrev pub asking_key : Event → Option (List ℕ)
 asking_key (Asked a) = key_of a
 asking_key e = None
 
 -- ---- a run without other shelves' requests
 
--- whether what a key holds is nothing, or belongs to one of these shelves
+-- whether there is no holder, or its shelf is one of these
 abbrev pub is_near : List (List ℕ) → Option Holder → Bool
 is_near ss None = true
 is_near ss (Some h) = is_among ss h.shelf
 
--- the same of the key, if there is one
+-- whether there is no key, or it is unknown or belongs to one of these shelves
 abbrev pub is_near_key : World → List (List ℕ) → Option (List ℕ) → Bool
 is_near_key w ss None = true
 is_near_key w ss (Some k) = is_near ss (map.get w.keys k)
 
--- whether an event is kept: not a request whose key belongs at its moment to another shelf than these
+-- whether an event is kept: it is no request with a key that belongs to another shelf than these
 abbrev pub is_kept : World → List (List ℕ) → Event → Bool
 is_kept w ss e = is_near_key w ss (asking_key e)
 
--- which of the events are kept, each at its moment
+-- for each event whether it is kept, in the world at its moment
 abbrev pub kept : World → List (List ℕ) → List Event → List Bool
 kept w ss [] = []
 kept w ss (e ∷ es) = is_kept w ss e ∷ kept (after w e) ss es
@@ -60,15 +60,15 @@ marked marks xs = []
 abbrev pub purge : World → List (List ℕ) → List Event → List Event
 purge w ss es = marked (kept w ss es) es
 
--- The worlds have one registry, and the same entries on each of these shelves.
+-- The worlds have one registry, and equal entries on each of these shelves.
 pub record Agree (w x : World) (ss : List (List ℕ)) : Type 0 where
   pub keys : w.keys ≡ x.keys
   pub shelves : w.shelves ≡ x.shelves
   pub seen : (t : List ℕ) → is_among ss t ≡ true → (p v : List ℕ) → map.get w.entries (place t p v) ≡ map.get x.entries (place t p v)
 
--- A shelf is told what it would be told if no request with a key of a shelf that it does not see had come:
--- in each run, the replies to the kept events are those of the machine over the purged list, from this world or from one
--- that agrees with it on what the shelf sees. The worlds after them agree again.
+-- A shelf gets the replies that it would get without the requests made with keys of shelves that it does not see: in each run,
+-- the replies to the kept events are those of the machine over the purged list, from this world or from one that agrees with it
+-- on what the shelf sees. The worlds after them agree again.
 abbrev pub IsIsolated : Type 0
 IsIsolated =
     (old old_too new : World) (s : List ℕ) (events : List Event) (answers : List Answer) → IsWorld old → Agree old old_too (chain new s)
@@ -78,7 +78,7 @@ IsIsolated =
 
 -- ---- two runs
 
--- whether an event was answered, where it is kept
+-- the event was answered, if it is kept
 abbrev pub IsAnsweredIfKept : Bool → Answer → Type 0
 IsAnsweredIfKept true (Failed fault) = ⊥
 IsAnsweredIfKept mark a = Unit {0}
@@ -88,6 +88,7 @@ abbrev pub KeptAnswered : World → List (List ℕ) → List Event → List Answ
 KeptAnswered w ss (e ∷ es) (a ∷ answers) = IsAnsweredIfKept (is_kept w ss e) a × KeptAnswered (after w e) ss es answers
 KeptAnswered w ss es answers = Unit {0}
 
+-- the event was answered
 abbrev pub IsReplied : Answer → Type 0
 IsReplied (Replied r) = Unit {0}
 IsReplied (Failed fault) = ⊥
@@ -97,15 +98,15 @@ abbrev pub AllReplied : List Answer → Type 0
 AllReplied [] = Unit {0}
 AllReplied (a ∷ answers) = IsReplied a × AllReplied answers
 
--- The purged list is the same whether the faults are taken out before or after, where no kept event met one.
+-- If no kept event met a fault, purging the events gives the list that purging only the answered events gives.
 abbrev pub PurgeIsTheSame : Type 0
 PurgeIsTheSame =
     (old new : World) (s : List ℕ) (events : List Event) (answers : List Answer) → IsWorld old → Run old events answers new
     → KeptAnswered old (chain new s) events answers
     → purge old (chain new s) events ≡ purge old (chain new s) (answered events answers)
 
--- From worlds that agree on what the shelf sees, a run over a list and a run over the purged list answer the kept events
--- alike, where none of these met a fault, and end in worlds that agree. Faults of the other events do not matter.
+-- From worlds that agree on what the shelf sees, a run over a list and a run without faults over the purged list answer the kept
+-- events alike, if none of these met a fault, and end in worlds that agree. Faults of the other events do not matter.
 abbrev pub PurgedRunsAgree : Type 0
 PurgedRunsAgree =
     (old old_too new new_too : World) (s : List ℕ) (events : List Event) (answers purged : List Answer) → IsWorld old
@@ -113,7 +114,8 @@ PurgedRunsAgree =
     → Run old_too (purge old (chain new s) events) purged new_too → AllReplied purged
     → (marked (kept old (chain new s) events) answers ≡ purged) × Agree new new_too (chain new s)
 
--- Two runs whose answered events are the same after the purge reply alike to the kept ones.
+-- Two runs from one world, after which a shelf sees the same shelves and whose answered events are equal once purged, give the
+-- kept events equal replies.
 abbrev pub FaultyRunsAgree : Type 0
 FaultyRunsAgree =
     (old one two : World) (s : List ℕ) (first second : List Event) (told heard : List Answer) → IsWorld old
@@ -127,7 +129,7 @@ FaultyRunsAgree =
 abbrev pub MarksAreAsLong : Type 0
 MarksAreAsLong = (w : World) (ss : List (List ℕ)) (es : List Event) → length (kept w ss es) ≡ length es
 
--- Each mark is that of its event in the world at its moment.
+-- Each mark says whether its event is kept in the world at its moment.
 abbrev pub MarksAreAtTheirMoment : Type 0
 MarksAreAtTheirMoment =
     (w : World) (ss : List (List ℕ)) (before : List Event) (e : Event) (rest : List Event)
@@ -137,25 +139,26 @@ MarksAreAtTheirMoment =
 abbrev pub IsOfOthers : World → List (List ℕ) → Event → Type 0
 IsOfOthers w ss e = (k : List ℕ) × (h : Holder) × (asking_key e ≡ Some k) × (map.get w.keys k ≡ Some h) × (is_among ss h.shelf ≡ false)
 
--- An event goes exactly if it is such a request at its moment.
+-- An event is dropped exactly if it is a request with a key that belongs to another shelf than these.
 abbrev pub OnlyOthersGo : Type 0
 OnlyOthersGo = (w : World) (ss : List (List ℕ)) (e : Event) → (is_kept w ss e ≡ false) ↔ IsOfOthers w ss e
 
 -- ---- what a shelf can tell apart
 
--- The worlds are the same to s: the same entries on the shelves that it sees, and the same keys of these with the same rights.
+-- The worlds are the same to s: s sees the same shelves, with the same entries, and with the same keys and rights.
 pub record Low (w x : World) (s : List ℕ) : Type 0 where
   pub chains : chain w s ≡ chain x s
   pub entries : (t : List ℕ) → sees w s t ≡ true → on_shelf w t ≡ on_shelf x t
   pub keys : (k : List ℕ) (h : Holder) → sees w s h.shelf ≡ true → (map.get w.keys k ≡ Some h) ↔ (map.get x.keys k ≡ Some h)
 
--- Worlds agree on what s sees exactly if they are the same to s and have one registry.
+-- Worlds in which s sees the same shelves agree on those exactly if they are the same to s and have one registry.
 abbrev pub AgreeIsLow : Type 0
 AgreeIsLow =
     (w x : World) (s : List ℕ) → chain w s ≡ chain x s
     → Agree w x (chain w s) ↔ (Low w x s × (w.keys ≡ x.keys) × (w.shelves ≡ x.shelves))
 
--- A key of a shelf that s sees is answered alike in worlds that are the same to s, and they stay so.
+-- In worlds that are the same to s, a request with a key of a shelf that s sees gets equal replies, and leads to worlds that are
+-- again the same to s.
 abbrev pub IsBlind : Type 0
 IsBlind =
     (w x : World) (s t k : List ℕ) (a : Ask) → IsWorld w → IsWorld x → Low w x s → sees w s t ≡ true → belongs w k t → key_of a ≡ Some k

@@ -1,4 +1,4 @@
--- The versions of a list that are listed.
+-- The versions that the list of a path has.
 use Rattle.std.specs.Prelude.{Bool, true, false, List}
 use Rattle.std.specs.List.{filter}
 use Rattle.modver.specs.Class.{class_of}
@@ -6,7 +6,7 @@ use Rattle.modver.specs.SemanticVersion.{SemanticVersion}
 use Rattle.modver.specs.declared.version.Class.{Class}
 use Rattle.modver.specs.declared.version.Class.TheVariants as class
 
--- a pseudo-version is not listed
+-- whether a version of this class is listed: any but a pseudo-version
 abbrev pub is_listed : Class → Bool
 is_listed (class.Pseudo time) = false
 is_listed c = true

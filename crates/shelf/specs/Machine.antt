@@ -53,40 +53,42 @@ use Rattle.world.specs.World.{World, version_limit, place, view, heading, count,
 abbrev pub is_readable : Publish → Bool
 is_readable p = is_path p.path && has_text p.version
 
+-- whether there is such a key and it may publish
 abbrev pub may_publish : Option Right → Bool
 may_publish None = false
 may_publish (Some Reads) = false
 may_publish (Some Publishes) = true
 
--- the time of an entry: the given one; where none is, of a pseudo-version that of its stamp
+-- the time of an entry: the given one if there is one, otherwise the stamp's for a pseudo-version, otherwise none
 abbrev pub entry_time : Class → GivenTime → Option (List ℕ)
 entry_time c (At time) = Some time
 entry_time (class.Pseudo stamp) given = Some stamp
 entry_time c given = None
 
--- the entry that its files make
+-- the entry that a publish and its files make
 abbrev pub entry_of : Publish → Body → Entry
 entry_of p b = record { gomod = b.gomod; zip = b.zip; time = entry_time (class_of p.version) p.time }
 
--- the entry that is handed in, if the files are told apart
+-- the entry that a publish hands in, if its body splits into two files
 abbrev pub offered : Publish → Option Entry
 offered p = option_map (entry_of p) p.body
 
+-- whether an entry is handed in and one of its files exceeds its limit
 abbrev pub is_too_large : Option Entry → Bool
 is_too_large None = false
 is_too_large (Some e) = not (is_small e)
 
--- what is given is no time
+-- whether something is given that is no single well-formed time
 abbrev pub is_bad_time : GivenTime → Bool
 is_bad_time Absent = false
 is_bad_time (At time) = not (is_time time)
 is_bad_time Malformed = true
 
--- the time that the entry has by what is given is not that of its version
+-- whether the time that the entry gets from what is given is one that its version may not have
 abbrev pub is_other_time : Class → GivenTime → Bool
 is_other_time c given = not (is_time_of c (entry_time c given))
 
--- the checks of the version and of the time that is given, each with its answer
+-- the checks of the version and of the given time, each with its answer
 abbrev pub version_checks : Publish → List (Bool × Decision)
 version_checks p =
     (not (fits (suffix_of p.path) p.version), Refused refusal.MajorMismatch)
@@ -94,14 +96,14 @@ version_checks p =
     ∷ (is_other_time (class_of p.version) p.time, Refused refusal.TimeMismatch)
     ∷ []
 
--- the checks of the entry that is handed in, and of the time that is given, each with its answer
+-- the checks of the entry that is handed in and of the given time, each with its answer
 abbrev pub entry_checks : Publish → List (Bool × Decision)
 entry_checks p =
     (is_none p.body, BadLength)
     ∷ (is_too_large (offered p), TooLarge)
     ∷ version_checks p
 
--- the checks of a publish alone, by a key with this right (none: an unknown key), each with its answer
+-- the checks of a publish alone, by a key with this right (None for an unknown key), each with its answer
 abbrev pub request_checks : Publish → Option Right → List (Bool × Decision)
 request_checks p right =
     (not (is_readable p), NotFound)
@@ -111,17 +113,17 @@ request_checks p right =
 
 -- ---- the go.mod of a publish, if it was read
 
--- it was read, and this holds of it
+-- whether it was read and this holds of what was read
 abbrev pub if_read : (Reading → Bool) → Option Reading → Bool
 if_read holds None = false
 if_read holds (Some reading) = holds reading
 
--- the line of its fault, if it was read
+-- the line of its fault, 0 if it was not read or has no fault
 abbrev pub line_read : Option Reading → ℕ
 line_read None = 0
 line_read (Some reading) = fault_line reading
 
--- its checks, each with its answer
+-- the checks of the go.mod, each with its answer; all pass if it was not read
 abbrev pub gomod_checks : Publish → Option Reading → List (Bool × Decision)
 gomod_checks p reading =
     (if_read has_fault reading, Refused (refusal.BadGoMod (line_read reading)))
@@ -129,7 +131,7 @@ gomod_checks p reading =
     ∷ (p.version.marked && if_read has_more reading, Refused refusal.IncompatibleGoMod)
     ∷ []
 
--- the answer to an entry that may not stand, by the first of its checks that fails
+-- the answer to an entry that may not stand, by its first check that fails
 abbrev pub told : Misfit → Decision
 told misfit.TooLarge = TooLarge
 told misfit.Version = Refused refusal.MajorMismatch
@@ -138,21 +140,24 @@ told (misfit.GoMod line) = Refused (refusal.BadGoMod line)
 told misfit.ModulePath = Refused refusal.ModulePath
 told misfit.NotBare = Refused refusal.IncompatibleGoMod
 
--- what reading the go.mod of a publish gives
+-- the result of reading the go.mod of a publish, if its body splits into two files
 abbrev pub gomod_of : Publish → Option Reading
 gomod_of p = option_map (λ b. reading_of b.gomod) p.body
 
 -- ---- what stands already
 
+-- whether the shelf sees an equal entry
 abbrev pub is_same : Standing → Bool
 is_same standing.Same = true
 is_same there = false
 
+-- whether the shelf sees another entry
 abbrev pub is_other : Standing → Bool
 is_other standing.Other = true
 is_other there = false
 
--- the checks against what stands: the publish stands so to what is visible, and so many versions of the path are on the shelf
+-- the checks against what stands, each with its answer: how the entry compares with what the shelf sees, and how many versions
+-- of the path stand on the shelf
 abbrev pub shelf_checks : Standing → ℕ → List (Bool × Decision)
 shelf_checks there n =
     (is_same there, Same)
@@ -160,22 +165,22 @@ shelf_checks there n =
     ∷ (nat_le version_limit n, Full)
     ∷ []
 
--- their outcome
+-- the answer of the first check against what stands that fails, or `Published` if all pass
 abbrev pub decided_by_shelf : Standing → ℕ → Decision
 decided_by_shelf there n = unwrap_or (first_failing (shelf_checks there n)) Published
 
--- the outcome of the checks in their order
+-- the answer of the first check of all that fails, or `Published` if all pass
 abbrev pub decided : Publish → Option Right → Option Reading → Standing → ℕ → Decision
 decided p right reading there n = unwrap_or (first_failing (request_checks p right ++ gomod_checks p reading ++ shelf_checks there n)) Published
 
 -- ---- a publish
 
--- how what is handed in, if the files are told apart, stands to the entry that is seen
+-- how the entry that is handed in, if there is one, compares with the entry that is seen
 abbrev pub standing_if : Option Entry → Option Entry → Standing
 standing_if seen None = standing.Absent
 standing_if seen (Some e) = standing_to seen e
 
--- how a publish stands to what a shelf sees of its path and version
+-- how a publish compares with what a shelf sees of its path and version
 abbrev pub standing_of : World → List ℕ → Publish → Standing
 standing_of w s p = standing_if (entry_seen w s p.path (version_text p.version)) (offered p)
 
@@ -187,7 +192,7 @@ own_refusal p right = first_failing (request_checks p (Some right) ++ gomod_chec
 abbrev pub shelf_decision : World → List ℕ → Publish → Decision
 shelf_decision w s p = decided_by_shelf (standing_of w s p) (count w s p.path)
 
--- the decision on a publish in a world, by what its key holds
+-- the decision on a publish in a world, by the holder of its key, if the key is known
 abbrev pub decision : World → Option Holder → Publish → Decision
 decision w None p = decided p None None standing.Absent 0
 decision w (Some h) p = decided p (Some h.right) (gomod_of p) (standing_of w h.shelf p) (count w h.shelf p.path)
@@ -196,52 +201,56 @@ decision w (Some h) p = decided p (Some h.right) (gomod_of p) (standing_of w h.s
 abbrev pub place_of : List ℕ → Publish → Place
 place_of s p = place s p.path (version_text p.version)
 
--- the world with what was published
+-- the world with the entry, if there is one, at this place
 abbrev pub stored : World → Place → Option Entry → World
 stored w q None = w
 stored w q (Some e) = with_entry w q e
 
+-- the world after this decision on a publish: with its entry after `Published` with a known key, otherwise unchanged
 abbrev pub after_decision : World → Option Holder → Publish → Decision → World
 after_decision w (Some h) p Published = stored w (place_of h.shelf p) (offered p)
 after_decision w h p d = w
 
--- the world after a publish
+-- the world after a publish, by the holder of its key
 abbrev pub after_publish : World → Option Holder → Publish → World
 after_publish w h p = after_decision w h p (decision w h p)
 
--- the decision on a PUT with a key, and the world after it
+-- the decision on a PUT with this key
 abbrev pub put_decision : World → List ℕ → Publish → Decision
 put_decision w k p = decision w (map.get w.keys k) p
 
+-- the world after a PUT with this key
 abbrev pub after_put : World → List ℕ → Publish → World
 after_put w k p = after_publish w (map.get w.keys k) p
 
 -- ---- a query
 
+-- the reply with the go.mod of a version, or not found
 abbrev pub gomod_reply : Option Heading → Reply
 gomod_reply None = reply.NotFound
 gomod_reply (Some shown) = reply.GoMod shown.gomod
 
+-- the reply with the zip of a version, or not found
 abbrev pub zip_reply : Option Seen → Reply
 zip_reply None = reply.NotFound
 zip_reply (Some seen) = reply.Zip seen.entry.zip
 
--- the name and the time of a version
+-- the reply with the name and the time of a version, or not found
 abbrev pub info_reply : SemanticVersion → Option Heading → Reply
 info_reply v None = reply.NotFound
 info_reply v (Some shown) = reply.Info v shown.time
 
--- the releases and pre-releases among the versions of a path, if it has any
+-- the reply with the releases and pre-releases among the versions of a path, or not found if it has no version
 abbrev pub list_reply : List SemanticVersion → Reply
 list_reply [] = reply.NotFound
 list_reply (v ∷ vs) = reply.Versions (listed (v ∷ vs))
 
--- the name and the time of the latest version
+-- the reply with the name and the time of the latest version, or not found
 abbrev pub latest_reply : World → List ℕ → List ℕ → Option SemanticVersion → Reply
 latest_reply w s p None = reply.NotFound
 latest_reply w s p (Some v) = info_reply v (heading w s p (version_text v))
 
--- the reply to a query by a key of a shelf
+-- the reply to a query by a key of this shelf
 abbrev pub query_reply : World → List ℕ → Query → Reply
 query_reply w s (query.GoMod p v) = gomod_reply (heading w s p (version_text v))
 query_reply w s (query.Zip p v) = zip_reply (view w s p (version_text v))
@@ -250,19 +259,20 @@ query_reply w s (query.List p) = list_reply (versions_of w s p)
 query_reply w s (query.Latest p) = latest_reply w s p (latest_of w s p)
 query_reply w s query.Modules = reply.Paths (paths_seen w s)
 
--- the reply to a query by what its key holds
+-- the reply to a query by the holder of its key; not found if the key is unknown
 abbrev pub keyed_reply : World → Option Holder → Query → Reply
 keyed_reply w None q = reply.NotFound
 keyed_reply w (Some h) q = query_reply w h.shelf q
 
 -- ---- a request
 
--- What the machine replies to a request, and the world after it.
+-- What the machine replies to a request.
 abbrev pub ask_reply : World → Ask → Reply
 ask_reply w Unreadable = reply.NotFound
 ask_reply w (Get k q) = keyed_reply w (map.get w.keys k) q
 ask_reply w (Put k p) = reply.Decided (put_decision w k p)
 
+-- The world after a request.
 abbrev pub after_ask : World → Ask → World
 after_ask w Unreadable = w
 after_ask w (Get k q) = w
@@ -270,7 +280,7 @@ after_ask w (Put k p) = after_put w k p
 
 -- ---- an event
 
--- What the machine replies to an event, and the world after it.
+-- What the machine replies to an event.
 abbrev pub reply_to : World → Event → Reply
 reply_to w (Asked a) = ask_reply w a
 reply_to w (TeamAdd t group) = reply.Registry (team_added w t group)
@@ -278,6 +288,7 @@ reply_to w (GroupAdd g) = reply.Registry (group_added w g)
 reply_to w (KeyAdd s k right) = reply.Registry (key_added w s k)
 reply_to w (KeyRevoke k) = reply.Registry (key_revoked w k)
 
+-- The world after an event.
 abbrev pub after : World → Event → World
 after w (Asked a) = after_ask w a
 after w (TeamAdd t group) = after_team_add w t group (team_added w t group)
@@ -287,17 +298,18 @@ after w (KeyRevoke k) = after_key_revoke w k (key_revoked w k)
 
 -- ---- a list of events
 
--- the replies to each in order, and the world in the end
+-- the replies to the events in order
 abbrev pub replies : World → List Event → List Reply
 replies w [] = []
 replies w (e ∷ es) = reply_to w e ∷ replies (after w e) es
 
+-- the world after all events
 abbrev pub after_all : World → List Event → World
 after_all w [] = w
 after_all w (e ∷ es) = after_all (after w e) es
 
--- From old, these events may be answered so and leave new: an event that a store fault met changes
--- nothing, and each other one is answered as the machine does.
+-- From old, these events may get these answers and lead to new: an event that met a store fault changes nothing, and each other
+-- event is answered as the machine answers it.
 abbrev pub Run : World → List Event → List Answer → World → Type 0
 Run old [] [] new = new ≡ old
 Run old (e ∷ es) (Replied r ∷ answers) new = (r ≡ reply_to old e) × Run (after old e) es answers new
@@ -305,12 +317,13 @@ Run old (e ∷ es) (Failed fault ∷ answers) new = Run old es answers new
 Run old [] (a ∷ answers) new = ⊥
 Run old (e ∷ es) [] new = ⊥
 
--- the events that were answered, and their replies
+-- the events that were answered
 abbrev pub answered : List Event → List Answer → List Event
 answered (e ∷ es) (Replied r ∷ answers) = e ∷ answered es answers
 answered (e ∷ es) (Failed fault ∷ answers) = answered es answers
 answered es answers = []
 
+-- the replies among the answers
 abbrev pub replies_of : List Answer → List Reply
 replies_of [] = []
 replies_of (Replied r ∷ answers) = r ∷ replies_of answers
@@ -320,7 +333,7 @@ replies_of (Failed fault ∷ answers) = replies_of answers
 abbrev pub world_after : World → List Event → List Answer → World
 world_after w events answers = after_all w (answered events answers)
 
--- each event was answered, or changes nothing
+-- each event was answered, or would have changed nothing
 abbrev pub AnsweredOrIdle : World → List Event → List Answer → Type 0
 AnsweredOrIdle w (e ∷ es) (Replied r ∷ answers) = AnsweredOrIdle (after w e) es answers
 AnsweredOrIdle w (e ∷ es) (Failed fault ∷ answers) = (after w e ≡ w) × AnsweredOrIdle w es answers
@@ -333,7 +346,7 @@ MetDevice (a ∷ answers) = (a ≡ Failed Device) ⊎ MetDevice answers
 
 -- ---- replies
 
--- a reply with a body of its own; each other one is told by fixed bytes
+-- the reply has a body of its own; each other reply is written with fixed bytes
 abbrev pub HasBody : Reply → Type 0
 HasBody (reply.GoMod b) = Unit {0}
 HasBody (reply.Zip b) = Unit {0}

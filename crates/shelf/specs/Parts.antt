@@ -1,4 +1,4 @@
--- What a shelf is told of what it sees, as a world of its own: what it is told of the whole.
+-- What a shelf sees of a world, taken as a world of its own, answers the shelf as the whole world does.
 use Rattle.std.specs.Prelude.{ℕ, ◌≡◌, List, [], ◌∷◌, true, false, Some}
 use Rattle.std.specs.FinMap as map
 use Rattle.world.specs.declared.entry.Holder.{Holder}
@@ -14,7 +14,7 @@ use Rattle.world.specs.Part.{part, is_held}
 use Rattle.shelf.specs.Machine.{ask_reply, after_all, replies, Run, answered, replies_of}
 use Rattle.shelf.specs.Isolation.{key_of, asking_key, Low}
 
--- What a shelf sees of a world is to it the same as the world.
+-- A world and the part of it that a shelf sees are the same to the shelf.
 abbrev pub PartIsLow : Type 0
 PartIsLow = (w : World) (s : List ℕ) → IsWorld w → Low w (part w s) s
 
@@ -24,18 +24,19 @@ PartIsLow = (w : World) (s : List ℕ) → IsWorld w → Low w (part w s) s
 abbrev pub IsOwn : World → List ℕ → Event → Type 0
 IsOwn w s e = (k : List ℕ) × (h : Holder) × (asking_key e ≡ Some k) × (map.get w.keys k ≡ Some h) × (sees w s h.shelf ≡ true)
 
--- each is one. No request changes what a key holds, so it is the same at its moment.
+-- Each event is a request with a key of a shelf that s sees. No request changes what a key holds, so this holds at its moment too.
 abbrev pub AllOwn : World → List ℕ → List Event → Type 0
 AllOwn w s [] = Unit {0}
 AllOwn w s (e ∷ es) = IsOwn w s e × AllOwn w s es
 
--- A list of them is answered alike in worlds that are the same to s, and they stay so.
+-- In worlds that are the same to s, a list of such requests gets equal replies, and leads to worlds that are again the same to s.
 abbrev pub IsBlindThroughout : Type 0
 IsBlindThroughout =
     (w x : World) (s : List ℕ) (es : List Event) → IsWorld w → IsWorld x → Low w x s → AllOwn w s es
     → (replies w es ≡ replies x es) × Low (after_all w es) (after_all x es) s
 
--- So is one run over the whole and one over what s sees of it, faults aside.
+-- A run over the world and a run over what s sees of it give equal replies, if their answered events are equal and are requests
+-- with keys of shelves that s sees.
 abbrev pub PartTellsTheSame : Type 0
 PartTellsTheSame =
     (w new other : World) (s : List ℕ) (first second : List Event) (told heard : List Answer) → IsWorld w
@@ -45,18 +46,19 @@ PartTellsTheSame =
 
 -- ---- requests of others
 
+-- the reply says that something was not found
 abbrev pub IsNotFound : Reply → Type 0
 IsNotFound reply.NotFound = Unit {0}
 IsNotFound (reply.Decided decision.NotFound) = Unit {0}
 IsNotFound r = ⊥
 
--- an event that is no command of the registry
+-- each event is a request
 abbrev pub AllAsked : List Event → Type 0
 AllAsked [] = Unit {0}
 AllAsked (Asked a ∷ es) = AllAsked es
 AllAsked (e ∷ es) = ⊥
 
--- After any requests, one whose key belongs to no shelf that s sees is not found there.
+-- In what s sees of a world, after any requests, a request whose key belongs to no shelf that s sees is not found.
 abbrev pub OthersAreNotFound : Type 0
 OthersAreNotFound =
     (w : World) (s k : List ℕ) (before : List Event) (a : Ask) → is_held (chain w s) (map.get w.keys k) ≡ false

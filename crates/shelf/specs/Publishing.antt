@@ -10,26 +10,26 @@ use Rattle.world.specs.World.{World}
 use Rattle.world.specs.declared.entry.Holder.{Holder}
 use Rattle.world.specs.declared.registry.StoreFault.{StoreFault}
 
--- A call tells the decision on a PUT with this key, and stores what is published.
+-- The call returns the decision on a PUT with this key, and stores what is published.
 abbrev pub AnswersPut : Shown → Shown → Result Decision StoreFault → List ℕ → Publish → Type 0
 AnswersPut old new result k p = Does old new result (λ w. put_decision w k p) (λ w. after_put w k p)
 
--- the shelf of a key stands
+-- the shelf of the key exists
 abbrev pub HasShelf : Holder → World → Type 0
 HasShelf h w = map.contains_key w.shelves h.shelf ≡ true
 
--- Where the shelf of a key stands, a call tells the decision on a publish by it, and stores what is published.
+-- If the shelf of the key exists, the call returns the decision on a publish by its holder, and stores what is published.
 abbrev pub PublishesTo : Shown → Shown → Result Decision StoreFault → Holder → Publish → Type 0
 PublishesTo old new result h p = DoesWhere (HasShelf h) old new result (λ w. decision w (Some h) p) (λ w. after_publish w (Some h) p)
 
--- the shelf of a key stands, and this is the decision on a publish by it
+-- the shelf of the key exists, and this is the decision on a publish by its holder
 abbrev pub IsDecided : Holder → Publish → Decision → World → Type 0
 IsDecided h p d w = HasShelf h w × (decision w (Some h) p ≡ d)
 
--- Where this is the decision on a publish, a call does what it says.
+-- If this is the decision on a publish, the call carries it out.
 abbrev pub CarriesOut : Shown → Shown → Result Unit StoreFault → Holder → Publish → Decision → Type 0
 CarriesOut old new result h p d = DoesWhere (IsDecided h p d) old new result (λ _. tt) (λ w. after_decision w (Some h) p d)
 
--- Where a publish passes the checks, a call stores it.
+-- If a publish passes the checks, the call stores it.
 abbrev pub StoresFor : Shown → Shown → Result Unit StoreFault → Holder → Publish → Type 0
 StoresFor old new result h p = DoesWhere (IsDecided h p Published) old new result (λ _. tt) (λ w. stored w (place_of h.shelf p) (offered p))

@@ -13,36 +13,37 @@ AllKeep w (e ∷ es) (Replied r ∷ answers) = (after w e ≡ w) × AllKeep (aft
 AllKeep w (e ∷ es) (Failed fault ∷ answers) = AllKeep w es answers
 AllKeep w es answers = Unit {0}
 
--- an event that changed the world was answered, and each event after it was answered or changes nothing
+-- some answered event changed the world, and each event after it was answered or would have changed nothing
 abbrev pub Settles : World → List Event → List Answer → Type 0
 Settles w (e ∷ es) (Replied r ∷ answers) = ((after w e ≢ w) × AnsweredOrIdle (after w e) es answers) ⊎ Settles (after w e) es answers
 Settles w (e ∷ es) (Failed fault ∷ answers) = Settles w es answers
 Settles w es answers = ⊥
 
--- an event that met a fault would have led to this world, and no event after it changed the world
+-- some event that met a fault would have led to this world, and no answered event after it changed the world
 abbrev pub IsPending : World → List Event → List Answer → World → Type 0
 IsPending w (e ∷ es) (Replied r ∷ answers) x = IsPending (after w e) es answers x
 IsPending w (e ∷ es) (Failed fault ∷ answers) x = ((x ≡ after w e) × AllKeep w es answers) ⊎ IsPending w es answers x
 IsPending w es answers x = ⊥
 
--- Where a crash left x beside the world of the begin, it may leave y beside that of the end: that world itself, a
--- pending one, or x if no event changed the world.
+-- If a crash before the events left the first world or x, a crash after them leaves the world at the end or y: y may be that
+-- world itself, a pending one, or x if no answered event changed the world.
 abbrev pub MayLeave : World → List Event → List Answer → World → World → Type 0
 MayLeave w events answers x y =
     (y ≡ world_after w events answers) ⊎ (IsPending w events answers y ⊎ ((y ≡ x) × AllKeep w events answers))
 
--- In this world, the events may be answered so, and lead to the world after those that were answered.
+-- In this world, the events may get these answers, and lead to the world after those that were answered.
 pub record RunsAt (old new : Shown) (w : World) (events : List Event) (answers : List Answer) : Type 0 where
   pub run : Run w events answers (world_after w events answers)
   pub ends : new.stands (world_after w events answers)
-  -- if no event that would change it met a fault, a crash leaves the world at the end alone, where it left this one alone before
+  -- if a crash left this world alone before, and no event that would have changed the world met a fault, it leaves the one at the
+  -- end alone
   pub left : AnsweredOrIdle w events answers → old.leaves w w → new.leaves (world_after w events answers) (world_after w events answers)
-  -- after a change that was answered it leaves that alone, whatever it left before, as long as no later change met a fault
+  -- after an answered change, if no later change met a fault, a crash leaves the world at the end alone, whatever it left before
   pub settled : Settles w events answers → new.leaves (world_after w events answers) (world_after w events answers)
-  -- whatever met a fault, it leaves the world at the end or one other
+  -- whatever events met a fault, a crash leaves the world at the end or one other
   pub beside : (x : World) → old.leaves w x → (y : World) × new.leaves (world_after w events answers) y × MayLeave w events answers x y
 
--- In each world that the store stood for, these answers to the events are those of a run.
+-- If the disks are honest, then in each world that the store stood for these answers to the events are those of a run.
 pub record Runs (old new : Shown) (events : List Event) (answers : List Answer) : Type 0 where
   pub honest : new.is_honest → old.is_honest
   pub at : new.is_honest → (w : World) → old.stands w → RunsAt old new w events answers

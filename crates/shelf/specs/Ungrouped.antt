@@ -1,4 +1,5 @@
--- The machine that knows no groups: of each version a shelf sees its own entry if there is one, else that of common.
+-- The machine that knows no groups: of each version a shelf sees its own entry if there is one, otherwise that of common.
+-- Each definition has the name of the one for worlds with groups, in Machine or in the crate `world`, and its meaning.
 use Rattle.std.specs.Prelude.{ℕ, ◌≡◌, List, [], ◌∷◌, ◌&&◌, not, if◌then◌else◌, Option, Some, None, bytes_eq, option_map, map as map_list}
 use Rattle.std.specs.Option.{option_or}
 use Rattle.std.specs.FinMap as map
@@ -34,7 +35,7 @@ use Rattle.shelf.specs.declared.reply.Reply.TheVariants as reply
 use Rattle.shelf.specs.Machine.{decided, offered, gomod_of, place_of, standing_if, gomod_reply, zip_reply, info_reply, list_reply}
 use Rattle.shelf.specs.Machine as machine
 
--- the keys with their shelf and right, the names of the shelves, and the entries
+-- A world without groups: its keys with their shelf and right, the names of its shelves, and its entries.
 pub record Ungrouped : Type 0 where
   pub keys : map.FinMap text_cmp Holder
   pub shelves : set.FinSet text_cmp
@@ -48,7 +49,7 @@ view u s p v = option_or (seen_at (map.get u.entries (place s p v)) s) (seen_at 
 abbrev pub heading : Ungrouped → List ℕ → List ℕ → List ℕ → Option Heading
 heading u s p v = without_zip (view u s p v)
 
--- the versions of a path, in ascending precedence
+-- the versions of a path that a shelf sees, in ascending precedence
 abbrev pub versions_of : Ungrouped → List ℕ → List ℕ → List SemanticVersion
 versions_of u s p = in_order (by_precedence (named (in_order (set.union (versions_among s p (map.entries u.entries)) (versions_among common p (map.entries u.entries))))))
 
@@ -69,7 +70,7 @@ paths_seen u s = set.union (paths_among s (map.entries u.entries)) (paths_among 
 abbrev pub count : Ungrouped → List ℕ → List ℕ → ℕ
 count u s p = map.len (map.retain_keys u.entries (λ q. bytes_eq q.shelf s && bytes_eq q.path p))
 
--- how a publish stands to what a shelf sees of its path and version
+-- how a publish compares with what a shelf sees of its path and version
 abbrev pub standing_of : Ungrouped → List ℕ → Publish → Standing
 standing_of u s p = standing_if (option_map (λ seen. seen.entry) (view u s p.path (version_text p.version))) (offered p)
 
@@ -128,21 +129,21 @@ after_key_revoke u k r = u
 
 -- ---- events
 
--- a request, or a command of the registry that names no group
+-- a request, or a registry command that names no group
 pub data Event : Type 0 where
   Asked : Ask → Event
   TeamAdd : List ℕ → Event
   KeyAdd : List ℕ → List ℕ → Right → Event
   KeyRevoke : List ℕ → Event
 
--- as an event of the whole machine
+-- the event as one of the machine with groups
 abbrev pub event_in : Event → WholeEvent
 event_in (Asked a) = whole.Asked a
 event_in (TeamAdd t) = whole.TeamAdd t None
 event_in (KeyAdd s k right) = whole.KeyAdd s k right
 event_in (KeyRevoke k) = whole.KeyRevoke k
 
--- What this machine replies to an event, and what stands after it.
+-- What this machine replies to an event.
 abbrev pub reply_to : Ungrouped → Event → Reply
 reply_to u (Asked Unreadable) = reply.NotFound
 reply_to u (Asked (Get k q)) = keyed_reply u (map.get u.keys k) q
@@ -151,6 +152,7 @@ reply_to u (TeamAdd t) = reply.Registry (team_added u t)
 reply_to u (KeyAdd s k right) = reply.Registry (key_added u s k)
 reply_to u (KeyRevoke k) = reply.Registry (key_revoked u k)
 
+-- What stands after an event.
 abbrev pub after : Ungrouped → Event → Ungrouped
 after u (Asked Unreadable) = u
 after u (Asked (Get k q)) = u
@@ -169,24 +171,26 @@ after_all u (e ∷ es) = after_all (after u e) es
 
 -- ---- laws
 
--- It is a world without groups: these are its keys, its shelves by their names, and its entries.
+-- w is a world without groups, and u has its keys, the names of its shelves, and its entries.
 pub record IsOf (u : Ungrouped) (w : World) : Type 0 where
   pub keys : u.keys ≡ w.keys
   pub names : (s : List ℕ) → set.contains u.shelves s ≡ map.contains_key w.shelves s
   pub entries : u.entries ≡ w.entries
   pub none : HasNoGroup w
 
--- Each world without groups is one of these.
+-- Each world without groups has such a u.
 abbrev pub EachIsOfOne : Type 0
 EachIsOfOne = (w : World) → HasNoGroup w → (u : Ungrouped) × IsOf u w
 
--- There the machine replies to each event as this one, and leads to a world without groups.
+-- In a world without groups, the machine replies to each of these events as this one does, and leads to the same keys, shelf
+-- names and entries, again without groups.
 abbrev pub RepliesWithoutGroups : Type 0
 RepliesWithoutGroups =
     (u : Ungrouped) (w : World) (e : Event) → IsWorld w → IsOf u w
     → (machine.reply_to w (event_in e) ≡ reply_to u e) × IsOf (after u e) (machine.after w (event_in e))
 
--- And so to each list of them.
+-- In a world without groups, the machine replies to each list of these events as this one does, and leads to the same keys,
+-- shelf names and entries, again without groups.
 abbrev pub ListsWithoutGroups : Type 0
 ListsWithoutGroups =
     (u : Ungrouped) (w : World) (es : List Event) → IsWorld w → IsOf u w

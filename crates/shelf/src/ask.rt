@@ -1,4 +1,4 @@
-//! What may be asked.
+//! Requests, and the commands of the registry.
 ghost use Rattle.std.specs.Prelude.{◌≡◌};
 ghost use Rattle.modver.specs.Class.{class_of};
 ghost use Rattle.shelf.specs.Machine.{offered, entry_time};
@@ -9,8 +9,8 @@ use text::Text;
 use world::bytes::Bytes;
 use world::entry::{EntryRef, Right};
 
-/// What the machine is asked for by a GET (Go Modules Reference, "GOPROXY protocol"). It is not `Query` of the crate `wire`, which is
-/// what a target names: that has the go.sum line too, which `engine` makes of the go.mod.
+/// What a GET asks of the machine (Go Modules Reference, "GOPROXY protocol"). The crate `wire` has a `Query` of its own for what
+/// a target names: it also has the go.sum line, which `engine` makes from the go.mod.
 #[derive(Drop)]
 pub enum Query {
     /// The go.mod of a version.
@@ -27,14 +27,14 @@ pub enum Query {
     Modules,
 }
 
-/// What a PUT says of the time of its version.
+/// What a PUT says about the time of its version.
 #[derive(Clone, Copy, Drop)]
 pub enum GivenTime {
-    /// Nothing.
+    /// No time is given.
     Absent,
-    /// One time.
+    /// One well-formed time is given.
     At(TimeText),
-    /// What is no time, or more than one.
+    /// A malformed time is given, or more than one time.
     Malformed,
 }
 
@@ -50,7 +50,7 @@ pub struct Body {
 pub struct Publish {
     pub path: ModulePath,
     pub version: Version,
-    /// None where no length of the go.mod was given that splits the bytes of the request.
+    /// None if no length was given that splits the body into a go.mod and a zip.
     pub body: Option<Body>,
     pub time: GivenTime,
 }
@@ -58,22 +58,22 @@ pub struct Publish {
 /// A request.
 #[derive(Drop)]
 pub enum Ask {
-    /// Anything that is no GET and no PUT of a module.
+    /// Anything but a GET or a PUT of a module.
     Unreadable,
     Get { key: Text, query: Query },
     Put { key: Text, publish: Publish },
 }
 
-/// A request or a command of the registry.
+/// A request or a registry command.
 #[derive(Drop)]
 pub enum Event {
     Asked(Ask),
-    /// Adds a team, with a shelf of its own, as a member of a group or of none.
+    /// Adds a team with a shelf of its own, as a member of a group if one is named.
     TeamAdd {
         name: Text,
         group: Option<Text>,
     },
-    /// Adds a group, with a shelf of its own.
+    /// Adds a group with a shelf of its own.
     GroupAdd {
         name: Text,
     },
@@ -90,7 +90,7 @@ pub enum Event {
 }
 
 impl Publish {
-    /// The entry that the publish hands in, or None if no length splits its bytes into two files.
+    /// Returns the entry that the publish hands in, or None if its body does not split into two files.
     pub fn entry(&self) -> Option<EntryRef>
         ensures { result ≡ offered self.now }
     {
@@ -104,7 +104,7 @@ impl Publish {
         }
     }
 
-    /// The time of the entry: the given one, or the stamp's of a pseudo-version without one.
+    /// Returns the time of the entry: the given one, otherwise the stamp's for a pseudo-version, otherwise None.
     pub fn entry_time(&self) -> Option<TimeText>
         ensures { result ≡ entry_time (class_of self.now.version) self.now.time }
     {

@@ -9,9 +9,9 @@ use world::entry_test::{Misfit, module_misfit, own_misfit};
 use world::reading::Reading;
 use world::standing::Standing;
 
-/// The outcome of the twelve checks of a publish, in their order. They take the right of the key (none: an unknown key),
-/// the go.mod as it was read, how the entry stands to what the shelf sees, and the count of the path. It takes no memory.
-/// There is no decision without a go.mod: [`refusal`] has the checks that come before it.
+/// Returns the outcome of the checks of a publish, in their order. The checks take the right of the key (None for an unknown key),
+/// the go.mod as it was read, how the entry compares with what the shelf sees, and how many versions of the path stand on the
+/// shelf. It needs a go.mod that was read; [`refusal`] has the checks that come before that. Allocates nothing.
 pub fn decide(
     publish: &Publish,
     right: Option<Right>,
@@ -30,7 +30,7 @@ pub fn decide(
     decide_by_shelf(standing, count)
 }
 
-/// The answer of the first check of the go.mod that fails. It takes no memory.
+/// Returns the answer of the first check of the go.mod that fails, or None if all pass. Allocates nothing.
 pub fn gomod_refusal(publish: &Publish, gomod: &Reading) -> Option<Decision>
     ensures { result ≡ spec.first_failing (spec.gomod_checks publish.now (Some gomod.now)) }
 {
@@ -38,7 +38,7 @@ pub fn gomod_refusal(publish: &Publish, gomod: &Reading) -> Option<Decision>
     Some(told(misfit))
 }
 
-/// The answer to an entry that may not stand.
+/// Returns the answer to an entry that may not stand.
 fn told(misfit: Misfit) -> Decision
     ensures { result ≡ spec.told misfit }
 {
@@ -52,7 +52,7 @@ fn told(misfit: Misfit) -> Decision
     }
 }
 
-/// The answer of the first check of the publish alone that fails. It takes no memory.
+/// Returns the answer of the first check that fails among those of the publish alone, or None if all pass. Allocates nothing.
 /// None of these checks looks at a store, so a publish by a reader reads no entry and no count.
 pub fn refusal(publish: &Publish, right: Option<Right>) -> Option<Decision>
     ensures { result ≡ spec.first_failing (spec.request_checks publish.now right) }
@@ -67,7 +67,7 @@ pub fn refusal(publish: &Publish, right: Option<Right>) -> Option<Decision>
     entry_refusal(publish)
 }
 
-/// The answer of the first check of the entry and of the given time that fails.
+/// Returns the answer of the first check of the entry and of the given time that fails, or None if all pass.
 fn entry_refusal(publish: &Publish) -> Option<Decision>
     ensures { result ≡ spec.first_failing (spec.entry_checks publish.now) }
 {
@@ -85,8 +85,8 @@ fn entry_refusal(publish: &Publish) -> Option<Decision>
     None
 }
 
-/// The type of a time holds only a time.
-/// The definition checks it all the same, so that the laws over raw events need no premise.
+/// Whether something is given that is no single well-formed time. A `TimeText` is always well formed; the definition checks it
+/// anyway, so that the laws over raw events need no premise.
 fn is_bad_time(given: GivenTime) -> bool
     ensures exact { result ≡ spec.is_bad_time given }
     ensures malformed { result ≡ true → given ≡ GivenTime.Malformed }
@@ -101,8 +101,8 @@ fn is_bad_time(given: GivenTime) -> bool
     }
 }
 
-/// The types of the path and of the version hold only well formed ones.
-/// The definition checks them all the same, so that the laws over raw events need no premise.
+/// Proves that the path and the version are well formed, as their types promise. The definition checks them anyway, so that
+/// the laws over raw events need no premise.
 #[tactic(auto, unfolding(modver::specs::SemanticVersion::has_text))]
 fn well_formed(publish: &Publish)
     ensures { spec.is_readable publish.now ≡ true }
@@ -111,8 +111,8 @@ fn well_formed(publish: &Publish)
     let _version = publish.version.as_str();
 }
 
-/// The outcome of the checks against what stands: a publish stands so to what is visible, and so many
-/// versions of the path stand on the shelf. It takes no memory.
+/// Returns the outcome of the checks against what stands, from how the entry compares with what the shelf sees and how many
+/// versions of the path stand on the shelf. Allocates nothing.
 pub(crate) fn decide_by_shelf(standing: Standing, count: u64) -> Decision
     ensures { result ≡ spec.decided_by_shelf standing count }
 {

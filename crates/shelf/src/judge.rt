@@ -1,4 +1,4 @@
-//! The checks of a publish by a key of a shelf, over any store.
+//! The checks of a publish with a known key, over any store.
 ghost use Rattle.std.specs.Prelude.{◌≡◌, IfOk, Some};
 ghost use Rattle.shelf.specs.Machine as spec;
 ghost use Rattle.shelf.specs.Machine.{decision, standing_of, shelf_decision};
@@ -14,8 +14,8 @@ use world::registry::StoreFault;
 use world::shelves::Shelves;
 use world::standing::Standing;
 
-/// The outcome of the checks of a publish by a key of a shelf. One that is refused for itself looks
-/// at no entry.
+/// Returns the outcome of the checks of a publish by the holder of a key. Reads no entry if the publish or its go.mod is
+/// refused by itself. Fails with `Device` if a device failed, and with `Memory` if memory ran out.
 /// The two halves are two functions, so the prover refuses a wrong half by itself.
 pub fn judge<S: Shelves>(
     alloc: Global,
@@ -33,7 +33,8 @@ pub fn judge<S: Shelves>(
     judge_by_shelf(shelves, holder.shelf.as_str(), publish)
 }
 
-/// The answer of the first check of the publish, or of its go.mod, that fails.
+/// Returns the answer of the first check of the publish, or of its go.mod, that fails, or None if all pass.
+/// Fails only if memory runs out.
 fn own_refusal(
     alloc: Global,
     publish: &Publish,
@@ -50,7 +51,7 @@ fn own_refusal(
     }
 }
 
-/// What reading the go.mod of a publish gives.
+/// Returns the result of reading the go.mod of a publish, or None if the publish has none. Fails only if memory runs out.
 fn read_gomod(alloc: Global, publish: &Publish) -> Result<Option<Reading>, AllocError>
     ensures { IfOk result (λ r. r ≡ spec.gomod_of publish.now) }
 {
@@ -60,7 +61,7 @@ fn read_gomod(alloc: Global, publish: &Publish) -> Result<Option<Reading>, Alloc
     }
 }
 
-/// The outcome of the checks against what stands.
+/// Returns the outcome of the checks against what stands. Fails only if the store fails.
 fn judge_by_shelf<S: Shelves>(
     shelves: &mut S,
     shelf: &str,
@@ -75,8 +76,8 @@ fn judge_by_shelf<S: Shelves>(
     Ok(decide_by_shelf(standing, count))
 }
 
-/// How a publish stands to what the shelf sees of its path and version. None of its files is copied.
-/// So repeating a publish takes no more memory than the first one did.
+/// Returns how a publish compares with what the shelf sees of its path and version. Fails only if the store fails.
+/// It copies no file, so repeating a publish takes no more memory than the first one did.
 fn compare<S: Shelves>(
     shelves: &mut S,
     shelf: &str,

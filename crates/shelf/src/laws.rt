@@ -13,27 +13,26 @@ pub fn soundness()
     ensures run { RunsKeepWorlds }
 {}
 
-/// Runs take no shelf away, and a shelf sees the same shelves for good.
+/// Runs remove no shelf, and each shelf keeps seeing the same shelves.
 pub fn chains()
     ensures { ChainsStay }
 {}
 
-/// A shelf is told what it would be told if no request with a key of a shelf that it does not see had come, in this world
-/// or in one that agrees with it on the registry and on what the shelf sees. The worlds after both agree again, so that it
-/// goes on.
+/// A shelf gets the replies that it would get without the requests made with keys of shelves that it does not see, from this
+/// world or from one that agrees with it on the registry and on what the shelf sees. The worlds after both agree again, so the
+/// law also holds of what follows.
 pub fn isolation()
     ensures { IsIsolated }
 {}
 
 /// A run over all events and a run over the purged list answer the kept events alike, unless one of these met a fault, and
-/// end in worlds that agree.
+/// end in worlds that agree. Two runs whose answered events are equal after the purge give the kept ones equal replies.
 pub fn runs_agree()
     ensures purged { PurgedRunsAgree }
     ensures faulty { FaultyRunsAgree }
 {}
 
-/// A purge removes exactly the requests whose key belongs, at their moment, to a shelf that the caller's shelf does not
-/// see.
+/// A purge removes exactly the requests whose key belongs, at their moment, to a shelf that the caller's shelf does not see.
 pub fn purge()
     ensures length { MarksAreAsLong }
     ensures moment { MarksAreAtTheirMoment }
@@ -41,14 +40,15 @@ pub fn purge()
     ensures same { PurgeIsTheSame }
 {}
 
-/// A key is answered alike in all worlds that are the same to its shelf. Such worlds agree if they have one registry.
+/// A key of a shelf that another shelf sees gets equal replies in all worlds that are the same to that other shelf. Two such
+/// worlds agree exactly if they have one registry.
 pub fn blindness()
     ensures alike { IsBlind }
     ensures agree { AgreeIsLow }
 {}
 
-/// Keys of the shelves that a team sees get the same answers from a world and from the team's part of it, through whole
-/// runs. A key of another shelf is not found in the part.
+/// Keys of the shelves that a shelf sees get equal replies from a world and from the part of it that this shelf sees, through
+/// whole runs. Any other key gets a not-found reply from the part.
 pub fn parts()
     ensures low { PartIsLow }
     ensures throughout { IsBlindThroughout }
@@ -56,8 +56,8 @@ pub fn parts()
     ensures others { OthersAreNotFound }
 {}
 
-/// A GET of one version that found it is answered the same for good, by any key that then belongs to the shelf, or meets
-/// a fault.
+/// Once a GET of one version has found it, each later GET of it with a key that then belongs to the shelf gets an equal reply,
+/// or meets a fault.
 pub fn immutability()
     ensures { StaysServed }
 {}
@@ -68,19 +68,18 @@ pub fn acceptance()
     ensures { AcceptedIsServed }
 {}
 
-/// A list of publishes that was accepted changes nothing when it comes again by a key that may then publish to the
-/// shelf.
+/// An accepted list of publishes changes nothing when it comes again with a key that may then publish to the shelf.
 pub fn repetition()
     ensures { RepeatedListChangesNothing }
 {}
 
-/// Only a stored publish and a registry command that is done change the world.
+/// Only a stored publish or a completed registry command changes the world.
 pub fn changes()
     ensures others { OnlyChangesChange }
     ensures bodies { BodiesChangeNothing }
 {}
 
-/// A run may be cut at any event, and runs that meet may be joined.
+/// A run can be cut at any event, and runs that meet can be joined.
 pub fn runs()
     ensures cut { RunsAreCut }
     ensures joined { RunsAreJoined }
@@ -108,15 +107,15 @@ pub fn latest_version()
 {}
 
 /// In a world whose go.mods the first profile reads, the second answers each event as the first does and leads to the
-/// same world, except that a publish whose go.mod the first refuses may be answered otherwise. The machine is that of
-/// the profile in force.
+/// same world, except that it may give another answer to a publish whose go.mod the first does not read. The machine that
+/// reads by the profile in force is the machine of this crate.
 pub fn profile_2_keeps_answers()
     ensures in_force { ProfileInForceIsTheMachine }
     ensures kept { Profile2KeepsAnswers }
 {}
 
-/// Where there are no groups, and none is added, the machine replies as the one that knows none, to an event and to a list
-/// of them. There a shelf sees of each version its own entry if there is one, else that of `common`.
+/// In a world without groups, the machine replies to an event that names no group, and to a list of such events, as a machine
+/// that knows no groups. There a shelf sees of each version its own entry if there is one, otherwise that of `common`.
 pub fn without_groups()
     ensures worlds { EachIsOfOne }
     ensures event { RepliesWithoutGroups }

@@ -1,33 +1,35 @@
-//! Shelves of module versions, and the machine that answers requests over any store of them.
+//! The machine that answers requests for module versions over any store of shelves.
 //!
-//! There is the shelf `common`, and one shelf for each group and for each team, which may be a member of one group.
+//! There is the shelf `common`, and one shelf for each group and for each team. A team may be a member of one group.
 //! An entry stands at a shelf, a module path and a version, and holds the go.mod and the zip as they were received.
-//! It is never changed and never taken away. A key belongs to one shelf, and may read, or read and publish. It reads
-//! what its shelf sees: of each version the shelf's own entry if there is one, else that of its group if it has one
-//! and that is there, else that of `common`. It publishes to its own shelf.
+//! It is never changed and never removed. A key belongs to one shelf, and may read, or read and publish. It reads
+//! what its shelf sees: of each version the shelf's own entry if there is one, otherwise that of its group if the shelf has
+//! a group and the group has an entry, otherwise that of `common`. It publishes to its own shelf.
 //!
-//! A publish is tested in this order. The first test that fails gives the answer:
+//! A publish passes these tests in order. The first that fails decides the answer:
 //!
 //! | test | answer | status |
 //! |---|---|---|
 //! | path and version are well formed, and the key is known | [`reply::Decision::NotFound`] | 404 |
 //! | the key may publish | [`reply::Decision::Forbidden`] | 403 |
-//! | the bytes are split into a go.mod and a zip | [`reply::Decision::BadLength`] | 400 |
+//! | the body splits into a go.mod and a zip | [`reply::Decision::BadLength`] | 400 |
 //! | the go.mod has at most 1,048,576 bytes, the zip at most 16,777,216 | [`reply::Decision::TooLarge`] | 413 |
 //! | the version fits the path | [`reply::Refusal::MajorMismatch`] | 422 |
-//! | at most one time is given, and it is one; with a pseudo-version it is that of the stamp | [`reply::Refusal::BadTime`]; [`reply::Refusal::TimeMismatch`] | 422 |
+//! | at most one time is given, and it is well formed | [`reply::Refusal::BadTime`] | 422 |
+//! | with a pseudo-version, a given time is that of the stamp | [`reply::Refusal::TimeMismatch`] | 422 |
 //! | the go.mod reads | [`reply::Refusal::BadGoMod`], with the faulty line | 422 |
 //! | the go.mod names the path | [`reply::Refusal::ModulePath`] | 422 |
-//! | with the mark `+incompatible`, the go.mod has its module directive alone | [`reply::Refusal::IncompatibleGoMod`] | 422 |
-//! | the shelf sees no entry of the version | [`reply::Decision::Same`] for one with the same files and time, else [`reply::Decision::Conflict`] | 200, 409 |
+//! | with the mark `+incompatible`, the go.mod has only its module directive | [`reply::Refusal::IncompatibleGoMod`] | 422 |
+//! | the shelf sees no entry of the version with these files and this time | [`reply::Decision::Same`] | 200 |
+//! | the shelf sees no other entry of the version | [`reply::Decision::Conflict`] | 409 |
 //! | the shelf has fewer than 4,096 versions of the path | [`reply::Decision::Full`] | 507 |
-//! | the store took it | [`reply::Decision::Published`] | 201 |
+//! | none failed, and the store took it | [`reply::Decision::Published`] | 201 |
 //!
-//! The time of a pseudo-version is that of its stamp, given or not; another version has the time that was given, or
+//! The time of a pseudo-version is that of its stamp, given or not; any other version has the time that was given, or
 //! none. The list of a path has its releases and pre-releases by precedence. Its latest version is the highest by rank
 //! that the go.mod of the highest does not retract.
 //!
-//! Requests in this order, with keys of two teams and of `common` that may publish:
+//! An example with keys of the teams alpha and beta and of `common`, all of which may publish; the requests come in this order:
 //!
 //! | request | answer |
 //! |---|---|
@@ -38,9 +40,9 @@
 //! | alpha asks for its zip; beta does | `a`; `c` |
 //! | beta publishes it with the zip `a` | Conflict |
 //!
-//! What a store has to do is the trait `Shelves` of the crate `world`. [`step::step`] answers one request over any store, and
-//! [`run::run`] a list of requests and commands of the registry. [`laws`] says what then holds of every list:
-//! a shelf is told nothing of the requests of others, and what was served once is served for good.
+//! The trait `Shelves` of the crate `world` says what a store must do. [`step::step`] answers one request over any store, and
+//! [`run::run`] a list of requests and registry commands. [`laws`] says what holds of every list: for instance, that a shelf
+//! learns nothing of the requests of others, and that what was served once is served for good.
 #![tactic(auto)]
 
 pub mod ask;

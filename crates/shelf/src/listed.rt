@@ -1,4 +1,4 @@
-//! The versions of a path that its list has.
+//! The versions that the list of a path has.
 ghost use Rattle.std.specs.Prelude.{◌≡◌};
 ghost use Rattle.modver.specs.Class.{class_of};
 ghost use Rattle.shelf.specs.Listed as spec;
@@ -6,7 +6,7 @@ ghost use Rattle.shelf.specs.Listed as spec;
 use modver::{Class, Version, class};
 use world::version_list::Versions;
 
-/// The releases and pre-releases of a list. It takes no memory.
+/// Returns the releases and pre-releases of a list. Allocates nothing.
 pub fn listed(versions: Versions) -> Versions
     ensures { result ≡ spec.listed versions }
 {

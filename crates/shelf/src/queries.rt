@@ -16,7 +16,8 @@ use world::registry::StoreFault;
 use world::shelves::Shelves;
 use world::version_list::Versions;
 
-/// Answers a GET.
+/// Returns the reply to a GET with a key: `NotFound` if the key is unknown or its shelf does not see what is asked for.
+/// Fails with `Device` if a device failed, and with `Memory` if memory ran out.
 pub fn answer_query<S: Shelves>(
     alloc: Global,
     shelves: &mut S,
@@ -33,7 +34,7 @@ pub fn answer_query<S: Shelves>(
     answer_from(alloc, shelves, holder.shelf.as_str(), query)
 }
 
-/// Answers a GET by a key of a shelf.
+/// Returns the reply to a GET by a key of a shelf. Fails only if the store fails or memory runs out.
 fn answer_from<S: Shelves>(
     alloc: Global,
     shelves: &mut S,
@@ -53,7 +54,7 @@ fn answer_from<S: Shelves>(
     }
 }
 
-/// Answers a GET of a go.mod.
+/// Returns the reply to a GET of a go.mod. Fails only if the store fails.
 fn answer_gomod<S: Shelves>(
     shelves: &mut S,
     shelf: &str,
@@ -68,7 +69,7 @@ fn answer_gomod<S: Shelves>(
     Ok(gomod_reply(heading))
 }
 
-/// Answers a GET of a zip.
+/// Returns the reply to a GET of a zip. Fails only if the store fails.
 fn answer_zip<S: Shelves>(
     shelves: &mut S,
     shelf: &str,
@@ -83,7 +84,7 @@ fn answer_zip<S: Shelves>(
     Ok(zip_reply(seen))
 }
 
-/// Answers a GET of the name and the time of a version.
+/// Returns the reply to a GET of the name and the time of a version. Fails only if the store fails.
 fn answer_info<S: Shelves>(
     shelves: &mut S,
     shelf: &str,
@@ -98,7 +99,7 @@ fn answer_info<S: Shelves>(
     Ok(info_reply(version, heading))
 }
 
-/// Answers a GET of the list of a path.
+/// Returns the reply to a GET of the list of a path. Fails only if the store fails.
 fn answer_list<S: Shelves>(
     shelves: &mut S,
     shelf: &str,
@@ -145,7 +146,7 @@ fn zip_reply(seen: Option<Seen>) -> Reply
     }
 }
 
-/// The releases and pre-releases among the versions of a path, if it has any version.
+/// Returns the reply with the releases and pre-releases among the versions of a path, or `NotFound` if it has no version.
 fn list_reply(versions: Versions) -> Reply
     ensures { result ≡ spec.list_reply versions }
 {
@@ -155,7 +156,7 @@ fn list_reply(versions: Versions) -> Reply
     Reply::Versions(listed(versions))
 }
 
-/// Answers a GET of the latest version of a path.
+/// Returns the reply to a GET of the latest version of a path. Fails only if the store fails.
 fn answer_latest<S: Shelves>(
     shelves: &mut S,
     shelf: &str,

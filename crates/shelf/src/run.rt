@@ -15,7 +15,7 @@ use world::map_shelves::MapShelves;
 use world::registry::StoreFault;
 use world::shelves::Shelves;
 
-/// Does what one event says.
+/// Carries out one event and returns the reply. Fails with `Device` if a device failed, and with `Memory` if memory ran out.
 pub fn apply<S: Shelves>(alloc: Global, shelves: &mut S, event: &Event) -> Result<Reply, StoreFault>
     ensures does { Does (S.shown shelves.old) (S.shown shelves.new) result (λ w. reply_to w event.now) (λ w. after w event.now) }
     ensures cause { HasCause (S.failure_count shelves.old) (S.failure_count shelves.new) result }
@@ -36,7 +36,7 @@ pub fn apply<S: Shelves>(alloc: Global, shelves: &mut S, event: &Event) -> Resul
     }
 }
 
-/// The name, if there is one.
+/// Returns the name, or None if there is none.
 fn named(name: &Option<Text>) -> Option<&str>
     ensures { option_copied result ≡ name.now }
 {
@@ -46,7 +46,7 @@ fn named(name: &Option<Text>) -> Option<&str>
     }
 }
 
-/// Does what one event says, and tells what became of it.
+/// Carries out one event and returns its reply or its fault.
 fn answer<S: Shelves>(alloc: Global, shelves: &mut S, event: &Event) -> Answer
     ensures runs { Runs (S.shown shelves.old) (S.shown shelves.new) (event.now ∷ []) (result ∷ []) }
     ensures no_fewer { S.failure_count shelves.old ≤ S.failure_count shelves.new }
@@ -58,14 +58,15 @@ fn answer<S: Shelves>(alloc: Global, shelves: &mut S, event: &Event) -> Answer
     }
 }
 
-/// Does one event after the other and returns their answers. It does nothing if there is no room for the answers.
+/// Carries out the events one after the other and returns their answers. Fails only if there is no memory for the answers, and
+/// then does nothing.
 pub fn run<S: Shelves>(
     alloc: Global,
     shelves: &mut S,
     events: &[Event],
 ) -> Result<Vec<Answer>, AllocError>
     ensures runs { IfOk result (λ answers. Runs (S.shown shelves.old) (S.shown shelves.new) events.now answers.items) }
-    // The count of failures never falls, and a failed device is told only where one failed.
+    // The count of failures never falls. An answer reports a failed device only if the count grew or cannot grow.
     ensures no_fewer { S.failure_count shelves.old ≤ S.failure_count shelves.new }
     ensures device { IfOk result (λ answers. MetDevice answers.items → GrewOrFull (S.failure_count shelves.old) (S.failure_count shelves.new)) }
     ensures err { OnErr result (shelves.new ≡ shelves.old) }
@@ -78,17 +79,17 @@ pub fn run<S: Shelves>(
     Ok(answers)
 }
 
-/// Does a list of events on shelves in memory that begin with `common` alone. It does nothing if there is no room for the
-/// shelves or the answers.
+/// Carries out a list of events on shelves in memory that begin with `common` alone, and returns the shelves and the answers.
+/// Fails only if there is no memory for the shelves or the answers.
 pub fn run_in_memory(
     alloc: Global,
     events: &[Event],
 ) -> Result<(MapShelves, Vec<Answer>), AllocError>
-    // The answers are those of a run of the machine, which leaves the world that the shelves hold.
+    // The answers are those of a run of the machine, which leads to the world that the shelves hold.
     ensures run { IfOk result (λ r. Run only_common events.now r.1.items r.0) }
     // No device fails.
     ensures no_device { IfOk result (λ r. ¬ MetDevice r.1.items) }
-    // The trait's contracts speak of that world alone, and a crash leaves just it.
+    // The contracts of the trait hold for that world alone, and a crash leaves no other.
     ensures shown { IfOk result (λ r. IsJust (⟦<MapShelves as Shelves>⟧.shown r.0) r.0) }
 {
     let mut shelves = MapShelves::new(alloc)?;

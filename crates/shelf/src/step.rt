@@ -12,7 +12,7 @@ use world::entry::Holder;
 use world::registry::StoreFault;
 use world::shelves::Shelves;
 
-/// Answers a request.
+/// Answers a request and returns the reply. Fails with `Device` if a device failed, and with `Memory` if memory ran out.
 pub fn step<S: Shelves>(alloc: Global, shelves: &mut S, ask: &Ask) -> Result<Reply, StoreFault>
     ensures does { Does (S.shown shelves.old) (S.shown shelves.new) result
         (λ w. ask_reply w ask.now) (λ w. after_ask w ask.now) }
@@ -30,7 +30,7 @@ pub fn step<S: Shelves>(alloc: Global, shelves: &mut S, ask: &Ask) -> Result<Rep
     }
 }
 
-/// Answers a PUT.
+/// Decides a PUT, stores what it publishes, and returns the decision. Fails only if the store fails or memory runs out.
 fn answer_publish<S: Shelves>(
     alloc: Global,
     shelves: &mut S,
@@ -46,7 +46,8 @@ fn answer_publish<S: Shelves>(
     publish_to(alloc, shelves, &holder, publish)
 }
 
-/// Answers a PUT by a key of a shelf.
+/// Decides a PUT by the holder of a key, stores what it publishes, and returns the decision. Fails only if the store fails or
+/// memory runs out.
 fn publish_to<S: Shelves>(
     alloc: Global,
     shelves: &mut S,
@@ -61,7 +62,7 @@ fn publish_to<S: Shelves>(
     Ok(decision)
 }
 
-/// Does what the decision on a publish says: one that is published is stored.
+/// Stores the publish if the decision is `Published`, and does nothing otherwise. Fails only if the store fails.
 fn carry_out<S: Shelves>(
     shelves: &mut S,
     holder: &Holder,
@@ -77,7 +78,7 @@ fn carry_out<S: Shelves>(
     Ok(())
 }
 
-/// Stores a publish that passed the checks.
+/// Stores a publish that passed the checks. Fails only if the store fails.
 fn store<S: Shelves>(shelves: &mut S, holder: &Holder, publish: &Publish) -> Result<(), StoreFault>
     ensures does { StoresFor (S.shown shelves.old) (S.shown shelves.new) result holder.now publish.now }
     ensures cause { HasCause (S.failure_count shelves.old) (S.failure_count shelves.new) result }

@@ -66,7 +66,7 @@ adjacent_both {X} P Q R f (x ∷ xs) p q = go x xs p q
     go x [] p q = tt
     go x (y ∷ ys) p q = (f x y p.0 q.0, go y ys p.1 q.1)
 
--- the same, of the elements of a list
+-- neighbours in a list are in a second relation, if elements of the list in the first are also in the second
 pub adjacent_among : {X : Type 0} (P R : X → X → Type 0) (xs : List X) → ((x y : X) → Has xs x → Has xs y → P x y → R x y) → Adjacent P xs → Adjacent R xs
 adjacent_among {X} P R [] f p = tt
 adjacent_among {X} P R (x ∷ xs) f p = go x xs f p
@@ -111,6 +111,7 @@ has_permuted xs ys x same = all_has (Has xs) ys x (all-permutation (Has xs) xs y
 pub filter_permuted : {X : Type 0} (p : X → Bool) (xs ys : List X) → IsPermutation xs ys → length (filter p ys) ≡ length (filter p xs)
 filter_permuted p xs ys same = length_permutation (filter p xs) (filter p ys) (IsPermutation-filter p xs ys same)
 
+-- one more element adds one to those that pass a test, if it passes, and none otherwise
 pub filter_push : {X : Type 0} (p : X → Bool) (xs : List X) (x : X) → length (filter p (xs ++ x ∷ [])) ≡ length (filter p xs) + cond (p x) 1 0
 filter_push p [] x = go (p x)
   where

@@ -49,6 +49,7 @@ pub use Rattle.tables.specs.Walks.{IsAlone}
 use Rattle.tables.proofs.PutLemmas.{IsPuttable, insert_stops}
 use Rattle.sqlite.proofs.Callers.{IsPlain, command_of, statement_of}
 
+-- the error of a failed store is excused, if it would be for a value that cannot be stored
 pub fail_excused : (old new : State) (big : Type 0) (e : Error) → (big → IsExcused old new e) → Fails old new big e → IsExcused old new e
 fail_excused old new big e small h = go h.0 h.1 h.2
   where
@@ -145,6 +146,7 @@ module _ (schema : Schema) (text : List ℕ) (table : Table) (it : IsMakeable sc
   same_table : (other : Table) → table_defined_by text ≡ Ok other → other ≡ table
   same_table other is = let e : ◌≡◌ {A = Result Table CompileError} (Ok other) (Ok table) = sym is ∙ it.defined in cc
 
+  -- if nothing keeps the text from making the table, it is not refused
   not_refused : (reason : alter.Refusal) → RefusesTable schema text reason → ⊥
   not_refused (why.Invalid e) is = let d : ◌≡◌ {A = Result Table CompileError} (Err e) (Ok table) = sym is ∙ it.defined in absurd (cc)
   not_refused why.NameTaken h =
@@ -191,7 +193,7 @@ module _ (schema : Schema) (text : List ℕ) (table : Table) (it : IsMakeable sc
         let becomes : later.0.schema ≡ created schema table = made.is ∙ (ap (λ s. created s made.table) has ∙ ap (created schema) (same_table made.table made.defined)) in
         sequenced later.0 becomes stop later.2
 
--- it writes, and neither begins nor ends a transaction
+-- the command makes a table or inserts, and neither begins nor ends a transaction
 abbrev pub DoesWork : Command → Type 0
 DoesWork CreateTable = Unit {0}
 DoesWork (Insert at from) = Unit {0}
@@ -229,6 +231,7 @@ module _ (schema : Schema) (sql text : List ℕ) (table : Table) (is : command_o
 module _ (sql : List ℕ) (at : ℕ) (table : Table) (place : slice_get store_schema.tables at ≡ Some table) (uncounted : table.is_counted ≡ false) (terms : List Term) (width : ℕ) (source : Row) (single : value_rows (stamped table []) width (length terms / width) terms ≡ source ∷ [])
     (idle : (row : Row) → works store_schema Enforced 0 table.tree [] (row ∷ []) ≡ []) (given : (limit : Option ℕ) (db : Database) (e : Error) → RefusesSource limit db (stamped table []) (Values terms width) e → IsSome limit)
     (is : command_of (understood store_schema sql) ≡ Insert at (Values terms width)) (plain : IsPlain (understood store_schema sql)) (alone : IsAlone sql (understood store_schema sql)) where
+  -- an INSERT of one row that may be put in fails only with an error that is excused
   pub put_excused : (old new : State) (e : Error) → old.now.schema ≡ store_schema → (row : Row) → with_rowid Chosen (old.now.trees table.tree) (cast_row table (drop 0 source)) ≡ row → IsPuttable table old.now.trees row → ExecutesIn true sql [] old new (Err e) → IsExcused old new e
   put_excused old new e has row casts it h =
       let limited = insert_stops old.step_limit table uncounted terms width source single idle (given old.step_limit) at place old.now row casts it has (statement_of sql (understood store_schema sql)) in

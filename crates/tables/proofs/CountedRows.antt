@@ -62,6 +62,7 @@ module _ {K X : Type 0} {R : K → K → Ordering} (o : IsTotalOrder R) (exact :
       let back : map.len (map.insert (map.remove m p) p x) ≡ map.len m = ap map.len (put_back m p x is) in
       omega (arith, grown, back)
 
+  -- a map has as many keys as there are rows, if each row names a key of it, each key has a row, and no two rows name one key
   pub rows_counted : (rows : List Row) (m : map.FinMap R X) → ((row : Row) → Has rows row → (p : K) × Names row p × has m p) → ((p : K) → has m p → (row : Row) × Has rows row × Names row p) → IsAscending (λ a b. (p : K) → Names a p → Names b p → ⊥) rows → length rows ≡ map.len m
   rows_counted [] m each found once = sym (ap map.len (no_keys m (λ q h. (found q h).1)) ∙ map.len-empty R X)
   rows_counted (r ∷ rows) m each found once =

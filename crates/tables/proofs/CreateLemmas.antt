@@ -59,6 +59,7 @@ module _ {S : Type 0} (g : Ghosts S) (old new : Held S) where
 
 module _ (schema next : Schema) (sql : List ℕ) (table : Table) (is : command_of (understood schema sql) ≡ CreateTable) (plain : IsPlain (understood schema sql))
     (defined : table_defined_by (statement_of sql (understood schema sql)) ≡ Ok table) (becomes : created schema table ≡ next) (whole : lacks_sequence next ≡ false) where
+  -- a statement that makes a table leads to the next schema, with the new table empty and the rows of the others as they were
   pub makes : (old new : State) (count : ℕ) → old.now.schema ≡ schema → ExecutesIn true sql [] old new (Ok count) → (new.now.schema ≡ next) × (new.now.trees (next_tree schema) ≡ []) × KeepsRows schema.tables old.now.trees new.now.trees
   makes old new count has h =
       let w = ran_as sql old new schema has CreateTable is plain count h in
@@ -212,6 +213,7 @@ record Rows (db : Trees) : Type 0 where
   version : db 6 ≡ []
   piece : db 8 ≡ []
 
+-- tables with these rows mean the world with the shelf `common` and nothing else
 means : (db : Trees) → Rows db → Means db only_common
 means db r = record {
   named = rw r.meta (record {
@@ -248,6 +250,7 @@ put_common old new count has none h =
     (it.0, rw none at (rw cast_null at it.1.rows), it.1.tables.1.1.0 (λ e. omega (arith, e)), it.1.tables.1.1.1.0 (λ e. omega (arith, e)), it.1.tables.0 (λ e. omega (arith, e)), w.sound, w.shown.is_open, it.1.tables.1.1.1.1.0 (λ e. omega (arith, e)))
 
 module _ {S : Type 0} (g : Ghosts S) (old new : Held S) where
+  -- after all statements ran within a transaction on an empty connection, the tables are made
   pub all_made : KeepsCommit (state g old) (state g new) → IsTrue new.in_transaction → (state g old).now.schema ≡ no_schema → ExecutesAllInside g 0 text1 old new (Ok tt) → IsMade (state g old) (state g new)
   unfolding ExecutesAllInside
   all_made kept inside has run =

@@ -27,7 +27,7 @@ timed v class.Pre (Some t) is of = of
 pub entry_timed : (q : Place) (e : Entry) → IsEntry q e → IfSome e.time IsTime
 entry_timed q e is = timed is.version.0 (class_of is.version.0) e.time refl is.time
 
--- an entry with which a version is told may stand there on any shelf, and the text is that version
+-- if there is a fitting version, the entry may stand there on any shelf, and the text names that version
 pub fitting_some : (p v : List ℕ) (e : Entry) (x : SemanticVersion) → Some x ≡ fitting_version p v e → ((s : List ℕ) → IsEntry (place s p v) e) × (version_of v ≡ Some x)
 fitting_some p v e x told = let it = picked (is_entry p v e) (version_of v) told in (λ s. (entry_exact s p v e).0 it.0, it.1)
   where
@@ -35,7 +35,7 @@ fitting_some p v e x told = let it = picked (is_entry p v e) (version_of v) told
     picked true o is = (refl, sym is)
     picked false o is = absurd (cc)
 
--- and one with which none is told may not
+-- if there is no fitting version, the entry may not stand there
 pub fitting_none : (p v : List ℕ) (e : Entry) → None ≡ fitting_version p v e → (s : List ℕ) → IsEntry (place s p v) e → ⊥
 fitting_none p v e told s is =
     let passes : is_entry p v e ≡ true = (entry_exact s p v e).1 is in

@@ -75,7 +75,7 @@ pass_each {X} Fits Keeps start (r ∷ rows) end p row (inr later) = pass_each Fi
 pub at_place : (rows tail : List Row) (row : Row) → Has ((rows ++ row ∷ []) ++ tail) row
 at_place rows tail row = has_left (rows ++ row ∷ []) tail row (has_right rows (row ∷ []) row (inl refl))
 
--- it stands after those before it
+-- each row before the row at this place stands in the relation to it
 after_all : (P : Row → Row → Type 0) (rows tail : List Row) (row r : Row) → IsAscending P ((rows ++ row ∷ []) ++ tail) → Has rows r → P r row
 after_all P rows tail row r up there = across P rows (row ∷ tail) (subst (IsAscending P) (append_assoc rows (row ∷ []) tail) up) r row there (inl refl)
 
@@ -92,6 +92,7 @@ met start [] end p = inl (p, refl)
 met start (r ∷ rows) end p = elim (met p.1 rows end p.3) [ inl none ↦ inr (r, inl refl, ap (λ (x : MetaRows). x.has_row) none.0 ∙ p.2) | inr it ↦ inr (it.0, inr it.1, it.2) ]
 
 module _ (db : Database) (start end : MetaRows) where
+  -- if each row of `meta` passed, the walk saw a row exactly if the rows are those of schema 3
   pub meta_true : start.has_row ≡ false → Walks MetaFits MetaKeeps meta_rows_text db start end true → Decides end.has_row (Fit.IsMetaFit (map Fit.meta_shown (db.trees 0)))
   meta_true new w =
       let same = meta_listed db.trees w.0 (all_listed meta_rows_text _ _ _ _ meta_rows_is db w.0 w.1) in
@@ -148,6 +149,7 @@ module _ {T K : Type 0} {R : K → K → Ordering} (total : IsTotalOrder R) (exa
         once = ascends_permuted KeysApart turned rows all back (ascending_weaker _ KeysApart (λ a b less tie. not_itself total (key a) (key b) less tie) rows (rise start end rows sorted p));
       }
 
+  -- if a row did not pass, the rows are not all of this form with a key of its own each
   once_false : (start kept : T) → last start ≡ None → (rows : List Row) (row : Row) (tail all : List Row) → IsPermutation all ((rows ++ row ∷ []) ++ tail) → Pass OnceFits OnceKeeps start rows kept → (OnceFits kept row → ⊥) → Fit.AreOnce IsRow key all → ⊥
   once_false start kept new rows row tail all same p unfit fit =
       let once = ascends_permuted KeysApart turned all _ same fit.once in
@@ -311,6 +313,7 @@ all_of f [] each = refl
 all_of f (y ∷ xs) each = and_from (f y) (list_all f xs) (each y (first_member y xs)) (all_of f xs (λ x at. each x (later_member y x xs at)))
 
 module _ (db : Database) (start end : ShelfRows) (new : (u : List ℕ) → set.contains start.tops u ≡ true → ⊥) (none : (u : List ℕ) → set.contains start.parents u ≡ true → ⊥) where
+  -- if each row of `shelf` passed, the names and parents that the walk noted are whole exactly if the rows of the table fit
   shelves_pass : (rows : List Row) → IsPermutation (map Fit.shelf_shown (db.trees 2)) rows → InOrder rows → Pass ShelfFits ShelfKeeps start rows end
       → Decides (Fit.are_whole end.tops end.parents) (Fit.AreShelvesFit (map Fit.shelf_shown (db.trees 2)))
   shelves_pass rows same sorted p =
@@ -390,6 +393,7 @@ module _ (db : Database) (start end : EntryRows) where
       ascends (λ a b. place_cmp (Fit.place_in a) (Fit.place_in b) ≡ Less) (λ a b c. places_total.trans (Fit.place_in a) (Fit.place_in b) (Fit.place_in c)) rows
       (adjacent_both _ _ _ (λ a b upto apart. apart_below places_total places_exact (Fit.place_in a) (Fit.place_in b) upto apart) rows upto apart)
 
+  -- if each row of `version` passed, the rows of the table fit
   pub entries_true : start.last ≡ None → Walks EntryFits EntryKeeps entry_rows_text db start end true → Fit.AreEntriesFit (map Fit.entry_shown (db.trees 6))
   entries_true new w =
       let it = all_listed entry_rows_text _ _ _ _ entry_rows_is db w.0 w.1 in
@@ -404,6 +408,7 @@ module _ (db : Database) (start end : EntryRows) where
             subst (λ n. n ≤ version_limit) (sym (filter_permuted (λ row. Fit.is_on s p (Fit.place_in row)) w.0 _ back)) few;
       }
 
+  -- if a row of `version` did not pass, the rows of the table do not fit
   pub entries_false : start.last ≡ None → Walks EntryFits EntryKeeps entry_rows_text db start end false → Fit.AreEntriesFit (map Fit.entry_shown (db.trees 6)) → ⊥
   entries_false new w fit =
       let first = first_listed entry_rows_text _ _ _ _ entry_rows_is db (w.0 ++ w.1 ∷ []) w.3 in

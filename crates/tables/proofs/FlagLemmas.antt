@@ -20,6 +20,7 @@ no_leaf (Unary o a) e = cc
 no_leaf (Binary o a b) e = cc
 no_leaf (Case t a b) e = cc
 
+-- a term of depth two is not the check of the flag
 no_branch : (nodes : List Op) (op : Op) → op_term (term_to nodes 1) op ≡ is_flag → ⊥
 no_branch nodes (Literal v) e = cc
 no_branch nodes (Column s a) e = cc

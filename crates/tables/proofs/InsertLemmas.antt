@@ -53,6 +53,7 @@ module _ (limit : Option ℕ) (table : Table) (uncounted : table.is_counted ≡ 
     abbrev pub new_row : Trees → Row
     new_row db = with_rowid Chosen (db table.tree) (cast_row table (drop 0 source))
 
+    -- an INSERT of one row puts in that row, and the last row id is that of the row
     pub put_in : (db : Trees) (done : Written) → Inserts task (Values terms width) db (Ok done) → Inserted db done.trees table (new_row db) × (done.last ≡ Some (id_in (rowid (new_row db))))
     put_in db done h =
         let given = went h in

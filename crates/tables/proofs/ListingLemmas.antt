@@ -25,6 +25,7 @@ use Rattle.tables.specs.Fit.{shelf_shown, meta_shown, name_shown, number_shown, 
 use Rattle.tables.proofs.Texts.{meta_rows_text, shelf_rows_text, key_rows_text, number_rows_text, entry_rows_text, piece_rows_text}
 use Rattle.tables.proofs.Ascending.{has_permuted, Adjacent, adjacent_map, adjacent_among, sorted_adjacent}
 
+-- a query for these terms of the rows of a join in this order, with no filter, group or limit
 abbrev pub listing : Join → List Term → List (Term × Key) → Query
 listing from project order = record {
   from = from;

@@ -44,6 +44,7 @@ pub alone1 : IsAlone first1 (understood schema0 first1) × (statement_of first1 
 unfolding understood everything
 alone1 = ((lit≤ tt, refl), refl)
 
+-- nothing keeps the first text from making `meta`
 pub able1 : IsMakeable schema0 meta_text (record meta_table { tree = 0 })
 unfolding understood everything
 able1 = record {
@@ -69,6 +70,7 @@ pub alone2 : IsAlone first2 (understood schema1 first2) × (statement_of first2 
 unfolding understood everything
 alone2 = ((lit≤ tt, refl), refl)
 
+-- nothing keeps the second text from making `shelf`
 pub able2 : IsMakeable schema1 shelf_text (record shelf_table { tree = 0 })
 unfolding understood everything
 able2 = record {
@@ -94,6 +96,7 @@ pub alone3 : IsAlone first3 (understood schema2 first3) × (statement_of first3 
 unfolding understood everything
 alone3 = ((lit≤ tt, refl), refl)
 
+-- nothing keeps the third text from making `access`
 pub able3 : IsMakeable schema2 access_text (record access_table { tree = 0 })
 unfolding understood everything
 able3 = record {
@@ -119,6 +122,7 @@ pub alone4 : IsAlone first4 (understood schema3 first4) × (statement_of first4 
 unfolding understood everything
 alone4 = ((lit≤ tt, refl), refl)
 
+-- nothing keeps the fourth text from making `version`
 pub able4 : IsMakeable schema3 version_text (record version_table { tree = 0 })
 unfolding understood everything
 able4 = record {
@@ -144,6 +148,7 @@ pub alone5 : IsAlone first5 (understood schema4 first5) × (statement_of first5 
 unfolding understood everything
 alone5 = ((lit≤ tt, refl), refl)
 
+-- nothing keeps the fifth text from making `piece`
 pub able5 : IsMakeable schema4 piece_text (record piece_table { tree = 0 })
 unfolding understood everything
 able5 = record {
@@ -201,6 +206,7 @@ common_unique : (db : Trees) → db 0 ≡ meta_row ∷ [] → AreEmpty db → Ke
 unfolding binary first_key value_cmp lib.Ieee.is_nan lib.Ieee.lt
 common_unique db a e = rw (a, e.access, e.version, e.piece) ((refl, tt), ((refl, tt), (tt, (tt, (tt, tt)))))
 
+-- no rule refuses the row of `meta` in empty tables
 meta_fine : (db : Trees) → db 0 ≡ [] → db 2 ≡ [] → AreEmpty db → (why : Refusal) → IsRefused store_schema Enforced db (record { table = meta_table; gone = []; news = meta_row ∷ [] }) why → ⊥
 meta_fine db a b e (Violates Datatype) h = true≢false h
 meta_fine db a b e (Violates NotNull) h = true≢false h
@@ -217,6 +223,7 @@ common_referred : (db : Trees) → IsRefused store_schema Enforced db (record { 
 unfolding names_same key_joined first_key
 common_referred db h = true≢false h
 
+-- no rule refuses the row of `common` in tables with the row of `meta` alone
 common_fine : (db : Trees) → db 0 ≡ meta_row ∷ [] → db 2 ≡ [] → AreEmpty db → (why : Refusal) → IsRefused store_schema Enforced db (record { table = shelf_table; gone = []; news = common_row ∷ [] }) why → ⊥
 common_fine db a b e (Violates Datatype) h = true≢false h
 common_fine db a b e (Violates NotNull) h = true≢false h
@@ -260,6 +267,7 @@ none_refer after b e = rw (b, e.access, e.version, e.piece) (each_whole (after 0
 common_refers : (after : Trees) → after 2 ≡ common_row ∷ [] → AreEmpty after → Refers All store_schema after
 common_refers after b e = rw (b, e.access, e.version, e.piece) (each_whole (after 0), ((refl, tt), (tt, (tt, (tt, tt)))))
 
+-- the row of `meta` may be put into empty tables
 pub puts_meta : (db : Trees) → db 0 ≡ [] → db 2 ≡ [] → AreEmpty db → IsPuttable meta_table db meta_row
 puts_meta db a b e = record {
   fine = meta_fine db a b e;
@@ -271,6 +279,7 @@ puts_meta db a b e = record {
   });
 }
 
+-- the row of `common` may be put into tables with the row of `meta` alone
 pub puts_common : (db : Trees) → db 0 ≡ meta_row ∷ [] → db 2 ≡ [] → AreEmpty db → IsPuttable shelf_table db common_row
 puts_common db a b e = record {
   fine = common_fine db a b e;

@@ -92,6 +92,7 @@ one_shelf row x y one two =
     let parent : y.1 ≡ x.1 = time_told (column row 2) y.1 two.1 ∙ sym (time_told (column row 2) x.1 one.1) in
     λ i. (name i, parent i)
 
+-- tables mean at most one world
 pub stand_for_one : StandForOne
 stand_for_one db w x one two =
     let keys = map.same_map texts_total texts_exact w.keys x.keys (λ k. same_got w.keys x.keys k (λ h. carried IsAccess (db 4) (λ it. map.get w.keys it.0 ≡ Some it.1) (λ it. map.get x.keys it.0 ≡ Some it.1) one_access one.access two.access (k, h))

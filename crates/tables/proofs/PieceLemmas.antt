@@ -27,7 +27,7 @@ piece_before zip n has = omega (arith, has)
 pub no_piece : (zip : List ℕ) (n : ℕ) → length zip ≤ begin n → piece zip n ≡ []
 no_piece zip n short = let long = piece_length zip n in nil_from_length (piece zip n) (omega (arith, long, short))
 
--- ---- so many pieces from a number on, joined
+-- ---- k pieces from a number on, joined
 
 pub pieces_from : (ℕ → List ℕ) → ℕ → ℕ → List ℕ
 pieces_from f at zero = []
@@ -124,7 +124,7 @@ module _ (f : ℕ → List ℕ) (whole : AreWhole f) where
       ap (λ b. drop b l) first ∙ (sym (drop-drop (begin n) piece_size l) ∙ (ap (λ m. drop (begin n) (drop piece_size (pieces_from f at m))) more
       ∙ (ap (drop (begin n)) (first_dropped at (n + k)) ∙ (front_dropped n k (suc at) ∙ ap (λ m. pieces_from f m k) there))))
 
-  -- of so many pieces, joined, each is a piece
+  -- of k pieces, joined, each one is the piece of its number
   piece_within : (n k : ℕ) → n < k → piece (pieces_from f 0 k) n ≡ f n
   piece_within n k within =
       let rest = k - suc n in
@@ -132,7 +132,7 @@ module _ (f : ℕ → List ℕ) (whole : AreWhole f) where
       let there : 0 + n ≡ n = omega arith in
       ap (λ m. piece (pieces_from f 0 m) n) all ∙ (ap (take piece_size) (front_dropped n (suc rest) 0 ∙ ap (λ m. pieces_from f m (suc rest)) there) ∙ first_taken n rest)
 
-  -- and there is no other, where there is none behind them
+  -- if no bytes come behind the k pieces, each number has its piece
   pub piece_joined : (k : ℕ) → ((n : ℕ) → k ≤ n → length (f n) ≡ 0) → (n : ℕ) → piece (pieces_from f 0 k) n ≡ f n
   piece_joined k none n = go (k - n) refl
     where

@@ -51,6 +51,7 @@ piece_cmp a b = ordering_then (version_cmp a b) (number_cmp a b)
 pieces_total : IsTotalOrder piece_cmp
 pieces_total = then_total (on_total (λ (k : PieceKey). k.0) int_cmp_total) (on_total (λ (k : PieceKey). pos k.1) int_cmp_total)
 
+-- keys of pieces that tie are equal
 pieces_exact : IsAntisymmetric piece_cmp
 pieces_exact a b h = go (version_cmp a b) (number_cmp a b) refl refl h
   where
@@ -144,6 +145,7 @@ module _ (db : Database) (start end : PieceRows) (new : start.last ≡ None) whe
   abbrev all : List Row
   all = map piece_shown (db.trees 8)
 
+  -- among rows that passed, a piece n + 1 has a full piece n of its version
   piece_before : (rows : List Row) → Pass PieceFits PieceKeeps start rows end → (row : Row) (n : ℕ) → Has rows row → nat_in (column row 1) ≡ n + 1 → (other : Row) × Has rows other × (piece_in other ≡ full_piece (int_in (column row 0)) n)
   piece_before rows p row n there is = elim it.2 [
     | inl first ↦ (
@@ -155,6 +157,7 @@ module _ (db : Database) (start end : PieceRows) (new : start.last ≡ None) whe
       it : (kept : PieceRows) × PieceFits kept row × ((kept ≡ start) ⊎ ((r : Row) × Has rows r × (kept.last ≡ Some (piece_in r))))
       it = pass_at PieceFits PieceKeeps (λ (x : PieceRows). x.last) piece_in (λ x row next keeps. keeps) start rows end p row there
 
+  -- if each row of `piece` passed, the rows of the table fit
   pub pieces_true : Walks PieceFits PieceKeeps piece_rows_text db start end true → ArePiecesFit all
   pieces_true w =
       let rows = w.0 in
@@ -240,6 +243,7 @@ module _ (rows : List Row) (row : Row) (tail : List Row) (up : IsAscending Rises
           | inr (inr none) ↦ absurd none
         ]
 
+    -- a piece right behind one of its version has the next number, and that one is full
     comes_next : int_in (column b 0) ≡ int_in (column row 0) → ((piece_in b).is_full ≡ true) × (nat_in (column row 1) ≡ nat_in (column b 1) + 1)
     comes_next version = go (nat_in (column row 1)) refl last_below
       where
@@ -259,6 +263,7 @@ module _ (rows : List Row) (row : Row) (tail : List Row) (up : IsAscending Rises
         go (suc n) is = absurd (apart (ap (λ (p : LastPiece). p.version) (is_last n (omega (arith, is)))))
 
 module _ (db : Database) (start end : PieceRows) (new : start.last ≡ None) where
+  -- if a row of `piece` did not pass, the rows of the table do not fit
   pub pieces_false : Walks PieceFits PieceKeeps piece_rows_text db start end false → ArePiecesFit (map piece_shown (db.trees 8)) → ⊥
   pieces_false w fit =
       let rows = w.0 in

@@ -56,6 +56,7 @@ module _ (limit : Option ℕ) (table : Table) (uncounted : table.is_counted ≡ 
     wrote why (inr (inl (big, inr none, over, e))) = none
     wrote why (inr (inr applied)) = settled applied.0 why (subst (λ w. Settles store_schema Enforced applied.0 w (Err why)) (idle row) applied.2)
 
+    -- an INSERT of one row that may be put in stops only at a limit
     put_stops : (stop : Option Error) → Inserts task (Values terms width) db (Err stop) → IsSome limit
     put_stops stop (inl (None, none, e)) = absurd none
     put_stops stop (inl (Some error, refused, e)) = given (record { schema = store_schema; trees = db }) error refused

@@ -101,6 +101,7 @@ module _ {X : Type 0} (Fits : X → Row → Type 0) (Keeps : X → Row → X →
   abbrev IsWithin : List Row → X → Type 0
   IsWithin done x = (p : Place) → last x ≡ Some p → many x ≤ many_on p.shelf p.path done
 
+  -- with one more row, a walk still counts no more of a path on its shelf than have come
   within_more : (done : List Row) (x : X) (row : Row) (next : X) → IsWithin done x → Keeps x row next → IsWithin (done ++ row ∷ []) next
   within_more done x row next within keeps p is =
       let it = noted x row next keeps in
@@ -199,7 +200,7 @@ module _ (done : List Row) (row : Row) (up : (y : Row) → Has done y → place_
       let high : place_cmp p here ≡ Less = subst (λ q. place_cmp q here ≡ Less) end.2 (up end.0 end.1) in
       absurd (true≢false (sym (equal_on p here (between (place_in y) p here (is.below p refl y there) high (on_equal here (place_in y) e))) ∙ off))
 
-  -- with this row there are so many of its path
+  -- with this row, its path on its shelf has no more rows than the walk counts, and the walk counts no more than the limit
   all_here : (o : Option Place) (n : ℕ) → IsRun done o n → MayFollow o n here → (many_on here.shelf here.path (done ++ row ∷ []) ≤ run_with o n here) × (run_with o n here ≤ version_limit)
   all_here None n is may =
       let one = push_on here.shelf here.path done row (is_on_itself here) in
@@ -218,6 +219,7 @@ module _ (done : List Row) (row : Row) (up : (y : Row) → Has done y → place_
         rw off (omega (arith, more, zero), omega arith))
   ]
 
+  -- with one more row at a higher place that may follow, the count of the walk is still that of all of its path on its shelf
   run_more : (o : Option Place) (n : ℕ) → IsRun done o n → MayFollow o n here → IsRun (done ++ row ∷ []) (Some here) (run_with o n here)
   run_more o n is may =
       let all = all_here o n is may in
@@ -238,6 +240,7 @@ module _ (done : List Row) (row : Row) (up : (y : Row) → Has done y → place_
 
 module _ {X : Type 0} (Fits : X → Row → Type 0) (Keeps : X → Row → X → Type 0) (last : X → Option Place) (many : X → ℕ) (noted : (x : X) (row : Row) (next : X) → Keeps x row next → (last next ≡ Some (place_in row)) × (many next ≡ run_with (last x) (many x) (place_in row)))
     (may : (x : X) (row : Row) → Fits x row → MayFollow (last x) (many x) (place_in row)) where
+  -- rows that rise by place and passed have no more versions of a path on a shelf than the limit, after those that had no more
   few_from : (done : List Row) (x : X) (rows : List Row) (end : X) → IsRun done (last x) (many x) → IsAscending (λ a b. place_cmp (place_in a) (place_in b) ≡ Less) (done ++ rows) → Pass Fits Keeps x rows end
       → (s p : List ℕ) → many_on s p (done ++ rows) ≤ version_limit
   few_from done x [] end is up passed s p = subst (λ l. many_on s p l ≤ version_limit) (sym (append-nil done)) (is.small s p)

@@ -70,6 +70,7 @@ not_null false h = refl
 
 -- ---- a row of `access`
 
+-- a row of `access` that is typed and has a third value other than NULL has values of the types of `shelf` and `publish`
 typed_access : (row : Row) → are_typed None 0 access_table.columns (drop 1 row) ≡ true → is_null (column row 3) ≡ false
     → (suits (given (codes "shelf") kind.Text) (column row 2) ≡ true) × (suits (given (codes "publish") kind.Integer) (column row 3) ≡ true)
 typed_access [] typed present = absurd (true≢false present)
@@ -146,7 +147,7 @@ versions : (db : Trees) (row : Row) → is_held db (1 ∷ []) row (parent_key st
 unfolding same_name key_joined first_key
 versions db row = refl
 
--- which has a row
+-- the version that a piece names has a row
 pub piece_version : (db : Trees) → IsSound store_schema db → (row : Row) → Has (db 8) row → (version : Row) × Has (db 6) version × (is_of version row ≡ true)
 piece_version db sound row there =
     let h = keeps_at ForeignKey store_schema db piece_table row (sound.obeys.rules ForeignKey) piece_listed there in

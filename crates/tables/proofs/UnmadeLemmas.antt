@@ -31,6 +31,7 @@ module _ {S : Type 0} (g : Ghosts S) (start new : Held S) (e : Error) where
     | inr (next, count, step, rest, within) ↦ (let d = rest.0 in absurd (cc))
   ]
 
+  -- an error at or after the row of `meta` is excused
   meta_step : (mid : Held S) (most : ℕ) → Way mid → IsTrue mid.in_transaction → (state g mid).now.schema ≡ store_schema → (state g mid).now.trees 0 ≡ [] → (state g mid).now.trees 2 ≡ [] → AreEmpty (state g mid).now.trees
       → RunInTurn g (Some 0) (suc (suc most)) text6 mid new (Err e) → Fault
   meta_step mid most way inside has a b empty run = elim (turn_or_stop g mid new e text6 first6 text7 (lit< tt) cut6.0 cut6.1 inside store_schema has _ put6.0 tt (suc most) run) [
@@ -43,6 +44,7 @@ module _ {S : Type 0} (g : Ghosts S) (start new : Held S) (e : Error) where
         last_step next most (further (state g start) (state g mid) (state g next) _ way step.survives ran.shown.is_open) within it.0 it.1 (it.2 ∙ b) (record { access = it.3 ∙ empty.access; version = it.4 ∙ empty.version; piece = it.5 ∙ empty.piece }) rest)
   ]
 
+  -- an error at or after the statement that makes `piece` is excused
   piece_step : (mid : Held S) (most : ℕ) → Way mid → IsTrue mid.in_transaction → (state g mid).now.schema ≡ schema4 → (state g mid).now.trees 0 ≡ [] → (state g mid).now.trees 2 ≡ [] → (state g mid).now.trees 4 ≡ [] → (state g mid).now.trees 6 ≡ []
       → RunInTurn g (Some 0) (suc (suc (suc most))) text5 mid new (Err e) → Fault
   piece_step mid most way inside has a b c d run = elim (turn_or_stop g mid new e text5 first5 text6 (lit< tt) cut5.0 cut5.1 inside schema4 has CreateTable make5.0 tt (suc (suc most)) run) [
@@ -54,6 +56,7 @@ module _ {S : Type 0} (g : Ghosts S) (start new : Held S) (e : Error) where
         meta_step next most (further (state g start) (state g mid) (state g next) _ way step.survives ran.shown.is_open) within it.0 (it.2.0 ∙ a) (it.2.1.0 ∙ b) (record { access = it.2.1.1.0 ∙ c; version = it.2.1.1.1.0 ∙ d; piece = it.1 }) rest)
   ]
 
+  -- an error at or after the statement that makes `version` is excused
   version_step : (mid : Held S) (most : ℕ) → Way mid → IsTrue mid.in_transaction → (state g mid).now.schema ≡ schema3 → (state g mid).now.trees 0 ≡ [] → (state g mid).now.trees 2 ≡ [] → (state g mid).now.trees 4 ≡ []
       → RunInTurn g (Some 0) (suc (suc (suc (suc most)))) text4 mid new (Err e) → Fault
   version_step mid most way inside has a b c run = elim (turn_or_stop g mid new e text4 first4 text5 (lit< tt) cut4.0 cut4.1 inside schema3 has CreateTable make4.0 tt (suc (suc (suc most))) run) [

@@ -40,6 +40,7 @@ use Rattle.tables.proofs.ListingLemmas.{listing, listed_rows, first_listed, IsLi
 -- ---- one query
 
 module _ (sql : List ℕ) (width : ℕ) (it : IsWalkable sql width) (plain : IsPlain (understood store_schema sql)) (unlisted : reads_listing store_schema sql ≡ false) where
+  -- the query fails only with an error that is excused
   pub query_excused : (old new : State) (e : Error) → old.now.schema ≡ store_schema → FailsToQuery sql [] old new e → IsExcused old new e
   unfolding FailsToQuery
   query_excused old new e has (inl unread) = unrun sql old new store_schema has (command_of (understood store_schema sql)) refl plain it.alone e unread
@@ -79,6 +80,7 @@ listed_width from project order db out it row there =
     ap length e.2 ∙ length-map project (λ t. eval t e.0)
 
 module _ (sql : List ℕ) (from : Join) (project : List Term) (order : List (Term × Key)) (names : List (List ℕ)) (is : command_of (understood store_schema sql) ≡ Select (record { lets = []; body = listing from project order }) names) where
+  -- a query for terms of a join with no fold and no type error can be walked over
   is_walkable : has_no_fold from ≡ true → ((db : Database) → db.schema ≡ store_schema → RefusesQuery None db (record { lets = []; body = listing from project order }) [] (SqliteFailure TypeMismatch) → ⊥) → IsAlone sql (understood store_schema sql) → IsWalkable sql (length project)
   is_walkable foldless typed alone = record { alone = alone; allowed = allowed; wide = wide }
     where
@@ -95,7 +97,7 @@ module _ (sql : List ℕ) (from : Join) (project : List Term) (order : List (Ter
           let first = first_listed sql from project order names is db (rows ++ row ∷ []) h in
           listed_width from project order (overlay db.trees []) ((rows ++ row ∷ []) ++ first.0) first.1 row (at_place rows first.0 row)
 
-  -- so many are there
+  -- if the query shows more rows than a walk counts, the join has that many
   many_listed : (db : Database) → ShowsTooMany sql db → 2 ^ 128 ≤ length (map (eval_all project) (matches (overlay db.trees []) [] from ([] ∷ []))) + 1
   many_listed db h =
       let first = first_listed sql from project order names is db h.0 h.1 in
@@ -104,7 +106,7 @@ module _ (sql : List ℕ) (from : Join) (project : List Term) (order : List (Ter
       let long = h.2 in
       omega (arith, same, all, long)
 
--- so many are in a table
+-- if a query of one table shows more rows than a walk counts, the table has 2^64 rows
 many_rows : (sql : List ℕ) (tree : ℕ) (project : List Term) (order : List (Term × Key)) (names : List (List ℕ)) → command_of (understood store_schema sql) ≡ Select (record { lets = []; body = listing (inner tree end) project order }) names
     → (db : Database) → overlay db.trees [] tree ≡ db.trees tree → ShowsTooMany sql db → 2 ^ 64 ≤ length (db.trees tree)
 many_rows sql tree project order names is db plain h =

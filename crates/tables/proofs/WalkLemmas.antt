@@ -92,6 +92,7 @@ looks_then a b c p same q = record {
   counts = λ clean has. let was = was_clean b c q.clean clean in let first = p.counts was has in let next = q.counts clean (unchanged_schema a b (same was has) has) in omega (arith, first, next);
 }
 
+-- two tests one after the other, of which the first passed, test for both
 pub then_tests : (a b c : State) (r : Result Bool Error) (P Q : Trees → Type 0) → Tests a b (Ok true) P → Tests b c r Q → Tests a c r (λ db. P db × Q db)
 then_tests a b c r P Q p q = record {
   looks = looks_then a b c p.looks p.same q.looks;

@@ -61,6 +61,7 @@ module _ (db : Trees) (w : World) (sound : IsSound store_schema db) (means : Mea
   shelf_key : (row : Row) → Has (db 2) row → column row 1 ≡ Text (key_in (shelf_shown row))
   shelf_key row there = let it = means.shelves.each row there in held_text (column row 1) it.0.0 it.1.0
 
+  -- if the tables mean a world, the rows of `shelf` fit
   shelves_fit : AreShelvesFit (mapped shelf_shown (db 2))
   shelves_fit = record {
     shelves = record {
@@ -95,6 +96,7 @@ module _ (db : Trees) (w : World) (sound : IsSound store_schema db) (means : Mea
         apart (key_in (name_shown a)) (own_key a here) (subst (λ (r : Row). column r 1 ≡ Text (key_in (name_shown a))) one (own_key a here))) means.tokens;
   }
 
+  -- if the tables mean a world, each row of `version` shows an entry that may stand at its place
   entry_row : (row : Row) → Has (db 6) row → IsEntryRow (entry_shown row)
   entry_row row there =
       let it = means.entries.each row there in
@@ -148,6 +150,7 @@ module _ (db : Trees) (w : World) (sound : IsSound store_schema db) (means : Mea
       let at = it.1.zip.each r (has_kept (is_of v.0) (db 8) r there v.2) in
       record { version = v.0; zip = it.0.1.zip; number = at.0; pieces = it.1.zip; tied = v.2; shows = at.1; has = at.2; small = (is.entries_fit it.0.0 it.0.1 it.2).zip }
 
+  -- if the tables mean a world, each row of `piece` shows a piece
   piece_row : (r : Row) → Has (db 8) r → IsPieceRow (piece_shown r)
   piece_row r there =
       let it = owned r there in
@@ -183,6 +186,7 @@ module _ (db : Trees) (w : World) (sound : IsSound store_schema db) (means : Mea
       let full : (length (blob_in (column b 3)) == piece_size) ≡ true = eq-eqb (length (blob_in (column b 3))) piece_size long in
       (b, here.0, λ i. record { version = int_in (version_is i); number = number_is i; is_full = full i })
 
+  -- if the tables mean a world, the rows of `piece` fit
   pieces_fit : ArePiecesFit (mapped piece_shown (db 8))
   pieces_fit = record {
     pieces = record {

@@ -163,6 +163,7 @@ module _ (db : Trees) (sound : IsSound store_schema db) (fit : AreFit db) where
   entry_shown_at : (row : Row) → Has (db 6) row → (q : Place) × (e : Entry) × ShowsEntry (entry_shown row) q e
   entry_shown_at row there = fit.entries.each (entry_shown row) (mapped_has entry_shown (db 6) row there)
 
+  -- if the rows fit, each row of `version` shows its entry, with the zip of its pieces
   version_is : (row : Row) → Has (db 6) row → IsVersion (db 8) row (place_of row, entry_of (db 8) row)
   version_is row there =
       let it = entry_shown_at row there in
@@ -189,6 +190,7 @@ module _ (db : Trees) (sound : IsSound store_schema db) (fit : AreFit db) where
   meta_is : (row : Row) → Has (db 0) row → IsMeta row schema_named
   meta_is row there = fit.named.each (meta_shown row) (mapped_has meta_shown (db 0) row there)
 
+  -- tables whose rows fit mean the world that is made of them
   pub fit_means : Means db (world_of db)
   unfolding world_of
   fit_means = record {
@@ -232,6 +234,7 @@ module _ (db : Trees) (sound : IsSound store_schema db) (fit : AreFit db) where
       let shows = length_mapped (λ row. is_on s p (place_in row)) entry_shown (db 6) in
       omega (arith, part, rows, shows, fit.entries.few s p)
 
+  -- what is made of tables whose rows fit is a world
   pub fit_world : IsWorld (world_of db)
   unfolding world_of
   fit_world = record {

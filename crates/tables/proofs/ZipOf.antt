@@ -19,11 +19,12 @@ use Rattle.tables.proofs.SoundLemmas.{one_version}
 
 -- ---- the bytes of a number
 
--- those of the first row that has it, or none
+-- the bytes of the first row that has the number, or none
 bytes_at : List Row → ℕ → List ℕ
 bytes_at [] n = []
 bytes_at (r ∷ rows) n = cond (nat_in (column r 2) == n) (blob_in (column r 3)) (bytes_at rows n)
 
+-- the bytes of a number are none, or those of a row that has the number
 bytes_either : (rows : List Row) (n : ℕ) → (bytes_at rows n ≡ []) ⊎ ((r : Row) × Has rows r × (nat_in (column r 2) ≡ n) × (bytes_at rows n ≡ blob_in (column r 3)))
 unfolding bytes_at
 bytes_either [] n = inl refl
@@ -72,7 +73,7 @@ module _ (db : Trees) (fit : ArePiecesFit (mapped piece_shown (db 8))) (version 
   number_within : (r : Row) → Has (db 8) r → nat_in (column r 2) < piece_limit
   number_within r there = let it = shown r there in let same = ap nat_in it.numbered in let low = it.within in omega (arith, same, low)
 
-  -- of one number there is one
+  -- no two rows of the version have one number
   only_one : (a b : Row) → Has own a → Has own b → nat_in (column a 2) ≡ nat_in (column b 2) → a ≡ b
   only_one a b here there number =
       let one = own_there a here in
@@ -104,6 +105,7 @@ module _ (db : Trees) (fit : ArePiecesFit (mapped piece_shown (db 8))) (version 
       let tied : is_of version b ≡ true = ap (λ v. equal Binary v (rowid version)) column_is ∙ one.1 in
       (b, has_kept (is_of version) (db 8) b from.1 tied, number_is, eqb-true (length (blob_in (column b 3))) piece_size full)
 
+  -- if the rows fit, the bytes of each number are at most a piece, and a full one where the next number has some
   whole : AreWhole (bytes_at own)
   whole = record {
     most = λ n. elim (bytes_either own n) [
@@ -130,6 +132,7 @@ module _ (db : Trees) (fit : ArePiecesFit (mapped piece_shown (db 8))) (version 
   unfolding zip_of
   zip_piece n = piece_joined (bytes_at own) whole piece_limit none_behind n
 
+  -- if the rows fit, those of a version are the pieces of the zip that is made of them
   pub zip_pieces : ArePieces own (zip_of (db 8) version)
   zip_pieces = record {
     each = λ r there.

@@ -14,17 +14,17 @@ use Rattle.tables.specs.Schema.{store_schema}
 abbrev pub IsHindered : State → State → Type 0
 IsHindered old new = (old.is_open ≡ false) ⊎ (IsSome old.step_limit ⊎ MoreFaults old.faults new.faults)
 
--- the error tells that memory was wanted, or something hindered the call
+-- the error says that memory ran out, or something hindered the call
 abbrev pub IsExcused : State → State → Error → Type 0
 IsExcused old new e = (e ≡ SqliteFailure OutOfMemory) ⊎ IsHindered old new
 
--- a table of the schema has as many rows as there are rowids, more than a walk over them counts
+-- the tables are those of the schema, and one of them has at least as many rows as there are rowids
 pub record IsVast (db : Database) : Type 0 where
   pub schema : db.schema ≡ store_schema
   pub table : Table
   pub listed : Has store_schema.tables table
   pub rows : 2 ^ 64 ≤ length (db.trees table.tree)
 
--- the error tells that memory was wanted, or something hindered the call, or a table is vast
+-- the error says that memory ran out, or something hindered the call, or a table is vast
 abbrev pub HasReason : State → State → Error → Type 0
 HasReason old new e = IsExcused old new e ⊎ IsVast old.now

@@ -1,4 +1,4 @@
--- What the rows of the tables have to be to stand for a world.
+-- What the rows of the tables must be for the tables to stand for a world.
 use Rattle.std.specs.Prelude.{◌≡◌, ◌≤◌, ◌<◌, ◌⊎◌, ◌&&◌, ◌==◌, ◌+◌, ℕ, ℤ, pos, negsuc, Bool, true, List, [], ◌∷◌, length, map, filter, bytes_eq, codes, IsUtf8, Option, Some, None}
 use Rattle.std.specs.List.{list_all}
 use Rattle.std.specs.FinSet as set
@@ -18,6 +18,7 @@ use Rattle.tables.specs.Pieces.{piece_size, piece_limit}
 use Rattle.tables.specs.VersionKeys.{order_key_at, rank_key_at}
 use Rattle.tables.specs.Schema.{meta_table, shelf_table, access_table, version_table, piece_table}
 
+-- the text of a value, or the empty text if it is no text
 abbrev pub text_in : Value → List ℕ
 text_in Null = []
 text_in (Int n) = []
@@ -25,6 +26,7 @@ text_in (Real x) = []
 text_in (Text t) = t
 text_in (Blob b) = []
 
+-- the integer of a value, or 0 if it is no integer
 abbrev pub int_in : Value → ℤ
 int_in Null = pos 0
 int_in (Int n) = n
@@ -32,6 +34,7 @@ int_in (Real x) = pos 0
 int_in (Text t) = pos 0
 int_in (Blob b) = pos 0
 
+-- the integer of a value, or 0 if it is no integer or is negative
 abbrev pub nat_in : Value → ℕ
 nat_in Null = 0
 nat_in (Int (pos n)) = n
@@ -40,6 +43,7 @@ nat_in (Real x) = 0
 nat_in (Text t) = 0
 nat_in (Blob b) = 0
 
+-- the bytes of a value, or no bytes if it is no blob
 abbrev pub blob_in : Value → List ℕ
 blob_in Null = []
 blob_in (Int n) = []
@@ -47,36 +51,43 @@ blob_in (Real x) = []
 blob_in (Text t) = []
 blob_in (Blob b) = b
 
--- ---- what is read of each row
+-- ---- the values that a walk reads of each row
 
+-- the name and the value of a row of `meta`
 abbrev pub meta_shown : Row → Row
 meta_shown row = column row 1 ∷ column row 2 ∷ []
 
+-- the first column of a row: the key of a row of `access`
 abbrev pub name_shown : Row → Row
 name_shown row = column row 1 ∷ []
 
+-- the name and the parent of a row of `shelf`
 abbrev pub shelf_shown : Row → Row
 shelf_shown row = column row 1 ∷ column row 2 ∷ []
 
+-- the rowid of a row
 abbrev pub number_shown : Row → Row
 number_shown row = column row 0 ∷ []
 
+-- shelf, path, version, time, go.mod, order_key and rank_key of a row of `version`
 abbrev pub entry_shown : Row → Row
 entry_shown row = column row 2 ∷ column row 3 ∷ column row 4 ∷ column row 5 ∷ column row 6 ∷ column row 7 ∷ column row 8 ∷ []
 
--- how many values are read of it
+-- how many values a walk reads of a row of `version`
 abbrev pub entry_width : ℕ
 entry_width = 7
 
+-- the version, the number and the bytes of a row of `piece`
 abbrev pub piece_shown : Row → Row
 piece_shown row = column row 1 ∷ column row 2 ∷ column row 3 ∷ []
 
--- how many values are read of it
+-- how many values a walk reads of a row of `piece`
 abbrev pub piece_width : ℕ
 piece_width = 3
 
--- ---- one row
+-- ---- one row, as a walk reads it
 
+-- the row names schema 3
 abbrev pub IsSchemaRow : Row → Type 0
 IsSchemaRow row = (column row 0 ≡ Text (codes "schema")) × (column row 1 ≡ Int (pos 3))
 
@@ -84,15 +95,16 @@ IsSchemaRow row = (column row 0 ≡ Text (codes "schema")) × (column row 1 ≡ 
 abbrev pub IsShelfName : List ℕ → Type 0
 IsShelfName name = (name ≡ common) ⊎ (is_team_name name ≡ true)
 
--- a shelf may have this name and this parent: common has none
+-- a shelf may have this name and this parent; common may have none
 abbrev pub IsNamed : List ℕ → Option (List ℕ) → Type 0
 IsNamed name None = IsShelfName name
 IsNamed name (Some parent) = (is_team_name name ≡ true) × IsShelfName parent
 
+-- the row shows a shelf with a name and a parent that it may have
 abbrev pub IsShelfRow : Row → Type 0
 IsShelfRow row = (name : List ℕ) × (parent : Option (List ℕ)) × (column row 0 ≡ Text name) × (column row 1 ≡ or_null Text parent) × IsNamed name parent
 
--- one more name, where a row shows that the shelf of this name has no parent
+-- the names with this one added, if its row shows no parent
 abbrev pub top_put : Value → List ℕ → set.FinSet text_cmp → set.FinSet text_cmp
 top_put Null name tops = set.insert tops name
 top_put (Int n) name tops = tops
@@ -100,7 +112,7 @@ top_put (Real x) name tops = tops
 top_put (Text t) name tops = tops
 top_put (Blob b) name tops = tops
 
--- one more name, where a row shows that a shelf has this parent
+-- the names, with the parent that a row shows added, if it shows one
 abbrev pub parent_put : Value → set.FinSet text_cmp → set.FinSet text_cmp
 parent_put Null parents = parents
 parent_put (Int n) parents = parents
@@ -108,29 +120,33 @@ parent_put (Real x) parents = parents
 parent_put (Text t) parents = set.insert parents t
 parent_put (Blob b) parents = parents
 
--- common is among the shelves without a parent, and so is each parent
+-- whether common is among the shelves without a parent, and so is each parent
 abbrev pub are_whole : set.FinSet text_cmp → set.FinSet text_cmp → Bool
 are_whole tops parents = set.contains tops common && list_all (λ t. set.contains tops t) (in_order parents)
 
+-- the row shows a well-formed key
 abbrev pub IsKeyRow : Row → Type 0
 IsKeyRow row = (key : List ℕ) × (column row 0 ≡ Text key) × (is_key key ≡ true)
 
+-- the text in the first value of a row: the name of a shelf, or a key
 abbrev pub key_in : Row → List ℕ
 key_in row = text_in (column row 0)
 
+-- the row shows a number
 abbrev pub IsNumberRow : Row → Type 0
 IsNumberRow row = (n : ℤ) × (column row 0 ≡ Int n)
 
+-- the number in the first value of a row
 abbrev pub number_in : Row → ℤ
 number_in row = int_in (column row 0)
 
--- the row shows the entry but for its place; of its zip it shows no byte
+-- the row shows the time and the go.mod of the entry, and no byte of its zip
 pub record ShowsFiles (row : Row) (e : Entry) : Type 0 where
   pub time : column row 3 ≡ or_null Text e.time
   pub gomod : column row 4 ≡ Blob e.gomod
   pub zip : e.zip ≡ []
 
--- the row shows the keys of the version that this text is
+-- the row shows the order_key and the rank_key of the version that this text names
 pub record ShowsKeys (row : Row) (version : List ℕ) : Type 0 where
   pub order : column row 5 ≡ Blob (order_key_at version)
   pub rank : column row 6 ≡ Blob (rank_key_at version)
@@ -142,7 +158,7 @@ pub record ShowsAt (row : Row) (path version : List ℕ) : Type 0 where
   pub keys : ShowsKeys row version
   pub may : (s : List ℕ) → IsEntry (place s path version) entry
 
--- the row shows an entry that may stand at its place, and the keys of its version
+-- the row shows the entry and its place, at which it may stand, and the keys of its version
 pub record ShowsEntry (row : Row) (q : Place) (e : Entry) : Type 0 where
   pub shelf : column row 0 ≡ Text q.shelf
   pub path : column row 1 ≡ Text q.path
@@ -152,17 +168,19 @@ pub record ShowsEntry (row : Row) (q : Place) (e : Entry) : Type 0 where
   pub utf8 : IsUtf8 q.shelf
   pub may : IsEntry q e
 
+-- the row shows an entry that may stand at its place, and the keys of its version
 abbrev pub IsEntryRow : Row → Type 0
 IsEntryRow row = (q : Place) × (e : Entry) × ShowsEntry row q e
 
+-- the place in the first three values of a row
 abbrev pub place_in : Row → Place
 place_in row = record { shelf = text_in (column row 0); path = text_in (column row 1); version = text_in (column row 2) }
 
--- the place is one of the path on the shelf
+-- whether the place is one of this path on this shelf
 abbrev pub is_on : List ℕ → List ℕ → Place → Bool
 is_on s p q = bytes_eq q.shelf s && bytes_eq q.path p
 
--- the row shows a piece: the number of its version, its own number, and its bytes, of which it has one at least
+-- the row shows a piece: the number of its version, its own number, and its bytes, at least one and no more than a piece may have
 pub record IsPieceRow (row : Row) : Type 0 where
   pub version : ℤ
   pub number : ℕ
@@ -174,58 +192,61 @@ pub record IsPieceRow (row : Row) : Type 0 where
   pub some : 0 < length bytes
   pub most : length bytes ≤ piece_size
 
--- the version that it is of, and its number
+-- the version and the number of the piece in a row
 abbrev pub piece_key : Row → ℤ × ℕ
 piece_key row = (int_in (column row 0), nat_in (column row 1))
 
--- what a walk keeps of it
+-- what a walk keeps of the piece in a row
 abbrev pub piece_in : Row → LastPiece
 piece_in row = record { version = int_in (column row 0); number = nat_in (column row 1); is_full = length (blob_in (column row 2)) == piece_size }
 
--- a full piece of a version
+-- what a walk keeps of a full piece
 abbrev pub full_piece : ℤ → ℕ → LastPiece
 full_piece version number = record { version = version; number = number; is_full = true }
 
--- ---- the rows of a table
+-- ---- all rows of a table
 
+-- there is a row, and each row names schema 3
 pub record IsMetaFit (rows : List Row) : Type 0 where
   pub each : (row : Row) → Has rows row → IsSchemaRow row
   pub some : (row : Row) × Has rows row
 
--- each row is so, and no two have one key
+-- each row is of this form, and no two have one key
 pub record AreOnce {K : Type 0} (IsRow : Row → Type 0) (key : Row → K) (rows : List Row) : Type 0 where
   pub each : (row : Row) → Has rows row → IsRow row
   pub once : IsAscending (λ a b. key a ≡ key b → ⊥) rows
 
--- a row shows that a shelf of this name has no parent
+-- some row shows that a shelf of this name has no parent
 abbrev pub HasTop : List Row → List ℕ → Type 0
 HasTop rows name = (row : Row) × Has rows row × (column row 0 ≡ Text name) × (column row 1 ≡ Null)
 
--- each name once; common has no parent, and no parent has one
+-- each row shows a shelf, each name comes once, common has no parent, and no parent has one
 pub record AreShelvesFit (rows : List Row) : Type 0 where
   pub shelves : AreOnce IsShelfRow key_in rows
   pub has_common : HasTop rows common
   pub parents : (row : Row) (parent : List ℕ) → Has rows row → column row 1 ≡ Text parent → HasTop rows parent
 
+-- each row shows a well-formed key, and none comes twice
 abbrev pub AreKeysFit : List Row → Type 0
 AreKeysFit = AreOnce IsKeyRow key_in
 
+-- each row shows a number, and none comes twice
 abbrev pub AreNumbersFit : List Row → Type 0
 AreNumbersFit = AreOnce IsNumberRow number_in
 
--- each place once, and not too many of a path on a shelf
+-- each row shows an entry that may stand, each place comes once, and no shelf has too many versions of a path
 pub record AreEntriesFit (rows : List Row) : Type 0 where
   pub each : (row : Row) → Has rows row → IsEntryRow row
   pub once : IsAscending (λ a b. place_in a ≡ place_in b → ⊥) rows
   pub few : (s p : List ℕ) → length (filter (λ row. is_on s p (place_in row)) rows) ≤ version_limit
 
--- no number comes twice of a version, and a full piece is before each but the first
+-- each row shows a piece, no version has a number twice, and for each piece n + 1 its version has a full piece n
 pub record ArePiecesFit (rows : List Row) : Type 0 where
   pub pieces : AreOnce IsPieceRow piece_key rows
   pub before : (row : Row) (n : ℕ) → Has rows row → nat_in (column row 1) ≡ n + 1
       → (other : Row) × Has rows other × (piece_in other ≡ full_piece (int_in (column row 0)) n)
 
--- What the rows of all tables have to be to stand for a world.
+-- What the rows of all tables must be for the tables to stand for a world.
 pub record AreFit (db : Trees) : Type 0 where
   pub named : IsMetaFit (map meta_shown (db meta_table.tree))
   pub shelves : AreShelvesFit (map shelf_shown (db shelf_table.tree))

@@ -1,4 +1,4 @@
--- What holds of the tables and worlds by their definitions alone.
+-- What holds of tables and worlds by their definitions alone.
 use Rattle.std.specs.Prelude.{◌≡◌}
 use Rattle.sqlite.specs.Tree.{Trees}
 use Rattle.world.specs.World.{World}

@@ -1,4 +1,4 @@
--- What an empty connection holds once the tables are made.
+-- What an empty connection holds after the tables are made.
 use Rattle.std.specs.Prelude.{◌≡◌, true, IsTrue}
 use Rattle.sqlite.specs.Effect.{IsDatabase}
 use Rattle.sqlite.specs.State.{State}
@@ -6,7 +6,7 @@ use Rattle.tables.specs.Schema.{store_schema}
 use Rattle.world.specs.World.{only_common}
 use Rattle.tables.specs.Means.{Means}
 
--- within a transaction, which goes on
+-- within a transaction that is still open, the tables of the schema were made and stand for `common` alone; nothing was committed
 pub record IsMade (old new : State) : Type 0 where
   pub schema : new.now.schema ≡ store_schema
   pub sound : IsDatabase new.now

@@ -1,4 +1,4 @@
-//! The values of a row, by what they have to be.
+//! The values of a row, read as the types that they must have.
 
 ghost use Rattle.std.specs.Prelude.{◌≡◌, ◌≤◌, length, IfOk, IfErr, Decides, MatchOption, IsUtf8};
 ghost use Rattle.sqlite.specs.declared.types.Value.TheVariants.{Int, Text, Blob};
@@ -7,7 +7,7 @@ ghost use Rattle.sqlite.specs.Order.{column};
 use sqlite::types::ValueRef;
 use sqlite::{Error, Row};
 
-/// The text of a column, if it is one.
+/// Returns the text of a column, or None if it holds no UTF-8 text. Fails only if the row has no such column.
 pub(crate) fn text_at(row: &Row, at: usize) -> Result<Option<&str>, Error>
     ensures found { IfOk result (λ found. MatchOption found
         ((t : _) → column row.now at ≡ Text t → IsUtf8 t → ⊥)
@@ -23,7 +23,7 @@ pub(crate) fn text_at(row: &Row, at: usize) -> Result<Option<&str>, Error>
     }
 }
 
-/// The bytes of a column, if it has any.
+/// Returns the bytes of a column, or None if it holds no blob. Fails only if the row has no such column.
 pub(crate) fn blob_at(row: &Row, at: usize) -> Result<Option<&[u8]>, Error>
     ensures found { IfOk result (λ found. MatchOption found
         ((b : _) → column row.now at ≡ Blob b → ⊥)
@@ -36,7 +36,7 @@ pub(crate) fn blob_at(row: &Row, at: usize) -> Result<Option<&[u8]>, Error>
     }
 }
 
-/// The number of a column, if it is one.
+/// Returns the integer of a column, or None if it holds none. Fails only if the row has no such column.
 pub(crate) fn int_at(row: &Row, at: usize) -> Result<Option<i64>, Error>
     ensures found { IfOk result (λ found. MatchOption found
         ((n : _) → column row.now at ≡ Int n → ⊥)
@@ -49,7 +49,7 @@ pub(crate) fn int_at(row: &Row, at: usize) -> Result<Option<i64>, Error>
     }
 }
 
-/// Whether a column is these bytes.
+/// Whether a column is a blob with these bytes. Fails only if the row has no such column.
 pub(crate) fn is_blob_at(row: &Row, at: usize, bytes: &[u8]) -> Result<bool, Error>
     ensures found { IfOk result (λ b. Decides b (column row.now at ≡ Blob bytes.now)) }
     ensures past { IfErr result (λ _. length row.now ≤ at) }

@@ -1,4 +1,4 @@
-//! Tables that are made in an empty connection.
+//! Making the tables in an empty connection.
 
 ghost use Rattle.std.specs.Prelude.{◌≡◌, ◌≤◌, true, false, ◌⊎◌, OnOk, OnErr, IfErr, IsTrue};
 ghost use Rattle.sqlite.specs.Held.{state};
@@ -13,7 +13,8 @@ ghost use Rattle.world.specs.World.{only_common};
 
 use sqlite::{Alter, Connection, Error, ErrorCode, Transaction};
 
-/// Makes the tables, with the shelf `common`.
+/// Makes the tables, with the shelf `common`, within a transaction. In a transaction on an empty connection it fails only if
+/// memory runs out, the connection is shut or limited in its steps, or the disk fails.
 fn create_tables<S: Alter>(tx: &mut Transaction<'_, S>) -> Result<(), Error>
     ensures same_reference { tx.new.conn.ghost_name ≡ tx.old.conn.ghost_name }
     ensures survives { Survives (state S.Store tx.old.conn.now) (state S.Store tx.new.conn.now) (λ _. ⊥) }
@@ -30,11 +31,11 @@ fn create_tables<S: Alter>(tx: &mut Transaction<'_, S>) -> Result<(), Error>
     )
 }
 
-/// Makes the tables, with the shelf `common` alone, in one transaction, where there is no table. A connection that is in a
-/// transaction is refused.
+/// Makes the tables, with the shelf `common` and nothing else, in one transaction, on a connection that has no table.
+/// Refuses a connection that is in a transaction.
 ///
-/// Where this fails the connection shows what it showed. An error outside a transaction tells that
-/// memory was wanted, that the connection is shut or limited in its steps, or that the disk failed.
+/// If it fails, the connection, while it is open, shows what it showed before. Outside a transaction it fails only if memory
+/// runs out, the connection is shut or limited in its steps, or the disk fails.
 pub fn create<S: Alter>(conn: &mut Connection<S>) -> Result<(), Error>
     requires empty { (state S.Store conn.old).now.schema ≡ no_schema }
     ensures clean { doubt (state S.Store conn.old).is_clean ≤ doubt (state S.Store conn.new).is_clean }
@@ -46,7 +47,7 @@ pub fn create<S: Alter>(conn: &mut Connection<S>) -> Result<(), Error>
         (db : _) → new.may_leave db → old.may_leave db ⊎ StandFor db only_common) }
     ensures cause { Honestly (state S.Store conn.old) (state S.Store conn.new) (λ old new.
         old.in_transaction ≡ false → IfErr result (IsExcused old new)) }
-    // It comes back in the transaction that it was in, or in none, and its steps are limited as before.
+    // It leaves the connection in a transaction exactly if it was in one, and leaves its step limit as it was.
     ensures mode { (state S.Store conn.new).in_transaction ≡ (state S.Store conn.old).in_transaction }
     ensures limit { (state S.Store conn.new).step_limit ≡ (state S.Store conn.old).step_limit }
 {

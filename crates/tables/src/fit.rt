@@ -32,7 +32,7 @@ use world::entry_test::fitting_version;
 use world::names::{COMMON, is_key, is_team_name};
 use world::text_set::TextSet;
 
-/// The time that bytes are, if they are one.
+/// Returns the time that the bytes are, or None if they are no well-formed time.
 fn time_of(bytes: &[u8]) -> Option<TimeText>
     ensures { MatchOption result (IsTime bytes.now → ⊥) (λ t. t ≡ bytes.now) }
 {
@@ -42,7 +42,8 @@ fn time_of(bytes: &[u8]) -> Option<TimeText>
     }
 }
 
-/// The time of a column, or none where it is NULL, if it is one of the two.
+/// Returns the time of a column, or Some(None) if the column is NULL, or None if it is neither a time nor NULL.
+/// Fails only if the row has no such column.
 fn time_at(row: &Row, at: usize) -> Result<Option<Option<TimeText>>, Error>
     ensures found { IfOk result (λ found. MatchOption found
         ((t : _) → column row.now at ≡ or_null StoredText t → IfSome t IsTime → ⊥)
@@ -59,7 +60,7 @@ fn time_at(row: &Row, at: usize) -> Result<Option<Option<TimeText>>, Error>
     }
 }
 
-/// Whether a column is the number of the schema.
+/// Whether a column is the number of the schema, 3. Fails only if the row has no such column.
 fn is_schema_at(row: &Row, at: usize) -> Result<bool, Error>
     ensures found { IfOk result (λ b. Decides b (column row.now at ≡ Int (pos 3))) }
     ensures past { IfErr result (λ _. length row.now ≤ at) }
@@ -67,7 +68,7 @@ fn is_schema_at(row: &Row, at: usize) -> Result<bool, Error>
     Ok(matches!(row.get_ref(at)?, ValueRef::Int(3)))
 }
 
-/// The rows of `meta`: each names schema 3.
+/// A walk over the rows of `meta`: each names schema 3.
 #[derive(Drop)]
 struct MetaRows {
     has_row: bool,
@@ -89,7 +90,8 @@ impl RowTest for MetaRows {
     }
 }
 
-/// The text of a column, or none where it is NULL, if it is one of the two.
+/// Returns the text of a column, or Some(None) if the column is NULL, or None if it is neither UTF-8 text nor NULL.
+/// Fails only if the row has no such column.
 fn parent_at(row: &Row, at: usize) -> Result<Option<Option<&str>>, Error>
     ensures found { IfOk result (λ found. MatchOption found
         ((t : _) → column row.now at ≡ or_null StoredText t → IfSome t IsUtf8 → ⊥)
@@ -123,19 +125,19 @@ fn is_named(name: &str, parent: Option<&str>) -> bool
     }
 }
 
-/// The rows of `shelf` in the order of their names: each is `common`, a group or a team, and comes once.
+/// A walk over the rows of `shelf` by name: each is `common`, a group or a team, and no name comes twice.
 #[derive(Drop)]
 struct ShelfRows {
     alloc: Global,
     last: Option<Text>,
-    /// The shelves that have no parent.
+    /// The shelves without a parent.
     tops: TextSet,
-    /// The parents.
+    /// The parents that were named.
     parents: TextSet,
 }
 
 impl ShelfRows {
-    /// Notes a shelf.
+    /// Notes a shelf and its parent. Fails only if memory runs out.
     fn note(&mut self, name: &str, parent: Option<&str>) -> Result<(), AllocError>
         ensures { OnOk result ((self.new.last ≡ Some name.now)
             × ((self.new.tops ≡ top_put (or_null StoredText (option_copied parent.entry)) name.now self.old.tops)
@@ -149,7 +151,7 @@ impl ShelfRows {
         Ok(())
     }
 
-    /// Whether `common` is among those that have no parent, and each parent too.
+    /// Whether `common` is among the shelves without a parent, and each named parent is too.
     fn are_whole(&self) -> bool
         ensures { result ≡ are_whole self.now.tops self.now.parents }
     {
@@ -157,7 +159,7 @@ impl ShelfRows {
     }
 }
 
-/// Whether each text of a set is in another.
+/// Whether each text of the first set is in the second.
 fn are_among(texts: &TextSet, others: &TextSet) -> bool
     ensures { result ≡ list_all (λ t. set.contains others.now t) (in_order texts.now) }
 {
@@ -192,7 +194,7 @@ impl RowTest for ShelfRows {
     }
 }
 
-/// The rows of `access` in the order of their keys: each key is well formed, and comes once.
+/// A walk over the rows of `access` by key: each key is well formed, and none comes twice.
 #[derive(Drop)]
 struct KeyRows {
     alloc: Global,
@@ -218,6 +220,7 @@ impl RowTest for KeyRows {
     }
 }
 
+/// Whether the last text is this one.
 fn is_last(last: &Option<Text>, text: &str) -> bool
     ensures { Decides result (last.now ≡ Some text.now) }
 {
@@ -227,7 +230,7 @@ fn is_last(last: &Option<Text>, text: &str) -> bool
     }
 }
 
-/// The rows of `access` in the order of their numbers: each has one, and no other has it.
+/// A walk over the rows of `access` by number: each row has a number, and none comes twice.
 /// `key-revoke` deletes by number, and no clause of `sqlite` says that numbers differ.
 #[derive(Drop)]
 struct NumberRows {
@@ -253,8 +256,8 @@ impl RowTest for NumberRows {
     }
 }
 
-/// The rows of `version` in the order of their places: each entry may stand at its place and has the keys
-/// of its version, no place comes twice, and no path too often on a shelf.
+/// A walk over the rows of `version` by place: each entry may stand at its place and has the `order_key` and the `rank_key` of its
+/// version, no place comes twice, and no shelf has too many versions of a path.
 #[derive(Drop)]
 struct EntryRows {
     alloc: Global,
@@ -282,7 +285,8 @@ impl RowTest for EntryRows {
     }
 }
 
-/// The place of an entry that a row shows, if the entry may stand there and the keys are its version's.
+/// Returns the place of the entry in a row, or None if the entry may not stand there or does not have the `order_key` and the
+/// `rank_key` of its version. For a row of full width it fails only if memory runs out.
 fn entry_place(alloc: Global, row: &Row) -> Result<Option<Place>, Error>
     ensures found { IfOk result (λ found. MatchOption found
         (IsEntryRow row.now → ⊥)
@@ -304,8 +308,8 @@ fn entry_place(alloc: Global, row: &Row) -> Result<Option<Place>, Error>
     Ok(Some(Place::new(alloc, shelf, path, version)?))
 }
 
-/// Whether the last columns of a row show the keys of a version.
-/// It makes both keys again and compares them. Opening a store changes no row.
+/// Whether the last columns of a row are the `order_key` and the `rank_key` of a version. It makes both again and compares them,
+/// so opening a store changes no row. For a row of full width it fails only if memory runs out.
 fn shows_keys(alloc: Global, row: &Row, version: &Version) -> Result<bool, Error>
     ensures verdict { IfOk result (λ shows. Decides shows
         ((column row.now 5 ≡ Blob (order_key_of version.now)) × (column row.now 6 ≡ Blob (rank_key_of version.now)))) }
@@ -316,8 +320,8 @@ fn shows_keys(alloc: Global, row: &Row, version: &Version) -> Result<bool, Error
     Ok(is_blob_at(row, 5, &order)? && is_blob_at(row, 6, &rank)?)
 }
 
-/// Whether the other columns of a row show an entry that may stand at a path and a version, of whose zip
-/// they show no byte, and the keys of the version.
+/// Whether the other columns of a row show an entry that may stand at a path and a version, and the `order_key` and `rank_key` of
+/// the version. They show no byte of the zip. For a row of full width it fails only if memory runs out.
 fn shows_entry(alloc: Global, row: &Row, path: &str, version: &str) -> Result<bool, Error>
     ensures verdict { IfOk result (λ may. Decides may (ShowsAt row.now path.now version.now)) }
     ensures memory { entry_width ≤ length row.now → IfErr result (λ e. e ≡ Error.SqliteFailure ErrorCode.OutOfMemory) }
@@ -339,7 +343,7 @@ fn shows_entry(alloc: Global, row: &Row, path: &str, version: &str) -> Result<bo
     }
 }
 
-/// How many of a path on its shelf have come with this place, if it may follow the last one.
+/// Returns how many versions of the path on its shelf have come with this place, or None if the place may not follow the last.
 fn run_up_to(last: &Option<Place>, many: u64, place: &Place) -> Option<u64>
     ensures { MatchOption result
         (MayFollow last.now many place.now → ⊥)
@@ -361,7 +365,7 @@ fn run_up_to(last: &Option<Place>, many: u64, place: &Place) -> Option<u64>
     }
 }
 
-/// Whether `meta` names schema 3 and nothing else.
+/// Whether `meta` names schema 3 and nothing else. Fails as [`stand_for_world`] does.
 fn has_schema<S: Alter>(conn: &mut Connection<S>) -> Result<bool, Error>
     ensures tests { Tests (state S.Store conn.old) (state S.Store conn.new) result
         (λ db. IsMetaFit (map meta_shown (db 0))) }
@@ -374,7 +378,8 @@ fn has_schema<S: Alter>(conn: &mut Connection<S>) -> Result<bool, Error>
     Ok(rows.has_row)
 }
 
-/// Whether each shelf has a good name and comes once, `common` is there without a parent, and no parent has one.
+/// Whether each shelf has a valid name that comes once, `common` is there without a parent, and no parent has one.
+/// Fails as [`stand_for_world`] does.
 fn has_shelves<S: Alter>(alloc: Global, conn: &mut Connection<S>) -> Result<bool, Error>
     ensures tests { Tests (state S.Store conn.old) (state S.Store conn.new) result
         (λ db. AreShelvesFit (map shelf_shown (db 2))) }
@@ -396,7 +401,7 @@ fn has_shelves<S: Alter>(alloc: Global, conn: &mut Connection<S>) -> Result<bool
     Ok(rows.are_whole())
 }
 
-/// Whether each key is well formed, and comes once.
+/// Whether each key is well formed and comes once. Fails as [`stand_for_world`] does.
 fn has_keys<S: Alter>(alloc: Global, conn: &mut Connection<S>) -> Result<bool, Error>
     ensures tests { Tests (state S.Store conn.old) (state S.Store conn.new) result
         (λ db. AreKeysFit (map name_shown (db 4))) }
@@ -406,7 +411,7 @@ fn has_keys<S: Alter>(alloc: Global, conn: &mut Connection<S>) -> Result<bool, E
     rows_pass(conn, "SELECT token FROM access ORDER BY token", &mut rows)
 }
 
-/// Whether each key has a number of its own.
+/// Whether each key has a number of its own. Fails as [`stand_for_world`] does.
 fn has_numbers<S: Alter>(conn: &mut Connection<S>) -> Result<bool, Error>
     ensures tests { Tests (state S.Store conn.old) (state S.Store conn.new) result
         (λ db. AreNumbersFit (map number_shown (db 4))) }
@@ -416,8 +421,8 @@ fn has_numbers<S: Alter>(conn: &mut Connection<S>) -> Result<bool, Error>
     rows_pass(conn, "SELECT rowid FROM access ORDER BY rowid", &mut rows)
 }
 
-/// Whether each version is an entry that may stand at its place, with the keys of the version, each place
-/// comes once, and no path too often on a shelf.
+/// Whether each version is an entry that may stand at its place, with the `order_key` and the `rank_key` of its version, each
+/// place comes once, and no shelf has too many versions of a path. Fails as [`stand_for_world`] does.
 fn has_entries<S: Alter>(alloc: Global, conn: &mut Connection<S>) -> Result<bool, Error>
     ensures tests { Tests (state S.Store conn.old) (state S.Store conn.new) result
         (λ db. AreEntriesFit (map entry_shown (db 6))) }
@@ -435,7 +440,7 @@ fn has_entries<S: Alter>(alloc: Global, conn: &mut Connection<S>) -> Result<bool
     )
 }
 
-/// Whether the rows of all tables are such as stand for a world.
+/// Whether the rows of all tables are such that the tables stand for a world. Fails as [`stand_for_world`] does.
 fn is_fit<S: Alter>(alloc: Global, conn: &mut Connection<S>) -> Result<bool, Error>
     ensures tests { Tests (state S.Store conn.old) (state S.Store conn.new) result AreFit }
     ensures cause { FailsWithReason (state S.Store conn.old) (state S.Store conn.new) result }
@@ -458,10 +463,10 @@ fn is_fit<S: Alter>(alloc: Global, conn: &mut Connection<S>) -> Result<bool, Err
     has_pieces(conn)
 }
 
-/// Whether the tables are those of the schema and stand for a world. Nothing is written.
+/// Whether the tables are those of the schema and stand for a world. Writes nothing.
 ///
-/// An error tells that memory was wanted, that the connection is shut or limited in its steps, that
-/// the disk failed, or that a table has 2^64 rows, one for each rowid.
+/// It fails only if memory runs out, the connection is shut or limited in its steps, the disk fails, or a table has 2^64 rows,
+/// one for each rowid.
 pub fn stand_for_world<S: Alter>(alloc: Global, conn: &mut Connection<S>) -> Result<bool, Error>
     ensures clean { doubt (state S.Store conn.old).is_clean ≤ doubt (state S.Store conn.new).is_clean }
     ensures found { Honestly (state S.Store conn.old) (state S.Store conn.new) (λ old new.
@@ -474,7 +479,7 @@ pub fn stand_for_world<S: Alter>(alloc: Global, conn: &mut Connection<S>) -> Res
         (db : _) → new.may_leave db → old.may_leave db) }
     ensures cause { Honestly (state S.Store conn.old) (state S.Store conn.new) (λ old new.
         IfErr result (HasReason old new)) }
-    // It comes back in no transaction if it was in none, and its steps are limited as before.
+    // It leaves the connection in no transaction if it was in none, and leaves its step limit as it was.
     ensures mode { Honestly (state S.Store conn.old) (state S.Store conn.new) (λ old new.
         old.in_transaction ≡ false → new.in_transaction ≡ false) }
     ensures limit { Honestly (state S.Store conn.old) (state S.Store conn.new) (λ old new.

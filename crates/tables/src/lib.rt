@@ -1,26 +1,26 @@
-//! The SQL tables that keep a world: what their rows mean, and whether those that are there mean one.
+//! The SQL tables that keep a world: what their rows mean, and whether given tables stand for a world.
 //!
-//! There are five STRICT tables, schema 3:
+//! There are five STRICT tables, in schema 3:
 //!
 //! | table | a row is | columns |
 //! |---|---|---|
 //! | `meta` | the number of the schema, 3, under the name `schema` | `name`, `value` |
 //! | `shelf` | a shelf and its parent, which is null for a group and for `common`; `common` is always there | `name`, `parent` |
 //! | `access` | a key, the shelf that it belongs to and whether it may publish | `token`, `shelf`, `publish` |
-//! | `version` | a version of a module on a shelf, its time, its go.mod and the keys of its order | `id`, `shelf`, `path`, `version`, `time`, `mod`, `order_key`, `rank_key` |
-//! | `piece` | a piece of the zip of the version whose `id` it names: 65,536 bytes, or fewer of the last | `version`, `number`, `bytes` |
+//! | `version` | a version on a shelf, its time and go.mod | `id`, `shelf`, `path`, `version`, `time`, `mod`, `order_key`, `rank_key` |
+//! | `piece` | a piece of the zip of the version whose `id` it names: 65,536 bytes, or fewer in the last | `version`, `number`, `bytes` |
 //!
-//! They stand for one world at most: each row of `shelf` is a shelf, each row of `access` a key, and
-//! each row of `version` an entry, whose zip is in its rows of `piece`, joined in the order of their
-//! numbers, which are 0, 1, 2 and so on; each shelf, each key, each entry and each piece has one row.
-//! The numbers of the rows of `version`, and the order of rows, mean nothing.
+//! Tables stand for at most one world: each row of `shelf` is a shelf, each row of `access` a key, and each row of
+//! `version` an entry, whose zip is the bytes of its rows of `piece`, joined in the order of their numbers 0, 1, 2 and so on.
+//! Each shelf, key, entry and piece has one row. The numbers of the rows of `version`, and the order of rows, mean nothing.
+//! The order of the bytes in `order_key` is precedence, and of those in `rank_key` it is rank.
 //!
-//! | call | its statements |
+//! | call | what it does |
 //! |---|---|
-//! | `create` | in one transaction the five tables and the rows of schema 3 and of `common` |
-//! | `stand_for_world` | each row of each table once, in walks that keep the row before |
+//! | `create` | in one transaction makes the five tables, with the rows for schema 3 and for `common` |
+//! | `stand_for_world` | reads each row of each table once, in walks that remember the row before |
 //!
-//! What is said of values holds where each answer of the disk was what had been written.
+//! What contracts say of values holds as long as the disk returns what was written.
 #![tactic(auto)]
 
 mod columns;

@@ -1,4 +1,4 @@
-//! Zips in pieces, and whether the rows of `piece` are such.
+//! Zips in pieces, and whether the rows of `piece` are the pieces of zips.
 
 ghost use Rattle.std.specs.Prelude.{◌≡◌, ◌≤◌, ◌<◌, ℕ, pos, map, length, IfOk, IfErr, Decides, MatchOption, Some};
 ghost use Rattle.sqlite.specs.declared.types.Value.TheVariants.{Int};
@@ -13,14 +13,14 @@ use crate::columns::{blob_at, int_at};
 use crate::walk::{RowTest, rows_pass};
 use sqlite::{Alter, Connection, Error, Row};
 
-/// How many bytes a piece of a zip has, but for the last, which may have fewer and has one at least.
+/// A piece of a zip has this many bytes. The last piece may have fewer, but has at least one.
 pub const PIECE_SIZE: usize = 65_536;
 
-/// The most pieces of a zip.
+/// A zip has at most this many pieces.
 /// They hold exactly the longest zip, so an entry is tested without its zip.
 const MAX_PIECES: u64 = 256;
 
-/// What is kept of the last row of `piece`.
+/// What a walk keeps of the last row of `piece`.
 #[derive(Clone, Copy)]
 struct LastPiece {
     version: i64,
@@ -28,9 +28,9 @@ struct LastPiece {
     is_full: bool,
 }
 
-/// The rows of `piece` in the order of their versions and numbers: the pieces of a version are numbered
-/// from 0 without gaps, and each but the last is full.
-/// It keeps no bytes, so opening a store puts no zip together. The foreign key says that each piece has a version.
+/// A walk over the rows of `piece` by version and number: the pieces of a version are numbered from 0 without gaps, and each
+/// but the last is full. The walk keeps no bytes, so opening a store puts no zip together. The foreign key says that each piece
+/// has a version.
 #[derive(Drop)]
 struct PieceRows {
     last: Option<LastPiece>,
@@ -55,7 +55,8 @@ impl RowTest for PieceRows {
     }
 }
 
-/// The number of a piece that a column is, if it is one.
+/// Returns the number of a piece in a column, or None if the column holds no integer from 0 to 255.
+/// Fails only if the row has no such column.
 fn number_at(row: &Row, at: usize) -> Result<Option<u64>, Error>
     ensures found { IfOk result (λ found. MatchOption found
         ((n : ℕ) → column row.now at ≡ Int (pos n) → n < piece_limit → ⊥)
@@ -71,7 +72,7 @@ fn number_at(row: &Row, at: usize) -> Result<Option<u64>, Error>
     }
 }
 
-/// What is kept of the piece that a row shows, if it shows one.
+/// Returns what a walk keeps of the piece in a row, or None if the row holds no piece. Fails only if the row is too short.
 fn piece_at(row: &Row) -> Result<Option<LastPiece>, Error>
     ensures found { IfOk result (λ found. MatchOption found
         (IsPieceRow row.now → ⊥)
@@ -97,7 +98,7 @@ fn piece_at(row: &Row) -> Result<Option<LastPiece>, Error>
     }))
 }
 
-/// Whether a piece may come after the last one.
+/// Whether a piece may follow the last one, if there is one.
 fn may_go_on(last: Option<LastPiece>, piece: LastPiece) -> bool
     ensures { Decides result (MayGoOn last piece) }
 {
@@ -110,7 +111,8 @@ fn may_go_on(last: Option<LastPiece>, piece: LastPiece) -> bool
     last.is_full && piece.number > 0 && last.number == piece.number - 1
 }
 
-/// Whether the rows are zips in pieces.
+/// Whether the rows of `piece` are the pieces of zips. Fails only if memory runs out, the connection is shut or limited in its
+/// steps, the disk fails, or a table has a row for each rowid.
 pub(crate) fn has_pieces<S: Alter>(conn: &mut Connection<S>) -> Result<bool, Error>
     ensures tests { Tests (state S.Store conn.old) (state S.Store conn.new) result
         (λ db. ArePiecesFit (map piece_shown (db 8))) }

@@ -18,12 +18,14 @@ use sqlite_sql::ops::{BinaryOp, CompareOp};
 use sqlite_value::keys::{Collation, Order};
 use sqlite_value::value::{Bytes, Value};
 
+/// Whether the name has the bytes of the text.
 fn is_named(name: &Bytes, text: &str) -> bool
     ensures { Decides result (name.now ≡ text.now) }
 {
     name.as_slice() == text.as_bytes()
 }
 
+/// Whether this is a column of a STRICT table with this name, type and NOT NULL rule, no default, and binary collation.
 fn is_column(column: &Column, name: &str, kind: Kind, not_null: bool) -> bool
     ensures { Decides result (column.now ≡ column_of name.now kind not_null) }
 {
@@ -35,6 +37,7 @@ fn is_column(column: &Column, name: &str, kind: Kind, not_null: bool) -> bool
         && column.collation == Collation::Binary
 }
 
+/// Whether these places are just this one.
 fn is_place(places: &[usize], place: usize) -> bool
     ensures { Decides result (places.now ≡ place ∷ []) }
 {
@@ -50,14 +53,14 @@ fn has_no_terms(terms: &Terms) -> bool
     terms.roots.is_empty()
 }
 
-/// No default reads the time.
+/// Whether no default reads the time.
 fn has_no_stamps(stamps: &Stamps) -> bool
     ensures { Decides result (stamps.now ≡ no_stamps) }
 {
     stamps.places.is_empty() && has_no_terms(&stamps.terms) && stamps.formats.is_empty()
 }
 
-/// One key, over the first column alone.
+/// Whether there is one unique key, over the first column alone, in plain order.
 fn has_first_key(uniques: &[Items<usize>], orders: &[Order]) -> bool
     ensures { Decides result ((uniques.now ≡ (1 ∷ []) ∷ []) × (orders.now ≡ plain ∷ [])) }
 {
@@ -90,7 +93,7 @@ fn is_shelf_table(table: &Table) -> bool
         && !table.is_counted
 }
 
-/// The same parts of each table: it is no table that counts, computes or stamps.
+/// Whether the table has this name and this tree, and counts, computes and stamps nothing.
 fn is_bare(table: &Table, name: &str, tree: u32) -> bool
     ensures { Decides result (IsBare table.now name.now tree) }
 {
@@ -101,7 +104,7 @@ fn is_bare(table: &Table, name: &str, tree: u32) -> bool
         && !table.is_counted
 }
 
-/// The one reference, from a place to a column of another table.
+/// Whether there is one reference, from this place to this column of this table, with no action and not deferred.
 fn is_reference(references: &[Reference], place: usize, parent: &str, column: &str) -> bool
     ensures { Decides result (references.now ≡ refers place parent.now column.now ∷ []) }
 {
@@ -138,6 +141,7 @@ fn is_meta_table(table: &Table) -> bool
         && table.references.is_empty()
 }
 
+/// Whether there is one unique key, over the second, third and fourth columns, in plain order.
 fn has_version_key(uniques: &[Items<usize>], orders: &[Order]) -> bool
     ensures { Decides result ((uniques.now ≡ (2 ∷ 3 ∷ 4 ∷ []) ∷ []) × (orders.now ≡ plain ∷ [])) }
 {
@@ -147,7 +151,7 @@ fn has_version_key(uniques: &[Items<usize>], orders: &[Order]) -> bool
     }
 }
 
-/// The number of a version, and the columns that name its place.
+/// Whether these are the columns for the number of a version and its place.
 fn are_place_columns(id: &Column, shelf: &Column, path: &Column, version: &Column) -> bool
     ensures { Decides result ((id.now ≡ optional (codes "id") Integer) × (shelf.now ≡ given (codes "shelf") Text)
         × (path.now ≡ given (codes "path") Text) × (version.now ≡ given (codes "version") Text)) }
@@ -158,7 +162,7 @@ fn are_place_columns(id: &Column, shelf: &Column, path: &Column, version: &Colum
         && is_column(version, "version", Kind::Text, true)
 }
 
-/// The time of a version, its go.mod, and its keys of order.
+/// Whether these are the columns for the time of a version, its go.mod, its `order_key` and its `rank_key`.
 fn are_other_columns(time: &Column, gomod: &Column, order: &Column, rank: &Column) -> bool
     ensures { Decides result ((time.now ≡ optional (codes "time") Text) × (gomod.now ≡ given (codes "mod") Blob)
         × (order.now ≡ given (codes "order_key") Blob) × (rank.now ≡ given (codes "rank_key") Blob)) }
@@ -204,7 +208,7 @@ fn is_index(index: &Index, name: &str, tree: u32, table: u32, columns: &[usize])
         && index.is_unique
 }
 
-/// `publish = VALUE`, from this node on.
+/// Whether the node at this place is `publish = VALUE`.
 fn is_equation(nodes: &[Op], at: usize, value: i64) -> bool
     ensures { (depth : ℕ) → Decides result (term_to nodes.now (suc (suc depth)) at ≡ op2 (Compare Eq Binary) (col 1 3) (lit (Int value))) }
 {
@@ -216,7 +220,7 @@ fn is_equation(nodes: &[Op], at: usize, value: i64) -> bool
         && matches!(nodes.get(*right), Some(Op::Literal(Value::Int(n))) if *n == value)
 }
 
-/// `publish = 0 OR publish = 1`, from this node on.
+/// Whether the node at this place is `publish = 0 OR publish = 1`.
 fn is_either(nodes: &[Op], at: usize) -> bool
     ensures { (depth : ℕ) → Decides result (term_to nodes.now (suc (suc (suc depth))) at ≡ is_flag) }
 {
@@ -263,7 +267,7 @@ fn is_access_table(table: &Table) -> bool
         && is_reference(table.references.as_slice(), 2, "shelf", "name")
 }
 
-/// `number >= 0`, from this node on.
+/// Whether the node at this place is `number >= 0`.
 fn is_lower_bound(nodes: &[Op], at: usize) -> bool
     ensures { (depth : ℕ) → Decides result (term_to nodes.now (suc (suc depth)) at ≡ is_from_zero) }
 {
@@ -290,6 +294,7 @@ fn is_bound_check(terms: &Terms) -> bool
     is_bound_among(terms.nodes.as_slice(), terms.roots.as_slice())
 }
 
+/// Whether there is one unique key, over the first and second columns, in plain order.
 fn has_piece_key(uniques: &[Items<usize>], orders: &[Order]) -> bool
     ensures { Decides result ((uniques.now ≡ (1 ∷ 2 ∷ []) ∷ []) × (orders.now ≡ plain ∷ [])) }
 {
@@ -345,7 +350,7 @@ fn are_indexes(indexes: &[Index]) -> bool
     }
 }
 
-/// Whether a connection has the tables of schema 3 and nothing else.
+/// Whether the connection has the tables of schema 3 and nothing else.
 pub(crate) fn is_store_schema(schema: &Schema) -> bool
     ensures { Decides result (schema.now ≡ store_schema) }
 {
@@ -362,7 +367,7 @@ pub(crate) fn is_store_schema(schema: &Schema) -> bool
     has_tables && are_indexes(schema.indexes.as_slice()) && schema.views.is_empty()
 }
 
-/// Whether a connection has no table, no index and no view.
+/// Whether the connection has no table, no index and no view.
 pub fn is_no_schema(schema: &Schema) -> bool
     ensures { Decides result (schema.now ≡ no_schema) }
 {

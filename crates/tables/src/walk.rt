@@ -1,4 +1,4 @@
-//! Rows that a query shows, tested one after the other.
+//! Tests of the rows of a query, one after the other.
 
 ghost use Rattle.std.specs.Prelude.{◌≡◌, ◌⊎◌, length, false, ℕ, IfOk, IfErr, OnOk, MatchBool};
 ghost use Rattle.sqlite.specs.Held.{state};
@@ -13,17 +13,18 @@ ghost use Rattle.tables.specs.Walks.{Looks, Walks, IsWalkable, ShowsTooMany};
 
 use sqlite::{Alter, Connection, Error, ErrorCode, Row};
 
-/// A test of rows that come one after the other, which keeps something of those before.
+/// A test of rows that come one after the other, which remembers something of the rows before.
 pub(crate) trait RowTest {
     /// How many values a row has.
     ghost width: { ℕ };
 
-    /// What a row has to be, by what is kept of those before it.
+    /// What a row must be, given what the test remembers of the rows before.
     ghost Fits: { Self → Shown → Type 0 };
 
-    /// What is kept once a row has passed.
+    /// What the test remembers once a row has passed.
     ghost Keeps: { Self → Shown → Self → Type 0 };
 
+    /// Whether the row passes. For a row of this width it fails only if memory runs out.
     fn passes(&mut self, row: &Row) -> Result<bool, Error>
         ensures verdict { IfOk result (λ passes. MatchBool passes
             (Fits self.old row.now × Keeps self.old row.now self.new)
@@ -31,7 +32,8 @@ pub(crate) trait RowTest {
         ensures memory { length row.now ≡ width → IfErr result (λ e. e ≡ Error.SqliteFailure ErrorCode.OutOfMemory) };
 }
 
-/// Whether each row that a query shows passes.
+/// Whether each row of a query passes. Fails only if memory runs out, the connection is shut or limited in its steps, the disk
+/// fails, or the query shows more rows than the walk counts.
 /// Each table is read in one walk, ordered by what must not repeat, so nothing is quadratic. No clause of `sqlite`
 /// bounds the rows of a table, so the walk counts to 2^128, which no join of two tables reaches.
 pub(crate) fn rows_pass<S: Alter, T: RowTest>(
@@ -59,6 +61,6 @@ pub(crate) fn rows_pass<S: Alter, T: RowTest>(
             return Ok(false);
         }
     }
-    // So many rows come only where a table has one for each rowid.
+    // So many rows come only from a table that has one for each rowid.
     Err(Error::SqliteFailure(ErrorCode::TooBig))
 }

@@ -1,4 +1,4 @@
-//! The calls of a store, whichever it is, and their answers as texts.
+//! Calls of any store, and their answers as texts.
 use crate::requests::is_answered;
 use crate::rows::{answer_of, call_of, column, named, with_lines};
 use modpath::ModulePath;
@@ -9,7 +9,7 @@ use std::test::Fail;
 use world::entry::{EntryRef, Right};
 use world::shelves::Shelves;
 
-/// Scripts of calls, with `====` between them, that each store answers alike.
+/// Scripts of calls, with `====` between them, which every store answers alike.
 pub const CALLS: &str = "\
 group-add|common = Name
 group-add|Platform = Name
@@ -240,7 +240,7 @@ compare|common|example.com/x|v1.0.0|module example.com/x;|own = Other
 failures = 0
 ";
 
-/// Whether a row has its answer; one without columns is a heading.
+/// Whether the store answers the row as the row says. A line without columns is a heading, and holds.
 fn holds<S: Shelves>(alloc: Global, shelves: &mut S, row: &str) -> Result<bool, Fail> {
     if row.contains(" = ") {
         let wanted = answer_of(alloc, row)?;
@@ -253,9 +253,9 @@ fn holds<S: Shelves>(alloc: Global, shelves: &mut S, row: &str) -> Result<bool, 
     Ok(true)
 }
 
-/// Has a store answer a script, one row a line, and gives the first that it answers otherwise; empty where each has its own. A row
-/// is a request of `requests`, or a call: its name and its arguments; `key-add` adds a key that publishes, `reader-add` one that
-/// reads. `;` stands for a newline in a go.mod.
+/// Runs a script on a store, one row a line, and returns the first row that the store answers otherwise, or the empty text if there is
+/// none. A row is a request of `requests`, or a call: its name and its arguments. `key-add` adds a key that publishes, `reader-add`
+/// one that reads. `;` stands for a newline in a go.mod.
 pub fn wrong_row<'a, S: Shelves>(
     alloc: Global,
     shelves: &mut S,
@@ -269,7 +269,7 @@ pub fn wrong_row<'a, S: Shelves>(
     Ok("")
 }
 
-/// The same of a store that is let go then.
+/// Runs a script on a store as [`wrong_row`] does, and then drops the store.
 pub fn wrong_row_of<'a, S: Shelves + Drop>(
     alloc: Global,
     mut shelves: S,
@@ -278,7 +278,7 @@ pub fn wrong_row_of<'a, S: Shelves + Drop>(
     wrong_row(alloc, &mut shelves, script)
 }
 
-/// The answer to a call.
+/// Returns the answer to a call.
 fn answered<S: Shelves>(alloc: Global, shelves: &mut S, call: &str) -> Result<String, Fail> {
     let (first, second) = (column(call, 1), column(call, 2));
     match column(call, 0) {
@@ -294,7 +294,7 @@ fn answered<S: Shelves>(alloc: Global, shelves: &mut S, call: &str) -> Result<St
     }
 }
 
-/// A column that may be empty.
+/// Returns the column, or None if it is empty.
 fn given(column: &str) -> Option<&str> {
     if column.is_empty() {
         None
@@ -303,7 +303,7 @@ fn given(column: &str) -> Option<&str> {
     }
 }
 
-/// What a key holds.
+/// Returns the shelf and the right of a key, or `none`.
 fn key<S: Shelves>(alloc: Global, shelves: &mut S, key: &str) -> Result<String, Fail> {
     match shelves.key(key)? {
         Some(holder) => Ok(format!(in alloc; "{} {:?}", holder.shelf.as_str(), holder.right)?),
@@ -316,7 +316,7 @@ fn paths<S: Shelves>(alloc: Global, shelves: &mut S, shelf: &str) -> Result<Stri
     Ok(String::from_str(alloc, from_utf8(lines.as_slice())?)?)
 }
 
-/// The answer to a call that names a shelf and a path.
+/// Returns the answer to a call that names a shelf and a path.
 fn of_path<S: Shelves>(alloc: Global, shelves: &mut S, call: &str) -> Result<String, Fail> {
     let shelf = column(call, 1);
     let path = ModulePath::parse(alloc, column(call, 2))?;
@@ -350,7 +350,7 @@ fn latest<S: Shelves>(
     }
 }
 
-/// The answer to a call that names a version of the path too.
+/// Returns the answer to a call that also names a version.
 fn of_version<S: Shelves>(
     alloc: Global,
     shelves: &mut S,
@@ -367,7 +367,7 @@ fn of_version<S: Shelves>(
     }
 }
 
-/// A time; an empty text is none.
+/// Returns the time in a text, or None if the text is empty. Fails if the text is no time.
 pub fn time_of(text: &str) -> Result<Option<TimeText>, Fail> {
     if text.is_empty() {
         return Ok(None);
@@ -375,7 +375,7 @@ pub fn time_of(text: &str) -> Result<Option<TimeText>, Fail> {
     Ok(Some(read_time(text)?))
 }
 
-/// The answer to a call that hands in an entry: behind the version stand its go.mod, its zip and its time.
+/// Returns the answer to a call that hands in an entry: its go.mod, zip and time follow the version.
 fn of_entry<S: Shelves>(
     alloc: Global,
     shelves: &mut S,
@@ -398,7 +398,7 @@ fn of_entry<S: Shelves>(
     Ok(named(alloc, inserted)?)
 }
 
-/// The shelf of an entry, its go.mod, its zip and its time.
+/// Returns the shelf, the go.mod, the zip and the time of the entry that a shelf sees, or `none`.
 fn entry<S: Shelves>(
     alloc: Global,
     shelves: &mut S,
@@ -416,7 +416,7 @@ fn entry<S: Shelves>(
     Ok(format!(in alloc; "{}|{gomod}|{zip}|{time}", seen.shelf.as_str())?)
 }
 
-/// The go.mod of an entry, and its time.
+/// Returns the go.mod and the time of the entry that a shelf sees, or `none`.
 fn heading<S: Shelves>(
     alloc: Global,
     shelves: &mut S,
@@ -432,7 +432,7 @@ fn heading<S: Shelves>(
     Ok(format!(in alloc; "{gomod}|{time}")?)
 }
 
-/// A time as its text; none is the empty one.
+/// Returns the text of a time, or the empty text if there is none.
 fn shown_time(time: &Option<TimeText>) -> &str {
     match time {
         Some(time) => time.as_str(),

@@ -5,10 +5,10 @@ use std::alloc::{AllocError, Global};
 use std::test::Fail;
 use world::shelves::Shelves;
 
-/// Scripts, with `====` between them, that begin with the teams and the keys. A request is a row: its method, key and target; status,
-/// kind and body of the reply; of a PUT also the go.mod, the zip and further lines of its head. A stream is a row too: its bytes;
-/// status, kind and body of each reply, of which `&` stands before the second. `;` stands for the end of a line. A line without
-/// columns names those below it. The hashes are those of Python's hashlib and base64.
+/// Scripts, with `====` between them, which begin with the teams and the keys. A request is a row: its method, key and target; the
+/// status, kind and body of the reply; and for a PUT also the go.mod, the zip and further header lines. A stream is a row too: its bytes;
+/// and the status, kind and body of each reply, with `&` before the second. `;` stands for the end of a line. A line without
+/// columns describes those below it. The hashes were computed with Python's hashlib and base64.
 pub const REQUESTS: &str = "\
 team-add|alpha = Done
 team-add|beta = Done
@@ -213,12 +213,12 @@ GET M -/gosum/example.com/g/@v/v1.0.0 | 200 OK | plain | example.com/g v1.0.0/go
 GET A -/gosum/example.com/g/@v/v1.0.0 | 404 Not Found | plain | not found;
 ";
 
-/// A column of a row.
+/// Returns a column of a row, without spaces around it.
 fn part(row: &str, place: usize) -> &str {
     column(row, place).trim()
 }
 
-/// The key that a letter stands for.
+/// Returns the key that a letter stands for.
 fn key_of(letter: &str) -> &'static str {
     match letter {
         "A" => "alphakey00000001",
@@ -232,7 +232,7 @@ fn key_of(letter: &str) -> &'static str {
     }
 }
 
-/// What a row writes as the kind of a body.
+/// Returns the Content-Type that a word stands for.
 fn kind_of(word: &str) -> &'static str {
     match word {
         "json" => "application/json",
@@ -241,12 +241,12 @@ fn kind_of(word: &str) -> &'static str {
     }
 }
 
-/// The text of a column, whose lines end as those of a head do.
+/// Returns the text of a column with the line ends of a header.
 fn head_lines(alloc: Global, column: &str) -> Result<String, AllocError> {
     column.replace(alloc, ";", "\r\n")
 }
 
-/// What follows the first line of a PUT: further lines of its head, its go.mod and its zip.
+/// Returns what follows the first line of a PUT: further header lines, its go.mod and its zip.
 fn put_rest(alloc: Global, gomod: &str, zip: &str, lines: &str) -> Result<String, AllocError> {
     let lines = head_lines(alloc, lines)?;
     let gomod = with_lines(alloc, gomod)?;
@@ -257,8 +257,8 @@ fn put_rest(alloc: Global, gomod: &str, zip: &str, lines: &str) -> Result<String
     )
 }
 
-/// The bytes of a request, by words that are its method, the letter of its key and its target; of a PUT also by its go.mod, its
-/// zip and further lines of its head, in which `;` stands for the end of a line.
+/// Returns the bytes of a request. `words` are its method, the letter of its key and its target; a PUT also has a go.mod, a zip and
+/// further header lines, in which `;` stands for the end of a line.
 pub fn request(
     alloc: Global,
     words: &str,
@@ -278,7 +278,7 @@ pub fn request(
     format!(in alloc; "{method} /k/{key}/{target} HTTP/1.1\r\n{rest}")
 }
 
-/// The bytes that a row asks with.
+/// Returns the bytes of the request or the stream in a row.
 fn asked(alloc: Global, row: &str) -> Result<String, AllocError> {
     if part(row, 0).contains(" HTTP/1.1") {
         head_lines(alloc, part(row, 0))
@@ -293,7 +293,7 @@ fn asked(alloc: Global, row: &str) -> Result<String, AllocError> {
     }
 }
 
-/// The bytes of a reply.
+/// Returns the bytes of the reply in a part of a row.
 fn reply(alloc: Global, row: &str) -> Result<String, AllocError> {
     let body = with_lines(alloc, part(row, 3))?;
     format!(in alloc;
@@ -304,7 +304,7 @@ fn reply(alloc: Global, row: &str) -> Result<String, AllocError> {
     )
 }
 
-/// The bytes of the replies of a row.
+/// Returns the bytes of all replies in a row.
 fn replies(alloc: Global, row: &str) -> Result<String, AllocError> {
     let mut text = String::new(alloc);
     for part in row.split('&') {
@@ -313,7 +313,7 @@ fn replies(alloc: Global, row: &str) -> Result<String, AllocError> {
     Ok(text)
 }
 
-/// Whether a row is answered as it says.
+/// Whether the store answers the request or the stream in a row as the row says.
 pub fn is_answered<S: Shelves>(alloc: Global, shelves: &mut S, row: &str) -> Result<bool, Fail> {
     let asked = asked(alloc, row)?;
     let replies = replies(alloc, row)?;
@@ -323,7 +323,7 @@ pub fn is_answered<S: Shelves>(alloc: Global, shelves: &mut S, row: &str) -> Res
     Ok(output.as_slice() == replies.as_bytes())
 }
 
-/// The requests of a script in one stream, and the replies to them.
+/// Returns the requests of a script in one stream, and the replies to them.
 pub fn in_one_stream(alloc: Global, script: &str) -> Result<(String, String), AllocError> {
     let mut stream = String::new(alloc);
     let mut wanted = String::new(alloc);

@@ -1,14 +1,14 @@
-//! How rows are read: each stands on a line of a table, `|` between its columns, and ` = ` before its answer.
+//! Reading rows: each is a line of a table, with `|` between its columns and ` = ` before its answer.
 use std::alloc::{AllocError, Global};
 use std::fmt::Debug;
 use world::registry::StoreFault;
 
-/// A column of a row; one that is not there is empty.
+/// Returns a column of a row, or the empty text if the row has no such column.
 pub fn column(row: &str, place: usize) -> &str {
     row.split('|').nth(place).unwrap_or("")
 }
 
-/// What is called.
+/// Returns the call in a row: what stands before its answer.
 pub fn call_of(row: &str) -> &str {
     match row.split_once(" = ") {
         Some((call, _)) => call,
@@ -16,7 +16,7 @@ pub fn call_of(row: &str) -> &str {
     }
 }
 
-/// The answer; `;` stands for a newline.
+/// Returns the answer in a row, with each `;` turned into a newline, or the empty text if there is none.
 pub fn answer_of(alloc: Global, row: &str) -> Result<String, AllocError> {
     match row.split_once(" = ") {
         Some((_, answer)) => with_lines(alloc, answer),
@@ -24,12 +24,12 @@ pub fn answer_of(alloc: Global, row: &str) -> Result<String, AllocError> {
     }
 }
 
-/// The text that a column writes with `;` for each newline.
+/// Returns the text of a column with each `;` turned into a newline.
 pub fn with_lines(alloc: Global, column: &str) -> Result<String, AllocError> {
     column.replace(alloc, ";", "\n")
 }
 
-/// A value of a store by its name, or the fault.
+/// Returns the name of a value, or of the fault.
 pub fn named<T: Debug + Copy>(
     alloc: Global,
     told: Result<T, StoreFault>,

@@ -12,9 +12,9 @@ use world::entry::{Entry, Right};
 use world::reading::Reading;
 use world::standing::{Standing, standing_to};
 
-/// A publish of `example.com/lib` and its decision: the right of the key; the version; the time; the go.mod and the zip, `-` where
-/// they are not told apart; the go.mod as it is read; the zip and the time of the entry that is
-/// seen; the number of versions. `;` stands for a newline.
+/// Publishes of `example.com/lib` and their decisions. A row has the right of the key; the version; the time; the go.mod and the
+/// zip, with `-` for a body that does not split; the go.mod as it is read; the zip and the time of the entry that the shelf sees;
+/// and the number of versions. `;` stands for a newline.
 const DECISIONS: &str = "\
 none|v1.0.0||module example.com/lib;|a|-|a||0 = NotFound
 Reads|v2.0.0|malformed|-||-|||0 = Forbidden
@@ -86,7 +86,7 @@ fn reading(alloc: Global, text: &str) -> Result<Reading, AllocError> {
     Reading::of(alloc, gomod.as_bytes())
 }
 
-/// The entry that a publish with the go.mod of the path makes; none for no zip.
+/// Returns the entry that a publish with this zip and a bare go.mod makes, or None if the zip is empty.
 fn seen(alloc: Global, zip: &str, time: &str) -> Result<Option<Entry>, Fail> {
     if zip.is_empty() {
         return Ok(None);
@@ -101,7 +101,7 @@ fn seen(alloc: Global, zip: &str, time: &str) -> Result<Option<Entry>, Fail> {
     Ok(Some(Entry::copy_of(alloc, &offered)?))
 }
 
-/// How a publish stands to the entry that is seen.
+/// Returns how a publish compares with the entry that is seen.
 fn compared(publish: &Publish, seen: Option<&Entry>) -> Standing {
     match (seen, publish.entry()) {
         (Some(seen), Some(entry)) => standing_to(&seen.as_ref(), &entry),
@@ -109,7 +109,7 @@ fn compared(publish: &Publish, seen: Option<&Entry>) -> Standing {
     }
 }
 
-/// What is decided of a publish whose go.mod was read.
+/// Returns the decision on a publish whose go.mod was read.
 fn decided_as_read(
     alloc: Global,
     row: &str,

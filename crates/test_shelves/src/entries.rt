@@ -9,7 +9,7 @@ use world::entry::EntryRef;
 use world::entry_test::{Misfit, fitting_version, module_misfit, own_misfit};
 use world::reading::Reading;
 
-/// A path, a version, a go.mod in which `;` stands for a newline, a time, and whether they may stand together.
+/// Rows of a path, a version, a go.mod in which `;` stands for a newline, a time, and whether the entry may stand there.
 const ENTRIES: &str = "\
 example.com/lib|v1.0.0|module example.com/lib;| = true
 example.com/lib|v1.0.0|module example.com/lib;|2019-11-09T02:19:32Z = true
@@ -48,7 +48,7 @@ fn entries_may_stand_or_not(rt: HostRuntime) -> Result<(), Fail> {
     Ok(())
 }
 
-/// The same columns, and the first check that fails, or `fits`.
+/// Rows of a path, a version, a go.mod, a time, and the first check that fails, or `fits`.
 const MISFITS: &str = "\
 example.com/lib|v1.0.0|module example.com/lib;| = fits
 example.com/lib|v2.0.0|module example.com/other;| = Version

@@ -1,4 +1,4 @@
-//! Counts of versions that are kept.
+//! Counts of versions that a store keeps.
 use std::test::Fail;
 use world::counts::Counts;
 

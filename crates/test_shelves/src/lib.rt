@@ -1,8 +1,8 @@
-//! The worked rows of shelves: the calls of shelves in memory, the decisions of a publish, runs of the machine, and the bytes that
+//! The worked examples of shelves: calls of shelves in memory, decisions on publishes, runs of the machine, and the bytes that
 //! answer requests.
 //!
-//! Each table is a text whose lines are rows, and each public function of the crates below is run on one at least. The scripts
-//! are those of `test_support`, which `test_stores` runs on tables too.
+//! Each table is a text whose lines are rows. Each public function of the crates below runs on at least one row. The scripts
+//! are those of `test_support`, which `test_stores` also runs on tables.
 #![tactic(auto)]
 
 #[cfg(test)]

@@ -1,4 +1,4 @@
-//! Scripts, each on new shelves in memory.
+//! Scripts, each run on new shelves in memory.
 use engine::answer_all;
 use std::alloc::Global;
 use std::test::Fail;
@@ -19,8 +19,8 @@ fn maps_answer(rt: HostRuntime) -> Result<(), Fail> {
     Ok(())
 }
 
-/// The bytes that shelves answer to a stream, once they have the teams, the groups and the keys of a script. The shelves are let
-/// go then.
+/// Returns the bytes that shelves answer to a stream, once they have the teams, the groups and the keys of a script. Then drops the
+/// shelves.
 fn streamed<S: Shelves + Drop>(
     alloc: Global,
     mut shelves: S,
@@ -38,7 +38,7 @@ fn streamed<S: Shelves + Drop>(
     Ok(output)
 }
 
-/// All scripts but the one whose bad requests end a stream.
+/// Runs all scripts but the one whose bad requests end a stream.
 #[test]
 fn requests_are_answered_in_one_stream(rt: HostRuntime) -> Result<(), Fail> {
     let alloc = rt.alloc();

@@ -13,8 +13,8 @@ use text::Text;
 use world::bytes::Bytes;
 use world::entry::Right;
 
-/// Runs, with `====` between them: events and their answers. What stands before `----` is run first, and then the rest on the
-/// shelves that it left. What is asked is asked of `v1.0.0`; `;` stands for a newline.
+/// Runs, with `====` between them: events and their answers. What stands before `----` runs first, and the rest then runs on the
+/// shelves that it left. Every request is for `v1.0.0`; `;` stands for a newline.
 const RUNS: &str = "\
 team-add|alpha = Done
 team-add|beta = Done
@@ -82,7 +82,7 @@ zip|platformkey00001|example.com/h = zip h
 zip|alphakey00000001|example.com/h = not found
 ";
 
-/// The files of a version are asked for.
+/// Returns a GET of the zip or the go.mod of `v1.0.0`.
 fn get(alloc: Global, call: &str, is_zip: bool) -> Result<Event, Fail> {
     let key = Text::copy_of(alloc, column(call, 1))?;
     let path = ModulePath::parse(alloc, column(call, 2))?;
@@ -134,7 +134,7 @@ fn event(alloc: Global, call: &str) -> Result<Event, Fail> {
     }
 }
 
-/// The text of a column that may be empty.
+/// Returns the text of a column, or None if it is empty.
 fn given(alloc: Global, column: &str) -> Result<Option<Text>, AllocError> {
     if column.is_empty() {
         return Ok(None);
@@ -151,7 +151,7 @@ fn events(alloc: Global, script: &str) -> Result<Vec<Event>, Fail> {
     Ok(events)
 }
 
-/// An answer as a text.
+/// Returns the text of an answer.
 fn shown(alloc: Global, answer: &Answer) -> Result<String, Fail> {
     let Answer::Replied(reply) = answer else {
         return Ok(String::from_str(alloc, "failed")?);

@@ -1,9 +1,9 @@
-//! Versions in order. (SemVer 2.0.0, section 11.)
+//! Versions in ascending precedence. (SemVer 2.0.0, section 11.)
 use std::test::Fail;
 use world::text_set::TextSet;
 use world::versions::ascending;
 
-/// Versions in no order, one of them twice.
+/// Versions in no particular order, one of them twice.
 const VERSIONS: &str = "\
 v1.0.0
 v1.0.0-rc.1

@@ -1,4 +1,4 @@
-//! Tables that a connection has before it is adopted.
+//! Connections that have tables before a store adopts them.
 use sqlite::{Connection, Error, MemStore};
 use std::alloc::Global;
 use std::test::Fail;
@@ -6,7 +6,7 @@ use store::refusal::Refusal;
 use store::store::SqlShelves;
 use test_support::calls::wrong_row_of;
 
-/// The tables of the schema.
+/// The statements that make the tables of the schema.
 const TABLES: &str = "\
 CREATE TABLE meta (name TEXT PRIMARY KEY, value INTEGER NOT NULL) STRICT;
 CREATE TABLE shelf (name TEXT PRIMARY KEY, parent TEXT REFERENCES shelf (name)) STRICT;
@@ -15,7 +15,7 @@ CREATE TABLE version (id INTEGER PRIMARY KEY, shelf TEXT NOT NULL REFERENCES she
 CREATE TABLE piece (version INTEGER NOT NULL REFERENCES version (id), number INTEGER NOT NULL CHECK (number >= 0), bytes BLOB NOT NULL, PRIMARY KEY (version, number)) STRICT;
 ";
 
-/// A team with a key, a group with a team, and a version of `common`.
+/// Rows of a team with a key, a group with a team, and a version on `common`.
 const ROWS: &str = "\
 INSERT INTO meta VALUES ('schema', 3);
 INSERT INTO shelf VALUES ('common', NULL), ('alpha', 'common'), ('platform', NULL), ('gamma', 'platform');
@@ -24,13 +24,13 @@ INSERT INTO version VALUES (7, 'common', 'example.com/lib', 'v1.0.0', NULL, X'6d
 INSERT INTO piece VALUES (7, 0, X'5A');
 ";
 
-/// What makes tables that are not those of the schema, where there are none.
+/// Statements that make tables outside the schema in an empty connection.
 const FOREIGN: &str = "\
 CREATE TABLE x (a INTEGER) STRICT
 CREATE TABLE body (id INTEGER PRIMARY KEY, zip BLOB NOT NULL) STRICT
 ";
 
-/// What makes others of the tables, the first four those of shelves with other columns, the last two in another order and by another text.
+/// Statements that turn the tables into others: the first four change columns of `shelf`, the last two the order and the text of tables.
 const OTHERS: &str = "\
 DROP TABLE piece;DROP TABLE version;DROP TABLE access;DROP TABLE shelf;CREATE TABLE shelf (name TEXT PRIMARY KEY) STRICT;CREATE TABLE access (token TEXT PRIMARY KEY, shelf TEXT NOT NULL REFERENCES shelf (name), publish INTEGER NOT NULL CHECK (publish IN (0, 1))) STRICT;CREATE TABLE version (id INTEGER PRIMARY KEY, shelf TEXT NOT NULL REFERENCES shelf (name), path TEXT NOT NULL, version TEXT NOT NULL, time TEXT, mod BLOB NOT NULL, order_key BLOB NOT NULL, rank_key BLOB NOT NULL, UNIQUE (shelf, path, version)) STRICT;CREATE TABLE piece (version INTEGER NOT NULL REFERENCES version (id), number INTEGER NOT NULL CHECK (number >= 0), bytes BLOB NOT NULL, PRIMARY KEY (version, number)) STRICT
 DROP TABLE piece;DROP TABLE version;DROP TABLE access;DROP TABLE shelf;CREATE TABLE shelf (name TEXT PRIMARY KEY, parent TEXT) STRICT;CREATE TABLE access (token TEXT PRIMARY KEY, shelf TEXT NOT NULL REFERENCES shelf (name), publish INTEGER NOT NULL CHECK (publish IN (0, 1))) STRICT;CREATE TABLE version (id INTEGER PRIMARY KEY, shelf TEXT NOT NULL REFERENCES shelf (name), path TEXT NOT NULL, version TEXT NOT NULL, time TEXT, mod BLOB NOT NULL, order_key BLOB NOT NULL, rank_key BLOB NOT NULL, UNIQUE (shelf, path, version)) STRICT;CREATE TABLE piece (version INTEGER NOT NULL REFERENCES version (id), number INTEGER NOT NULL CHECK (number >= 0), bytes BLOB NOT NULL, PRIMARY KEY (version, number)) STRICT
@@ -54,7 +54,7 @@ DROP TABLE piece;DROP TABLE version;DROP TABLE access;CREATE TABLE version (id I
 DROP TABLE piece;DROP TABLE version;DROP TABLE access;CREATE TABLE access (token TEXT PRIMARY KEY, shelf TEXT NOT NULL REFERENCES shelf (name), publish INTEGER NOT NULL CHECK (publish = 0 OR publish = 1)) STRICT;CREATE TABLE version (id INTEGER PRIMARY KEY, shelf TEXT NOT NULL REFERENCES shelf (name), path TEXT NOT NULL, version TEXT NOT NULL, time TEXT, mod BLOB NOT NULL, order_key BLOB NOT NULL, rank_key BLOB NOT NULL, UNIQUE (shelf, path, version)) STRICT;CREATE TABLE piece (version INTEGER NOT NULL REFERENCES version (id), number INTEGER NOT NULL CHECK (number >= 0), bytes BLOB NOT NULL, PRIMARY KEY (version, number)) STRICT
 ";
 
-/// What makes rows that stand for no world.
+/// Statements that make the rows stand for no world.
 const UNFIT: &str = "\
 DELETE FROM meta
 UPDATE meta SET value = 2
@@ -98,12 +98,12 @@ UPDATE version SET order_key = rank_key, rank_key = order_key
 UPDATE version SET version = 'v1.0.1'
 ";
 
-/// What makes the last table again, as it was.
+/// Makes the last table again, as it was.
 const MADE_AGAIN: &str =
     "DROP TABLE piece;CREATE TABLE piece (version INTEGER NOT NULL REFERENCES version (id), number INTEGER NOT NULL CHECK (number >= 0), bytes BLOB NOT NULL, PRIMARY KEY (version, number)) STRICT;INSERT INTO piece VALUES (7, 0, X'5A')";
 
-/// What keeps the rows those of a world: other shelves and parents, a key of a group, another version, an empty zip, and zips of a full
-/// piece and of a byte more.
+/// Statements that keep the rows those of a world: other shelves and parents, a key of a group, another version, an empty zip, and
+/// zips of one full piece and of a byte more.
 const FIT: &str = "\
 INSERT INTO shelf VALUES ('beta', 'common')
 INSERT INTO shelf VALUES ('beta', 'platform')
@@ -122,13 +122,13 @@ UPDATE piece SET bytes = X'FULL';INSERT INTO piece VALUES (7, 1, X'5A')
 const ONE_MORE: &str =
     "INSERT INTO version SELECT 1, shelf, path, 'v1.0.1', NULL, mod, X'00000000000000010000000000000000000000000000000103', X'0300000000000000010000000000000000000000000000000103' FROM version WHERE id = 7";
 
-/// A version that has the last number.
+/// Adds a version with the last rowid.
 const LAST: &str = "\
 INSERT INTO version VALUES (9223372036854775807, 'common', 'example.com/lib', 'v1.1.0', NULL, X'6d6f64756c65206578616d706c652e636f6d2f6c69620a', X'00000000000000010000000000000001000000000000000003', X'0300000000000000010000000000000001000000000000000003');
 INSERT INTO piece VALUES (9223372036854775807, 0, X'5959');
 ";
 
-/// Publishes over rows of which one has the last number, and what is then read.
+/// Publishes into tables of which one row has the last rowid, and reads what they stored.
 const BELOW: &str = "\
 PUT A example.com/own/@v/v1.0.0 | 201 Created | plain | published; | module example.com/own; | a
 PUT A example.com/own/@v/v1.1.0 | 201 Created | plain | published; | module example.com/own; | b
@@ -140,20 +140,20 @@ GET A example.com/lib/@v/v1.1.0.zip | 200 OK | zip | YY
 failures = 0
 ";
 
-/// A version that has the first number.
+/// Adds a version with the first rowid.
 const FIRST: &str = "\
 INSERT INTO version SELECT -9223372036854775808, shelf, path, 'v1.2.0', time, mod, X'00000000000000010000000000000002000000000000000003', X'0300000000000000010000000000000002000000000000000003' FROM version WHERE id = 7;
 INSERT INTO piece VALUES (-9223372036854775808, 0, X'5A');
 ";
 
-/// A publish over rows of which one has the last number and one the first.
+/// A publish into tables of which one row has the last rowid and one the first.
 const NONE_BELOW: &str = "\
 insert|alpha|example.com/own|v1.0.0|module example.com/own; = Device
 failures = 1
 GET A example.com/lib/@v/v1.0.0.zip | 200 OK | zip | Z
 ";
 
-/// What stands in the tables and rows, as the store tells it.
+/// What the store answers from the tables and rows.
 const KEPT: &str = "\
 key|alphakey00000001 = alpha Publishes
 entry|alpha|example.com/lib|v1.0.0 = common|module example.com/lib;|Z|
@@ -167,7 +167,7 @@ entry|alpha|example.com/lib|v1.0.0 = common|module example.com/lib;|Z|
 failures = 0
 ";
 
-/// Makes tables and rows, and changes them by statements.
+/// Makes tables and rows, and then runs statements that change them.
 fn prepare(
     conn: &mut Connection<MemStore>,
     tables: &str,
@@ -183,17 +183,17 @@ fn versions_in(conn: &mut Connection<MemStore>) -> Result<i64, Error> {
     conn.query_row("SELECT count(*) FROM version", &[])?.get(0)
 }
 
-/// How many versions a connection that came back has, where it tells.
+/// Returns how many versions a connection has that was handed back, or None if it does not say.
 fn versions_left(conn: Connection<MemStore>) -> Option<i64> {
     let mut conn = conn;
     versions_in(&mut conn).ok()
 }
 
-/// What adopting a connection told: the first row of a script that the store answers otherwise, or why it was refused, and how many
-/// versions the connection then has.
+/// The outcome of adopting a connection: the first row of a script that the store answers otherwise, or why it was refused and how
+/// many versions the connection has after that.
 type Told<'a> = Result<&'a str, (Refusal, Option<i64>)>;
 
-/// Adopts a connection, and has the store answer a script.
+/// Adopts a connection, and runs a script on the store.
 fn told_of<'a>(
     alloc: Global,
     conn: Connection<MemStore>,
@@ -205,8 +205,8 @@ fn told_of<'a>(
     }
 }
 
-/// Adopts a connection with such tables and rows, once statements have changed them, and at most so many steps a statement, and has
-/// the store answer a script.
+/// Adopts a connection with these tables and rows, after statements have changed them and with this limit of steps a statement, and
+/// runs a script on the store.
 fn adopted<'a>(
     alloc: Global,
     tables: &str,
@@ -223,7 +223,7 @@ fn adopted<'a>(
     Ok(told)
 }
 
-/// Why the tables and rows are refused once statements have changed them.
+/// Returns why the tables and rows are refused after statements have changed them, or None if they are taken.
 fn refusal_after(
     alloc: Global,
     tables: &str,
@@ -236,7 +236,8 @@ fn refusal_after(
     }
 }
 
-/// Whether tables are refused so, or taken, after each of these statements, in which `FULL` stands for the 65,536 bytes of a full piece.
+/// Whether after each of these statements the tables are refused for this reason, or taken for None. `FULL` stands for the 65,536
+/// bytes of a full piece.
 fn are_told(
     alloc: Global,
     tables: &str,
@@ -254,7 +255,7 @@ fn are_told(
     Ok(true)
 }
 
-/// Whether tables are refused as bad after each of these statements.
+/// Whether after each of these statements the tables are refused as `BadSchema`.
 fn are_bad(alloc: Global, tables: &str, rows: &str, statements: &str) -> Result<bool, Fail> {
     are_told(alloc, tables, rows, statements, Some(Refusal::BadSchema))
 }
@@ -270,7 +271,7 @@ fn bad_tables_are_refused(rt: HostRuntime) -> Result<(), Fail> {
     Ok(())
 }
 
-/// 4,096 versions of a path.
+/// Returns statements that make 4,096 versions of a path.
 fn most_rows(alloc: Global) -> Result<String, Fail> {
     let mut rows = String::from_str(alloc, ROWS)?;
     for n in 1..4096_u64 {

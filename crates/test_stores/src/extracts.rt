@@ -1,4 +1,4 @@
-//! A team's part of a store, that of several teams, and the whole, as a store of its own.
+//! Stores made from another store: the part of a team, the part of several teams, and a copy of the whole.
 use sqlite::MemStore;
 use std::alloc::Global;
 use std::test::Fail;
@@ -7,18 +7,18 @@ use store::store::SqlShelves;
 use test_support::calls::wrong_row;
 use world::shelves::Shelves;
 
-/// A store that a team's part is taken of, or that takes it.
+/// A store that parts are extracted from, or into.
 trait Extracts: Shelves + Drop {
-    /// One with the shelf `common` alone.
+    /// Returns a store with the shelf `common` and nothing else.
     fn opened(alloc: Global) -> Result<Self, Fail>;
 
-    /// Makes the other the team's part.
+    /// Extracts the part of the team into an empty store.
     fn extract_into(&mut self, team: &str, part: &mut Self) -> Result<(), Refusal>;
 
-    /// Makes the other the part of some teams.
+    /// Extracts the part of some teams into an empty store.
     fn extract_teams_into(&mut self, teams: &[&str], part: &mut Self) -> Result<(), Refusal>;
 
-    /// Makes the other a copy.
+    /// Copies the store into an empty one.
     fn copy_into(&mut self, other: &mut Self) -> Result<(), Refusal>;
 }
 
@@ -44,7 +44,7 @@ impl Extracts for SqlShelves<MemStore> {
     }
 }
 
-/// Two teams with a key each, one more that reads, and a key of `common`; versions of each shelf, those of beta first.
+/// Two teams with a key each, a key of alpha that reads, and a key of `common`; versions on each shelf.
 const WHOLE: &str = "\
 team-add|beta = Done
 team-add|alpha = Done
@@ -61,7 +61,7 @@ insert|alpha|example.com/y|v1.0.0|module example.com/y;|a = ()
 insert|beta|example.com/y|v1.0.0|module example.com/y;|b = ()
 ";
 
-/// What alpha's part has of it, and that it goes on as a store.
+/// Alpha's part of the whole, which then works as a store.
 const PART: &str = "\
 team-add|alpha = Taken
 key|alphakey00000001 = alpha Publishes
@@ -82,7 +82,7 @@ insert|alpha|example.com/lib|v1.1.0|module example.com/lib; = ()
 failures = 0
 ";
 
-/// That the whole has what it had.
+/// The whole, unchanged.
 const KEPT: &str = "\
 key|betakey000000001 = beta Publishes
 key|alphareader00001 = alpha Reads
@@ -92,7 +92,7 @@ versions|alpha|example.com/lib = v1.0.0;
 failures = 0
 ";
 
-/// A store that did what a script says.
+/// Returns a new store on which a script ran.
 fn whole<S: Extracts>(alloc: Global, script: &str) -> Result<S, Fail> {
     let mut whole = S::opened(alloc)?;
     if wrong_row(alloc, &mut whole, script)? != "" {
@@ -101,7 +101,7 @@ fn whole<S: Extracts>(alloc: Global, script: &str) -> Result<S, Fail> {
     Ok(whole)
 }
 
-/// The scripts of an extract: what the whole did before it, and what the part and the whole then answer.
+/// The scripts of an extract: what runs on the whole before it, and what the part and the whole answer after it.
 #[derive(Clone, Copy, Drop)]
 struct Scripts {
     whole: &'static str,
@@ -109,7 +109,7 @@ struct Scripts {
     kept: &'static str,
 }
 
-/// Extracts a team's part. The first row that the part or the whole then answers otherwise; empty where there is none.
+/// Extracts the part of a team, and returns the first row that the part or the whole then answers otherwise, or the empty text.
 fn wrong_row_of_part<S: Extracts>(
     alloc: Global,
     team: &str,
@@ -137,8 +137,8 @@ fn a_part_has_its_shelves_alone(rt: HostRuntime) -> Result<(), Fail> {
     Ok(())
 }
 
-/// Two teams of a group and one of none, each with a key, and keys of the group and of `common`; a version that stands on more shelves,
-/// one of the group and one of the other member.
+/// Two teams of a group and one of no group, each with a key, and keys of the group and of `common`; a version that several shelves
+/// have, one of the group, and one of the other member.
 const GROUPED: &str = "\
 group-add|platform = Done
 team-add|delta|platform = Done
@@ -157,7 +157,7 @@ PUT D example.com/d/@v/v1.0.0 | 201 Created | plain | published; | module exampl
 PUT A example.com/h/@v/v1.1.0 | 201 Created | plain | published; | module example.com/h; | a
 ";
 
-/// What gamma's part has of it, and that it goes on as a store.
+/// Gamma's part of the whole, which then works as a store.
 const PART_OF_GAMMA: &str = "\
 GET M example.com/h/@v/v1.0.0.zip | 200 OK | zip | m
 GET P example.com/h/@v/v1.0.0.zip | 200 OK | zip | h
@@ -179,7 +179,7 @@ group-add|alpha = Done
 failures = 0
 ";
 
-/// That the whole has what it had.
+/// The whole, unchanged.
 const KEPT_OF_GROUPED: &str = "\
 GET D example.com/d/@v/v1.0.0.zip | 200 OK | zip | d
 GET D example.com/h/@v/v1.0.0.zip | 200 OK | zip | h
@@ -200,7 +200,7 @@ fn a_part_of_a_member_has_its_group(rt: HostRuntime) -> Result<(), Fail> {
     Ok(())
 }
 
-/// Whether a group has no part.
+/// Whether extracting the part of a group is refused.
 fn group_has_no_part<S: Extracts>(alloc: Global) -> Result<bool, Fail> {
     let mut whole = whole::<S>(alloc, GROUPED)?;
     let mut part = S::opened(alloc)?;
@@ -213,7 +213,7 @@ fn a_group_is_no_team(rt: HostRuntime) -> Result<(), Fail> {
     Ok(())
 }
 
-/// What each makes of a store that has more than `common`: another shelf, a key, an entry.
+/// Calls that each make a store have more than `common`: another shelf, a key, an entry.
 const MORE: &str = "\
 team-add|gamma = Done
 group-add|gamma = Done
@@ -221,7 +221,7 @@ reader-add|common|commonkey0000001 = Done
 insert|common|example.com/x|v1.0.0|module example.com/x; = ()
 ";
 
-/// Whether a store that has more is refused as another's part: as such for a team, and else for want of one.
+/// Whether a store that has more is refused as `NotEmpty` for a team, and as `NoTeam` for a name that is no team's.
 fn is_refused<S: Extracts>(alloc: Global, whole: &mut S, more: &str) -> Result<bool, Fail> {
     let mut other = S::opened(alloc)?;
     if wrong_row(alloc, &mut other, more)? != "" {
@@ -234,7 +234,8 @@ fn is_refused<S: Extracts>(alloc: Global, whole: &mut S, more: &str) -> Result<b
     )
 }
 
-/// The first of these rows that makes a store which is taken, or which the whole answers otherwise then; empty where there is none.
+/// Returns the first of these rows after which a store is taken nevertheless, or that the whole then answers otherwise, or the empty
+/// text.
 fn wrong_row_of_more<S: Extracts>(alloc: Global) -> Result<&'static str, Fail> {
     let mut whole = whole::<S>(alloc, WHOLE)?;
     for row in MORE.lines() {
@@ -252,8 +253,8 @@ fn a_store_that_has_more_is_refused(rt: HostRuntime) -> Result<(), Fail> {
     Ok(())
 }
 
-/// Extracts into a store that was refused before, and once more. The first row that the part then answers otherwise; empty where there
-/// is none.
+/// Extracts into a store that was refused before, and once more, and returns the first row that the part then answers otherwise, or
+/// the empty text.
 fn wrong_row_of_refused<S: Extracts>(alloc: Global) -> Result<&'static str, Fail> {
     let mut whole = whole::<S>(alloc, WHOLE)?;
     let mut part = S::opened(alloc)?;
@@ -274,7 +275,7 @@ fn a_store_that_was_refused_is_taken(rt: HostRuntime) -> Result<(), Fail> {
     Ok(())
 }
 
-/// The first row that the part of some teams, or the whole, then answers otherwise; empty where there is none.
+/// Extracts the part of some teams, and returns the first row that the part or the whole then answers otherwise, or the empty text.
 fn wrong_row_of_teams<S: Extracts>(
     alloc: Global,
     teams: &[&str],
@@ -290,7 +291,7 @@ fn wrong_row_of_teams<S: Extracts>(
     wrong_row(alloc, &mut whole, scripts.kept)
 }
 
-/// What the part of gamma and delta has, which are of one group.
+/// The part of gamma and delta, two teams of one group.
 const PART_OF_ONE_GROUP: &str = "\
 GET M example.com/h/@v/v1.0.0.zip | 200 OK | zip | m
 GET D example.com/h/@v/v1.0.0.zip | 200 OK | zip | h
@@ -331,7 +332,7 @@ fn a_team_that_is_named_twice_is_as_one(rt: HostRuntime) -> Result<(), Fail> {
     Ok(())
 }
 
-/// Teams of two groups, and one of none, each with a key and a version.
+/// Teams of two groups and one of no group, each with a key and a version.
 const TWO_GROUPS: &str = "\
 group-add|tools = Done
 group-add|platform = Done
@@ -352,7 +353,7 @@ insert|gamma|example.com/own|v1.0.0|module example.com/own;|of gamma = ()
 insert|alpha|example.com/own|v1.0.0|module example.com/own;|of alpha = ()
 ";
 
-/// What the part of delta and gamma has of it.
+/// The part of delta and gamma.
 const PART_OF_TWO_GROUPS: &str = "\
 key|toolskey00000001 = tools Publishes
 key|platformkey00001 = platform Publishes
@@ -374,7 +375,7 @@ entry|alpha|example.com/lib|v1.0.0 = tools|module example.com/lib;|of tools|
 failures = 0
 ";
 
-/// That the whole has what it had, as its copy has it.
+/// The whole and its copy, unchanged.
 const WHOLE_OF_TWO_GROUPS: &str = "\
 key|toolskey00000001 = tools Publishes
 key|platformkey00001 = platform Publishes
@@ -409,7 +410,7 @@ fn a_part_of_teams_of_two_groups_has_both(rt: HostRuntime) -> Result<(), Fail> {
     Ok(())
 }
 
-/// Whether some names are refused because one of them is no team's, before the other store is looked at.
+/// Whether names are refused as `NoTeam` because one is no team's or there is none, whatever the other store holds.
 fn are_no_teams<S: Extracts>(alloc: Global, teams: &[&str]) -> Result<bool, Fail> {
     let mut whole = whole::<S>(alloc, TWO_GROUPS)?;
     let mut part = S::opened(alloc)?;
@@ -433,7 +434,7 @@ fn each_name_is_that_of_a_team(rt: HostRuntime) -> Result<(), Fail> {
     Ok(())
 }
 
-/// Copies a store. The first row that the copy or the whole then answers otherwise; empty where there is none.
+/// Copies a store, and returns the first row that the copy or the whole then answers otherwise, or the empty text.
 fn wrong_row_of_copy<S: Extracts>(alloc: Global) -> Result<&'static str, Fail> {
     let mut whole = whole::<S>(alloc, TWO_GROUPS)?;
     let mut copy = S::opened(alloc)?;
@@ -455,7 +456,7 @@ fn a_copy_has_all(rt: HostRuntime) -> Result<(), Fail> {
     Ok(())
 }
 
-/// Copies a store with `common` alone. The first row that the copy then answers otherwise; empty where there is none.
+/// Copies a store with `common` alone, and returns the first row that the copy then answers otherwise, or the empty text.
 fn wrong_row_of_blank<S: Extracts>(alloc: Global) -> Result<&'static str, Fail> {
     let mut whole = S::opened(alloc)?;
     let mut copy = S::opened(alloc)?;

@@ -1,11 +1,11 @@
-//! Scripts, each on new tables in memory.
+//! Scripts, each run on new tables in memory.
 use std::alloc::Global;
 use std::test::Fail;
 use store::store::SqlShelves;
 use test_support::calls::{CALLS, wrong_row_of};
 use test_support::requests::REQUESTS;
 
-/// The tables keep a second row of one version out, and that is a failure of the store.
+/// The tables refuse a second row for a version, and the store counts that as a failure.
 const SECOND_ROW: &str = "\
 insert|common|example.com/lib|v1.0.0|module example.com/lib; = ()
 count|common|example.com/lib = 1

@@ -1,4 +1,4 @@
-//! The worked rows of stores over tables in memory: tables that are adopted or refused, and a team's part as a store of its own.
+//! The worked examples of stores over tables in memory: tables that are adopted or refused, and stores made from parts of others.
 //!
 //! Each table is a text whose lines are rows.
 #![tactic(auto)]

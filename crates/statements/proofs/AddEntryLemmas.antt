@@ -24,7 +24,7 @@ use Rattle.tables.proofs.InsertLemmas.{inserted, enforced, cast_null, cast_int}
 use Rattle.statements.specs.Rows.{Filling, PutsPiece}
 use Rattle.statements.specs.Added.{version_row, version_values}
 
--- ---- a version, with a number that is given, or else sqlite's choice
+-- ---- a version, under a given number or sqlite's choice
 
 -- how many values a row of `version` has
 abbrev version_width : ℕ
@@ -36,7 +36,7 @@ version_terms = col 0 0 ∷ lit Null ∷ col 0 1 ∷ col 0 2 ∷ col 0 3 ∷ col
 abbrev pub version_insert : Command
 version_insert = Insert 3 (Values version_terms version_width)
 
--- a text or none is bound as it is, and a column of texts takes it as it is
+-- a text, or NULL for none, is bound unchanged, and a column of texts takes it unchanged
 pub text_bound : (text : Option (List ℕ)) → bound_value (or_null Text text) ≡ or_null Text text
 text_bound None = refl
 text_bound (Some t) = refl
@@ -45,7 +45,7 @@ pub cast_text : (text : Option (List ℕ)) → cast kind.Text (or_null Text text
 cast_text None = refl
 cast_text (Some t) = refl
 
--- a number is bound as it is
+-- a number, or NULL for none, is bound unchanged
 pub number_bound : (number : Option ℤ) → bound_value (or_null Int number) ≡ or_null Int number
 number_bound None = refl
 number_bound (Some n) = refl
@@ -68,6 +68,7 @@ module _ (limit : Option ℕ) (p : Place) (e : Entry) where
       let it = inserted limit version_table refl (version_params (Some n) p e) version_terms version_width (Int n ∷ Null ∷ version_values p e) refl (λ _. refl) 3 refl db [] tally after has h in
       (it.0, rw (cast_null, cast_int n, cast_text e.time) at it.1, rw (cast_int n) at it.2)
 
+-- An INSERT of a version inside a transaction puts in its row, under the given number or sqlite's choice, and `last_rowid` is that number.
 pub version_put : (sql : List ℕ) → command_of (understood store_schema sql) ≡ version_insert → IsPlain (understood store_schema sql)
     → (number : Option ℤ) (p : Place) (e : Entry) (old new : State) (count : ℕ) → Filling old → ExecutesInside 0 sql (version_params number p e) old new (Ok count)
     → Inserted old.now.trees new.now.trees version_table (version_row (number_of number (old.now.trees 6)) p e) × (new.last_rowid ≡ number_of number (old.now.trees 6)) × Filling new

@@ -46,7 +46,7 @@ module _ (limit : Option ℕ) (token : List ℕ) (g : Holder) where
       (it.0, rw (cast_null, cast_int _) at it.1)
 
 module _ (w : World) (token : List ℕ) (g : Holder) (unused : map.get w.keys token ≡ None) where
-  -- a row of the key is none of those that are there
+  -- no row of the tables has the key
   token_free : (rows : List Row) → Tabulates IsAccess rows (λ it. map.get w.keys it.0 ≡ Some it.1) → (id : Value) → (r : Row) → Has rows r → (t : List ℕ) → column (id ∷ key_params token g) 1 ≡ Text t → column r 1 ≡ Text t → ⊥
   token_free rows tabulated id r there t is also =
       let it = tabulated.each r there in
@@ -75,6 +75,7 @@ is_done Done = true
 is_done r = false
 
 module _ (w : World) (shelf token : List ℕ) (right : Right) where
+  -- a command to add a key that is not `Done` leaves the world as it is
   pub added_same : (r : Registered) → r ≡ key_added w shelf token → (r ≡ Done → ⊥) → with_key_added shelf token right w ≡ w
   added_same r is other = go (key_added w shelf token) (λ e. other (is ∙ e))
     where

@@ -45,12 +45,12 @@ shelf_insert = Insert 1 (Values terms 3)
 abbrev pub shelf_params : List ℕ → Option (List ℕ) → Row
 shelf_params name parent = Text name ∷ or_null Text parent ∷ []
 
--- a parent that is lent is bound as it is, and so is none
+-- a borrowed parent is bound as its text, and None as NULL
 pub parent_bound : (parent : Option (Bor (List ℕ))) → bound_value (or_null (λ (p : Bor (List ℕ)). Text p.now) parent) ≡ or_null Text (option_copied parent)
 parent_bound None = refl
 parent_bound (Some p) = refl
 
--- the group of a team, or else another shelf, is lent
+-- a borrowed group, or another borrowed shelf without one, has the text of the copied group, or of that shelf
 pub lent_or : (group : Option (Bor (List ℕ))) (other : Bor (List ℕ)) → (unwrap_or group other).now ≡ unwrap_or (option_copied group) other.now
 lent_or None other = refl
 lent_or (Some g) other = refl
@@ -63,7 +63,7 @@ module _ (name : List ℕ) (parent : Option (List ℕ)) where
       (it.0, rw (cast_null, cast_text parent) at it.1)
 
   module _ (w : World) (free : map.get w.shelves name ≡ None) where
-    -- a row of the shelf is none of those that are there
+    -- no row of the tables has the name of the shelf
     name_free : (rows : List Row) → Tabulates IsShelf rows (λ it. map.get w.shelves it.0 ≡ Some it.1) → (id : Value) → (r : Row) → Has rows r → (n : List ℕ) → column (id ∷ shelf_params name parent) 1 ≡ Text n → column r 1 ≡ Text n → ⊥
     name_free rows tabulated id r there n is also =
         let it = tabulated.each r there in
@@ -127,7 +127,7 @@ misnamed_team w name group wrong = rw wrong refl
 pub misnamed_group : (w : World) (name : List ℕ) → is_team_name name ≡ false → Name ≡ group_added w name
 misnamed_group w name wrong = rw wrong refl
 
--- one shelf is written within a transaction
+-- an INSERT of a shelf inside a transaction puts in the shelf with its parent
 pub shelf_put : (sql : List ℕ) → command_of (understood store_schema sql) ≡ shelf_insert → IsPlain (understood store_schema sql)
     → (old new : State) (name : List ℕ) (parent : Option (List ℕ)) (count : ℕ) → Filling old → ExecutesInside 0 sql (shelf_params name parent) old new (Ok count) → PutsShelf name parent old.now.trees new.now.trees × Filling new
 shelf_put sql is plain old new name parent count filling ran =

@@ -1,4 +1,4 @@
--- The rows of a zip, put in one after the other.
+-- The rows of a zip, put in one after another.
 use Rattle.std.proofs.Common.{◌≡◌, ◌≢◌, ◌<◌, ◌+◌, ◌⊎◌, ◌==◌, ℕ, ℤ, true, false, true≢false, pos, List, [], ◌∷◌, length, take, drop, min, inl, inr, refl, sym, ap, subst, ◌∙◌, arith}
 use lib.Dec.{eqb-suc-zero}
 use Rattle.std.proofs.lemmas.Bool.{cases_order}
@@ -18,7 +18,7 @@ use Rattle.statements.specs.Added.{AddsZip, piece_values}
 use Rattle.statements.proofs.RowLemmas.{adds_one, adds_none, adds_then, adds_as, else_itself, else_then, read_parts}
 use Rattle.statements.proofs.TabulateLemmas.{put_apart}
 
--- ---- the pieces of the bytes that are left
+-- ---- the pieces of the bytes that remain
 
 pub is_none : (l : List ℕ) → (length l == 0) ≡ true → length l ≡ 0
 is_none [] h = refl
@@ -37,6 +37,7 @@ none_left zip rest n is none k has = let long = ap length is ∙ length-drop (be
 pub piece_cut : (zip rest : List ℕ) (n : ℕ) → rest ≡ drop (begin n) zip → take (min (length rest) piece_size) rest ≡ piece zip n
 piece_cut zip rest n is = ap (λ k. take k rest) {x = min (length rest) piece_size} {y = min piece_size (length rest)} (omega arith) ∙ (take_min piece_size rest ∙ ap (take piece_size) is)
 
+-- the bytes that remain, without their next piece, are the bytes of the zip from the piece after it
 pub rest_cut : (zip rest : List ℕ) (n : ℕ) → rest ≡ drop (begin n) zip → drop (min (length rest) piece_size) rest ≡ drop (begin (n + 1)) zip
 rest_cut zip rest n is =
     cut (min (length rest) piece_size) rest refl ∙ (ap (drop piece_size) is ∙ (drop-drop piece_size (begin n) zip ∙ ap (λ k. drop k zip) {x = begin n + piece_size} {y = begin (n + 1)} (omega arith)))
@@ -80,6 +81,7 @@ module _ (id : ℤ) (zip : List ℕ) (k : ℕ) (db mid after : Trees) (so_far : 
     | inr it ↦ (let same : it.0 ≡ k = pos_same (int_same (sym (ap (λ (r : Row). column r 1) it.3) ∙ sym two)) in let below = it.1 in omega (arith, same, below))
   ]
 
+  -- once the row of piece `k` is put in, there is a row for each piece of the zip that is numbered below `k + 1`
   pub adds_piece : AddsUpTo id zip (k + 1) db after
   adds_piece = record {
     pieces = subst (AddsRows piece_read (λ values. (n : ℕ) × (n < k + 1) × HasPiece zip n × (values ≡ piece_values id zip n)) (db 8)) (sym put.put.rows)
@@ -93,6 +95,7 @@ module _ (id : ℤ) (zip : List ℕ) (k : ℕ) (db mid after : Trees) (so_far : 
     tables = else_then piece_table db mid after so_far.tables put.put.tables;
   }
     where
+      -- the piece of a number below `k + 1` is one below `k`, or the new row
       next_or_below : (values : Row) → ((n : ℕ) × (n < k + 1) × HasPiece zip n × (values ≡ piece_values id zip n))
           → ((n : ℕ) × (n < k) × HasPiece zip n × (values ≡ piece_values id zip n)) ⊎ (values ≡ piece_read new)
       next_or_below values it = elim (last_or_below it.0 it.1) [
@@ -107,7 +110,7 @@ module _ (id : ℤ) (zip : List ℕ) (k : ℕ) (db mid after : Trees) (so_far : 
             | inr (inr above) ↦ absurd (omega (arith, below, above))
           ]
 
--- once none is left, the zip is there
+-- if each piece of the zip is numbered below this, the zip is put in
 pub zip_added : (id : ℤ) (zip : List ℕ) (k : ℕ) (db after : Trees) → ((n : ℕ) → HasPiece zip n → n < k) → AddsUpTo id zip k db after → AddsZip id zip db after
 zip_added id zip k db after all it = record {
   pieces = adds_as piece_read _ _ (db 8) (after 8) (λ values of. (of.0, of.2, of.3)) (λ values of. (of.0, all of.0 of.1, of.1, of.2)) it.pieces;

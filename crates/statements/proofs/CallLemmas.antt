@@ -23,6 +23,7 @@ kept_open : (old new : State) → Kept old new → IsTrue new.is_open → IsTrue
 kept_open old new (inl same) shown = same.0.was_open
 kept_open old new (inr back) shown = back.was_open shown
 
+-- an open connection that is unchanged or rolled back holds the world that it held
 kept_holds : (old new : State) (w : World) → Kept old new → IsTrue new.is_open → Holds old w → Holds new w
 kept_holds old new w (inl same) shown h = record {
   schema = ap (λ (d : Database). d.schema) same.0.now_is ∙ h.schema;
@@ -71,6 +72,7 @@ module _ (sql : List ℕ) (params : Row) (old new : State) (plain : IsPlain (und
   no_rows_read limit (Rows values width names) db given h = let e = h.0 in cc
   no_rows_read limit _ db values h = let e = h in cc
 
+  -- a statement that is not run does not fail with `QueryReturnedNoRows`
   no_rows_run : IsNotRun old new sql params QueryReturnedNoRows → ⊥
   unfolding IsNotRun
   no_rows_run (inl (inl h, same)) = let e = h.2 in cc
@@ -138,7 +140,7 @@ module _ (sql : List ℕ) (params : Row) (plain : IsPlain (understood store_sche
   pub row_spares : (r : Result Row Error) → (HasCleanDisk new → QueriesRow sql params mid new r) → Spares old new
   row_spares r ran = spares_then old mid new mid_spares (last_spares (λ clean plain. row_kept sql params mid new plain r (ran clean)))
 
-  -- as much of all rows
+  -- a query that is prepared and then asked for all its rows spares the store
   pub rows_spares : {X : Type 0} (r : Result X Error) (items : X → List Row) → (HasCleanDisk new → IfOk r (λ rows. Shown sql params mid new (items rows)))
       → (HasCleanDisk new → IfErr r (FailsToQuery sql params mid new)) → Spares old new
   rows_spares (Ok rows) items shown failed = spares_then old mid new mid_spares (last_spares (λ clean plain. inl (shown_unchanged sql params mid new plain (items rows) (shown clean))))

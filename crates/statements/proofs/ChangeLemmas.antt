@@ -9,7 +9,7 @@ use Rattle.statements.specs.Calls.{Spares, LeavesOnly, LeavesNoMore, ChangesAt, 
 use Rattle.tables.proofs.FailureLemmas.{was_clean}
 use Rattle.statements.proofs.WriteLemmas.{open_leaves}
 
--- nothing was written, and the call failed
+-- a call that wrote nothing and failed is a change that was not done
 pub spared : (old new : State) (next : World → World) → Spares old new → Changes old new false next
 spared old new next s = record {
   clean = s.clean;
@@ -21,7 +21,7 @@ spared old new next s = record {
   };
 }
 
--- nothing was written, since the next world is this one
+-- a call that wrote nothing is a change that was done, if the next world is this one
 pub refused : (old new : State) (next : World → World) → ((db : Trees) → IsTrue new.is_open → new.may_leave db → db ≡ new.committed.trees) → Spares old new
     → (HasCleanDisk new → (w : World) → Stands old w → IsTrue new.is_open × (next w ≡ w)) → Changes old new true next
 refused old new next law s same = record {
@@ -34,12 +34,13 @@ refused old new next law s same = record {
   };
 }
 
--- what a crash leaves after a read and a change that failed
+-- what a crash leaves after a change that was not done, it leaves after a read and that change
 no_more : (a b c : State) (w next : World) → Spares a b → doubt b.is_clean ≤ doubt c.is_clean → HasCleanDisk c → Stands a w
     → LeavesOnly c (λ x. (x ≡ w) ⊎ (x ≡ next)) ⊎ LeavesNoMore b c → LeavesOnly c (λ x. (x ≡ w) ⊎ (x ≡ next)) ⊎ LeavesNoMore a c
 no_more a b c w next s up clean stands (inl only) = inl only
 no_more a b c w next s up clean stands (inr none) = inr (λ db may. s.left (was_clean b c up clean) w stands db (none db may))
 
+-- a read, and then a change of what it leaves, is a change of what was there before the read
 pub spares_changes : (a b c : State) (done : Bool) (next : World → World) → Spares a b → doubt b.is_clean ≤ doubt c.is_clean → ((w : World) → (HasCleanDisk c → Stands a w → ChangesAt b c done w (next w))) → Changes a c done next
 spares_changes a b c done next s up then = record {
   clean = omega (arith, s.clean, up);

@@ -96,7 +96,7 @@ key_same row a b one two =
     let right = rights_same (column row 2) a.1.right b.1.right one.2 two.2 in
     λ i. (key i, record { shelf = shelf i; right = right i })
 
--- ---- keys that were put one after the other
+-- ---- keys that were put in one after another
 
 module _ {E : Type 0} (IsOf : E → List ℕ × Holder → Type 0) where
   pub keys_of_none : (x : World) → AddsKeys (λ it. IsOfAny [] (λ e. IsOf e it)) x x
@@ -112,6 +112,7 @@ module _ {E : Type 0} (IsOf : E → List ℕ × Holder → Type 0) where
 abbrev IsAmong : List Row → List ℕ × Holder → Type 0
 IsAmong rows it = IsOfAny rows (λ row. ShowsKey row it)
 
+-- a world with the key of a row added has the keys that it had and the key that the row shows
 one_put : (x y : World) (row : Row) → AddsKey row x y → AddsKeys (ShowsKey row) x y
 one_put x y row put = subst (AddsKeys (ShowsKey row) x) (sym put.3) (record {
   shelves = refl;
@@ -129,7 +130,7 @@ pub put_all : (x y : World) (rows : List Row) → Pass (λ _ row. IsKeyShown row
 put_all x y [] passed = subst (AddsKeys (IsAmong []) x) (sym passed) (keys_of_none ShowsKey x)
 put_all x y (row ∷ rows) passed = keys_of_more ShowsKey row rows x passed.1 y (one_put x passed.1 row passed.2) (put_all passed.1 y rows passed.3)
 
--- the keys of a shelf
+-- if each row that the query of a shelf's keys shows is put in, the keys of the shelf are copied
 pub keys_copied : (shelf : List ℕ) (db : Database) (w x y : World) (rows : List Row) → Means db.trees w → Reads (asks keys_on_query) db (Text shelf ∷ []) rows
     → Pass (λ _ row. IsKeyShown row) (λ u row v. AddsKey row u v) x rows y → CopiesKeys shelf w x y
 keys_copied shelf db w x y rows means read passed =
@@ -164,7 +165,7 @@ token_alone after sound new other token m n here there is also number own apart 
     let clash : clashes plain (1 ∷ []) (after 4) new ≡ true = some_from _ (after 4) other there (and_from _ _ (and_from _ _ equals refl) apart_too) in
     true≢false (sym alone ∙ ap not clash)
 
--- so a key whose row was put in was not there
+-- a key whose row was put in was not there before
 pub key_new : (db after : Trees) (x : World) (token : List ℕ) (g : Holder) → IsSound store_schema after → Means db x → Inserted db after access_table (Int (next_rowid (db 4)) ∷ key_params token g) → map.get x.keys token ≡ None
 key_new db after x token g sound means it = go (map.get x.keys token) refl
   where
@@ -181,7 +182,7 @@ key_new db after x token g sound means it = go (map.get x.keys token) refl
         let there : Has (after 4) from.0 = rw it.rows (put_all_keeps (new ∷ []) (db 4) from.0 it.fresh from.1) in
         absurd (token_alone after sound new from.0 token number.0 (next_rowid (db 4)) here there refl from.2.0 number.1 refl apart)
 
--- one key is written within a transaction
+-- an INSERT of a key inside a transaction adds the key that the row shows
 pub key_put : (sql : List ℕ) → command_of (understood store_schema sql) ≡ Insert 2 (Values terms 4) → IsPlain (understood store_schema sql)
     → (old new : State) (row : Row) (token : List ℕ) (g : Holder) (count : ℕ) → ShowsKey row (token, g) → Filling old → ExecutesInside 0 sql (key_params token g) old new (Ok count)
     → PutsKey row old.now.trees new.now.trees × Filling new
@@ -195,7 +196,7 @@ key_put sql is bare old new row token g count shows filling ran =
       record { schema = it.0; sound = sound; is_open = wrote.shown.is_open; inside = ran.1.mode },
     )
 
--- so it is of the worlds that the tables stand for, one after the other
+-- if rows of keys are put into the tables one after another, each adds its key to the world that the tables stand for
 pub keys_passed : (db after : Trees) (x : World) (rows : List Row) → StandFor db x → Pass (λ _ row. IsKeyShown row) (λ t row u. PutsKey row t u) db rows after
     → (y : World) × Pass (λ _ row. IsKeyShown row) (λ u row v. AddsKey row u v) x rows y × StandFor after y
 keys_passed db after x [] stand passed = (x, refl, subst (λ t. StandFor t x) (sym passed) stand)

@@ -53,7 +53,7 @@ version_shown = col 1 0 ∷ col 1 2 ∷ col 1 3 ∷ col 1 4 ∷ col 1 5 ∷ col 
 abbrev pub versions_on_query : Query
 versions_on_query = lookup 6 by_shelf version_shown
 
--- each row that it shows shows a version
+-- each row that the query of versions shows is that of a version
 pub versions_fit : (shelf : List ℕ) (db : Database) (w : World) (rows : List Row) (row : Row) → Means db.trees w → ReadsFirst (asks versions_on_query) db (Text shelf ∷ []) (rows ++ row ∷ []) → IsVersionShown row
 versions_fit shelf db w rows row means first =
     let begun = begun_found (Text shelf ∷ []) db 6 by_shelf version_shown [] (λ _. refl) (rows ++ row ∷ []) first in
@@ -83,6 +83,7 @@ pieces_on_query = pairs 6 8 on_shelf piece_shown
 
 -- ---- a row of a version that was put in
 
+-- an INSERT of the values of a version inside a transaction puts in the row of `version` with these values
 pub version_copied : (sql : List ℕ) → command_of (understood store_schema sql) ≡ version_insert → IsPlain (understood store_schema sql)
     → (old new : State) (values : Row) (id : ℤ) (p : Place) (h : Heading) (count : ℕ) → column values 0 ≡ Int id → ShowsVersion values p h → Filling old
     → ExecutesInside 0 sql (version_params (Rattle.std.proofs.Common.Some id) p (record { gomod = h.gomod; zip = []; time = h.time })) old new (Ok count) → PutsVersion values old.now.trees new.now.trees × Filling new
@@ -97,9 +98,9 @@ version_copied sql is bare old new values id p h count first shows filling ran =
       it.2,
     )
 
--- ---- no two rows say the same
+-- ---- unique rows
 
--- a row of the place of another, and another number, breaks the rule of the unique place
+-- a row with the place of another, and another number, breaks the rule of the unique place
 place_alone : (after : Trees) → IsSound store_schema after → (new other : Row) (q : Place) → Has (after 6) new → Has (after 6) other → IsAt new q → IsAt other q → differ (rowid other) (rowid new) ≡ true → ⊥
 unfolding first_key
 place_alone after sound new other q here there at also apart =
@@ -111,7 +112,7 @@ place_alone after sound new other q here there at also apart =
     let clash : clashes plain (2 ∷ 3 ∷ 4 ∷ []) (after 6) new ≡ true = some_from _ (after 6) other there (and_from _ _ (and_from _ _ one (and_from _ _ two (and_from _ _ three refl))) apart) in
     true≢false (sym alone ∙ ap not clash)
 
--- nor may it be a piece of the version and the number of another
+-- a row with the version and the piece number of another, and another number of its own, breaks the rule of the unique piece
 piece_alone : (after : Trees) → IsSound store_schema after → (new other : Row) (version number : ℤ) → Has (after 8) new → Has (after 8) other → column new 1 ≡ Int version → column new 2 ≡ Int number
     → column new 1 ≡ column other 1 → column new 2 ≡ column other 2 → differ (rowid other) (rowid new) ≡ true → ⊥
 unfolding first_key
@@ -123,7 +124,7 @@ piece_alone after sound new other version number here there of_version numbered 
     let clash : clashes plain (1 ∷ 2 ∷ []) (after 8) new ≡ true = some_from _ (after 8) other there (and_from _ _ (and_from _ _ one (and_from _ _ two refl)) apart) in
     true≢false (sym alone ∙ ap not clash)
 
--- rows that have numbers, and one more with a number of its own
+-- if all rows have numbers, and one more has a number, all of them have
 numbers_more : (rows : List Row) (id : ℤ) (new : Row) → rowid new ≡ Int id → ((row : Row) → Has rows row → (n : ℤ) × (rowid row ≡ Int n)) → (row : Row) → Has (put_all rows (new ∷ [])) row → (n : ℤ) × (rowid row ≡ Int n)
 numbers_more rows id new is numbers row h = elim (put_all_has (new ∷ []) rows row h) [
   | inl (inl same) ↦ (id, ap rowid same ∙ is)
@@ -142,6 +143,7 @@ version_cut values = version_read (version_of values)
 abbrev piece_cut : Row → Row
 piece_cut values = column values 0 ∷ column values 1 ∷ column values 2 ∷ []
 
+-- a row of `version` that is put in adds what is read from it, and keeps places unique and the other tables as they were
 version_puts : (values : Row) (db after : Trees) → PutsVersion values db after → PutsRows version_table version_read IsEachPlaceOnce (λ read. read ≡ version_cut values) db after
 version_puts values db after put =
     let new = version_of values in
@@ -157,6 +159,7 @@ version_puts values db after put =
       tables = put.put.tables;
     }
 
+-- a row of `piece` that is put in adds what is read from it, and keeps pieces unique and the other tables as they were
 piece_puts : (values : Row) (db after : Trees) → PutsPiece values db after → PutsRows piece_table piece_read IsEachPieceOnce (λ read. read ≡ piece_cut values) db after
 piece_puts values db after put =
     let new = piece_of put.id values in
@@ -172,7 +175,7 @@ piece_puts values db after put =
       tables = put.put.tables;
     }
 
--- rows that were put in one after the other
+-- if each row that is put in does P, rows put in one after another do P along the list
 passed_along : {X : Type 0} (Fits : X → Row → Type 0) (Puts : Row → X → X → Type 0) (P : Row → X → X → X → Type 0) → ((row : Row) (w x y : X) → Puts row x y → P row w x y)
     → (rows : List Row) (w x z : X) → Pass Fits (λ x row y. Puts row x y) x rows z → Along P rows w x z
 passed_along Fits Puts P each [] w x z passed = sym passed
@@ -180,6 +183,7 @@ passed_along Fits Puts P each (row ∷ rows) w x z passed = (passed.1, each row 
 
 -- ---- the copies
 
+-- if each row that the query of versions shows is put in, the versions on the shelf are copied
 pub versions_copied : (shelf : List ℕ) (db : Database) (fresh after : Trees) (rows : List Row) → Reads (asks versions_on_query) db (Text shelf ∷ []) rows
     → Pass (λ _ row. IsVersionShown row) (λ t row u. PutsVersion row t u) fresh rows after → CopiesVersions shelf db.trees fresh after
 versions_copied shelf db fresh after rows read passed =
@@ -201,6 +205,7 @@ versions_copied shelf db fresh after rows read passed =
       tables = puts.tables;
     }
 
+-- if each row that the query of pieces shows is put in, the pieces of the zips on the shelf are copied
 pub pieces_copied : (Fits : Trees → Row → Type 0) (shelf : List ℕ) (db : Database) (fresh after : Trees) (rows : List Row) → Reads (asks pieces_on_query) db (Text shelf ∷ []) rows
     → Pass Fits (λ t row u. PutsPiece row t u) fresh rows after → CopiesPieces shelf db.trees fresh after
 pieces_copied Fits shelf db fresh after rows read passed =

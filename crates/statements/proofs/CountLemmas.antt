@@ -38,6 +38,7 @@ each_row = record { op = CountRows; distinct = false; collation = Binary; argume
 abbrev pub all_rows : Grouping
 all_rows = record { keys = []; collations = []; aggregates = each_row ∷ []; having = [] }
 
+-- a query for how many rows of a table pass the filter
 abbrev pub counting : ℕ → List Term → Query
 counting tree filter = record {
   from = inner tree end;
@@ -81,6 +82,7 @@ summed group row it = go it.0 it.1 it.2
     go (v ∷ u ∷ values) h same = absurd h.1
 
 module _ (tree : ℕ) (filters : List Term) (db : Trees) (params row : Row) (tail : List Row) where
+  -- the first row of an answer to a counting query has the number of the rows that pass, capped at `most`
   pub row_counted : IsAnswer (counting tree filters) db params (row ∷ tail) → column row 0 ≡ Int (pos (min (length (filter (passes filters params) (db tree))) most))
   row_counted answer =
       let q = counting tree filters in

@@ -15,7 +15,7 @@ is_other Less = refl
 is_other Equal = refl
 is_other Greater = refl
 
--- of two values, neither of them NULL, it is what = is not
+-- for two values that are not NULL, <> is true exactly if = is not
 pub differ_is : (v w : Value) → is_null v ≡ false → is_null w ≡ false → differ v w ≡ not (equal Binary v w)
 unfolding binary
 differ_is v w one two = rw (one, two) (as_truth (is_ne (value_cmp v w)) ∙ is_other (value_cmp v w) ∙ ap not (sym (as_truth (is_eq (value_cmp v w)))))

@@ -1,4 +1,4 @@
--- Rows that are handed on from one store to another.
+-- Rows that are copied from one store to another.
 use Rattle.std.proofs.Common.{◌≡◌, ◌≤◌, Bool, true, false, ℕ, List, [], ◌∷◌, ◌++◌, Option, Result, Ok, Err, IsErr, inl, refl, sym, subst, arith, IsTrue, is_ok, OnOk, true≢false}
 use Rattle.sqlite_trees.specs.View.{doubt}
 use Rattle.sqlite.specs.Order.{Row}
@@ -36,10 +36,11 @@ module _ (sql : List ℕ) (params : Row) (plain : IsPlain (understood store_sche
 
 -- ---- copies
 
--- what is said of a call's result, by whether it is Ok
+-- `GoesOn` holds of a call, done if it returns Ok, that commits nothing and leaves the transaction open when it returns Ok
 pub goes_on_if : {A E : Type 0} (r : Result A E) (a b : State) → Survives a b (λ _. ⊥) → (HasCleanDisk b → IsTrue a.in_transaction → KeepsCommit a b) → (HasCleanDisk b → IsTrue a.in_transaction → OnOk r (IsTrue b.in_transaction)) → GoesOn a b (is_ok r)
 goes_on_if r a b survives kept inside = record { survives = survives; kept = kept; inside = λ clean is done. when_ok r done (inside clean is) }
 
+-- a call copies what it makes if it only looks at the source, leaves it unchanged when it returns Ok, and goes on inside the transaction
 pub copied : {A E : Type 0} (r : Result A E) (Makes : Trees → Trees → Trees → Type 0) (s t a b : State) → Looks s t → (HasCleanDisk t → s.now.schema ≡ store_schema → OnOk r (IsUnchanged s t)) → GoesOn a b (is_ok r)
     → (HasCleanDisk t → HasCleanDisk b → s.now.schema ≡ store_schema → (w : World) → Means s.now.trees w → Filling a → OnOk r (Makes s.now.trees a.now.trees b.now.trees × Filling b)) → Copies Makes s t a b (is_ok r)
 copied r Makes s t a b looks same goes_on makes =
@@ -88,6 +89,7 @@ module _ (P Q : Trees → Trees → Trees → Type 0) (s t u a b c : State) (don
   still_ready : IsReady s → IsReady t
   still_ready ready clean = let same = (p.reads ready).same clean refl in (same.0.is_open, unchanged_schema s t same (ready (was_clean s t p.clean clean)).1)
 
+  -- a copy that was done, and then another from the same source, are one copy
   pub copies_then : Copies (Then P Q) s u a c done
   copies_then = record {
     clean = let one = p.clean in let two = q.clean in omega (arith, one, two);
@@ -109,7 +111,7 @@ module _ (P Q : Trees → Trees → Trees → Type 0) (s t u a b c : State) (don
         ((b.now.trees, one.0, subst (λ (d : Database). Q d.trees b.now.trees c.now.trees) now two.0), two.1);
   }
 
--- the same said by less
+-- a copy that makes P makes each Q that P implies
 pub copies_weaker : (P Q : Trees → Trees → Trees → Type 0) (s t a b : State) (done : Bool) → ((source db after : Trees) → P source db after → Q source db after) → Copies P s t a b done → Copies Q s t a b done
 copies_weaker P Q s t a b done less p = record {
   clean = p.clean;
@@ -118,12 +120,12 @@ copies_weaker P Q s t a b done less p = record {
   makes = λ clean good ready w means filling all. let it = p.makes clean good ready w means filling all in (less s.now.trees a.now.trees b.now.trees it.0, it.1);
 }
 
--- so for some, and then for one more
+-- P along a list, and then for one more, is P along the longer list
 pub along_more : {E X : Type 0} (P : E → X → X → X → Type 0) (es : List E) (e : E) (w x z : X) → Then (Along P es) (P e) w x z → Along P (es ++ e ∷ []) w x z
 along_more P [] e w x z it = (z, subst (λ u. P e w u z) (sym it.1) it.2, refl)
 along_more P (d ∷ es) e w x z it = (it.1.0, it.1.1, along_more P es e w it.1.0 z (it.0, it.1.2, it.2))
 
--- where not all was done, nothing is said of what it makes
+-- a copy that failed is a copy that makes anything, because `makes` speaks only of copies that were done
 pub copies_part : {A E : Type 0} (r : Result A E) (P Q : Trees → Trees → Trees → Type 0) (s t a b : State) → IsErr r → Copies P s t a b false → Copies Q s t a b (is_ok r)
 copies_part (Ok x) P Q s t a b failed p = absurd (true≢false (sym failed))
 copies_part (Err e) P Q s t a b failed p = record {
@@ -133,7 +135,7 @@ copies_part (Err e) P Q s t a b failed p = record {
   makes = λ clean good ready w means filling all. absurd (true≢false (sym all));
 }
 
--- what is only read is spared
+-- a store that is only read is spared
 pub read_spares : (s t : State) (done : Bool) → doubt s.is_clean ≤ doubt t.is_clean → IsReadBy s t done → Spares s t
 read_spares s t done up read = record {
   clean = up;

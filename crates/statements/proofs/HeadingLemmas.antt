@@ -38,7 +38,7 @@ row_shown = col 1 0 ∷ col 1 2 ∷ col 1 5 ∷ col 1 6 ∷ []
 abbrev pub row_query : Query
 row_query = lookup 6 by_place row_shown
 
--- a value is of one time
+-- a column shows one time at most, or NULL for none
 same_time : (a b : Option (List ℕ)) → or_null Text a ≡ or_null Text b → a ≡ b
 same_time None None e = refl
 same_time None (Some t) e = absurd (cc)
@@ -59,6 +59,7 @@ module _ (p : Place) (db : Database) (w : World) (means : Means db.trees w) wher
   passes_own : (row : Row) → IsAt row p → passes by_place (place_params p) row ≡ true
   passes_own row at = rw (at.0, at.1, at.2, equals_itself p.shelf, equals_itself p.path, equals_itself p.version) refl
 
+  -- the row that the query of a place finds is that of the entry that the shelf has there
   row_some : (out : Row) (v : VersionRow) → FirstFound (db.trees 6) by_place row_shown (place_params p) (Some out)
       → column out 0 ≡ Int v.id → column out 1 ≡ Text v.shelf → column out 2 ≡ or_null Text v.heading.time → column out 3 ≡ Blob v.heading.gomod
       → IsRowOf db.trees (first_on w (p.shelf ∷ []) p.path p.version) v
@@ -96,14 +97,14 @@ module _ (p : Place) (db : Database) (w : World) (means : Means db.trees w) wher
 -- ---- along the shelves
 
 module _ (w : World) (s : List ℕ) (ss : List (List ℕ)) (p v : List ℕ) where
-  -- what is found on a shelf is found on it and others behind it
+  -- what one shelf has is what it and the shelves behind it have
   row_here : (db : Trees) (row : VersionRow) → IsRowOf db (first_on w (s ∷ []) p v) row → IsRowOf db (first_on w (s ∷ ss) p v) row
   row_here db row = elim (map.get w.entries (place s p v)) as (λ o. IsRowOf db (option_or (seen_at o s) None) row → IsRowOf db (option_or (seen_at o s) (first_on w ss p v)) row) [
     | Some e ↦ λ it. it
     | None ↦ λ it. absurd (let e = it.is in cc)
   ]
 
-  -- where nothing is, it is what is found behind it
+  -- if a shelf has nothing, it and the shelves behind it have what those behind it have
   none_here : first_on w (s ∷ []) p v ≡ None → first_on w (s ∷ ss) p v ≡ first_on w ss p v
   none_here = elim (map.get w.entries (place s p v)) as (λ o. option_or (seen_at o s) None ≡ None → option_or (seen_at o s) (first_on w ss p v) ≡ first_on w ss p v) [
     | Some e ↦ λ none. absurd (cc)
@@ -133,9 +134,9 @@ module _ (w : World) (shelves : List (Bor (List ℕ))) (i : ℕ) (p v : List ℕ
   pub none_left : length shelves ≤ i → seen ≡ None
   none_left past = sym left ∙ ap (λ ss. first_on w (texts_of ss) p v) (drop_all i shelves past)
 
--- ---- what a row is of
+-- ---- the entry and the heading of a row
 
--- the row and its zip are the entry
+-- the row and its zip are the entry that is seen
 pub entry_of_row : (db : Trees) (seen : Option Seen) (row : VersionRow) (zip : List ℕ) → (it : IsRowOf db seen row) → zip ≡ it.entry.zip → Some (record { shelf = row.shelf; entry = entry_with row.heading zip }) ≡ seen
 entry_of_row db seen row zip it zips =
     let mods = ap (λ (h : Heading). h.gomod) it.heading in
@@ -143,6 +144,6 @@ entry_of_row db seen row zip it zips =
     let whole : entry_with row.heading zip ≡ it.entry = λ i. record { gomod = mods i; zip = zips i; time = times i } in
     ap (λ (e : Entry). Some (record { shelf = row.shelf; entry = e })) whole ∙ sym it.is
 
--- the row alone is the heading
+-- the row alone is the heading that is seen
 pub heading_of_row : (db : Trees) (seen : Option Seen) (row : VersionRow) → IsRowOf db seen row → Some row.heading ≡ without_zip seen
 heading_of_row db seen row it = ap Some it.heading ∙ sym (ap without_zip it.is)

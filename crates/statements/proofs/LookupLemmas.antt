@@ -64,11 +64,11 @@ answer_found tree filter project order db params out answer =
 
 -- ---- a query on its own, however it is written
 
--- what its columns are called is of no account
+-- the names of its columns do not matter
 abbrev pub asks : Query → Command
 asks q = Select (record { lets = []; body = q }) []
 
--- the row begins an answer of the query, or its answer is empty
+-- the row is the first of an answer to the query; None: the answer is empty
 abbrev pub Picks : Query → Row → Database → Option Row → Type 0
 Picks q params db (Some row) = ReadsFirst (asks q) db params (row ∷ [])
 Picks q params db None = Reads (asks q) db params []
@@ -91,7 +91,7 @@ module _ (params : Row) (db : Database) (tree : ℕ) (filter project : List Term
         | inr failed ↦ failed
       ]
 
--- the same of a text that is understood as a lookup
+-- a text that is understood as a lookup selects a row that passes, projected, or None if no row passes
 pub selected_found : (sql : List ℕ) (params : Row) (db : Database) (tree : ℕ) (filter project : List Term) (names : List (List ℕ))
     → command_of (understood store_schema sql) ≡ Select (record { lets = []; body = lookup tree filter project }) names → ((trees : Trees) → overlay trees [] tree ≡ trees tree)
     → (found : Option Row) → Selects sql params db found → FirstFound (db.trees tree) filter project params found

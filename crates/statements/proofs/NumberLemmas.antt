@@ -41,7 +41,7 @@ last_query = lookup 6 by_id (col 1 0 ∷ [])
 abbrev pub numbers_query : Query
 numbers_query = listing (inner 6 end) (col 1 0 ∷ []) by_number
 
--- the row that begins an answer of the query shows the number, or the answer is empty
+-- the first row of an answer to the query shows the number; None: the answer is empty
 abbrev pub PicksNumber : Query → Row → Database → Option ℤ → Type 0
 PicksNumber q params db (Some n) = (row : Row) × Picks q params db (Some row) × (column row 0 ≡ Int n)
 PicksNumber q params db None = Picks q params db None
@@ -109,20 +109,20 @@ none_listed db it row there =
     let same = subst (λ l. IsPermutation l []) (of_table 6 (col 1 0 ∷ []) (overlay db [])) (listed_rows (inner 6 end) (col 1 0 ∷ []) by_number (overlay db []) [] it) in
     has_permuted [] (mapped number_shown (db 6)) (number_shown row) (IsPermutation-sym _ _ same) (mapped_has number_shown (db 6) row there)
 
--- the first number that is shown is a row's
+-- the first number that is shown is the number of a row
 shown_has : (db : Trees) (n : ℤ) (row : Row) (tail : List Row) → listed db (row ∷ tail) → column row 0 ≡ Int n → HasNumber (db 6) n
 shown_has db n row tail it shown =
     let same = subst (λ l. IsPermutation l (row ∷ tail)) (of_table 6 (col 1 0 ∷ []) (overlay db [])) (listed_rows (inner 6 end) (col 1 0 ∷ []) by_number (overlay db []) (row ∷ tail) it) in
     let of = has_mapped number_shown (db 6) row (has_permuted (mapped number_shown (db 6)) (row ∷ tail) row same (inl refl)) in
     (of.0, of.1, sym (ap (λ (x : Row). column x 0) of.2) ∙ shown)
 
--- one less than the lowest
+-- one less than the lowest number is less than the number of each row
 below_found : (db : Database) (n k : ℤ) → PicksNumber numbers_query [] db (Some n) → k ≡ n -ℤ pos 1 → IsBelowEach (db.trees 6) k
 below_found db n k shows is row there m has =
     let got = begun_listed db (shows.0 ∷ []) shows.1 in
     by_lt_z m n (λ below. absurd (none_lower db.trees n shows.0 got.0 got.1 shows.2 row there m has below)) (λ upto. omega (arith, ints, is, upto))
 
--- the lowest is the first, as none is less
+-- if the lowest number is the first that a row can have, a row has it
 first_found : (db : Database) (n : ℤ) → PicksNumber numbers_query [] db (Some n) → n ≡ first → LacksOrHasFirst (db.trees 6)
 first_found db n shows is m has =
     let got = begun_listed db (shows.0 ∷ []) shows.1 in

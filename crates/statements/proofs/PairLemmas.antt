@@ -15,6 +15,7 @@ use Rattle.tables.proofs.JoinLemmas.{flat_has, has_flat}
 use Rattle.statements.proofs.LookupLemmas.{has_matched, matched_has, asks}
 use Rattle.tables.proofs.Ascending.{has_permuted}
 
+-- an answer to a query over two tables has the pairs that pass, projected, and no others
 pub answer_paired : (t u : ℕ) (filter project : List Term) (db : Trees) (params : Row) (out : List Row) → IsAnswer (pairs t u filter project) db params out → ArePaired (db t) (db u) filter project params out
 answer_paired t u filter project db params out answer =
     let q = pairs t u filter project in

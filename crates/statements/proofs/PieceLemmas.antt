@@ -52,6 +52,7 @@ module _ (id : ℤ) (n : ℕ) (db : Database) where
   passes_number : (row : Row) → is_of_number id row ≡ true → column row 2 ≡ Int (pos n) → passes by_number piece_params row ≡ true
   passes_number row of_version is = and_from _ _ of_version (and_from _ _ (ap (λ v. equal Binary v (Int (pos n))) is ∙ int_itself (pos n)) refl)
 
+  -- the query of a piece shows the piece of this number, or nothing if there is no such piece
   pub piece_shown : (row : Option Row) → Picks piece_query piece_params db row → ShowsPiece db.trees id n row
   piece_shown (Some row) picked = λ zip is.
       let it = found (Some row) picked in
@@ -67,30 +68,30 @@ module _ (id : ℤ) (n : ℕ) (db : Database) where
 
 -- ---- a zip, piece by piece
 
--- the pieces before this one, and it
+-- the bytes before a piece, and then the piece, are the bytes before the next piece
 pub next_piece : (zip : List ℕ) (n : ℕ) → take (begin n) zip ++ piece zip n ≡ take (begin (n + 1)) zip
 next_piece zip n = sym (take-add (begin n) piece_size zip) ∙ ap (λ k. take k zip) (omega arith)
 
--- where there is no piece of this number, those before it are the zip
+-- if there is no piece of this number, the bytes before it are the zip
 pub no_more : (zip : List ℕ) (n : ℕ) → ¬ HasPiece zip n → take (begin n) zip ≡ zip
 no_more zip n none = take_all (begin n) zip (not_below (begin n) (length zip) none)
   where
     not_below : (a b : ℕ) → ¬ (a < b) → b ≤ a
     not_below a b none = omega (arith, none)
 
--- bytes that begin as the zip does, up to this piece, and go on with it
+-- bytes that begin as the zip does, up to this piece, and go on with the piece, begin as the zip does up to the next piece
 pub goes_on : (there given rest later : List ℕ) (n : ℕ) → given ≡ take (begin n) there ++ rest → rest ≡ piece there n ++ later → given ≡ take (begin (n + 1)) there ++ later
 goes_on there given rest later n is split =
     is ∙ (ap (λ l. take (begin n) there ++ l) split ∙ (sym (append_assoc (take (begin n) there) (piece there n) later) ∙ ap (λ l. l ++ later) (next_piece there n)))
 
--- or go on otherwise
+-- bytes that begin as the zip does, up to this piece, and go on otherwise, are not the zip
 pub goes_off : (there given rest : List ℕ) (n : ℕ) → given ≡ take (begin n) there ++ rest → ((later : List ℕ) → rest ≡ piece there n ++ later → ⊥) → false ≡ bytes_eq there given
 goes_off there given rest n is other = sym (false_from_ne_true (bytes_eq there given) (λ same.
     let whole : there ≡ given = text_same there given same in
     let after : rest ≡ drop (begin n) there = append_cancel_left (take (begin n) there) rest (drop (begin n) there) (sym is ∙ (sym whole ∙ sym (take-append-drop (begin n) there))) in
     other (drop piece_size (drop (begin n) there)) (after ∙ sym (take-append-drop piece_size (drop (begin n) there)))))
 
--- once each piece is there, they are the zip where nothing is left
+-- bytes that begin with all pieces of the zip are the zip exactly if nothing remains
 pub all_there : (there given rest : List ℕ) (n : ℕ) → given ≡ take (begin n) there ++ rest → ¬ HasPiece there n → (length rest == 0) ≡ bytes_eq there given
 all_there there given rest n is none = go rest (is ∙ ap (λ l. l ++ rest) (no_more there n none))
   where
@@ -103,7 +104,7 @@ all_there there given rest n is none = go rest (is ∙ ap (λ l. l ++ rest) (no_
 pub bytes_same : {a b : List ℕ} → ◌≡◌ {A = Value} (Blob a) (Blob b) → a ≡ b
 bytes_same e = cc
 
--- what `strip_prefix` leaves, or that it does not
+-- what `strip_prefix` returns: the rest of the bytes, or None
 abbrev Stripped : List ℕ → List ℕ → Option (Bor (List ℕ)) → Type 0
 Stripped s p r = MatchOption r (pointwise nat_eq (take (length p) s) p ≡ false) (λ x. (pointwise nat_eq (take (length p) s) p ≡ true) × (x.now ≡ drop (length p) s) × (length x.now + length p ≡ length s))
 

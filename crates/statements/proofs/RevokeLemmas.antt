@@ -52,7 +52,7 @@ keys_of = record { lets = []; body = lookup 4 by_token (col 1 0 ∷ []) }
 abbrev pub revoke_params : List ℕ → Row
 revoke_params token = Text token ∷ []
 
--- the rows of the key are taken out by their numbers, and each other table is as it was
+-- the rows of the key are deleted by their numbers, and each other table is as it was
 record Removed (db after : Trees) (token : List ℕ) : Type 0 where
   out : List Row
   found : AreFound (db 4) by_token (col 1 0 ∷ []) (revoke_params token) out
@@ -63,6 +63,7 @@ module _ (limit : Option ℕ) (token : List ℕ) where
   abbrev task : Task
   task = record { limit = limit; keys = Enforced; schema = store_schema; table = access_table; params = revoke_params token }
 
+  -- a DELETE of the key that ends well deletes the rows of the key, and keeps the schema
   concluded : (db : Trees) (tally : Tally) (after : Database) → OnRows task enforced None (Delete 2 keys_of) db (Ok (tally, after)) → (after.schema ≡ store_schema) × Removed db after.trees token
   concluded db tally after h =
       let done = went h in
@@ -87,7 +88,7 @@ module _ (limit : Option ℕ) (token : List ℕ) where
       let does = subst (λ s. Does limit enforced (revoke_params token) (record db { schema = s }) text None (Delete 2 keys_of) (Ok (tally, after))) has h in
       concluded db.trees tally after does
 
--- ---- rows that are taken out
+-- ---- rows that are deleted
 
 left_if : (ids : List ℤ) (rows : List Row) (x : Row) → Has rows x → ((id : ℤ) → Has ids id → has_rowid id x ≡ false) → Has (without_all rows ids) x
 left_if [] rows x h lacks = h
@@ -103,7 +104,7 @@ not_left (i ∷ ids) rows x id (inr later) is h = not_left ids (without_rowid i 
 same_number : (m n : ℤ) → is_eq (value_cmp (Int m) (Int n)) ≡ true → m ≡ n
 same_number m n h = let same = sym (value_cmp-Int m n) ∙ tied _ h in grind (arith, ints, nat_tests)
 
--- rows that are left have a relation that each two had
+-- a relation of each two rows still holds of the rows that are left
 ascending_left : (P : Row → Row → Type 0) (ids : List ℤ) (rows : List Row) → IsAscending P rows → IsAscending P (without_all rows ids)
 ascending_left P [] rows up = up
 ascending_left P (id ∷ ids) rows up = ascending_left P ids (without_rowid id rows) (ascending-filter P (λ y. not (has_rowid id y)) rows up)
@@ -129,6 +130,7 @@ module _ (w : World) (token : List ℕ) where
     is_left : (row : Row) (k : List ℕ) → Has rows row → column row 1 ≡ Text k → (k ≡ token → ⊥) → Has (without_all rows (ids_of out)) row
     is_left row k there is other = left_if (ids_of out) rows row there (λ id h. false_from_ne_true _ (apart id h))
       where
+        -- the query found no row with the number of this row, because numbers are unique and the rows that it found have the token
         apart : (id : ℤ) → Has (ids_of out) id → has_rowid id row ≡ true → ⊥
         apart id h has =
             let shown = has_mapped (λ (r : Row). id_in (rowid r)) out id h in
@@ -141,6 +143,7 @@ module _ (w : World) (token : List ℕ) where
             let text : column from.0 1 ≡ Text token = equals_text (column from.0 1) token (and_parts _ _ from.2).0 in
             other (let e = sym is ∙ (ap (λ (r : Row). column r 1) same ∙ text) in cc)
 
+    -- the rows that are left are the keys of `w` without this one
     access_left : Tabulates IsAccess (without_all rows (ids_of out)) (λ it. map.get (without_key w token).keys it.0 ≡ Some it.1)
     access_left = record {
       each = λ row left.
@@ -159,6 +162,7 @@ module _ (w : World) (token : List ℕ) where
       own = λ a b ha hb. numbered.own a b (without_all_has (ids_of out) rows a ha) (without_all_has (ids_of out) rows b hb);
     }
 
+  -- the DELETE of a key turns tables that mean `w` into tables that mean `w` without the key
   pub revoke_turns : (old : State) → Holds old w → Rewrites (revoke_params token) (Delete 2 keys_of) old (without_key w token)
   revoke_turns old h text tally after does =
       let it = removed old.step_limit token old.now text tally after h.schema does in

@@ -1,4 +1,4 @@
--- What is read of rows of which one more is put in.
+-- What is read from rows when one more is put in.
 use Rattle.std.proofs.Common.{◌≡◌, ◌⊎◌, ℕ, true, List, [], ◌∷◌, filter, inl, inr, refl, ap, subst, ◌∙◌}
 use Rattle.sqlite.specs.Order.{Row, column}
 use Rattle.sqlite.specs.Tree.{Trees, rowid}
@@ -18,6 +18,7 @@ use Rattle.statements.specs.Extract.{Along}
 -- ---- what is read
 
 module _ (read : Row → Row) where
+  -- a fresh row that is put in adds what is read from it
   pub adds_one : (rows : List Row) (new : Row) → are_fresh rows (new ∷ []) ≡ true → AddsRows read (λ values. values ≡ read new) rows (put_all rows (new ∷ []))
   adds_one rows new fresh values = (
     (λ it. elim (put_all_has (new ∷ []) rows it.0 it.1) [
@@ -34,6 +35,7 @@ module _ (read : Row → Row) where
   pub adds_none : (rows : List Row) → AddsRows read (λ _. ⊥) rows rows
   adds_none rows values = ((λ it. inl it), (λ it. elim it [ inl was ↦ was | inr none ↦ absurd none ]))
 
+  -- two additions, one after the other, add what either of them adds
   pub adds_then : (P Q : Row → Type 0) (a b c : List Row) → AddsRows read P a b → AddsRows read Q b c → AddsRows read (λ values. P values ⊎ Q values) a c
   adds_then P Q a b c p q values = (
     (λ it. elim ((q values).0 it) [
@@ -68,6 +70,7 @@ module _ {E A : Type 0} (IsOf : E → A → Type 0) where
   pub adds_of_none : (Was : A → Type 0) → Adds (λ a. IsOfAny [] (λ e. IsOf e a)) Was Was
   adds_of_none Was a = ((λ was. inl was), (λ it. elim it [ inl was ↦ was | inr of ↦ absurd of.1 ]))
 
+  -- what the first of a list adds, and then what the others add, is what the list adds
   pub adds_of_more : (e : E) (es : List E) (Was Mid Is : A → Type 0) → Adds (IsOf e) Was Mid → Adds (λ a. IsOfAny es (λ e. IsOf e a)) Mid Is → Adds (λ a. IsOfAny (e ∷ es) (λ e. IsOf e a)) Was Is
   adds_of_more e es Was Mid Is one rest a = (
     (λ is. elim ((rest a).0 is) [
@@ -83,6 +86,7 @@ module _ {E A : Type 0} (IsOf : E → A → Type 0) where
     ]),
   )
 
+-- rows put in for each of a list, one after another, are rows put in for all of the list
 pub puts_along : {E : Type 0} (table : Table) (read : Row → Row) (Once : List Row → Type 0) (IsOf : E → Trees → Row → Type 0) (es : List E) (source db after : Trees)
     → Along (λ e source. PutsRows table read Once (IsOf e source)) es source db after → PutsRows table read Once (λ values. IsOfAny es (λ e. IsOf e source values)) db after
 puts_along table read Once IsOf [] source db after same = subst (PutsRows table read Once (λ values. IsOfAny [] (λ e. IsOf e source values)) db) same (record {
@@ -101,7 +105,7 @@ puts_along table read Once IsOf (e ∷ es) source db after it =
 
 -- ---- pieces
 
--- a piece's version and number, and its bytes, by what is read of its row
+-- two rows of `piece` that read alike have equal versions, numbers and bytes
 pub read_parts : (a b : Row) → piece_read a ≡ piece_read b → (column a 1 ≡ column b 1) × (column a 2 ≡ column b 2) × (column a 3 ≡ column b 3)
 read_parts a b same = (ap (λ (r : Row). column r 0) same, ap (λ (r : Row). column r 1) same, ap (λ (r : Row). column r 2) same)
 
@@ -111,7 +115,7 @@ piece_as zip a b n same is = let it = read_parts a b same in record { number = i
 pub of_as : (version a b : Row) → piece_read a ≡ piece_read b → is_of version b ≡ true → is_of version a ≡ true
 of_as version a b same is = ap (λ v. equal Binary v (rowid version)) (read_parts a b same).0 ∙ is
 
--- rows of which the same is read, as far as they are of a version, are pieces of the same zip
+-- rows of a version that read like the pieces of a zip are the pieces of that zip
 pub same_pieces : (one two : Row) (rows more : List Row) (zip : List ℕ)
     → ((b : Row) → Has more b → is_of two b ≡ true → (a : Row) × Has rows a × (is_of one a ≡ true) × (piece_read b ≡ piece_read a))
     → ((a : Row) → Has rows a → is_of one a ≡ true → (b : Row) × Has more b × (is_of two b ≡ true) × (piece_read b ≡ piece_read a))
@@ -129,7 +133,7 @@ same_pieces one two rows more zip back there are = record {
       (b.0, has_kept (is_of two) more b.0 b.1 b.2, piece_as zip b.0 a.0 n b.3 a.2);
 }
 
--- ---- within a transaction
+-- ---- inside a transaction
 
 pub filling_of : (s : State) (x : World) → Writing s x → Filling s
 filling_of s x writing = record { schema = writing.schema; sound = writing.trees.sound; is_open = writing.is_open; inside = writing.inside }

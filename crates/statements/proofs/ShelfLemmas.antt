@@ -26,7 +26,7 @@ shown = col 1 2 ∷ []
 abbrev pub shelf_query : Query
 shelf_query = lookup 2 by_name shown
 
--- a value is of one text, or of none
+-- a column shows one text at most, or NULL for none
 same_option : (a b : Option (List ℕ)) → or_null Text a ≡ or_null Text b → a ≡ b
 same_option None None e = refl
 same_option None (Some b) e = cc

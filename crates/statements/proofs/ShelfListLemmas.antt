@@ -25,7 +25,7 @@ use Rattle.statements.specs.Shelves.{names_of, behind, AreNew, added, AreAllShel
 use Rattle.statements.proofs.LookupLemmas.{ordered, asks, all_found}
 use Rattle.statements.specs.declared.shelf_list.Shelf.{Shelf}
 
--- ---- names one behind the other
+-- ---- names one behind another
 
 or_end : (a : Bool) → a ≡ (a || false)
 or_end true = refl
@@ -44,7 +44,7 @@ pub among_behind : (before ns : List (List ℕ)) (s : List ℕ) → is_among (be
 among_behind before [] s = or_end (is_among before s)
 among_behind before (n ∷ ns) s = among_behind (n ∷ before) ns s ∙ or_turn (bytes_eq s n) (is_among before s) (is_among ns s)
 
--- behind common they are common and they
+-- the names behind `common` are `common` and these names
 pub among_all : (ns : List (List ℕ)) (s : List ℕ) → is_among (behind (common ∷ []) ns) s ≡ is_among (common ∷ ns) s
 among_all ns s = among_behind (common ∷ []) ns s ∙ or_first (bytes_eq s common) (is_among ns s)
 
@@ -72,11 +72,11 @@ pub of_common : AreNames (set.insert set.empty common) []
 of_common s = one_more set.empty [] common (λ s. set.contains-empty text_cmp s) s
 
 module _ (shelves : List Shelf) (one : Shelf) (names : set.FinSet text_cmp) (are : AreNames names (names_of shelves)) where
-  -- it is there already
+  -- a list that has the name stays as it was
   pub added_none : set.contains names one.name ≡ true → shelves ≡ added shelves one
   added_none there = sym (ap (λ b. cond b shelves (shelves ++ one ∷ [])) (sym (among_all (names_of shelves) one.name) ∙ (sym (are one.name) ∙ there)))
 
-  -- it is put at the end
+  -- a shelf of another name comes at the end
   module _ (free : set.contains names one.name ≡ false) where
     pub added_one : shelves ++ one ∷ [] ≡ added shelves one
     added_one = sym (ap (λ b. cond b shelves (shelves ++ one ∷ [])) (sym (among_all (names_of shelves) one.name) ∙ (sym (are one.name) ∙ free)))
@@ -104,7 +104,7 @@ or_taken true b h = refl
 or_taken false true h = h refl
 or_taken false false h = refl
 
--- its names are theirs and its
+-- the names of the new list are those of the old one and the name of the shelf
 pub added_names : (shelves : List Shelf) (one : Shelf) (s : List ℕ) → is_among (common ∷ names_of (added shelves one)) s ≡ (is_among (common ∷ names_of shelves) s || bytes_eq s one.name)
 added_names shelves one s = go (is_among (common ∷ names_of shelves) one.name) refl
   where
@@ -112,7 +112,7 @@ added_names shelves one s = go (is_among (common ∷ names_of shelves) one.name)
     go true there = or_taken _ (bytes_eq s one.name) (λ same. ap (is_among (common ∷ names_of shelves)) (text_same s one.name same) ∙ there)
     go false free = ap (λ ns. is_among (common ∷ ns) s) (names_more shelves one) ∙ among_more (common ∷ names_of shelves) one.name s
 
--- each is one of them, or it
+-- each shelf of the new list is one of the old list, or the shelf that was added
 pub added_has : (shelves : List Shelf) (one it : Shelf) → Has (added shelves one) it → Has shelves it ⊎ (it ≡ one)
 added_has shelves one it h = go (is_among (common ∷ names_of shelves) one.name) h
   where
@@ -129,6 +129,7 @@ or_still : (a b : Bool) → a ≡ true → (a || b) ≡ true
 or_still true b h = refl
 or_still false b h = absurd (true≢false (sym h))
 
+-- if the list is that of the rows, the list with the shelf of one more row is that of the rows with this row
 pub rows_more : (rows : List Row) (row : Row) (shelves : List Shelf) (s : Shelf) → ShowsShelf row s → ListsRows rows shelves → ListsRows (rows ++ row ∷ []) (added shelves s)
 rows_more rows row shelves s shows lists = record {
   from = λ it h. elim (added_has shelves s it h) [
@@ -153,13 +154,14 @@ by_parent = (col 1 2, ascending Binary) ∷ []
 abbrev pub all_query : Query
 all_query = ordered 2 [] shown by_parent
 
--- a value is of one text, or of none
+-- a column shows one text at most, or NULL for none
 same_option : (a b : Option (List ℕ)) → or_null Text a ≡ or_null Text b → a ≡ b
 same_option None None e = refl
 same_option None (Some b) e = cc
 same_option (Some a) None e = cc
 same_option (Some a) (Some b) e = let same : a ≡ b = cc in ap Some same
 
+-- the list of the rows that the query of all shelves shows has all shelves of the world
 pub all_listed : (db : Database) (w : World) (means : Means db.trees w) (rows : List Row) → Reads (asks all_query) db [] rows → (shelves : List Shelf) → ListsRows rows shelves → AreAllShelves w shelves
 all_listed db w means rows read shelves lists =
     let found = all_found [] db 2 [] shown by_parent (λ _. refl) rows read in
@@ -189,7 +191,7 @@ rows_at rows at row shelves more s within is shows made lists =
 
 -- ---- what a list keeps of its fields
 
--- the names of the shelves are apart, and these with common are the set
+-- the names of the shelves are distinct, and the set has them and `common`
 abbrev pub AreKept : List Shelf → set.FinSet text_cmp → Type 0
 AreKept shelves names = AreNew (common ∷ []) (names_of shelves) × AreNames names (names_of shelves)
 

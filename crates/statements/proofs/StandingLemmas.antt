@@ -13,7 +13,7 @@ use Rattle.statements.specs.Reading.{IsRowOf, same_heading}
 abbrev entry_in : Option Seen → Option Entry
 entry_in seen = option_map (λ it. it.entry) seen
 
--- where the rest is the same, the zips tell
+-- if the rest is equal, the entries are equal exactly if the zips are
 by_zips : (a z t : Bool) → (a && t) ≡ true → (a && z && t) ≡ z
 by_zips true true true h = refl
 by_zips true true false h = absurd (true≢false (sym h))
@@ -28,7 +28,7 @@ not_same true false t h = refl
 not_same false z t h = refl
 
 module _ (db : Trees) (seen : Option Seen) (row : VersionRow) (e : Entry) (it : IsRowOf db seen row) where
-  -- the entry that is seen stands so to the one that is handed in
+  -- the row's entry compares with the given one as the entry that is seen does
   standing_is : standing_to (Some it.entry) e ≡ standing_to (entry_in seen) e
   standing_is = sym (ap (λ o. standing_to (entry_in o) e) it.is)
 

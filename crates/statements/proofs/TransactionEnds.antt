@@ -51,6 +51,7 @@ module _ {S : Type 0} (g : Ghosts S) (h : Held S) (last exit : State) (w next : 
       | inr it ↦ inr it
     ]
 
+    -- a transaction that wrote the next world and was committed is a change that was done
     committed_to : ((db : Trees) → IsTrue exit.is_open → exit.may_leave db → db ≡ exit.committed.trees) → (HasCleanDisk last → Stands old w → Writing last next)
         → Survives last exit (λ db. db ≡ last.now.trees) → (HasCleanDisk exit → Shows last exit last.now last.now false) → ChangesAt old exit true w next
     committed_to settled made ends shown =
@@ -74,6 +75,7 @@ module _ {S : Type 0} (g : Ghosts S) (h : Held S) (last exit : State) (w next : 
           failed = λ part. absurd (true≢false part);
         }
 
+    -- a transaction that was rolled back is a change that was not done
     undone_to : (HasCleanDisk last → KeepsCommit begun last) → doubt last.is_clean ≤ doubt exit.is_clean → (HasCleanDisk exit → Stands old w → IsRolledBack last exit)
         → (P : Trees → Type 0) → (HasCleanDisk exit → Stands old w → (db : Trees) → P db → StandFor db next) → Survives last exit P → ChangesAt old exit false w next
     undone_to keeps up back P made ends = record {
@@ -130,7 +132,7 @@ module _ {S : Type 0} (g : Ghosts S) (h : Held S) (last exit : State) (w next : 
         | inr part ↦ not_whole part
       ]
 
--- an entry that is written within a transaction
+-- once the rows of an entry are added inside a transaction, its tables stand for the world with the entry
 pub entry_written : (begun last : State) (w : World) (p : Place) (e : Entry) → map.get w.entries p ≡ None → Writing begun w → (Filling begun → HasAdded begun.now.trees last.now.trees p e × Filling last) → Writing last (with_entry w p e)
 entry_written begun last w p e unused writing add =
     let it = add (filling_of begun w writing) in

@@ -67,13 +67,14 @@ module _ (w : World) (p : Place) (e : Entry) (unused : map.get w.entries p ≡ N
   split : (y : Place × Entry) → map.get (with_entry w p e).entries y.0 ≡ Some y.1 → (y ≡ (p, e)) ⊎ (map.get w.entries y.0 ≡ Some y.1)
   split y is = put_splits places_total places_exact w.entries p e y is
 
-  -- a row that names the place is none of those that are there
+  -- no row of the tables names the place
   place_free : (pieces rows : List Row) → Tabulates (IsVersion pieces) rows (λ it. map.get w.entries it.0 ≡ Some it.1) → (r : Row) → Has rows r → (new : Row) → IsAt new p → (q : Place) → IsAt new q → IsAt r q → ⊥
   place_free pieces rows tabulated r there new at q new_at r_at =
       let it = tabulated.each r there in
       let same : it.0.0 ≡ p = same_place r it.0.0 q it.1.place r_at ∙ same_place new q p new_at at in
       let none : ◌≡◌ {A = Option Entry} (Some it.0.1) None = sym it.2 ∙ (ap (map.get w.entries) same ∙ unused) in absurd (cc)
 
+  -- tables that mean `w` mean `w` with the entry once the rows of the entry are added
   pub entry_means : (db after : Trees) → IsSound store_schema db → HasAdded db after p e → Means db w → Means after (with_entry w p e)
   entry_means db after sound a means =
       let row = version_row a.id p e in

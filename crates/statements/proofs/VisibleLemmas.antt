@@ -36,7 +36,7 @@ same_truth true false h = sym (h.0 refl)
 same_truth false true h = h.1 refl
 same_truth false false h = refl
 
--- where they are the members of a set, that set is added
+-- if the texts that the rows show are the members of a set, that set is added
 set_added : (rows : List Row) (more old new : set.FinSet text_cmp) → ((t : List ℕ) → IsShown rows t ↔ (set.contains more t ≡ true)) → AddsTexts rows old new → new ≡ set.union more old
 set_added rows more old new shown adds = same_set texts_total texts_exact new (set.union more old) (λ t.
     let either = set.contains-union texts_total more old t in
@@ -158,6 +158,7 @@ paths_more w (a ∷ ss) s = ap (set.union (paths_among a (map.entries w.entries)
 pub nothing_more : (texts : set.FinSet text_cmp) → AddsTexts [] texts texts
 nothing_more texts t = (λ h. inl h, λ either. elim either [ inl was ↦ was | inr shown ↦ absurd shown.1 ])
 
+-- a set with the texts of some rows, and then the text of one more, has the texts of the rows with this row
 pub one_more : (rows : List Row) (row : Row) (text : List ℕ) (old mid new : set.FinSet text_cmp) → column row 0 ≡ Text text → new ≡ set.insert mid text
     → AddsTexts rows old mid → AddsTexts (rows ++ row ∷ []) old new
 one_more rows row text old mid new shows made adds t = (to t, from t)

@@ -64,6 +64,7 @@ module _ (sql : List ℕ) (params : Row) (command : Command) (is : command_of (u
   wrote_as : (w : World) → Holds old w → (count : ℕ) → Executes sql params old new (Ok count) → Writes old new None command text params count
   wrote_as w h count ran = edit.writes old new _ params count (runs_as sql params old new store_schema h.schema command is plain count ran)
 
+  -- a connection that held `w` holds the next world once the statement is executed
   pub written_holds : (w next : World) → Holds old w → Rewrites params command old next → (count : ℕ) → Executes sql params old new (Ok count) → Holds new next
   written_holds w next h turns count ran =
       let wrote = wrote_as w h count ran in
@@ -78,6 +79,7 @@ module _ (sql : List ℕ) (params : Row) (command : Command) (is : command_of (u
   pub written_open : (w : World) → Holds old w → (count : ℕ) → Executes sql params old new (Ok count) → IsTrue new.is_open
   written_open w h count ran = (wrote_as w h count ran).shown.is_open
 
+  -- what the statement may commit stands for the next world
   committed : (w next : World) → Holds old w → Rewrites params command old next → (c : Compiled) → understood old.now.schema sql ≡ Ok c → (full : Row) → full ≡ params → (db : Trees) → MayCommit old c.returning c.command (text_of sql c) full db → StandFor db next
   committed w next h turns c found full given db may =
       let known : Ok c ≡ understood store_schema sql = sym found ∙ ap (λ s. understood s sql) h.schema in
@@ -99,6 +101,7 @@ module _ (sql : List ℕ) (params : Row) (command : Command) (is : command_of (u
     | inr commits ↦ (let bare = (subst IsPlain (sym (sym commits.1.is ∙ ap (λ s. understood s sql) h.schema)) plain).1 in let full : timed params commits.0.formats commits.1.now ≡ params = rw bare (append-nil params) in (next, committed w next h turns commits.0 commits.1.is _ full db commits.2, inr refl))
   ]
 
+  -- a statement that was executed is a change that was done
   pub done_changes : (law : (db : Trees) → IsTrue new.is_open → new.may_leave db → db ≡ new.committed.trees) → (HasCleanDisk old → IsTrue old.is_open) → (w next : World) → ((h : Holds old w) → Rewrites params command old next)
       → Survives old new (CommitsBy sql params old) → (count : ℕ) → (HasCleanDisk new → Executes sql params old new (Ok count)) → ChangesAt old new true w next
   done_changes law opened w next turns survives count ran =
@@ -110,6 +113,7 @@ module _ (sql : List ℕ) (params : Row) (command : Command) (is : command_of (u
         failed = λ part. absurd (true≢false part);
       }
 
+  -- a statement that failed is a change that was not done
   pub failed_changes : ((db : Trees) → IsTrue old.is_open → old.may_leave db → db ≡ old.committed.trees) → (HasCleanDisk old → IsTrue old.is_open) → (w next : World) → ((h : Holds old w) → Rewrites params command old next)
       → Survives old new (CommitsBy sql params old) → (e : Error) → (HasCleanDisk new → Executes sql params old new (Err e)) → ChangesAt old new false w next
   failed_changes law opened w next turns survives e ran =

@@ -42,7 +42,7 @@ shown = col 1 2 ∷ col 1 3 ∷ []
 abbrev zip_query : Query
 zip_query = ordered 8 of_version shown by_piece
 
--- the statement, of which the invariant of the walk speaks
+-- the text of the statement, which the invariant of the walk names
 abbrev pub zip_text : List ℕ
 zip_text = codes "SELECT number, bytes FROM piece WHERE version = ?1 ORDER BY version, number"
 
@@ -84,7 +84,7 @@ abbrev pub zip_params : ℤ → Row
 zip_params id = Int id ∷ []
 
 module _ (id : ℤ) (db : Database) where
-  -- a row that comes next shows the piece of its number
+  -- a row that comes next, and shows the next number, shows the zip's piece of that number
   row_shown : (rows : List Row) (row : Row) (n : ℕ) (bytes zip : List ℕ) → ReadsFirst (asks zip_query) db (zip_params id) (rows ++ row ∷ []) → IsShownAs row n bytes → IsZip db.trees id zip → bytes ≡ piece zip n
   row_shown rows row n bytes zip first shows is =
       let begun = begun_found (zip_params id) db 8 of_version shown by_piece (λ _. refl) (rows ++ row ∷ []) first in
@@ -93,7 +93,7 @@ module _ (id : ℤ) (db : Database) where
       let same : own.0 ≡ n = int_same (sym own.1.number ∙ (sym (ap (λ (r : Row). column r 0) it.3) ∙ shows.0)) in
       bytes_same (sym shows.1 ∙ (ap (λ (r : Row). column r 1) it.3 ∙ (own.1.bytes ∙ ap (λ m. Blob (piece zip m)) same)))
 
-  -- where no row is left there is no piece of the next number
+  -- if no row is left, there is no piece of the next number
   none_left : (rows : List Row) (n : ℕ) (zip : List ℕ) → Reads (asks zip_query) db (zip_params id) rows → AreBelow rows n → IsZip db.trees id zip → ¬ HasPiece zip n
   none_left rows n zip all below is has =
       let found = all_found (zip_params id) db 8 of_version shown by_piece (λ _. refl) rows all in

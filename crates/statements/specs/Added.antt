@@ -1,4 +1,4 @@
--- What the rows of an entry make of the tables.
+-- What the tables become when the rows of an entry are put in.
 use Rattle.std.specs.Prelude.{◌≡◌, ◌≢◌, ℕ, ℤ, pos, List, [], ◌∷◌}
 use Rattle.sqlite.specs.declared.types.Value.TheVariants.{Null, Int, Text, Blob}
 use Rattle.sqlite.specs.Order.{Row, column}
@@ -14,7 +14,7 @@ use Rattle.world.specs.declared.entry.Place.{Place}
 use Rattle.world.specs.declared.entry.Entry.{Entry}
 use Rattle.statements.specs.Rows.{AddsRows, IsElseSame, piece_read}
 
--- the values of a version's columns behind its number
+-- the values of a row of `version` after its number
 abbrev pub version_values : Place → Entry → Row
 version_values p e =
     Text p.shelf ∷ Text p.path ∷ Text p.version ∷ or_null Text e.time ∷ Blob e.gomod
@@ -23,17 +23,18 @@ version_values p e =
 abbrev pub version_row : ℤ → Place → Entry → Row
 version_row id p e = Int id ∷ Null ∷ version_values p e
 
--- the values of the row of a zip's piece
+-- the values of the row of a zip's piece: the number of the version, the number of the piece, and its bytes
 abbrev pub piece_values : ℤ → List ℕ → ℕ → Row
 piece_values id zip n = Int id ∷ Int (pos n) ∷ Blob (piece zip n) ∷ []
 
--- A row of `piece` is put in for each piece of the zip of a version. Where no row was of that version, no two say the same.
+-- A row of `piece` is put in for each piece of the zip of a version, and no other table changes. If no row was of that version
+-- and each piece had one row, each piece has one row after.
 pub record AddsZip (id : ℤ) (zip : List ℕ) (db after : Trees) : Type 0 where
   pub pieces : AddsRows piece_read (λ values. (n : ℕ) × HasPiece zip n × (values ≡ piece_values id zip n)) (db piece_table.tree) (after piece_table.tree)
   pub once : ((row : Row) → Has (db piece_table.tree) row → column row 1 ≢ Int id) → IsEachPieceOnce (db piece_table.tree) → IsEachPieceOnce (after piece_table.tree)
   pub tables : IsElseSame piece_table db after
 
--- a row of `version` is put in, and then those of its zip
+-- a row of `version` is put in, and then the rows of its zip
 pub record HasAdded (db after : Trees) (p : Place) (e : Entry) : Type 0 where
   pub id : ℤ
   pub mid : Trees

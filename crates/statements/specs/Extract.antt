@@ -1,4 +1,4 @@
--- Rows of one store that are handed on to another, within a transaction of it.
+-- Copies of rows of one store into a second one, inside a transaction of the second.
 use Rattle.std.specs.Prelude.{ℕ, ◌≡◌, ◌≤◌, ◌⊎◌, List, [], ◌∷◌, ◌++◌, filter, Bool, Option, Some, None, IsTrue, pos, if◌then◌else◌}
 use Rattle.std.specs.FinMap as map
 use Rattle.sqlite.specs.declared.types.Value.TheVariants.{Int, Text, Blob}
@@ -20,17 +20,19 @@ use Rattle.tables.specs.Schema.{store_schema, version_table, piece_table}
 use Rattle.tables.specs.VersionKeys.{order_key_at, rank_key_at}
 use Rattle.statements.specs.Rows.{Filling, GoesOn, Adds, IsRead, PutsRows, version_read, piece_read}
 
--- an open connection over tables of the schema, as far as no answer of the disk was wrong
+-- the connection is open and its tables are those of the schema, if the disk has returned what was written
 abbrev pub IsReady : State → Type 0
 IsReady s = HasCleanDisk s → IsTrue s.is_open × (s.now.schema ≡ store_schema)
 
--- it is only read: the tables are as they were, a crash leaves nothing that it did not leave before, and where all was done nothing is changed
+-- The store is only read: it is unchanged or rolled back, unchanged if the call is done, and a crash leaves nothing that it
+-- did not leave before.
 pub record IsReadBy (old new : State) (done : Bool) : Type 0 where
   pub left : HasCleanDisk new → (db : Trees) → new.may_leave db → old.may_leave db
   pub kept : HasCleanDisk new → IsUnchanged old new ⊎ IsRolledBack old new
   pub same : HasCleanDisk new → IsTrue done → IsUnchanged old new
 
--- Rows of a source are put into a fresh store, within a transaction of it, which makes of its tables others.
+-- Rows of a source are put into a fresh store inside a transaction of it. If the call is done, `Makes` relates the tables of
+-- the source, the fresh tables before, and the fresh tables after.
 pub record Copies (Makes : Trees → Trees → Trees → Type 0) (source source_new fresh fresh_new : State) (done : Bool) : Type 0 where
   pub clean : doubt source.is_clean ≤ doubt source_new.is_clean
   pub reads : IsReady source → IsReadBy source source_new done
@@ -39,11 +41,11 @@ pub record Copies (Makes : Trees → Trees → Trees → Type 0) (source source_
       HasCleanDisk source_new → HasCleanDisk fresh_new → IsReady source → (w : World) → Means source.now.trees w → Filling fresh → IsTrue done
       → Makes source.now.trees fresh.now.trees fresh_new.now.trees × Filling fresh_new
 
--- of tables that stand for a world it makes those that stand for another
+-- if the source means `w` and the fresh tables stood for `x`, they stand after for a world that `Makes` relates to these two
 abbrev pub OfWorlds : (World → World → World → Type 0) → Trees → Trees → Trees → Type 0
 OfWorlds Makes source db after = (w x : World) → Means source w → StandFor db x → (y : World) × Makes w x y × StandFor after y
 
--- each row that the query shows of tables that stand for a world is so
+-- each row that the query shows of tables that mean a world satisfies `Fits`
 abbrev pub AllFit : (Row → Type 0) → List ℕ → Row → Type 0
 AllFit Fits sql params =
     (db : Database) (w : World) (rows : List Row) (row : Row) → Means db.trees w
@@ -58,27 +60,27 @@ ShowsKey row it = (column row 0 ≡ Text it.0) × (column row 1 ≡ Text it.1.sh
 abbrev pub IsKeyShown : Row → Type 0
 IsKeyShown row = (it : List ℕ × Holder) × ShowsKey row it
 
--- the key was not there, and is
+-- y is x with the key that the row shows, which x lacks
 abbrev pub AddsKey : Row → World → World → Type 0
 AddsKey row x y = (it : List ℕ × Holder) × ShowsKey row it × (map.get x.keys it.0 ≡ None) × (y ≡ with_key x it.0 it.1)
 
--- so it is of the worlds that the tables stand for
+-- if the tables stood for a world, they stand after for that world with the row's key added
 abbrev pub PutsKey : Row → Trees → Trees → Type 0
 PutsKey row db after = (x : World) → StandFor db x → (y : World) × AddsKey row x y × StandFor after y
 
--- a world has the keys of another and those that are so, and is else the same
+-- y has the keys of x and those that satisfy `IsSo`, and otherwise equals x
 pub record AddsKeys (IsSo : List ℕ × Holder → Type 0) (x y : World) : Type 0 where
   pub shelves : y.shelves ≡ x.shelves
   pub entries : y.entries ≡ x.entries
   pub keys : Adds IsSo (λ it. map.get x.keys it.0 ≡ Some it.1) (λ it. map.get y.keys it.0 ≡ Some it.1)
 
--- it has the keys of one shelf of w beside its own
+-- y has the keys of x and those that `w` has for one shelf
 abbrev pub CopiesKeys : List ℕ → World → World → World → Type 0
 CopiesKeys s w = AddsKeys (λ it. (map.get w.keys it.0 ≡ Some it.1) × (it.1.shelf ≡ s))
 
--- ---- entries, by the rows of their versions and of their zips
+-- ---- entries: the rows of their versions and of their zips
 
--- values show a version with its place, and the keys that its version has
+-- the values show a place, the heading of its entry, and the order keys of its version
 pub record ShowsVersion (values : Row) (p : Place) (h : Heading) : Type 0 where
   pub shelf : column values 1 ≡ Text p.shelf
   pub path : column values 2 ≡ Text p.path
@@ -91,34 +93,34 @@ pub record ShowsVersion (values : Row) (p : Place) (h : Heading) : Type 0 where
 abbrev pub IsVersionShown : Row → Type 0
 IsVersionShown values = (p : Place) × (h : Heading) × ShowsVersion values p h
 
--- the values are those of a version on the shelf
+-- the values are read from a row of `version` that is on the shelf
 abbrev pub IsVersionOn : List ℕ → Trees → Row → Type 0
 IsVersionOn shelf db values = IsRead version_read (db version_table.tree) values × (column values 1 ≡ Text shelf)
 
--- the values are those of a piece of a version on the shelf
+-- the values are read from a row of `piece` whose version is on the shelf
 abbrev pub IsPieceOn : List ℕ → Trees → Row → Type 0
 IsPieceOn shelf db values =
     (version : Row) × Has (db version_table.tree) version × (column version 2 ≡ Text shelf) × IsRead piece_read (filter (is_of version) (db piece_table.tree)) values
 
--- the versions of one shelf are put in
+-- the rows of the versions on one shelf are put in
 abbrev pub CopiesVersions : List ℕ → Trees → Trees → Trees → Type 0
 CopiesVersions shelf source = PutsRows version_table version_read IsEachPlaceOnce (IsVersionOn shelf source)
 
--- the pieces of its zips are put in
+-- the rows of the zips on one shelf are put in
 abbrev pub CopiesPieces : List ℕ → Trees → Trees → Trees → Type 0
 CopiesPieces shelf source = PutsRows piece_table piece_read IsEachPieceOnce (IsPieceOn shelf source)
 
--- ---- one after another
+-- ---- one change after another
 
--- a shelf is put in, with its parent, where its name is free
+-- if its name is free, a shelf is put in with its parent
 abbrev pub PutsShelf : List ℕ → Option (List ℕ) → Trees → Trees → Type 0
 PutsShelf name parent db after = (x : World) → StandFor db x → map.get x.shelves name ≡ None → StandFor after (with_shelf x name parent)
 
--- the one, and then the other
+-- P, and then Q
 abbrev pub Then : {X : Type 0} → (X → X → X → Type 0) → (X → X → X → Type 0) → X → X → X → Type 0
 Then {X} P Q w x z = (y : X) × P w x y × Q w y z
 
--- so for each of these, one after the other
+-- P for each of these, one after another
 abbrev pub Along : {E X : Type 0} → (E → X → X → X → Type 0) → List E → X → X → X → Type 0
 Along P [] w x z = x ≡ z
 Along P (e ∷ es) w x z = Then (P e) (Along P es) w x z

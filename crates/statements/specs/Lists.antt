@@ -14,11 +14,11 @@ use Rattle.world.specs.World.{text_cmp}
 abbrev pub IsShown : List Row → List ℕ → Type 0
 IsShown rows t = (row : Row) × Has rows row × (column row 0 ≡ Text t)
 
--- one set has the members of another, and the texts that the rows show
+-- `new` has the members of `old` and the texts that the rows show
 abbrev pub AddsTexts : List Row → set.FinSet text_cmp → set.FinSet text_cmp → Type 0
 AddsTexts rows old new = (t : List ℕ) → (set.contains new t ≡ true) ↔ ((set.contains old t ≡ true) ⊎ IsShown rows t)
 
--- one set has the members of another, and the texts that the answer to a query shows
+-- `new` has the members of `old` and the texts that an answer to the query shows
 pub record AddsAnswer (sql : List ℕ) (params : Row) (db : Database) (old new : set.FinSet text_cmp) : Type 0 where
   pub rows : List Row
   pub read : Reads (command_of (understood store_schema sql)) db params rows

@@ -1,4 +1,4 @@
--- A query over two tables, by terms that each pair of rows is tested against.
+-- Queries over two tables, whose pairs of rows are filtered by terms.
 use Rattle.std.specs.Prelude.{ℕ, pos, negsuc, Bool, true, false, List, [], ◌∷◌, None, ◌≡◌}
 use Rattle.std.specs.List.{list_all}
 use Rattle.sqlite.specs.declared.types.Value.TheVariants.{Int}
@@ -24,7 +24,7 @@ pairs t u filter project = record {
 abbrev pub passes_both : List Term → Row → Row → Row → Bool
 passes_both filter params row other = list_all (holds (params ∷ row ∷ other ∷ [])) filter
 
--- the pairs that pass, as they are shown
+-- `out` has the pairs that pass, projected, and no others
 pub record ArePaired (rows others : List Row) (filter project : List Term) (params : Row) (out : List Row) : Type 0 where
   pub sound : (x : Row) → Has out x → (row : Row) × (other : Row) × Has rows row × Has others other × (passes_both filter params row other ≡ true) × (x ≡ eval_all project (params ∷ row ∷ other ∷ []))
   pub complete : (row other : Row) → Has rows row → Has others other → passes_both filter params row other ≡ true → Has out (eval_all project (params ∷ row ∷ other ∷ []))

@@ -1,4 +1,4 @@
--- Rows that are put into the tables one after the other, within a transaction.
+-- Rows put into the tables one after another, inside a transaction.
 use Rattle.std.specs.Prelude.{ℤ, ◌≡◌, ◌≢◌, ◌⊎◌, ◌↔◌, Bool, List, [], ◌∷◌, IsTrue}
 use Rattle.std.specs.List.{AllByRecursion}
 use Rattle.sqlite.specs.declared.types.Value.TheVariants.{Null, Int}
@@ -13,21 +13,21 @@ use Rattle.tables.specs.Inserted.{Inserted}
 use Rattle.tables.specs.Means.{StandFor}
 use Rattle.tables.specs.Schema.{store_schema, version_table, piece_table}
 
--- within a transaction, the tables obey the schema
+-- the connection is open inside a transaction, and its tables obey the schema
 pub record Filling (s : State) : Type 0 where
   pub schema : s.now.schema ≡ store_schema
   pub sound : IsSound store_schema s.now.trees
   pub is_open : IsTrue s.is_open
   pub inside : IsTrue s.in_transaction
 
--- within a transaction, the tables stand for the world
+-- the connection is open inside a transaction, and its tables stand for the world
 pub record Writing (s : State) (x : World) : Type 0 where
   pub schema : s.now.schema ≡ store_schema
   pub trees : StandFor s.now.trees x
   pub is_open : IsTrue s.is_open
   pub inside : IsTrue s.in_transaction
 
--- within a transaction, of which nothing is committed, and which goes on where all was done and no answer of the disk was wrong
+-- Nothing is committed, and if the disk has returned what was written, a call that is done leaves the transaction open.
 pub record GoesOn (old new : State) (done : Bool) : Type 0 where
   pub survives : Survives old new (λ _. ⊥)
   pub kept : HasCleanDisk new → IsTrue old.in_transaction → KeepsCommit old new
@@ -40,18 +40,18 @@ abbrev pub version_of : Row → Row
 version_of values =
     column values 0 ∷ Null ∷ column values 1 ∷ column values 2 ∷ column values 3 ∷ column values 4 ∷ column values 5 ∷ column values 6 ∷ column values 7 ∷ []
 
--- a row of `version` is put in, with these values
+-- a row of `version` with these values is put in
 pub record PutsVersion (values : Row) (db after : Trees) : Type 0 where
   pub id : ℤ
   pub number : column values 0 ≡ Int id
   pub put : Inserted db after version_table (version_of values)
   pub sound : IsSound store_schema after
 
--- the row of `piece` that has these values, and this number
+-- the row of `piece` with these values, under this number
 abbrev pub piece_of : ℤ → Row → Row
 piece_of id values = Int id ∷ column values 0 ∷ column values 1 ∷ column values 2 ∷ []
 
--- a row of `piece` is put in, with these values
+-- a row of `piece` with these values is put in
 pub record PutsPiece (values : Row) (db after : Trees) : Type 0 where
   pub id : ℤ
   pub version : ℤ
@@ -63,39 +63,41 @@ pub record PutsPiece (values : Row) (db after : Trees) : Type 0 where
 
 -- ---- many rows
 
--- what is read of a row of `version`, and of a row of `piece`
+-- what is read from a row of `version`
 abbrev pub version_read : Row → Row
 version_read row = column row 0 ∷ column row 2 ∷ column row 3 ∷ column row 4 ∷ column row 5 ∷ column row 6 ∷ column row 7 ∷ column row 8 ∷ []
 
+-- what is read from a row of `piece`
 abbrev pub piece_read : Row → Row
 piece_read row = column row 1 ∷ column row 2 ∷ column row 3 ∷ []
 
--- the values are read of one of the rows
+-- the values are read from one of the rows
 abbrev pub IsRead : (Row → Row) → List Row → Row → Type 0
 IsRead read rows values = (row : Row) × Has rows row × (values ≡ read row)
 
--- those of another kind are those of one, and beside them what is so
+-- what satisfies `Is` is exactly what satisfies `Was` or `IsSo`
 abbrev pub Adds : {A : Type 0} → (A → Type 0) → (A → Type 0) → (A → Type 0) → Type 0
 Adds IsSo Was Is = (a : _) → Is a ↔ (Was a ⊎ IsSo a)
 
--- of the rows is read what is read of others, and beside it what is so
+-- what is read from `more` is exactly what is read from `rows` or satisfies `IsSo`
 abbrev pub AddsRows : (Row → Row) → (Row → Type 0) → List Row → List Row → Type 0
 AddsRows read IsSo rows more = Adds IsSo (IsRead read rows) (IsRead read more)
 
--- it is so of one of these
+-- one of these satisfies `IsSo`
 abbrev pub IsOfAny : {A : Type 0} → List A → (A → Type 0) → Type 0
 IsOfAny xs IsSo = (x : _) × Has xs x × IsSo x
 
--- each other table is as it was
+-- each table of the schema but this one is as it was
 abbrev pub IsElseSame : Table → Trees → Trees → Type 0
 IsElseSame table db after = AllByRecursion (λ t. t.tree ≢ table.tree → after t.tree ≡ db t.tree) store_schema.tables
 
--- each row has a number, and none says again what another says
+-- each row has a number, and `Once` holds of the rows
 pub record AreApart (Once : List Row → Type 0) (rows : List Row) : Type 0 where
   pub numbers : (row : Row) → Has rows row → (n : ℤ) × (rowid row ≡ Int n)
   pub once : Once rows
 
--- rows of one table are put in, of which is read what is so, beside those that were there
+-- Rows are put into one table: what is read from it is exactly what was read before or satisfies `IsSo`. Rows that were apart
+-- still are, and each other table is as it was.
 pub record PutsRows (table : Table) (read : Row → Row) (Once : List Row → Type 0) (IsSo : Row → Type 0) (db after : Trees) : Type 0 where
   pub rows : AddsRows read IsSo (db table.tree) (after table.tree)
   pub apart : AreApart Once (db table.tree) → AreApart Once (after table.tree)

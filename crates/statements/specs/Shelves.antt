@@ -1,4 +1,4 @@
--- Shelves that go from one store into another, and those that are there.
+-- Lists of shelves to copy, and the shelves of a world and of rows.
 use Rattle.std.specs.Prelude.{ℕ, ◌≡◌, Bool, true, false, if◌then◌else◌, List, [], ◌∷◌, ◌++◌, map as each, Some}
 use Rattle.std.specs.FinMap as map
 use Rattle.sqlite.specs.declared.types.Value.TheVariants.{Text}
@@ -11,36 +11,36 @@ use Rattle.statements.specs.declared.shelf_list.Shelf.{Shelf}
 abbrev pub names_of : List Shelf → List (List ℕ)
 names_of shelves = each (λ (s : Shelf). s.name) shelves
 
--- ---- no two of one name
+-- ---- distinct names
 
--- names that come one after another, before these
+-- the names before, with each of these put in front of them in turn
 abbrev pub behind : List (List ℕ) → List (List ℕ) → List (List ℕ)
 behind before [] = before
 behind before (n ∷ ns) = behind (n ∷ before) ns
 
--- each is none of these, and none of those before it
+-- no name is among those before, and none comes twice
 abbrev pub AreNew : List (List ℕ) → List (List ℕ) → Type 0
 AreNew before [] = Unit {0}
 AreNew before (n ∷ ns) = (is_among before n ≡ false) × AreNew (n ∷ before) ns
 
--- shelves, and one more unless its name is taken or `common`
+-- the list with a shelf at its end, or as it is if the name is `common` or in the list
 abbrev pub added : List Shelf → Shelf → List Shelf
 added shelves s = if is_among (common ∷ names_of shelves) s.name then shelves else shelves ++ s ∷ []
 
--- ---- those of a world
+-- ---- the shelves of a world
 
--- each is there, and has this parent
+-- the world has each of these shelves, with this parent
 abbrev pub AreShelves : World → List Shelf → Type 0
 AreShelves w shelves = (s : Shelf) → Has shelves s → map.get w.shelves s.name ≡ Some s.parent
 
--- each is there, and each that is there is among them or `common`
+-- the world has each of these shelves, and each shelf of the world is among them or `common`
 pub record AreAllShelves (w : World) (shelves : List Shelf) : Type 0 where
   pub are : AreShelves w shelves
   pub each_is : (s : List ℕ) → map.contains_key w.shelves s ≡ true → is_among (common ∷ names_of shelves) s ≡ true
 
--- ---- those that rows show
+-- ---- the shelves that rows show
 
--- a row shows a shelf
+-- a row shows the name and the parent of a shelf
 abbrev pub ShowsShelf : Row → Shelf → Type 0
 ShowsShelf row s = (column row 1 ≡ Text s.name) × (column row 0 ≡ or_null Text s.parent)
 

@@ -1,5 +1,4 @@
-//! How an entry that is handed in stands to those in the tables. A zip that is there is compared where
-//! its rows have it.
+//! Compares a given entry with the one in the tables. The stored zip is compared piece by piece and never joined in memory.
 
 ghost use Rattle.std.specs.Prelude.{◌≡◌, map as each, option_map, IfOk};
 ghost use Rattle.sqlite.specs.Held.{state};
@@ -14,7 +13,7 @@ use sqlite::{Alter, Connection, Error};
 use world::entry::{EntryRef, Heading};
 use world::standing::{Standing, standing_to};
 
-/// Whether an entry has this go.mod and this time.
+/// Reports whether an entry has the go.mod and the time of a heading.
 fn has_heading(heading: &Heading, entry: &EntryRef) -> bool
     ensures { result ≡ same_heading heading.now entry.now }
 {
@@ -31,7 +30,8 @@ fn has_heading(heading: &Heading, entry: &EntryRef) -> bool
     standing_to(&there, &here) == Standing::Same
 }
 
-/// How an entry stands to that of a version on the first of these shelves that has one.
+/// Returns how an entry compares with that of the version on the first of these shelves that has it: `Same` or `Other`, or
+/// `Absent` if none has it.
 pub fn find_standing<S: Alter>(
     conn: &mut Connection<S>,
     shelves: &[&str],

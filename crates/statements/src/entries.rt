@@ -1,4 +1,4 @@
-//! Entries over SQL tables.
+//! Finds, counts and adds entries in SQL tables.
 
 ghost use Rattle.std.specs.Prelude.{◌≡◌, ◌≤◌, [], ◌∷◌, map as each, pos, true, string_bytes, option_map, IfOk, OnOk, is_ok, IsTrue};
 ghost use Rattle.std.specs.FinMap as map;
@@ -31,7 +31,7 @@ use text::Text;
 use world::bytes::Bytes;
 use world::entry::{Entry, EntryRef, Heading, Seen};
 
-/// What the row of a version shows, with its number.
+/// What a row of `version` shows: its number, its shelf, and the go.mod and time of the entry.
 #[derive(Drop)]
 pub(crate) struct VersionRow {
     pub(crate) id: i64,
@@ -39,7 +39,7 @@ pub(crate) struct VersionRow {
     pub(crate) heading: Heading,
 }
 
-/// The time that a text writes. A text that writes none is a corrupt row.
+/// Returns the time that a text writes, or None for None. Fails with `DatabaseCorrupt` if the text writes no time.
 fn time_of(text: Option<String>) -> Result<Option<TimeText>, Error>
     ensures { IfOk result (λ time. time ≡ option_map string_bytes text) }
 {
@@ -77,7 +77,7 @@ fn read_version(row: &Row) -> Result<VersionRow, Error>
     })
 }
 
-/// The row of a version on a shelf.
+/// Returns the row of a version on a shelf, or None if the shelf does not have it.
 fn row_at<S: Alter>(
     conn: &mut Connection<S>,
     shelf: &str,
@@ -101,7 +101,7 @@ fn row_at<S: Alter>(
     }
 }
 
-/// The row of a version on the first of these shelves that has one.
+/// Returns the row of a version on the first of these shelves that has it, or None if none has.
 pub(crate) fn row_seen<S: Alter>(
     conn: &mut Connection<S>,
     shelves: &[&str],
@@ -123,7 +123,7 @@ pub(crate) fn row_seen<S: Alter>(
     Ok(None)
 }
 
-/// The entry of a version on the first of these shelves that has one.
+/// Returns the entry of a version on the first of these shelves that has it, with the name of that shelf, or None if none has.
 pub fn find_entry<S: Alter>(
     alloc: Global,
     conn: &mut Connection<S>,
@@ -149,8 +149,8 @@ pub fn find_entry<S: Alter>(
     }))
 }
 
-/// What the entry of a version shows without its zip, on the first of these shelves that has one.
-/// A zip may have 16 MiB, whose rows would push out the pages that the database keeps in memory.
+/// Returns the go.mod and the time of a version on the first of these shelves that has it, or None if none has.
+/// It does not read the zip: up to 16 MiB of rows would push out the pages that the database keeps in memory.
 pub fn find_heading<S: Alter>(
     conn: &mut Connection<S>,
     shelves: &[&str],
@@ -178,7 +178,7 @@ fn read_count(row: &Row) -> Result<u64, Error>
     }
 }
 
-/// How many versions of a path stand on a shelf.
+/// Returns how many versions of a path a shelf has.
 pub fn count_entries<S: Alter>(
     conn: &mut Connection<S>,
     shelf: &str,
@@ -198,7 +198,7 @@ pub fn count_entries<S: Alter>(
     }
 }
 
-/// The text of a time, if there is one.
+/// Returns the text of a time, or None for None.
 fn time_text(time: &Option<TimeText>) -> Option<&str>
     ensures { or_null (λ text. StoredText text.now) result ≡ or_null StoredText time.now }
 {
@@ -208,7 +208,7 @@ fn time_text(time: &Option<TimeText>) -> Option<&str>
     }
 }
 
-/// Writes the row of a version, with this number or with one that sqlite chooses, and tells its number.
+/// Writes the row of a version and returns its number: the given one, or one that sqlite chooses.
 fn insert_version<'p, S: Alter>(
     tx: &mut Transaction<'_, S>,
     number: Option<i64>,
@@ -244,8 +244,8 @@ fn insert_version<'p, S: Alter>(
     Ok(tx.last_insert_rowid())
 }
 
-/// Writes the rows of an entry: that of its version, and then those of its zip.
-/// Contracts say which rows came, not what the tables mean before the commit. The foreign key and the free number
+/// Writes the rows of an entry: the row of its version, then the rows of its zip.
+/// The contracts say which rows were added, not what the tables mean before the commit. The foreign key and the free number
 /// show that no row of `piece` had this version before.
 fn insert_rows<'p, S: Alter>(
     tx: &mut Transaction<'_, S>,
@@ -265,7 +265,8 @@ fn insert_rows<'p, S: Alter>(
     insert_zip(tx, id, entry.zip)
 }
 
-/// Stores an entry where there is none, with all its rows or with none of them.
+/// Stores an entry at a place that has none, with all its rows or none of them. Fails with `TransactionState` inside a
+/// transaction.
 fn insert_entry<S: Alter>(
     conn: &mut Connection<S>,
     number: Option<i64>,
@@ -289,8 +290,8 @@ fn insert_entry<S: Alter>(
     written
 }
 
-/// Stores an entry at a place that has none. It makes the keys of the version before its first statement, so a lack of
-/// memory for them begins nothing.
+/// Stores an entry at a place that has none. Fails with `TransactionState` inside a transaction.
+/// It makes the order keys of the version before its first statement, so if memory for them runs out, nothing has begun.
 pub fn add_entry<S: Alter>(
     alloc: Global,
     conn: &mut Connection<S>,
@@ -305,7 +306,7 @@ pub fn add_entry<S: Alter>(
         → ChangesAt old new (is_ok result) w (with_entry w (place shelf.now path.now (version_text version.now)) entry.now)) }
 {
     let keyed = KeyedVersion::of(alloc, version)?;
-    // A connection that is shut refuses this, so the next line finds the tables.
+    // This fails on a closed connection, so the next line finds the tables.
     let number = chosen_number(conn)?;
     insert_entry(conn, number, shelf, path, &keyed, entry)
 }

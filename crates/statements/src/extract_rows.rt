@@ -1,4 +1,4 @@
-//! Rows of one store that are handed on to another, one at a time, within a transaction of it.
+//! Copies rows of one store into a second one, one at a time, inside a transaction of the second.
 
 ghost use Rattle.std.specs.Prelude.{◌≡◌, ⊤, false, OnOk, is_ok, IsTrue};
 ghost use Rattle.sqlite.specs.Effect.{Reads};
@@ -21,12 +21,12 @@ use crate::pieces::{insert_piece, lent_bytes};
 use sqlite::types::ValueRef;
 use sqlite::{Alter, Connection, Error, ErrorCode, Row, Transaction, params};
 
-/// Why rows were not handed on: by the store that they come from, or by the one that they go to.
+/// Why a copy failed: an error of the store that it reads, or of the store that it writes.
 #[derive(Debug, Drop)]
 pub enum CopyError {
-    /// The store that they come from.
+    /// An error of the store that the rows come from.
     Source(Error),
-    /// The store that they go to.
+    /// An error of the store that the rows go to.
     Fresh(Error),
 }
 
@@ -36,12 +36,12 @@ impl From<Error> for CopyError {
     }
 }
 
-/// Where rows go that a query shows.
+/// Takes the rows that a query shows, one at a time.
 pub(crate) trait RowSink {
-    /// What a row has to be.
+    /// Which rows `Puts` speaks of.
     ghost Fits: { Shown → Type 0 };
 
-    /// What a row makes of the tables.
+    /// How a row changes the tables: the row, the tables before, and the tables after.
     ghost Puts: { Shown → Trees → Trees → Type 0 };
 
     fn put<F: Alter>(&self, tx: &mut Transaction<'_, F>, row: &Row) -> Result<(), Error>
@@ -55,7 +55,8 @@ pub(crate) trait RowSink {
             Fits row.now → Filling old → OnOk result (Puts row.now old.now.trees new.now.trees × Filling new)) };
 }
 
-/// Hands on each row that a query shows, while the query is read. No more than one row is in memory.
+/// Gives each row that a query shows to the sink, while the query is read, so only one row is in memory. Fails with `Source`
+/// if the query does, and with `Fresh` if the sink does.
 /// The rows come in no order, because sorting would gather them all. A second row for a key or a place fails in the
 /// fresh tables.
 pub(crate) fn hand_on<S: Alter, F: Alter, T: RowSink>(
@@ -92,11 +93,11 @@ pub(crate) fn hand_on<S: Alter, F: Alter, T: RowSink>(
             Err(error) => return Err(CopyError::Fresh(error)),
         }
     }
-    // So many rows come only where a table has one for each rowid.
+    // A query shows this many rows only if a table has a row for each rowid.
     Err(CopyError::Source(Error::SqliteFailure(ErrorCode::TooBig)))
 }
 
-/// Keys, whose rows go into `access` as they stand.
+/// Writes the rows of keys into `access` unchanged.
 struct Keys;
 
 impl RowSink for Keys {
@@ -114,7 +115,7 @@ impl RowSink for Keys {
     }
 }
 
-/// Copies the keys of one shelf into another store, within a transaction.
+/// Copies the keys of one shelf into another store, inside a transaction of that store.
 pub fn copy_keys<S: Alter, F: Alter>(
     source: &mut Connection<S>,
     tx: &mut Transaction<'_, F>,
@@ -133,7 +134,7 @@ pub fn copy_keys<S: Alter, F: Alter>(
     )
 }
 
-/// Versions, whose rows go into `version` as they stand, with their numbers and their keys of order.
+/// Writes the rows of versions into `version` unchanged, with their numbers and order keys.
 struct Versions;
 
 impl RowSink for Versions {
@@ -161,7 +162,7 @@ impl RowSink for Versions {
     }
 }
 
-/// Copies the rows of the versions on one shelf into another store, within a transaction.
+/// Copies the rows of the versions on one shelf into another store, inside a transaction of that store.
 pub fn copy_versions<S: Alter, F: Alter>(
     source: &mut Connection<S>,
     tx: &mut Transaction<'_, F>,
@@ -180,7 +181,7 @@ pub fn copy_versions<S: Alter, F: Alter>(
     )
 }
 
-/// Pieces of zips, whose rows go into `piece` as they stand.
+/// Writes the rows of pieces into `piece` unchanged.
 struct Pieces;
 
 impl RowSink for Pieces {
@@ -195,8 +196,8 @@ impl RowSink for Pieces {
     }
 }
 
-/// Copies the rows of the zips on one shelf into another store, within a transaction. It joins `version`, whose index finds
-/// the shelf, with `piece`, whose index finds the pieces of a version.
+/// Copies the rows of the zips on one shelf into another store, inside a transaction of that store.
+/// The query joins `version`, whose index finds the shelf, with `piece`, whose index finds the pieces of a version.
 pub fn copy_pieces<S: Alter, F: Alter>(
     source: &mut Connection<S>,
     tx: &mut Transaction<'_, F>,

@@ -1,4 +1,4 @@
-//! A version with its keys of order, as its row has them.
+//! A version with its order keys, as a row of `version` holds them.
 
 ghost use Rattle.std.specs.Prelude.{◌≡◌, IfOk};
 ghost use Rattle.modver.specs.SemanticVersion.{version_text};
@@ -8,8 +8,8 @@ use modver::{Version, order_key, rank_key};
 use std::alloc::{AllocError, Global};
 use std::marker::Model;
 
-/// The text of a version, and the version's keys. A contract sees the text.
-/// The row has the keys so that the database can order by precedence and by rank.
+/// The text of a version and its order keys. Contracts see the text.
+/// The row holds the keys so that the database can order by precedence and by rank.
 #[derive(Drop)]
 pub(crate) struct KeyedVersion<'v> {
     text: &'v str,
@@ -29,7 +29,7 @@ impl<'v> Model for KeyedVersion<'v> {
 }
 
 impl<'v> KeyedVersion<'v> {
-    /// The text and the keys of a version, or that there was no memory for the keys.
+    /// Returns a version with its order keys. Fails if memory for the keys runs out.
     pub(crate) fn of(alloc: Global, version: &'v Version) -> Result<KeyedVersion<'v>, AllocError>
         ensures { IfOk result (λ keyed. keyed ≡ version_text version.now) }
     {
@@ -49,14 +49,14 @@ impl<'v> KeyedVersion<'v> {
         self.text
     }
 
-    /// Its key of order.
+    /// Its key for ordering by precedence.
     pub(crate) fn order(&self) -> &[u8]
         ensures { result.now ≡ order_key_at self.now }
     {
         self.order.as_slice()
     }
 
-    /// Its key of rank.
+    /// Its key for ordering by rank.
     pub(crate) fn rank(&self) -> &[u8]
         ensures { result.now ≡ rank_key_at self.now }
     {

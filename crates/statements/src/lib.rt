@@ -1,32 +1,36 @@
-//! What is read of the tables of a store, and what is changed in them.
+//! The SQL statements that read and change the tables of a store.
 //!
-//! Which tables these are, and which world they stand for, is told in the crate `tables`. Each call here
-//! speaks to a `Connection`, or to a `Transaction` of one, and to nothing else: it is told of the world that the tables
-//! stand for, and of what a crash leaves. What a store makes of these calls is told in the crate `store`.
+//! The crate `tables` defines the tables and the world that they stand for; the crate `store` makes a store of the calls here.
+//! Each call uses a `Connection`, or a `Transaction` of one, and nothing else. Its contract says what becomes of the world
+//! that the tables stand for, and what a crash may leave.
 //!
-//! A change of one store is one transaction. So a crash leaves the world before it or the world after it, and
-//! once the change has answered Ok, the world after it alone.
+//! Each change of a store is one transaction. So a crash leaves the world before it or the world after it, and once the
+//! change has returned Ok, only the world after it.
 //!
 //! | call | its statements |
 //! |---|---|
-//! | `registry::find_key` | the row of `access` that has the key |
-//! | `registry::find_shelf` | the row of `shelf` that has the name |
-//! | `entries::find_entry` | the row of `version` on one shelf after the other, up to the first that has it, then the last of its rows of `piece`, and in one walk all of them, one after the other |
-//! | `entries::find_heading` | the row of `version` on one shelf after the other, up to the first that has it, and no row of `piece` |
-//! | `outlines::find_outline` | those of `find_heading`, then the last row of `piece`, and if that is full, the one behind it, which is not there |
-//! | `compare::find_standing` | those of `find_heading`, then each row of `piece` by its number, up to the first piece that is another |
-//! | `visible::find_versions`, `find_paths` | the rows of `version` on one shelf after the other |
-//! | `entries::count_entries` | how many rows of `version` the path has on the shelf |
-//! | `entries::add_entry` | the row of `version` that has the last number, and where there is one, that of the lowest; then in one transaction a row of `version`, with the keys of its version, and a row of `piece` for each piece of the zip |
-//! | `registry::add_team` | that of `find_shelf`, and where a group is named, that of the group, then a row of `shelf` |
-//! | `registry::add_group` | that of `find_shelf`, then a row of `shelf` |
-//! | `registry::add_key` | those of `find_shelf` and of `find_key`, then a row of `access` |
-//! | `revoke::revoke_key` | that of `find_key`, then the row of `access` is taken away |
+//! | `registry::find_key` | read the row of `access` that has the key |
+//! | `registry::find_shelf` | read the row of `shelf` that has the name |
+//! | `shelves::find_shelves` | read all rows of `shelf` |
+//! | `entries::find_heading` | read the row of `version` on each shelf in turn, up to the first that has one, and no row of `piece` |
+//! | `outlines::find_outline` | those of `find_heading`, then read the last row of `piece`, and look for one more behind a full one |
+//! | `entries::find_entry` | those of `find_heading`, then read the last row of `piece` of the version, then all in order |
+//! | `compare::find_standing` | those of `find_heading`; if it is equal, read rows of `piece` by number, up to the first that differs |
+//! | `visible::find_versions`, `find_paths` | read rows of `version` on each shelf in turn |
+//! | `entries::count_entries` | count the rows of `version` that the path has on the shelf |
+//! | `entries::add_entry` | choose a number (see the module `numbers`), then in one transaction write the rows of the entry |
+//! | `registry::add_team` | those of `find_shelf` for the name and for the group, if one is named, then write a row of `shelf` |
+//! | `registry::add_group` | that of `find_shelf`, then write a row of `shelf` |
+//! | `registry::add_key` | those of `find_shelf` and `find_key`, then write a row of `access` |
+//! | `revoke::revoke_key` | that of `find_key`, then delete the row of `access` |
 //! | `transaction::commit_if` | the end of a transaction |
-//! | `extract_rows::copy_keys`, `copy_versions`, `copy_pieces` | of one shelf the rows of `access`, of `version`, of `piece`, one at a time, each put into another store within a transaction of it |
+//! | `extract_rows::copy_keys`, `copy_versions`, `copy_pieces` | read the rows of one shelf, and write each into another store |
 //!
-//! What is said of values holds where each answer of the disk was what had been written. A fault is the
-//! error of `sqlite`.
+//! The rows of an entry are a row of `version`, with the order keys of the version, and a row of `piece` for each piece of
+//! the zip.
+//!
+//! What contracts say of values holds if the disk has returned what was written. A call fails with the error of `sqlite` if
+//! the disk fails, memory runs out, the connection is closed, or a row holds a value that no store writes.
 #![tactic(auto)]
 
 pub mod compare;

@@ -1,7 +1,7 @@
-//! The number of a new row of `version`.
+//! Chooses the number of a new row of `version`.
 //!
-//! It is sqlite's own choice, one past the highest. Where a row has the last number there is none past it, so one below the lowest is
-//! chosen. The numbers mean nothing, and each that sqlite takes is lawful.
+//! sqlite chooses one past the highest. If a row has the last number there is none past it, so this module chooses one below
+//! the lowest. The numbers mean nothing, and any number that sqlite takes is lawful.
 
 ghost use Rattle.std.specs.Prelude.{◌≡◌, false, Decides, IfOk, OnOk, IsTrue, MatchOption};
 ghost use Rattle.sqlite.specs.Held.{state};
@@ -16,7 +16,7 @@ use crate::query::find_row;
 use sqlite::types::ValueRef;
 use sqlite::{Alter, Connection, Error, params};
 
-/// The number that the first row of the answer to a query shows, if there is one.
+/// Returns the number in the first row of the answer to a query, or None if the answer is empty.
 fn find_number<S: Alter>(
     conn: &mut Connection<S>,
     sql: &str,
@@ -37,7 +37,7 @@ fn find_number<S: Alter>(
     }
 }
 
-/// Whether a row has the last number.
+/// Reports whether a row has the last number, `i64::MAX`.
 fn has_last<S: Alter>(conn: &mut Connection<S>) -> Result<bool, Error>
     ensures spares { Spares (state S.Store conn.old) (state S.Store conn.new) }
     ensures answer { InEachWorld (state S.Store conn.old) (state S.Store conn.new) (λ old new _.
@@ -54,8 +54,8 @@ fn has_last<S: Alter>(conn: &mut Connection<S>) -> Result<bool, Error>
     Ok(found.is_some())
 }
 
-/// A number that is less than each row's, unless a row has the first.
-/// Taking the first gap would make each publish cost more than the one before. Tables with both the first and the
+/// Returns one less than the lowest number, or None if there is no row or one has the first number, `i64::MIN`.
+/// Looking for the first gap would make each publish cost more than the one before. Tables with both the first and the
 /// last number, which only another program makes, answer each publish with 503.
 fn number_below_all<S: Alter>(conn: &mut Connection<S>) -> Result<Option<i64>, Error>
     ensures spares { Spares (state S.Store conn.old) (state S.Store conn.new) }
@@ -70,7 +70,7 @@ fn number_below_all<S: Alter>(conn: &mut Connection<S>) -> Result<Option<i64>, E
     }
 }
 
-/// The number to give a new row; none leaves it to sqlite.
+/// Returns the number to give a new row, or None to leave it to sqlite.
 pub(crate) fn chosen_number<S: Alter>(conn: &mut Connection<S>) -> Result<Option<i64>, Error>
     ensures spares { Spares (state S.Store conn.old) (state S.Store conn.new) }
     ensures answer { InEachWorld (state S.Store conn.old) (state S.Store conn.new) (λ old new _.

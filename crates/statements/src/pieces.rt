@@ -1,4 +1,4 @@
-//! The zip of a version in pieces of one size, of which the last may be shorter: a row of `piece` for each.
+//! The zip of a version in pieces, a row of `piece` for each. All pieces have one size, but the last may be shorter.
 
 ghost use Rattle.std.specs.Prelude.{◌≡◌, ◌≤◌, [], ◌∷◌, pos, bytes_eq, IfOk, OnOk, is_ok, IsTrue};
 ghost use Rattle.sqlite.specs.declared.types.Value.TheVariants.{Int, Blob};
@@ -19,7 +19,7 @@ use tables::pieces::PIECE_SIZE;
 use world::bytes::Bytes;
 use world::entry::MAX_ZIP;
 
-/// The row of one piece of the zip of the version that has this number.
+/// Returns the row of piece `number` of the zip of version `id`, or None if there is no such row.
 pub(crate) fn find_piece<S: Alter>(
     conn: &mut Connection<S>,
     id: i64,
@@ -38,7 +38,7 @@ pub(crate) fn find_piece<S: Alter>(
     )
 }
 
-/// The bytes that a row has at a place.
+/// Returns the bytes in a column of a row, which lends them. Fails with `DatabaseCorrupt` if the column is no BLOB.
 pub(crate) fn lent_bytes(row: &Row, at: usize) -> Result<&[u8], Error>
     ensures { IfOk result (λ bytes. column row.now at ≡ Blob bytes.now) }
 {
@@ -48,8 +48,8 @@ pub(crate) fn lent_bytes(row: &Row, at: usize) -> Result<&[u8], Error>
     }
 }
 
-/// How many bytes to make room for before the zip of the version that has this number is read, by the number of its last piece.
-/// Nothing rests on it: a zip that has more finds its own room.
+/// Returns how many bytes to reserve for the zip of version `id`, computed from the number of its last piece.
+/// It is a hint: a longer zip makes the buffer grow.
 fn find_room<S: Alter>(conn: &mut Connection<S>, id: i64) -> Result<usize, Error>
     ensures spares { Spares (state S.Store conn.old) (state S.Store conn.new) }
     ensures same { InEachWorld (state S.Store conn.old) (state S.Store conn.new) (λ old new _.
@@ -68,7 +68,7 @@ fn find_room<S: Alter>(conn: &mut Connection<S>, id: i64) -> Result<usize, Error
     }
 }
 
-/// The bytes that a row shows as the piece of this number.
+/// Returns the bytes that a row shows as the piece of this number. Fails with `DatabaseCorrupt` if it has another number.
 fn piece_in(row: &Row, number: u32) -> Result<&[u8], Error>
     ensures { IfOk result (λ bytes. (column row.now 0 ≡ Int (pos number)) × (column row.now 1 ≡ Blob bytes.now)) }
 {
@@ -79,9 +79,9 @@ fn piece_in(row: &Row, number: u32) -> Result<&[u8], Error>
     lent_bytes(row, 1)
 }
 
-/// The zip of the version that has this number, each piece behind the one before it, in one walk over their rows.
-/// That the rows come in the order of their numbers is seen of each, and not taken from the statement.
-/// The index has this order, so the database sorts nothing. A row out of order fails the call.
+/// Returns the zip of version `id`: its pieces one after another, read in one walk over their rows.
+/// It checks the number of each row and does not rely on the statement for the order: a row out of order fails the call with
+/// `DatabaseCorrupt`. The index has this order, so the database sorts nothing.
 pub(crate) fn find_zip<S: Alter>(
     alloc: Global,
     conn: &mut Connection<S>,
@@ -94,7 +94,7 @@ pub(crate) fn find_zip<S: Alter>(
     let room = find_room(conn, id)?;
     let mut zip = Vec::with_capacity(alloc, room)?;
     let sql = "SELECT number, bytes FROM piece WHERE version = ?1 ORDER BY version, number";
-    // A connection that is shut refuses this, so the query finds the tables.
+    // This fails on a closed connection, so the query finds the tables.
     conn.prepare(sql)?;
     let mut rows = conn.query(sql, params![id])?;
     for number in 0..u32::MAX {
@@ -106,8 +106,8 @@ pub(crate) fn find_zip<S: Alter>(
     Err(Error::SqliteFailure(ErrorCode::TooBig))
 }
 
-/// Whether these bytes are the zip of the version that has this number. Each piece is compared where its row has it.
-/// It stops at the first piece that differs. The connection keeps the compiled look-up.
+/// Reports whether these bytes are the zip of version `id`. It compares each piece with the bytes that its row lends, and
+/// stops at the first piece that differs. The connection keeps the compiled look-up.
 pub(crate) fn has_zip<S: Alter>(
     conn: &mut Connection<S>,
     id: i64,

@@ -1,4 +1,4 @@
-//! The rows that a query shows.
+//! Reads the rows that a query shows.
 
 ghost use Rattle.std.specs.Prelude.{◌≡◌, false, IfOk, OnOk, IsTrue};
 ghost use Rattle.sqlite.specs.Effect.{Reads};
@@ -13,7 +13,7 @@ ghost use Rattle.statements.specs.Calls.{InEachWorld, Spares, Selects};
 use sqlite::types::ValueRef;
 use sqlite::{Alter, Connection, Error, Row};
 
-/// The first row of the answer to a query, if there is one.
+/// Returns the first row of the answer to a query, or None if the answer is empty.
 pub fn find_row<S: Alter>(
     conn: &mut Connection<S>,
     sql: &str,
@@ -28,7 +28,7 @@ pub fn find_row<S: Alter>(
     ensures same { InEachWorld (state S.Store conn.old) (state S.Store conn.new) (λ old new _.
         OnOk result (new.now ≡ old.now)) }
 {
-    // A connection that is shut refuses this, so the next line finds the tables.
+    // This fails on a closed connection, so the next line finds the tables.
     conn.prepare(sql)?;
     match conn.query_row(sql, params) {
         Ok(row) => Ok(Some(row)),
@@ -37,7 +37,7 @@ pub fn find_row<S: Alter>(
     }
 }
 
-/// The rows of the answer to a query.
+/// Returns all rows of the answer to a query.
 pub(crate) fn find_rows<S: Alter>(
     conn: &mut Connection<S>,
     sql: &str,
@@ -52,7 +52,7 @@ pub(crate) fn find_rows<S: Alter>(
     ensures open { InEachWorld (state S.Store conn.old) (state S.Store conn.new) (λ _ new w.
         OnOk result (IsTrue new.is_open)) }
 {
-    // A connection that is shut refuses this, so the next line finds the tables.
+    // This fails on a closed connection, so the next line finds the tables.
     conn.prepare(sql)?;
     conn.query_all(sql, params)
 }

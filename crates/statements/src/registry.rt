@@ -1,4 +1,4 @@
-//! Shelves and keys over SQL tables.
+//! Shelves and keys in SQL tables.
 
 ghost use Rattle.std.specs.Prelude.{◌≡◌, ◌≤◌, pos, true, false, not, None, option_copied, IfOk, OnOk, is_ok, IsTrue};
 ghost use Rattle.std.specs.Ordering.{int_eq};
@@ -30,7 +30,7 @@ fn may_publish(right: Right) -> bool
     }
 }
 
-/// What a row of `access` shows of a key.
+/// Returns the shelf and the right that a row of `access` shows.
 fn read_holder(row: &Row) -> Result<Holder, Error>
     ensures { IfOk result (λ h. (column row.now 0 ≡ StoredText h.shelf)
         × ((n : _) × (column row.now 1 ≡ Int n) × (may_publish h.right ≡ not (int_eq n (pos 0))))) }
@@ -48,7 +48,7 @@ fn read_holder(row: &Row) -> Result<Holder, Error>
     })
 }
 
-/// What a key holds, if there is such a key.
+/// Returns the shelf and the right of a key, or None if there is no such key.
 pub fn find_key<S: Alter>(conn: &mut Connection<S>, token: &str) -> Result<Option<Holder>, Error>
     ensures spares { Spares (state S.Store conn.old) (state S.Store conn.new) }
     ensures answer { InEachWorld (state S.Store conn.old) (state S.Store conn.new) (λ old new w.
@@ -64,7 +64,7 @@ pub fn find_key<S: Alter>(conn: &mut Connection<S>, token: &str) -> Result<Optio
     }
 }
 
-/// What a row of `shelf` shows of the parent.
+/// Returns the parent that a row of `shelf` shows, or None for NULL.
 pub(crate) fn read_parent(row: &Row) -> Result<Option<Text>, Error>
     ensures { IfOk result (λ parent. column row.now 0 ≡ or_null StoredText parent) }
 {
@@ -75,7 +75,7 @@ pub(crate) fn read_parent(row: &Row) -> Result<Option<Text>, Error>
     }
 }
 
-/// The parent of a shelf, if there is a shelf of this name. `common` and a group have none.
+/// Returns the parent of a shelf, or None if no shelf has this name. The parent of `common` and of a group is None.
 pub fn find_shelf<S: Alter>(
     conn: &mut Connection<S>,
     name: &str,
@@ -96,7 +96,7 @@ pub fn find_shelf<S: Alter>(
     }
 }
 
-/// Whether this is a group.
+/// Reports whether this is the name of a group.
 fn is_group<S: Alter>(conn: &mut Connection<S>, name: &str) -> Result<bool, Error>
     ensures spares { Spares (state S.Store conn.old) (state S.Store conn.new) }
     ensures answer { InEachWorld (state S.Store conn.old) (state S.Store conn.new) (λ _ new w.
@@ -108,7 +108,7 @@ fn is_group<S: Alter>(conn: &mut Connection<S>, name: &str) -> Result<bool, Erro
     }
 }
 
-/// Writes the row of a key that has none.
+/// Writes the row of a key that does not exist.
 fn insert_key<S: Alter>(
     conn: &mut Connection<S>,
     token: &str,
@@ -131,7 +131,8 @@ fn insert_key<S: Alter>(
     }
 }
 
-/// What becomes of adding a key of the right form.
+/// Returns what adding a well-formed key comes to: `NoTeam` if there is no such shelf, `Taken` if the key exists, otherwise
+/// `Done`.
 fn judge_key<S: Alter>(
     conn: &mut Connection<S>,
     shelf: &str,
@@ -151,7 +152,8 @@ fn judge_key<S: Alter>(
     Ok(Registered::Done)
 }
 
-/// Adds a key of the right form to a shelf that is there, unless it is taken.
+/// Adds a well-formed key to a shelf and returns `Done`, or returns `NoTeam` if there is no such shelf, or `Taken` if the key
+/// exists.
 pub fn add_key<S: Alter>(
     conn: &mut Connection<S>,
     shelf: &str,
@@ -171,7 +173,7 @@ pub fn add_key<S: Alter>(
     Ok(registered)
 }
 
-/// Writes the row of a shelf that is not there.
+/// Writes the row of a shelf that does not exist.
 fn insert_shelf<S: Alter>(
     conn: &mut Connection<S>,
     name: &str,
@@ -192,7 +194,8 @@ fn insert_shelf<S: Alter>(
     }
 }
 
-/// What becomes of adding a team whose name keeps the rule.
+/// Returns what adding a team with a valid name comes to: `Taken` if the name is taken, `NoGroup` if a group is named and there
+/// is no such group, otherwise `Done`.
 fn judge_team<S: Alter>(
     conn: &mut Connection<S>,
     name: &str,
@@ -215,8 +218,8 @@ fn judge_team<S: Alter>(
     Ok(Registered::Done)
 }
 
-/// Adds a team whose name keeps the rule, as a member of a group or of none, unless the name is taken or
-/// there is no such group.
+/// Adds a team with a valid name, as a member of a group or of none, and returns `Done`, or returns `Taken` if the name is
+/// taken, or `NoGroup` if there is no such group.
 pub fn add_team<S: Alter>(
     conn: &mut Connection<S>,
     name: &str,
@@ -235,7 +238,7 @@ pub fn add_team<S: Alter>(
     Ok(registered)
 }
 
-/// What becomes of adding a group whose name keeps the rule.
+/// Returns what adding a group with a valid name comes to: `Taken` if the name is taken, otherwise `Done`.
 fn judge_group<S: Alter>(conn: &mut Connection<S>, name: &str) -> Result<Registered, Error>
     requires { is_team_name name.now ≡ true }
     ensures spares { Spares (state S.Store conn.old) (state S.Store conn.new) }
@@ -248,7 +251,7 @@ fn judge_group<S: Alter>(conn: &mut Connection<S>, name: &str) -> Result<Registe
     Ok(Registered::Done)
 }
 
-/// Adds a group whose name keeps the rule, unless the name is taken.
+/// Adds a group with a valid name and returns `Done`, or returns `Taken` if the name is taken.
 pub fn add_group<S: Alter>(conn: &mut Connection<S>, name: &str) -> Result<Registered, Error>
     requires { is_team_name name.now ≡ true }
     ensures changes { Changes (state S.Store conn.old) (state S.Store conn.new) (is_ok result)

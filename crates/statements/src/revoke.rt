@@ -1,4 +1,4 @@
-//! Keys that are taken away, over SQL tables.
+//! Revokes keys in SQL tables.
 
 ghost use Rattle.std.specs.Prelude.{◌≡◌, ◌≤◌, IfOk, is_ok};
 ghost use Rattle.sqlite.specs.Held.{state};
@@ -12,7 +12,7 @@ use crate::registry::find_key;
 use sqlite::{Alter, Connection, Error, params};
 use world::registry::Registered;
 
-/// Takes the row of a key away.
+/// Deletes the row of a key.
 fn delete_key<S: Alter>(conn: &mut Connection<S>, token: &str) -> Result<(), Error>
     ensures clean { doubt (state S.Store conn.old).is_clean ≤ doubt (state S.Store conn.new).is_clean }
     ensures changes { IsOpenIfHonest (state S.Store conn.old) → (w : _)
@@ -24,7 +24,7 @@ fn delete_key<S: Alter>(conn: &mut Connection<S>, token: &str) -> Result<(), Err
     }
 }
 
-/// Takes a key away, if it is there.
+/// Revokes a key and returns `Done`, or returns `NoKey` if there is no such key.
 pub fn revoke_key<S: Alter>(conn: &mut Connection<S>, token: &str) -> Result<Registered, Error>
     ensures changes { Changes (state S.Store conn.old) (state S.Store conn.new) (is_ok result)
         (with_key_revoked token.now) }

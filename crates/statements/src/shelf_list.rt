@@ -1,4 +1,4 @@
-//! Shelves that go from one store into another.
+//! Lists of shelves to copy from one store into another.
 
 ghost use Rattle.std.specs.Prelude.{◌≡◌, ◌∷◌, [], map as each, IfOk};
 ghost use Rattle.world.specs.World.{common};
@@ -10,16 +10,16 @@ use text::Text;
 use world::names::COMMON;
 use world::text_set::TextSet;
 
-/// A shelf beside `common`.
+/// A shelf other than `common`.
 #[derive(Drop)]
 pub struct Shelf {
     /// Its name.
     pub name: Text,
-    /// The shelf that it stands behind: of a team its group, or `common`. A group has none.
+    /// The shelf behind it: a team's group, or `common` for a team without one. A group has none.
     pub parent: Option<Text>,
 }
 
-/// Shelves beside `common`, no two of one name. Contracts see the list of them.
+/// Shelves other than `common`, no two of one name. Contracts see the list of them.
 #[derive(Drop)]
 pub struct ShelfList {
     shelves: Vec<Shelf>,
@@ -43,7 +43,7 @@ impl Model for ShelfList {
 }
 
 impl ShelfList {
-    /// No shelf.
+    /// Returns an empty list. Fails if memory runs out.
     pub fn new(alloc: Global) -> Result<ShelfList, AllocError>
         ensures { IfOk result (λ list. list ≡ []) }
     {
@@ -55,7 +55,8 @@ impl ShelfList {
         })
     }
 
-    /// The list with a shelf at its end, unless it has one of that name or the name is `common`.
+    /// Returns the list with a shelf added at its end, or as it is if the name is `common` or already in the list. Fails if memory
+    /// runs out.
     pub fn with(mut self, alloc: Global, shelf: Shelf) -> Result<ShelfList, AllocError>
         ensures { IfOk result (λ list. list ≡ added self shelf) }
     {
@@ -68,7 +69,7 @@ impl ShelfList {
         Ok(self)
     }
 
-    /// Its shelves.
+    /// The shelves of the list.
     pub fn as_slice(&self) -> &[Shelf]
         ensures same { result.now ≡ self.now }
         ensures apart { AreNew (common ∷ []) (each (λ shelf. shelf.name) result.now) }

@@ -1,4 +1,4 @@
-//! All shelves, over SQL tables.
+//! Lists all shelves in SQL tables.
 
 ghost use Rattle.std.specs.Prelude.{◌≡◌, IfOk, IsTrue};
 ghost use Rattle.sqlite.specs.Held.{state};
@@ -12,7 +12,7 @@ use sqlite::{Alter, Connection, Error, Row};
 use std::alloc::Global;
 use text::Text;
 
-/// The shelf that a row shows by its parent and its name.
+/// Returns the shelf that a row shows by its parent and its name.
 fn read_shelf(row: &Row) -> Result<Shelf, Error>
     ensures { IfOk result (λ shelf. ShowsShelf row.now shelf) }
 {
@@ -24,7 +24,7 @@ fn read_shelf(row: &Row) -> Result<Shelf, Error>
     })
 }
 
-/// The shelves that rows show.
+/// Returns the shelves that rows show, each once and without `common`.
 fn list_rows(alloc: Global, rows: &[Row]) -> Result<ShelfList, Error>
     ensures { IfOk result (λ list. ListsRows rows.now list) }
 {
@@ -35,13 +35,13 @@ fn list_rows(alloc: Global, rows: &[Row]) -> Result<ShelfList, Error>
     Ok(list)
 }
 
-/// All shelves beside `common`, each behind its parent.
+/// Returns all shelves other than `common`, each after its parent.
 pub fn find_shelves<S: Alter>(alloc: Global, conn: &mut Connection<S>) -> Result<ShelfList, Error>
     ensures spares { Spares (state S.Store conn.old) (state S.Store conn.new) }
     ensures answer { InEachWorld (state S.Store conn.old) (state S.Store conn.new) (λ _ new w.
         IfOk result (λ list. IsTrue new.is_open × AreAllShelves w list)) }
 {
-    // NULL comes before each text, so a shelf without a parent comes before each that has one.
+    // NULL sorts before each text, so a shelf without a parent comes before each that has one.
     let rows = find_rows(conn, "SELECT parent, name FROM shelf ORDER BY parent", &[])?;
     list_rows(alloc, rows.as_slice())
 }

@@ -1,4 +1,4 @@
-//! Which versions of a path, and which paths, stand on shelves, over SQL tables.
+//! Lists the versions of a path, and the paths, that shelves have in SQL tables.
 
 ghost use Rattle.std.specs.Prelude.{◌≡◌, false, map as each, IfOk, OnOk, IsTrue};
 ghost use Rattle.std.specs.FinMap as map;
@@ -21,8 +21,8 @@ use world::text_set::TextSet;
 use world::version_list::Versions;
 use world::versions::ascending;
 
-/// Puts the first value of each row of the answer to a query into a set of texts, as the query gives the rows: those of a
-/// shelf may be many, and none is kept.
+/// Adds the first value of each row of the answer to a query to a set of texts, one row at a time: a shelf may have many rows,
+/// and none is kept.
 fn add_texts<S: Alter>(
     conn: &mut Connection<S>,
     sql: &str,
@@ -35,7 +35,7 @@ fn add_texts<S: Alter>(
     ensures adds { InEachWorld (state S.Store conn.old) (state S.Store conn.new) (λ old _ _.
         OnOk result (IsTrue old.is_open × AddsAnswer sql.now (bound params.now) old.now texts.old texts.new)) }
 {
-    // A connection that is shut refuses this, so the query finds the tables.
+    // This fails on a closed connection, so the query finds the tables.
     conn.prepare(sql)?;
     let mut rows = conn.query(sql, params)?;
     for _ in 0..u64::MAX {
@@ -48,7 +48,7 @@ fn add_texts<S: Alter>(
     Err(Error::SqliteFailure(ErrorCode::TooBig))
 }
 
-/// Puts the versions of a path that stand on one shelf into a set.
+/// Adds the versions of a path that one shelf has to a set.
 fn add_versions<S: Alter>(
     conn: &mut Connection<S>,
     shelf: &str,
@@ -67,7 +67,7 @@ fn add_versions<S: Alter>(
     )
 }
 
-/// Puts the paths that stand on one shelf into a set.
+/// Adds the paths that one shelf has to a set.
 fn add_paths<S: Alter>(
     conn: &mut Connection<S>,
     shelf: &str,
@@ -85,7 +85,7 @@ fn add_paths<S: Alter>(
     )
 }
 
-/// The versions of a path that stand on these shelves, in ascending precedence.
+/// Returns the versions of a path that these shelves have, in ascending precedence.
 /// It reads texts from the index alone. Ordering by `rank_key` would read whole rows, and so every go.mod of the path.
 pub fn find_versions<S: Alter>(
     alloc: Global,
@@ -105,7 +105,7 @@ pub fn find_versions<S: Alter>(
     Ok(ascending(alloc, &texts)?)
 }
 
-/// The paths that stand on these shelves.
+/// Returns the paths that these shelves have.
 pub fn find_paths<S: Alter>(
     alloc: Global,
     conn: &mut Connection<S>,

@@ -1,4 +1,4 @@
--- Of the shelves of an older store none is a group, so the machine that knows no groups answers as today's.
+-- No shelf of an older store is a group, so the machine that knows no groups answers as today's.
 use Rattle.std.proofs.Common.{◌≡◌, ℕ, List, Bool, true, false, cond, true≢false, Option, Some, None, refl, sym, ap, ◌∙◌}
 use Rattle.std.specs.Prelude.{bytes_eq, not}
 use Rattle.std.specs.FinMap as map
@@ -18,6 +18,7 @@ apart : (b : Bool) → not b ≡ true → b ≡ false
 apart true h = absurd (true≢false (sym h))
 apart false h = refl
 
+-- a world that such tables stand for has no group, because only `common` has no parent in it
 pub mean_no_group : MeanNoGroup
 mean_no_group format db w means g = go (is_group w g) refl
   where

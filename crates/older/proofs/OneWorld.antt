@@ -21,7 +21,7 @@ use Rattle.older.specs.declared.schema.Format.TheVariants.{One, Two}
 use Rattle.older.specs.Means.{Means, IsShelf, IsWithBody, IsEntryIn, parent_of}
 use Rattle.older.specs.Laws.{MeanOne}
 
--- where a row is of one thing alone, the things of a table are the same however they are named
+-- if a row is of one thing at most, and a table tabulates both P and Q, then Q holds wherever P does
 carried : {X : Type 0} (IsRow : Row → X → Type 0) (rows : List Row) (P Q : X → Type 0) → ((row : Row) (x y : X) → IsRow row x → IsRow row y → y ≡ x) → Tabulates IsRow rows P → Tabulates IsRow rows Q → (x : X) → P x → Q x
 carried IsRow rows P Q one p q x holds =
     let from = p.found x holds in
@@ -44,7 +44,7 @@ one_shelf row x y one two =
     let parent : y.1 ≡ x.1 = two.1 ∙ (ap parent_of name ∙ sym one.1) in
     λ i. (name i, parent i)
 
--- rows that are the pieces of two zips tell the same pieces
+-- rows that are the pieces of two zips show the same pieces of both
 piece_told : (rows : List Row) (a b : List ℕ) → ArePieces rows a → ArePieces rows b → (n : ℕ) → HasPiece a n → HasPiece b n × (piece a n ≡ piece b n)
 piece_told rows a b one two n has =
     let from = one.found n has in
@@ -61,6 +61,7 @@ one_zip rows a b one two = same_zip a b (λ n. go n (nat_lt (begin n) (length a)
     go n false true in_a in_b = sym (piece_told rows b a two one n (ltb-true (begin n) (length b) in_b)).1
     go n false false in_a in_b = no_piece a n (ltb-false (begin n) (length a) in_a) ∙ sym (no_piece b n (ltb-false (begin n) (length b) in_b))
 
+-- a row of `version` is that of at most one entry
 one_entry : (format : Format) (db : Trees) (row : Row) (x y : Place × Entry) → IsEntryIn format db row x → IsEntryIn format db row y → y ≡ x
 one_entry One db row x y one two =
     let place = same_place row y.0 x.0 two.place one.place in
@@ -75,6 +76,7 @@ one_entry Two db row x y one two =
     let time : y.1.time ≡ x.1.time = time_told (column row 5) y.1.time two.time ∙ sym (time_told (column row 5) x.1.time one.time) in
     λ i. (place i, record { gomod = gomod i; zip = zip i; time = time i })
 
+-- tables of an older schema stand for at most one world, because its keys, its shelves and its entries are all determined
 pub mean_one : MeanOne
 mean_one format db w x one two =
     let keys = map.same_map texts_total texts_exact w.keys x.keys (λ k. same_got w.keys x.keys k (λ h. carried IsAccess (db 4) (λ it. map.get w.keys it.0 ≡ Some it.1) (λ it. map.get x.keys it.0 ≡ Some it.1) one_access one.access two.access (k, h))

@@ -1,4 +1,4 @@
--- What holds of the tables of the older schemas, and of the worlds that they stand for, by their definitions alone.
+-- Laws of the tables of the older schemas and of the worlds that they stand for, which follow from the definitions alone.
 use Rattle.std.specs.Prelude.{◌≡◌, List, map as map_list}
 use Rattle.sqlite.specs.Tree.{Trees}
 use Rattle.shelf.specs.Machine as machine
@@ -12,12 +12,12 @@ use Rattle.older.specs.Means.{Means}
 abbrev pub MeanOne : Type 0
 MeanOne = (format : Format) (db : Trees) (w x : World) → Means format db w → Means format db x → w ≡ x
 
--- No shelf of it is a group.
+-- No shelf of a world that such tables stand for is a group.
 abbrev pub MeanNoGroup : Type 0
 MeanNoGroup = (format : Format) (db : Trees) (w : World) → Means format db w → HasNoGroup w
 
--- It has the keys, the shelves and the entries of a world of the machine that knows no groups, and answers each list of requests, and of registry
--- commands that name no group, as that machine does.
+-- A world that such tables stand for has the keys, the shelves and the entries of a world of the machine that knows no groups.
+-- It answers each list of requests, and of registry commands that name no group, as that machine does.
 abbrev pub AnswersAsBefore : Type 0
 AnswersAsBefore =
     (format : Format) (db : Trees) (w : World) → Means format db w → IsWorld w

@@ -1,4 +1,5 @@
--- The world that the tables of an older schema stand for. No order of rows occurs here, and a row's number only ties a version to its zip.
+-- The world that the tables of an older schema stand for. The order of rows means nothing, and a row's number only ties a
+-- version to its zip.
 use Rattle.std.specs.Prelude.{ℕ, Bool, true, if◌then◌else◌, List, Option, Some, None, codes, bytes_eq, ◌≡◌}
 use Rattle.std.specs.FinMap as map
 use Rattle.sqlite.specs.declared.types.Value.TheVariants.{Text, Blob}
@@ -22,11 +23,11 @@ use Rattle.older.specs.Schemas.{shelf_table, body_table, schema_of, number_of}
 abbrev pub parent_of : List ℕ → Option (List ℕ)
 parent_of name = if bytes_eq name common then None else Some common
 
--- a shelf by its name
+-- a row shows the name of a shelf, which determines its parent
 abbrev pub IsShelf : Row → List ℕ × Option (List ℕ) → Type 0
 IsShelf row it = (column row 1 ≡ Text it.0) × (it.1 ≡ parent_of it.0)
 
--- the rows have one number, as SQL compares them
+-- the two rows have equal numbers, as SQL compares them
 abbrev pub is_numbered_as : Row → Row → Bool
 is_numbered_as a b = equal Binary (rowid a) (rowid b)
 
@@ -37,14 +38,14 @@ pub record HasBody (bodies : List Row) (version : Row) (zip : List ℕ) : Type 0
   pub same : is_numbered_as body version ≡ true
   pub holds : (other : Row) → Has bodies other → is_numbered_as other version ≡ true → column other 2 ≡ Blob zip
 
--- a row of `version` of schema 1, and a row of `body`
+-- a row of `version` of schema 1, with its row of `body`, is that of the entry
 pub record IsWithBody (bodies : List Row) (row : Row) (it : Place × Entry) : Type 0 where
   pub place : IsAt row it.0
   pub time : column row 5 ≡ or_null Text it.1.time
   pub gomod : column row 6 ≡ Blob it.1.gomod
   pub zip : HasBody bodies row it.1.zip
 
--- a row of `version` is of an entry, with the rows of its zip
+-- a row of `version`, with the rows of its zip, is that of the entry
 abbrev pub IsEntryIn : Format → Trees → Row → Place × Entry → Type 0
 IsEntryIn One db = IsWithBody (db body_table.tree)
 IsEntryIn Two db = IsVersion (db piece_table.tree)

@@ -1,4 +1,4 @@
--- The tables of schemas 1 and 2. They are today's, but for `shelf`, and in schema 1 `version` and `body`.
+-- The tables of schemas 1 and 2: those of today, except for `shelf`, and in schema 1 `version` and `body`.
 use Rattle.std.specs.Prelude.{ℤ, pos, codes, List, [], ◌∷◌, Some}
 use Rattle.sqlite.specs.Kind.TheVariants.{Integer, Text, Blob}
 use Rattle.sqlite.specs.Table.{Table}
@@ -8,7 +8,7 @@ use Rattle.tables.specs.Schema.{given, optional, refers, plain_table, meta_table
 use Rattle.older.specs.declared.schema.Format.{Format}
 use Rattle.older.specs.declared.schema.Format.TheVariants.{One, Two}
 
--- a shelf has its name alone
+-- a row of `shelf` has only a name
 abbrev pub shelf_table : Table
 shelf_table = plain_table (codes "shelf") 2 (given (codes "name") Text ∷ [])
 
@@ -21,7 +21,7 @@ keyless_columns =
 abbrev pub keyless_table : Table
 keyless_table = record version_table { columns = keyless_columns }
 
--- and its zip is one row, which has its number
+-- in schema 1 a zip is one row, which has the number of its version
 abbrev pub body_table : Table
 body_table = record (plain_table (codes "body") 8 (optional (codes "id") Integer ∷ given (codes "zip") Blob ∷ [])) {
   key = Some 0;
@@ -45,11 +45,12 @@ schema_2 = record {
   views = [];
 }
 
--- the tables of a format, and its number
+-- the tables of a format
 abbrev pub schema_of : Format → Schema
 schema_of One = schema_1
 schema_of Two = schema_2
 
+-- the number of a format
 abbrev pub number_of : Format → ℤ
 number_of One = pos 1
 number_of Two = pos 2

@@ -1,7 +1,7 @@
-//! The tables of a store of an older schema: which they are, and which world they stand for.
+//! The tables of a store of an older schema, and the world that they stand for.
 //!
-//! Schemas 1 and 2 knew no groups, so a row of `shelf` has a name alone. Schema 1 kept a zip as one row of `body`, and a
-//! version without its keys of order:
+//! Schemas 1 and 2 have no groups, so a row of `shelf` has only a name. Schema 1 keeps a zip as one row of `body`, and a
+//! version without its order keys:
 //!
 //! | table | a row is | columns |
 //! |---|---|---|
@@ -9,7 +9,7 @@
 //! | `version`, schema 1 | a version of a module on a shelf, its time and its go.mod | `id`, `shelf`, `path`, `version`, `time`, `mod` |
 //! | `body`, schema 1 | the zip of the version whose `id` it has | `id`, `zip` |
 //!
-//! All other tables are those of the crate `tables`, but for the number in `meta`.
+//! The other tables are those of the crate `tables`; only the number in `meta` differs.
 #![tactic(auto)]
 
 pub mod laws;

@@ -1,4 +1,4 @@
-//! Whether the tables are those of an older schema.
+//! Recognises the tables of an older schema.
 
 ghost use Rattle.std.specs.Prelude.{◌≡◌, ℕ, suc, Some, Decides, MatchOption, ◌∷◌, [], bytes_eq, codes};
 ghost use Rattle.sqlite_value.specs.Keys.{plain};
@@ -58,14 +58,14 @@ fn has_no_terms(terms: &Terms) -> bool
     terms.roots.is_empty()
 }
 
-/// No default reads the time.
+/// Reports whether no default reads the time.
 fn has_no_stamps(stamps: &Stamps) -> bool
     ensures { Decides result (stamps.now ≡ no_stamps) }
 {
     stamps.places.is_empty() && has_no_terms(&stamps.terms) && stamps.formats.is_empty()
 }
 
-/// One key, over the first column alone.
+/// Reports whether there is one key, over the first column alone.
 fn has_first_key(uniques: &[Items<usize>], orders: &[Order]) -> bool
     ensures { Decides result ((uniques.now ≡ (1 ∷ []) ∷ []) × (orders.now ≡ plain ∷ [])) }
 {
@@ -91,7 +91,7 @@ fn is_shelf_table(table: &Table) -> bool
         && table.references.is_empty()
 }
 
-/// What each table has: a name and a tree. It does not count, compute or stamp.
+/// Reports whether a table has this name and tree, and does not count, compute or stamp.
 fn is_bare(table: &Table, name: &str, tree: u32) -> bool
     ensures { Decides result (IsBare table.now name.now tree) }
 {
@@ -102,7 +102,7 @@ fn is_bare(table: &Table, name: &str, tree: u32) -> bool
         && !table.is_counted
 }
 
-/// The one reference, from a place to a column of another table.
+/// Reports whether there is one reference, from the column at `place` to a column of another table.
 fn is_reference(references: &[Reference], place: usize, parent: &str, column: &str) -> bool
     ensures { Decides result (references.now ≡ refers place parent.now column.now ∷ []) }
 {
@@ -148,7 +148,7 @@ fn has_version_key(uniques: &[Items<usize>], orders: &[Order]) -> bool
     }
 }
 
-/// The number of a version, and the columns that name its place.
+/// Reports whether these are the columns of a version's number and place.
 fn are_place_columns(id: &Column, shelf: &Column, path: &Column, version: &Column) -> bool
     ensures { Decides result ((id.now ≡ optional (codes "id") Integer) × (shelf.now ≡ given (codes "shelf") Text)
         × (path.now ≡ given (codes "path") Text) × (version.now ≡ given (codes "version") Text)) }
@@ -159,7 +159,7 @@ fn are_place_columns(id: &Column, shelf: &Column, path: &Column, version: &Colum
         && is_column(version, "version", Kind::Text, true)
 }
 
-/// The time of a version, its go.mod, and its keys of order.
+/// Reports whether these are the columns of a version's time, go.mod and order keys.
 fn are_other_columns(time: &Column, gomod: &Column, order: &Column, rank: &Column) -> bool
     ensures { Decides result ((time.now ≡ optional (codes "time") Text) × (gomod.now ≡ given (codes "mod") Blob)
         × (order.now ≡ given (codes "order_key") Blob) × (rank.now ≡ given (codes "rank_key") Blob)) }
@@ -205,7 +205,7 @@ fn is_index(index: &Index, name: &str, tree: u32, table: u32, columns: &[usize])
         && index.is_unique
 }
 
-/// `publish = VALUE`, from this node on.
+/// Reports whether the term at this node is `publish = VALUE`.
 fn is_equation(nodes: &[Op], at: usize, value: i64) -> bool
     ensures { (depth : ℕ) → Decides result (term_to nodes.now (suc (suc depth)) at ≡ op2 (Compare Eq Binary) (col 1 3) (lit (Int value))) }
 {
@@ -217,7 +217,7 @@ fn is_equation(nodes: &[Op], at: usize, value: i64) -> bool
         && matches!(nodes.get(*right), Some(Op::Literal(Value::Int(n))) if *n == value)
 }
 
-/// `publish = 0 OR publish = 1`, from this node on.
+/// Reports whether the term at this node is `publish = 0 OR publish = 1`.
 fn is_either(nodes: &[Op], at: usize) -> bool
     ensures { (depth : ℕ) → Decides result (term_to nodes.now (suc (suc (suc depth))) at ≡ is_flag) }
 {
@@ -264,7 +264,7 @@ fn is_access_table(table: &Table) -> bool
         && is_reference(table.references.as_slice(), 2, "shelf", "name")
 }
 
-/// `number >= 0`, from this node on.
+/// Reports whether the term at this node is `number >= 0`.
 fn is_lower_bound(nodes: &[Op], at: usize) -> bool
     ensures { (depth : ℕ) → Decides result (term_to nodes.now (suc (suc depth)) at ≡ is_from_zero) }
 {
@@ -364,7 +364,7 @@ fn are_second_indexes(indexes: &[Index]) -> bool
     }
 }
 
-/// The table of versions that have no keys of order.
+/// Reports whether this is the table of versions of schema 1, which have no order keys.
 fn is_keyless_table(table: &Table) -> bool
     ensures { Decides result (table.now ≡ keyless_table) }
 {
@@ -407,7 +407,7 @@ fn is_body_table(table: &Table) -> bool
         && is_reference(table.references.as_slice(), 0, "version", "id")
 }
 
-/// The tables that both formats have.
+/// Reports whether these are the tables that both formats have.
 fn are_named_tables(meta: &Table, shelf: &Table, access: &Table) -> bool
     ensures { Decides result ((meta.now ≡ meta_table) × (shelf.now ≡ shelf_table) × (access.now ≡ access_table)) }
 {
@@ -442,7 +442,7 @@ fn is_schema_2(schema: &Schema) -> bool
     has_tables && are_second_indexes(schema.indexes.as_slice()) && schema.views.is_empty()
 }
 
-/// The format whose tables a connection has, if it has those of one and nothing else.
+/// Returns the format whose tables, and no others, the schema has, or None if it is that of neither format.
 pub fn format_of(schema: &Schema) -> Option<Format>
     ensures { MatchOption result
         ((format : Format) → schema.now ≡ schema_of format → ⊥)

@@ -39,6 +39,7 @@ use Rattle.migration.specs.Visits.{IsReadyAs, Moves}
 -- ---- one query
 
 module _ (format : Format) (sql : List ℕ) (it : IsWalkableAs format sql) (plain : IsPlain (understood (schema_of format) sql)) (unlisted : reads_listing (schema_of format) sql ≡ false) where
+  -- a walkable query over the tables of the format fails only with an excuse: memory ran out, or something hindered the call
   pub query_excused : (old new : State) (e : Error) → old.now.schema ≡ schema_of format → FailsToQuery sql [] old new e → IsExcused old new e
   unfolding FailsToQuery
   query_excused old new e has (inl unread) = unrun sql old new (schema_of format) has (command_of (understood (schema_of format) sql)) refl plain it.alone e unread
@@ -68,6 +69,7 @@ module _ (format : Format) (sql : List ℕ) (it : IsWalkableAs format sql) (plai
 
 module _ (format : Format) (sql : List ℕ) (from : Join) (project : List Term) (order : List (Term × Key)) (names : List (List ℕ))
     (is : command_of (understood (schema_of format) sql) ≡ Select (record { lets = []; body = listing from project order }) names) where
+  -- a query that lists rows without a fold is walkable if it is one statement, typed, and shows too many rows only of a vast table
   pub walkable : has_no_fold from ≡ true → ((db : Database) → db.schema ≡ schema_of format → RefusesQuery None db (record { lets = []; body = listing from project order }) [] (SqliteFailure TypeMismatch) → ⊥)
       → IsAlone sql (understood (schema_of format) sql) → ((db : Database) → db.schema ≡ schema_of format → ShowsTooMany format sql db → IsVastAs format db) → IsWalkableAs format sql
   walkable foldless typed alone vast = record { alone = alone; allowed = allowed; vast = vast }
@@ -80,7 +82,7 @@ module _ (format : Format) (sql : List ℕ) (from : Join) (project : List Term) 
         | inr (inr (named, limited)) ↦ limited
       ]
 
-  -- so many are there
+  -- a query that shows too many rows lists too many
   pub many_listed : (db : Database) → ShowsTooMany format sql db → 2 ^ 128 ≤ length (map (eval_all project) (matches (overlay db.trees []) [] from ([] ∷ []))) + 1
   many_listed db h =
       let got = (subst (λ k. ReadsFirst k db [] h.0) is h.1).1 in
@@ -90,9 +92,10 @@ module _ (format : Format) (sql : List ℕ) (from : Join) (project : List Term) 
       let long = h.2 in
       omega (arith, same, all, long)
 
--- a query over one table shows too many rows only of a vast one
+-- a query over one table
 module _ (format : Format) (sql : List ℕ) (tree : ℕ) (project : List Term) (order : List (Term × Key)) (names : List (List ℕ))
     (is : command_of (understood (schema_of format) sql) ≡ Select (record { lets = []; body = listing (inner tree end) project order }) names) where
+  -- if a query over one table shows too many rows, the table is vast
   pub table_vast : (table : Table) → Has (schema_of format).tables table → table.tree ≡ tree → ((db : Database) → overlay db.trees [] tree ≡ db.trees tree) → (db : Database) → db.schema ≡ schema_of format → ShowsTooMany format sql db → IsVastAs format db
   table_vast table listed own plain db has h = record { schema = has; table = table; listed = listed; rows = subst (λ t. 2 ^ 64 ≤ length (db.trees t)) (sym own) many }
     where
@@ -106,7 +109,7 @@ module _ (format : Format) (sql : List ℕ) (tree : ℕ) (project : List Term) (
 
 -- ---- one walk after another
 
--- why what comes after a walk over all rows fails
+-- the reason for a failure after a walk over all rows
 module _ (format : Format) (P : Trees → Trees → Trees → Type 0) (s t u a b : State) (p : Moves format P s t a b true) (up : doubt t.is_clean ≤ doubt u.is_clean) where
   since : (e : CopyError) → IsOnItsWay s t → t.now ≡ s.now → HasReasonIf format t u e → HasReasonIf format s u e
   since (Source e) way same (inl excused) = inl (excused_since s t u e way excused)

@@ -32,14 +32,14 @@ use Rattle.older.specs.declared.schema.Format.TheVariants.{One, Two}
 use Rattle.older.specs.Means.{IsShelf}
 use Rattle.migration.specs.Filled.{AreAlike, HasEntries, HasAll}
 
--- what is read of rows of a table is alike where one list of it is another in some order
+-- two tables are alike if what is read from one is, in some order, what is read from the other
 pub alike : (read : Row → Row) (rows others : List Row) → IsPermutation (mapped read rows) (mapped read others) → AreAlike read rows others
 alike read rows others same = record {
   there = λ row at. let it = has_mapped read others _ (has_permuted (mapped read others) (mapped read rows) (read row) (IsPermutation-sym _ _ same) (mapped_has read rows row at)) in (it.0, it.1, sym it.2);
   back = λ other at. let it = has_mapped read rows _ (has_permuted (mapped read rows) (mapped read others) (read other) same (mapped_has read others other at)) in (it.0, it.1, it.2);
 }
 
--- where a row is of one thing alone, the things of a table are the same however they are named
+-- if a row is of one thing at most, and a table tabulates both P and Q, then Q holds wherever P does
 carried : {X : Type 0} (IsRow : Row → X → Type 0) (rows : List Row) (P Q : X → Type 0) → ((row : Row) (x y : X) → IsRow row x → IsRow row y → y ≡ x) → Tabulates IsRow rows P → Tabulates IsRow rows Q → (x : X) → P x → Q x
 carried IsRow rows P Q one p q x holds =
     let from = p.found x holds in
@@ -62,7 +62,7 @@ module _ (old db after : Trees) (was : HasEntries Two old db) (sound : IsSound s
   version_stays : after 6 ≡ db 6
   version_stays = else_same.1.1.1.0 (λ e. omega (arith, e))
 
-  -- the tables that were there fit, and so do the pieces
+  -- the tables fit: those from before do, and so do the pieces
   fits : AreFit after
   fits =
       let before = world_fits db was.world was.stands.sound was.stands.means was.is in
@@ -138,6 +138,7 @@ module _ (old db after : Trees) (was : HasEntries Two old db) (sound : IsSound s
     zip = pieces_then row other it.1.zip (ap (λ (r : Row). column r 0) same) is.zip;
   }
 
+  -- the old rows of `version`, with their old pieces, are the entries of the world of the fresh tables
   entries_are : Tabulates (IsVersion (old 8)) (old 6) (λ it. map.get w.entries it.0 ≡ Some it.1)
   entries_are = record {
     each = λ row there.

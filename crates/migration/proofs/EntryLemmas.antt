@@ -64,7 +64,7 @@ place_is row q e shows = λ i. record { shelf = text_in (shows.shelf i); path = 
 placed : (row : Row) (q : Place) (e : Entry) → ShowsEntry row q e → IsPlaced row
 placed row q e shows = (held (column row 0) q.shelf shows.shelf, held (column row 1) q.path shows.path, held (column row 2) q.version shows.version)
 
--- places in SQL's order are in ours
+-- SQL orders places as we do
 places_in_order : (a b : Row) → IsPlaced a → IsPlaced b → key_cmp 0 (ascending Binary ∷ ascending Binary ∷ ascending Binary ∷ []) (place_columns a) (place_columns b) ≡ place_cmp (place_in a) (place_in b)
 places_in_order a b one two = rw (one.0, one.1, one.2, two.0, two.1, two.2)
     (λ i. ordering_then (value_cmp-Text (place_in a).shelf (place_in b).shelf i)
@@ -75,7 +75,7 @@ may_differ : (o : Option Place) (many : ℕ) (q : Place) → MayFollow o many q 
 may_differ None many q may is = let e = is in absurd (cc)
 may_differ (Some p) many q may is = may.0 (let e = is in cc)
 
--- what a row shows of an entry that may stand there, with what it shows of its zip and of the keys of its version
+-- a row is fit for an entry if it shows the entry, its zip, its number and the order keys of its version, and the entry may stand
 pub fit_row : (format : Format) (row : Row) (id : ℤ) (s p v zip : List ℕ) (e : Entry) (x : SemanticVersion) (order rank : List ℕ)
     → ShowsZip format row zip → ShowsEntry row (place_of s p v) e × (e.zip ≡ zip) → Some x ≡ fitting_version p v e → order ≡ order_key_of x → rank ≡ rank_key_of x → ShowsKeys format row order rank → column row 5 ≡ Int id
     → ((order ≡ order_key_at v) × (rank ≡ rank_key_at v)) × IsFitRow format row id (place_of s p v) e
@@ -93,7 +93,7 @@ fit_row format row id s p v zip e x order rank shows_zip shows fits order_is ran
       },
     )
 
--- ---- the rows, as those that are tested
+-- ---- the rows, as a walk that tests them
 
 abbrev Fits : EntryRows → Row → Type 0
 Fits x row = IsPlaced row × MayFollow x.last x.many (place_in row)
@@ -101,6 +101,7 @@ Fits x row = IsPlaced row × MayFollow x.last x.many (place_in row)
 abbrev Keeps : EntryRows → Row → EntryRows → Type 0
 Keeps x row next = (next.last ≡ Some (place_in row)) × (next.many ≡ run_with x.last x.many (place_in row))
 
+-- rows that are visited pass the test of a walk: each shows a place that may follow the last one
 passed : (kept : EntryRows) (db : Trees) (rows : List Row) (end : EntryRows) (after : Trees) → Visits Puts kept db rows end after → Pass Fits Keeps kept rows end
 passed kept db [] end after same = same.0
 passed kept db (row ∷ rows) end after visited =
@@ -130,13 +131,13 @@ module _ (start end : EntryRows) (rows : List Row) (sorted : InPlaces rows) (p :
   few : start.last ≡ None → (s p : List ℕ) → many_on s p rows ≤ version_limit
   few new = few_in_all Fits Keeps (λ (x : EntryRows). x.last) (λ (x : EntryRows). x.many) (λ x row next keeps. keeps) (λ x row fits. fits.1) start rows end new rise p
 
--- so they rise where each was visited
+-- if all rows are visited, their places rise
 pub all_rise : (rows : List Row) → InPlaces rows → (start end : EntryRows) (db after : Trees) → Visits Puts start db rows end after → Rises rows
 all_rise rows sorted start end db after visited = rise start end rows sorted (passed start db rows end after visited)
 
 -- ---- the tables and the world, row by row
 
--- a row shows an entry of the world, whose row of `version` is there
+-- a row shows an entry of the world, and the tables have the row of `version` of that entry
 pub record IsIn (format : Format) (x : World) (db : Trees) (row : Row) : Type 0 where
   pub id : ℤ
   pub place : Place
@@ -145,7 +146,7 @@ pub record IsIn (format : Format) (x : World) (db : Trees) (row : Row) : Type 0 
   pub holds : map.get x.entries place ≡ Some entry
   pub there : Has (db 6) (version_row id place entry)
 
--- the entries of a world and the rows of `version` are those that the rows so far show
+-- the entries of a world, and the rows of `version`, are those that the rows so far show
 pub record Shows (format : Format) (x : World) (db : Trees) (done : List Row) : Type 0 where
   pub each : (row : Row) → Has done row → IsIn format x db row
   pub entry : (q : Place) (e : Entry) → map.get x.entries q ≡ Some e → (row : Row) × Has done row × ((id : ℤ) × IsFitRow format row id q e)
@@ -159,7 +160,7 @@ at_most_one_more : (b : Bool) (n : ℕ) → cond b n (n + 1) ≤ n + 1
 at_most_one_more true n = omega arith
 at_most_one_more false n = omega arith
 
--- the versions of a path after one more entry
+-- one more entry adds at most one to the versions of its path on its shelf, and nothing to those of others
 count_more : (x : World) (q : Place) (e : Entry) (s p : List ℕ) → count (with_entry x q e) s p ≤ count x s p + cond (is_on s p q) 1 0
 count_more x q e s p =
     let test : Place → Bool = λ r. bytes_eq r.shelf s && bytes_eq r.path p in
@@ -179,7 +180,7 @@ count_more x q e s p =
 many_push : (s p : List ℕ) (done : List Row) (row : Row) → many_on s p (done ++ row ∷ []) ≡ many_on s p done + cond (is_on s p (place_in row)) 1 0
 many_push s p done row = filter_push (λ r. is_on s p (place_in r)) done row
 
--- the shelf of an entry is there, as the tables obey the schema
+-- the shelf of an entry exists, because the tables obey the schema
 shelf_there : (after : Trees) (y : World) → StandFor after y → (q : Place) (e : Entry) → map.get y.entries q ≡ Some e → map.contains_key y.shelves q.shelf ≡ true
 shelf_there after y stand q e at =
     let row = stand.means.entries.found (q, e) at in
@@ -210,6 +211,7 @@ module _ (format : Format) (x : World) (db after : Trees) (done : List Row) (row
   pub next_stands : StandFor after next
   next_stands = record { sound = adds.sound; means = entry_means x q e free db after stand.sound adds.added stand.means }
 
+  -- the world with the entry of the next row is a world
   pub next_is : IsWorld next
   next_is = entry_added x q e is (record {
     stands = shelf_there after next next_stands q e (get_put places_total x.entries q e);
@@ -223,7 +225,7 @@ module _ (format : Format) (x : World) (db after : Trees) (done : List Row) (row
     entry = fits.may;
   })
 
-  -- the row of `version` was put in
+  -- the row of `version` that was put in
   abbrev new : Row
   new = version_row id q e
 
@@ -246,6 +248,7 @@ module _ (format : Format) (x : World) (db after : Trees) (done : List Row) (row
   own : IsIn format next after row
   own = record { id = id; place = q; entry = e; fits = fits; holds = get_put places_total x.entries q e; there = new_row }
 
+  -- the entries of the next world, and the rows of `version`, are those that the rows up to this one show
   pub next_shows : Shows format next after (done ++ row ∷ [])
   unfolding own still
   next_shows = record {
@@ -270,7 +273,7 @@ module _ (format : Format) (x : World) (db after : Trees) (done : List Row) (row
         omega (arith, was, more, push);
   }
 
--- nothing is counted of no entry
+-- a map without entries counts none
 neither : (b : Bool) → ◌≡◌ {A = Option Entry} (cond b None None) None
 neither true = refl
 neither false = refl
@@ -282,7 +285,7 @@ none_retained p =
     ∙ ap (λ o. cond (p q) o None) (map.get-empty place_cmp q) ∙ neither (p q) ∙ sym (map.get-empty place_cmp q)))
     ∙ map.len-empty place_cmp Entry
 
--- what all rows make of a world
+-- y is the world x with the entries that the rows show, and the tables stand for it
 pub record Entered (format : Format) (x y : World) (after : Trees) (rows : List Row) : Type 0 where
   pub is : IsWorld y
   pub stand : StandFor after y
@@ -290,6 +293,7 @@ pub record Entered (format : Format) (x y : World) (after : Trees) (rows : List 
   pub shelves : y.shelves ≡ x.shelves
   pub shows : Shows format y after rows
 
+-- if the rows that remain are visited, the tables come to stand for a world with the entries of all rows
 entered : (format : Format) (done rows : List Row) → Rises (done ++ rows) → ((s p : List ℕ) → many_on s p (done ++ rows) ≤ version_limit) → (kept end : EntryRows) (db after : Trees) → kept.format ≡ format → Visits Puts kept db rows end after
     → (x : World) → IsWorld x → StandFor db x → Shows format x db done → (y : World) × Entered format x y after (done ++ rows)
 entered format done [] up small kept end db after own same x is stand shows =
@@ -308,7 +312,7 @@ entered format done (row ∷ rows) up small kept end db after own visited x is s
     let it = rest.1 in
     (rest.0, record { is = it.is; stand = it.stand; keys = it.keys; shelves = it.shelves; shows = subst (λ l. Shows format rest.0 after l) assoc it.shows })
 
--- so it is of a world without entries, where the rows come in the order of their places
+-- if all rows are visited in the order of their places, tables without entries come to stand for a world with the rows' entries
 pub all_entered : (format : Format) (rows : List Row) → InPlaces rows → (start end : EntryRows) (db after : Trees) → start.format ≡ format → start.last ≡ None → Visits Puts start db rows end after
     → (x : World) → IsWorld x → StandFor db x → x.entries ≡ map.empty → (y : World) × Entered format x y after rows
 all_entered format rows sorted start end db after own new visited x is stand none =

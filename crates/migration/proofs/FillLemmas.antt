@@ -9,10 +9,11 @@ use Rattle.older.specs.declared.schema.Format.TheVariants.{One}
 use Rattle.migration.specs.Filled.{PutsEntries, PutsZips, Fills, HasEntries}
 use Rattle.migration.specs.Registry.{IsNamed, PutsShelves, PutsKeys}
 
--- meta, then the shelves, the keys, the versions and the zips
+-- `meta`, then the shelves, the keys, the versions and the zips
 abbrev pub InTurn : Format → Trees → Trees → Trees → Type 0
 InTurn format = Then (Then (Then (Then (IsNamed format) PutsShelves) PutsKeys) (PutsEntries format)) (PutsZips format)
 
+-- the walks over all tables, in turn, make of `common` alone the world that the old tables mean
 pub fills : (format : Format) (old db after : Trees) → InTurn format old db after → Fills format old db after
 fills format old db after it blank sound =
     let fourth = it.1 in
@@ -25,6 +26,6 @@ fills format old db after it blank sound =
     let all = it.2 entries sound in
     record { world = all.world; is = all.is; means = record { named = named.0; shelves = all.shelves; access = all.keys; entries = all.entries }; stands = all.stands }
 
--- in schema 1 the zips came with their versions
+-- in schema 1 nothing remains to be put in, because the zips came with their versions
 pub zips_came : (old db : Trees) → PutsZips One old db db
 zips_came old db was sound = record { world = was.world; is = was.is; shelves = was.shelves; keys = was.keys; entries = was.entries; stands = was.stands }

@@ -22,7 +22,7 @@ use Rattle.migration.specs.Visits.{Visits}
 use Rattle.migration.specs.Registry.{IsGoodKey, IsKeyRow, HasShelves, HasRegistry, PutsKeys}
 use Rattle.migration.proofs.ListedLemmas.{key_columns}
 
--- whatever is kept
+-- what a visit of a row of `access` does, whatever is kept
 abbrev pub Puts : {X : Type 0} → X → Row → Trees → X → Trees → Type 0
 Puts kept row db next after = IsKeyRow row db after
 
@@ -39,7 +39,7 @@ good kept db (r ∷ rows) end after visited row (inr later) = good visited.0 vis
 abbrev IsAmong : List Row → List ℕ × Holder → Type 0
 IsAmong rows it = IsOfAny rows (λ row. ShowsKey row it)
 
--- the shelf of a key is there, as the tables obey the schema
+-- the shelf of a key exists, because the tables obey the schema
 shelf_there : (after : Trees) (y : World) → StandFor after y → (k : List ℕ) (h : Holder) → map.get y.keys k ≡ Some h → map.contains_key y.shelves h.shelf ≡ true
 shelf_there after y stand k h at =
     let row = stand.means.access.found (k, h) at in
@@ -49,13 +49,14 @@ shelf_there after y stand k h at =
     ap (map.contains_key y.shelves) name ∙ ap is_some it.2
 
 module _ (x y : World) (rows : List Row) (adds : AddsKeys (IsAmong rows) x y) (is : IsWorld x) (none : x.keys ≡ map.empty) where
-  -- each key was put in
+  -- each key of y is shown by a row
   among : (k : List ℕ) (h : Holder) → map.get y.keys k ≡ Some h → IsAmong rows (k, h)
   among k h at = elim ((adds.keys (k, h)).0 at) [
     | inl was ↦ absurd (none_in_empty text_cmp k h (ap (λ m. map.get m k) (sym none) ∙ was))
     | inr it ↦ it
   ]
 
+  -- y is a world if each row shows a well-formed key
   keyed : (after : Trees) → StandFor after y → ((row : Row) → Has rows row → IsGoodKey row) → IsWorld y
   keyed after stand each = record {
     has_common = ap (λ m. map.get m common) adds.shelves ∙ is.has_common;
@@ -75,6 +76,7 @@ module _ {X : Type 0} (old : Trees) (kept end : X) (db after : Trees) (rows : Li
   each_good : (row : Row) → Has rows row → IsGoodKey row
   each_good = good kept db rows end after visited
 
+  -- the old rows of `access` are the keys of y
   access_is : (x y : World) → AddsKeys (IsAmong rows) x y → x.keys ≡ map.empty → IsWorld x → Tabulates IsAccess (old 4) (λ it. map.get y.keys it.0 ≡ Some it.1)
   access_is x y adds none is = record {
     each = λ row there.
@@ -88,6 +90,7 @@ module _ {X : Type 0} (old : Trees) (kept end : X) (db after : Trees) (rows : Li
         (from.0, from.1, (shows.0, shows.1, shows.2));
   }
 
+  -- a walk over `access` adds the old keys to a world with the old shelves
   pub puts_keys : PutsKeys old db after
   puts_keys was =
       let passes = keys_passed db after was.world rows was.stands (passed kept db rows end after visited) in

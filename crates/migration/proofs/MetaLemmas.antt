@@ -17,12 +17,13 @@ use Rattle.migration.proofs.ListedLemmas.{meta_columns}
 abbrev pub Puts : MetaRows → Row → Trees → MetaRows → Trees → Type 0
 Puts kept row db next after = NamesSchema kept.number row × ((next.number ≡ kept.number) × ((next.has_row ≡ true) × (after ≡ db)))
 
--- nothing is put in, each row names the schema, and if one was seen there is one
+-- nothing is put in, each row names the schema, and if `has_row` is true at the end, it was at the start or there is a row
 record IsMet (kept : MetaRows) (db : Trees) (rows : List Row) (end : MetaRows) (after : Trees) : Type 0 where
   same : after ≡ db
   each : (row : Row) → Has rows row → NamesSchema kept.number row
   some : end.has_row ≡ true → (kept.has_row ≡ true) ⊎ ((row : Row) × Has rows row)
 
+-- rows of `meta` that are visited are met: nothing is put in, and each names the schema
 met : (kept : MetaRows) (db : Trees) (rows : List Row) (end : MetaRows) (after : Trees) → Visits Puts kept db rows end after → IsMet kept db rows end after
 met kept db [] end after same = record { same = same.1; each = λ row there. absurd there; some = λ has. inl (ap (λ (x : MetaRows). x.has_row) (sym same.0) ∙ has) }
 met kept db (r ∷ rows) end after visited =
@@ -39,6 +40,7 @@ module _ (f : Format) (old : Trees) (kept end : MetaRows) (db after : Trees) (ro
   names_it : (row : Row) → Has (old 0) row → IsMeta row (codes "schema", number_of f)
   names_it row there = let it = (met kept db rows end after visited).each _ (found.complete row there refl) in (it.0, it.1 ∙ ap (λ n. Rattle.sqlite.specs.declared.types.Value.TheVariants.Int n) is)
 
+  -- if a row was seen, `meta` names the schema and nothing else
   pub named : end.has_row ≡ true → IsNamed f old db after
   named has =
       let it = met kept db rows end after visited in (
@@ -52,7 +54,7 @@ module _ (f : Format) (old : Trees) (kept end : MetaRows) (db after : Trees) (ro
         it.same,
       )
 
--- the number stays what it is as a machine number
+-- the number of a schema fits in a machine number
 pub wrapped : (f : Format) (n : ℤ) → n ≡ number_of f → to_z w64 (of_z w64 n) ≡ number_of f
 wrapped f n is = ap (λ x. to_z w64 (of_z w64 x)) is ∙ at f
   where

@@ -71,7 +71,7 @@ pub one_unlisted : reads_listing schema_1 one_text ≡ false
 unfolding understood everything
 one_unlisted = refl
 
--- what is read of a row and of its body
+-- what the query reads from a row and its body
 abbrev shown : Row → Row → Row
 shown row body = column row 2 ∷ column row 3 ∷ column row 4 ∷ column row 5 ∷ column row 6 ∷ column row 0 ∷ column body 2 ∷ []
 
@@ -82,7 +82,7 @@ goes_with row body = list_all (holds ([] ∷ row ∷ body ∷ [])) by_number
 abbrev pub bodies_of : Row → List Row → List Row
 bodies_of row bodies = or_nulls (filter (goes_with row) bodies)
 
--- ---- a row of nothing where there is none
+-- ---- a row of NULLs for a version without a body
 
 some_body : (bodies : List Row) → (b : Row) × Has (or_nulls bodies) b
 some_body [] = ([], inl refl)
@@ -92,7 +92,7 @@ among : (bodies : List Row) (b : Row) → Has bodies b → Has (or_nulls bodies)
 among [] b there = absurd there
 among (x ∷ bodies) b there = there
 
--- what has a zip is a row
+-- a body that has a zip is a row, and not the row of NULLs
 is_body : (bodies : List Row) (b : Row) (zip : List ℕ) → Has (or_nulls bodies) b → column b 2 ≡ Blob zip → Has bodies b
 is_body [] b zip (inl none) has = let never : ◌≡◌ {A = Value} Null (Blob zip) = sym (ap (λ (r : Row). column r 2) none) ∙ has in absurd (cc)
 is_body [] b zip (inr none) has = absurd none
@@ -115,7 +115,7 @@ module _ (old : Database) (rows : List Row) (reads : Reads (command_of (understo
   abbrev pairs_of : Row → List (List Row)
   pairs_of row = flat_map (λ b. ([] ∷ row ∷ b ∷ []) ∷ []) (bodies_of row (old.trees 8))
 
-  -- a row that is shown is of a version and of a body of it, or of nothing
+  -- a row that is shown is that of a version and of one of its bodies, or of NULLs
   record IsOf (s : Row) : Type 0 where
     row : Row
     body : Row
@@ -145,6 +145,7 @@ module _ (old : Database) (rows : List Row) (reads : Reads (command_of (understo
     numbered : (row body : Row) → Has (filter (goes_with row) (old.trees 8)) body → Has (old.trees 8) body × (is_numbered_as body row ≡ true)
     numbered row body there = let it = has_filtered (goes_with row) (old.trees 8) body there in (it.0, (and_parts _ _ it.1).0)
 
+    -- a version whose row is fit has a body, and each of its bodies holds the zip of the entry
     has_body : (row body : Row) (id : _) (q : Place) (e : Entry) → Has (old.trees 6) row → Has (bodies_of row (old.trees 8)) body → IsFitRow One (shown row body) id q e → HasBody (old.trees 8) row e.zip
     has_body row body id q e there has fits =
         let it = numbered row body (is_body _ body e.zip has fits.zip) in
@@ -163,6 +164,7 @@ module _ (old : Database) (rows : List Row) (reads : Reads (command_of (understo
         let shows = fits.shows in
         record { place = (shows.shelf, shows.path, shows.version); time = shows.time; gomod = shows.gomod; zip = has_body row body id q e there has fits }
 
+    -- the rows of `version`, with their rows of `body`, are the entries of y
     entries_are : (x y : World) → Entered One x y after rows → Tabulates (IsWithBody (old.trees 8)) (old.trees 6) (λ it. map.get y.entries it.0 ≡ Some it.1)
     entries_are x y all = record {
       each = λ row there.
@@ -175,6 +177,7 @@ module _ (old : Database) (rows : List Row) (reads : Reads (command_of (understo
           (of.row, of.there, entry_of of.row of.body from.2.0 it.0 it.1 of.there of.has (subst (λ s. IsFitRow One s from.2.0 it.0 it.1) of.is from.2.1));
     }
 
+    -- the walk over the versions of schema 1 adds their entries to a world with the old shelves and keys
     pub has_entries : HasRegistry old.trees db → HasEntries One old.trees after
     has_entries was =
         let it = all_entered One rows sorted start end db after own new visited was.world was.is was.stands was.entries in

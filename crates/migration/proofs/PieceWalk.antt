@@ -37,11 +37,11 @@ pub piece_unlisted : reads_listing schema_2 piece_rows_text ≡ false
 unfolding understood everything
 piece_unlisted = refl
 
--- the same rows in tables of today
+-- the old trees as a database of today's schema
 abbrev today : Trees → Database
 today trees = record { schema = store_schema; trees = trees }
 
--- today the query reads the same rows of them
+-- the query reads from the old trees, as a database of today's schema, what it reads from the old tables
 read_today : (old : Database) (rows : List Row) → Reads (command_of (understood schema_2 piece_rows_text)) old [] rows → Reads (command_of (understood store_schema piece_rows_text)) (today old.trees) [] rows
 unfolding understood everything
 read_today old rows reads =
@@ -49,7 +49,7 @@ read_today old rows reads =
     subst (λ k. Reads k (today old.trees) [] rows) (sym piece_rows_is) (record { typed = refl; answer = read.answer })
 
 module _ (old : Database) (rows : List Row) (reads : Reads (command_of (understood schema_2 piece_rows_text)) old [] rows) (start stop : ZipRows) (db after : Trees) (new : start.last ≡ None) (visited : Visits Puts start db rows stop after) where
-  -- the walk is today's test of them
+  -- the walk tests the pieces as today's test does, so they are fit
   fit : ArePiecesFit (mapped piece_shown (old.trees 8))
   fit = pieces_true (today old.trees) (tested start) (tested stop) (ap last_one new) (rows, read_today old rows reads, passed start stop db after rows visited)
 

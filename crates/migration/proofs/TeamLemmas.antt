@@ -45,7 +45,7 @@ Shelf = List ℕ × Option (List ℕ)
 shelf_parts : (a b : Shelf) → a ≡ b → (a.0 ≡ b.0) × (a.1 ≡ b.1)
 shelf_parts a b e = (ap (λ (p : Shelf). p.0) e, ap (λ (p : Shelf). p.1) e)
 
--- at the start there are none
+-- a world of `common` alone has no teams
 no_teams : (names : Names) → names ≡ set.empty → HasTeams names only_common
 no_teams names none = record {
   is = only_common_stands;
@@ -58,7 +58,7 @@ no_teams names none = record {
   entries = refl;
 }
 
--- common is no name of a team
+-- `common` is not the name of a team
 not_common : (s : List ℕ) → is_team_name s ≡ true → s ≡ common → ⊥
 not_common s good same = true≢false (sym good ∙ ap is_team_name same)
 
@@ -73,6 +73,7 @@ module _ (names : Names) (x : World) (has : HasTeams names x) (name : List ℕ) 
         | inr team ↦ absurd (true≢false (sym team.0 ∙ new))
       ]
 
+  -- a world of `common` and some teams, with one more team, is a world of `common` and these teams
   one_team : (more : Names) → more ≡ set.insert names name → HasTeams more (with_shelf x name (Some common))
   one_team more is = record {
     is = shelf_stands x name (Some common) (ap is_some free) has.is good (λ g same. let e : common ≡ g = cc same in subst (λ t. map.get x.shelves t ≡ Some None) e has.is.has_common);
@@ -91,9 +92,9 @@ module _ (names : Names) (x : World) (has : HasTeams names x) (name : List ℕ) 
     entries = has.entries;
   }
 
--- ---- the rows, one after the other
+-- ---- the rows, one after another
 
--- what came stays noted
+-- a team that is noted stays noted
 grown : (kept : ShelfRows) (db : Trees) (rows : List Row) (end : ShelfRows) (after : Trees) → Visits Puts kept db rows end after → (s : List ℕ) → set.contains kept.names s ≡ true → set.contains end.names s ≡ true
 grown kept db [] end after same s there = ap (λ (x : ShelfRows). set.contains x.names s) same.0 ∙ there
 grown kept db (r ∷ rows) end after visited s there = grown visited.0 visited.1 rows end after visited.3 s (elim visited.2 [
@@ -127,10 +128,11 @@ noted_all kept db (r ∷ rows) end after visited row (inl here) = subst (IsNoted
       inr (it.name, it.shows, it.good, grown visited.0 visited.1 rows end after visited.3 it.name (ap (λ (n : Names). set.contains n it.name) it.noted ∙ text_put kept.names it.name))
 ])
 
--- what is noted at the end was at the start, or has a row
+-- a row shows this name
 abbrev HasRow : List Row → List ℕ → Type 0
 HasRow rows s = (row : Row) × Has rows row × (column row 0 ≡ Text s)
 
+-- a team that is noted at the end was noted at the start, or a row shows it
 came : (kept : ShelfRows) (db : Trees) (rows : List Row) (end : ShelfRows) (after : Trees) → Visits Puts kept db rows end after → (s : List ℕ) → set.contains end.names s ≡ true → (set.contains kept.names s ≡ true) ⊎ HasRow rows s
 came kept db [] end after same s there = inl (ap (λ (x : ShelfRows). set.contains x.names s) (sym same.0) ∙ there)
 came kept db (r ∷ rows) end after visited s there = elim (came visited.0 visited.1 rows end after visited.3 s there) [
@@ -160,7 +162,7 @@ apart : (b : Bool) → not b ≡ true → b ≡ false
 apart true h = absurd (true≢false (sym h))
 apart false h = refl
 
--- a team has the parent common
+-- the parent of a team is `common`
 parent_common : (s : List ℕ) → is_team_name s ≡ true → parent_of s ≡ Some common
 parent_common s good = ap (λ b. cond b None (Some common)) (apart (bytes_eq s common) (and_parts _ _ good).1)
 
@@ -175,7 +177,7 @@ module _ (old : Trees) (kept end : ShelfRows) (db after : Trees) (rows : List Ro
   row_of : (s : List ℕ) → HasRow rows s → (row : Row) × Has (old 2) row × (column row 1 ≡ Text s)
   row_of s it = let from = found.sound it.0 it.1 in (from.0, from.1, ap (λ (r : Row). column r 0) (sym from.3) ∙ it.2)
 
-  -- a shelf of the world has a row, and its parent is the one of its name
+  -- each shelf of the world has a row, and its parent is the one that its name determines
   of_shelf : (y : World) → HasTeams end.names y → (it : List ℕ × Option (List ℕ)) → map.get y.shelves it.0 ≡ Some it.1 → (row : Row) × Has (old 2) row × IsShelf row it
   of_shelf y teams it at = elim (teams.each it.0 it.1 at) [
     | inl top ↦ elim (top_came kept db rows end after visited has) [

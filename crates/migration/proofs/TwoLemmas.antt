@@ -54,7 +54,7 @@ pub two_unlisted : reads_listing schema_2 two_text ≡ false
 unfolding understood everything
 two_unlisted = refl
 
--- what is read of a row
+-- what the query reads from a row
 abbrev shown : Row → Row
 shown row = column row 2 ∷ column row 3 ∷ column row 4 ∷ column row 5 ∷ column row 6 ∷ column row 0 ∷ column row 7 ∷ column row 8 ∷ []
 
@@ -76,6 +76,7 @@ module _ (old : Database) (rows : List Row) (reads : Reads (command_of (understo
 
   module _ (start end : EntryRows) (db after : Trees) (own : start.format ≡ Two) (new : start.last ≡ None) (visited : Visits Puts start db rows end after) where
     module _ (x y : World) (all : Entered Two x y after rows) where
+      -- the fresh rows of `version` show what the old ones show
       alike : AreAlike version_read (old.trees 6) (after 6)
       alike = record {
         there = λ row there.
@@ -95,7 +96,7 @@ module _ (old : Database) (rows : List Row) (reads : Reads (command_of (understo
               λ i. sym (sym (at 5) ∙ it.fits.number) i ∷ sym (sym (at 0) ∙ shows.shelf) i ∷ sym (sym (at 1) ∙ shows.path) i ∷ sym (sym (at 2) ∙ shows.version) i
               ∷ sym (sym (at 3) ∙ shows.time) i ∷ sym (sym (at 4) ∙ shows.gomod) i ∷ sym (sym (at 6) ∙ keys.0) i ∷ sym (sym (at 7) ∙ keys.1) i ∷ []
 
-      -- as each zip is empty so far
+      -- no row of `piece` is there, because each zip is empty so far
       no_piece : after 8 ≡ []
       no_piece = none_there (after 8) (λ b there.
           let v = piece_version after all.stand.sound b there in
@@ -106,6 +107,7 @@ module _ (old : Database) (rows : List Row) (reads : Reads (command_of (understo
           let none : length it.0.1.zip ≡ 0 = ap length from.2.1.zip in
           omega (arith, has, none))
 
+    -- the walk over the versions of schema 2 adds their entries, without zips, to a world with the old shelves and keys
     pub has_entries : HasRegistry old.trees db → HasEntries Two old.trees after
     has_entries was =
         let it = all_entered Two rows sorted start end db after own new visited was.world was.is was.stands was.entries in

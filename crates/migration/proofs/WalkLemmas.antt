@@ -29,7 +29,7 @@ module _ (schema : Schema) (sql : List ℕ) (plain : IsPlain (understood schema 
   all_shown unlisted old mid new has same rows shown =
       subst (λ db. Reads (command_of (understood schema sql)) db [] rows) same.0.now_is (reads_as sql [] mid new schema (ap (λ (d : Database). d.schema) same.0.now_is ∙ has) _ refl plain unlisted rows shown)
 
--- it was only read, if no commit was made and it is as it was, or rolled back
+-- a store is only read if nothing is committed and it is unchanged, or rolled back by a call that is not done
 pub quiet_read : (old new : State) (done : Bool) → Survives old new (λ _. ⊥) → (HasCleanDisk new → IsUnchanged old new ⊎ IsRolledBack old new) → (HasCleanDisk new → IsTrue done → IsUnchanged old new) → IsReadBy old new done
 quiet_read old new done survives kept same = record {
   left = λ clean db may. elim (survives.crash clean db may) [ inl was ↦ was | inr none ↦ absurd none ];
@@ -37,11 +37,11 @@ quiet_read old new done survives kept same = record {
   same = same;
 }
 
--- what was read so far, where not all was done
+-- what is read by a call of either outcome is read by a call that is not done
 pub read_part : (old new : State) (done : Bool) → IsReadBy old new done → IsReadBy old new false
 read_part old new done read = record { left = read.left; kept = read.kept; same = λ _ all. absurd (true≢false (sym all)) }
 
--- the rows so far, and one more step
+-- the rows so far, and one step more
 module _ (old mid new : State) (first : Survives old mid (λ _. ⊥)) (same : HasCleanDisk mid → IsUnchanged old mid) (next : Survives mid new (λ _. ⊥)) where
   pub then_survives : Survives old new (λ _. ⊥)
   then_survives = survives_then old mid new _ _ (λ _. ⊥) (λ _ db none. none) (λ _ db none. none) first next
@@ -71,6 +71,7 @@ module _ (format : Format) (P Q : Trees → Trees → Trees → Type 0) (s t u a
       let same = (p.reads ready).same clean refl in
       (same.0.is_open, ap (λ (d : Database). d.schema) same.0.now_is ∙ (ready (was_clean s t p.clean clean)).1)
 
+  -- a walk that is done, and then another over the same stores, are one walk
   pub moves_then : Moves format (Then P Q) s u a c done
   moves_then = record {
     clean = let one = p.clean in let two = q.clean in omega (arith, one, two);
@@ -93,7 +94,7 @@ module _ (format : Format) (P Q : Trees → Trees → Trees → Type 0) (s t u a
         ((b.now.trees, one.0, subst (λ (d : Database). Q d.trees b.now.trees c.now.trees) now two.0), two.1);
   }
 
--- ---- what is said of a call's result
+-- ---- clauses by the result of a call
 
 pub done_ok : {E : Type 0} (r : Result Bool E) → IsTrue (is_done r) → IsTrue (is_ok r)
 done_ok (Ok all) done = refl
@@ -112,7 +113,7 @@ if_done (Ok all) f it = λ done. f (it done)
 if_done (Err e) f it = tt
 
 module _ (format : Format) (Makes : Trees → Trees → Trees → Type 0) (s t a b : State) (up : doubt s.is_clean ≤ doubt t.is_clean) where
-  -- all is done only where each row was visited
+  -- a walk moves what it makes if it reads the old store, goes on in the fresh one, and is done only if each row was visited
   pub moves_part : (whole done : Bool) → (IsTrue done → IsTrue whole) → (s.now.schema ≡ schema_of format → IsReadBy s t whole) → (s.now.schema ≡ schema_of format → Survives s t (λ _. ⊥)) → GoesOn a b whole
       → (HasCleanDisk t → HasCleanDisk b → s.now.schema ≡ schema_of format → Filling a → IsTrue done → Makes s.now.trees a.now.trees b.now.trees × Filling b) → Moves format Makes s t a b done
   moves_part whole done less read survives goes makes =
@@ -133,7 +134,7 @@ module _ (format : Format) (Makes : Trees → Trees → Trees → Type 0) (s t a
       → (HasCleanDisk t → HasCleanDisk b → s.now.schema ≡ schema_of format → Filling a → IfOk r (λ all. IsTrue all → Makes s.now.trees a.now.trees b.now.trees × Filling b)) → Moves format Makes s t a b (is_done r)
   moves_of r read survives goes makes = moves_part (is_ok r) (is_done r) (done_ok r) read survives goes (λ clean good has filling all. when_done r all (makes clean good has filling))
 
--- the same said by less
+-- a walk that makes P makes each Q that P implies
 pub moves_weaker : (format : Format) (P Q : Trees → Trees → Trees → Type 0) (s t a b : State) (done : Bool) → ((old db after : Trees) → P old db after → Q old db after) → Moves format P s t a b done → Moves format Q s t a b done
 moves_weaker format P Q s t a b done less p = record {
   clean = p.clean;
@@ -143,7 +144,7 @@ moves_weaker format P Q s t a b done less p = record {
   makes = λ clean good ready filling all. let it = p.makes clean good ready filling all in (less s.now.trees a.now.trees b.now.trees it.0, it.1);
 }
 
--- where not all was done, nothing is said of what it makes
+-- a walk that is not done is a walk that makes anything, because `makes` speaks only of walks that are done
 pub moves_none : (format : Format) (P Q : Trees → Trees → Trees → Type 0) (s t a b : State) → Moves format P s t a b false → Moves format Q s t a b false
 moves_none format P Q s t a b p = record {
   clean = p.clean;

@@ -1,4 +1,4 @@
--- A fresh store that is filled within a transaction, once that ends.
+-- A fresh store after the end of the transaction that filled it.
 use Rattle.std.proofs.Common.{◌≡◌, ◌≤◌, ◌⊎◌, Bool, true, false, IsTrue, true≢false, inl, inr, refl, sym, ◌∙◌, arith}
 use Rattle.sqlite_trees.specs.View.{doubt}
 use Rattle.sqlite_trees.specs.declared.store.Store.{Ghosts}
@@ -20,12 +20,13 @@ use Rattle.migration.specs.Filled.{Fills, Migrates, IsOfTables}
 use Rattle.migration.specs.Visits.{Moves, IsReadyAs}
 use Rattle.migration.proofs.WalkLemmas.{unchanged_itself}
 
--- the world that was written, if all was
+-- a world that may be written, for which the connection stands inside the transaction if all was done
 pub record HasWritten (format : Format) (old last : State) (done : Bool) : Type 0 where
   pub world : World
   pub was : IsOfTables format old.now done world
   pub writing : IsTrue done → Writing last world
 
+-- after a fill inside a transaction that began with `common` alone, there is such a world
 pub written : (format : Format) (old read start last : State) (done : Bool) → Moves format (Fills format) old read start last done → HasCleanDisk read → HasCleanDisk last → IsReadyAs format old → Writing start only_common → HasWritten format old last done
 written format old read start last false fills clean late ready begun = record { world = only_common; was = inr (refl, refl); writing = λ done. absurd (true≢false (sym done)) }
 written format old read start last true fills clean late ready begun =
@@ -37,9 +38,9 @@ written format old read start last true fills clean late ready begun =
       writing = λ _. record { schema = it.1.schema; trees = has.stands; is_open = it.1.is_open; inside = it.1.inside };
     }
 
--- ---- the call
+-- ---- the call `write_world`
 
--- no transaction began
+-- a call that began no transaction migrates nothing
 pub migrates_nothing : (format : Format) (s f : State) → Migrates format s s f f false
 migrates_nothing format s f = record {
   clean = omega arith;
@@ -57,7 +58,7 @@ migrates_nothing format s f = record {
   );
 }
 
--- so it is where less was done
+-- a world that may be written may be written too if less is done
 of_fewer : (format : Format) (db : Database) (w : World) (done end : Bool) → (IsTrue end → IsTrue done) → IsOfTables format db done w → IsOfTables format db end w
 of_fewer format db w done end less (inl is) = inl is
 of_fewer format db w done true less (inr rest) = absurd (true≢false (sym (less refl) ∙ rest.0))
@@ -69,7 +70,7 @@ ended_clean P last exit false whole lost = (lost refl).clean
 
 module _ {S : Type 0} (g : Ghosts S) (h : Held S) (format : Format) (old read last exit : State) (done : Bool) (fills : Moves format (Fills format) old read (state g (record h { in_transaction = true })) last done)
     (whole : IsTrue done → Survives last exit (λ db. db ≡ last.now.trees)) (lost : done ≡ false → Survives last exit (λ _. ⊥)) where
-  -- it ended in one of the two ways
+  -- the call migrates, whichever way its transaction ended
   pub migrates : (end : Bool) → (IsTrue end → IsTrue done) → (IsReadBy old read done → IsReadBy old read end)
       → ((next : World) → (HasCleanDisk (state g h) → IsTrue (state g h).is_open) → (HasCleanDisk last → Stands (state g h) only_common → IsTrue done → Writing last next) → ChangesAt (state g h) exit end only_common next)
       → Migrates format old read (state g h) exit end

@@ -26,7 +26,7 @@ use Rattle.migration.specs.Zips.{last_one}
 abbrev pub Puts : ZipRows → Row → Trees → ZipRows → Trees → Type 0
 Puts kept row db next after = IsPieceRow row × (MayGoOn (last_one kept.last) (piece_in row) × ((last_one next.last ≡ Some (piece_in row)) × PutsPiece row db after))
 
--- ---- one row more is one more in some place
+-- ---- a row that is put in is put in at some place
 
 abbrev Put : Ordering → Row → Row → List Row → List Row
 Put o new r rows = match_ordering o (r ∷ put_row new rows) (new ∷ rows) (new ∷ r ∷ rows)
@@ -59,7 +59,7 @@ one_permuted new rows fresh = put_permuted new rows (not_true _ (and_parts _ _ f
 abbrev cut : Row → Row
 cut row = column row 0 ∷ column row 1 ∷ column row 2 ∷ []
 
--- what is read of the rows is what was read, and the rows that were put in
+-- what is read from the fresh rows is what was read before and the rows that were put in, in some order
 put_pieces : (kept end : ZipRows) (db after : Trees) (rows : List Row) → Visits Puts kept db rows end after → IsPermutation (map cut rows ++ map piece_shown (db 8)) (map piece_shown (after 8))
 put_pieces kept end db after [] same = subst (λ t. IsPermutation (map piece_shown (db 8)) (map piece_shown (t 8))) (sym same.1) (IsPermutation-refl _)
 put_pieces kept end db after (row ∷ rows) visited =
@@ -77,7 +77,7 @@ else_same kept end db after (row ∷ rows) visited = else_then piece_table db vi
 abbrev pub FirstOf : {A : Type 0} → (A → Row → Type 0) → Type 0
 FirstOf {A} P = A
 
--- what is kept, as today's test keeps it
+-- what the visitor keeps, as today's test keeps it
 abbrev pub tested : ZipRows → FirstOf PieceFits
 tested kept = record { last = last_one kept.last }
 
@@ -86,11 +86,12 @@ pub passed : (kept end : ZipRows) (db after : Trees) (rows : List Row) → Visit
 passed kept end db after [] same = ap tested same.0
 passed kept end db after (row ∷ rows) visited = let it = visited.2 in ((it.0, it.1.0), tested visited.0, it.1.1.0, passed visited.0 end visited.1 after rows visited.3)
 
--- ---- what is fit stays so in another order
+-- ---- fit pieces in another order
 
 abbrev Apart : Row → Row → Type 0
 Apart a b = piece_key a ≡ piece_key b → ⊥
 
+-- pieces that are fit are fit in another order
 pub pieces_permuted : (xs ys : List Row) → IsPermutation xs ys → ArePiecesFit xs → ArePiecesFit ys
 pieces_permuted xs ys same fit = record {
   pieces = record {
@@ -106,7 +107,7 @@ cut_shown : (rows : List Row) → map cut (map piece_shown rows) ≡ map piece_s
 cut_shown [] = refl
 cut_shown (r ∷ rows) = ap (λ l. piece_shown r ∷ l) (cut_shown rows)
 
--- where there was none, what is read of the fresh rows is what is read of the old ones
+-- if there were no pieces, what is read from the fresh rows is what is read from the old ones, in some order
 pub same_pieces_read : (old db after : Trees) (kept end : ZipRows) (rows : List Row) → IsPermutation (map piece_shown (old 8)) rows → db 8 ≡ [] → Visits Puts kept db rows end after → IsPermutation (map piece_shown (old 8)) (map piece_shown (after 8))
 same_pieces_read old db after kept end rows listed none visited =
     let put = subst (λ l. IsPermutation l (map piece_shown (after 8))) (ap (λ l. map cut rows ++ map piece_shown l) none ∙ append-nil (map cut rows)) (put_pieces kept end db after rows visited) in

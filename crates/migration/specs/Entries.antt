@@ -1,4 +1,4 @@
--- What the rows of `version`, and those of its zips, make of a fresh store.
+-- What the rows of `version`, and the rows of their zips, make of a fresh store.
 use Rattle.std.specs.Prelude.{ℤ, ℕ, ◌≡◌, List, [], Option, Some}
 use Rattle.sqlite.specs.declared.types.Value.TheVariants.{Int, Text, Blob}
 use Rattle.sqlite.specs.Order.{Row, column}
@@ -16,7 +16,7 @@ use Rattle.older.specs.declared.schema.Format.TheVariants.{One, Two}
 use Rattle.statements.specs.Added.{HasAdded}
 use Rattle.migration.specs.declared.put.Keyed.{Keyed}
 
--- a row shows an entry but for its zip
+-- a row shows the place, the time and the go.mod of an entry
 pub record ShowsEntry (row : Row) (q : Place) (e : Entry) : Type 0 where
   pub shelf : column row 0 ≡ Text q.shelf
   pub path : column row 1 ≡ Text q.path
@@ -24,17 +24,17 @@ pub record ShowsEntry (row : Row) (q : Place) (e : Entry) : Type 0 where
   pub time : column row 3 ≡ or_null Text e.time
   pub gomod : column row 4 ≡ Blob e.gomod
 
--- In schema 1 a row shows the zip. In schema 2 it is empty so far.
+-- In schema 1 a row shows the zip. In schema 2 the zip is empty so far.
 abbrev pub ShowsZip : Format → Row → List ℕ → Type 0
 ShowsZip One row zip = column row 6 ≡ Blob zip
 ShowsZip Two row zip = zip ≡ []
 
--- in schema 2 a row shows the keys of order
+-- In schema 2 a row shows the order keys. In schema 1 it has none.
 abbrev pub ShowsKeys : Format → Row → List ℕ → List ℕ → Type 0
 ShowsKeys One row order rank = Unit {0}
 ShowsKeys Two row order rank = (column row 6 ≡ Blob order) × (column row 7 ≡ Blob rank)
 
--- a row shows an entry that may stand at its place, and its number
+-- a row shows an entry that may stand at its place, its number and its order keys
 pub record IsFitRow (format : Format) (row : Row) (id : ℤ) (q : Place) (e : Entry) : Type 0 where
   pub shows : ShowsEntry row q e
   pub number : column row 5 ≡ Int id
@@ -42,17 +42,17 @@ pub record IsFitRow (format : Format) (row : Row) (id : ℤ) (q : Place) (e : En
   pub keys : ShowsKeys format row (order_key_at q.version) (rank_key_at q.version)
   pub may : IsEntry q e
 
--- the keys are those of the version
+-- the order keys are those of the version
 abbrev pub IsKeyed : Keyed → Type 0
 IsKeyed k = (k.order.items ≡ order_key_at k.shown.version.now) × (k.rank.items ≡ rank_key_at k.shown.version.now)
 
--- the rows of an entry are put in, with this number
+-- the rows of an entry are put in under this number
 pub record AddsAs (id : ℤ) (q : Place) (e : Entry) (db after : Trees) : Type 0 where
   pub added : HasAdded db after q e
   pub number : added.id ≡ id
   pub sound : IsSound store_schema after
 
--- a row shows an entry that may follow the last one, and it is put in
+-- a row shows an entry that may follow the last one, and the rows of the entry are put in
 pub record PutsEntry (format : Format) (last : Option Place) (many : ℕ) (row : Row) (db after : Trees) (now : Option Place) (more : ℕ) : Type 0 where
   pub id : ℤ
   pub place : Place

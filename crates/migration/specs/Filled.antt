@@ -23,18 +23,18 @@ use Rattle.migration.specs.Visits.{IsReadyAs}
 
 -- ---- entries
 
--- of the rows of one table is read what is read of those of another
+-- from the rows of one table is read what is read from the others
 pub record AreAlike (read : Row → Row) (rows others : List Row) : Type 0 where
   pub there : (row : Row) → Has rows row → (other : Row) × Has others other × (read other ≡ read row)
   pub back : (other : Row) → Has others other → (row : Row) × Has rows row × (read other ≡ read row)
 
--- In schema 1 the old rows of `version` and of `body` are the entries of the world. In schema 2 the fresh rows of `version` are as the old ones, and
--- have no pieces yet.
+-- In schema 1 the old rows of `version` and of `body` are the entries of the world. In schema 2 the fresh rows of `version`
+-- show what the old ones show, and no version has a piece yet.
 abbrev pub AreEntered : Format → Trees → Trees → World → Type 0
 AreEntered One old after w = Tabulates (IsEntryIn One old) (old version_table.tree) (λ it. map.get w.entries it.0 ≡ Some it.1)
 AreEntered Two old after w = AreAlike version_read (old version_table.tree) (after version_table.tree) × (after piece_table.tree ≡ [])
 
--- the tables stand for a world with the old registry, and the entries were put in
+-- the tables stand for a world with the old shelves and keys, and the entries were put in
 pub record HasEntries (format : Format) (old after : Trees) : Type 0 where
   pub world : World
   pub is : IsWorld world
@@ -46,7 +46,7 @@ pub record HasEntries (format : Format) (old after : Trees) : Type 0 where
 abbrev pub PutsEntries : Format → Trees → Trees → Trees → Type 0
 PutsEntries format old db after = HasRegistry old db → HasEntries format old after
 
--- the tables stand for a world with the old registry and the old entries
+-- the tables stand for a world with the old shelves, keys and entries
 pub record HasAll (format : Format) (old after : Trees) : Type 0 where
   pub world : World
   pub is : IsWorld world
@@ -67,18 +67,18 @@ pub record HasWorld (format : Format) (old after : Trees) : Type 0 where
   pub means : Means format old world
   pub stands : StandFor after world
 
--- of `common` alone is made what the old tables mean
+-- tables that stood for `common` alone come to stand for what the old ones mean
 abbrev pub Fills : Format → Trees → Trees → Trees → Type 0
 Fills format old db after = StandFor db only_common → IsSound store_schema after → HasWorld format old after
 
--- ---- a call
+-- ---- the call `write_world`
 
--- the world that may be written is what the old tables mean, or where not all was done, nothing beside common
+-- the world is the one that the old tables stand for, or `common` alone if the call is not done
 abbrev pub IsOfTables : Format → Database → Bool → World → Type 0
 IsOfTables format db done w = StandsAs format db w ⊎ ((done ≡ false) × (w ≡ only_common))
 
--- The older store is only read. The fresh one, which stood for common alone, stands for what the old tables mean once that is done, and for common alone
--- otherwise. A crash leaves one of the two, and once it is done the world alone.
+-- The older store is only read. The fresh store, which stood for `common` alone, stands for the world of the old tables if
+-- the call is done, and for `common` alone otherwise. A crash leaves one of the two, and that world alone once the call is done.
 pub record Migrates (format : Format) (old old_new fresh fresh_new : State) (done : Bool) : Type 0 where
   pub clean : doubt old.is_clean ≤ doubt old_new.is_clean
   pub reads : IsReadyAs format old → IsReadBy old old_new done

@@ -17,21 +17,21 @@ use Rattle.statements.specs.Extract.{PutsShelf, ShowsKey, PutsKey}
 
 -- ---- meta
 
--- a row shows the number of the schema
+-- a row shows the number of the schema under the name `schema`
 abbrev pub NamesSchema : ℤ → Row → Type 0
 NamesSchema number row = (column row 0 ≡ Text (codes "schema")) × (column row 1 ≡ Int number)
 
--- the tables name the schema, and nothing is put in
+-- `meta` names the schema and nothing else, and nothing is put in
 abbrev pub IsNamed : Format → Trees → Trees → Trees → Type 0
 IsNamed format old db after = Tabulates IsMeta (old meta_table.tree) (λ it. it ≡ (codes "schema", number_of format)) × (after ≡ db)
 
 -- ---- shelves
 
--- the row of common, for which nothing is put in
+-- a row shows `common`, and nothing is put in for it
 abbrev pub IsCommonRow : Row → Trees → Trees → Type 0
 IsCommonRow row db after = (column row 0 ≡ Text common) × (after ≡ db)
 
--- the row of a team that has not come, which is put in without a group
+-- a row shows a team that has not come before, and the team is put in without a group
 pub record IsTeamRow (names : set.FinSet text_cmp) (row : Row) (db after : Trees) (more : set.FinSet text_cmp) : Type 0 where
   pub name : List ℕ
   pub shows : column row 0 ≡ Text name
@@ -40,7 +40,7 @@ pub record IsTeamRow (names : set.FinSet text_cmp) (row : Row) (db after : Trees
   pub noted : more ≡ set.insert names name
   pub puts : PutsShelf name (Some common) db after
 
--- of `common` alone the tables become those of a world with the old shelves, and nothing else
+-- the tables stand for a world with the old shelves and nothing else
 pub record HasShelves (old after : Trees) : Type 0 where
   pub world : World
   pub is : IsWorld world
@@ -54,7 +54,7 @@ PutsShelves old db after = StandFor db only_common → HasShelves old after
 
 -- ---- keys
 
--- a column is a right
+-- a column shows a right: 1 if it may publish, otherwise 0
 abbrev pub ShowsRight : Row → ℕ → Right → Type 0
 ShowsRight row at right = column row at ≡ Int (if may_publish right then pos 1 else pos 0)
 
@@ -62,15 +62,15 @@ ShowsRight row at right = column row at ≡ Int (if may_publish right then pos 1
 abbrev pub ShowsAs : Row → List ℕ → List ℕ → Right → Type 0
 ShowsAs row token shelf right = (column row 0 ≡ Text token) × (column row 1 ≡ Text shelf) × ShowsRight row 2 right
 
--- a row shows a well formed key, its shelf and its right
+-- a row shows a well-formed key, its shelf and its right
 abbrev pub IsGoodKey : Row → Type 0
 IsGoodKey row = (it : List ℕ × Holder) × ShowsKey row it × (is_key it.0 ≡ true)
 
--- which is put in
+-- a row shows a well-formed key, and the key is put in
 abbrev pub IsKeyRow : Row → Trees → Trees → Type 0
 IsKeyRow row db after = IsGoodKey row × PutsKey row db after
 
--- the tables become those of a world with the old shelves and keys, and nothing else
+-- the tables stand for a world with the old shelves and keys, and nothing else
 pub record HasRegistry (old after : Trees) : Type 0 where
   pub world : World
   pub is : IsWorld world

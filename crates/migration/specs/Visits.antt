@@ -1,4 +1,4 @@
--- Rows of an older store that are put into a fresh one, one after the other.
+-- Visits of the rows of an older store, each of which is put into a fresh store.
 use Rattle.std.specs.Prelude.{◌≡◌, ◌≤◌, Bool, false, List, [], ◌∷◌, Result, Ok, Err, is_ok, IsTrue}
 use Rattle.sqlite.specs.Order.{Row}
 use Rattle.sqlite.specs.Tree.{Trees}
@@ -9,26 +9,27 @@ use Rattle.older.specs.Schemas.{schema_of}
 use Rattle.statements.specs.Extract.{IsReadBy}
 use Rattle.statements.specs.Rows.{Filling, GoesOn}
 
--- of what is kept and of the tables each row makes the next
+-- for each row in turn, `Puts` relates what is kept and the tables before it to those after it
 abbrev pub Visits : {X : Type 0} → (X → Row → Trees → X → Trees → Type 0) → X → Trees → List Row → X → Trees → Type 0
 Visits Puts kept db [] end after = (end ≡ kept) × (after ≡ db)
 Visits {X} Puts kept db (row ∷ rows) end after = (next : X) × (mid : Trees) × Puts kept row db next mid × Visits Puts next mid rows end after
 
--- an open connection over the tables of the format, as far as no answer of the disk was wrong
+-- the connection is open and its tables are those of the format, if the disk has returned what was written
 abbrev pub IsReadyAs : Format → State → Type 0
 IsReadyAs format s = HasCleanDisk s → IsTrue s.is_open × (s.now.schema ≡ schema_of format)
 
--- whether all was done
+-- whether the call returned Ok(true)
 abbrev pub is_done : {E : Type 0} → Result Bool E → Bool
 is_done (Ok all) = all
 is_done (Err e) = false
 
--- whether the fresh store took each row that was put in
+-- whether the fresh store took each row that was put in: the call returned no error of either store
 abbrev pub is_taken : {E : Type 0} → Result (Result Bool E) E → Bool
 is_taken (Ok visited) = is_ok visited
 is_taken (Err e) = false
 
--- Rows of an older store are put into a fresh one, within a transaction of it, which makes of its tables others. The older store is only read.
+-- Rows of an older store, which is only read, are put into a fresh one inside a transaction of it. If the call is done, `Makes`
+-- relates the old tables, the fresh tables before, and the fresh tables after.
 pub record Moves (format : Format) (Makes : Trees → Trees → Trees → Type 0) (old old_new fresh fresh_new : State) (done : Bool) : Type 0 where
   pub clean : doubt old.is_clean ≤ doubt old_new.is_clean
   pub reads : IsReadyAs format old → IsReadBy old old_new done

@@ -1,4 +1,4 @@
--- What is kept of the last piece, as today's test of the tables keeps it.
+-- What the visitor keeps of the last piece, as the test of today's tables keeps it.
 use Rattle.std.specs.Prelude.{pos, Option, option_map}
 use Rattle.tables.specs.Fit.{full_piece}
 use Rattle.migration.specs.declared.pieces.LastPiece.{LastPiece}
@@ -6,7 +6,7 @@ use Rattle.migration.specs.declared.pieces.LastPiece.{LastPiece}
 abbrev pub TypeOf : {A : Type 0} → A → Type 0
 TypeOf {A} a = A
 
--- what that test keeps, which has no name here
+-- the type of what that test keeps, which has no name here
 abbrev pub TestedPiece : Type 0
 TestedPiece = TypeOf (full_piece (pos 0) 0)
 

@@ -1,4 +1,4 @@
-//! The values of a row of an older store, by what they have to be.
+//! Reads the values of a row of an older store, by their type.
 
 ghost use Rattle.std.specs.Prelude.{◌≡◌, IfOk, IfSome, IsUtf8};
 ghost use Rattle.sqlite.specs.declared.types.Value.TheVariants.{Int, Text, Blob};
@@ -7,7 +7,7 @@ ghost use Rattle.sqlite.specs.Order.{column};
 use sqlite::types::ValueRef;
 use sqlite::{Error, Row};
 
-/// The text of a column, if it is one.
+/// Returns the text in a column, or None if the column is not TEXT or not UTF-8.
 pub(crate) fn text_at(row: &Row, at: usize) -> Result<Option<&str>, Error>
     ensures { IfOk result (λ found. IfSome found (λ t. (column row.now at ≡ Text t.now) × IsUtf8 t.now)) }
 {
@@ -20,7 +20,7 @@ pub(crate) fn text_at(row: &Row, at: usize) -> Result<Option<&str>, Error>
     }
 }
 
-/// The bytes of a column, if it has any.
+/// Returns the bytes in a column, or None if the column is not a BLOB.
 pub(crate) fn blob_at(row: &Row, at: usize) -> Result<Option<&[u8]>, Error>
     ensures { IfOk result (λ found. IfSome found (λ b. column row.now at ≡ Blob b.now)) }
 {
@@ -30,7 +30,7 @@ pub(crate) fn blob_at(row: &Row, at: usize) -> Result<Option<&[u8]>, Error>
     }
 }
 
-/// The number of a column, if it is one.
+/// Returns the number in a column, or None if the column is not an INTEGER.
 pub(crate) fn int_at(row: &Row, at: usize) -> Result<Option<i64>, Error>
     ensures { IfOk result (λ found. IfSome found (λ n. column row.now at ≡ Int n)) }
 {

@@ -1,4 +1,4 @@
-//! The rows of `version`, tested and put in.
+//! Tests the rows of `version` and puts them in.
 
 ghost use Rattle.std.specs.Prelude.{◌≡◌, IfOk, IfSome, IsTrue, MatchOption, Some};
 ghost use Rattle.sqlite.specs.declared.types.Value.TheVariants.{Text, Blob};
@@ -19,7 +19,7 @@ use std::alloc::{AllocError, Global};
 use world::entry::{EntryRef, MAX_VERSIONS, Place};
 use world::entry_test::fitting_version;
 
-/// The time that bytes are, if they are one.
+/// Returns the time that the bytes write, or None if they write no time.
 fn time_of(bytes: &[u8]) -> Option<TimeText>
     ensures { IfSome result (λ t. t ≡ bytes.now) }
 {
@@ -29,7 +29,7 @@ fn time_of(bytes: &[u8]) -> Option<TimeText>
     }
 }
 
-/// The time of a column, or none where it is NULL, if it is one of the two.
+/// Returns the time in a column, or Some(None) if the column is NULL. Returns None if it is neither.
 fn time_at(row: &Row, at: usize) -> Result<Option<Option<TimeText>>, Error>
     ensures { IfOk result (λ found. IfSome found (λ t. column row.now at ≡ or_null Text t)) }
 {
@@ -43,7 +43,7 @@ fn time_at(row: &Row, at: usize) -> Result<Option<Option<TimeText>>, Error>
     }
 }
 
-/// The entry that a row shows, with this zip.
+/// Returns the entry that a row shows, with this zip. Returns None if a column is not of its type.
 fn entry_at<'r>(row: &'r Row, zip: &'r [u8]) -> Result<Option<Shown<'r>>, Error>
     ensures { IfOk result (λ found. IfSome found (λ s.
         ShowsEntry row.now (place s.shelf.now s.path.now s.version.now) s.entry × (s.entry.zip ≡ zip.now))) }
@@ -72,7 +72,8 @@ fn entry_at<'r>(row: &'r Row, zip: &'r [u8]) -> Result<Option<Shown<'r>>, Error>
     }))
 }
 
-/// The zip that a row shows, if it shows one. In schema 2 zips are rows of their own, so it is empty here.
+/// Returns the zip that a row shows, or None if the column is not a BLOB. In schema 2 zips are rows of their own, so the zip
+/// is empty here.
 fn zip_at(format: Format, row: &Row) -> Result<Option<&[u8]>, Error>
     ensures { IfOk result (λ found. IfSome found (λ zip. ShowsZip format row.now zip.now)) }
 {
@@ -88,7 +89,7 @@ fn is_blob_at(row: &Row, at: usize, bytes: &[u8]) -> Result<bool, Error>
     Ok(matches!(row.get_ref(at)?, ValueRef::Blob(found) if found == bytes))
 }
 
-/// Whether a row shows these keys of order. In schema 1 it has none.
+/// Reports whether a row shows these order keys. In schema 1 a row has none, and the answer is true.
 fn shows_keys(format: Format, row: &Row, order: &[u8], rank: &[u8]) -> Result<bool, Error>
     ensures { IfOk result (λ shows. IsTrue shows → ShowsKeys format row.now order.now rank.now) }
 {
@@ -98,7 +99,8 @@ fn shows_keys(format: Format, row: &Row, order: &[u8], rank: &[u8]) -> Result<bo
     }
 }
 
-/// What a row shows of an entry with its number and its keys, if the entry may stand at its place.
+/// Returns the entry that a row shows, with its number and order keys. Returns None if the row does not show them, or the
+/// entry may not stand at its place.
 fn fit_row<'r>(alloc: Global, format: Format, row: &'r Row) -> Result<Option<Keyed<'r>>, Error>
     ensures { IfOk result (λ found. IfSome found (λ k. IsKeyed k × IsFitRow format row.now k.id
         (place k.shown.shelf.now k.shown.path.now k.shown.version.now) k.shown.entry)) }
@@ -128,7 +130,7 @@ fn fit_row<'r>(alloc: Global, format: Format, row: &'r Row) -> Result<Option<Key
     }))
 }
 
-/// How many of a path on its shelf have come with this place, if it may follow the last one.
+/// Returns how many versions of the path on its shelf have come with this place, or None if it may not follow the last one.
 fn run_up_to(last: &Option<Place>, many: u64, place: &Place) -> Option<u64>
     ensures { MatchOption result
         (MayFollow last.now many place.now → ⊥)
@@ -150,8 +152,8 @@ fn run_up_to(last: &Option<Place>, many: u64, place: &Place) -> Option<u64>
     }
 }
 
-/// The rows of `version` in the order of their places: each entry may stand at its place, no place comes twice, and no
-/// path too often on a shelf.
+/// Visits the rows of `version` in the order of their places. It refuses an entry that may not stand at its place, a place that
+/// comes twice, and a path with too many versions on a shelf.
 #[derive(Drop)]
 pub(crate) struct EntryRows {
     pub(crate) alloc: Global,
@@ -161,7 +163,7 @@ pub(crate) struct EntryRows {
 }
 
 impl EntryRows {
-    /// Whether an entry may follow the last one. It is then the last one.
+    /// Reports whether an entry may follow the last one, and if so makes it the last one.
     fn follows(&mut self, shown: &Shown) -> Result<bool, AllocError>
         ensures { IfOk result (λ may. IsTrue may
             → MayFollow self.old.last self.old.many (place shown.now.shelf.now shown.now.path.now shown.now.version.now)

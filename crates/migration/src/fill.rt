@@ -1,4 +1,4 @@
-//! A fresh store that is filled with the rows of an older one.
+//! Fills a fresh store with the rows of an older one.
 
 ghost use Rattle.std.specs.Prelude.{◌≡◌};
 ghost use Rattle.sqlite.specs.Held.{state};
@@ -17,7 +17,7 @@ use sqlite::{Alter, Connection, Transaction};
 use statements::extract_rows::CopyError;
 use std::alloc::Global;
 
-/// Puts in each version of schema 1 with its go.mod and its zip, where each may stand.
+/// Puts in each version of schema 1 with its go.mod and its zip. Returns false if one may not stand at its place.
 /// A version without a row of `body` shows NULL for its zip. The index of places has this order, so the database sorts
 /// nothing.
 fn put_with_zips<S: Alter, F: Alter>(
@@ -45,7 +45,7 @@ fn put_with_zips<S: Alter, F: Alter>(
     )
 }
 
-/// Puts in each version of schema 2 with its go.mod, where each may stand.
+/// Puts in each version of schema 2 with its go.mod. Returns false if one may not stand at its place.
 fn put_without_zips<S: Alter, F: Alter>(
     alloc: Global,
     source: &mut Connection<S>,
@@ -71,7 +71,7 @@ fn put_without_zips<S: Alter, F: Alter>(
     )
 }
 
-/// Puts in each version with its go.mod, and in schema 1 with its zip.
+/// Puts in each version with its go.mod, and in schema 1 with its zip. Returns false if one may not stand at its place.
 fn put_entries<S: Alter, F: Alter>(
     alloc: Global,
     source: &mut Connection<S>,
@@ -89,7 +89,7 @@ fn put_entries<S: Alter, F: Alter>(
     }
 }
 
-/// Puts in the pieces of schema 2, where each is as it has to be.
+/// Puts in the pieces of schema 2. Returns false if they are not the pieces of zips.
 fn put_pieces<S: Alter, F: Alter>(
     source: &mut Connection<S>,
     tx: &mut Transaction<'_, F>,
@@ -108,7 +108,7 @@ fn put_pieces<S: Alter, F: Alter>(
     )
 }
 
-/// Puts in the zips, where each is in pieces as it has to be. In schema 1 they came with their versions.
+/// Puts in the zips. Returns false if their pieces are not those of zips. In schema 1 the zips came with their versions.
 fn put_zips<S: Alter, F: Alter>(
     source: &mut Connection<S>,
     format: Format,
@@ -125,7 +125,7 @@ fn put_zips<S: Alter, F: Alter>(
     }
 }
 
-/// Fills a store that has `common` alone with all that an older one has: its shelves, its keys, its versions and its zips.
+/// Fills a store that has only `common` with all that an older one has: its shelves, its keys, its versions and its zips.
 /// Returns false if the older tables stand for no world.
 pub(crate) fn fill<S: Alter, F: Alter>(
     alloc: Global,

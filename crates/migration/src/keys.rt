@@ -1,4 +1,4 @@
-//! The rows of `access`.
+//! Tests the rows of `access` and puts them in.
 
 ghost use Rattle.std.specs.Prelude.{◌≡◌, IfOk, IfSome, IsTrue};
 ghost use Rattle.sqlite.specs.Held.{state};
@@ -16,7 +16,7 @@ use statements::extract_rows::CopyError;
 use world::entry::Right;
 use world::names::is_key;
 
-/// The right that a column is, if it is 0 or 1.
+/// Returns the right in a column, or None if the column is neither 0 nor 1.
 fn right_at(row: &Row, at: usize) -> Result<Option<Right>, Error>
     ensures { IfOk result (λ found. IfSome found (λ right. ShowsRight row.now at right)) }
 {
@@ -27,7 +27,7 @@ fn right_at(row: &Row, at: usize) -> Result<Option<Right>, Error>
     }
 }
 
-/// The key that a row shows, with its shelf and its right, if it shows one.
+/// Returns the key that a row shows, with its shelf and its right. Returns None if a column is not of its type.
 fn key_at(row: &Row) -> Result<Option<(&str, &str, Right)>, Error>
     ensures { IfOk result (λ found. IfSome found (λ key. ShowsAs row.now key.0.now key.1.now key.2)) }
 {
@@ -43,7 +43,7 @@ fn key_at(row: &Row) -> Result<Option<(&str, &str, Right)>, Error>
     Ok(Some((token, shelf, right)))
 }
 
-/// Whether a row shows a well formed key, a shelf, and 0 or 1.
+/// Reports whether a row shows a well-formed key, a shelf, and 0 or 1.
 fn shows_key(row: &Row) -> Result<bool, Error>
     ensures { IfOk result (λ shows. IsTrue shows → IsGoodKey row.now) }
 {
@@ -53,7 +53,8 @@ fn shows_key(row: &Row) -> Result<bool, Error>
     Ok(is_key(key.0))
 }
 
-/// The rows of `access`, each a well formed key. The fresh store refuses a key that comes twice or has no shelf.
+/// Visits the rows of `access` and refuses a key that is not well-formed. The fresh store refuses a key that comes twice or
+/// has no shelf.
 #[derive(Drop)]
 struct KeyRows;
 
@@ -69,7 +70,7 @@ impl Visit for KeyRows {
     }
 }
 
-/// Puts in each key with its shelf and its right, where each is well formed.
+/// Puts in each key with its shelf and its right. Returns false if one is not well-formed.
 pub(crate) fn put_keys<S: Alter, F: Alter>(
     source: &mut Connection<S>,
     format: Format,

@@ -1,4 +1,4 @@
-//! The rows of `meta`, which name the schema.
+//! Tests the rows of `meta`, which name the schema.
 
 ghost use Rattle.std.specs.Prelude.{◌≡◌, true};
 ghost use Rattle.sqlite.specs.Held.{state};
@@ -13,7 +13,8 @@ use older::schema::Format;
 use sqlite::{Alter, Connection, Error, Row, Transaction};
 use statements::extract_rows::CopyError;
 
-/// The rows of `meta`: each names this schema. None is put into the fresh store, which has a row of its own.
+/// Visits the rows of `meta` and refuses one that does not name this schema. It puts none into the fresh store, which has a row
+/// of its own.
 #[derive(Drop)]
 struct MetaRows {
     number: i64,
@@ -42,7 +43,7 @@ fn number_of(format: Format) -> i64
     }
 }
 
-/// Whether `meta` names the format and nothing else.
+/// Reports whether `meta` names the format and nothing else.
 pub(crate) fn names_schema<S: Alter, F: Alter>(
     source: &mut Connection<S>,
     format: Format,

@@ -1,4 +1,4 @@
-//! The rows of `piece` of schema 2, tested and put in.
+//! Tests the rows of `piece` of schema 2 and puts them in.
 
 ghost use Rattle.std.specs.Prelude.{◌≡◌, ◌<◌, ℕ, pos, IfOk, IfSome, IsTrue, Some};
 ghost use Rattle.sqlite.specs.declared.types.Value.TheVariants.{Int};
@@ -18,7 +18,7 @@ use tables::pieces::PIECE_SIZE;
 /// The most pieces of a zip.
 const MAX_PIECES: u64 = 256;
 
-/// What is kept of the last row of `piece`.
+/// What the visitor keeps of the last row of `piece`.
 #[derive(Clone, Copy)]
 pub(crate) struct LastPiece {
     version: i64,
@@ -26,7 +26,7 @@ pub(crate) struct LastPiece {
     is_full: bool,
 }
 
-/// The number of a piece that a column is, if it is one.
+/// Returns the number of a piece in a column, or None if the column is not a number from 0 and below `MAX_PIECES`.
 fn number_at(row: &Row, at: usize) -> Result<Option<u64>, Error>
     ensures { IfOk result (λ found. IfSome found (λ n. (column row.now at ≡ Int (pos n)) × (n < piece_limit))) }
 {
@@ -39,7 +39,8 @@ fn number_at(row: &Row, at: usize) -> Result<Option<u64>, Error>
     }
 }
 
-/// What is kept of the piece that a row shows, if it shows one.
+/// Returns what the visitor keeps of the piece that a row shows. Returns None if the row shows no piece of 1 to `PIECE_SIZE`
+/// bytes.
 fn piece_at(row: &Row) -> Result<Option<LastPiece>, Error>
     ensures { IfOk result (λ found. IfSome found (λ p. (last_piece p ≡ piece_in row.now) × IsPieceRow row.now)) }
 {
@@ -62,7 +63,7 @@ fn piece_at(row: &Row) -> Result<Option<LastPiece>, Error>
     }))
 }
 
-/// Whether a piece may come after the last one: the next of its version behind a full one, or the first of another.
+/// Reports whether a piece may come after the last one: the next of its version after a full one, or the first of another.
 fn may_go_on(last: Option<LastPiece>, piece: LastPiece) -> bool
     ensures { IsTrue result → MayGoOn (last_one last) (last_piece piece) }
 {
@@ -75,8 +76,8 @@ fn may_go_on(last: Option<LastPiece>, piece: LastPiece) -> bool
     last.is_full && piece.number > 0 && last.number == piece.number - 1
 }
 
-/// The rows of `piece` in the order of their versions and numbers: the pieces of a version are numbered from 0 without
-/// gaps, and each but the last is full. The fresh store refuses a piece that has no version.
+/// Visits the rows of `piece` in the order of their versions and numbers. The pieces of a version must be numbered from 0
+/// without gaps, and each but the last must be full. The fresh store refuses a piece that has no version.
 #[derive(Drop)]
 pub(crate) struct ZipRows {
     pub(crate) last: Option<LastPiece>,

@@ -1,4 +1,4 @@
-//! Rows that are written into a fresh store.
+//! Writes rows into a fresh store.
 
 ghost use Rattle.std.specs.Prelude.{◌≡◌, [], ◌∷◌, Some, OnOk, is_ok, IsTrue};
 ghost use Rattle.sqlite.specs.declared.types.Value.TheVariants.{Int, Text, Blob};
@@ -22,7 +22,7 @@ use tables::pieces::PIECE_SIZE;
 use world::entry::EntryRef;
 use world::names::COMMON;
 
-/// What a row shows of an entry.
+/// An entry as a row shows it, with its place.
 #[derive(Drop)]
 pub(crate) struct Shown<'r> {
     pub(crate) shelf: &'r str,
@@ -31,7 +31,7 @@ pub(crate) struct Shown<'r> {
     pub(crate) entry: EntryRef<'r>,
 }
 
-/// An entry with the number of its row and the keys of its version.
+/// An entry with the number of its row and the order keys of its version.
 #[derive(Drop)]
 pub(crate) struct Keyed<'r> {
     pub(crate) id: i64,
@@ -58,7 +58,7 @@ pub(crate) fn put_team<F: Alter>(tx: &mut Transaction<'_, F>, name: &str) -> Res
     Ok(())
 }
 
-/// Writes the row of a key as another row shows it.
+/// Writes the row of a key with the values of another row.
 pub(crate) fn put_key<F: Alter>(tx: &mut Transaction<'_, F>, row: &Row) -> Result<(), Error>
     ensures same_reference { tx.new.conn.ghost_name ≡ tx.old.conn.ghost_name }
     ensures survives { Survives (state F.Store tx.old.conn.now) (state F.Store tx.new.conn.now) (λ _. ⊥) }
@@ -77,7 +77,7 @@ pub(crate) fn put_key<F: Alter>(tx: &mut Transaction<'_, F>, row: &Row) -> Resul
     Ok(())
 }
 
-/// Writes the row of a piece as another row shows it.
+/// Writes the row of a piece with the values of another row.
 pub(crate) fn put_shown_piece<F: Alter>(tx: &mut Transaction<'_, F>, row: &Row) -> Result<(), Error>
     ensures same_reference { tx.new.conn.ghost_name ≡ tx.old.conn.ghost_name }
     ensures survives { Survives (state F.Store tx.old.conn.now) (state F.Store tx.new.conn.now) (λ _. ⊥) }
@@ -96,7 +96,7 @@ pub(crate) fn put_shown_piece<F: Alter>(tx: &mut Transaction<'_, F>, row: &Row) 
     Ok(())
 }
 
-/// The text of a time, if there is one.
+/// Returns the text of a time, or None for None.
 fn time_text(time: &Option<TimeText>) -> Option<&str>
     ensures { or_null (λ text. Text text.now) result ≡ or_null Text time.now }
 {
@@ -106,7 +106,7 @@ fn time_text(time: &Option<TimeText>) -> Option<&str>
     }
 }
 
-/// Writes the row of a version, with its number and its keys of order.
+/// Writes the row of a version, with its number and its order keys.
 fn put_version<'p, F: Alter>(
     tx: &mut Transaction<'_, F>,
     id: i64,
@@ -179,7 +179,7 @@ fn put_zip<F: Alter>(tx: &mut Transaction<'_, F>, id: i64, zip: &[u8]) -> Result
     Err(Error::SqliteFailure(ErrorCode::TooBig))
 }
 
-/// Writes the rows of an entry: that of its version, and then those of its zip.
+/// Writes the rows of an entry: the row of its version, then the rows of its zip.
 pub(crate) fn put_entry<'p, F: Alter>(
     tx: &mut Transaction<'_, F>,
     id: i64,

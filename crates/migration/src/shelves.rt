@@ -1,4 +1,4 @@
-//! The rows of `shelf`.
+//! Tests the rows of `shelf` and puts them in.
 
 ghost use Rattle.std.specs.Prelude.{◌≡◌, ◌⊎◌, true};
 ghost use Rattle.sqlite.specs.Held.{state};
@@ -16,12 +16,12 @@ use std::alloc::Global;
 use world::names::{COMMON, is_team_name};
 use world::text_set::TextSet;
 
-/// The rows of `shelf`: each is `common`, or a team that comes once.
+/// Visits the rows of `shelf` and refuses one that is neither `common` nor a team that has not come before.
 #[derive(Drop)]
 struct ShelfRows {
     alloc: Global,
     has_common: bool,
-    /// The teams that have come.
+    /// The teams that have come so far.
     names: TextSet,
 }
 
@@ -47,7 +47,7 @@ impl Visit for ShelfRows {
     }
 }
 
-/// Makes each shelf but `common` a team without a group, where each may stand and `common` is there.
+/// Makes each shelf but `common` a team without a group. Returns false if one may not stand, or `common` is not there.
 pub(crate) fn put_shelves<S: Alter, F: Alter>(
     alloc: Global,
     source: &mut Connection<S>,

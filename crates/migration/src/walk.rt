@@ -1,4 +1,4 @@
-//! Rows of an older store that are put into a fresh one, one after the other.
+//! Puts rows of an older store into a fresh one, one after another.
 
 ghost use Rattle.std.specs.Prelude.{◌≡◌, ◌≤◌, [], false, OnOk, IfOk, IfErr, is_ok, IsTrue};
 ghost use Rattle.sqlite.specs.Effect.{Reads};
@@ -21,9 +21,9 @@ use older::schema::Format;
 use sqlite::{Alter, Connection, Error, ErrorCode, Row, Transaction};
 use statements::extract_rows::CopyError;
 
-/// A visitor of the rows of a table, which keeps something of those before.
+/// Visits the rows of a table, and may keep something of those before.
 pub(crate) trait Visit {
-    /// What a row makes of what is kept, and of the fresh tables.
+    /// How a row changes what is kept, and the fresh tables.
     ghost Puts: { Self → Shown → Trees → Self → Trees → Type 0 };
 
     /// Tests a row and puts it into the fresh tables. Returns false if no world has such a row.
@@ -39,9 +39,9 @@ pub(crate) trait Visit {
             → Puts self.old row.now old.now.trees self.new new.now.trees × Filling new)) };
 }
 
-/// Visits each row that a query shows of the tables of a format, while the query is read. It tells what the visitor did: true
-/// after the last row, false at the first that it refuses, and an error at the first that the fresh store does not take. It fails
-/// where the older store does. No more than one row is in memory.
+/// Visits each row that a query shows of the tables of a format, while the query is read, so only one row is in memory. It
+/// returns what the visitor did: true after the last row, false at the first row that it refuses, and its error at the first
+/// row that the fresh store does not take. Fails if the older store does.
 fn visit_each<S: Alter, F: Alter, V: Visit>(
     source: &mut Connection<S>,
     format: Format,
@@ -79,11 +79,12 @@ fn visit_each<S: Alter, F: Alter, V: Visit>(
             Err(error) => return Ok(Err(error)),
         }
     }
-    // So many rows come only where a table has one for each rowid.
+    // A query shows this many rows only if a table has a row for each rowid.
     Err(Error::SqliteFailure(ErrorCode::TooBig))
 }
 
-/// Visits each row that a query shows of the tables of a format. It returns false at the first row that the visitor refuses.
+/// Visits each row that a query shows of the tables of a format. Returns true after the last row, and false at the first row
+/// that the visitor refuses. Fails with `Source` if the older store does, and with `Fresh` if the fresh one does.
 pub(crate) fn visit_rows<S: Alter, F: Alter, V: Visit>(
     source: &mut Connection<S>,
     format: Format,

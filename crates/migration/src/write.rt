@@ -1,4 +1,4 @@
-//! The world of an older store, written into a fresh one in one transaction.
+//! Writes the world of an older store into a fresh one in one transaction.
 
 ghost use Rattle.std.specs.Prelude.{◌≡◌};
 ghost use Rattle.sqlite.specs.Held.{state};
@@ -13,15 +13,15 @@ use statements::extract_rows::CopyError;
 use statements::transaction::commit_if;
 use std::alloc::Global;
 
-/// Whether all was put in.
+/// Reports whether all rows were put in.
 fn is_whole(filled: &Result<bool, CopyError>) -> bool
     ensures value { result ≡ is_done filled.now }
 {
     matches!(filled, Ok(true))
 }
 
-/// Writes all that an older store has into a fresh one that has `common` alone, in one transaction. Returns false if the
-/// older tables stand for no world; then nothing is written.
+/// Writes all that an older store has into a fresh one that has only `common`, in one transaction. Returns false, and writes
+/// nothing, if the older tables stand for no world. Fails with `Source` or `Fresh`, by the store that failed.
 pub fn write_world<S: Alter, F: Alter>(
     alloc: Global,
     source: &mut Connection<S>,

@@ -124,7 +124,7 @@ pub more_entries : (x : World) → HasEntry x → x ≢ only_common
 more_entries x entry same = none_in_empty place_cmp entry.0 entry.1 (subst (λ (u : World). map.get u.entries entry.0 ≡ Some entry.1) same entry.2)
 
 module _ (x : World) (is : IsWorld x) (one : HasOtherShelf x → ⊥) (two : HasKey x → ⊥) (three : HasEntry x → ⊥) where
-  -- a shelf is common, which has no parent
+  -- a shelf of the world is `common`, which has no parent
   shelf_is : (s : List ℕ) (o : Option (List ℕ)) → map.get x.shelves s ≡ Some o → map.get only_common.shelves s ≡ Some o
   shelf_is s o at = elim (cases_Bool (bytes_eq s common)) [
     | inl same ↦
@@ -143,7 +143,7 @@ module _ (x : World) (is : IsWorld x) (one : HasOtherShelf x → ⊥) (two : Has
       let entries = map.same_map places_total places_exact x.entries only_common.entries (λ q. same_got x.entries only_common.entries q (λ e at. absurd (three (q, e, at))) (λ e at. absurd (none_in_empty place_cmp q e at))) in
       λ i. record { keys = keys i; shelves = shelves i; entries = entries i }
 
--- what the last of the three tells
+-- a store that has no other shelf and no key has `common` alone exactly if it has no entry
 pub blank_told : (x : World) → IsWorld x → (HasOtherShelf x → ⊥) → (HasKey x → ⊥) → (found : Bool) → Decides found (HasEntry x) → Decides (not found) (x ≡ only_common)
 blank_told x is one two true told = refused (more_entries x (told.0 refl))
 blank_told x is one two false told = passed (common_alone x is one two (λ e. true≢false (sym (told.1 e))))

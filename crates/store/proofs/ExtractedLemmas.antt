@@ -41,7 +41,7 @@ pub fault_is_fit : (r : Refusal) → r ≢ refusal.NotEmpty → r ≢ refusal.No
 fault_is_fit r some none (inl e) = let it : r ≡ refusal.NoTeam = cc in none it
 fault_is_fit r some none (inr e) = let it : r ≡ refusal.NotEmpty = cc in some it
 
--- what was only read where the tables stood for a world
+-- a store is spared by a first call that spares it, and a second that spares it if its tables stood for a world
 pub spares_when : (a b c : State) → Spares a b → doubt b.is_clean ≤ doubt c.is_clean → ((w : World) → Stands a w → Spares b c) → Spares a c
 spares_when a b c p up then = record {
   clean = let one = p.clean in omega (arith, one, up);
@@ -53,7 +53,7 @@ pub not_written : (r : Result Judged CopyError) → IsErr r → is_written r ≡
 not_written (Ok x) h = absurd (true≢false (sym h))
 not_written (Err e) h = refl
 
--- nothing was written
+-- a call that spares the store is a change that was not done
 pub spared_at : (a b : State) (x next : World) → Spares a b → ChangesAt a b false x next
 spared_at a b x next spares = record {
   world = spares.stays x;
@@ -76,11 +76,12 @@ fault_tells There x refusal.BadSchema a b c = absurd (a refl)
 fault_tells There x refusal.NotEmpty a b c = absurd (b refl)
 fault_tells There x refusal.NoTeam a b c = absurd (c refl)
 
--- what is wanted of a world is a world
+-- the wanted shelves of a world are a world
 pub what_is_world : (it : Wanted) (w : World) → IsWorld w → IsWorld (what it w)
 what_is_world (wanted.Teams ts) w is = chains_world w _ is
 what_is_world wanted.All w is = is
 
+-- a change from x to the next world, done if the result is Ok, fills the store as `FillsAt` says, without what it caches
 pub fills_at : (old new : State) (There : Type 0) (next x : World) (result : Result (Unit {0}) Refusal) → HasCleanDisk new → StandsFor old x → IsWorld next
     → ChangesAt old new (is_ok result) x next → Tells There x result → FillsAt (shown_of old) (shown_of new) There next x result
 fills_at old new There next x (Ok u) clean stands is change tells = record {
@@ -120,12 +121,12 @@ puts_then shelves s a b c p q = record {
       (puts_more shelves s a.now.trees b.now.trees c.now.trees one.0 two.0, two.1);
 }
 
--- where not all was done, nothing is said of what it makes
+-- a second put that failed is a put of anything, because `makes` speaks only of those that were done
 pub puts_failed : {A E : Type 0} (r : Result A E) (P Q : Trees → Trees → Type 0) (R : Trees → Trees → Type 0) (a b c : State) → IsErr r → Puts P a b true → Puts Q b c false → Puts R a c (is_ok r)
 puts_failed (Ok x) P Q R a b c failed p q = absurd (true≢false (sym failed))
 puts_failed (Err e) P Q R a b c failed p q = record { goes_on = goes_on_then a b c false p.goes_on q.goes_on; makes = λ _ _ all. absurd (true≢false (sym all)) }
 
--- the source is not touched
+-- rows that are put in without the source are a copy that leaves the source as it is
 pub puts_copied : (P : Trees → Trees → Type 0) (s a b : State) (done : Bool) → Puts P a b done → Copies (λ _. P) s s a b done
 puts_copied P s a b done p = record {
   clean = omega arith;
@@ -134,11 +135,11 @@ puts_copied P s a b done p = record {
   makes = λ clean good ready w means filling all. p.makes good filling all;
 }
 
--- so for the first alone
+-- P for one element is P along the list of it alone
 pub along_one : {E X : Type 0} (P : E → X → X → X → Type 0) (e : E) (w x z : X) → P e w x z → Along P (e ∷ []) w x z
 along_one P e w x z it = (z, it, refl)
 
--- within the transaction the shelves are written
+-- inside the transaction, the fresh tables come to stand for the part of w with these shelves and `common`
 pub part_written : (s t a b : State) (done : Bool) (w : World) (shelves : List Shelf) → Copies (MakesPart shelves) s t a b done → IsReady s → HasCleanDisk t → HasCleanDisk b → Stands s w → IsWorld w
     → AreShelves w shelves → IsTrue done → Writing a only_common → Writing b (part_of w (common ∷ names_of shelves))
 part_written s t a b done w shelves fills ready clean good stands is are all writing =
@@ -147,7 +148,7 @@ part_written s t a b done w shelves fills ready clean good stands is are all wri
     let it = fills.makes clean good ready w means (filling_of a only_common writing) all in
     writing_of b (part_of w (common ∷ names_of shelves)) it.1 (it.0 w means is are writing.trees)
 
--- ---- with what the stores keep
+-- ---- with what the stores cache
 
 on_ok_both : (A : Type 0) {B : Type 0} (r : Result (Unit {0}) Refusal) → B → OnOk r A → OnOk r (A × B)
 on_ok_both A (Ok u) b a = (a, b)
@@ -157,7 +158,7 @@ on_err_both : (A : Type 0) {B : Type 0} (r : Result (Unit {0}) Refusal) → B �
 on_err_both A (Ok u) b a = tt
 on_err_both A (Err e) b a = (a, b)
 
--- the source keeps what it kept, and the fresh store nothing
+-- a fill holds with what the stores cache too, if the source caches what it did, and the fresh store nothing
 pub fills_kept : (There : World → Type 0) (next : World → World) (a a_new b b_new : State) (kept kept_new old new : Kept) (r : Result (Unit {0}) Refusal) → kept_new ≡ kept
     → IsNothing new → FillsBy There next (shown_of a) (shown_of a_new) (shown_of b) (shown_of b_new) r
     → FillsBy There next (shown_with a kept) (shown_with a_new kept_new) (shown_with b old) (shown_with b_new new) r
@@ -200,7 +201,7 @@ one_tells w x t (Err refusal.BadSchema) h = absurd h
 one_tells w x t (Err refusal.Device) h = tt
 one_tells w x t (Err refusal.Memory) h = tt
 
--- the part of one team alone is that of the team
+-- extracting the list of one team is extracting the team
 pub extracts_one : (source source_new fresh fresh_new : Shown) (t : List ℕ) (r : Result (Unit {0}) Refusal) → ExtractsTeams (t ∷ []) source source_new fresh fresh_new r → Extracts source source_new fresh fresh_new t r
 extracts_one source source_new fresh fresh_new t r does = record {
   reads = does.reads;

@@ -49,7 +49,7 @@ uncaught before after same =
       | inr some ↦ rw some (inr refl)
     ])
 
--- where no read was caught, such an error tells that the files hold nothing
+-- if no read was caught, `NotADatabase` and `DatabaseCorrupt` say that the open did not find what it wanted
 holds_none : (before after : Tally) (old new : ℕ) (Limit Wanted : Type 0) (e : Error) → after.caught ≡ before.caught → FailsAs (named before after) old new Limit Wanted e
     → (e ≡ SqliteFailure code.NotADatabase) ⊎ (e ≡ SqliteFailure code.DatabaseCorrupt) → ¬ Wanted
 holds_none before after old new Limit Wanted e same (inl memory) (inl bad) = cc
@@ -66,7 +66,7 @@ tally_is (left.Files files) = refl
 tally_is (left.Unopened files) = refl
 tally_is (left.Store store) = refl
 
--- the same, of an open that gave its files back
+-- if no read was caught, and an open gave its files back with one of these errors, the files hold no database
 pub left_holds_none : {D : Type 0} {g : Ghosts D} (files : Files D) (rest : Leftover D g) (now : D × D) (e : Error) → now ≡ files_left rest → AreClean g now.0 now.1
     → (IsCleanLeft rest → FailsToOpenFiles files rest e) → (tally_of_files g now).caught ≡ (tally_of_files g (files.log, files.db)).caught
     → (e ≡ SqliteFailure code.NotADatabase) ⊎ (e ≡ SqliteFailure code.DatabaseCorrupt) → HoldsNoDatabase (image_of g files)
@@ -91,7 +91,7 @@ long_page (suc zero) pages (b ∷ more) used head =
 long_page (suc (suc n)) pages page used head = omega arith
 
 module _ (size : ℕ) (image : Image) (pages : PageMap) (found : Adopts size image pages) (sound : IsSoundFile size pages) where
-  -- with no frame to replay, the database file begins as a database does
+  -- if the log has no frame to replay, the database file begins as a database does
   begins_well : found.found.frames ≡ 0 → (1 < length image.db) × (slice_index image.db 0 ≡ 83)
   begins_well none =
       let whole = stored_size size in
@@ -108,6 +108,7 @@ module _ (size : ℕ) (image : Image) (pages : PageMap) (found : Adopts size ima
       ∙ get_or-take size (part image.db 0 whole) 0 0 (omega arith) ∙ slice_index-part image.db 0 whole 0 (omega arith) ∙ ap (slice_index image.db) (zero-add 0) in
       (omega arith, sym byte ∙ sym (get_or-take 16 (header_in pages) 0 0 (omega arith)) ∙ ap (λ (b : List ℕ). slice_index b 0) sound.header.0.magic)
 
+  -- files that hold a database are not blank
   not_blank : (other : ℕ) → 0 < other → ¬ IsBlankFile other image
   not_blank other some (inl none) = omega (arith, found.found.present)
   not_blank other some (inr blank) =
@@ -125,7 +126,7 @@ module _ (size : ℕ) (image : Image) (pages : PageMap) (found : Adopts size ima
         | inr more ↦ elim more [ inl zero' ↦ omega (arith, zero'.1) | inr rest ↦ rest.1 (magic ∙ sym (first_byte other some)) ]
       ]
 
--- a store that is opened over them has no tables
+-- opening files that have no database yet finds no tables
 pub finds_empty : (image : Image) (db : Trees) → IsNothing image → AreFoundIn image db → IsEmpty db
 finds_empty image db nothing (inl (size, pages, wanted, found, ours, reads)) =
     absurd (∥∥₁_elim ours ⊥_prop (λ it. elim nothing [

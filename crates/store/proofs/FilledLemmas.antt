@@ -1,4 +1,4 @@
--- What was copied makes a world of some shelves.
+-- The copied rows stand for a world of some shelves.
 use Rattle.std.proofs.Common.{◌≡◌, ℕ, List, [], ◌∷◌, filter, Bool, true, false, cond, Option, Some, None, inl, inr, refl, sym, ap, subst, ◌∙◌, arith, true≢false}
 use Rattle.std.specs.Prelude.{bytes_eq, ◌||◌}
 use Rattle.std.specs.FinMap as map
@@ -38,14 +38,15 @@ kept_in false o x h e = absurd (true≢false (sym h))
 
 -- ---- the keys of some shelves
 
--- a key that belongs to a shelf, or to any of some
+-- the world has the key, and it belongs to the shelf
 abbrev IsKeyOf : World → List ℕ → List ℕ × Holder → Type 0
 IsKeyOf w s it = (map.get w.keys it.0 ≡ Some it.1) × (it.1.shelf ≡ s)
 
+-- the world has the key, and it belongs to one of the shelves
 abbrev IsKeyOn : World → List (List ℕ) → List ℕ × Holder → Type 0
 IsKeyOn w ss it = IsOfAny ss (λ s. IsKeyOf w s it)
 
--- the keys of each are put in
+-- if the keys of each shelf are copied, the world gets the keys of all of them
 keys_along : (w : World) (ss : List (List ℕ)) (source db after : Trees) → Means source w → Along (λ s. OfWorlds (CopiesKeys s)) ss source db after
     → (x : World) → StandFor db x → (y : World) × AddsKeys (IsKeyOn w ss) x y × StandFor after y
 keys_along w [] source db after means same x stand = (x, keys_of_none (IsKeyOf w) x, subst (λ t. StandFor t x) same stand)
@@ -56,15 +57,15 @@ keys_along w (s ∷ ss) source db after means it x stand =
 
 -- ---- the shelves
 
--- some shelves, each with the parent that it has
+-- the map has these shelves, each with the parent that it has in w, and no others
 abbrev ArePut : World → List (List ℕ) → map.FinMap text_cmp (Option (List ℕ)) → Type 0
 ArePut w ss shelves = (s : List ℕ) → map.get shelves s ≡ cond (is_among ss s) (map.get w.shelves s) None
 
--- these shelves of a world, and nothing else
+-- x has these shelves of w, and nothing else
 abbrev HasAlone : World → List (List ℕ) → World → Type 0
 HasAlone w ss x = ArePut w ss x.shelves × (x.keys ≡ map.empty) × (x.entries ≡ map.empty)
 
--- what stands at a shelf once it is put before others, by the test of its name and theirs
+-- once one more shelf is put in, the map has at a name what w has there, if the name is that shelf's or one of the others
 first_put : {X : Type 0} (b c : Bool) (o : X) (at : Option X) → (b ≡ true → at ≡ Some o) → cond b (Some o) (cond c at None) ≡ cond (b || c) at None
 first_put true c o at first = sym (first refl)
 first_put false c o at first = refl
@@ -79,7 +80,7 @@ module _ (w : World) where
   not_put : (ss : List (List ℕ)) (shelves : map.FinMap text_cmp (Option (List ℕ))) (s : List ℕ) → ArePut w ss shelves → (is_among ss s ≡ true → ⊥) → map.get shelves s ≡ None
   not_put ss shelves s put other = put s ∙ ap (λ b. cond b (map.get w.shelves s) None) (false_from_ne_true _ other)
 
--- the shelves of a list are put in, one after the other
+-- if the shelves of a list are put in, the world gets them and nothing else
 shelves_put : (w : World) (shelves : List Shelf) (before : List (List ℕ)) (db after : Trees) → AreShelves w shelves → AreNew before (names_of shelves)
     → (x : World) → HasAlone w before x → StandFor db x → PutsShelves shelves db after → (y : World) × HasAlone w (behind before (names_of shelves)) y × StandFor after y
 shelves_put w [] before db after are new x alone stand same = (x, alone, subst (λ t. StandFor t x) same stand)
@@ -105,7 +106,7 @@ module _ (w x y : World) (ss : List (List ℕ)) (alone : HasAlone w ss x) (adds 
 
 -- ---- the entries
 
--- rows of which nothing is read are none
+-- a list that has no row is empty
 none_there : (rows : List Row) → ((row : Row) → Has rows row → ⊥) → rows ≡ []
 none_there [] none = refl
 none_there (row ∷ rows) none = absurd (none row (inl refl))
@@ -160,6 +161,7 @@ module _ (w : World) (ss : List (List ℕ)) (source db mid after : Trees) (means
     zip = pieces_copied s seen one two it.1.zip there at (ap (λ (r : Row). column r 0) same) is.zip;
   }
 
+  -- the rows of `version` are the entries of the part
   entries_are : Tabulates (IsVersion (after 8)) (after 6) (λ it. map.get (part_of w ss).entries it.0 ≡ Some it.1)
   entries_are = record {
     each = λ row there.
@@ -195,7 +197,7 @@ module _ (w : World) (ss : List (List ℕ)) (source db mid after : Trees) (means
   access_stays : after 4 ≡ db 4
   access_stays = pieces.tables.1.1.0 (λ e. omega (arith, e)) ∙ versions.tables.1.1.0 (λ e. omega (arith, e))
 
-  -- the tables had the registry of the part, and no entry
+  -- if the tables had the keys and shelves of the part, and no entry, they mean the part
   pub filled : (y : World) → y.shelves ≡ (part_of w ss).shelves → y.keys ≡ (part_of w ss).keys → Means db y → Means after (part_of w ss)
   filled y shelves keys was = record {
     named = rw meta_stays was.named;
@@ -209,14 +211,15 @@ module _ (w : World) (ss : List (List ℕ)) (source db mid after : Trees) (means
     pieces = pieces_are;
   }
 
--- tables of a world that has no entry have no version
+-- tables that mean a world without entries have no version
 no_version_yet : (db : Trees) (x y : World) → Means db y → y.entries ≡ x.entries → x.entries ≡ map.empty → db 6 ≡ []
 no_version_yet db x y means same none = none_there (db 6) (λ row there. let of = means.entries.each row there in none_in_empty place_cmp of.0.0 of.0.1 (ap (λ m. map.get m of.0.0) (sym (same ∙ none)) ∙ of.2))
 
--- the shelves of a list are put in, and then the keys, the versions and the pieces of these and of common
+-- the shelves of a list are put in, and then the keys, the versions and the pieces of these and of `common`
 abbrev FillsAlong : List Shelf → List (List ℕ) → Trees → Trees → Trees → Type 0
 FillsAlong shelves ss = Then (Then (Then (λ _. PutsShelves shelves) (Along (λ s. OfWorlds (CopiesKeys s)) ss)) (Along CopiesVersions ss)) (Along CopiesPieces ss)
 
+-- the copies, in this order, make of a store with `common` alone the part of the source with these shelves and `common`
 pub makes_part : (shelves : List Shelf) → AreNew (common ∷ []) (names_of shelves) → (source db after : Trees) → FillsAlong shelves (common ∷ names_of shelves) source db after → MakesPart shelves source db after
 makes_part shelves new source db after it w means is are blank =
     let ss : List (List ℕ) = common ∷ names_of shelves in

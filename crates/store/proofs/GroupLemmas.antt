@@ -1,4 +1,4 @@
--- Groups that are kept, as one more is kept and as a shelf is made, and what a shelf sees, as a group is made.
+-- Cached groups stay right when one more is cached and when a shelf is added; what a shelf sees stays when a group is added.
 use Rattle.std.proofs.Common.{◌≡◌, ◌∙◌, ℕ, List, [], ◌∷◌, Bool, true, false, cond, true≢false, Option, Some, None, is_some, inl, inr, refl, sym, ap}
 use Rattle.std.specs.FinMap as map
 use Rattle.std.specs.FinSet as set
@@ -23,13 +23,13 @@ one_more w old new s g put are is t h at =
       | inr before ↦ are t h before
     ]
 
--- a shelf that was not there is made: each other has the group that it had
+-- when a shelf is added, each other shelf has the group that it had
 pub groups_still : (w : World) (s : List ℕ) (parent : Option (List ℕ)) (groups : Grouping) → map.contains_key w.shelves s ≡ false → AreGroups w groups → AreGroups (with_shelf w s parent) groups
 groups_still w s parent groups free are t g at =
     let it = are t g at in
     (stands_still w s parent t it.0, ap group_in (parent_still w s parent free t it.0) ∙ it.1)
 
--- ---- a group is made: what each shelf sees is as it was
+-- ---- what each shelf sees stays when a group is added
 
 none_there : {X : Type 0} (o : Option X) → is_some o ≡ false → o ≡ None
 none_there None e = refl

@@ -1,4 +1,4 @@
--- Where nothing is kept, what is kept is so.
+-- If nothing is cached, all that is cached is true.
 use Rattle.world.specs.World.{World}
 use Rattle.world.proofs.Counted.{empty_counts}
 use Rattle.store.specs.declared.kept.Kept.{Kept}

@@ -1,4 +1,4 @@
--- Lists that are kept stay right: as one more is kept, as some are dropped, and as the world grows.
+-- Cached lists stay right when one more is cached, when some are dropped, and when the world grows.
 use Rattle.std.proofs.Common.{◌≡◌, ◌∙◌, ◌⊎◌, ℕ, List, [], ◌∷◌, false, Option, None, Some, inl, inr, refl, sym, ap, subst, IfSome}
 use Rattle.std.specs.Prelude.{bytes_eq, is_some, IsTrue}
 use Rattle.std.specs.FinMap as map
@@ -24,11 +24,11 @@ use Rattle.store.proofs.RecentLemmas.{holds_none}
 abbrev pub Kept : Type 0
 Kept = List (ℕ × (ℕ × KeptList))
 
--- a list has what this shelf sees of this path
+-- the list has the versions of the path that the shelf sees, and its latest version, if cached, is the one that the shelf sees
 abbrev pub IsListOf : World → KeptList → List ℕ → List ℕ → Type 0
 IsListOf w list s p = (list.versions ≡ versions_of w s p) × IfSome list.latest (λ latest. latest ≡ latest_of w s p)
 
--- ---- fewer, none, and one more
+-- ---- fewer lists, none, and one more
 
 pub fewer : (w : World) (old new : Kept) → ((list : KeptList) → Holds new list → Holds old list) → AreLists w old → AreLists w new
 fewer w old new among are list at = are list (among list at)
@@ -42,7 +42,7 @@ one_more w old new it split are is list at = elim (split list at) [
   | inr same ↦ subst (IsListIn w) (sym same) is
 ]
 
--- ---- one that is found
+-- ---- a list that is found
 
 pub found : (w : World) (lists : Kept) (list : KeptList) (s p : List ℕ) → Holds lists list → IsTrue (is_of s p list) → AreLists w lists → IsListOf w list s p
 found w lists list s p at is are =
@@ -51,7 +51,7 @@ found w lists list s p at is are =
 
 -- ---- the world grows
 
--- a shelf sees the same of a path in two worlds
+-- a list is right in x if it is right in w, and the shelf sees the same versions and headings of the path in both
 module _ (w x : World) (s p : List ℕ) (versions : versions_of w s p ≡ versions_of x s p) (headings : (u : List ℕ) → heading w s p u ≡ heading x s p u) where
   by_same : (top : Option SemanticVersion) → latest_by w s p top ≡ latest_by x s p top
   by_same None = refl
@@ -63,7 +63,7 @@ module _ (w x : World) (s p : List ℕ) (versions : versions_of w s p ≡ versio
   same_list : (list : KeptList) → IsListOf w list s p → IsListOf x list s p
   same_list list is = (is.0 ∙ versions, subst (λ latest. IfSome list.latest (λ l. l ≡ latest)) same_latest is.1)
 
--- a version of another path
+-- a list stays right when another path gets a version
 module _ (w : World) (s p v : List ℕ) (e : Entry) (other : List ℕ) (apart : bytes_eq other p ≡ false) where
   on_others : (ss : List (List ℕ)) (u : List ℕ) → first_on (with_entry w (place s p v) e) ss other u ≡ first_on w ss other u
   on_others [] u = refl
@@ -86,7 +86,7 @@ module _ (w : World) (s p v : List ℕ) (e : Entry) (other : List ℕ) (apart : 
 pub others_still : (w : World) (s p v : List ℕ) (e : Entry) (lists : Kept) → ((list : KeptList) → Holds lists list → bytes_eq list.path p ≡ false) → AreLists w lists → AreLists (with_entry w (place s p v) e) lists
 others_still w s p v e lists apart are list at = still w s p v e list.path (apart list at) list.shelf list (are list at)
 
--- a group is made
+-- lists stay right when a group is added
 pub lists_still : (w : World) (g : List ℕ) → map.contains_key w.shelves g ≡ false → (lists : Kept) → AreLists w lists → AreLists (with_group w g) lists
 lists_still w g free lists are list at =
     same_list w (with_group w g) list.shelf list.path (sym (same_versions w g free list.shelf list.path))

@@ -1,4 +1,4 @@
--- A store that is made of one of an older schema, whole or not at all.
+-- Migrating a store of an older schema, whole or not at all.
 use Rattle.std.proofs.Common.{◌≡◌, ◌≢◌, ◌⊎◌, ℕ, Bool, true, false, IsTrue, Result, Ok, Err, IfOk, IfErr, is_ok, inl, inr, refl, sym, subst, ◌∙◌, arith, true≢false}
 use Rattle.sqlite.specs.Effect.{Database}
 use Rattle.sqlite.specs.declared.error.Error.{Error}
@@ -36,7 +36,7 @@ use Rattle.store.proofs.StoreLemmas.{narrow}
 
 -- ---- the rows
 
--- nothing was read of the older store, and the fresh one was only read
+-- `MigratesRows` holds of a migration that is not whole, did not read the older store, and only read the fresh one
 pub unwritten : (s f g : State) (r : Result Migrated CopyError) → is_whole r ≡ false → Spares f g → (HasCleanDisk g → (x : World) → StandsFor f x → IfOk r (IsMigrated x))
     → IfErr r (HasOlderReason s s) → MigratesRows s s f g r
 unwritten s f g r part spares told cause = record {
@@ -59,19 +59,20 @@ told_blank (Ok BadSchema) some x is = is
 told_blank (Ok NotEmpty) some x is = absurd (some refl)
 told_blank (Err e) some x is = tt
 
--- what is told of the rows fails as the writing did
+-- the outcome is an error for a reason, if it is the error of the writing and that had a reason
 pub written_cause : (format : Format) (s t : State) (w : Result Bool CopyError) (r : Result Migrated CopyError) → IfErr r (λ e. w ≡ Err e) → IfErr w (HasReasonIf format s t) → IfErr r (HasOlderReason s t)
 written_cause format s t w (Ok m) same reason = tt
 written_cause format s t w (Err (Fresh e)) same reason = tt
 written_cause format s t w (Err (Source e)) same reason =
     elim (subst (λ x. IfErr x (HasReasonIf format s t)) same reason) [ inl excused ↦ inl excused | inr vast ↦ inr (format, vast) ]
 
--- the tables are those of an older schema, and the world of these may have been written into a store of common alone
+-- the tables are those of an older schema, and their world may have been written into a store of `common` alone
 module _ (format : Format) (s t f m g : State) (r : Result Migrated CopyError) (schema : s.now.schema ≡ schema_of format) (first : Spares f m)
     (blank : HasCleanDisk m → (x : World) → StandsFor f x → IsTrue m.is_open × (x ≡ only_common)) (writes : WritesWorld format s t m g (is_whole r)) where
   blank_at_last : HasCleanDisk g → (x : World) → StandsFor f x → IsTrue m.is_open × (x ≡ only_common)
   blank_at_last good = blank (was_clean m g writes.clean_too good)
 
+  -- `MigratesRows` holds of a migration that wrote into a fresh store of `common` alone, or failed to
   pub written : r ≢ Ok NotEmpty → (HasCleanDisk t → IfErr r (HasOlderReason s t)) → MigratesRows s t f g r
   written some cause = record {
     clean = writes.clean;
@@ -90,9 +91,9 @@ module _ (format : Format) (s t f m g : State) (r : Result Migrated CopyError) (
         );
   }
 
--- ---- a call
+-- ---- the call `migrate`
 
--- a store that was only read shows what it showed
+-- a store that was only read shows what it showed, if nothing was uncommitted
 same_tables : (s t : State) (done : Bool) → IsReadBy s t done → HasCleanDisk t → IsSettled s → IsTrue t.is_open → t.now ≡ s.now
 same_tables s t done read clean settled opened = elim (read.kept clean) [ inl same ↦ same.0.now_is | inr undone ↦ (undone.undone opened).0 ∙ sym (settled.committed (undone.was_open opened)) ]
 
@@ -100,6 +101,7 @@ world_of : (db : Database) (x w : World) → IsOldOr db x true w → IsWorld w
 world_of db x w (inl was) = was.1.is
 world_of db x w (inr rest) = absurd (true≢false rest.0)
 
+-- a change from x to w, done if the result is Ok, migrates the store as `MigratesAt` says, with nothing cached after
 at_end : (db : Database) (old new : State) (kept kept_new : Kept) (x w : World) (r : Result (Unit {0}) Refusal) → IsNothing kept_new → HasCleanDisk new → StandsFor old x
     → IsOldOr db x (is_ok r) w → ChangesAt old new (is_ok r) x w → Tells x r → MigratesAt db (shown_with old kept) (shown_with new kept_new) x r
 at_end db old new kept kept_new x w (Ok u) none clean stands was change tells = record {
@@ -121,12 +123,13 @@ at_end db old new kept kept_new x w (Err e) none clean stands was change tells =
   kept = λ _. tt;
 }
 
--- of what became of the rows the call tells, and the fresh store keeps nothing
+-- the result of the call follows from the outcome of the rows, and the fresh store caches nothing
 module _ (s t f g : State) (kept kept_new : Kept) (rows : Result Migrated CopyError) (r : Result (Unit {0}) Refusal) (moved : MigratesRows s t f g rows) (none : IsNothing kept_new)
     (done : is_whole rows ≡ is_ok r) (full : r ≡ Err refusal.NotEmpty → rows ≡ Ok NotEmpty) (tells : (x : World) → IfOk rows (IsMigrated x) → Tells x r) where
   spared : (r ≡ Err refusal.NotEmpty) ⊎ IsForeign s.now → Spares f g
   spared unfit = moved.spares (elim unfit [ inl e ↦ inl (full e) | inr foreign ↦ inr foreign ])
 
+  -- a migration of the rows is a migration by the call
   pub migrated : Migrates s t (shown_with f kept) (shown_with g kept_new) r
   migrated = record {
     clean = moved.clean;
@@ -144,7 +147,7 @@ module _ (s t f g : State) (kept kept_new : Kept) (rows : Result Migrated CopyEr
         (tells x (moved.told good x so.0));
   }
 
--- what is told of a fault
+-- `Tells` holds of each refusal that is a fault
 pub fault_told : (x : World) (e : Refusal) → e ≢ refusal.BadSchema → e ≢ refusal.NotEmpty → e ≢ refusal.NoTeam → Tells x (Err e)
 fault_told x refusal.Device a b c = tt
 fault_told x refusal.Memory a b c = tt
@@ -152,7 +155,7 @@ fault_told x refusal.BadSchema a b c = absurd (a refl)
 fault_told x refusal.NotEmpty a b c = absurd (b refl)
 fault_told x refusal.NoTeam a b c = absurd (c refl)
 
--- and of one of the older store
+-- `Tells` holds of each refusal of an opening but `BadSchema`
 pub opening_told : (x : World) (e : Refusal) → IsOfOpening e → e ≢ refusal.BadSchema → Tells x (Err e)
 opening_told x refusal.Device of a = tt
 opening_told x refusal.Memory of a = tt
@@ -176,7 +179,7 @@ done_told same = absurd (never same)
     never : ◌≡◌ {A = Result (Unit {0}) Refusal} (Ok tt) (Err refusal.NotEmpty) → ⊥
     never e = cc
 
--- ---- why a device is told to have failed
+-- ---- why the call returns `Device`
 
 pub no_device : (s t : State) (count : ℕ) (r : Result (Unit {0}) Refusal) → r ≢ Err refusal.Device → HasCauseInOne s t count count r
 no_device s t count r other = record { no_fewer = omega arith; device = λ _ same. absurd (other same) }

@@ -13,7 +13,7 @@ use Rattle.world.specs.World.{World}
 use Rattle.store.specs.Migrated.{WasOf}
 use Rattle.store.specs.Older.{HoldsOlder}
 
--- where the files hold an older database, the connection shows it
+-- if the files hold an older database, the connection shows it
 pub finds_older : (s : State) (image : Image) → IsLive s → IsTrue s.is_open → s.now ≡ s.committed → FindsIn image s → (w : World) → HoldsOlder image w → WasOf s.now w
 finds_older s image live opened settled finds w held =
     let trees : s.now.trees ≡ held.db.trees = ap (λ (d : Database). d.trees) settled ∙ finds.holds held.db.trees held.holds in

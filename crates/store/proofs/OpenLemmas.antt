@@ -1,4 +1,4 @@
--- Tables that are opened.
+-- Opening the tables of a connection.
 use Rattle.std.proofs.Common.{◌≡◌, ◌⊎◌, refl, sym, ap, subst, ◌∙◌, inl, inr, IsTrue, true≢false, arith}
 use Rattle.std.specs.Prelude.{Option, Some, None, IsSome, IsSomeAnd, List, [], ◌∷◌}
 use Rattle.std.specs.List.{AllZip}
@@ -47,6 +47,7 @@ module _ (old new : State) where
     left = λ db may. let it = open_leaves new w (λ db. law db opened) holds db may in (it.0, it.1, inl it.2);
   }
 
+  -- if the tables stand for a world and are unchanged, the store opens at that world
   pub tables_found : ((db : Trees) → IsTrue new.is_open → new.may_leave db → db ≡ new.committed.trees) → IsSettled old → HasCleanDisk new → IsUnchanged old new → StandsForSome old.now → Opens old new
   tables_found law settled clean same some =
       let shows = same.0 in
@@ -63,7 +64,7 @@ module _ (old new : State) where
         begins = begins_at law shows.is_open clean some.world holds some.is;
       }
 
-  -- where there were no tables, the store begins with `common` alone
+  -- if there were no tables, the store begins with `common` alone
   pub begins_first : old.now.schema ≡ no_schema → Opens old new → BeginsAt (shown_of new) only_common
   begins_first none it = elim it.tables [
     | inl first ↦ subst (BeginsAt (shown_of new)) first.1 it.begins
@@ -78,7 +79,7 @@ unlisted db none some = bare _ none.lists.listed.tables some.lists.listed.tables
     bare [] none some = some
     bare (r ∷ rows) none some = none
 
--- where the files hold a database that stands for the world, the store begins there
+-- if the files hold a database that stands for the world, the store begins at it
 pub begins_found : (old new : State) (image : Image) → IsLive old → IsTrue old.is_open → old.now ≡ old.committed → FindsIn image old → Opens old new → (w : World) → HoldsWorld image w → BeginsAt (shown_of new) w
 begins_found old new image live opened settled finds it w held =
     let trees : old.now.trees ≡ held.0 = ap (λ (d : Database). d.trees) settled ∙ finds.holds held.0 held.1 in
@@ -88,7 +89,7 @@ begins_found old new image live opened settled finds it w held =
       | inr found ↦ subst (BeginsAt (shown_of new)) (stand_for_one old.now.trees it.world w found.means stand.means) it.begins
     ]
 
--- and where they have no database yet, with `common` alone
+-- if the files have no database yet, the store begins with `common` alone
 begins_blank : (old new : State) (image : Image) → IsLive old → IsTrue old.is_open → old.now ≡ old.committed → FindsIn image old → Opens old new → HoldsNothing image → BeginsAt (shown_of new) only_common
 begins_blank old new image live opened settled finds it nothing =
     let empty = finds_empty image old.committed.trees nothing finds.reads in
@@ -122,13 +123,13 @@ pub left_of_no_store : {D : Type 0} {g : Ghosts D} (image : Image) (left : Optio
 left_of_no_store image None none = absurd none
 left_of_no_store image (Some it) none = λ clean. no_database_is_no_store image (none clean)
 
--- nothing is kept where it begins
+-- a store begins at a world with what it caches too, if it caches nothing
 pub begins_empty : (s : State) (kept : Kept) (w : World) → IsNothing kept → BeginsAt (shown_of s) w → BeginsAt (shown_with s kept) w
 begins_empty s kept w none it = record { honest = it.honest; stands = (it.stands, nothing_kept w kept none); left = it.left }
 
--- ---- why one is refused
+-- ---- why an opening is refused
 
--- what is told as a failed device is no want of memory
+-- if running out of memory is refused with `Memory`, `Device` says that something hindered the call
 pub told_device : (old new : State) (e : Error) (r : Refusal) → (e ≡ SqliteFailure code.OutOfMemory → r ≡ refusal.Memory) → IsExcused old new e → r ≡ refusal.Device → IsHindered old new
 told_device old new e r memory (inl wanted) device = absurd (let d : refusal.Memory ≡ refusal.Device = sym (memory wanted) ∙ device in cc)
 told_device old new e r memory (inr hindered) device = hindered

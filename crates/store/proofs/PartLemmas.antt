@@ -31,7 +31,7 @@ is_there ss s h = some_from (bytes_eq s) ss s h (text_self s)
 pub has_there : (ss : List (List ℕ)) (s : List ℕ) → is_among ss s ≡ true → Has ss s
 has_there ss s among = let it = some_has (bytes_eq s) ss among in subst (Has ss) (sym (text_same s it.0 it.2)) it.1
 
--- ---- what it has
+-- ---- what a part has
 
 module _ (w : World) (ss : List (List ℕ)) where
   pub parent_at : (s : List ℕ) → map.get (part_of w ss).shelves s ≡ cond (is_among ss s) (map.get w.shelves s) None
@@ -79,6 +79,7 @@ gone true true o h = absurd (true≢false (h refl))
 gone true false o h = refl
 gone false c o h = refl
 
+-- a part has at most as many versions of a path on a shelf as are allowed, if the world does
 few_left : (w : World) (ss : List (List ℕ)) (s p : List ℕ) → count w s p ≤ version_limit → count (part_of w ss) s p ≤ version_limit
 few_left w ss s p few =
     let test : Place → Bool = λ q. bytes_eq q.shelf s && bytes_eq q.path p in
@@ -96,8 +97,9 @@ few_left w ss s p few =
           omega (arith, none)
     ] refl
 
--- ---- it is a world, where `common` and each parent are among the shelves
+-- ---- a part is a world, if `common` and each parent are among its shelves
 
+-- the part of a world is a world, if its shelves include `common` and the parent of each of them
 pub part_of_is_world : (w : World) (ss : List (List ℕ)) → IsWorld w → is_among ss common ≡ true
     → ((t parent : List ℕ) → is_among ss t ≡ true → map.get w.shelves t ≡ Some (Some parent) → is_among ss parent ≡ true) → IsWorld (part_of w ss)
 part_of_is_world w ss is first closed = record {
@@ -113,7 +115,7 @@ part_of_is_world w ss is first closed = record {
   few = λ s p. few_left w ss s p (is.few s p);
 }
 
--- ---- of shelves by other names, and of all
+-- ---- the part of shelves by other names, and of all shelves
 
 held_same : (ss us : List (List ℕ)) → ((s : List ℕ) → is_among ss s ≡ is_among us s) → (o : Option Holder) → is_held ss o ≡ is_held us o
 held_same ss us same None = refl
@@ -152,7 +154,7 @@ pub chains_common : (w : World) (ts : List (List ℕ)) → is_among (chains w ts
 chains_common w [] = or_left (bytes_eq common common) false (text_self common)
 chains_common w (t ∷ ts) = among_either (chain w t) (chains w ts) common ∙ or_left _ _ (sees_common w t)
 
--- each of them is seen by one of the teams, or is common
+-- each of these shelves is seen by one of the teams, or is `common`
 pub chains_from : (w : World) (ts : List (List ℕ)) (s : List ℕ) → is_among (chains w ts) s ≡ true → (s ≡ common) ⊎ ((t : List ℕ) × Has ts t × (sees w t s ≡ true))
 chains_from w [] s among = inl (only_common s among)
 chains_from w (t ∷ ts) s among =
@@ -178,19 +180,20 @@ chains_closed w is ts s parent among at = elim (chains_from w ts s among) [
 pub chains_world : (w : World) (ts : List (List ℕ)) → IsWorld w → IsWorld (part_of w (chains w ts))
 chains_world w ts is = part_of_is_world w (chains w ts) is (chains_common w ts) (chains_closed w is ts)
 
--- of one team they are its chain
+-- a second truth that implies the first adds nothing to it
 or_taken : (a b : Bool) → (b ≡ true → a ≡ true) → (a || b) ≡ a
 or_taken true b h = refl
 or_taken false true h = sym (h refl)
 or_taken false false h = refl
 
+-- the shelves that one team sees are its chain
 pub one_chain : (w : World) (t s : List ℕ) → is_among (chains w (t ∷ [])) s ≡ is_among (chain w t) s
 one_chain w t s = among_either (chain w t) (common ∷ []) s ∙ or_taken _ _ (λ is. ap (is_among (chain w t)) (only_common s is) ∙ sees_common w t)
 
 pub part_of_one : (w : World) (t : List ℕ) → part_of w (chains w (t ∷ [])) ≡ part w t
 part_of_one w t = part_same w (chains w (t ∷ [])) (chain w t) (one_chain w t)
 
--- and one team more
+-- one more team adds its chain
 pub chains_more : (w : World) (ts : List (List ℕ)) (t s : List ℕ) → is_among (chains w (ts ++ t ∷ [])) s ≡ (is_among (chains w ts) s || is_among (chain w t) s)
 chains_more w [] t s = one_chain w t s ∙ sym (first (is_among (common ∷ []) s) (is_among (chain w t) s) (λ is. ap (is_among (chain w t)) (only_common s is) ∙ sees_common w t))
   where
@@ -235,7 +238,7 @@ of_parent parent = record { name = parent; parent = None }
 abbrev of_team : List ℕ → List ℕ → Shelf
 of_team t parent = record { name = t; parent = Some parent }
 
--- a team is put behind its parent
+-- a team is added behind its parent
 module _ (w : World) (is : IsWorld w) (done : List (List ℕ)) (shelves : List Shelf) (t parent : List ℕ) (at : map.get w.shelves t ≡ Some (Some parent)) (of : AreOf w (chains w done) shelves) where
   abbrev with_parent : List Shelf
   with_parent = added shelves (of_parent parent)
@@ -260,13 +263,13 @@ module _ (w : World) (is : IsWorld w) (done : List (List ℕ)) (shelves : List S
   pub team_of : AreOf w (chains w (done ++ t ∷ [])) (added with_parent (of_team t parent))
   team_of = record { are = team_are; same = team_names }
 
--- of no team, common alone
+-- with no teams, the shelves are `common` alone, for which the list is empty
 pub none_of : (w : World) → AreOf w (chains w []) []
 none_of w = record { are = λ s none. absurd none; same = λ s. refl }
 
--- ---- one team after the other
+-- ---- one team after another
 
--- the teams so far are teams, and the shelves are those that they see
+-- the names so far are those of teams, and the shelves are those that they see
 abbrev pub SeenSoFar : World → List (List ℕ) → List Shelf → Type 0
 SeenSoFar w done shelves = ((t : List ℕ) → Has done t → IsTeam w t) × AreOf w (chains w done) shelves
 
@@ -283,11 +286,11 @@ one_so_far w is done shelves more t adds seen = (
   subst (AreOf w (chains w (done ++ t ∷ []))) (sym adds.2) (team_of w is done shelves t adds.0 adds.1 seen.1),
 )
 
--- all of them
+-- once all names are walked over, the shelves are those that all the teams see
 pub all_so_far : (w : World) (ts : List (List ℕ)) (shelves : List Shelf) → ts ≢ [] → SeenSoFar w ts shelves → ListsTeams w ts (Some shelves)
 all_so_far w ts shelves some seen = ((some, seen.0), seen.1)
 
--- one that is no team
+-- if one name is not a team's, there is no list
 pub not_all : (w : World) (ts : List (List ℕ)) (t : List ℕ) (shelves : List Shelf) → Has ts t → AddsTeam w t shelves None → ListsTeams w ts None
 not_all w ts t shelves there none = λ are. none (are.1 t there)
 
@@ -324,11 +327,11 @@ got_some [] i d e within = absurd (omega (arith, within))
 got_some (x ∷ xs) zero d e within = refl
 got_some (x ∷ xs) (suc i) d e within = got_some xs i d e (omega (arith, within))
 
--- one of those that are named
+-- the name at a place within the list is among the names
 pub has_named : {X : Type 0} (f : X → List ℕ) (xs : List X) (i : ℕ) (d : X) → i < length xs → Has (each f xs) (f (get_or xs i d))
 has_named f xs i d within = mapped_has f xs (get_or xs i d) (has_at xs i (get_or xs i d) within (got_some xs i d (get_or xs i d) within))
 
--- where some are named, it ends behind one
+-- a walk that is past the end of a list that is not empty has taken a step
 pub past_none : (n i : ℕ) → (n ≡ 0 → ⊥) → n ≤ i → 0 < i
 past_none n zero some le = absurd (some (omega (arith, le)))
 past_none n (suc i) some le = omega arith

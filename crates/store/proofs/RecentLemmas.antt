@@ -1,4 +1,4 @@
--- Values that are kept: which are left, and what they weigh.
+-- Cached values: which remain, and what they weigh.
 use Rattle.std.proofs.Common.{◌≡◌, ◌∙◌, ◌≤◌, ◌⊎◌, ◌+◌, ◌-◌, ℕ, zero, suc, Bool, true, false, cond, List, [], ◌∷◌, take, length, slice_get, Contains, Option, Some, None, inl, inr, refl, sym, ap, subst, arith}
 use Rattle.std.specs.Map.{lookup, lookup_entry, remove_entry}
 use Rattle.std.specs.Option.{option_map_or}
@@ -13,12 +13,12 @@ Held V = List (ℕ × (ℕ × V))
 abbrev pub Cache : Type 0 → Type 0
 Cache V = LruCache ℕ (ℕ × V)
 
--- what a cache holds, if there is one
+-- the entries of a cache, or none without a cache
 abbrev pub entries_in : {V : Type 0} → Option (Cache V) → Held V
 entries_in {V = V} cache = option_map_or (λ (c : Cache V). c.entries) cache []
 
 module _ {V : Type 0} where
-  -- ---- which are left
+  -- ---- which values remain
 
   holds_fewer : (new old : Held V) → ((e : ℕ × (ℕ × V)) → Contains new e → Contains old e) → (v : V) → Holds new v → Holds old v
   holds_fewer new old among v h = (h.0, among h.0 h.1, h.2)
@@ -38,7 +38,7 @@ module _ {V : Type 0} where
     | inr put ↦ inr (sym h.2 ∙ ap (λ y. y.1) put.0)
   ]
 
-  -- ---- what they weigh
+  -- ---- what the values weigh
 
   weight_without : (test : ℕ → Bool) (es : Held V) (e : ℕ × (ℕ × V)) → lookup_entry test es ≡ Some e → e.1.0 + weight_in (remove_entry test es) ≡ weight_in es
   weight_without test [] e h = cc
@@ -84,7 +84,7 @@ module _ {V : Type 0} where
     | false ↦ let on = weight_fewer test es in omega (arith, on)
   ]
 
-  -- ---- a call on a cache, whose entries were these, and which weighed no more than was noted
+  -- ---- a call on a cache with these entries, which weigh no more than was noted
 
   module _ (old new : Cache V) (es : Held V) (was : old.entries ≡ es) (noted most : ℕ) (fits : (weight_in es ≤ noted) × (noted ≤ most)) where
     module _ (test : ℕ → Bool) where

@@ -1,4 +1,4 @@
--- The shelves of a chain, asked one after the other for a heading.
+-- The shelves of a chain, queried one after another for a heading.
 use Rattle.std.proofs.Common.{◌≡◌, ◌+◌, ◌<◌, ◌≤◌, ℕ, List, [], ◌∷◌, length, get_or, drop, map as each, Option, Some, None, refl, sym, ap, ◌∙◌}
 use Rattle.std.proofs.lemmas.List.{at_drop_more, drop_all}
 use Rattle.std.specs.Borrow.{Bor}
@@ -10,14 +10,14 @@ use Rattle.world.specs.World.{World, place, seen_at, first_on, heading_of, witho
 use Rattle.store.specs.Zips.{seen_heading}
 
 module _ (w : World) (s : List ℕ) (ss : List (List ℕ)) (p v : List ℕ) where
-  -- what a shelf has is found on it and others behind it
+  -- the heading that one shelf has is what it and the shelves behind it show
   heading_here : (h : Heading) → Some h ≡ without_zip (first_on w (s ∷ []) p v) → Some (record { shelf = s; heading = h }) ≡ seen_heading (first_on w (s ∷ ss) p v)
   heading_here h = elim (map.get w.entries (place s p v)) as (λ o. Some h ≡ without_zip (option_or (seen_at o s) None) → Some (record { shelf = s; heading = h }) ≡ seen_heading (option_or (seen_at o s) (first_on w ss p v))) [
     | Some e ↦ λ is. let same : h ≡ heading_of e = cc is in ap (λ (k : Heading). Some (record { shelf = s; heading = k })) same
     | None ↦ λ is. absurd (cc is)
   ]
 
-  -- where it has nothing, it is what is found behind it
+  -- if a shelf has nothing, it and the shelves behind it have what those behind it have
   none_here : None ≡ without_zip (first_on w (s ∷ []) p v) → first_on w (s ∷ ss) p v ≡ first_on w ss p v
   none_here = elim (map.get w.entries (place s p v)) as (λ o. None ≡ without_zip (option_or (seen_at o s) None) → option_or (seen_at o s) (first_on w ss p v) ≡ first_on w ss p v) [
     | Some e ↦ λ none. absurd (cc none)
@@ -30,7 +30,7 @@ texts_of shelves = each (λ s. s.now) shelves
 abbrev no_shelf : Bor (List ℕ)
 no_shelf = record { ref_ptr = (0, 0); now = [] }
 
--- what is found on the shelves that are left
+-- what the shelves that remain have
 module _ (w : World) (shelves : List (Bor (List ℕ))) (i : ℕ) (p v : List ℕ) (seen : Option Seen) (left : first_on w (texts_of (drop i shelves)) p v ≡ seen) where
   abbrev shelf : List ℕ
   shelf = (get_or shelves i no_shelf).now

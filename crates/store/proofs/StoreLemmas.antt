@@ -25,7 +25,7 @@ pub narrow : (s : State) (w : World) → LeavesEither s w w → LeavesOnly s (λ
 narrow s w only db may = let it = only db may in (it.0, it.1, elim it.2 [ inl e ↦ e | inr e ↦ e ])
 
 module _ {T : Type 0} (old new : State) (kept after : Kept) where
-  -- a read, which may keep what it found
+  -- a read of the tables, which may cache what it found
   pub reads_keeping : (r : Result T StoreFault) (value : World → T) → Spares old new
       → (HasCleanDisk new → (w : World) → StandsFor old w → AreKept w kept → IfOk r (λ x. x ≡ value w) × AreKept w after) → Reads (shown_with old kept) (shown_with new after) r value
   reads_keeping r value spares told = record {
@@ -37,7 +37,7 @@ module _ {T : Type 0} (old new : State) (kept after : Kept) where
     };
   }
 
-  -- a change
+  -- a change of the tables
   pub changes : (r : Result T StoreFault) (fits : World → Type 0) (value : World → T) (next : World → World) → doubt old.is_clean ≤ doubt new.is_clean
       → (HasCleanDisk new → (w : World) → StandsFor old w → fits w → IfOk r (λ x. x ≡ value w) × ChangesAt old new (is_ok r) w (next w) × IsWorld (next w))
       → ((w : World) → fits w → AreKept w kept → AreKept (if is_ok r then next w else w) after) → DoesWhere fits (shown_with old kept) (shown_with new after) r value next
@@ -46,6 +46,7 @@ module _ {T : Type 0} (old new : State) (kept after : Kept) where
     at = λ clean w stands fit. let it = done clean w stands.0 fit in changed r clean w stands.0 (value w) (next w) it.0 it.1 it.2 (counted w fit stands.1);
   }
     where
+      -- a change of one world, done if the result is Ok, is what `DoesAt` says
       changed : (r : Result T StoreFault) → HasCleanDisk new → (w : World) → StandsFor old w → (value : T) (next : World) → IfOk r (λ x. x ≡ value) → ChangesAt old new (is_ok r) w next → IsWorld next
           → AreKept (if is_ok r then next else w) after → DoesAt (shown_with old kept) (shown_with new after) w r value next
       changed (Ok x) clean w stands value next answer change is right = record {
@@ -67,19 +68,19 @@ module _ {T : Type 0} (old new : State) (kept after : Kept) where
         failed = elim (change.failed refl clean stands.0) [ inl only ↦ inl only | inr none ↦ inr (λ x y only db may. only db (none db may)) ];
       }
 
--- a read that keeps no more
+-- a read of the tables that caches nothing
 pub reads : {T : Type 0} (old new : State) (kept : Kept) (r : Result T StoreFault) (value : World → T) → Spares old new
     → (HasCleanDisk new → (w : World) → StandsFor old w → IfOk r (λ x. x ≡ value w)) → Reads (shown_with old kept) (shown_with new kept) r value
 reads old new kept r value spares answer = reads_keeping old new kept kept r value spares (λ clean w stands right. (answer clean w stands, right))
 
--- a read of what is kept, with no call on the tables
+-- a read of what is cached, with no call on the tables
 pub reads_kept : {T : Type 0} (old : State) (kept after : Kept) (x : T) (value : World → T) → ((w : World) → AreKept w kept → (x ≡ value w) × AreKept w after) → Reads (shown_with old kept) (shown_with old after) (Ok x) value
 reads_kept old kept after x value told = record {
   honest = λ clean. clean;
   at = λ clean w stands. let it = told w stands.1 in record { answer = it.0; stays = (stands.0, it.1); left = λ _ _ only. only };
 }
 
--- what is kept may be other than a read left it
+-- a read stays one if the cache then changes and is still right
 pub reads_then : {T : Type 0} (start : Shown) (new : State) (kept after : Kept) (r : Result T StoreFault) (value : World → T) → Reads start (shown_with new kept) r value
     → (HasCleanDisk new → (w : World) → start.stands w → AreKept w kept → AreKept w after) → Reads start (shown_with new after) r value
 reads_then start new kept after r value read right = record {
@@ -87,7 +88,7 @@ reads_then start new kept after r value read right = record {
   at = λ clean w stands. let told = read.at clean w stands in record { answer = told.answer; stays = (told.stays.0, right clean w stands told.stays.1); left = told.left };
 }
 
--- a read on the way failed, and with it the whole
+-- if a read on the way fails, the whole read fails
 pub reads_failed : {T U : Type 0} (start end : Shown) (r : Result T StoreFault) (s : Result U StoreFault) (value : World → T) (other : World → U) → IsErr s → Reads start end r value → Reads start end s other
 reads_failed start end r s value other failed read = record {
   honest = read.honest;
@@ -98,7 +99,7 @@ reads_failed start end r s value other failed read = record {
     none P (Ok x) failed = absurd (true≢false (sym failed))
     none P (Err e) failed = tt
 
--- less may be kept before a read
+-- a read with less in the cache is a read, if what remains in it is right
 pub reads_with_less : {T : Type 0} (old : State) (kept less : Kept) (end : Shown) (r : Result T StoreFault) (value : World → T) → ((w : World) → AreKept w kept → AreKept w less)
     → Reads (shown_with old less) end r value → Reads (shown_with old kept) end r value
 reads_with_less old kept less end r value right read = record {
@@ -106,7 +107,7 @@ reads_with_less old kept less end r value right read = record {
   at = λ clean w stands. let told = read.at clean w (stands.0, right w stands.1) in record { answer = told.answer; stays = told.stays; left = told.left };
 }
 
--- once the group of a shelf is read, a read of the tables along its chain
+-- a read of a shelf's group, and then a read of the tables along its chain, is one read
 pub reads_along : {T : Type 0} (start : Shown) (mid new : State) (kept : Kept) (shelf : List ℕ) (group : Option (List ℕ)) (shelves : List (List ℕ)) (r : Result T StoreFault) (value : World → List (List ℕ) → T)
     → shelves ≡ shelf ∷ above group → Reads start (shown_with mid kept) (Ok group) (λ w. group_of w shelf) → Spares mid new
     → (HasCleanDisk new → (w : World) → Stands mid w → IfOk r (λ x. x ≡ value w shelves)) → Reads start (shown_with new kept) r (λ w. value w (chain w shelf))
@@ -122,7 +123,7 @@ reads_along start mid new kept shelf group shelves r value along read spares ans
       };
 }
 
--- a change that is refused, with no call on the tables
+-- a change that is refused without a call on the tables
 pub refused : {T : Type 0} (old : State) (kept : Kept) (x : T) (value : World → T) (next : World → World) → ((w : World) → (x ≡ value w) × (w ≡ next w)) → Does (shown_with old kept) (shown_with old kept) (Ok x) value next
 refused old kept x value next same = record {
   honest = λ clean. clean;
@@ -137,7 +138,7 @@ refused old kept x value next same = record {
   };
 }
 
--- ---- the commands of the registry leave what is kept, but for the lists of versions where a team is made
+-- ---- the commands of the registry leave the cache as it is, except for the lists of versions when a team is added
 
 module _ (w : World) (kept : Kept) (right : AreKept w kept) where
   module _ (lists : Lists) (none : lists ≡ []) where

@@ -1,4 +1,4 @@
--- The statements that tell whether a store has more than `common`.
+-- The statements that find out whether a store has more than `common`.
 use Rattle.std.specs.Prelude.{codes, List, ℕ}
 
 abbrev pub other_shelf_text : List ℕ

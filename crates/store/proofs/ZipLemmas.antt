@@ -1,4 +1,4 @@
--- Zips that are kept stay right: as one more is kept, as some are dropped, and as the world grows.
+-- Cached zips stay right when one more is cached, when some are dropped, and when the world grows.
 use Rattle.std.proofs.Common.{◌≡◌, ◌∙◌, ◌⊎◌, ℕ, List, [], ◌∷◌, true, Option, None, Some, inl, inr, refl, sym, ap, subst}
 use Rattle.std.specs.Prelude.{bytes_eq, IsTrue}
 use Rattle.std.specs.FinMap as map
@@ -19,7 +19,7 @@ use Rattle.store.proofs.RecentLemmas.{holds_none}
 abbrev pub Kept : Type 0
 Kept = List (ℕ × (ℕ × KeptZip))
 
--- ---- fewer, none, and one more
+-- ---- fewer zips, none, and one more
 
 pub fewer_zips : (w : World) (old new : Kept) → ((it : KeptZip) → Holds new it → Holds old it) → AreZips w old → AreZips w new
 fewer_zips w old new among are it at = are it (among it at)
@@ -33,7 +33,7 @@ one_more_zip w old new kept split are is it at = elim (split it at) [
   | inr same ↦ subst (λ (k : KeptZip). IsZipAt w k.place k.zip) (sym same) is
 ]
 
--- ---- one that is found
+-- ---- a zip that is found
 
 same_place : (q r : Place) → bytes_eq q.shelf r.shelf ≡ true → bytes_eq q.path r.path ≡ true → bytes_eq q.version r.version ≡ true → q ≡ r
 same_place q r s p v =
@@ -50,7 +50,7 @@ found_zip w zips it q at is are =
 
 -- ---- the world grows
 
--- an entry is put where there was none
+-- zips stay right when an entry is added at a place that had none
 pub zips_still : (w : World) (q : Place) (e : Entry) → map.get w.entries q ≡ None → (zips : Kept) → AreZips w zips → AreZips (with_entry w q e) zips
 zips_still w q e free zips are it at =
     let was = are it at in
@@ -59,7 +59,7 @@ zips_still w q e free zips are it at =
 
 -- ---- what is seen
 
--- it stands on its shelf
+-- what is seen is the entry that its shelf has there
 pub stands_on : (w : World) (ss : List (List ℕ)) (p v : List ℕ) (seen : Option Seen) → first_on w ss p v ≡ seen → IsSeenAt w p v seen
 stands_on w ss p v None found = tt
 stands_on w ss p v (Some e) found = go ss found
@@ -75,12 +75,12 @@ stands_on w ss p v (Some e) found = go ss found
               subst (λ (y : Seen). map.get w.entries (place y.shelf p v) ≡ Some y.entry) same here
         ] refl found
 
--- nothing is seen without its zip only where nothing is seen
+-- if no heading is seen, nothing is seen
 pub none_seen : (seen : Option Seen) → None ≡ seen_heading seen → None ≡ seen
 none_seen None is = refl
 none_seen (Some e) is = cc is
 
--- with a kept zip it is whole
+-- a heading that is seen, with the cached zip of its place, is the entry that is seen
 pub whole : (w : World) (ss : List (List ℕ)) (p v : List ℕ) (h : SeenHeading) (zip : List ℕ) → Some h ≡ seen_heading (first_on w ss p v) → IsZipAt w (place h.shelf p v) zip
     → Some (record { shelf = h.shelf; entry = entry_with h.heading zip }) ≡ first_on w ss p v
 whole w ss p v h zip = go (first_on w ss p v) refl

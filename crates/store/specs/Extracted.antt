@@ -1,4 +1,4 @@
--- What a store does that is made of one team's part of another.
+-- What extracting one team's part of a store into a fresh store does.
 use Rattle.std.specs.Prelude.{ℕ, ◌≡◌, ◌≢◌, ◌≤◌, ◌⊎◌, List, true, Some, Result, Ok, Err, OnOk, OnErr}
 use Rattle.std.specs.FinMap as map
 use Rattle.sqlite.specs.State.{State, HasCleanDisk}
@@ -23,21 +23,21 @@ HasKey x = (k : List ℕ) × (h : Holder) × (map.get x.keys k ≡ Some h)
 abbrev pub HasEntry : World → Type 0
 HasEntry x = (q : Place) × (e : Entry) × (map.get x.entries q ≡ Some e)
 
--- so it is in each two worlds that the source and the fresh store stood for, as far as no answer of a disk was wrong
+-- P holds of each world of the source and each world of the fresh store, if both disks have returned what was written
 abbrev pub InEachTwo : State → State → State → State → (World → World → Type 0) → Type 0
 InEachTwo source source_new fresh fresh_new P =
     HasCleanDisk source_new → HasCleanDisk fresh_new → (w x : World) → StandsFor source w → StandsFor fresh x → P w x
 
--- ---- a call
+-- ---- the call `extract`
 
--- it shows the same world, and a crash leaves nothing that it did not leave before
+-- the store still stands for each world that it stood for, and if a crash left one of two worlds, it still leaves one of the two
 pub record IsRead (old new : Shown) : Type 0 where
   pub honest : new.is_honest → old.is_honest
   pub stays : new.is_honest → (w : World) → old.stands w → new.stands w
   pub left : new.is_honest → (w x y : World) → old.stands w → old.leaves x y → new.leaves x y
 
--- What an extract of a team of w into a store of x tells: that it is done or which of the two stood against it, or that memory was
--- wanted or a device failed. That there is no such team comes first.
+-- What the result of extracting a team of w into a store of x says: it is done, or why it is refused, or memory ran out or a device
+-- failed. `NoTeam` comes before `NotEmpty`.
 abbrev pub Tells : World → World → List ℕ → Result (Unit {0}) Refusal → Type 0
 Tells w x team (Ok u) = IsTeam w team × (x ≡ only_common)
 Tells w x team (Err refusal.NoTeam) = ¬ IsTeam w team
@@ -46,8 +46,8 @@ Tells w x team (Err refusal.BadSchema) = ⊥
 Tells w x team (Err refusal.Device) = Unit {0}
 Tells w x team (Err refusal.Memory) = Unit {0}
 
--- The fresh store stands for the part of the team once it is done, and else for what it stood for. If a crash left that alone before, it leaves the
--- two from then on, and once it is done the part alone.
+-- The fresh store stands for the team's part if the call returns Ok, and for what it stood for otherwise. If a crash left only the
+-- old world, it leaves that or the part, and only the part once the call has returned Ok.
 pub record ExtractsAt (old new : Shown) (w x : World) (team : List ℕ) (result : Result (Unit {0}) Refusal) : Type 0 where
   pub tells : Tells w x team result
   pub ok : OnOk result (new.stands (part w team))
@@ -55,12 +55,12 @@ pub record ExtractsAt (old new : Shown) (w x : World) (team : List ℕ) (result 
   pub left : old.leaves x x → new.leaves x (part w team)
   pub kept : old.leaves x x → OnOk result (new.leaves (part w team) (part w team))
 
--- there is no such team, or the fresh store has more than `common`
+-- the refusal is that there is no such team, or that the fresh store has more than `common`
 abbrev pub IsUnfit : Result (Unit {0}) Refusal → Type 0
 IsUnfit result = (result ≡ Err refusal.NoTeam) ⊎ (result ≡ Err refusal.NotEmpty)
 
--- So it is in each two worlds that the source and the fresh store stood for, as far as no answer of a disk was wrong. The source is only read, and so is a
--- fresh store where the part is not to be put into it.
+-- For each world of the source and each of the fresh store, `ExtractsAt` holds, if the disks have returned what was written. The
+-- source is only read, and so is the fresh store if `IsUnfit` holds of the result.
 pub record Extracts (source source_new fresh fresh_new : Shown) (team : List ℕ) (result : Result (Unit {0}) Refusal) : Type 0 where
   pub reads : IsRead source source_new
   pub honest : fresh_new.is_honest → fresh.is_honest
@@ -69,7 +69,7 @@ pub record Extracts (source source_new fresh fresh_new : Shown) (team : List ℕ
       source_new.is_honest → fresh_new.is_honest → (w x : World) → source.stands w → fresh.stands x
       → ExtractsAt fresh fresh_new w x team result
 
--- `Device` is told only where a device of one of the two stores failed in the call, or its count of failures cannot grow
+-- the call returns `Device` only if a device of one of the two stores failed in it, or a count of failures cannot grow
 pub record HasCauseInEither (before now before_too now_too : ℕ) (result : Result (Unit {0}) Refusal) : Type 0 where
   pub no_fewer : before ≤ now
   pub no_fewer_too : before_too ≤ now_too

@@ -1,4 +1,4 @@
--- What a store keeps from call to call.
+-- What a store caches from call to call.
 use Rattle.std.specs.Prelude.{◌≡◌, []}
 use Rattle.std.specs.FinMap as map
 use Rattle.world.specs.World.{World}
@@ -8,9 +8,10 @@ use Rattle.store.specs.Lists.{AreLists}
 use Rattle.store.specs.Zips.{AreZips}
 use Rattle.store.specs.declared.kept.Kept.{Kept}
 
--- what is kept is so in a world
+-- all that is cached is true in the world
 abbrev pub AreKept : World → Kept → Type 0
 AreKept w kept = AreCounts w kept.counts × AreLists w kept.lists × AreGroups w kept.groups × AreZips w kept.zips
 
+-- nothing is cached
 abbrev pub IsNothing : Kept → Type 0
 IsNothing kept = (kept.counts ≡ map.empty) × (kept.lists ≡ []) × (kept.groups ≡ map.empty) × (kept.zips ≡ [])

@@ -1,4 +1,4 @@
--- What a store does that is made of one of an older schema.
+-- What migrating a store of an older schema into a fresh store does.
 use Rattle.std.specs.Prelude.{◌≡◌, ◌≢◌, ◌≤◌, ◌⊎◌, ℕ, Bool, true, false, Result, Ok, Err, IfOk, IfErr, OnOk, OnErr, is_ok, IsTrue}
 use Rattle.sqlite.specs.Effect.{Database}
 use Rattle.sqlite.specs.State.{State, HasCleanDisk}
@@ -29,17 +29,17 @@ WasOf db w = (format : Format) × StandsAs format db w
 abbrev pub IsForeign : Database → Type 0
 IsForeign db = (format : Format) → db.schema ≢ schema_of format
 
--- a table of an older schema has as many rows as there are rowids, more than a walk over them counts
+-- a table of an older schema has at least as many rows as there are rowids
 abbrev pub IsVastOlder : Database → Type 0
 IsVastOlder db = (format : Format) × IsVastAs format db
 
--- the world that may be written is that of the older tables, or where not all was done, the one that is there
+-- the world is the one of the older tables, or x if the migration is not done
 abbrev pub IsOldOr : Database → World → Bool → World → Type 0
 IsOldOr db x done w = WasOf db w ⊎ ((done ≡ false) × (w ≡ x))
 
 -- ---- the rows
 
--- what becomes of a migration into a store of x
+-- what the outcome of a migration into a store of x says of x
 abbrev pub IsMigrated : World → Migrated → Type 0
 IsMigrated x Whole = x ≡ only_common
 IsMigrated x NotEmpty = x ≢ only_common
@@ -49,16 +49,17 @@ abbrev pub is_whole : Result Migrated CopyError → Bool
 is_whole (Ok Whole) = true
 is_whole result = false
 
--- nothing is to be written
+-- nothing is to be written: the fresh store has more than `common`, or the tables are those of no older schema
 abbrev pub IsHopeless : Database → Result Migrated CopyError → Type 0
 IsHopeless db result = (result ≡ Ok NotEmpty) ⊎ IsForeign db
 
--- an error of the older store tells that memory was wanted, or something hindered the call, or a table is vast
+-- an error of the older store says that memory ran out, or something hindered the call, or a table is vast
 abbrev pub HasOlderReason : State → State → CopyError → Type 0
 HasOlderReason old old_new (Source e) = IsExcused old old_new e ⊎ IsVastOlder old.now
 HasOlderReason old old_new (Fresh e) = Unit {0}
 
--- The older store is only read. The fresh one stands for what the old tables mean once all is written, and for what it stood for otherwise.
+-- The older store is only read. The fresh store stands for what the old tables mean if all is written, and for what it stood for
+-- otherwise.
 pub record MigratesRows (old old_new fresh fresh_new : State) (result : Result Migrated CopyError) : Type 0 where
   pub clean : doubt old.is_clean ≤ doubt old_new.is_clean
   pub reads : IsOpenIfHonest old → IsReadBy old old_new (is_whole result)
@@ -70,10 +71,10 @@ pub record MigratesRows (old old_new fresh fresh_new : State) (result : Result M
       HasCleanDisk old_new → HasCleanDisk fresh_new → IsOpenIfHonest old → (x : World) → StandsFor fresh x
       → (w : World) × IsOldOr old.now x (is_whole result) w × ChangesAt fresh fresh_new (is_whole result) x w
 
--- ---- a call
+-- ---- the call `migrate`
 
--- What a migration into a store of x tells: that it is done, or what stood against it, or that memory was wanted or a device failed. That the fresh store has
--- more than common comes before the tables of the older one.
+-- What the result of migrating into a store of x says: it is done, or why it is refused, or memory ran out or a device failed.
+-- `NotEmpty` comes before `BadSchema`.
 abbrev pub Tells : World → Result (Unit {0}) Refusal → Type 0
 Tells x (Ok u) = x ≡ only_common
 Tells x (Err refusal.NotEmpty) = x ≢ only_common
@@ -82,8 +83,8 @@ Tells x (Err refusal.NoTeam) = ⊥
 Tells x (Err refusal.Device) = Unit {0}
 Tells x (Err refusal.Memory) = Unit {0}
 
--- The fresh store stands for what the old tables mean once it is done, and otherwise for what it stood for. If a crash left that alone before, it leaves the
--- two from then on, and once it is done the old world alone.
+-- The fresh store stands for what the old tables mean if the call returns Ok, and for what it stood for otherwise. If a crash left
+-- only x, it leaves x or the old world, and only the old world once the call has returned Ok.
 pub record MigratesAt (db : Database) (old new : Shown) (x : World) (result : Result (Unit {0}) Refusal) : Type 0 where
   pub tells : Tells x result
   pub world : World
@@ -93,8 +94,8 @@ pub record MigratesAt (db : Database) (old new : Shown) (x : World) (result : Re
   pub left : old.leaves x x → new.leaves x world
   pub kept : old.leaves x x → OnOk result (new.leaves world world)
 
--- The older store is only read, and so is a fresh one that has more than common, or where the older tables are those of no older schema. In each world that
--- the fresh store stood for it is so, as far as no answer of a disk was wrong.
+-- The older store is only read, and so is a fresh store that has more than `common`, or if the older tables are those of no older
+-- schema. For each world of the fresh store `MigratesAt` holds, if the disks have returned what was written.
 pub record Migrates (old old_new : State) (fresh fresh_new : Shown) (result : Result (Unit {0}) Refusal) : Type 0 where
   pub clean : doubt old.is_clean ≤ doubt old_new.is_clean
   pub reads : IsOpenIfHonest old → IsReadBy old old_new (is_ok result)
@@ -103,8 +104,8 @@ pub record Migrates (old old_new : State) (fresh fresh_new : Shown) (result : Re
   pub spares : (result ≡ Err refusal.NotEmpty) ⊎ IsForeign old.now → IsRead fresh fresh_new
   pub at : HasCleanDisk old_new → fresh_new.is_honest → IsOpenIfHonest old → (x : World) → fresh.stands x → MigratesAt old.now fresh fresh_new x result
 
--- `Device` is told only where the older connection was shut or limited in its steps, or its disk failed in the call, or a table of it is vast, or where a
--- device of the fresh store failed, or its count of failures cannot grow
+-- The call returns `Device` only if the older connection was closed or limited in its steps, or its disk failed in the call, or a
+-- table of it is vast, or if a device of the fresh store failed or its count of failures cannot grow.
 pub record HasCauseInOne (old old_new : State) (before now : ℕ) (result : Result (Unit {0}) Refusal) : Type 0 where
   pub no_fewer : before ≤ now
   pub device : HasCleanDisk old_new → result ≡ Err refusal.Device → (IsHindered old old_new ⊎ IsVastOlder old.now) ⊎ GrewOrFull before now

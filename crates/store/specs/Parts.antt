@@ -1,4 +1,4 @@
--- Some shelves of a store as a store of its own: those that some teams see, or all.
+-- Copying some shelves of a store into a fresh store: those that some teams see, or all.
 use Rattle.std.specs.Prelude.{ℕ, ◌≡◌, ◌≢◌, List, [], ◌∷◌, ◌++◌, map as each, Bool, true, false, Option, Some, None, Result, Ok, Err, OnOk, OnErr, IsTrue}
 use Rattle.std.specs.FinMap as map
 use Rattle.sqlite.specs.State.{State, HasCleanDisk}
@@ -33,44 +33,44 @@ part_of w ss = record {
   entries = map.retain_keys w.entries (λ q. is_among ss q.shelf);
 }
 
--- the shelves that any of these sees, and `common`
+-- the shelves that any of these teams sees, and `common`
 abbrev pub chains : World → List (List ℕ) → List (List ℕ)
 chains w [] = common ∷ []
 chains w (t ∷ ts) = chain w t ++ chains w ts
 
--- there are some, and each is a team
+-- at least one name is given, and each is the name of a team
 abbrev pub AreTeams : World → List (List ℕ) → Type 0
 AreTeams w ts = (ts ≢ []) × ((t : List ℕ) → Has ts t → IsTeam w t)
 
 -- ---- the choice
 
--- a team, and its parent before it
+-- the list with the parent of a team, and then the team, added
 abbrev pub behind_parent : List Shelf → List ℕ → List ℕ → List Shelf
 behind_parent shelves parent t = added (added shelves (record { name = parent; parent = None })) (record { name = t; parent = Some parent })
 
--- a team is put behind its parent; nothing, where it is none
+-- a team is added behind its parent; None: there is no such team
 abbrev pub AddsTeam : World → List ℕ → List Shelf → Option (List Shelf) → Type 0
 AddsTeam w t shelves None = ¬ IsTeam w t
 AddsTeam w t shelves (Some more) =
     (parent : List ℕ) × (map.get w.shelves t ≡ Some (Some parent))
     × (more ≡ behind_parent shelves parent t)
 
--- some shelves of a world: those of these names, and `common`
+-- these are shelves of the world, and their names, with `common`, are the names ss
 pub record AreOf (w : World) (ss : List (List ℕ)) (shelves : List Shelf) : Type 0 where
   pub are : AreShelves w shelves
   pub same : (s : List ℕ) → is_among (common ∷ names_of shelves) s ≡ is_among ss s
 
--- the shelves that these teams see; nothing, where they are no teams
+-- these are the shelves that the teams see; None: no team is named, or a name is not a team's
 abbrev pub ListsTeams : World → List (List ℕ) → Option (List Shelf) → Type 0
 ListsTeams w ts None = ¬ AreTeams w ts
 ListsTeams w ts (Some shelves) = AreTeams w ts × AreOf w (chains w ts) shelves
 
--- what is wanted is there
+-- what is wanted exists: each wanted team does
 abbrev pub IsThere : World → Wanted → Type 0
 IsThere w (wanted.Teams ts) = AreTeams w (each (λ t. t.now) ts.now)
 IsThere w wanted.All = Unit {0}
 
--- the shelves that are wanted
+-- the names of the shelves that are wanted
 abbrev pub shelves_of : World → Wanted → List (List ℕ)
 shelves_of w (wanted.Teams ts) = chains w (each (λ t. t.now) ts.now)
 shelves_of w wanted.All = map.keys w.shelves
@@ -80,11 +80,12 @@ abbrev pub what : Wanted → World → World
 what (wanted.Teams ts) w = part_of w (chains w (each (λ t. t.now) ts.now))
 what wanted.All w = w
 
+-- the shelves, with `common`, are those that are wanted; None: what is wanted does not exist
 abbrev pub Chooses : World → Wanted → Option (List Shelf) → Type 0
 Chooses w it None = ¬ IsThere w it
 Chooses w it (Some shelves) = IsThere w it × AreShelves w shelves × (part_of w (common ∷ names_of shelves) ≡ what it w)
 
--- what is to become of shelves of w that are to go into a store of x
+-- the verdict on copying wanted shelves of w into a store of x
 abbrev pub IsJudged : World → World → Wanted → Judged → Type 0
 IsJudged w x it (judged.Fit shelves) =
     IsThere w it × AreShelves w shelves × (part_of w (common ∷ names_of shelves) ≡ what it w) × (x ≡ only_common)
@@ -97,38 +98,38 @@ is_fit (judged.Fit shelves) = true
 is_fit judged.NoTeam = false
 is_fit judged.NotEmpty = false
 
--- whether they were written
+-- whether the shelves were written
 abbrev pub is_written : Result Judged CopyError → Bool
 is_written (Ok judged) = is_fit judged
 is_written (Err e) = false
 
 -- ---- the rows
 
--- Rows are put into a fresh store, within a transaction of it, which makes of its tables others.
+-- Rows are put into a fresh store inside a transaction of it. If the call is done, `Makes` relates the tables before and after.
 pub record Puts (Makes : Trees → Trees → Type 0) (fresh fresh_new : State) (done : Bool) : Type 0 where
   pub goes_on : GoesOn fresh fresh_new done
   pub makes : HasCleanDisk fresh_new → Filling fresh → IsTrue done → Makes fresh.now.trees fresh_new.now.trees × Filling fresh_new
 
--- these shelves are put in, one after the other
+-- these shelves are put in, one after another
 abbrev pub PutsShelves : List Shelf → Trees → Trees → Type 0
 PutsShelves [] db after = db ≡ after
 PutsShelves (s ∷ shelves) db after = (mid : Trees) × PutsShelf s.name s.parent db mid × PutsShelves shelves mid after
 
--- some rows of one shelf are put in, beside those that were there
+-- the rows of one kind of a shelf are put in, beside those that were there
 abbrev pub CopiesRows : Rows → List ℕ → Trees → Trees → Trees → Type 0
 CopiesRows rows.Keys shelf = OfWorlds (CopiesKeys shelf)
 CopiesRows rows.Versions shelf = CopiesVersions shelf
 CopiesRows rows.Pieces shelf = CopiesPieces shelf
 
--- of tables that stand for `common` alone those of some shelves are made
+-- if the source means w, and the fresh tables stood for `common` alone, they come to mean w with only these shelves and `common`
 abbrev pub MakesPart : List Shelf → Trees → Trees → Trees → Type 0
 MakesPart shelves source db after =
     (w : World) → Means source w → IsWorld w → AreShelves w shelves → StandFor db only_common → Means after (part_of w (common ∷ names_of shelves))
 
--- ---- a call
+-- ---- the calls `extract_teams` and `copy`
 
--- What is told of a call that was to make of a store of x one of some shelves of w: that it is done or which of the two stood against it,
--- or that memory was wanted or a device failed. That the teams are not there comes first.
+-- What the result of copying shelves into a store of x says: it is done, or why it is refused, or memory ran out or a device failed.
+-- `NoTeam` comes before `NotEmpty`.
 abbrev pub Tells : Type 0 → World → Result (Unit {0}) Refusal → Type 0
 Tells There x (Ok u) = There × (x ≡ only_common)
 Tells There x (Err refusal.NoTeam) = ¬ There
@@ -137,8 +138,8 @@ Tells There x (Err refusal.BadSchema) = ⊥
 Tells There x (Err refusal.Device) = Unit {0}
 Tells There x (Err refusal.Memory) = Unit {0}
 
--- The fresh store stands for the next world once it is done, and else for what it stood for. If a crash left that alone before, it leaves the
--- two from then on, and once it is done the next alone.
+-- The fresh store stands for the next world if the call returns Ok, and for what it stood for otherwise. If a crash left only x, it
+-- leaves x or the next world, and only the next world once the call has returned Ok.
 pub record FillsAt (old new : Shown) (There : Type 0) (next x : World) (result : Result (Unit {0}) Refusal) : Type 0 where
   pub tells : Tells There x result
   pub ok : OnOk result (new.stands next)
@@ -146,8 +147,8 @@ pub record FillsAt (old new : Shown) (There : Type 0) (next x : World) (result :
   pub left : old.leaves x x → new.leaves x next
   pub kept : old.leaves x x → OnOk result (new.leaves next next)
 
--- So it is in each two worlds that the source and the fresh store stood for, as far as no answer of a disk was wrong. The source is only read, and so is a
--- fresh store that is not to be filled.
+-- For each world of the source and each of the fresh store, `FillsAt` holds, if the disks have returned what was written. The
+-- source is only read, and so is the fresh store if `IsUnfit` holds of the result.
 pub record FillsBy (There : World → Type 0) (next : World → World) (source source_new fresh fresh_new : Shown) (result : Result (Unit {0}) Refusal) : Type 0 where
   pub reads : IsRead source source_new
   pub honest : fresh_new.is_honest → fresh.is_honest
@@ -163,6 +164,6 @@ Fills it = FillsBy (λ w. IsThere w it) (what it)
 abbrev pub ExtractsTeams : List (List ℕ) → Shown → Shown → Shown → Shown → Result (Unit {0}) Refusal → Type 0
 ExtractsTeams ts = FillsBy (λ w. AreTeams w ts) (λ w. part_of w (chains w ts))
 
--- the whole is put into a fresh store
+-- the whole store is put into a fresh store
 abbrev pub CopiesAll : Shown → Shown → Shown → Shown → Result (Unit {0}) Refusal → Type 0
 CopiesAll = FillsBy (λ _. Unit {0}) (λ w. w)

@@ -1,12 +1,12 @@
--- Values that are kept, each under a number and with its weight.
+-- Cached values, each under a number and with its weight.
 use Rattle.std.specs.Prelude.{ℕ, ◌≡◌, ◌+◌, List, [], ◌∷◌, Contains}
 
 module _ {V : Type 0} where
-  -- a value is among those that are kept
+  -- the value is among those that are cached
   abbrev pub Holds : List (ℕ × (ℕ × V)) → V → Type 0
   Holds held v = (e : ℕ × (ℕ × V)) × Contains held e × (e.1.1 ≡ v)
 
-  -- what they weigh together
+  -- what the values weigh together
   abbrev pub weight_in : List (ℕ × (ℕ × V)) → ℕ
   weight_in [] = 0
   weight_in (e ∷ held) = e.1.0 + weight_in held

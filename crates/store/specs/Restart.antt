@@ -1,4 +1,4 @@
--- What files hold that are opened, and what a crash leaves of a store for them to hold.
+-- What the files of a store hold when they are opened, and what a crash leaves in them.
 use Rattle.sqlite_wal.specs.Recovery.{Image}
 use Rattle.sqlite.specs.Files.{HoldsDatabase, IsNothing}
 use Rattle.sqlite.specs.Tree.{Trees}
@@ -20,7 +20,7 @@ HoldsStore image w = HoldsWorld image w ⊎ (IsNothing image × (w ≡ only_comm
 abbrev pub HoldsNoStore : Image → Type 0
 HoldsNoStore image = (w : World) → IsWorld w → HoldsStore image w → ⊥
 
--- the files have a database's bytes, and hold no database
+-- the files hold no database, and are not files that have none yet
 abbrev pub HoldsNoDatabase : Image → Type 0
 HoldsNoDatabase image = ¬ (((db : Trees) × HoldsDatabase image db) ⊎ IsNothing image)
 
@@ -28,6 +28,6 @@ HoldsNoDatabase image = ¬ (((db : Trees) × HoldsDatabase image db) ⊎ IsNothi
 abbrev pub IsLeft : State → Image → Type 0
 IsLeft s image = (db : Trees) × s.may_leave db × HoldsDatabase image db
 
--- where a crash leaves the world alone, files that it leaves hold the world
+-- if a crash leaves one world alone, files that it leaves hold that world
 abbrev pub IsThereAfterRestart : State → Type 0
 IsThereAfterRestart s = (w : World) (image : Image) → (shown_of s).leaves w w → IsLeft s image → HoldsWorld image w

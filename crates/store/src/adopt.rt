@@ -1,4 +1,4 @@
-//! The tables of a connection, found or made.
+//! Finds the tables of a connection, or makes them.
 
 ghost use Rattle.std.specs.Prelude.{◌≡◌, ◌≤◌, ◌≢◌, ◌⊎◌, false, IfErr, OnErr, OnOk, IsTrue};
 ghost use Rattle.sqlite.specs.Held.{state};
@@ -16,7 +16,8 @@ use tables::create::create;
 use tables::fit::stand_for_world;
 use tables::schema::is_no_schema;
 
-/// Tests the tables that are there.
+/// Tests the tables of a connection. Fails with `BadSchema` if they are not those of the schema or stand for no world, with
+/// `Memory` if memory ran out, and with `Device` otherwise.
 fn find_tables<S: Alter>(alloc: Global, conn: &mut Connection<S>) -> Result<(), Refusal>
     ensures clean { doubt (state S.Store conn.old).is_clean ≤ doubt (state S.Store conn.new).is_clean }
     ensures refused { IfErr result IsOfOpening }
@@ -42,7 +43,7 @@ fn find_tables<S: Alter>(alloc: Global, conn: &mut Connection<S>) -> Result<(), 
     }
 }
 
-/// Makes the tables where there are none.
+/// Makes the tables of a connection that has none. Fails with `Memory` if memory ran out, and with `Device` otherwise.
 fn make_tables<S: Alter>(conn: &mut Connection<S>) -> Result<(), Refusal>
     requires empty { (state S.Store conn.old).now.schema ≡ no_schema }
     ensures clean { doubt (state S.Store conn.old).is_clean ≤ doubt (state S.Store conn.new).is_clean }
@@ -63,8 +64,9 @@ fn make_tables<S: Alter>(conn: &mut Connection<S>) -> Result<(), Refusal>
     }
 }
 
-/// Finds the tables, or makes them where there are none. A connection in a transaction is refused as
-/// `Device`.
+/// Finds the tables of a connection, or makes them if it has none. Fails with `BadSchema` if the tables are not those of the
+/// schema or stand for no world, with `Memory` if memory ran out, and with `Device` otherwise. A connection in a transaction is
+/// refused with `Device`.
 pub(crate) fn open_tables<S: Alter>(alloc: Global, conn: &mut Connection<S>) -> Result<(), Refusal>
     ensures clean { doubt (state S.Store conn.old).is_clean ≤ doubt (state S.Store conn.new).is_clean }
     ensures refused { IfErr result IsOfOpening }

@@ -26,7 +26,7 @@ impl<'a> Model for Chain<'a> {
 }
 
 impl<'a> Chain<'a> {
-    /// The chain of a shelf of this group, or of none.
+    /// Returns the chain of a shelf in this group, or in none.
     pub(crate) fn new(shelf: &'a str, group: Option<&'a Text>) -> Chain<'a>
         ensures { result ≡ shelf.now ∷ above (option_copied group.entry) }
     {
@@ -42,7 +42,7 @@ impl<'a> Chain<'a> {
         }
     }
 
-    /// Its shelves.
+    /// The names of its shelves.
     pub(crate) fn as_slice(&self) -> &[&'a str]
         ensures { map (λ shelf. shelf.now) result.now ≡ self.now }
     {

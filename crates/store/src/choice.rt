@@ -1,4 +1,4 @@
-//! Which shelves of a store go into a fresh one.
+//! Chooses the shelves of a store to copy into a fresh one.
 
 ghost use Rattle.std.specs.Prelude.{◌≡◌, map as each, IfOk, IsSome, IsTrue};
 ghost use Rattle.sqlite.specs.Held.{state};
@@ -13,7 +13,7 @@ use statements::shelves::find_shelves;
 use std::alloc::{AllocError, Global};
 use text::Text;
 
-/// What is to go.
+/// The shelves to copy.
 #[derive(Clone, Copy, Drop)]
 pub(crate) enum Wanted<'a> {
     /// The shelves that these teams see.
@@ -22,7 +22,7 @@ pub(crate) enum Wanted<'a> {
     All,
 }
 
-/// A list with a team at its end, and its parent before it.
+/// Returns the list with the parent of a team, and then the team, added at its end. Fails if memory runs out.
 fn put_behind(
     alloc: Global,
     list: ShelfList,
@@ -43,7 +43,7 @@ fn put_behind(
     list.with(alloc, team)
 }
 
-/// A list with a team behind its parent, or nothing where no team has the name.
+/// Returns the list with a team behind its parent, or None if no team has the name.
 fn add_team<S: Alter>(
     alloc: Global,
     source: &mut Connection<S>,
@@ -61,7 +61,7 @@ fn add_team<S: Alter>(
     }
 }
 
-/// The shelves beside `common` that some teams see, or nothing where no team is named or a name is no team's.
+/// Returns the shelves other than `common` that these teams see, or None if no team is named or a name is not a team's.
 fn list_teams<S: Alter>(
     alloc: Global,
     source: &mut Connection<S>,
@@ -85,7 +85,7 @@ fn list_teams<S: Alter>(
     Ok(Some(list))
 }
 
-/// The shelves beside `common` that are to go, or nothing where no team is named or a name is no team's.
+/// Returns the shelves other than `common` to copy, or None if teams are wanted and none is named or a name is not a team's.
 pub(crate) fn choose<S: Alter>(
     alloc: Global,
     source: &mut Connection<S>,

@@ -1,4 +1,4 @@
-//! Some shelves of a store as a store of its own: those that some teams see, or all.
+//! Copies some shelves of a store into a fresh store: those that some teams see, or all.
 
 ghost use Rattle.std.specs.Prelude.{◌≡◌, ◌≢◌, ◌≤◌, ◌∷◌, [], map as each, false, IfOk};
 ghost use Rattle.sqlite.specs.Held.{state};
@@ -19,7 +19,7 @@ use statements::extract_rows::CopyError;
 use std::alloc::Global;
 use world::registry::StoreFault;
 
-/// Writes some shelves into a fresh store, where they are there and the store has `common` alone.
+/// Writes the wanted shelves into a fresh store, if they exist and the store has only `common`. Returns the verdict.
 fn extract_part<S: Alter, F: Alter>(
     alloc: Global,
     source: &mut Connection<S>,
@@ -46,7 +46,7 @@ fn extract_part<S: Alter, F: Alter>(
     }
 }
 
-/// The refusal for a fault of a store.
+/// Returns the refusal for a fault of a store.
 pub(crate) fn told_as(fault: StoreFault) -> Refusal
     ensures device { result ≡ Refusal.Device → fault ≡ StoreFault.Device }
     ensures named { (result ≢ Refusal.BadSchema) × (result ≢ Refusal.NotEmpty) × (result ≢ Refusal.NoTeam) }
@@ -58,14 +58,13 @@ pub(crate) fn told_as(fault: StoreFault) -> Refusal
 }
 
 impl<S: Alter> SqlShelves<S> {
-    /// Makes the fresh store one of a team's part: the shelves that the team sees, all their
-    /// entries, and their keys with their rights. The rows are read one at a time, and all are
-    /// written in one transaction.
+    /// Copies a team's part into the fresh store: the shelves that the team sees, all their entries, and their keys with their
+    /// rights. The rows are read one at a time, and all are written in one transaction.
     ///
     /// Fails with `NoTeam` if no team has the name (`common` and groups are no teams), otherwise with `NotEmpty` if
     /// the fresh store has another shelf, a key or an entry; with `Device` if a disk failed and with
-    /// `Memory` if memory ran out. Then both stores are as they were; the source always is. With the first two, a crash leaves
-    /// of the fresh store nothing that it did not leave before.
+    /// `Memory` if memory ran out. Then both stores are as they were; the source always is. After `NoTeam` and `NotEmpty`, a
+    /// crash leaves nothing in the fresh store that it did not leave before.
     pub fn extract<F: Alter>(
         &mut self,
         team: &str,
@@ -80,14 +79,14 @@ impl<S: Alter> SqlShelves<S> {
         self.extract_teams(&[team], fresh)
     }
 
-    /// Makes the fresh store one of the part of some teams: the shelves that any of them sees, all their
+    /// Copies the part of some teams into the fresh store: the shelves that any of them sees, all their
     /// entries, and their keys with their rights. The names of the shelves are read first, then the rows one at a time, and
-    /// all are written in one transaction. A team that is named twice is as one.
+    /// all are written in one transaction. Naming a team twice changes nothing.
     ///
-    /// Fails with `NoTeam` if no team is named or a name is no team's (`common` and groups are no teams), otherwise with
+    /// Fails with `NoTeam` if no team is named or a name is not a team's (`common` and groups are no teams), otherwise with
     /// `NotEmpty` if the fresh store has another shelf, a key or an entry; with `Device` if a disk failed and with
-    /// `Memory` if memory ran out. Then both stores are as they were; the source always is. With the first two, a crash leaves
-    /// of the fresh store nothing that it did not leave before.
+    /// `Memory` if memory ran out. Then both stores are as they were; the source always is. After `NoTeam` and `NotEmpty`, a
+    /// crash leaves nothing in the fresh store that it did not leave before.
     pub fn extract_teams<F: Alter>(
         &mut self,
         teams: &[&str],
@@ -102,12 +101,12 @@ impl<S: Alter> SqlShelves<S> {
         self.fill(Wanted::Teams(teams), fresh)
     }
 
-    /// Makes the fresh store a copy: all shelves, entries and keys. The names of the shelves are read first, then the rows one at
+    /// Copies all shelves, entries and keys into the fresh store. The names of the shelves are read first, then the rows one at
     /// a time, and all are written in one transaction.
     ///
     /// Fails with `NotEmpty` if the fresh store has another shelf than `common`, a key or an entry; with `Device` if a disk
-    /// failed and with `Memory` if memory ran out. Then both stores are as they were; the source always is. With `NotEmpty`, a
-    /// crash leaves of the fresh store nothing that it did not leave before.
+    /// failed and with `Memory` if memory ran out. Then both stores are as they were; the source always is. After `NotEmpty`, a
+    /// crash leaves nothing in the fresh store that it did not leave before.
     pub fn copy<F: Alter>(&mut self, fresh: &mut SqlShelves<F>) -> Result<(), Refusal>
         ensures copies { CopiesAll (shown_with (state S.Store self.old.conn) self.old.kept)
             (shown_with (state S.Store self.new.conn) self.new.kept)
@@ -118,7 +117,7 @@ impl<S: Alter> SqlShelves<S> {
         self.fill(Wanted::All, fresh)
     }
 
-    /// Makes the fresh store one of some shelves.
+    /// Copies the wanted shelves into the fresh store, which first forgets what it cached. Fails as the public calls do.
     fn fill<F: Alter>(
         &mut self,
         wanted: Wanted<'_>,
@@ -134,8 +133,8 @@ impl<S: Alter> SqlShelves<S> {
         self.fill_rows(wanted, fresh)
     }
 
-    /// Makes the tables of the fresh store those of some shelves, and leaves what the stores keep as it is.
-    /// The fresh store forgets what it kept before the first row is written.
+    /// Copies the wanted shelves into the tables of the fresh store, and leaves what both stores cache as it is. Fails as `fill`
+    /// does.
     fn fill_rows<F: Alter>(
         &mut self,
         wanted: Wanted<'_>,

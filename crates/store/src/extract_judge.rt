@@ -1,4 +1,4 @@
-//! Whether a part of a store may be made one of its own: the teams are there, and the fresh store has `common` alone.
+//! Judges whether shelves may be copied into a fresh store: the wanted teams exist, and the fresh store has only `common`.
 
 ghost use Rattle.std.specs.Prelude.{◌≡◌, Decides, IfOk, IsTrue};
 ghost use Rattle.sqlite.specs.Held.{state};
@@ -17,18 +17,18 @@ use statements::shelf_list::ShelfList;
 use std::alloc::Global;
 use world::names::COMMON;
 
-/// What is to become of an extract.
+/// The verdict on an extract.
 #[derive(Drop)]
 pub(crate) enum Judged {
-    /// These shelves are to be written, and `common`.
+    /// These shelves and `common` are to be written.
     Fit(ShelfList),
-    /// No team is named, or a name is no team's.
+    /// No team is named, or a name is not a team's.
     NoTeam,
     /// The fresh store has more than `common`.
     NotEmpty,
 }
 
-/// Whether a shelf beside `common` is there.
+/// Reports whether there is a shelf other than `common`.
 fn has_other_shelf<F: Alter>(conn: &mut Connection<F>) -> Result<bool, Error>
     ensures spares { Spares (state F.Store conn.old) (state F.Store conn.new) }
     ensures answer { InEachWorld (state F.Store conn.old) (state F.Store conn.new) (λ _ new x.
@@ -42,7 +42,7 @@ fn has_other_shelf<F: Alter>(conn: &mut Connection<F>) -> Result<bool, Error>
     Ok(found.is_some())
 }
 
-/// Whether a key is there.
+/// Reports whether there is a key.
 fn has_key<F: Alter>(conn: &mut Connection<F>) -> Result<bool, Error>
     ensures spares { Spares (state F.Store conn.old) (state F.Store conn.new) }
     ensures answer { InEachWorld (state F.Store conn.old) (state F.Store conn.new) (λ _ new x.
@@ -52,7 +52,7 @@ fn has_key<F: Alter>(conn: &mut Connection<F>) -> Result<bool, Error>
     Ok(found.is_some())
 }
 
-/// Whether an entry is there.
+/// Reports whether there is an entry.
 fn has_entry<F: Alter>(conn: &mut Connection<F>) -> Result<bool, Error>
     ensures spares { Spares (state F.Store conn.old) (state F.Store conn.new) }
     ensures answer { InEachWorld (state F.Store conn.old) (state F.Store conn.new) (λ _ new x.
@@ -62,7 +62,7 @@ fn has_entry<F: Alter>(conn: &mut Connection<F>) -> Result<bool, Error>
     Ok(found.is_some())
 }
 
-/// Whether a store has `common` alone.
+/// Reports whether a store has only `common`.
 pub(crate) fn is_blank<F: Alter>(conn: &mut Connection<F>) -> Result<bool, Error>
     ensures spares { Spares (state F.Store conn.old) (state F.Store conn.new) }
     ensures answer { InEachWorld (state F.Store conn.old) (state F.Store conn.new) (λ _ new x.
@@ -78,7 +78,7 @@ pub(crate) fn is_blank<F: Alter>(conn: &mut Connection<F>) -> Result<bool, Error
     Ok(!found)
 }
 
-/// What is to become of an extract. That there is no such team comes first.
+/// Returns the verdict on an extract, `NoTeam` before `NotEmpty`. Fails with `Source` or `Fresh`, by the store that failed.
 pub(crate) fn judge<S: Alter, F: Alter>(
     alloc: Global,
     source: &mut Connection<S>,

@@ -1,4 +1,4 @@
-//! Some shelves of a store, put into a fresh one in one transaction.
+//! Writes some shelves of a store into a fresh one, in one transaction.
 
 ghost use Rattle.std.specs.Prelude.{◌≡◌, ◌≤◌, ◌∷◌, option_copied, OnOk, is_ok, IsTrue};
 ghost use Rattle.sqlite.specs.Held.{state};
@@ -19,7 +19,7 @@ use statements::shelf_list::{Shelf, ShelfList};
 use statements::transaction::commit_if;
 use world::names::COMMON;
 
-/// Rows that a shelf has.
+/// A kind of rows that a shelf has.
 #[derive(Clone, Copy, Drop)]
 enum Rows {
     /// Its keys.
@@ -30,7 +30,7 @@ enum Rows {
     Pieces,
 }
 
-/// Writes the row of a shelf that is not there, with its parent.
+/// Writes the row of a shelf that does not exist, with its parent.
 fn put_shelf<F: Alter>(
     tx: &mut Transaction<'_, F>,
     name: &str,
@@ -63,7 +63,7 @@ fn put_listed<F: Alter>(tx: &mut Transaction<'_, F>, shelf: &Shelf) -> Result<()
     }
 }
 
-/// Writes the rows of shelves that are not there, one after the other.
+/// Writes the rows of shelves that do not exist, one after another.
 fn put_shelves<F: Alter>(tx: &mut Transaction<'_, F>, shelves: &[Shelf]) -> Result<(), Error>
     ensures same_reference { tx.new.conn.ghost_name ≡ tx.old.conn.ghost_name }
     ensures puts { Puts (PutsShelves shelves.now) (state F.Store tx.old.conn.now) (state F.Store tx.new.conn.now) (is_ok result) }
@@ -74,7 +74,7 @@ fn put_shelves<F: Alter>(tx: &mut Transaction<'_, F>, shelves: &[Shelf]) -> Resu
     Ok(())
 }
 
-/// Copies some rows of one shelf.
+/// Copies the rows of one kind of a shelf.
 fn copy_rows<S: Alter, F: Alter>(
     source: &mut Connection<S>,
     rows: Rows,
@@ -92,7 +92,7 @@ fn copy_rows<S: Alter, F: Alter>(
     }
 }
 
-/// Copies some rows of `common`, and then of each of these shelves, one shelf after the other.
+/// Copies the rows of one kind of `common`, and then of each of these shelves in turn.
 fn copy_along<S: Alter, F: Alter>(
     source: &mut Connection<S>,
     rows: Rows,
@@ -110,8 +110,8 @@ fn copy_along<S: Alter, F: Alter>(
     Ok(())
 }
 
-/// Fills a store that has `common` alone with these shelves, each behind its parent: their rows, and then, with those of
-/// `common`, their keys, their versions and their zips.
+/// Fills a store that has only `common`: writes the rows of these shelves, each after its parent, and copies the keys, the
+/// versions and the zips of `common` and of these shelves.
 fn fill<S: Alter, F: Alter>(
     source: &mut Connection<S>,
     shelves: &ShelfList,
@@ -132,7 +132,8 @@ fn fill<S: Alter, F: Alter>(
     copy_along(source, Rows::Pieces, shelves, tx)
 }
 
-/// Writes these shelves and `common` into a store that has `common` alone, whole or not at all.
+/// Writes these shelves and `common` into a store that has only `common`, all or nothing. Fails with `Source` or `Fresh`, by
+/// the store that failed.
 pub(crate) fn write_part<S: Alter, F: Alter>(
     source: &mut Connection<S>,
     shelves: &ShelfList,

@@ -1,4 +1,4 @@
-//! The files of a store that are opened, with room in memory for the pages of a zip.
+//! Opens the files of a store, with room in memory for the pages of a zip.
 
 ghost use Rattle.std.specs.Prelude.{◌≡◌, ◌⊎◌, ◌↔◌, true, false, codes, IfOk, IfErr, IsErrAnd, IsSomeAnd, IsTrue};
 ghost use Rattle.sqlite.specs.Files.{file_state, image_of, IsOpened, IsCleanLeft, Finds};
@@ -17,19 +17,20 @@ use std::alloc::Global;
 use std::hash::{BuildHasher, RandomState};
 use std::io::ErrorKind;
 
-/// How many pages that were read stay in memory, each of 4,096 bytes. The largest zip has 4,100, so that one
-/// that is asked for again is not read again, nor are the pages that lead to it.
+/// How many pages of 4,096 bytes stay in memory once they are read. The largest zip has 4,100 pages, so a zip that is asked for
+/// again is not read again, nor are the pages that lead to it.
 /// The kit keeps 2,000, with which each `.zip` reads all its pages from the system and digests them again.
 ///
-/// The kit's other figure stays: the log grows to 1,000 frames, each a page, before it is copied into the file. With 16 times
-/// as many a publish of 1 or 16 MiB takes up to a tenth less, but each opening reads and digests the log, of 64 MiB then.
+/// The kit's other figure stays: the log grows to 1,000 frames of a page each before it is copied into the file. With 16 times
+/// as many, a publish of 1 or 16 MiB takes up to a tenth less time, but each opening reads and digests a log of 64 MiB.
 const KEPT_PAGES: usize = 8_192;
 
-/// A connection to the files at a path, which are made where there are none. `:memory:`, a URI and the empty name are none of a file's.
+/// Opens a connection to the files at a path, and creates them if they do not exist. `:memory:`, a URI and the empty name
+/// name no file.
 ///
-/// It is refused as `BadSchema` where the files hold no database, as `Memory` where memory was wanted, and as `Device`
-/// where the disk failed, another process has them open, or the system or the name does not let them be opened. The files
-/// then come back, where they were opened.
+/// Fails with `BadSchema` if the files hold no database, with `Memory` if memory ran out, and with `Device` if the disk failed,
+/// another process has the files open, or the system or the name does not let them be opened. The files then come back, if they
+/// were opened.
 /// It opens both files itself, because the kit's call for a path takes no number of pages. No statement asks for the
 /// time, so it passes no clock.
 pub(crate) fn connect<T: Start>(
@@ -64,15 +65,15 @@ pub(crate) fn connect<T: Start>(
     }
 }
 
-/// Whether a name is none of a file's for sqlite: `:memory:`, a URI, or the empty name.
+/// Reports whether sqlite takes this name for no file: `:memory:`, a URI, or the empty name.
 pub fn names_no_file(path: &str) -> bool
     ensures { path.now ≡ codes ":memory:" → result ≡ true }
 {
     path.is_empty() || path == ":memory:" || path.starts_with("file:")
 }
 
-/// A connection to two files. A read that fails the test of its digest is a failure of the disk, and no sign of what the
-/// files hold.
+/// Opens a connection to two files, or returns them with the refusal. A read that fails the test of its digest is a failure of
+/// the disk, and says nothing of what the files hold.
 fn connect_files<D: Disk + Drop>(
     alloc: Global,
     files: Files<D>,
@@ -97,7 +98,8 @@ fn connect_files<D: Disk + Drop>(
     }
 }
 
-/// The refusal for a file that cannot be opened: no permission, no such folder, or a name that is no file's.
+/// Returns the refusal for a file that cannot be opened: `Memory` if memory ran out, and otherwise `Device`, for example if
+/// there is no permission or no such folder.
 fn path_refusal(error: OpenError) -> Refusal
     ensures unopened { (result ≡ Refusal.Memory) ⊎ (result ≡ Refusal.Device) }
     ensures memory { error ≡ OpenError.OutOfMemory → result ≡ Refusal.Memory }
@@ -110,8 +112,8 @@ fn path_refusal(error: OpenError) -> Refusal
     }
 }
 
-/// The refusal for opened files that cannot be read: `BadSchema` if they hold no database or a damaged one and each read
-/// passed the test of its digest, `Memory` without memory, and otherwise `Device`.
+/// Returns the refusal for opened files that cannot be read: `BadSchema` if they hold no database or a damaged one and each read
+/// passed the test of its digest, `Memory` if memory ran out, and otherwise `Device`.
 fn file_refusal(error: Error, is_caught: bool) -> Refusal
     ensures bad { result ≡ Refusal.BadSchema
         ↔ ((is_caught ≡ false) × ((error ≡ Error.SqliteFailure ErrorCode.NotADatabase)

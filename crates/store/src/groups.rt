@@ -1,4 +1,4 @@
-//! Groups of shelves that are kept.
+//! Caches the groups of shelves.
 
 ghost use Rattle.std.specs.Prelude.{◌≡◌, Some, option_copied, IfOk, OnOk};
 ghost use Rattle.std.specs.FinMap as map;
@@ -11,8 +11,8 @@ use std::marker::Model;
 use text::Text;
 use world::names::COMMON;
 
-/// The groups of some shelves, of each its group if it has one, so that a store need not ask for them again.
-/// A shelf's group never changes, so none is ever wrong. Contracts see the map of them.
+/// The group of each of some shelves, or None if it has none, so that a store need not query the tables again.
+/// A shelf's group never changes, so a cached one is never wrong. Contracts see a map from shelves to their groups.
 #[derive(Drop)]
 pub(crate) struct Groups {
     shelves: BTreeMap<String, Option<Text>>,
@@ -33,7 +33,7 @@ impl Model for Groups {
 }
 
 impl Groups {
-    /// No group. It takes no memory.
+    /// Returns an empty cache, which takes no memory.
     pub(crate) fn new(alloc: Global) -> Groups
         ensures { result ≡ map.empty }
     {
@@ -42,14 +42,14 @@ impl Groups {
         }
     }
 
-    /// The group of a shelf, if it is kept.
+    /// Returns the group of a shelf, or None if it is not cached.
     pub(crate) fn get(&self, shelf: &str) -> Option<&Option<Text>>
         ensures { option_copied result ≡ map.get self.now shelf.now }
     {
         self.shelves.get(shelf)
     }
 
-    /// Keeps the group of a shelf that is there. Without memory it forgets all groups.
+    /// Caches the group of a shelf that exists. If memory runs out, it forgets all groups.
     pub(crate) fn keep(&mut self, alloc: Global, shelf: &str, group: Option<&Text>)
         ensures { (w : World) → AreGroups w self.old → IsGroupOf w shelf.now (option_copied group.entry)
             → AreGroups w self.new }
@@ -59,7 +59,7 @@ impl Groups {
         }
     }
 
-    /// Puts in the group of a shelf.
+    /// Adds the group of a shelf. Fails if memory runs out.
     fn add(&mut self, alloc: Global, shelf: &str, group: Option<&Text>) -> Result<(), AllocError>
         ensures { OnOk result (self.new ≡ map.insert self.old shelf.now (option_copied group.entry)) }
     {
@@ -69,7 +69,7 @@ impl Groups {
     }
 }
 
-/// A copy of the name of a group, if there is one.
+/// Returns a copy of the name of a group, or None for None. Fails if memory runs out.
 pub(crate) fn copied(alloc: Global, group: Option<&Text>) -> Result<Option<Text>, AllocError>
     ensures { IfOk result (λ copy. copy ≡ option_copied group.entry) }
 {
@@ -79,7 +79,7 @@ pub(crate) fn copied(alloc: Global, group: Option<&Text>) -> Result<Option<Text>
     }
 }
 
-/// The group of a shelf that is there and has this parent, or none.
+/// Returns the group of a shelf that has this parent, or None if the parent is `common` or there is none.
 pub(crate) fn group_in(parent: Option<Text>) -> Option<Text>
     ensures { result ≡ group_in (Some parent) }
 {

@@ -1,35 +1,35 @@
 //! Team shelves as rows of SQL tables, behind the traits `world::shelves::Shelves` and `outline::outlines::Outlines`.
 //!
-//! Which tables these are, and which world they stand for, is told in the crate `tables`; what is read of them and
-//! changed in them, in the crate `statements`. A store is
-//! opened over tables that are these and stand for a world, or over none at all; everything else is
-//! refused, and a connection that then stays open shows what it showed.
+//! The crate `tables` defines the tables and the world that they stand for; the crate `statements` reads and changes them.
+//! A store opens over these tables if they stand for a world, or over no tables at all. It refuses everything else, and a
+//! connection that then stays open shows what it showed.
 //!
-//! A change is one transaction. So a crash leaves the world before it or the world after it, and
-//! once the change has answered Ok, the world after it alone.
+//! A change is one transaction. So a crash leaves the world before it or the world after it, and once the change has returned
+//! Ok, only the world after it.
 //!
-//! | call | what it stands on |
+//! | call | what it calls |
 //! |---|---|
-//! | `adopt` | `tables::fit::stand_for_world`, or where there are no tables `tables::create::create` |
+//! | `adopt` | `tables::fit::stand_for_world`, or `tables::create::create` if there are no tables |
 //! | `key` | `statements::registry::find_key` |
-//! | `entry` | `find_heading` of `statements::entries`, on one shelf of the chain after the other, and the kept zip, or `find_entry`, whose zip is then kept |
-//! | `heading` | `find_heading` of `statements::entries`, along the chain |
+//! | `entry` | `find_heading` along the chain, and the cached zip; without one, `find_entry`, whose zip is then cached |
+//! | `heading` | `statements::entries::find_heading`, along the chain |
 //! | `outline` | `statements::outlines::find_outline`, along the chain |
 //! | `compare` | `statements::compare::find_standing`, along the chain |
-//! | `versions` | `statements::visible::find_versions`, along the chain; asked once, and then kept until the path gets a version or a team is added |
-//! | `latest` | `versions`, and `heading` of the highest; asked once, and then kept with the versions |
+//! | `versions` | `statements::visible::find_versions`, along the chain; cached until the path gets a version or a team is added |
+//! | `latest` | `versions`, and `heading` of the highest; cached with the versions |
 //! | `paths` | `statements::visible::find_paths`, along the chain |
-//! | `count` | `statements::entries::count_entries`; asked once, and then kept |
+//! | `count` | `statements::entries::count_entries`; then cached |
 //! | `insert` | `statements::entries::add_entry` |
-//! | `team_add`, `group_add`, `key_add`, `key_revoke` | `add_team`, `add_group`, `add_key` of `statements::registry`; `statements::revoke::revoke_key` |
-//! | `extract` | the rows of the team and of its group, and along the shelves that the team sees, the rows of `access`, then those of `version`, then those of `piece`, one at a time (`statements::extract_rows`), into a fresh store in one transaction |
+//! | `team_add`, `group_add`, `key_add` | `add_team`, `add_group`, `add_key` of `statements::registry` |
+//! | `key_revoke` | `statements::revoke::revoke_key` |
+//! | `extract`, `extract_teams`, `copy` | writes the rows of the shelves, then `statements::extract_rows`, in one transaction |
 //! | `migrate` | `older::schema::format_of`, and `migration::write::write_world`, into a fresh store in one transaction |
 //!
-//! The chain of a shelf is its own shelf, its group if it has one, and `common`. The group is found by
-//! `statements::registry::find_shelf`, once, and then kept, as it never changes.
+//! The chain of a shelf is its own shelf, its group if it has one, and `common`. `statements::registry::find_shelf` finds the
+//! group once, and the store caches it, because it never changes.
 //!
-//! What is said of values holds where each answer of the disk was what had been written. A fault is
-//! `Memory` where memory was wanted, and otherwise `Device`, which is counted.
+//! What contracts say of values holds if the disk has returned what was written. A fault is `Memory` if memory ran out, and
+//! otherwise `Device`, which is counted.
 #![tactic(auto)]
 
 mod adopt;

@@ -1,4 +1,4 @@
-//! Lists of versions that are kept, and the latest version of each.
+//! Caches lists of versions, each with its latest version.
 
 ghost use Rattle.std.specs.Prelude.{◌≡◌, ◌⊎◌, [], false, bytes_eq, option_copied, IfOk, IfSome, IsTrue};
 ghost use Rattle.world.specs.World.{World, place, with_entry};
@@ -14,15 +14,15 @@ use std::hash::{FoldHasher, Hasher};
 use text::Text;
 use world::version_list::Versions;
 
-/// The most that all lists weigh. A version weighs one and takes some 200 bytes.
-/// The figure bounds the memory, not the answers: a heavier list is found again each time.
+/// The most that all cached lists weigh together. A version weighs one and takes about 200 bytes.
+/// The figure bounds the memory, not the answers: a heavier list is queried each time.
 const MOST_WEIGHT: usize = 65_536;
 
-/// What a list weighs beside its versions: its names, its latest version and its place among the others.
-/// So there are at most 7,281 lists. A publish goes over them.
+/// What a list weighs in addition to its versions: its names, its latest version and its place among the others.
+/// So there are at most 7,281 lists. A publish goes over them all.
 const LIST_WEIGHT: usize = 8;
 
-/// The versions of a path that a shelf sees, and the latest of them, if that was asked.
+/// The versions of a path that a shelf sees, and the latest of them once that was asked for.
 #[derive(Drop)]
 pub(crate) struct KeptList {
     pub(crate) shelf: Text,
@@ -32,7 +32,7 @@ pub(crate) struct KeptList {
 }
 
 impl KeptList {
-    /// The list of a shelf and a path.
+    /// Returns the list of a shelf and a path. Fails if memory runs out.
     fn new(
         alloc: Global,
         shelf: &str,
@@ -51,32 +51,32 @@ impl KeptList {
         })
     }
 
-    /// Whether it is that of a shelf and a path.
+    /// Reports whether it is the list of a shelf and a path.
     fn is_of(&self, shelf: &str, path: &str) -> bool
         ensures { result ≡ is_of shelf.now path.now self.now }
     {
         self.shelf.as_str() == shelf && self.path.as_str() == path
     }
 
-    /// What it weighs.
+    /// Returns what the list weighs.
     fn weight(&self) -> usize {
         self.versions.as_slice().len().saturating_add(LIST_WEIGHT)
     }
 }
 
-/// Of some paths the versions that a shelf sees, in ascending precedence, and the latest of them. Where they have no
-/// room, those that were asked longest ago go.
+/// Cached lists of the versions of paths that a shelf sees, in ascending precedence, and the latest of them. If a list has no
+/// room, the lists that were asked for longest ago go.
 pub(crate) type Lists = Recent<KeptList>;
 
 impl Recent<KeptList> {
-    /// No list. It takes no memory.
+    /// Returns an empty cache, which takes no memory.
     pub(crate) fn no_lists() -> Lists
         ensures { result ≡ [] }
     {
         Recent::new(MOST_WEIGHT)
     }
 
-    /// A copy of the versions of a path that a shelf sees, if they are kept and there is memory for it.
+    /// Returns a copy of the versions of a path that a shelf sees, or None if they are not cached or memory runs out.
     pub(crate) fn versions(&mut self, alloc: Global, shelf: &str, path: &str) -> Option<Versions>
         ensures others { (list : _) → Holds self.new list → Holds self.old list }
         ensures found { IfSome result (λ versions. (w : World) → AreLists w self.old
@@ -90,7 +90,7 @@ impl Recent<KeptList> {
         }
     }
 
-    /// A copy of the latest version of a path that a shelf sees, if it is kept and there is memory for it.
+    /// Returns a copy of the latest version of a path that a shelf sees, or None if it is not cached or memory runs out.
     pub(crate) fn latest(
         &mut self,
         alloc: Global,
@@ -109,7 +109,7 @@ impl Recent<KeptList> {
         }
     }
 
-    /// Takes out the versions of a path that a shelf sees, if they are kept.
+    /// Takes the versions of a path that a shelf sees out of the cache, and returns them. Returns None if they are not cached.
     pub(crate) fn take_versions(&mut self, shelf: &str, path: &str) -> Option<Versions>
         ensures others { (list : _) → Holds self.new list → Holds self.old list }
         ensures taken { IfSome result (λ versions. (w : World) → AreLists w self.old
@@ -123,7 +123,7 @@ impl Recent<KeptList> {
         }
     }
 
-    /// Keeps a copy of the versions of a path that a shelf sees. Without memory for it they are not kept.
+    /// Caches a copy of the versions of a path that a shelf sees. If memory runs out, they are not cached.
     pub(crate) fn keep_copy(&mut self, alloc: Global, shelf: &str, path: &str, versions: &[Version])
         ensures { (w : World) → AreLists w self.old → versions.now ≡ versions_of w shelf.now path.now → AreLists w self.new }
     {
@@ -132,7 +132,7 @@ impl Recent<KeptList> {
         }
     }
 
-    /// Keeps the versions of a path that a shelf sees, and a copy of the latest of them. Without memory they are not kept.
+    /// Caches the versions of a path that a shelf sees, and a copy of the latest of them. If memory runs out, they are not cached.
     pub(crate) fn keep_with_latest(
         &mut self,
         alloc: Global,
@@ -150,14 +150,14 @@ impl Recent<KeptList> {
     }
 
     /// Forgets the lists of a path, which gets one more version.
-    /// The lists of all shelves, because every shelf sees what is stored on `common`. Without memory to tell which
-    /// they are it forgets all.
+    /// It forgets those of all shelves, because every shelf sees what is stored on `common`. If there is no memory to note which
+    /// they are, it forgets all lists.
     pub(crate) fn forget(&mut self, alloc: Global, path: &str)
         ensures { (w : World) (s v : _) (e : _) → AreLists w self.old
             → AreLists (with_entry w (place s path.now v) e) self.new }
     {
         self.drop_on(alloc, path);
-        // One is left only where there was no memory for the numbers.
+        // A list of the path is left only if there was no memory for the numbers.
         if self.has_path(path) {
             *self = Lists::no_lists();
         }
@@ -165,7 +165,7 @@ impl Recent<KeptList> {
 }
 
 impl Recent<KeptList> {
-    /// The list of a shelf and a path, if it is kept.
+    /// Returns the list of a shelf and a path, or None if it is not cached.
     fn list(&self, shelf: &str, path: &str) -> Option<&KeptList>
         ensures held { IfSome result (λ list. Holds self.now list.now) }
         ensures names { IfSome result (λ list. IsTrue (is_of shelf.now path.now list.now)) }
@@ -178,7 +178,7 @@ impl Recent<KeptList> {
         }
     }
 
-    /// Keeps a list, if it has versions: one without is soon found.
+    /// Caches a list that is not empty: an empty one is soon found again. If memory runs out, it is not cached.
     fn keep_list(
         &mut self,
         alloc: Global,
@@ -217,7 +217,7 @@ impl Recent<KeptList> {
         }
     }
 
-    /// The numbers of the lists of a path.
+    /// Returns the numbers of the lists of a path. Fails if memory runs out.
     fn numbers_on(&self, alloc: Global, path: &str) -> Result<Vec<u64>, AllocError> {
         let mut numbers = Vec::new(alloc);
         let Some(cache) = &self.cache else {
@@ -231,7 +231,7 @@ impl Recent<KeptList> {
         Ok(numbers)
     }
 
-    /// Whether a list of a path is kept.
+    /// Reports whether a list of a path is cached.
     fn has_path(&self, path: &str) -> bool
         ensures { result ≡ false → (list : _) → Holds self.now list → bytes_eq list.path path.now ≡ false }
     {
@@ -242,8 +242,8 @@ impl Recent<KeptList> {
     }
 }
 
-/// The number under which the list of a shelf and a path is found. Two that share one number take each other's place,
-/// and a list is told apart by its names.
+/// Returns the number under which the list of a shelf and a path is cached. Two lists with one number replace each other, and
+/// the names in a list say whose it is.
 fn number_of(shelf: &str, path: &str) -> u64 {
     let mut hasher = FoldHasher::default();
     hasher.write(shelf.as_bytes());
@@ -251,7 +251,7 @@ fn number_of(shelf: &str, path: &str) -> u64 {
     hasher.finish()
 }
 
-/// A copy of the versions.
+/// Returns a copy of the versions. Fails if memory runs out.
 fn copied(alloc: Global, versions: &[Version]) -> Result<Versions, AllocError>
     ensures { IfOk result (λ copy. copy ≡ versions.now) }
 {
@@ -262,7 +262,7 @@ fn copied(alloc: Global, versions: &[Version]) -> Result<Versions, AllocError>
     Ok(Versions::new(copies))
 }
 
-/// A copy of a version, if there is one.
+/// Returns a copy of a version, or None for None. Fails if memory runs out.
 fn copy_of(alloc: Global, version: Option<&Version>) -> Result<Option<Version>, AllocError>
     ensures { IfOk result (λ copy. copy ≡ option_copied version.entry) }
 {

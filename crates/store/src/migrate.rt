@@ -1,4 +1,4 @@
-//! A store of an older schema as one of today's.
+//! Migrates a store of an older schema into one of today's.
 
 ghost use Rattle.std.specs.Prelude.{◌≡◌, ◌≢◌, Ok, Err, IfErr};
 ghost use Rattle.sqlite.specs.Held.{state};
@@ -17,7 +17,7 @@ use sqlite::{Alter, Connection, Error, ErrorCode};
 use statements::extract_rows::CopyError;
 use std::alloc::Global;
 
-/// What has become of a migration.
+/// The outcome of a migration in which no store failed.
 #[derive(Clone, Copy, Debug, Drop, PartialEq, Eq)]
 pub(crate) enum Migrated {
     /// All was written.
@@ -28,7 +28,8 @@ pub(crate) enum Migrated {
     BadSchema,
 }
 
-/// What has become of a migration whose rows were written, or whose older tables stand for no world.
+/// Returns the outcome of a migration by what `write_world` returned: rows that the fresh store refuses as a broken constraint
+/// are `BadSchema`, and any other error stays an error.
 fn told_of(written: Result<bool, CopyError>) -> Result<Migrated, CopyError>
     ensures whole { is_whole result ≡ is_done written }
     ensures named { result ≢ Ok Migrated.NotEmpty }
@@ -37,7 +38,7 @@ fn told_of(written: Result<bool, CopyError>) -> Result<Migrated, CopyError>
     match written {
         Ok(true) => Ok(Migrated::Whole),
         Ok(false) => Ok(Migrated::BadSchema),
-        // Rows that no store of today's schema may have, as a key that comes twice.
+        // Rows that no store of today's schema may have, such as a key that comes twice.
         Err(CopyError::Fresh(Error::SqliteFailure(ErrorCode::ConstraintViolation(_)))) => {
             Ok(Migrated::BadSchema)
         }
@@ -45,7 +46,8 @@ fn told_of(written: Result<bool, CopyError>) -> Result<Migrated, CopyError>
     }
 }
 
-/// Writes what the tables of an older store stand for into a fresh one, where that has `common` alone.
+/// Writes the world of an older store into a fresh one. Returns `NotEmpty` if the fresh store has more than `common`, and then
+/// `BadSchema` if the older tables are those of no older schema or stand for no world.
 fn migrate_rows<S: Alter, F: Alter>(
     alloc: Global,
     old: &mut Connection<S>,
@@ -64,13 +66,13 @@ fn migrate_rows<S: Alter, F: Alter>(
     told_of(write_world(alloc, old, format, fresh))
 }
 
-/// Makes the fresh store one of all that a store of schema 1 or 2 has: each shelf but `common` becomes a team without a group.
+/// Copies all that a store of schema 1 or 2 has into the fresh store: each shelf but `common` becomes a team without a group.
 /// The older store is only read, a row at a time, and all rows are written in one transaction.
 ///
 /// Fails with `NotEmpty` if the fresh store has another shelf, a key or an entry, otherwise with `BadSchema` if the tables of
 /// the older store are those of no older schema or stand for no world; with `Device` if a disk failed and with `Memory` if
-/// memory ran out. Then both stores are as they were. With the first, a crash leaves of the fresh store nothing that it did not
-/// leave before.
+/// memory ran out. Then both stores are as they were. After `NotEmpty`, a crash leaves nothing in the fresh store that it did
+/// not leave before.
 pub fn migrate<S: Alter, F: Alter>(
     old: &mut Connection<S>,
     fresh: &mut SqlShelves<F>,

@@ -1,4 +1,4 @@
-//! Stores that are opened.
+//! Opens stores.
 
 ghost use Rattle.std.specs.Prelude.{◌≡◌, Err, codes, IfOk, IfErr, IsErrAnd, IsSomeAnd};
 ghost use Rattle.sqlite.specs.Held.{state};
@@ -18,12 +18,11 @@ use sqlite::{Alter, Connection, File, FileFrom, FileStore, Leftover, MemStore, S
 use std::alloc::Global;
 use std::rt::HostRuntime;
 
-/// The store of a database file and its log, which held what `T` says.
+/// A store in a database file and its log, which held what `T` says.
 pub type FileShelves<T> = SqlShelves<FileStore<FileFrom<T>>>;
 
 impl SqlShelves<MemStore> {
-    /// A store in memory, with the shelf `common` alone. It is refused only as `Memory`, where memory
-    /// was wanted.
+    /// Opens a store in memory that has only the shelf `common`. Fails only with `Memory`, if memory runs out.
     pub fn open_memory(alloc: Global) -> Result<SqlShelves<MemStore>, Refusal>
         ensures begins { IfOk result (λ s. BeginsAt (shown_with (state over_memory s.conn) s.kept) only_common) }
         ensures none_failed { IfOk result (λ s. s.failures ≡ 0) }
@@ -40,7 +39,7 @@ impl SqlShelves<MemStore> {
 }
 
 impl<S: Alter> SqlShelves<S> {
-    /// Closes a store and gives its connection back, on which it does nothing: what was acknowledged stands in the files already.
+    /// Closes a store and returns its connection, on which it makes no call: what was acknowledged is in the files already.
     /// A crate that drops a store has to prove the dropping of all its parts, so callers drop the connection instead.
     pub fn close(self) -> Connection<S>
         ensures untouched { result ≡ self.conn }
@@ -56,15 +55,14 @@ impl<S: Alter> SqlShelves<S> {
 }
 
 impl<T: Start> SqlShelves<FileStore<FileFrom<T>>> {
-    /// Opens the store of the files at a path, where `T` says what they hold: the database file, which
-    /// is made if it is not there, and its log. Files whose tables are those of the schema are opened
-    /// with the world that they stand for, and empty ones with the shelf `common` alone.
+    /// Opens the store in the files at a path, where `T` says what they hold: the database file, which is created if it does not
+    /// exist, and its log. If the tables are those of the schema, the store begins at the world that they stand for; if the files
+    /// are empty, it begins with only the shelf `common`.
     ///
-    /// It is refused as `BadSchema` where the files hold no database, other tables, or tables that
-    /// stand for no world; as `Memory` where memory was wanted; and as `Device` where the disk failed,
-    /// or the system or the name does not let the files be opened. The files then come back, where they
-    /// were opened. Files that are no store stay as they are (tested); where the disk failed or memory
-    /// was wanted, those that were empty may hold the made tables, and a log may be left beside them.
+    /// Fails with `BadSchema` if the files hold no database, other tables, or tables that stand for no world; with `Memory` if
+    /// memory ran out; and with `Device` if the disk failed, or the system or the name does not let the files be opened. The files
+    /// then come back, if they were opened. Files that are no store stay as they are (tested); if the disk failed or memory ran
+    /// out, files that were empty may hold the tables that were made, and a log may be left beside them.
     ///
     /// No clause of `sqlite` ties a path to the bytes of a file, so no contract says that this path was opened: tests do.
     pub fn open_from(
@@ -78,7 +76,7 @@ impl<T: Start> SqlShelves<FileStore<FileFrom<T>>> {
         ensures found { IfOk result (λ s. HasCleanDisk (file_state s.conn) → (w : _)
             → HoldsStore (image_at T.Start) w → BeginsAt (shown_with (file_state s.conn) s.kept) w) }
         ensures refused { IfErr result (λ e. IsOfOpening e.0) }
-        // `BadSchema` tells that the files hold no store, as far as no answer of the disk was wrong.
+        // `BadSchema` says that the files hold no store, if the disk has returned what was written.
         ensures bad { IfErr result (λ e. e.0 ≡ Refusal.BadSchema
             → IsSomeAnd e.1 (λ left. IsCleanLeft left → HoldsNoStore (image_at T.Start))) }
         ensures none_failed { IfOk result (λ s. s.failures ≡ 0) }
@@ -92,8 +90,8 @@ impl<T: Start> SqlShelves<FileStore<FileFrom<T>>> {
 }
 
 impl SqlShelves<FileStore<File>> {
-    /// Opens the store of a file, as `open_from` does when nothing is known of what the file holds.
-    /// It supposes that a write which a crash tore leaves each byte old or new. As with SQLite's
+    /// Opens the store in a file, as `open_from` does if nothing is known of what the file holds, and fails as it does.
+    /// It assumes that a write that a crash tears leaves each byte old or new. As with SQLite's
     /// `synchronous=FULL`, most commits then sync once.
     pub fn open_file(rt: &HostRuntime, path: &str) -> Result<FileShelves<Unknown>, Refusal>
         ensures memory { path.now ≡ codes ":memory:" → result ≡ Err Refusal.Device }

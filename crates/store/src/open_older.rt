@@ -1,4 +1,4 @@
-//! Files of a store of an older schema that are opened.
+//! Opens the files of a store of an older schema.
 
 ghost use Rattle.std.specs.Prelude.{◌≡◌, IfOk, IfErr};
 ghost use Rattle.sqlite.specs.Files.{file_state};
@@ -12,11 +12,11 @@ use crate::refusal::Refusal;
 use sqlite::{Connection, FileFrom, FileStore, Leftover, Start};
 use std::rt::HostRuntime;
 
-/// A connection to the files of an older store, where `T` says what they hold. It judges no tables.
+/// Opens a connection to the files of an older store, where `T` says what they hold. It does not test the tables.
 ///
 /// Fails with `BadSchema` if the files hold no database, with `Memory` if memory ran out, and with `Device` if the disk failed,
-/// another process has the files open, or the system or the name does not let them be opened. The files then come back, where they
-/// were opened.
+/// another process has the files open, or the system or the name does not let them be opened. The files then come back, if
+/// they were opened.
 pub fn open_older<T: Start>(
     rt: &HostRuntime,
     path: &str,

@@ -1,4 +1,4 @@
-//! Values that are kept, of which those that were asked longest ago go first.
+//! A cache that drops the values that were asked for longest ago.
 
 ghost use Rattle.std.specs.Prelude.{◌≡◌, ◌⊎◌, [], IfOk, IfSome};
 ghost use Rattle.std.specs.Option.{option_map_or};
@@ -8,11 +8,11 @@ use lru::LruCache;
 use std::alloc::{AllocError, Global};
 use std::marker::Model;
 
-/// Each value with its weight, those that were asked last first. It drops none by itself.
+/// Values with their weights, those that were asked for last first. It drops none by itself.
 type Cache<V> = LruCache<u64, (usize, V)>;
 
-/// Values under numbers, which together weigh at most a fixed figure. Where one more has no room, those that were asked
-/// longest ago go. Contracts see each with its number and its weight.
+/// Values under numbers, which together weigh at most a fixed figure. If a new value has no room, those that were asked for
+/// longest ago go. Contracts see each value with its number and its weight.
 #[derive(Drop)]
 pub(crate) struct Recent<V> {
     pub(crate) cache: Option<Cache<V>>,
@@ -36,7 +36,7 @@ impl<V> Model for Recent<V> {
 }
 
 impl<V> Recent<V> {
-    /// No value; together they are to weigh at most so much. It takes no memory.
+    /// Returns an empty cache, whose values together may weigh at most `most`. It takes no memory.
     pub(crate) fn new(most: usize) -> Recent<V>
         ensures { result ≡ [] }
     {
@@ -47,7 +47,7 @@ impl<V> Recent<V> {
         }
     }
 
-    /// The value under a number, if there is one.
+    /// Returns the value under a number, or None if there is none.
     pub(crate) fn get(&self, number: u64) -> Option<&V>
         ensures { IfSome result (λ value. Holds self.now value.now) }
     {
@@ -55,7 +55,7 @@ impl<V> Recent<V> {
         Some(&held.1)
     }
 
-    /// Makes the value under a number the one that was asked last, if there is one.
+    /// Makes the value under a number, if there is one, the one that was asked for last.
     pub(crate) fn promote(&mut self, number: u64)
         ensures { (v : _) → Holds self.new v → Holds self.old v }
     {
@@ -65,7 +65,7 @@ impl<V> Recent<V> {
         cache.promote(&number);
     }
 
-    /// Takes out the value under a number, if there is one.
+    /// Takes the value under a number out of the cache and returns it, or returns None if there is none.
     pub(crate) fn take(&mut self, number: u64) -> Option<V>
         ensures others { (v : _) → Holds self.new v → Holds self.old v }
         ensures taken { IfSome result (Holds self.old) }
@@ -80,8 +80,8 @@ impl<V> Recent<V> {
 }
 
 impl<V: Drop> Recent<V> {
-    /// Keeps a value of this weight under a number, in the place of the one that was there. Without memory it is not
-    /// kept, nor is one that weighs more than all may.
+    /// Caches a value of this weight under a number, in place of the one that was there. If memory runs out, the value is not
+    /// cached. A value that weighs more than `most` changes nothing.
     pub(crate) fn keep(&mut self, alloc: Global, number: u64, weight: usize, value: V)
         ensures { (v : _) → Holds self.new v → Holds self.old v ⊎ (v ≡ value) }
     {
@@ -100,7 +100,7 @@ impl<V: Drop> Recent<V> {
         drop(self.take(number));
     }
 
-    /// Drops the values that were asked longest ago, until one of this weight has room.
+    /// Drops the values that were asked for longest ago, until one of this weight has room.
     pub(crate) fn make_room(&mut self, weight: usize)
         ensures { (v : _) → Holds self.new v → Holds self.old v }
     {
@@ -112,7 +112,7 @@ impl<V: Drop> Recent<V> {
         }
     }
 
-    /// How many values there are.
+    /// Returns how many values there are.
     fn len(&self) -> usize {
         match &self.cache {
             Some(cache) => cache.len(),
@@ -120,7 +120,7 @@ impl<V: Drop> Recent<V> {
         }
     }
 
-    /// Drops the value that was asked longest ago, if there is one.
+    /// Drops the value that was asked for longest ago, if there is one.
     fn drop_last(&mut self)
         ensures { (v : _) → Holds self.new v → Holds self.old v }
     {
@@ -133,7 +133,7 @@ impl<V: Drop> Recent<V> {
         }
     }
 
-    /// Puts in a value of this weight, if it has room and there is memory.
+    /// Adds a value of this weight, if it has room and there is memory.
     fn put(&mut self, alloc: Global, number: u64, weight: usize, value: V)
         ensures { (v : _) → Holds self.new v → Holds self.old v ⊎ (v ≡ value) }
     {
@@ -152,7 +152,7 @@ impl<V: Drop> Recent<V> {
     }
 }
 
-/// The cache, or where there is none an empty one.
+/// Returns the cache, or an empty one if there is none. Fails if memory runs out.
 fn cache_or_new<V>(alloc: Global, cache: Option<Cache<V>>) -> Result<Cache<V>, AllocError>
     ensures { IfOk result (λ made. made.entries ≡ option_map_or (λ old. old.entries) cache []) }
 {

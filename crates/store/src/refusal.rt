@@ -1,27 +1,27 @@
-//! Why a store is not opened, or not made of another.
+//! Why a call that opens a store, or makes one from another, fails.
 
 ghost use Rattle.std.specs.Prelude.{◌≡◌, ◌≢◌};
 ghost use Rattle.store.specs.Opened.{IsOfOpening};
 
 use sqlite::{Error, ErrorCode};
 
-/// Why a store is not opened, or not made of a team's part of another or of an older one.
+/// Why a call that opens a store, copies one or a part of it, or migrates one, fails.
 #[derive(Clone, Copy, Debug, PartialEq, Eq)]
 pub enum Refusal {
-    /// A disk failed, the system or the name does not let a file be opened, the connection is shut, in a
+    /// A disk failed, the system or the name does not let a file be opened, the connection is closed, in a
     /// transaction or limited in its steps, or a table has 2^64 rows, one for each rowid.
     Device,
-    /// Memory was wanted.
+    /// Memory ran out.
     Memory,
-    /// The tables are not those of the schema (of a migration, those of an older schema), or stand for no world.
+    /// The tables are not those of the schema (for a migration, not those of an older schema), or stand for no world.
     BadSchema,
     /// The fresh store has more than `common`: another shelf, a key or an entry.
     NotEmpty,
-    /// There is no such team. `common` is none, nor is a group.
+    /// There is no such team, or none is named. `common` and groups are no teams.
     NoTeam,
 }
 
-/// The refusal for tables that cannot be read or made.
+/// Returns the refusal for tables that cannot be read or made: `Memory` if memory ran out, and otherwise `Device`.
 pub(crate) fn open_refusal(error: Error) -> Refusal
     ensures named { result ≢ Refusal.BadSchema }
     ensures opening { IsOfOpening result }

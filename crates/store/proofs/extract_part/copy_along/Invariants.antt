@@ -6,7 +6,7 @@ use Rattle.statements.specs.Shelves.{names_of}
 use Rattle.store.specs.Parts.{CopiesRows}
 use Rattle.store.proofs.extract_part.copy_along.Given as goal
 
--- the rows of common and of the shelves so far were copied
+-- the rows of `common` and of the shelves so far were copied
 abbrev pub invariant-loop-shelf : goal.invariant-loop-shelf
 invariant-loop-shelf g l =
     (l.tx.conn.ghost_name ≡ l.fn.tx.conn.ghost_name)

@@ -5,7 +5,7 @@ use Rattle.statements.specs.Calls.{InEachWorld, Spares}
 use Rattle.store.proofs.SeenLemmas.{texts_of}
 use Rattle.store.proofs.seen.find_seen.Given as goal
 
--- what is on the shelves that are left is what is on all of them
+-- what the shelves that remain have is what all of them have
 abbrev pub invariant-loop-shelf : goal.invariant-loop-shelf
 invariant-loop-shelf g l =
     Spares (state g.S.Store l.fn.conn) (state g.S.Store l.conn)

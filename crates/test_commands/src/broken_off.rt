@@ -1,4 +1,4 @@
-//! Imports that break off: the list can't be read on, or a line can't be printed.
+//! Imports that break off: the list cannot be read on, or a line cannot be printed.
 use crate::calls::{imported, seen_by};
 use crate::doubles::{Sink, Source};
 use crate::in_memory::put;
@@ -18,7 +18,7 @@ fn files(alloc: Global) -> Result<FilesInMemory, AllocError> {
     Ok(files)
 }
 
-/// Three rows, with the lines that are printed for them and what the shelf sees then.
+/// Three rows, the lines that are printed for them, and what the shelf sees afterwards.
 const LIST: &[u8] =
     b"path,version,time,mod,zip\nexample.com/i,v1.0.0,,i.mod,empty\nexample.com/i,v1.1.0,,i.mod,empty\nexample.com/i,v1.2.0,,i.mod,empty\n";
 
@@ -31,7 +31,7 @@ example.com/i,v1.1.0,alpha,release,,21,0
 example.com/i,v1.2.0,alpha,release,,21,0
 ";
 
-/// What an import prints, how it ends, and what the shelf sees then.
+/// Imports a list, and returns what is printed, how the import ends, and what the shelf sees afterwards.
 fn left_by<S: Outlines + Drop, L: Read + Drop, F: Sources>(
     alloc: Global,
     mut shelves: S,
@@ -44,7 +44,7 @@ fn left_by<S: Outlines + Drop, L: Read + Drop, F: Sources>(
     Ok(format!(in alloc; "{}\n{}", ended.as_str(), seen.as_str())?)
 }
 
-/// The same from shelves on which nothing stands.
+/// Imports a list to shelves that have no entry, and returns what is printed, how it ends, and what the shelf sees afterwards.
 fn left<L: Read + Drop, F: Sources>(
     alloc: Global,
     list: L,
@@ -55,7 +55,7 @@ fn left<L: Read + Drop, F: Sources>(
     left_by(alloc, shelves, list, files, output)
 }
 
-/// What is left where this was printed, the import ended so, and so many rows are done.
+/// Returns what is left if this was printed, the import ended so, and this many rows are done.
 fn left_after(
     alloc: Global,
     printed: &str,
@@ -66,7 +66,7 @@ fn left_after(
     format!(in alloc; "{printed}{ending}\n{}", seen.as_str())
 }
 
-/// What is left where so many lines of the list were read, and then it can't be read on.
+/// Returns what is left if this many lines of the list were read, and the list then cannot be read on.
 fn left_unread(alloc: Global, lines: usize) -> Result<String, AllocError> {
     let rows = lines.saturating_sub(1);
     let done = first_lines(alloc, LINES, rows)?;
@@ -74,7 +74,7 @@ fn left_unread(alloc: Global, lines: usize) -> Result<String, AllocError> {
     left_after(alloc, printed.as_str(), "some out", rows)
 }
 
-/// Whether that is left where the list can't be read on after so many reads.
+/// Reports whether that is left if the list cannot be read on after this many reads.
 fn stays<F: Sources>(alloc: Global, files: &F, reads: usize) -> Result<bool, Fail> {
     let list = Source { rest: LIST, reads };
     let left = left(alloc, list, files, Sink::new(alloc, usize::MAX, true))?;
@@ -91,13 +91,13 @@ fn rows_before_a_failed_read_stay(rt: HostRuntime) -> Result<(), Fail> {
     Ok(())
 }
 
-/// Two rows and one that is bad, with the lines that are printed for them.
+/// Two rows and a bad one, and the lines that are printed for them.
 const BAD: &[u8] =
     b"path,version,time,mod,zip\nexample.com/i,v1.0.0,,i.mod,empty\nexample.com/i,v1.1.0,,i.mod,empty\nexample.com/i,v1.2.0\n";
 
 const BAD_LINES: &str = "1 201 published\n2 201 published\n3 bad row\n";
 
-/// Whether a beginning of the lines was printed where there is room for no more, and the row whose line it breaks off is done.
+/// Reports whether, with room for this much only, the beginning of the lines is printed, and the row is done whose line breaks off.
 fn breaks_off<F: Sources>(alloc: Global, files: &F, room: usize) -> Result<bool, Fail> {
     let left = left(alloc, BAD, files, Sink::new(alloc, room, true))?;
     let printed = BAD_LINES.get(..room).ok_or("no such place")?;
@@ -117,7 +117,7 @@ fn a_row_whose_line_breaks_off_is_done(rt: HostRuntime) -> Result<(), Fail> {
     Ok(())
 }
 
-/// Whether the first row is the last that is done where its line is not flushed.
+/// Reports whether the first row is the last that is done if its line is not flushed.
 fn stops_unflushed<F: Sources>(alloc: Global, files: &F) -> Result<bool, Fail> {
     let left = left(alloc, BAD, files, Sink::new(alloc, usize::MAX, false))?;
     let wanted = left_after(alloc, "1 201 published\n", "io", 1)?;

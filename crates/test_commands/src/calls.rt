@@ -15,8 +15,9 @@ use std::str::from_utf8;
 use std::test::Fail;
 use world::shelves::Shelves;
 
-/// The first row of a script that is answered otherwise; empty where each has its own answer. A row is a command, a key, what it asks
-/// for, and the answer, in which `;` stands for a newline. In place of a key, `member-add` has the group. The store is let go then.
+/// Returns the first row of a script that is answered otherwise, or the empty text if each row has its own answer. A row is a
+/// command, a key, what it asks for, and the answer, in which `;` is a newline. `member-add` has the group in place of a key.
+/// Then drops the store.
 pub fn wrong_row<'a, S: Outlines + Drop, F: Sources>(
     alloc: Global,
     mut shelves: S,
@@ -31,7 +32,7 @@ pub fn wrong_row<'a, S: Outlines + Drop, F: Sources>(
     Ok("")
 }
 
-/// Whether a row has its answer.
+/// Reports whether a row has its answer.
 fn holds<S: Outlines, F: Sources>(
     alloc: Global,
     shelves: &mut S,
@@ -42,7 +43,7 @@ fn holds<S: Outlines, F: Sources>(
     Ok(answered(alloc, shelves, files, row)?.as_str() == wanted.as_str())
 }
 
-/// The answer to a row.
+/// Returns the answer to a row.
 fn answered<S: Outlines, F: Sources>(
     alloc: Global,
     shelves: &mut S,
@@ -63,7 +64,7 @@ fn answered<S: Outlines, F: Sources>(
     }
 }
 
-/// How a command of the registry ended.
+/// Returns how a command of the registry ended, as a word.
 fn ended(alloc: Global, told: Result<(), Refusal>) -> Result<String, Fail> {
     match told {
         Ok(()) => Ok(String::from_str(alloc, "done")?),
@@ -71,7 +72,7 @@ fn ended(alloc: Global, told: Result<(), Refusal>) -> Result<String, Fail> {
     }
 }
 
-/// Imports the list in a file.
+/// Imports the list in a file, and returns the lines that are printed and how the import ends.
 fn import_file<S: Shelves, F: Sources>(
     alloc: Global,
     shelves: &mut S,
@@ -84,7 +85,7 @@ fn import_file<S: Shelves, F: Sources>(
     imported(alloc, shelves, files, key, list.as_slice(), output)
 }
 
-/// The lines that an import prints, and how it ends.
+/// Imports a list, and returns the lines that are printed and how the import ends.
 pub fn imported<S: Shelves, F: Sources, L: Read + Drop>(
     alloc: Global,
     shelves: &mut S,
@@ -97,7 +98,7 @@ pub fn imported<S: Shelves, F: Sources, L: Read + Drop>(
     Ok(format!(in alloc; "{}{ending}", from_utf8(output.taken.as_slice())?)?)
 }
 
-/// How an import ended.
+/// Returns how an import ended, in words.
 fn ending_of(ended: Result<Ending, Io>) -> &'static str {
     match ended {
         Ok(Ending::AllIn) => "all in",
@@ -107,7 +108,7 @@ fn ending_of(ended: Result<Ending, Io>) -> &'static str {
     }
 }
 
-/// What the shelf of a key sees, or why that is not told.
+/// Returns what the shelf of a key sees, or why the inventory fails.
 pub fn seen_by<S: Outlines>(alloc: Global, shelves: &mut S, key: &str) -> Result<String, Fail> {
     match inventory(alloc, shelves, key) {
         Ok(text) => Ok(String::from_str(alloc, from_utf8(text.as_slice())?)?),
@@ -115,7 +116,7 @@ pub fn seen_by<S: Outlines>(alloc: Global, shelves: &mut S, key: &str) -> Result
     }
 }
 
-/// What a version requires, its path and its name behind `@`; or `none`.
+/// Returns what a version requires, or `none`. `asked` is a path and a version, with `@` between.
 fn required<S: Shelves>(
     alloc: Global,
     shelves: &mut S,

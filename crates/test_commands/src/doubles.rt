@@ -3,7 +3,7 @@ use std::alloc::Global;
 use std::io;
 use std::io::{Error, ErrorKind, Read, Write};
 
-/// Gives its bytes one a read; the read after so many fails, and those after it give the rest.
+/// Gives its bytes one a read. The read after `reads` others fails, and those after it give the rest.
 #[derive(Drop)]
 pub struct Source<'a> {
     pub rest: &'a [u8],
@@ -24,7 +24,7 @@ impl<'a> Read for Source<'a> {
     }
 }
 
-/// Takes so many bytes, and then fails; fails where it is flushed, if it is to.
+/// Takes `room` bytes, and then fails. It also fails on a flush, unless `flushes`.
 #[derive(Drop)]
 pub struct Sink {
     pub taken: Vec<u8>,

@@ -5,7 +5,7 @@ use std::alloc::{AllocError, Global};
 use std::str::from_utf8;
 use std::test::Fail;
 
-/// Puts files, one a line: a name and its text, in which `;` stands for a newline.
+/// Puts files, one a line: a name and its text, in which `;` is a newline.
 pub fn put(alloc: Global, files: &mut FilesInMemory, table: &str) -> Result<(), AllocError> {
     for row in table.lines() {
         put_file(alloc, files, column(row, 0), column(row, 1))?;
@@ -23,7 +23,7 @@ fn put_file(
     files.insert(name, text.as_bytes())
 }
 
-/// What is told of a name: its bytes, of which there is at most one more than this many, or why there are none.
+/// Returns the bytes under a name, at most one more than `most`, or why there are none.
 fn told<F: Sources>(alloc: Global, files: &F, name: &str, most: u32) -> Result<String, Fail> {
     match files.bytes(name, u64::from(most)) {
         Ok(bytes) => Ok(String::from_str(alloc, from_utf8(bytes.as_slice())?)?),
@@ -31,14 +31,14 @@ fn told<F: Sources>(alloc: Global, files: &F, name: &str, most: u32) -> Result<S
     }
 }
 
-/// Whether that is told of a name which its row says.
+/// Reports whether a row's name has the bytes, or the fault, that the row says.
 fn is_told<F: Sources>(alloc: Global, files: &F, row: &str) -> Result<bool, Fail> {
     let most = column(row, 1).parse::<u32>()?;
     let wanted = with_lines(alloc, column(row, 2))?;
     Ok(told(alloc, files, column(row, 0), most)?.as_str() == wanted.as_str())
 }
 
-/// Puts the files of a row with two columns; asks for the name of one with three.
+/// Puts the file of a row with two columns and returns true. For a row with three, reports whether its name has what it says.
 fn holds(alloc: Global, files: &mut FilesInMemory, row: &str) -> Result<bool, Fail> {
     if row.split('|').count() == 3 {
         return is_told(alloc, files, row);
@@ -47,7 +47,7 @@ fn holds(alloc: Global, files: &mut FilesInMemory, row: &str) -> Result<bool, Fa
     Ok(true)
 }
 
-/// The first row of which something else is told; empty where each is told as it says.
+/// Returns the first row whose name does not have what the row says, or the empty text if there is none.
 fn wrong_row<'a>(alloc: Global, files: &mut FilesInMemory, rows: &'a str) -> Result<&'a str, Fail> {
     for row in rows.lines() {
         if !holds(alloc, files, row)? {
@@ -57,7 +57,7 @@ fn wrong_row<'a>(alloc: Global, files: &mut FilesInMemory, rows: &'a str) -> Res
     Ok("")
 }
 
-/// Files that are put, one of 21 bytes, one of none and one of one; and what is told of a name where so many bytes are the most.
+/// Files that are put, with 21 bytes, none, or one; and what a name has if the most bytes are the figure in the second column.
 const ROWS: &str = "\
 a.mod | 100 | NoFile
 a.mod | module example.com/a;

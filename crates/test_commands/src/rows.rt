@@ -1,17 +1,17 @@
-//! How rows are read: each stands on a line of a table, `|` between its columns.
+//! Reads rows: each is a line of a table, with `|` between its columns.
 use std::alloc::{AllocError, Global};
 
-/// A column of a row; one that is not there is empty.
+/// Returns a column of a row, or the empty text if there is no such column.
 pub fn column(row: &str, place: usize) -> &str {
     row.split('|').nth(place).unwrap_or("").trim()
 }
 
-/// The text that a column writes with `;` for each newline.
+/// Returns the text that a column writes with `;` for each newline.
 pub fn with_lines(alloc: Global, column: &str) -> Result<String, AllocError> {
     column.replace(alloc, ";", "\n")
 }
 
-/// The first lines of a text, so many at most.
+/// Returns the first lines of a text, `count` at most.
 pub fn first_lines(alloc: Global, text: &str, count: usize) -> Result<String, AllocError> {
     let mut first = String::new(alloc);
     for line in text.lines().take(count) {
@@ -21,7 +21,7 @@ pub fn first_lines(alloc: Global, text: &str, count: usize) -> Result<String, Al
     Ok(first)
 }
 
-/// How many newlines are among the first bytes, of so many.
+/// Returns how many newlines are among the first bytes, `first` at most.
 pub fn newlines(bytes: &[u8], first: usize) -> usize {
     bytes
         .iter()

@@ -32,7 +32,7 @@ of-common | path,version,time,mod,zip;example.com/x,v1.0.0,,x.mod,one;example.co
 of-alpha | path,version,time,mod,zip;example.com/y,v1.0.0,,y.mod,empty;example.com/y,v1.10.0,2024-01-31T23:59:59Z,y.mod,empty;example.com/y,v1.9.0,,requires.mod,empty;example.com/y,v1.10.0-rc.1,,y.mod,empty;example.com/y,v1.9.1-0.20240102030405-aaaaaaaaaaaa,,y.mod,empty;
 ";
 
-/// A list that is imported twice: its files stand as they were given, since none other is the same. Then by other keys.
+/// A list that is imported twice and keeps its files, because others conflict with them. Then it is imported with other keys.
 const TWICE: &str = "\
 team-add | | beta | done
 reader-add | alphareader00001 | alpha | done
@@ -86,7 +86,7 @@ requires | alphareader00001 | example.com//y@v1.9.0 | none
 requires | alphareader00001 | example.com/y@1.9.0 | none
 ";
 
-/// A group with a member: why others are not added, and what its shelf and those of teams see.
+/// A group with a member: why others are not added, and what the group and the teams see.
 const GROUPS: &str = "\
 group-add | | common | name
 group-add | | Platform | name
@@ -116,7 +116,7 @@ inventory | gammakey00000001 | | path,version,shelf,class,time,mod_bytes,zip_byt
 inventory | alphakey00000001 | | path,version,shelf,class,time,mod_bytes,zip_bytes;example.com/i,v1.0.0,alpha,release,,21,1;example.com/x,v1.0.0,common,release,,21,1;example.com/y,v1.0.0,common,release,,21,1;
 ";
 
-/// The files, and one that is a byte longer than a go.mod may be.
+/// Returns the files, with one that is a byte longer than a go.mod may be.
 fn files(alloc: Global) -> Result<FilesInMemory, AllocError> {
     let mut files = FilesInMemory::new(alloc);
     put(alloc, &mut files, FILES)?;
@@ -125,7 +125,7 @@ fn files(alloc: Global) -> Result<FilesInMemory, AllocError> {
     Ok(files)
 }
 
-/// The first row that is answered otherwise, of a script that begins with the team alpha and its key.
+/// Returns the first row that is answered otherwise, in a script that begins with the team alpha and its key.
 fn wrong_in<'a, F: Sources>(alloc: Global, files: &F, script: &'a str) -> Result<&'a str, Fail> {
     let shelves = shelves_with(alloc, "alpha", "alphakey00000001")?;
     wrong_row(alloc, shelves, files, script)

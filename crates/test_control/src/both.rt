@@ -1,4 +1,4 @@
-//! An operator and a peer at once.
+//! An operator and a peer who come at once.
 use control::{Doors, serve_both};
 use std::fs;
 use std::io::{self, Write};
@@ -11,7 +11,7 @@ use world::shelves::Shelves;
 
 const GET: &[u8] = b"GET /k/alphakey00000001/example.com/lib/@v/list HTTP/1.1\r\n\r\n";
 
-/// Serves one peer and the operators before it.
+/// Serves one peer, and before it the operators.
 fn serve<S: Shelves + Drop>(rt: &HostRuntime, doors: &mut Doors, mut shelves: S) {
     serve_both(rt.alloc(), rt, doors, &mut shelves, 1);
 }

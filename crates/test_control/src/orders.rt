@@ -8,7 +8,7 @@ use world::entry::Right;
 use world::map_shelves::MapShelves;
 use world::shelves::Shelves;
 
-/// Lines in their order, `|`, and the outcome of each.
+/// Lines in their order, and after `|` the outcome of each.
 const ROWS: &str = "\
 group-add platform|done
 group-add platform|taken
@@ -33,7 +33,7 @@ Team-add delta|bad
 |bad
 key-revoke commonreader0001|done";
 
-/// What is sent for an order whose outcome comes, that outcome, and how the command ends, after the number of the order.
+/// In each row: the number of an order, the outcome that comes, what is sent, and how the command ends.
 const SENT: &str = "\
 0|done|reader-add alpha alphakey00000001|done
 0|taken|reader-add alpha alphakey00000001|Taken
@@ -52,12 +52,12 @@ const SENT: &str = "\
 6|done||NoTeam
 7|done||NoKey";
 
-/// A column of a row.
+/// Returns a column of a row.
 fn column(row: &str, place: usize) -> &str {
     row.split('|').nth(place).unwrap_or("")
 }
 
-/// The order of a number. No line carries those from 4 on; 5 is sent with another group.
+/// Returns the order of a number. No line can carry those from 4 on; 5 is sent with another group.
 fn order_at(number: &str) -> Order<'static> {
     let (shelf, key) = ("alpha", "alphakey00000001");
     match number {
@@ -89,7 +89,7 @@ fn order_at(number: &str) -> Order<'static> {
     }
 }
 
-/// The first row whose line has another outcome; empty where each has its own.
+/// Returns the first row whose line has another outcome, or the empty text if each has its own.
 fn wrong_row<S: Shelves + Drop>(alloc: Global, mut shelves: S) -> Result<&'static str, Fail> {
     for row in ROWS.lines() {
         let sent = format!(in alloc; "{}\n", column(row, 0))?;
@@ -105,7 +105,7 @@ fn wrong_row<S: Shelves + Drop>(alloc: Global, mut shelves: S) -> Result<&'stati
     Ok("")
 }
 
-/// How a command ended.
+/// Returns how a command ended, as a word.
 fn ended(alloc: Global, told: Result<(), Refusal>) -> Result<String, Fail> {
     match told {
         Ok(()) => Ok(String::from_str(alloc, "done")?),
@@ -113,7 +113,7 @@ fn ended(alloc: Global, told: Result<(), Refusal>) -> Result<String, Fail> {
     }
 }
 
-/// Whether the line of the order is sent, and the command ends as its row says.
+/// Sends an order, and reports whether its line is sent and the command ends as its row says.
 fn is_sent(alloc: Global, row: &str) -> Result<bool, Fail> {
     let reply = format!(in alloc; "{}\n", column(row, 1))?;
     let mut sent = Vec::new(alloc);

@@ -1,4 +1,4 @@
-//! Files that are lent to a store, and the calls that it makes of them.
+//! Files that are lent to a store, and the calls that the store makes of them.
 use sqlite_disk::{Disk, Tally};
 use std::alloc::Global;
 use std::io;
@@ -7,7 +7,7 @@ use std::io;
 #[derive(Drop)]
 pub struct Calls {
     pub count: u64,
-    /// Those that change it or sync it, each by how many came before.
+    /// The calls that change or sync the file, each by how many calls came before it.
     pub writes: Vec<u64>,
 }
 
@@ -29,7 +29,7 @@ impl Calls {
     }
 }
 
-/// A file that is lent: it is there again where the borrower has ended.
+/// A file that is lent: its owner has it back once the borrower has ended.
 #[derive(Drop)]
 pub struct Lent<'a, D: Disk> {
     pub file: &'a mut D,

@@ -1,4 +1,4 @@
-//! The import of a list.
+//! Imports a list.
 use commands::import::import;
 use commands::sources::FilesInMemory;
 use std::alloc::Global;
@@ -6,13 +6,13 @@ use std::str::from_utf8;
 use std::test::Fail;
 use world::shelves::Shelves;
 
-/// The rows of a list with their bits.
+/// The rows of the list. The first has bit 1, the second bit 2.
 const LIST: &str = "\
 example.com/new,v1.0.0,,n.mod,n.zip
 example.com/new,v1.1.0,,n.mod,n.zip
 ";
 
-/// The list of the rows of these bits.
+/// Returns the list of the rows whose bits are chosen.
 fn list_of(alloc: Global, chosen: u8) -> Result<String, Fail> {
     let mut list = String::from_str(alloc, "path,version,time,mod,zip\n")?;
     let mut bit = 1u8;
@@ -26,7 +26,7 @@ fn list_of(alloc: Global, chosen: u8) -> Result<String, Fail> {
     Ok(list)
 }
 
-/// The bits of the lines that tell of a row that is published.
+/// Returns the bits of the lines that say that a row is published.
 fn published(lines: &str) -> u8 {
     let mut published = 0;
     let mut bit = 1u8;
@@ -39,7 +39,7 @@ fn published(lines: &str) -> u8 {
     published
 }
 
-/// The files that the rows name.
+/// Returns the files that the rows name.
 fn named_files(alloc: Global) -> Result<FilesInMemory, Fail> {
     let mut files = FilesInMemory::new(alloc);
     files.insert("n.mod", b"module example.com/new\n")?;
@@ -47,7 +47,7 @@ fn named_files(alloc: Global) -> Result<FilesInMemory, Fail> {
     Ok(files)
 }
 
-/// Imports the rows of these bits, and tells which of them a line says to be published.
+/// Imports the rows whose bits are chosen, and returns the bits of the lines that say that a row is published.
 pub fn imported<S: Shelves>(alloc: Global, shelves: &mut S, chosen: u8) -> Result<u8, Fail> {
     let list = list_of(alloc, chosen)?;
     let files = named_files(alloc)?;

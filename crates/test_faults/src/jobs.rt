@@ -1,4 +1,4 @@
-//! Jobs: what is done with a store. One type tells them all, so that the store of a file is passed to one function.
+//! Jobs to do with a store. One type describes them all, so that the store in a file is passed to only one function.
 use crate::import::imported;
 use crate::requests::answered;
 use crate::steps::{ALL, SETUP, done};
@@ -10,28 +10,28 @@ use store::store::SqlShelves;
 use world::map_shelves::MapShelves;
 use world::shelves::Shelves;
 
-/// What kind of job it is.
+/// The kind of a job.
 #[derive(Clone, Copy, Drop, PartialEq, Eq)]
 pub enum Kind {
-    /// Does the steps, each of which has a bit.
+    /// Does the steps. Each step has a bit.
     Steps,
-    /// Imports the rows of a list, each of which has a bit.
+    /// Imports the rows of a list. Each row has a bit.
     Import,
-    /// Extracts alpha's part of a store in memory that the steps of [`SETUP`] made.
+    /// Extracts alpha's part of a store in memory on which the steps of [`SETUP`] were done.
     Extract,
-    /// Answers the requests, if any bit is chosen, and tells the row that was answered wrong.
+    /// Answers the requests, if any bit is chosen, and notes each row that is answered wrong.
     Sweep,
-    /// Tells the world.
+    /// Writes down the world.
     Look,
 }
 
-/// What is done with a store.
+/// A job to do with a store.
 #[derive(Drop)]
 pub struct Job<'a> {
     pub kind: Kind,
     /// The steps or the requests, one a line.
     pub rows: &'a str,
-    /// What came out: of a look the world, of a sweep the row that was answered wrong.
+    /// The output: the world for `Look`, the rows that were answered wrong for `Sweep`.
     pub told: String,
 }
 
@@ -45,7 +45,7 @@ impl<'a> Job<'a> {
     }
 }
 
-/// Does the parts of a job that have these bits, and tells which of them were acknowledged. The store is let go then.
+/// Does the parts of a job whose bits are chosen, and returns the bits of those that were acknowledged. Then drops the store.
 pub fn do_job<S: Alter + Drop>(
     alloc: Global,
     mut shelves: SqlShelves<S>,
@@ -59,7 +59,7 @@ pub fn do_job<S: Alter + Drop>(
     do_on_shelves(alloc, shelves, job, chosen)
 }
 
-/// Extracts alpha's part of a store, once it has done the steps of [`SETUP`]. The store is let go then.
+/// Does the steps of [`SETUP`] on a store, extracts alpha's part of it, and returns 1 if that is done. Then drops the store.
 fn extracted<T: Alter + Drop, S: Alter>(
     alloc: Global,
     mut whole: SqlShelves<T>,
@@ -71,7 +71,7 @@ fn extracted<T: Alter + Drop, S: Alter>(
     Ok(u8::from(whole.extract("alpha", fresh).is_ok()))
 }
 
-/// A job that any shelves can do. They are let go then.
+/// Does a job that any shelves can do, and returns the bits of the parts that were acknowledged. Then drops the shelves.
 fn do_on_shelves<S: Shelves + Drop>(
     alloc: Global,
     mut shelves: S,

@@ -1,15 +1,15 @@
-//! The worked rows of stops and faults: stores over files in memory whose calls fail, what they answer meanwhile, and what the files
-//! then hold.
+//! The worked rows of stops and faults: stores over files in memory whose calls fail, what the stores answer meanwhile, and
+//! what the files hold afterwards.
 //!
 //! | module | what it holds |
 //! |---|---|
-//! | `stops` | the changes that a stop breaks off, and the worlds that the files may hold then |
-//! | `sweep` | the requests that a store answers while a file fails |
-//! | `jobs` | what is done with a store: one type for all of it |
-//! | `open`, `files` | the store of two files that stop at some call, opened, passed and let go at one place |
+//! | `stops` | changes that a stop breaks off, and the worlds that the files may hold afterwards |
+//! | `sweep` | requests that a store answers while a file fails |
+//! | `jobs` | what is done with a store, as one type |
+//! | `open`, `files` | the store in two files that stop at some call: opened, passed on and dropped at one place |
 //! | `steps`, `import`, `requests`, `worlds` | what a job does, over any shelves |
 //!
-//! One place and one type of file keep the check short: each further one is proved again, in a minute and with 2 GiB.
+//! One place and one type of file keep the check short: each further one would be proved again, in a minute and with 2 GiB.
 #![tactic(auto)]
 
 #[cfg(test)]

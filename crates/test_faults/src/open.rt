@@ -1,6 +1,7 @@
-//! Stores over two files in memory, whose machine stops at some call.
+//! Stores over two files in memory, for which the machine stops at some call.
 //!
-//! Every store is opened, passed on and let go at one place, [`use_files`]: to pass the store of a file is dear to prove.
+//! Every store is opened, passed on and dropped at one place, [`use_files`], because passing the store of a file is expensive to
+//! prove.
 use crate::files::{Calls, Lent};
 use crate::jobs::{Job, do_job};
 use sqlite::{Alter, Connection, Files, Options};
@@ -10,8 +11,8 @@ use std::test::Fail;
 use store::refusal::Refusal;
 use store::store::SqlShelves;
 
-/// Opens the tables of a connection and does a job with their store; nothing is acknowledged where the device keeps it from being
-/// opened.
+/// Opens the tables of a connection, does a job with their store, and returns the bits that were acknowledged: none if the
+/// device keeps the store from opening.
 fn on_tables<S: Alter + Drop>(
     alloc: Global,
     conn: Connection<S>,
@@ -25,8 +26,8 @@ fn on_tables<S: Alter + Drop>(
     }
 }
 
-/// Opens the store of two files and does a job with it; nothing is acknowledged where the device keeps it from being opened. The log
-/// is copied into the database once it has a few pages, so that both files are written.
+/// Opens the store in two files, does a job with it, and returns the bits that were acknowledged: none if the device keeps the
+/// store from opening. The log is copied into the database once it has a few pages, so both files are written.
 fn on_files<D: Disk + Drop>(
     alloc: Global,
     files: Files<D>,
@@ -52,13 +53,13 @@ pub struct Stops {
     pub db: u64,
 }
 
-/// It never stops.
+/// The machine never stops.
 pub const NO_STOP: Stops = Stops {
     log: u64::MAX,
     db: u64::MAX,
 };
 
-/// A stop at a call of the log, or of the database file.
+/// Returns a stop after this many calls of the log, or of the database file.
 pub fn stop_at(calls: u64, of_log: bool) -> Stops {
     let mut stops = NO_STOP;
     if of_log {
@@ -92,7 +93,7 @@ impl Stopping {
     }
 }
 
-/// Does a job with the store of two files.
+/// Does a job with the store in two files, and returns the bits that were acknowledged.
 fn use_files(
     alloc: Global,
     log: &mut Stopping,
@@ -107,7 +108,7 @@ fn use_files(
     on_files(alloc, lent, job, chosen)
 }
 
-/// Does a job with the store of two files whose machine does not stop.
+/// Does a job with the store in two files whose machine does not stop.
 pub fn on_whole_files(alloc: Global, files: Files<Memory>, job: &mut Job) -> Result<u8, Fail> {
     let mut log = Stopping::new(alloc, files.log, u64::MAX);
     let mut db = Stopping::new(alloc, files.db, u64::MAX);
@@ -138,7 +139,7 @@ fn stopped(alloc: Global, stopping: Stopping) -> Result<Halted, Fail> {
     })
 }
 
-/// What a job leaves.
+/// What a job leaves in the files, and the bits that were acknowledged.
 #[derive(Drop)]
 pub struct Left {
     pub log: Halted,
@@ -148,7 +149,7 @@ pub struct Left {
     pub is_stopped: bool,
 }
 
-/// A file that holds what another holds.
+/// Returns a file that holds what another holds.
 pub fn copy_of(alloc: Global, file: &Memory) -> Result<Memory, Fail> {
     let mut copy = Memory::new(alloc);
     copy.write_at(0, file.bytes())?;
@@ -156,7 +157,7 @@ pub fn copy_of(alloc: Global, file: &Memory) -> Result<Memory, Fail> {
     Ok(copy)
 }
 
-/// Does a job with the store of copies of two files, whose machine stops.
+/// Does a job with the store in copies of two files, whose machine stops, and returns what it leaves.
 pub fn left_by(
     alloc: Global,
     before: &Files<Memory>,

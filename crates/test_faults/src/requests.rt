@@ -7,13 +7,13 @@ use std::test::Fail;
 use test_support::requests::request;
 use world::shelves::Shelves;
 
-/// A column of a row; one that is not there is empty.
+/// Returns a column of a row, or the empty text if there is no such column.
 pub fn column(row: &str, place: usize) -> &str {
     row.split('|').nth(place).unwrap_or("").trim()
 }
 
-/// The bytes of the reply to the request of a row: the words of the request; of a PUT also its go.mod, its zip and further lines of
-/// its head.
+/// Returns the bytes of the reply to the request of a row. The row has the words of the request and, for a PUT, also its
+/// go.mod, its zip and further lines of its head.
 pub fn reply<S: Shelves>(alloc: Global, shelves: &mut S, row: &str) -> Result<Vec<u8>, Fail> {
     let (words, gomod, zip, lines) = (
         column(row, 0),
@@ -28,26 +28,26 @@ pub fn reply<S: Shelves>(alloc: Global, shelves: &mut S, row: &str) -> Result<Ve
     Ok(output)
 }
 
-/// What is answered where the store fails.
+/// The reply if the store fails.
 const UNAVAILABLE: &[u8] =
     b"HTTP/1.1 503 Service Unavailable\r\nContent-Type: text/plain; charset=utf-8\r\nContent-Length: 12\r\nConnection: close\r\n\r\nunavailable\n";
 
-/// The request of a row.
+/// Returns the request of a row.
 fn asked(row: &str) -> &str {
     row.split(" = ").next().unwrap_or("")
 }
 
-/// The status of a row.
+/// Returns the status that a row wants.
 fn wanted(row: &str) -> &str {
     row.split(" = ").nth(1).unwrap_or("")
 }
 
-/// The status of a reply.
+/// Returns the status of a reply.
 fn status(reply: &[u8]) -> Result<&str, Fail> {
     Ok(from_utf8(reply)?.split(' ').nth(1).unwrap_or(""))
 }
 
-/// Has shelves do the steps of [`SETUP`].
+/// Does the steps of [`SETUP`] on shelves. Fails if one is not done.
 fn set_up<M: Shelves>(alloc: Global, shelves: &mut M) -> Result<(), Fail> {
     if done(alloc, shelves, SETUP, ALL)? != ALL {
         return Err(Fail::new("the steps before are not done"));
@@ -55,8 +55,8 @@ fn set_up<M: Shelves>(alloc: Global, shelves: &mut M) -> Result<(), Fail> {
     Ok(())
 }
 
-/// The first row that shelves answer with another status once they did the steps of [`SETUP`]; empty where each has its own. They are
-/// let go then.
+/// Does the steps of [`SETUP`] on shelves and answers the rows from them. Returns the first row that gets another status than
+/// its own, or the empty text if none does. Then drops the shelves.
 pub fn wrong_status<'a, M: Shelves + Drop>(
     alloc: Global,
     mut maps: M,
@@ -75,15 +75,15 @@ pub fn wrong_status<'a, M: Shelves + Drop>(
 /// How a store answered a request.
 #[derive(Clone, Copy, Drop, PartialEq, Eq)]
 enum Answer {
-    /// As the shelves in maps do.
+    /// As the shelves in maps answer.
     Same,
     /// With the 503, and a failure was counted.
     Refused,
-    /// Else.
+    /// In any other way.
     Wrong,
 }
 
-/// How a store answers a request, where shelves in maps took what it took.
+/// Returns how a store answers a request. The shelves in maps answer it too, unless the store answers 503.
 fn answer_to<S: Shelves, M: Shelves>(
     alloc: Global,
     shelves: &mut S,
@@ -108,8 +108,8 @@ fn answer_to<S: Shelves, M: Shelves>(
     })
 }
 
-/// Has a store answer the requests of rows, and tells how many had no 503. Each row that was answered wrong is added to `wrong`. The
-/// maps do the steps of [`SETUP`] before, and are let go then.
+/// Has a store answer the requests of rows, and returns how many got the reply of shelves in maps. Each row that was answered
+/// wrong is added to `wrong`. The maps do the steps of [`SETUP`] first, and are dropped at the end.
 pub fn answered<S: Shelves, M: Shelves + Drop>(
     alloc: Global,
     shelves: &mut S,

@@ -6,7 +6,7 @@ use world::entry::Right;
 use world::registry::Registered;
 use world::shelves::Shelves;
 
-/// What the files hold before: a group, two teams and three keys, a version of alpha and one of `common`.
+/// What the files hold at first: a group, two teams and three keys, a version of alpha and one of `common`.
 pub const SETUP: &str = "\
 group-add|platform
 team-add|alpha|platform
@@ -21,7 +21,7 @@ PUT C example.com/x/@v/v1.0.0|module example.com/x;|X
 /// The bits of eight steps.
 pub const ALL: u8 = 255;
 
-/// Whether a step is done: a command of the registry, or the request of a publish that is answered 201.
+/// Does a step, and reports whether it is done: a command of the registry, or a publish that is answered 201.
 fn is_done<S: Shelves>(alloc: Global, shelves: &mut S, step: &str) -> Result<bool, Fail> {
     let (first, second) = (column(step, 1), column(step, 2));
     let told = match column(step, 0) {
@@ -35,7 +35,7 @@ fn is_done<S: Shelves>(alloc: Global, shelves: &mut S, step: &str) -> Result<boo
     Ok(told == Ok(Registered::Done))
 }
 
-/// The group that a column names; an empty one names none.
+/// Returns the group that a column names, or None if the column is empty.
 fn group_in(column: &str) -> Option<&str> {
     if column.is_empty() {
         None
@@ -44,13 +44,13 @@ fn group_in(column: &str) -> Option<&str> {
     }
 }
 
-/// Whether a publish is answered 201.
+/// Publishes, and reports whether the answer is 201.
 fn is_published<S: Shelves>(alloc: Global, shelves: &mut S, row: &str) -> Result<bool, Fail> {
     let reply = reply(alloc, shelves, row)?;
     Ok(reply.as_slice().starts_with(b"HTTP/1.1 201 "))
 }
 
-/// Does the steps of these bits, and tells which of them are done.
+/// Does the steps whose bits are chosen, and returns the bits of those that are done.
 pub fn done<S: Shelves>(
     alloc: Global,
     shelves: &mut S,

@@ -1,4 +1,4 @@
-//! Changes that a stop breaks off at each call of a file, and the worlds that the files then hold.
+//! Changes that a stop breaks off at each call of a file, and the worlds that the files hold afterwards.
 use crate::jobs::{Job, Kind};
 use crate::open::{Halted, Left, NO_STOP, copy_of, left_by, stop_at};
 use crate::steps::{ALL, SETUP};
@@ -8,7 +8,7 @@ use sqlite_disk::Memory;
 use std::alloc::Global;
 use std::test::Fail;
 
-/// Files that hold nothing.
+/// Returns files that hold nothing.
 fn empty(alloc: Global) -> Files<Memory> {
     Files {
         log: Memory::new(alloc),
@@ -16,7 +16,7 @@ fn empty(alloc: Global) -> Files<Memory> {
     }
 }
 
-/// Files that hold what steps make.
+/// Returns files that hold what the steps of [`SETUP`] make.
 pub fn prepared(alloc: Global) -> Result<Files<Memory>, Fail> {
     let mut setup = Job::new(alloc, Kind::Steps, SETUP);
     let left = left_by(alloc, &empty(alloc), &mut setup, ALL, NO_STOP)?;
@@ -26,7 +26,7 @@ pub fn prepared(alloc: Global) -> Result<Files<Memory>, Fail> {
     Ok(written(left))
 }
 
-/// The files that a job wrote.
+/// Returns the files that a job wrote.
 fn written(left: Left) -> Files<Memory> {
     let log = left.log;
     let db = left.db;
@@ -36,7 +36,7 @@ fn written(left: Left) -> Files<Memory> {
     }
 }
 
-/// The world that each choice of the steps of a job makes.
+/// Returns the world that each choice of the steps of a job makes, in the order of the bits.
 fn worlds_of(
     alloc: Global,
     before: &Files<Memory>,
@@ -51,7 +51,7 @@ fn worlds_of(
     Ok(worlds)
 }
 
-/// Whether it is the world of a choice that has all of these steps.
+/// Reports whether this is the world of a choice that has all acknowledged steps.
 fn is_among(worlds: &[String], acknowledged: u8, world: &str) -> bool {
     let mut chosen = 0u8;
     for one in worlds.iter() {
@@ -63,7 +63,7 @@ fn is_among(worlds: &[String], acknowledged: u8, world: &str) -> bool {
     false
 }
 
-/// A copy of what was written, or of what was synced.
+/// Returns a copy of what was written, or of what was synced if the rest is lost.
 fn outcome(alloc: Global, file: &Halted, is_lost: bool) -> Result<Memory, Fail> {
     if is_lost {
         copy_of(alloc, &file.synced)
@@ -72,15 +72,15 @@ fn outcome(alloc: Global, file: &Halted, is_lost: bool) -> Result<Memory, Fail> 
     }
 }
 
-/// Whether it is asked for a loss of a file that has none, since all was synced.
+/// Reports whether a file that is to lose what was not synced has nothing to lose, because all was synced.
 fn loses_nothing(file: &Halted, is_lost: bool) -> bool {
     is_lost && file.written.bytes() == file.synced.bytes()
 }
 
-/// Whether the log or the database file has lost what was not synced.
+/// Whether the log has lost what was not synced, and whether the database file has.
 const LOSSES: [(bool, bool); 4] = [(false, false), (true, true), (true, false), (false, true)];
 
-/// Whether the files that a job leaves hold a world that they may hold.
+/// Reports whether the files that a job leaves hold a world that they may hold, whatever was lost.
 fn is_right(alloc: Global, left: &Left, worlds: &[String]) -> Result<bool, Fail> {
     for (log_lost, db_lost) in LOSSES {
         if loses_nothing(&left.log, log_lost) || loses_nothing(&left.db, db_lost) {
@@ -98,7 +98,7 @@ fn is_right(alloc: Global, left: &Left, worlds: &[String]) -> Result<bool, Fail>
     Ok(true)
 }
 
-/// Whether the world of no step and that of all steps differ.
+/// Reports whether the world of no step and the world of all steps differ.
 fn are_apart(worlds: &[String]) -> bool {
     match (worlds.first(), worlds.last()) {
         (Some(before), Some(after)) => before.as_str() != after.as_str(),
@@ -106,8 +106,8 @@ fn are_apart(worlds: &[String]) -> bool {
     }
 }
 
-/// Stops a job at each of these calls of the log, or of the database file. What came out: nothing, where each stop left a world that
-/// it may leave.
+/// Stops a job at each of these calls of the log, or of the database file. Returns the empty text if each stop left a world that
+/// it may leave, and otherwise what was wrong.
 fn wrong_stop(
     alloc: Global,
     before: &Files<Memory>,
@@ -126,9 +126,9 @@ fn wrong_stop(
     Ok("")
 }
 
-/// Stops a job at each call that changes or syncs the log, and at each of the database file; a stop at a call that reads leaves the
-/// same as one at the next of these. What came out: nothing, where each stop left a world that it may leave, and the run without one
-/// did all and changed the world.
+/// Stops a job at each call that changes or syncs the log, and at each of the database file; a stop at a call that reads leaves
+/// what a stop at the next of these leaves. Returns the empty text if each stop left a world that it may leave, and the run
+/// without a stop did all and changed the world; otherwise what was wrong.
 fn wrong_stops(
     alloc: Global,
     before: &Files<Memory>,
@@ -152,7 +152,7 @@ fn wrong_stops(
     wrong_stop(alloc, before, job, all, worlds.as_slice(), of_db, false)
 }
 
-/// Stops a job of files that hold what the steps of [`SETUP`] make.
+/// Stops a job on files that hold what the steps of [`SETUP`] make. Returns the empty text, or what was wrong.
 fn wrong_job(alloc: Global, kind: Kind, steps: &str, all: u8) -> Result<&'static str, Fail> {
     let before = prepared(alloc)?;
     let mut job = Job::new(alloc, kind, steps);

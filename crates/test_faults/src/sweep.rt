@@ -1,5 +1,5 @@
-//! Requests that a store answers while calls of its files fail: each with the 503, or as shelves in maps answer it on which the other
-//! requests were made that the store took.
+//! Requests that a store answers while calls of its files fail. Each gets the 503, or the reply of shelves in maps that took only
+//! the requests that the store did not answer with the 503.
 use crate::jobs::{Job, Kind};
 use crate::open::{Left, NO_STOP, left_by, stop_at};
 use crate::requests::wrong_status;
@@ -8,7 +8,7 @@ use std::alloc::Global;
 use std::test::Fail;
 use world::map_shelves::MapShelves;
 
-/// Requests, with the status that each has where no call fails.
+/// Requests, with the status that each gets if no call fails.
 const REQUESTS: &str = "\
 PUT A example.com/lib/@v/v1.1.0|module example.com/lib;|zip = 201
 GET A example.com/lib/@v/v1.1.0.zip = 200
@@ -20,14 +20,14 @@ GET A example.com/new/@v/list = 200
 GET A -/modules = 200
 ";
 
-/// At most so many calls of a file are made.
+/// The most calls that a run makes of a file.
 const MOST: u64 = 2000;
 
-/// How many they are.
+/// How many requests there are.
 const COUNT: u8 = 8;
 
-/// Lets a file fail from each call on that comes after the opening, one after another until none fails. What came out: nothing, where
-/// each request was answered right, and the last run answered all.
+/// Lets a file fail from one call on, for each call after the opening until none fails. Returns the empty text if each request
+/// was answered right and the last run answered all, and otherwise what was wrong.
 fn wrong_of(alloc: Global, of_log: bool) -> Result<String, Fail> {
     let before = prepared(alloc)?;
     let mut sweep = Job::new(alloc, Kind::Sweep, REQUESTS);
@@ -44,7 +44,7 @@ fn wrong_of(alloc: Global, of_log: bool) -> Result<String, Fail> {
     Err(Fail::new("each run met a fault"))
 }
 
-/// How many calls of the log or of the database file were made.
+/// Returns how many calls of the log, or of the database file, were made.
 fn calls_of(left: &Left, of_log: bool) -> u64 {
     if of_log {
         left.log.calls.count

@@ -1,4 +1,4 @@
-//! What a store tells of its world.
+//! Writes down the world of a store.
 use crate::jobs::{Job, Kind};
 use crate::open::on_whole_files;
 use modpath::ModulePath;
@@ -10,7 +10,7 @@ use std::str::from_utf8;
 use std::test::Fail;
 use world::shelves::Shelves;
 
-/// The names that the rows know.
+/// The names that the rows use.
 const KEYS: &str =
     "alphakey00000001 alphareader00001 betakey000000001 commonkey0000001 gammakey00000001 platformkey00001";
 
@@ -22,7 +22,7 @@ const PATHS: &str = "example.com/lib example.com/new example.com/x";
 
 const VERSIONS: &str = "v1.0.0 v1.1.0";
 
-/// Tells what a key holds.
+/// Writes down the shelf and the right of a key.
 fn tell_key<S: Shelves>(shelves: &mut S, key: &str, told: &mut String) -> Result<(), Fail> {
     if let Some(holder) = shelves.key(key)? {
         write!(told, "{key} {} {:?}\n", holder.shelf.as_str(), holder.right)?;
@@ -30,7 +30,7 @@ fn tell_key<S: Shelves>(shelves: &mut S, key: &str, told: &mut String) -> Result
     Ok(())
 }
 
-/// Tells the entry of a version.
+/// Writes down the entry of a version.
 fn tell_entry<S: Shelves>(
     shelves: &mut S,
     shelf: &str,
@@ -47,7 +47,7 @@ fn tell_entry<S: Shelves>(
     Ok(())
 }
 
-/// Tells the versions of a path, and their entries.
+/// Writes down the versions of a path, and their entries.
 fn tell_path<S: Shelves>(
     alloc: Global,
     shelves: &mut S,
@@ -65,7 +65,7 @@ fn tell_path<S: Shelves>(
     Ok(())
 }
 
-/// Tells what a shelf sees.
+/// Writes down what a shelf sees.
 fn tell_shelf<S: Shelves>(
     alloc: Global,
     shelves: &mut S,
@@ -80,7 +80,8 @@ fn tell_shelf<S: Shelves>(
     Ok(())
 }
 
-/// Tells of each shelf whether it is there and may be a team's group. It adds those that are not there, and a member of each group.
+/// Writes down for each shelf whether it exists and may be a team's group. It adds the shelves that do not exist, and a member of
+/// each group.
 fn tell_teams<S: Shelves>(shelves: &mut S, told: &mut String) -> Result<(), Fail> {
     for team in TEAMS.split(' ') {
         write!(told, "{team} {:?}\n", shelves.team_add(team, None)?)?;
@@ -89,7 +90,7 @@ fn tell_teams<S: Shelves>(shelves: &mut S, told: &mut String) -> Result<(), Fail
     Ok(())
 }
 
-/// Tells the names that the rows know. The store goes on then. Nothing of it is acknowledged.
+/// Writes down the world, as far as the names of the rows go, and returns 0, as nothing is acknowledged. It changes the store.
 pub fn told_by<S: Shelves>(alloc: Global, shelves: &mut S, told: &mut String) -> Result<u8, Fail> {
     for key in KEYS.split(' ') {
         tell_key(shelves, key, told)?;
@@ -101,7 +102,7 @@ pub fn told_by<S: Shelves>(alloc: Global, shelves: &mut S, told: &mut String) ->
     Ok(0)
 }
 
-/// What the store of two files tells; nothing where it can't be opened.
+/// Returns the world of the store in two files, or the empty text if it cannot be opened.
 pub fn world_of(alloc: Global, files: Files<Memory>) -> Result<String, Fail> {
     let mut look = Job::new(alloc, Kind::Look, "");
     on_whole_files(alloc, files, &mut look)?;

@@ -1,11 +1,11 @@
-//! Answers to streams, from readers and to writers that cut them and fail.
+//! Answers to streams, with readers and writers that cut them and fail.
 use crate::doubles::{Sink, Source, shelves};
 use crate::stream::{ANSWER_ENDS, ANSWERS, BAD_REQUEST, ENDS, STREAM, TOOLCHAIN};
 use engine::{Io, answer_all, answer_one};
 use std::alloc::{AllocError, Global};
 use std::test::Fail;
 
-/// Answers a stream from shelves on which nothing stands.
+/// Answers a stream from shelves that have no entry.
 fn serve(alloc: Global, reader: &mut Source, writer: &mut Sink) -> Result<(), Io> {
     let Ok(mut shelves) = shelves(alloc) else {
         return Err(Io::Read);
@@ -13,7 +13,7 @@ fn serve(alloc: Global, reader: &mut Source, writer: &mut Sink) -> Result<(), Io
     answer_all(alloc, reader, writer, &mut shelves)
 }
 
-/// Answers its first message.
+/// Answers the first message of a stream from shelves that have no entry.
 fn serve_one(alloc: Global, reader: &mut Source, writer: &mut Sink) -> Result<Option<u16>, Io> {
     let Ok(mut shelves) = shelves(alloc) else {
         return Err(Io::Read);
@@ -83,7 +83,7 @@ fn has_written_all_when_the_flush_fails(rt: HostRuntime) {
     assert!(rt; writer.taken.as_slice() == ANSWERS);
 }
 
-/// A publish of a zip of this length, and a GET of it.
+/// Returns a publish of a zip of this length, and a GET of it.
 fn zip_of(alloc: Global, len: usize) -> Result<String, AllocError> {
     let zip = "z".repeat(alloc, len)?;
     format!(in alloc;
@@ -93,7 +93,7 @@ fn zip_of(alloc: Global, len: usize) -> Result<String, AllocError> {
     )
 }
 
-/// In how many writes a publish of such a zip and a GET of it are answered.
+/// Returns in how many writes a publish of a zip of this length and a GET of it are answered.
 fn writes_for(alloc: Global, len: usize) -> Result<u64, Fail> {
     let stream = zip_of(alloc, len)?;
     let mut writer = Sink::new(alloc, usize::MAX);

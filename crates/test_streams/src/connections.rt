@@ -17,14 +17,14 @@ pub const PUBLISHED: &str =
 const SERVED: &str =
     "HTTP/1.1 200 OK\r\nContent-Type: text/plain; charset=utf-8\r\nContent-Length: 23\r\nConnection: close\r\n\r\nmodule example.com/lib\n";
 
-/// A listener on a port that is free, and the port.
+/// Returns a listener on a free port, and the port.
 fn listening(rt: &HostRuntime) -> Result<(TcpListener, u16), Fail> {
     let listener = TcpListener::bind(rt, "127.0.0.1:0")?;
     let port = listener.local_addr()?.port();
     Ok((listener, port))
 }
 
-/// A client that has sent its bytes, and more behind them.
+/// Returns a client that has sent its bytes, and more after them.
 fn client(rt: &HostRuntime, port: u16, bytes: &[u8], more: &[u8]) -> Result<TcpStream, Fail> {
     let mut stream = TcpStream::connect(rt, ("127.0.0.1", port))?;
     stream.write_all(bytes)?;
@@ -32,21 +32,21 @@ fn client(rt: &HostRuntime, port: u16, bytes: &[u8], more: &[u8]) -> Result<TcpS
     Ok(stream)
 }
 
-/// One that then shuts its side.
+/// Returns a client that has sent its bytes, and more after them, and has then shut its side.
 fn half_client(rt: &HostRuntime, port: u16, bytes: &[u8], more: &[u8]) -> Result<TcpStream, Fail> {
     let stream = client(rt, port, bytes, more)?;
     stream.shutdown(Shutdown::Write)?;
     Ok(stream)
 }
 
-/// Serves so many connections from shelves on which nothing stands.
+/// Serves this many connections from shelves that have no entry.
 fn serve(rt: &HostRuntime, mut listener: &TcpListener, connections: u32) -> Result<(), Fail> {
     let mut shelves = shelves(rt.alloc())?;
     serve_on(rt.alloc(), rt, &mut listener, &mut shelves, connections);
     Ok(())
 }
 
-/// All that a client still gets.
+/// Returns all that a client still gets.
 fn reply(rt: &HostRuntime, mut stream: TcpStream) -> Result<String, Fail> {
     let mut text = String::new(rt.alloc());
     stream.read_to_string(&mut text)?;
@@ -64,7 +64,7 @@ fn answers_one_request_on_each_of_two_connections(rt: HostRuntime) -> Result<(),
     Ok(())
 }
 
-/// Whether one more connection waits.
+/// Reports whether one more connection waits.
 fn one_waits(listener: &TcpListener) -> Result<bool, Fail> {
     listener.set_nonblocking(true)?;
     Ok(listener.accept().is_ok())

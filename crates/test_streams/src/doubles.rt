@@ -7,7 +7,7 @@ use world::map_shelves::MapShelves;
 use world::registry::StoreFault;
 use world::shelves::Shelves;
 
-/// Adds the teams alpha and beta, and their keys.
+/// Adds the teams alpha and beta and the keys of the tests, and returns the shelves.
 fn registered<S: Shelves + Drop>(mut shelves: S) -> Result<S, StoreFault> {
     shelves.team_add("alpha", None)?;
     shelves.team_add("beta", None)?;
@@ -18,12 +18,12 @@ fn registered<S: Shelves + Drop>(mut shelves: S) -> Result<S, StoreFault> {
     Ok(shelves)
 }
 
-/// The shelf `common` and the teams alpha and beta, with their keys.
+/// Returns shelves in maps: `common`, alpha and beta, with their keys.
 pub fn shelves(alloc: Global) -> Result<MapShelves, StoreFault> {
     registered(MapShelves::new(alloc)?)
 }
 
-/// Gives its bytes in pieces; the read after so many fails.
+/// Gives its bytes in pieces. The read after `reads` others fails.
 #[derive(Drop)]
 pub struct Source<'a> {
     pub rest: &'a [u8],
@@ -57,7 +57,8 @@ impl<'a> Read for Source<'a> {
     }
 }
 
-/// Takes its bytes in pieces, and counts them; fails once it has so many bytes, and where it is flushed if it is to.
+/// Takes bytes in pieces, counts the writes, and interrupts every other one. It fails once it has no room, and on a flush unless
+/// `flushes`.
 #[derive(Drop)]
 pub struct Sink {
     pub taken: Vec<u8>,
@@ -66,7 +67,7 @@ pub struct Sink {
     pub interrupts: bool,
     pub flushes: bool,
     pub writes: u64,
-    /// Nothing was taken since it was flushed.
+    /// Whether nothing was taken since the last flush.
     pub is_flushed: bool,
 }
 

@@ -1,4 +1,4 @@
-//! A peer's time, by a clock of the test's own.
+//! A peer's time, measured by a clock of the test.
 use crate::connections::{PUBLISHED, PUT};
 use crate::doubles::{Sink, shelves};
 use engine::Io;
@@ -10,7 +10,7 @@ use std::test::Fail;
 use std::time::{Clock, Duration};
 use wire::RouteTable;
 
-/// A clock that goes on by so many milliseconds each time that it is read.
+/// A clock that goes on by `step` milliseconds each time it is read.
 #[derive(Drop)]
 struct Steps {
     now: Cell<u64>,
@@ -29,7 +29,7 @@ impl Clock for Steps {
     }
 }
 
-/// A clock that stands at some time.
+/// Returns a clock that starts at some time.
 fn clock(step: u64) -> Steps {
     Steps {
         now: Cell::new(3_000),
@@ -87,10 +87,10 @@ impl<T: Write> BoundWrite for Bounded<T> {
     }
 }
 
-/// A reader that gives its bytes in two reads or more, and a writer, behind an answer.
+/// How a message was answered, with its reader, which gives its bytes in two reads or more, and its writer.
 type Told<'a, W> = Answered<Bounded<Chain<&'a [u8], &'a [u8]>>, Bounded<W>>;
 
-/// Answers a message from these bytes, by a clock with this step.
+/// Answers the message in these bytes, measured by a clock with this step.
 fn told<'a, W: Write + Drop>(
     alloc: Global,
     step: u64,
@@ -116,7 +116,7 @@ fn a_request_that_comes_in_time_is_answered(rt: HostRuntime) -> Result<(), Fail>
     let answered = told(rt.alloc(), 4_999, first, last, Vec::new(rt.alloc()))?;
     assert!(rt; answered.told == Ok(Some(201)));
     assert!(rt; answered.writer.inner.as_slice() == PUBLISHED.as_bytes());
-    // The second read began a millisecond before the end, and the first write begins a time of its own.
+    // The second read began a millisecond before the end, and the first write starts a time of its own.
     assert!(rt; answered.reader.millis() == 1);
     assert!(rt; answered.writer.millis() == 5_000);
     Ok(())
@@ -152,8 +152,8 @@ const LARGE: &[u8] =
 #[test]
 fn bytes_that_are_moved_give_more_time(rt: HostRuntime) -> Result<(), Fail> {
     let zip = vec![in rt.alloc(); b'z'; 1_114_112]?;
-    // A read for the head and the go.mod, and 17 of 65,536 bytes. The last begins after 17 steps, when more than 1,048,576 bytes have
-    // come: 6 s are allowed. For the one before it 5 s are.
+    // There is one read for the head and the go.mod, and there are 17 of 65,536 bytes. The last begins after 17 steps, when more
+    // than 1,048,576 bytes have come, so 6 s are allowed. For the one before it, 5 s are allowed.
     let answered = told(rt.alloc(), 312, LARGE, &zip, Vec::new(rt.alloc()))?;
     assert!(rt; answered.told == Ok(Some(201)));
     let answered = told(rt.alloc(), 313, LARGE, &zip, Vec::new(rt.alloc()))?;

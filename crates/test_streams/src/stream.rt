@@ -1,4 +1,4 @@
-//! The stream of the tests: a publish, its two files, and a key that is unknown.
+//! The stream of the tests: a publish, GETs of its two files, and a GET with an unknown key.
 
 pub const STREAM: &[u8] =
     b"PUT /k/alphakey00000001/example.com/lib/@v/v1.0.0 HTTP/1.1\r\nMod-Length: 23\r\nContent-Length: 23\r\n\r\nmodule example.com/lib\n\
@@ -6,7 +6,7 @@ GET /k/alphakey00000001/example.com/lib/@v/v1.0.0.mod HTTP/1.1\r\n\r\n\
 GET /k/alphakey00000001/example.com/lib/@v/v1.0.0.zip HTTP/1.1\r\n\r\n\
 GET /k/nosuchkey0000001/example.com/lib/@v/v1.0.0.mod HTTP/1.1\r\n\r\n";
 
-/// The lengths of its messages.
+/// Where each of its messages ends.
 pub const ENDS: [usize; 4] = [121, 187, 253, 319];
 
 pub const ANSWERS: &[u8] =

@@ -1,6 +1,6 @@
-//! Readers and writers that fail at each of their calls in turn: what was written, and what stands then.
+//! Readers and writers that fail at each of their calls in turn: what was written, and what the shelves have afterwards.
 //!
-//! It is shown over shelves in maps alone: no part of this depends on where the shelves are kept.
+//! This is shown over shelves in maps only, because no part of it depends on where the shelves are kept.
 use crate::doubles::{Sink, Source, shelves};
 use engine::{Io, answer_all};
 use std::alloc::Global;
@@ -8,7 +8,7 @@ use std::io::ErrorKind;
 use std::test::Fail;
 use world::shelves::Shelves;
 
-/// A run, one step a line: a message, its reply, and how the reply to `LIST` ends once the step is done. `^` stands for CR LF, `$` for LF.
+/// A run, one step a line: a message, its reply, and how the reply to `LIST` ends after the step. `^` is CR LF, and `$` is LF.
 const STEPS: &str = "\
 PUT /k/alphakey00000001/example.com/s/@v/v1.0.0 HTTP/1.1^Mod-Length: 21^Content-Length: 21^^module example.com/s$ | HTTP/1.1 201 Created^Content-Type: text/plain; charset=utf-8^Content-Length: 10^Connection: close^^published$ | ^^v1.0.0$
 PUT /k/alphakey00000001/example.com/s/@v/v1.0.0 HTTP/1.1^Mod-Length: 21^Content-Length: 22^^module example.com/s$Z | HTTP/1.1 409 Conflict^Content-Type: text/plain; charset=utf-8^Content-Length: 9^Connection: close^^conflict$ | ^^v1.0.0$
@@ -20,24 +20,24 @@ PUT /k/alphakey00000001/example.com/s/@v/v1.2.0 HTTP/1.1^Mod-Length: 21^Content-
 GET /k/alphakey00000001/example.com/s/@latest HTTP/1.1^^ | HTTP/1.1 200 OK^Content-Type: application/json^Content-Length: 20^Connection: close^^{\"Version\":\"v1.2.0\"} | ^^v1.0.0$v1.1.0$v1.2.0$
 ";
 
-/// What is asked to see what stands.
+/// The request that shows what the shelves have.
 const LIST: &[u8] = b"GET /k/alphakey00000001/example.com/s/@v/list HTTP/1.1\r\n\r\n";
 
-/// How its reply ends while nothing stands.
+/// How the reply to `LIST` ends while the shelves have no entry.
 const NOTHING: &str = "^^not found$";
 
-/// The bytes that a text stands for.
+/// Returns the bytes that a text writes with `^` and `$`.
 fn expanded(alloc: Global, text: &str) -> Result<String, Fail> {
     let text = text.replace(alloc, "^", "\r\n")?;
     Ok(text.replace(alloc, "$", "\n")?)
 }
 
-/// The bytes of a column of a step.
+/// Returns the bytes of a column of a step.
 fn column(alloc: Global, step: &str, at: usize) -> Result<String, Fail> {
     expanded(alloc, step.split(" | ").nth(at).ok_or("no column")?)
 }
 
-/// The bytes of that column of all steps.
+/// Returns the bytes of one column of all steps.
 fn whole(alloc: Global, at: usize) -> Result<String, Fail> {
     let mut text = String::new(alloc);
     for step in STEPS.lines() {
@@ -46,7 +46,7 @@ fn whole(alloc: Global, at: usize) -> Result<String, Fail> {
     Ok(text)
 }
 
-/// Answers a stream from shelves, asks them for the list then, and returns how the stream ended.
+/// Answers a stream from shelves, then asks them for the list, and returns how the stream ended.
 fn answer_and_list<S: Shelves + Drop>(
     alloc: Global,
     mut shelves: S,
@@ -59,7 +59,7 @@ fn answer_and_list<S: Shelves + Drop>(
     told
 }
 
-/// Whether a reader that fails ends the run by that, with this written, and listed then.
+/// Reports whether a reader that fails ends the run with `Io::Read`, after these bytes were written, and the list then ends so.
 fn fails_with(alloc: Global, reader: &mut Source, written: &str, list: &str) -> Result<bool, Fail> {
     let mut writer = Sink::new(alloc, usize::MAX);
     let mut listed = Sink::new(alloc, usize::MAX);
@@ -71,7 +71,7 @@ fn fails_with(alloc: Global, reader: &mut Source, written: &str, list: &str) -> 
     )
 }
 
-/// Whether a reader that fails after so many reads of such pieces has its whole messages answered.
+/// Reports whether, with a reader that fails after this many reads of such pieces, just the whole messages are answered.
 fn is_read_up_to(alloc: Global, stream: &[u8], piece: usize, reads: usize) -> Result<bool, Fail> {
     let given = reads.saturating_mul(piece).min(stream.len());
     let mut end: usize = 0;
@@ -91,7 +91,7 @@ fn is_read_up_to(alloc: Global, stream: &[u8], piece: usize, reads: usize) -> Re
     Ok(is_so && reader.rest.len() == stream.len().saturating_sub(given))
 }
 
-/// The number of reads in such pieces after which a failure does not leave just the whole messages answered.
+/// Returns the first number of reads in such pieces after which a failure leaves other than the whole messages answered.
 fn wrong_read(alloc: Global, piece: usize) -> Result<Option<usize>, Fail> {
     let stream = whole(alloc, 0)?;
     for reads in 0..stream.len().saturating_add(1) {
@@ -114,7 +114,8 @@ fn a_read_that_fails_leaves_whole_messages_answered(rt: HostRuntime) -> Result<(
     Ok(())
 }
 
-/// Whether a stream whose write fails once so many bytes were taken in such pieces ends by that, with these written, and listed then.
+/// Reports whether a writer that takes such pieces and fails once it has `room` bytes ends the stream with `Io::Write`, with the
+/// first of these answers written, and the list then ends so.
 fn is_written_up_to(
     alloc: Global,
     piece: usize,
@@ -142,7 +143,8 @@ fn is_written_up_to(
     )
 }
 
-/// The first place at which a write that fails does not leave a beginning of the replies, and the message whose reply it cut done.
+/// Returns the first place at which a write that fails does not leave a beginning of the replies and the message done whose
+/// reply it cut.
 fn wrong_write(alloc: Global, piece: usize) -> Result<Option<usize>, Fail> {
     let answers = whole(alloc, 1)?;
     let mut room: usize = 0;

@@ -1,78 +1,21 @@
 //! Recognises the tables of an older schema.
 
-ghost use Rattle.std.specs.Prelude.{◌≡◌, ℕ, suc, Some, Decides, MatchOption, ◌∷◌, [], bytes_eq, codes};
-ghost use Rattle.sqlite_value.specs.Keys.{plain};
-ghost use Rattle.sqlite.specs.Kind.TheVariants.{Integer, Text, Blob};
-ghost use Rattle.sqlite_schema.specs.Code.{term_to, terms_in};
-ghost use Rattle.sqlite_sql.specs.Term.{op2, lit, col};
-ghost use Rattle.sqlite_sql.specs.declared.ops.BinaryOp.TheVariants.{Compare};
-ghost use Rattle.sqlite_sql.specs.declared.ops.CompareOp.TheVariants.{Eq};
-ghost use Rattle.sqlite_value.specs.declared.keys.Collation.TheVariants.{Binary};
-ghost use Rattle.sqlite_value.specs.declared.value.Value.TheVariants.{Int};
-ghost use Rattle.tables.specs.Schema.{is_flag, meta_table, access_table, version_table, version_columns, piece_table, is_from_zero, no_stamps, IsBare, column_of, given, optional, refers, unique_index, meta_index, shelf_index, access_index, version_index, piece_index};
+ghost use Rattle.std.specs.Prelude.{◌≡◌, Decides, MatchOption};
+ghost use Rattle.tables.specs.Schema.{meta_table, access_table, version_index};
 ghost use Rattle.older.specs.Schemas.{shelf_table, keyless_table, body_table, schema_1, schema_2, schema_of};
 
-use sqlite_items::Items;
-use sqlite_schema::code::{Op, Terms};
-use sqlite_schema::schema::{Action, Column, Index, Kind, Reference, Schema, Stamps, Table};
-use sqlite_sql::ops::{BinaryOp, CompareOp};
-use sqlite_value::keys::{Collation, Order};
-use sqlite_value::value::{Bytes, Value};
+use sqlite_schema::schema::{Index, Kind, Schema, Table};
+use tables::schema::{
+    are_name_indexes, are_place_indexes, has_first_key, has_no_terms, has_version_key,
+    is_access_table, is_bare, is_column, is_index, is_meta_table, is_piece_table, is_place,
+    is_reference, is_version_table,
+};
 
 /// An older schema, by its number.
 #[derive(Clone, Copy, Debug, PartialEq, Eq)]
 pub enum Format {
     One,
     Two,
-}
-
-fn is_named(name: &Bytes, text: &str) -> bool
-    ensures { Decides result (name.now ≡ text.now) }
-{
-    name.as_slice() == text.as_bytes()
-}
-
-fn is_column(column: &Column, name: &str, kind: Kind, not_null: bool) -> bool
-    ensures { Decides result (column.now ≡ column_of name.now kind not_null) }
-{
-    is_named(&column.name, name)
-        && column.kind == kind
-        && column.is_strict
-        && column.not_null == not_null
-        && matches!(column.default, Value::Null)
-        && column.collation == Collation::Binary
-}
-
-fn is_place(places: &[usize], place: usize) -> bool
-    ensures { Decides result (places.now ≡ place ∷ []) }
-{
-    match places {
-        [only] => *only == place,
-        _ => false,
-    }
-}
-
-fn has_no_terms(terms: &Terms) -> bool
-    ensures { Decides result (terms.now ≡ []) }
-{
-    terms.roots.is_empty()
-}
-
-/// Reports whether no default reads the time.
-fn has_no_stamps(stamps: &Stamps) -> bool
-    ensures { Decides result (stamps.now ≡ no_stamps) }
-{
-    stamps.places.is_empty() && has_no_terms(&stamps.terms) && stamps.formats.is_empty()
-}
-
-/// Reports whether there is one key, over the first column alone.
-fn has_first_key(uniques: &[Items<usize>], orders: &[Order]) -> bool
-    ensures { Decides result ((uniques.now ≡ (1 ∷ []) ∷ []) × (orders.now ≡ plain ∷ [])) }
-{
-    match (uniques, orders) {
-        ([unique], [order]) => is_place(unique.as_slice(), 1) && *order == Order::PLAIN,
-        _ => false,
-    }
 }
 
 fn is_shelf_table(table: &Table) -> bool
@@ -91,253 +34,10 @@ fn is_shelf_table(table: &Table) -> bool
         && table.references.is_empty()
 }
 
-/// Reports whether a table has this name and tree, and does not count, compute or stamp.
-fn is_bare(table: &Table, name: &str, tree: u32) -> bool
-    ensures { Decides result (IsBare table.now name.now tree) }
-{
-    is_named(&table.name, name)
-        && table.tree == tree
-        && table.computed.is_empty()
-        && has_no_stamps(&table.stamps)
-        && !table.is_counted
-}
-
-/// Reports whether there is one reference, from the column at `place` to a column of another table.
-fn is_reference(references: &[Reference], place: usize, parent: &str, column: &str) -> bool
-    ensures { Decides result (references.now ≡ refers place parent.now column.now ∷ []) }
-{
-    let [reference] = references else {
-        return false;
-    };
-    let [parent_column] = reference.parent_columns.as_slice() else {
-        return false;
-    };
-    is_place(reference.columns.as_slice(), place)
-        && is_named(&reference.parent, parent)
-        && is_named(parent_column, column)
-        && reference.on_delete == Action::NoAction
-        && reference.on_update == Action::NoAction
-        && !reference.is_deferred
-}
-
-fn is_meta_table(table: &Table) -> bool
-    ensures { Decides result (table.now ≡ meta_table) }
-{
-    let is_shaped = match table.columns.as_slice() {
-        [name, value] => {
-            is_column(name, "name", Kind::Text, true)
-                && is_column(value, "value", Kind::Integer, true)
-        }
-        _ => false,
-    };
-    is_shaped
-        && is_bare(table, "meta", 0)
-        && table.key.is_none()
-        && is_place(table.primary.as_slice(), 1)
-        && has_first_key(table.uniques.as_slice(), table.orders.as_slice())
-        && has_no_terms(&table.checks)
-        && table.references.is_empty()
-}
-
-fn has_version_key(uniques: &[Items<usize>], orders: &[Order]) -> bool
-    ensures { Decides result ((uniques.now ≡ (2 ∷ 3 ∷ 4 ∷ []) ∷ []) × (orders.now ≡ plain ∷ [])) }
-{
-    match (uniques, orders) {
-        ([unique], [order]) => { matches!(unique.as_slice(), [2, 3, 4]) && *order == Order::PLAIN }
-        _ => false,
-    }
-}
-
-/// Reports whether these are the columns of a version's number and place.
-fn are_place_columns(id: &Column, shelf: &Column, path: &Column, version: &Column) -> bool
-    ensures { Decides result ((id.now ≡ optional (codes "id") Integer) × (shelf.now ≡ given (codes "shelf") Text)
-        × (path.now ≡ given (codes "path") Text) × (version.now ≡ given (codes "version") Text)) }
-{
-    is_column(id, "id", Kind::Integer, false)
-        && is_column(shelf, "shelf", Kind::Text, true)
-        && is_column(path, "path", Kind::Text, true)
-        && is_column(version, "version", Kind::Text, true)
-}
-
-/// Reports whether these are the columns of a version's time, go.mod and order keys.
-fn are_other_columns(time: &Column, gomod: &Column, order: &Column, rank: &Column) -> bool
-    ensures { Decides result ((time.now ≡ optional (codes "time") Text) × (gomod.now ≡ given (codes "mod") Blob)
-        × (order.now ≡ given (codes "order_key") Blob) × (rank.now ≡ given (codes "rank_key") Blob)) }
-{
-    is_column(time, "time", Kind::Text, false)
-        && is_column(gomod, "mod", Kind::Blob, true)
-        && is_column(order, "order_key", Kind::Blob, true)
-        && is_column(rank, "rank_key", Kind::Blob, true)
-}
-
-fn are_version_columns(columns: &[Column]) -> bool
-    ensures { Decides result (columns.now ≡ version_columns) }
-{
-    match columns {
-        [id, shelf, path, version, time, gomod, order, rank] => {
-            are_place_columns(id, shelf, path, version)
-                && are_other_columns(time, gomod, order, rank)
-        }
-        _ => false,
-    }
-}
-
-fn is_version_table(table: &Table) -> bool
-    ensures { Decides result (table.now ≡ version_table) }
-{
-    are_version_columns(table.columns.as_slice())
-        && is_bare(table, "version", 6)
-        && table.key == Some(0)
-        && is_place(table.primary.as_slice(), 0)
-        && has_version_key(table.uniques.as_slice(), table.orders.as_slice())
-        && has_no_terms(&table.checks)
-        && is_reference(table.references.as_slice(), 2, "shelf", "name")
-}
-
-fn is_index(index: &Index, name: &str, tree: u32, table: u32, columns: &[usize]) -> bool
-    ensures { Decides result (index.now ≡ unique_index name.now tree table columns.now) }
-{
-    is_named(&index.name, name)
-        && index.tree == tree
-        && index.table == table
-        && index.columns.as_slice() == columns
-        && index.order == Order::PLAIN
-        && index.is_unique
-}
-
-/// Reports whether the term at this node is `publish = VALUE`.
-fn is_equation(nodes: &[Op], at: usize, value: i64) -> bool
-    ensures { (depth : ℕ) → Decides result (term_to nodes.now (suc (suc depth)) at ≡ op2 (Compare Eq Binary) (col 1 3) (lit (Int value))) }
-{
-    let Some(Op::Binary(BinaryOp::Compare(CompareOp::Eq, Collation::Binary), left, right)) =
-        nodes.get(at) else {
-        return false;
-    };
-    matches!(nodes.get(*left), Some(Op::Column(1, 3)))
-        && matches!(nodes.get(*right), Some(Op::Literal(Value::Int(n))) if *n == value)
-}
-
-/// Reports whether the term at this node is `publish = 0 OR publish = 1`.
-fn is_either(nodes: &[Op], at: usize) -> bool
-    ensures { (depth : ℕ) → Decides result (term_to nodes.now (suc (suc (suc depth))) at ≡ is_flag) }
-{
-    match nodes.get(at) {
-        Some(Op::Binary(BinaryOp::Or, left, right)) => {
-            is_equation(nodes, *left, 0) && is_equation(nodes, *right, 1)
-        }
-        _ => false,
-    }
-}
-
-fn is_flag_among(nodes: &[Op], roots: &[usize]) -> bool
-    ensures { Decides result (terms_in nodes.now roots.now ≡ is_flag ∷ []) }
-{
-    match roots {
-        [root] => nodes.len() > 2 && is_either(nodes, *root),
-        _ => false,
-    }
-}
-
-fn is_flag_check(terms: &Terms) -> bool
-    ensures { Decides result (terms.now ≡ is_flag ∷ []) }
-{
-    is_flag_among(terms.nodes.as_slice(), terms.roots.as_slice())
-}
-
-fn is_access_table(table: &Table) -> bool
-    ensures { Decides result (table.now ≡ access_table) }
-{
-    let is_shaped = match table.columns.as_slice() {
-        [token, shelf, publish] => {
-            is_column(token, "token", Kind::Text, true)
-                && is_column(shelf, "shelf", Kind::Text, true)
-                && is_column(publish, "publish", Kind::Integer, true)
-        }
-        _ => false,
-    };
-    is_shaped
-        && is_bare(table, "access", 4)
-        && table.key.is_none()
-        && is_place(table.primary.as_slice(), 1)
-        && has_first_key(table.uniques.as_slice(), table.orders.as_slice())
-        && is_flag_check(&table.checks)
-        && is_reference(table.references.as_slice(), 2, "shelf", "name")
-}
-
-/// Reports whether the term at this node is `number >= 0`.
-fn is_lower_bound(nodes: &[Op], at: usize) -> bool
-    ensures { (depth : ℕ) → Decides result (term_to nodes.now (suc (suc depth)) at ≡ is_from_zero) }
-{
-    let Some(Op::Binary(BinaryOp::Compare(CompareOp::Ge, Collation::Binary), left, right)) =
-        nodes.get(at) else {
-        return false;
-    };
-    matches!(nodes.get(*left), Some(Op::Column(1, 2)))
-        && matches!(nodes.get(*right), Some(Op::Literal(Value::Int(0))))
-}
-
-fn is_bound_among(nodes: &[Op], roots: &[usize]) -> bool
-    ensures { Decides result (terms_in nodes.now roots.now ≡ is_from_zero ∷ []) }
-{
-    match roots {
-        [root] => nodes.len() > 1 && is_lower_bound(nodes, *root),
-        _ => false,
-    }
-}
-
-fn is_bound_check(terms: &Terms) -> bool
-    ensures { Decides result (terms.now ≡ is_from_zero ∷ []) }
-{
-    is_bound_among(terms.nodes.as_slice(), terms.roots.as_slice())
-}
-
-fn has_piece_key(uniques: &[Items<usize>], orders: &[Order]) -> bool
-    ensures { Decides result ((uniques.now ≡ (1 ∷ 2 ∷ []) ∷ []) × (orders.now ≡ plain ∷ [])) }
-{
-    match (uniques, orders) {
-        ([unique], [order]) => matches!(unique.as_slice(), [1, 2]) && *order == Order::PLAIN,
-        _ => false,
-    }
-}
-
-fn is_piece_table(table: &Table) -> bool
-    ensures { Decides result (table.now ≡ piece_table) }
-{
-    let is_shaped = match table.columns.as_slice() {
-        [version, number, bytes] => {
-            is_column(version, "version", Kind::Integer, true)
-                && is_column(number, "number", Kind::Integer, true)
-                && is_column(bytes, "bytes", Kind::Blob, true)
-        }
-        _ => false,
-    };
-    is_shaped
-        && is_bare(table, "piece", 8)
-        && table.key.is_none()
-        && matches!(table.primary.as_slice(), [1, 2])
-        && has_piece_key(table.uniques.as_slice(), table.orders.as_slice())
-        && is_bound_check(&table.checks)
-        && is_reference(table.references.as_slice(), 1, "version", "id")
-}
-
-fn are_name_indexes(meta: &Index, shelf: &Index, access: &Index) -> bool
-    ensures { Decides result ((meta.now ≡ meta_index) × (shelf.now ≡ shelf_index) × (access.now ≡ access_index)) }
-{
-    is_index(meta, "sqlite_autoindex_meta_1", 1, 0, &[1])
-        && is_index(shelf, "sqlite_autoindex_shelf_1", 3, 2, &[1])
-        && is_index(access, "sqlite_autoindex_access_1", 5, 4, &[1])
-}
-
 fn is_version_index(version: &Index) -> bool
     ensures { Decides result (version.now ≡ version_index) }
 {
     is_index(version, "sqlite_autoindex_version_1", 7, 6, &[2, 3, 4])
-}
-
-fn is_piece_index(piece: &Index) -> bool
-    ensures { Decides result (piece.now ≡ piece_index) }
-{
-    is_index(piece, "sqlite_autoindex_piece_1", 9, 8, &[1, 2])
 }
 
 fn are_first_indexes(indexes: &[Index]) -> bool
@@ -356,9 +56,7 @@ fn are_second_indexes(indexes: &[Index]) -> bool
 {
     match indexes {
         [meta, shelf, access, version, piece] => {
-            are_name_indexes(meta, shelf, access)
-                && is_version_index(version)
-                && is_piece_index(piece)
+            are_name_indexes(meta, shelf, access) && are_place_indexes(version, piece)
         }
         _ => false,
     }

@@ -26,7 +26,7 @@ fn is_named(name: &Bytes, text: &str) -> bool
 }
 
 /// Whether this is a column of a STRICT table with this name, type and NOT NULL rule, no default, and binary collation.
-fn is_column(column: &Column, name: &str, kind: Kind, not_null: bool) -> bool
+pub fn is_column(column: &Column, name: &str, kind: Kind, not_null: bool) -> bool
     ensures { Decides result (column.now ≡ column_of name.now kind not_null) }
 {
     is_named(&column.name, name)
@@ -38,7 +38,7 @@ fn is_column(column: &Column, name: &str, kind: Kind, not_null: bool) -> bool
 }
 
 /// Whether these places are just this one.
-fn is_place(places: &[usize], place: usize) -> bool
+pub fn is_place(places: &[usize], place: usize) -> bool
     ensures { Decides result (places.now ≡ place ∷ []) }
 {
     match places {
@@ -47,7 +47,8 @@ fn is_place(places: &[usize], place: usize) -> bool
     }
 }
 
-fn has_no_terms(terms: &Terms) -> bool
+/// Reports whether there are no terms.
+pub fn has_no_terms(terms: &Terms) -> bool
     ensures { Decides result (terms.now ≡ []) }
 {
     terms.roots.is_empty()
@@ -61,7 +62,7 @@ fn has_no_stamps(stamps: &Stamps) -> bool
 }
 
 /// Whether there is one unique key, over the first column alone, in plain order.
-fn has_first_key(uniques: &[Items<usize>], orders: &[Order]) -> bool
+pub fn has_first_key(uniques: &[Items<usize>], orders: &[Order]) -> bool
     ensures { Decides result ((uniques.now ≡ (1 ∷ []) ∷ []) × (orders.now ≡ plain ∷ [])) }
 {
     match (uniques, orders) {
@@ -94,7 +95,7 @@ fn is_shelf_table(table: &Table) -> bool
 }
 
 /// Whether the table has this name and this tree, and counts, computes and stamps nothing.
-fn is_bare(table: &Table, name: &str, tree: u32) -> bool
+pub fn is_bare(table: &Table, name: &str, tree: u32) -> bool
     ensures { Decides result (IsBare table.now name.now tree) }
 {
     is_named(&table.name, name)
@@ -105,7 +106,7 @@ fn is_bare(table: &Table, name: &str, tree: u32) -> bool
 }
 
 /// Whether there is one reference, from this place to this column of this table, with no action and not deferred.
-fn is_reference(references: &[Reference], place: usize, parent: &str, column: &str) -> bool
+pub fn is_reference(references: &[Reference], place: usize, parent: &str, column: &str) -> bool
     ensures { Decides result (references.now ≡ refers place parent.now column.now ∷ []) }
 {
     let [reference] = references else {
@@ -122,7 +123,8 @@ fn is_reference(references: &[Reference], place: usize, parent: &str, column: &s
         && !reference.is_deferred
 }
 
-fn is_meta_table(table: &Table) -> bool
+/// Reports whether this is the table `meta` of schema 3, which is that of schemas 1 and 2 too.
+pub fn is_meta_table(table: &Table) -> bool
     ensures { Decides result (table.now ≡ meta_table) }
 {
     let is_shaped = match table.columns.as_slice() {
@@ -142,7 +144,7 @@ fn is_meta_table(table: &Table) -> bool
 }
 
 /// Whether there is one unique key, over the second, third and fourth columns, in plain order.
-fn has_version_key(uniques: &[Items<usize>], orders: &[Order]) -> bool
+pub fn has_version_key(uniques: &[Items<usize>], orders: &[Order]) -> bool
     ensures { Decides result ((uniques.now ≡ (2 ∷ 3 ∷ 4 ∷ []) ∷ []) × (orders.now ≡ plain ∷ [])) }
 {
     match (uniques, orders) {
@@ -185,7 +187,8 @@ fn are_version_columns(columns: &[Column]) -> bool
     }
 }
 
-fn is_version_table(table: &Table) -> bool
+/// Reports whether this is the table `version` of schema 3, which is that of schema 2 too.
+pub fn is_version_table(table: &Table) -> bool
     ensures { Decides result (table.now ≡ version_table) }
 {
     are_version_columns(table.columns.as_slice())
@@ -197,7 +200,8 @@ fn is_version_table(table: &Table) -> bool
         && is_reference(table.references.as_slice(), 2, "shelf", "name")
 }
 
-fn is_index(index: &Index, name: &str, tree: u32, table: u32, columns: &[usize]) -> bool
+/// Reports whether this is a unique index with this name, tree, table and columns, in plain order.
+pub fn is_index(index: &Index, name: &str, tree: u32, table: u32, columns: &[usize]) -> bool
     ensures { Decides result (index.now ≡ unique_index name.now tree table columns.now) }
 {
     is_named(&index.name, name)
@@ -247,7 +251,8 @@ fn is_flag_check(terms: &Terms) -> bool
     is_flag_among(terms.nodes.as_slice(), terms.roots.as_slice())
 }
 
-fn is_access_table(table: &Table) -> bool
+/// Reports whether this is the table `access` of schema 3, which is that of schemas 1 and 2 too.
+pub fn is_access_table(table: &Table) -> bool
     ensures { Decides result (table.now ≡ access_table) }
 {
     let is_shaped = match table.columns.as_slice() {
@@ -304,7 +309,8 @@ fn has_piece_key(uniques: &[Items<usize>], orders: &[Order]) -> bool
     }
 }
 
-fn is_piece_table(table: &Table) -> bool
+/// Reports whether this is the table `piece` of schema 3, which is that of schema 2 too.
+pub fn is_piece_table(table: &Table) -> bool
     ensures { Decides result (table.now ≡ piece_table) }
 {
     let is_shaped = match table.columns.as_slice() {
@@ -324,7 +330,8 @@ fn is_piece_table(table: &Table) -> bool
         && is_reference(table.references.as_slice(), 1, "version", "id")
 }
 
-fn are_name_indexes(meta: &Index, shelf: &Index, access: &Index) -> bool
+/// Reports whether these are the indexes of `meta`, `shelf` and `access`, the same in every schema.
+pub fn are_name_indexes(meta: &Index, shelf: &Index, access: &Index) -> bool
     ensures { Decides result ((meta.now ≡ meta_index) × (shelf.now ≡ shelf_index) × (access.now ≡ access_index)) }
 {
     is_index(meta, "sqlite_autoindex_meta_1", 1, 0, &[1])
@@ -332,7 +339,8 @@ fn are_name_indexes(meta: &Index, shelf: &Index, access: &Index) -> bool
         && is_index(access, "sqlite_autoindex_access_1", 5, 4, &[1])
 }
 
-fn are_place_indexes(version: &Index, piece: &Index) -> bool
+/// Reports whether these are the indexes of `version` and `piece`, the same in schemas 2 and 3.
+pub fn are_place_indexes(version: &Index, piece: &Index) -> bool
     ensures { Decides result ((version.now ≡ version_index) × (piece.now ≡ piece_index)) }
 {
     is_index(version, "sqlite_autoindex_version_1", 7, 6, &[2, 3, 4])

@@ -59,7 +59,7 @@ pub enum Task<'a> {
         db: &'a str,
         work: Work<'a>,
     },
-    /// `extract --db F --team T1 --team T2 .. --to G`: makes the store of G that of the part of these teams of the store of F.
+    /// `extract --db F --team A --team B .. --to G`: makes the store of G that of the part of these teams of the store of F.
     Extract {
         db: &'a str,
         teams: &'a [&'a str],

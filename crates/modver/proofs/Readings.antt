@@ -7,7 +7,7 @@ use Rattle.std.specs.Prelude.{Result, nat_le}
 use Rattle.semver.specs.Parse.{Parts, version_parts}
 use Rattle.semver.specs.declared.error.Error.{Error}
 use Rattle.modver.specs.Parts.{is_marked, version_of_parts}
-use Rattle.modver.specs.Reading.{IsCanonical, IsFault, IsSemVer, is_mark, reading, reading_of_bytes, reading_of_parts, value_of, version_of}
+use Rattle.modver.specs.Reading.{IsCanonical, IsFault, IsHeld, IsSemVer, is_mark, reading, reading_of_bytes, reading_of_parts, value_of, version_of}
 use Rattle.modver.specs.ReadingLaws.{EachTextHasOneReading, HasTextIsExact, TextIsOneToOne, VersionOfIsExact}
 use Rattle.modver.specs.SemanticVersion.{IsVersion, SemanticVersion, incompatible, is_build_identifier, has_text, mark_of, version_text}
 use Rattle.modver.specs.declared.version.VersionFault.{VersionFault}
@@ -115,6 +115,10 @@ canonical-of text v h = elim (cases_Bool (nat_le (length text) 128)) [
   | inl short ↦ bytes-canonical text v (nat_le-true (length text) 128 short) (rw short at h)
   | inr long ↦ cc (rw long at h)
 ]
+
+-- a canonical text is one that reading may hold
+pub held-of : (text : List ℕ) (v : SemanticVersion) → IsCanonical text v → IsHeld text
+held-of text v c = (c.short, (v, mark_of v.marked, subst (λ t. IsSemVer t v (mark_of v.marked)) c.same (IsSemVer-text v c.valid)))
 
 pub fault-of : (text : List ℕ) (f : VersionFault) → reading text ≡ Err f → IsFault text f
 unfolding reading

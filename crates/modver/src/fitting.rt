@@ -4,6 +4,7 @@ ghost use Rattle.std.specs.Prelude.{◌≡◌};
 ghost use Rattle.modpath.specs.Path.{suffix_of};
 ghost use Rattle.modver.specs.Fits as fit;
 
+use crate::bound::Bound;
 use crate::version::Version;
 use modpath::{LoosePath, ModulePath, Suffix, loose_suffix, suffix};
 
@@ -12,18 +13,18 @@ use modpath::{LoosePath, ModulePath, Suffix, loose_suffix, suffix};
 pub fn fits(path: &ModulePath, version: &Version) -> bool
     ensures { result ≡ fit.fits (suffix_of path.now) version.now }
 {
-    fits_suffix(suffix(path), version)
+    fits_suffix(suffix(path), version.bound())
 }
 
 /// Whether a loose path may have a version, by the same rules. It takes no memory.
 pub fn fits_loose(path: &LoosePath, version: &Version) -> bool
     ensures { result ≡ fit.fits (suffix_of path.now) version.now }
 {
-    fits_suffix(loose_suffix(path), version)
+    fits_suffix(loose_suffix(path), version.bound())
 }
 
 // Whether a version is a pre-release of v0.0.0, as the old pseudo-versions of paths with `.v1` are.
-fn is_zero_pre_release(version: &Version) -> bool
+fn is_zero_pre_release(version: &Bound) -> bool
     ensures { result ≡ fit.is_zero_pre_release version.now }
 {
     version.major() == 0
@@ -32,7 +33,8 @@ fn is_zero_pre_release(version: &Version) -> bool
         && !version.pre_release().is_empty()
 }
 
-fn fits_suffix(suffix: Suffix, version: &Version) -> bool
+/// Whether a path with this suffix may have a version, by the same rules. It takes no memory.
+pub fn fits_suffix(suffix: Suffix, version: &Bound) -> bool
     ensures { result ≡ fit.fits suffix version.now }
 {
     match suffix {

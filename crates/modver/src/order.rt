@@ -4,6 +4,7 @@ ghost use Rattle.std.specs.Prelude.{◌≡◌};
 ghost use Rattle.modver.specs.Precedence.{precedence};
 ghost use Rattle.modver.specs.Rank.{class_rank, rank_cmp, time_cmp};
 
+use crate::bound::Bound;
 use crate::pseudo::{class, pseudo_time};
 use crate::time::TimeText;
 use crate::version::{Class, Version};
@@ -11,8 +12,15 @@ use std::cmp::Ordering;
 
 /// Compares two versions by precedence, in which the mark does not count. It takes no memory. (SemVer
 /// 2.0.0, section 11.)
-#[tactic(auto, using(crate::proofs::Orders::precedence_of))]
 pub fn compare(left: &Version, right: &Version) -> Ordering
+    ensures { result ≡ precedence left.now right.now }
+{
+    compare_bounds(left.bound(), right.bound())
+}
+
+/// Compares two versions without their texts by precedence. It takes no memory.
+#[tactic(auto, using(crate::proofs::Orders::precedence_of))]
+pub fn compare_bounds(left: &Bound, right: &Bound) -> Ordering
     ensures { result ≡ precedence left.now right.now }
 {
     left.parts.cmp_precedence(&right.parts)

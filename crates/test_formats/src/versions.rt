@@ -1,14 +1,17 @@
 //! Versions, their classes, times, and the paths that they fit. (Go Modules Reference, "Versions" and "Pseudo-versions".)
 use crate::rows::{Subject, column, wrong_row};
-use modpath::{LoosePath, ModulePath};
-use modver::{Class, Version, class, fits, fits_loose, read_time};
+use modpath::{LoosePath, ModulePath, suffix};
+use modver::{
+    Bound, Class, Version, class, compare_bounds, fits, fits_loose, fits_suffix, read_time,
+};
 use std::alloc::{AllocError, Global};
 use std::test::Fail;
 
 /// - `version`: a text, and the class of the version that it writes, or the time of a pseudo-version, or the fault of the text.
 /// - `time`: a text, and the time that it writes or its fault.
 /// - `copy`: a version, its copy, and whether the copy is marked `+incompatible`.
-/// - `fits` and `fits_loose`: a path, a version, and whether the version fits the path.
+/// - `bounds`: two versions, and how a copy of the bound of the first compares with the bound of the second.
+/// - `fits`, `fits_suffix` and `fits_loose`: a path, a version, and whether the version fits the path.
 const ROWS: &str = "\
 version|1.0.0|Form
 version|v1.0|Form
@@ -85,6 +88,13 @@ time|2024-01-01T00:00:00.0Z|Form
 time|2024-01-01 00:00:00Z|Form
 time||Form
 copy|v2.0.0-rc.1+incompatible|v2.0.0-rc.1+incompatible true
+copy|v2.0.0+incompatible|v2.0.0+incompatible true
+copy|v2.0.0-rc.1|v2.0.0-rc.1 false
+copy|v0.12.3|v0.12.3 false
+bounds|v1.0.0|v1.0.0-rc.1|Greater
+bounds|v1.0.0-rc.1|v1.0.0-rc.1|Equal
+bounds|v2.0.0+incompatible|v2.0.0|Equal
+bounds|v1.2.3|v1.10.0|Less
 fits|example.com/lib|v0.1.0|true
 fits|example.com/lib|v1.0.0|true
 fits|example.com/lib|v2.0.0|false
@@ -104,6 +114,8 @@ fits|gopkg.in/yaml.v1|v0.0.0-20160105164936-4f90aeace3a2|true
 fits|gopkg.in/yaml.v2|v0.0.0-20160105164936-4f90aeace3a2|false
 fits|gopkg.in/yaml.v2|v2.1.5|true
 fits|gopkg.in/yaml.v2|v2.1.5+incompatible|false
+fits_suffix|example.com/lib/v2|v2.0.0|true
+fits_suffix|example.com/lib/v2|v3.0.0|false
 fits_loose|mymod|v0.0.0|true
 fits_loose|mymod|v2.0.0|false
 fits_loose|mymod|v2.0.0+incompatible|true
@@ -139,13 +151,25 @@ fn copy(alloc: Global, text: &str) -> Result<String, Fail> {
     Ok(format!(in alloc; "{} {}", copy.as_str(), copy.is_marked())?)
 }
 
-/// Whether a version fits a path, or a loose path.
+/// Returns how the copy of a bound compares with another bound.
+fn bounds(alloc: Global, row: &str) -> Result<String, Fail> {
+    let left = Bound::parse(alloc, column(row, 1))?.copy(alloc)?;
+    let right = Bound::parse(alloc, column(row, 2))?;
+    Ok(format!(in alloc; "{:?}", compare_bounds(&left, &right))?)
+}
+
+/// Whether a version fits a path, the suffix of a path, or a loose path.
 fn fit(alloc: Global, row: &str) -> Result<bool, Fail> {
     let version = Version::parse(alloc, column(row, 2))?;
-    if column(row, 0) == "fits" {
-        return Ok(fits(&ModulePath::parse(alloc, column(row, 1))?, &version));
+    let text = column(row, 1);
+    match column(row, 0) {
+        "fits" => Ok(fits(&ModulePath::parse(alloc, text)?, &version)),
+        "fits_suffix" => {
+            let path = ModulePath::parse(alloc, text)?;
+            Ok(fits_suffix(suffix(&path), version.bound()))
+        }
+        _ => Ok(fits_loose(&LoosePath::parse(alloc, text)?, &version)),
     }
-    Ok(fits_loose(&LoosePath::parse(alloc, column(row, 1))?, &version))
 }
 
 /// Makes the call of a row, and returns its result as a text.
@@ -155,6 +179,7 @@ pub fn given(alloc: Global, row: &str) -> Result<String, Fail> {
         "version" => Ok(version(alloc, text)?),
         "time" => Ok(time(alloc, text)?),
         "copy" => copy(alloc, text),
+        "bounds" => bounds(alloc, row),
         _ => Ok(format!(in alloc; "{}", fit(alloc, row)?)?),
     }
 }

@@ -1,10 +1,12 @@
-use Rattle.semver.specs.Identifiers.{parts_of}
-use Rattle.modver.specs.Parts.{is_marked}
-use Rattle.modver.specs.SemanticVersion.{mark_of}
+use Rattle.std.proofs.Common.{◌≡◌, subst, sym}
+use Rattle.std.specs.Prelude.{string_bytes}
+use Rattle.modver.specs.SemanticVersion.{mark_of, text_with_build}
 use Rattle.modver.proofs.KeyParts.{pre-short}
 use Rattle.modver.proofs.keys.pre_release.Goals as goal
 
 pub returns-clause-short : goal.returns-clause-short
 returns-clause-short c =
-    let p = parts_of c.version.inside.parts in
-    rw c.as_str.ensures (pre-short p.0 p.1 p.2 p.3 (mark_of (is_marked p.4)) _ 128 c.version.invariant.1 c.version.invariant.2)
+    let v = c.version.inside.bound in
+    let text = string_bytes c.version.inside.text in
+    let same = subst (λ ids. text_with_build v.major v.minor v.patch ids (mark_of v.marked) ≡ text) (sym c.pre_release.ensures) c.version.invariant.1 in
+    pre-short v.major v.minor v.patch c.pre_release.result.now (mark_of v.marked) text 128 same c.version.invariant.2

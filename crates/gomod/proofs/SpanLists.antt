@@ -17,7 +17,7 @@ use Rattle.modver.specs.Precedence.{precedence}
 use Rattle.modver.proofs.StrictOrders.{precedence_total}
 use Rattle.gomod.specs.Module.{Interval, covers}
 use Rattle.gomod.specs.Paths.{Version, is_below}
-use Rattle.gomod.specs.Spans.{AreApart, LowsRise, joined, merged, merged_all}
+use Rattle.gomod.specs.Spans.{AreApart, LowsRise, joined, lent, merged, merged_all}
 
 -- ---- the order
 
@@ -242,31 +242,33 @@ farther x y [] up all = tt
 farther x y (j ∷ is) up all = (rise x.low y.low j.low up all.0, farther x y is up all.1)
 
 -- as a sort says it, of each and the next
-pub lows-rise : (is : List Interval) → ((k : ℕ) (d : Interval) → 0 ≤ k → k + 1 < length is → is_below (get_or is (k + 1) d).low (get_or is k d).low ≡ false) → LowsRise is
+pub lows-rise : (is : List (Bor Interval))
+    → ((k : ℕ) (d : Bor Interval) → 0 ≤ k → k + 1 < length is → is_below (get_or is (k + 1) d).now.low (get_or is k d).now.low ≡ false) → LowsRise (lent is)
 lows-rise [] h = tt
 lows-rise (x ∷ []) h = (tt, tt)
 lows-rise (x ∷ y ∷ is) h =
-    let first : is_below y.low x.low ≡ false = h 0 x (omega arith) (omega arith) in
+    let first : is_below y.now.low x.now.low ≡ false = h 0 x (omega arith) (omega arith) in
     let rest = lows-rise (y ∷ is) (λ k d a b.
     let e : suc k + 1 ≡ suc (k + 1) = omega arith in
-    subst (λ (n : ℕ). is_below (get_or (x ∷ y ∷ is) n d).low (get_or (y ∷ is) k d).low ≡ false) e (h (suc k) d (omega arith) (omega arith))) in
-    ((first, farther x y is first rest.0), rest)
+    subst (λ (n : ℕ). is_below (get_or (x ∷ y ∷ is) n d).now.low (get_or (y ∷ is) k d).now.low ≡ false) e (h (suc k) d (omega arith) (omega arith))) in
+    ((first, farther x.now y.now (lent is) first rest.0), rest)
 
 -- the order of where they begin, as a sort asks for it
-lows-order : IsStrictWeakOrder (λ (x y : Interval). is_below x.low y.low)
+lows-order : IsStrictWeakOrder (λ (x y : Bor Interval). is_below x.now.low y.now.low)
 unfolding is_below
-lows-order = ranks_by precedence_total (λ (i : Interval). i.low)
+lows-order = ranks_by precedence_total (λ (i : Bor Interval). i.now.low)
 
 by-precedence : (u v : Version) (o : Ordering) → o ≡ precedence u v → is_lt o ≡ is_below u v
 unfolding is_below
 by-precedence u v o e = ap is_lt e
 
 -- from what a sort says whose calls compare where two begin
-pub rise-from_sort : {F : Type 0} {g : Mut F (Bor Interval × (Bor Interval × Unit {0})) Ordering} {f : F} (xs : List Interval)
-    → ((lt : Interval → Interval → Bool) → IsStrictWeakOrder lt → ComparesAs g lt f → IsSortedBy lt xs)
-    → ((a : Bor Interval × (Bor Interval × Unit {0})) (r : Ordering) (f' : F) → Called g f a r f' → (r ≡ precedence a.0.now.low a.1.0.now.low) × (f' ≡ f)) → LowsRise xs
-rise-from_sort {g = g} {f = f} xs up h = lows-rise xs (up (λ x y. is_below x.low y.low) lows-order
-    (always_returns_same g (λ a r. is_lt r ≡ is_below a.0.now.low a.1.0.now.low) f (λ a r f' k. (by-precedence _ _ _ (h a r f' k).0, (h a r f' k).1))))
+pub rise-from_sort : {F : Type 0} {g : Mut F (Bor (Bor Interval) × (Bor (Bor Interval) × Unit {0})) Ordering} {f : F} (xs : List (Bor Interval))
+    → ((lt : Bor Interval → Bor Interval → Bool) → IsStrictWeakOrder lt → ComparesAs g lt f → IsSortedBy lt xs)
+    → ((a : Bor (Bor Interval) × (Bor (Bor Interval) × Unit {0})) (r : Ordering) (f' : F) → Called g f a r f'
+    → (r ≡ precedence a.0.now.now.low a.1.0.now.now.low) × (f' ≡ f)) → LowsRise (lent xs)
+rise-from_sort {g = g} {f = f} xs up h = lows-rise xs (up (λ x y. is_below x.now.low y.now.low) lows-order
+    (always_returns_same g (λ a r. is_lt r ≡ is_below a.0.now.now.low a.1.0.now.now.low) f (λ a r f' k. (by-precedence _ _ _ (h a r f' k).0, (h a r f' k).1))))
 
 pub all-apart : (is : List Interval) → LowsRise is → AreApart (merged_all is)
 all-apart [] up = tt

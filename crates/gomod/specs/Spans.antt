@@ -1,8 +1,13 @@
 -- Intervals in order and apart, for a binary search.
-use Rattle.std.specs.Prelude.{◌≡◌, true, false, List, [], ◌∷◌, if◌then◌else◌, Option, Some, None}
+use Rattle.std.specs.Prelude.{◌≡◌, true, false, List, [], ◌∷◌, if◌then◌else◌, Option, Some, None, map}
+use Rattle.std.specs.Borrow.{Bor}
 use Rattle.std.specs.List.{AllByRecursion}
 use Rattle.gomod.specs.Module.{Interval}
 use Rattle.gomod.specs.Paths.{is_below}
+
+-- the intervals that are lent
+abbrev pub lent : List (Bor Interval) → List Interval
+lent = map (λ i. i.now)
 
 -- no interval begins below an earlier one
 abbrev pub LowsRise : List Interval → Type 0

@@ -12,7 +12,7 @@ use super::go_version::{is_file_path, is_go_version};
 use super::stretch::Stretch;
 use modlex::{Kind, Token};
 use modpath::{LoosePath, ModulePath, PathError};
-use modver::{Version, VersionFault, compare, fits, fits_loose};
+use modver::{Bound, Version, VersionFault, compare_bounds, fits, fits_loose};
 use std::alloc::Global;
 
 /// A version of a module that another module requires. (Go Modules Reference, "require directive".)
@@ -64,6 +64,16 @@ fn version(alloc: Global, line: usize, word: &Token) -> Result<Version, GoModFau
     }
 }
 
+fn bound(alloc: Global, line: usize, word: &Token) -> Result<Bound, GoModFault>
+    ensures { Gives (λ v. v) result (version_word line (symbol word.now)) }
+{
+    let text = word.value(alloc)?;
+    match Bound::parse(alloc, text.as_str()) {
+        Ok(bound) => Ok(bound),
+        Err(fault) => Err(version_fault(line, fault)),
+    }
+}
+
 /// The fault of a line for the fault of a word that is not a version.
 fn version_fault(line: usize, fault: VersionFault) -> GoModFault
     ensures { result ≡ version_fault line fault }
@@ -78,10 +88,10 @@ fn version_fault(line: usize, fault: VersionFault) -> GoModFault
 
 /// Whether one version is below another by precedence.
 #[tactic(auto, unfolding(crate::specs::Paths::is_below))]
-pub(crate) fn is_below(left: &Version, right: &Version) -> bool
+pub(crate) fn is_below(left: &Bound, right: &Bound) -> bool
     ensures { result ≡ is_below left.now right.now }
 {
-    compare(left, right).is_lt()
+    compare_bounds(left, right).is_lt()
 }
 
 /// Returns the version that `word` names. It fails with [`GoModFault::Version`] if `word` is not a
@@ -338,8 +348,8 @@ fn interval(
 ) -> Result<Retraction, GoModFault>
     ensures { Gives (λ r. r) result (interval line (symbol first.now) (symbol second.now)) }
 {
-    let low = version(alloc, line, first)?;
-    let high = version(alloc, line, second)?;
+    let low = bound(alloc, line, first)?;
+    let high = bound(alloc, line, second)?;
     if is_below(&high, &low) {
         Err(GoModFault::Interval(line))
     } else {
@@ -359,7 +369,7 @@ pub(crate) fn retract_entry(
 {
     match tokens {
         [only] if only.is_word() => {
-            let versions = Stretch::one(version(alloc, line, only)?);
+            let versions = Stretch::one(bound(alloc, line, only)?);
             Ok(Retraction { line, versions })
         }
         [left, first, comma, second, right] if is_interval(left, first, comma, second, right) => {

@@ -1,18 +1,19 @@
 //! What a go.mod file says.
 
-ghost use Rattle.std.specs.Prelude.{◌≡◌, ◌↔◌, IsTrue, IsUtf8, Err};
+ghost use Rattle.std.specs.Prelude.{◌≡◌, ◌↔◌, ◌&&◌, IsTrue, IsUtf8, Err};
 ghost use Rattle.gomod.specs.Keywords.{profile_in_force};
-ghost use Rattle.gomod.specs.Reading.{Gives, first_unfit, fits_retraction, file_says, text_says, reading};
+ghost use Rattle.gomod.specs.Reading.{Gives, first_unfit, file_says, text_says, reading};
 ghost use Rattle.gomod.specs.Module.{IsRetracted, is_retracted};
 ghost use Rattle.gomod.specs.State.{state_of};
+ghost use Rattle.modver.specs.Fits.{fits};
 
 use super::entries::{Requirement, Retraction};
 use super::fault::GoModFault;
 use super::reader::{Reader, read_line};
 use super::stretches::Stretches;
 use modlex::cut_line;
-use modpath::ModulePath;
-use modver::{Version, fits};
+use modpath::{ModulePath, Suffix, suffix};
+use modver::{Version, fits_suffix};
 use std::alloc::Global;
 use std::marker::Model;
 
@@ -89,21 +90,24 @@ impl GoMod {
 }
 
 impl Retraction {
-    #[tactic(auto, unfolding(crate::specs::Paths::fits_path))]
-    fn fits(&self, path: &ModulePath) -> bool
-        ensures { result ≡ fits_retraction path.now self.now }
+    /// Whether a path with this suffix may have the versions.
+    fn fits(&self, suffix: Suffix) -> bool
+        ensures { result ≡ (fits suffix self.now.versions.low && fits suffix self.now.versions.high) }
     {
-        fits(path, &self.versions.low) && fits(path, self.versions.high())
+        fits_suffix(suffix, &self.versions.low) && fits_suffix(suffix, self.versions.high())
     }
 }
 
 /// Returns the line of the first retraction with a version that the path may not have, or `None` if
-/// there is no such retraction.
+/// there is no such retraction. A path can have 255 bytes and a file nearly 150,000 retractions, so it
+/// reads the suffix of the path once.
+#[tactic(auto, unfolding(crate::specs::Paths::fits_path))]
 fn first_unfit(path: &ModulePath, retractions: &[Retraction]) -> Option<usize>
     ensures { result ≡ first_unfit path.now retractions.now }
 {
+    let suffix = suffix(path);
     for retraction in retractions {
-        if !retraction.fits(path) {
+        if !retraction.fits(suffix) {
             return Some(retraction.line);
         }
     }

@@ -1,20 +1,20 @@
 //! Versions from a low one to a high one.
 
-ghost use Rattle.std.specs.Prelude.{◌≡◌, IfOk, not};
+ghost use Rattle.std.specs.Prelude.{◌≡◌, IfOk, OnOk, not};
 ghost use Rattle.gomod.specs.Paths.{is_below as lies_below};
 ghost use Rattle.gomod.specs.Spans.{joined};
 
 use super::entries::is_below;
-use modver::Version;
+use modver::Bound;
 use std::alloc::{AllocError, Global};
 use std::marker::Model;
 
 /// All versions from a low one to a high one, which may be equal.
 #[derive(Drop)]
 pub(crate) struct Stretch {
-    pub(crate) low: Version,
+    pub(crate) low: Bound,
     /// The high one. `None` means that it is the low one.
-    above: Option<Version>,
+    above: Option<Bound>,
 }
 
 impl Model for Stretch {
@@ -28,7 +28,7 @@ impl Model for Stretch {
 
 impl Stretch {
     /// Returns the stretch of one version.
-    pub(crate) fn one(version: Version) -> Stretch
+    pub(crate) fn one(version: Bound) -> Stretch
         ensures { result ≡ record { low = version; high = version } }
     {
         Stretch {
@@ -37,7 +37,7 @@ impl Stretch {
         }
     }
 
-    pub(crate) fn between(low: Version, high: Version) -> Stretch
+    pub(crate) fn between(low: Bound, high: Bound) -> Stretch
         ensures { result ≡ record { low = low; high = high } }
     {
         Stretch {
@@ -46,7 +46,7 @@ impl Stretch {
         }
     }
 
-    pub(crate) fn high(&self) -> &Version
+    pub(crate) fn high(&self) -> &Bound
         ensures { result.now ≡ self.now.high }
     {
         match &self.above {
@@ -56,17 +56,10 @@ impl Stretch {
     }
 
     /// Whether a version is not above the high one.
-    pub(crate) fn reaches(&self, version: &Version) -> bool
+    pub(crate) fn reaches(&self, version: &Bound) -> bool
         ensures { result ≡ not (lies_below self.now.high version.now) }
     {
         !is_below(self.high(), version)
-    }
-
-    fn into_high(self) -> Version
-        ensures { result ≡ self.high }
-    {
-        let Stretch { low, above } = self;
-        above.unwrap_or(low)
     }
 
     /// Returns a copy. It fails only if memory runs out.
@@ -81,12 +74,14 @@ impl Stretch {
         Ok(Stretch { low, above })
     }
 
-    /// Extends it to the end of `other`, which it meets and which begins no lower.
-    pub(crate) fn join(&mut self, other: Stretch)
-        ensures { self.new ≡ joined self.old other }
+    /// Extends it to the end of `other`, which it meets and which begins no lower. It fails only if
+    /// memory runs out.
+    pub(crate) fn join(&mut self, alloc: Global, other: &Stretch) -> Result<(), AllocError>
+        ensures { OnOk result (self.new ≡ joined self.old other.now) }
     {
         if is_below(self.high(), other.high()) {
-            self.above = Some(other.into_high());
+            self.above = Some(other.high().copy(alloc)?);
         }
+        Ok(())
     }
 }

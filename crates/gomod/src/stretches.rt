@@ -6,11 +6,11 @@ ghost use Rattle.std.specs.List.Sorted.{IsPermutation};
 ghost use Rattle.gomod.specs.Module.{Interval, covers};
 ghost use Rattle.gomod.specs.Paths.{Version};
 ghost use Rattle.gomod.specs.Reading.{interval_of};
-ghost use Rattle.gomod.specs.Spans.{AreApart, LowsRise, merged, merged_after, merged_all};
+ghost use Rattle.gomod.specs.Spans.{AreApart, LowsRise, lent, merged, merged_after, merged_all};
 
 use super::entries::{Retraction, is_below};
 use super::stretch::Stretch;
-use modver::{Version, compare};
+use modver::{Bound, Version, compare_bounds};
 use std::alloc::{AllocError, Global};
 use std::marker::Model;
 
@@ -42,9 +42,9 @@ impl Stretches {
         ensures { IfOk result (λ s. (v : Version)
             → list_any (covers v) s ≡ list_any (covers v) (map interval_of retractions.now)) }
     {
-        let mut copies = copies(alloc, retractions)?;
-        put_in_order(&mut copies)?;
-        let items = merged(alloc, copies)?;
+        let mut lent = lent(alloc, retractions)?;
+        put_in_order(&mut lent)?;
+        let items = merged(alloc, lent)?;
         Ok(Stretches { items })
     }
 
@@ -52,48 +52,49 @@ impl Stretches {
     pub(crate) fn has(&self, version: &Version) -> bool
         ensures { result ≡ list_any (covers version.now) self.now }
     {
-        some_has(&self.items, version)
+        some_has(&self.items, version.bound())
     }
 }
 
-/// Returns copies of the stretches of retractions, in their order. It fails only if memory runs out.
-fn copies(alloc: Global, retractions: &[Retraction]) -> Result<Vec<Stretch>, AllocError>
-    ensures { IfOk result (λ v. v.items ≡ map interval_of retractions.now) }
+/// Lends the stretches of retractions, in their order. It fails only if memory runs out.
+fn lent<'a>(alloc: Global, retractions: &'a [Retraction]) -> Result<Vec<&'a Stretch>, AllocError>
+    ensures { IfOk result (λ v. lent v.items ≡ map interval_of retractions.now) }
 {
-    let mut copies = Vec::new(alloc);
+    let mut lent = Vec::new(alloc);
     for retraction in retractions {
-        copies.push(retraction.versions.copy(alloc)?)?;
+        lent.push(&retraction.versions)?;
     }
-    Ok(copies)
+    Ok(lent)
 }
 
 /// Sorts stretches by their low versions. It fails only if memory runs out.
-fn put_in_order(stretches: &mut Vec<Stretch>) -> Result<(), AllocError>
-    ensures same { IfOk result (λ _. IsPermutation stretches.old.items stretches.new.items) }
-    ensures rise { IfOk result (λ _. LowsRise stretches.new.items) }
+fn put_in_order(stretches: &mut Vec<&Stretch>) -> Result<(), AllocError>
+    ensures same { IfOk result (λ _. IsPermutation (lent stretches.old.items) (lent stretches.new.items)) }
+    ensures rise { IfOk result (λ _. LowsRise (lent stretches.new.items)) }
 {
-    stretches.sort_by(|left, right| compare(&left.low, &right.low))?;
+    stretches.sort_by(|left, right| compare_bounds(&left.low, &right.low))?;
     Ok(())
 }
 
 /// Joins `next` to `current` if they meet, and otherwise appends `current` to `done`. It returns the
 /// stretch that a later one may still meet. It fails only if memory runs out.
 fn step(
+    alloc: Global,
     done: &mut Vec<Stretch>,
     current: Option<Stretch>,
-    next: Stretch,
+    next: &Stretch,
 ) -> Result<Stretch, AllocError>
     ensures { IfOk result (λ c. (more : List Interval)
-        → done.new.items ++ merged c more ≡ done.old.items ++ merged_after current (next ∷ more)) }
+        → done.new.items ++ merged c more ≡ done.old.items ++ merged_after current (next.now ∷ more)) }
 {
     let Some(mut last) = current else {
-        return Ok(next);
+        return next.copy(alloc);
     };
     if is_below(last.high(), &next.low) {
         done.push(last)?;
-        return Ok(next);
+        return next.copy(alloc);
     }
-    last.join(next);
+    last.join(alloc, next)?;
     Ok(last)
 }
 
@@ -109,19 +110,19 @@ fn ended(mut done: Vec<Stretch>, current: Option<Stretch>) -> Result<Vec<Stretch
 
 /// Returns the stretches, which come in order, with each joined to the one before it if they meet. It
 /// fails only if memory runs out.
-fn merged(alloc: Global, stretches: Vec<Stretch>) -> Result<Vec<Stretch>, AllocError>
-    ensures { IfOk result (λ v. v.items ≡ merged_all stretches.items) }
+fn merged(alloc: Global, stretches: Vec<&Stretch>) -> Result<Vec<Stretch>, AllocError>
+    ensures { IfOk result (λ v. v.items ≡ merged_all (lent stretches.entry.items)) }
 {
     let mut done = Vec::new(alloc);
     let mut current = None;
     for next in stretches {
-        current = Some(step(&mut done, current, next)?);
+        current = Some(step(alloc, &mut done, current, next)?);
     }
     ended(done, current)
 }
 
 /// Whether a stretch contains the version. Only the last of those that do not begin above it can.
-fn some_has(stretches: &[Stretch], version: &Version) -> bool
+fn some_has(stretches: &[Stretch], version: &Bound) -> bool
     requires { AreApart stretches.now }
     ensures { result ≡ list_any (covers version.now) stretches.now }
 {

@@ -14,4 +14,4 @@ returns c = λ v.
     ap (list_any (covers v)) c.in_ok-items.ensures
     ∙ all-covers v _ c.in_ok-put_in_order.ensures.rise
     ∙ sym (list_any-IsPermutation (covers v) _ _ c.in_ok-put_in_order.ensures.same)
-    ∙ ap (list_any (covers v)) c.in_ok-copies.ensures
+    ∙ ap (list_any (covers v)) c.in_ok-lent.ensures

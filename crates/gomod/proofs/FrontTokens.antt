@@ -1,5 +1,5 @@
 -- A line of too many tokens says what its first ones say.
-use Rattle.std.proofs.Common.{◌≡◌, ℕ, Bool, false, ◌&&◌, List, [], ◌∷◌, map, take, refl, ap, sym, ◌∙◌, subst, Option, Some, None, Result, Ok, Err, if◌then◌else◌}
+use Rattle.std.proofs.Common.{◌≡◌, ℕ, false, ◌&&◌, List, [], ◌∷◌, map, take, refl, ap, sym, ◌∙◌, subst, Option, Some, None, Result, Ok, Err, if◌then◌else◌}
 use Rattle.std.proofs.lemmas.List.{take-map}
 use Rattle.modlex.specs.declared.lexer.TokenFault.{TokenFault}
 use Rattle.modlex.specs.declared.lexer.TokenFault.TheVariants as token_faults

@@ -1,4 +1,4 @@
-use Rattle.std.proofs.Common.{◌≡◌, ◌∙◌, ap, not, rules, arith}
+use Rattle.std.proofs.Common.{◌∙◌, ap, not, rules, arith}
 use Rattle.std.proofs.lemmas.List.Sorted.{IsPartitionPoint-from_clause}
 use Rattle.gomod.specs.Module.{Interval}
 use Rattle.gomod.specs.Paths.{is_below}

@@ -1,4 +1,4 @@
-use Rattle.std.proofs.Common.{◌≡◌, ◌∷◌, ◌∙◌, ◌⊎◌, ◌≤◌, length, Ok, Err, refl, sym, ap, inl, inr, arith, List, ℕ, lit<}
+use Rattle.std.proofs.Common.{◌≡◌, ◌∷◌, ◌⊎◌, ◌≤◌, length, Ok, Err, refl, sym, inl, inr, arith, List, ℕ, lit<}
 use Rattle.std.proofs.lemmas.Str.Pattern.{strip_prefix_char}
 use Rattle.modver.proofs.SemVerText.{IsSemVer-of, no_front, no_mark, refused, version_text-of}
 use Rattle.modver.specs.Reading.{IsFault, IsHeld}

@@ -353,7 +353,7 @@ fn interval(
     if is_below(&high, &low) {
         Err(GoModFault::Interval(line))
     } else {
-        let versions = Stretch::between(low, high);
+        let versions = Stretch::between(alloc, low, high)?;
         Ok(Retraction { line, versions })
     }
 }

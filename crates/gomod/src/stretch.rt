@@ -13,17 +13,17 @@ use std::marker::Model;
 #[derive(Drop)]
 pub(crate) struct Stretch {
     pub(crate) low: Bound,
-    /// The high one. `None` means that it is the low one.
-    above: Option<Bound>,
+    /// The high one. `None` means that it is the low one, as in most retractions, so the field is a pointer.
+    above: Option<Box<Bound>>,
 }
 
 impl Model for Stretch {
-    ghost use Rattle.std.specs.Option.{unwrap_or};
+    ghost use Rattle.std.specs.Prelude.{Option, Some, None};
     ghost use Rattle.gomod.specs.Module.{Interval};
 
     ghost Value = { Interval };
 
-    ghost view = { λ s. record { low = s.low; high = unwrap_or s.above s.low } };
+    ghost view = { λ s. record { low = s.low; high = elim s.above [ None ↦ s.low | Some b ↦ b.value ] } };
 }
 
 impl Stretch {
@@ -37,20 +37,19 @@ impl Stretch {
         }
     }
 
-    pub(crate) fn between(low: Bound, high: Bound) -> Stretch
-        ensures { result ≡ record { low = low; high = high } }
+    /// Returns the stretch from a version to another. It fails only if memory runs out.
+    pub(crate) fn between(alloc: Global, low: Bound, high: Bound) -> Result<Stretch, AllocError>
+        ensures { IfOk result (λ s. s ≡ record { low = low; high = high }) }
     {
-        Stretch {
-            low,
-            above: Some(high),
-        }
+        let above = Some(Box::new(alloc, high)?);
+        Ok(Stretch { low, above })
     }
 
     pub(crate) fn high(&self) -> &Bound
         ensures { result.now ≡ self.now.high }
     {
         match &self.above {
-            Some(high) => high,
+            Some(high) => &**high,
             None => &self.low,
         }
     }
@@ -68,7 +67,7 @@ impl Stretch {
     {
         let low = self.low.copy(alloc)?;
         let above = match &self.above {
-            Some(high) => Some(high.copy(alloc)?),
+            Some(high) => Some(Box::new(alloc, high.copy(alloc)?)?),
             None => None,
         };
         Ok(Stretch { low, above })
@@ -80,7 +79,7 @@ impl Stretch {
         ensures { OnOk result (self.new ≡ joined self.old other.now) }
     {
         if is_below(self.high(), other.high()) {
-            self.above = Some(other.high().copy(alloc)?);
+            self.above = Some(Box::new(alloc, other.high().copy(alloc)?)?);
         }
         Ok(())
     }

@@ -1,16 +1,8 @@
-pub mod Texts
-pub mod GroupLemmas
-pub mod RecentLemmas
-pub mod ListLemmas
+pub use Rattle.setup.proofs.PartLemmas
 pub mod SeenLemmas
-pub mod ZipLemmas
-pub mod KeptLemmas
 pub mod StoreLemmas
 pub mod FileLemmas
 pub mod OpenLemmas
-pub mod PartLemmas
-pub mod FilledLemmas
-pub mod BlankLemmas
 pub mod ExtractedLemmas
 pub mod MigratedLemmas
 pub mod OlderLemmas

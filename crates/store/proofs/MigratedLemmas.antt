@@ -20,18 +20,18 @@ use Rattle.migration.specs.Causes.{HasReasonIf}
 use Rattle.migration.specs.Filled.{IsOfTables}
 use Rattle.migration.specs.Filled.{Migrates as WritesWorld}
 use Rattle.migration.proofs.WalkLemmas.{unchanged_itself}
-use Rattle.store.specs.Kept.{IsNothing}
+use Rattle.kept.specs.Kept.{IsNothing}
 use Rattle.store.specs.Shown.{shown_with}
 use Rattle.store.specs.Migrated.{IsForeign, IsVastOlder, IsOldOr, IsMigrated, is_whole, HasOlderReason, MigratesRows, Tells, MigratesAt, Migrates, HasCauseInOne}
-use Rattle.store.specs.Opened.{IsOfOpening}
-use Rattle.store.specs.declared.kept.Kept.{Kept}
+use Rattle.setup.specs.Opened.{IsOfOpening}
+use Rattle.kept.specs.declared.kept.Kept.{Kept}
 use Rattle.store.specs.declared.migrate.Migrated.{Migrated}
 use Rattle.store.specs.declared.migrate.Migrated.TheVariants.{Whole, NotEmpty, BadSchema}
-use Rattle.store.specs.declared.refusal.Refusal.{Refusal}
-use Rattle.store.specs.declared.refusal.Refusal.TheVariants as refusal
-use Rattle.store.proofs.ExtractedLemmas.{spared_at}
-use Rattle.store.proofs.KeptLemmas.{nothing_kept}
-use Rattle.store.proofs.OpenLemmas.{told_device}
+use Rattle.setup.specs.declared.refusal.Refusal.{Refusal}
+use Rattle.setup.specs.declared.refusal.Refusal.TheVariants as refusal
+use Rattle.setup.proofs.PutLemmas.{spared_at}
+use Rattle.kept.proofs.KeptLemmas.{nothing_kept}
+use Rattle.setup.proofs.OpenLemmas.{told_device}
 use Rattle.store.proofs.StoreLemmas.{narrow}
 
 -- ---- the rows

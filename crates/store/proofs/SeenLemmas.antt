@@ -1,13 +1,18 @@
--- The shelves of a chain, queried one after another for a heading.
+-- The shelves of a chain, queried one after another for a heading; a heading with its cached zip.
 use Rattle.std.proofs.Common.{◌≡◌, ◌+◌, ◌<◌, ◌≤◌, ℕ, List, [], ◌∷◌, length, get_or, drop, map as each, Option, Some, None, refl, sym, ap, ◌∙◌}
 use Rattle.std.proofs.lemmas.List.{at_drop_more, drop_all}
 use Rattle.std.specs.Borrow.{Bor}
 use Rattle.std.specs.Option.{option_or}
 use Rattle.std.specs.FinMap as map
+use Rattle.world.specs.declared.entry.Entry.{Entry}
 use Rattle.world.specs.declared.entry.Heading.{Heading}
 use Rattle.world.specs.declared.entry.Seen.{Seen}
 use Rattle.world.specs.World.{World, place, seen_at, first_on, heading_of, without_zip}
-use Rattle.store.specs.Zips.{seen_heading}
+use Rattle.statements.specs.Reading.{entry_with}
+use Rattle.kept.specs.Zips.{IsZipAt}
+use Rattle.kept.proofs.ZipLemmas.{stands_on}
+use Rattle.store.specs.Seen.{seen_heading}
+use Rattle.store.specs.declared.seen.SeenHeading.{SeenHeading}
 
 module _ (w : World) (s : List ℕ) (ss : List (List ℕ)) (p v : List ℕ) where
   -- the heading that one shelf has is what it and the shelves behind it show
@@ -46,3 +51,26 @@ module _ (w : World) (shelves : List (Bor (List ℕ))) (i : ℕ) (p v : List ℕ
 
   pub none_left : length shelves ≤ i → None ≡ seen_heading seen
   none_left past = ap seen_heading (sym (ap (λ ss. first_on w (texts_of ss) p v) (drop_all i shelves past)) ∙ left)
+
+-- ---- with the cached zip
+
+-- if no heading is seen, nothing is seen
+pub none_seen : (seen : Option Seen) → None ≡ seen_heading seen → None ≡ seen
+none_seen None is = refl
+none_seen (Some e) is = cc is
+
+-- a heading that is seen, with the cached zip of its place, is the entry that is seen
+pub whole : (w : World) (ss : List (List ℕ)) (p v : List ℕ) (h : SeenHeading) (zip : List ℕ) → Some h ≡ seen_heading (first_on w ss p v) → IsZipAt w (place h.shelf p v) zip
+    → Some (record { shelf = h.shelf; entry = entry_with h.heading zip }) ≡ first_on w ss p v
+whole w ss p v h zip = go (first_on w ss p v) refl
+  where
+    go : (seen : Option Seen) → first_on w ss p v ≡ seen → Some h ≡ seen_heading (first_on w ss p v) → IsZipAt w (place h.shelf p v) zip → Some (record { shelf = h.shelf; entry = entry_with h.heading zip }) ≡ first_on w ss p v
+    go None is found kept = let never : Some h ≡ None = found ∙ ap seen_heading is in cc never
+    go (Some e) is found kept =
+        let same : h ≡ record { shelf = e.shelf; heading = heading_of e.entry } = let it : Some h ≡ Some (record { shelf = e.shelf; heading = heading_of e.entry }) = found ∙ ap seen_heading is in cc it in
+        let at = stands_on w ss p v (Some e) is in
+        let stored : Some kept.0 ≡ Some e.entry = sym kept.1 ∙ (ap (λ (g : SeenHeading). map.get w.entries (place g.shelf p v)) same ∙ at) in
+        let entry : kept.0 ≡ e.entry = cc stored in
+        let zips : zip ≡ e.entry.zip = sym kept.2 ∙ ap (λ (x : Entry). x.zip) entry in
+        ap (λ (g : SeenHeading). Some (record { shelf = g.shelf; entry = entry_with g.heading zip })) same
+        ∙ ap (λ z. Some (record { shelf = e.shelf; entry = entry_with (heading_of e.entry) z })) zips ∙ sym is

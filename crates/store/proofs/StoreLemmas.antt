@@ -15,10 +15,10 @@ use Rattle.world.proofs.Sound.{new_team, new_group}
 use Rattle.tables.specs.Means.{Stands, StandsFor}
 use Rattle.statements.specs.Calls.{Spares, LeavesOnly, ChangesAt}
 use Rattle.store.specs.Shown.{LeavesEither, shown_with}
-use Rattle.store.specs.declared.kept.Kept.{Kept}
-use Rattle.store.specs.Kept.{AreKept}
-use Rattle.store.proofs.GroupLemmas.{groups_still}
-use Rattle.store.proofs.ListLemmas.{Kept as Lists, no_lists, lists_still}
+use Rattle.kept.specs.declared.kept.Kept.{Kept}
+use Rattle.kept.specs.Kept.{AreKept}
+use Rattle.kept.proofs.GroupLemmas.{groups_still}
+use Rattle.kept.proofs.ListLemmas.{Kept as Lists, no_lists, lists_still}
 use Rattle.tables.proofs.FailureLemmas.{was_clean}
 
 pub narrow : (s : State) (w : World) → LeavesEither s w w → LeavesOnly s (λ x. x ≡ w)

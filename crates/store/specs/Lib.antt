@@ -1,12 +1,9 @@
-pub mod Groups
-pub mod Recent
-pub mod Lists
-pub mod Zips
-pub mod Kept
+pub use Rattle.kept.specs.Kept
+pub use Rattle.setup.specs.Opened
+pub use Rattle.setup.specs.Extracted
+pub use Rattle.setup.specs.Parts
 pub mod Shown
-pub mod Opened
 pub mod Restart
-pub mod Extracted
 pub mod Migrated
 pub mod Older
-pub mod Parts
+pub mod Seen

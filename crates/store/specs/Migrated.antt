@@ -15,11 +15,11 @@ use Rattle.statements.specs.declared.extract_rows.CopyError.{CopyError}
 use Rattle.statements.specs.declared.extract_rows.CopyError.TheVariants.{Source, Fresh}
 use Rattle.world.specs.Store.{Shown, GrewOrFull}
 use Rattle.world.specs.World.{World, only_common}
-use Rattle.store.specs.Extracted.{IsRead}
+use Rattle.setup.specs.Extracted.{IsRead}
 use Rattle.store.specs.declared.migrate.Migrated.{Migrated}
 use Rattle.store.specs.declared.migrate.Migrated.TheVariants.{Whole, NotEmpty, BadSchema}
-use Rattle.store.specs.declared.refusal.Refusal.{Refusal}
-use Rattle.store.specs.declared.refusal.Refusal.TheVariants as refusal
+use Rattle.setup.specs.declared.refusal.Refusal.{Refusal}
+use Rattle.setup.specs.declared.refusal.Refusal.TheVariants as refusal
 
 -- the tables are those of an older schema, and stand for the world
 abbrev pub WasOf : Database → World → Type 0

@@ -5,10 +5,10 @@ ghost use Rattle.sqlite.specs.Files.{file_state, image_of, IsOpened, IsCleanLeft
 ghost use Rattle.sqlite.specs.Start.{FindsIn};
 ghost use Rattle.sqlite.specs.State.{HasCleanDisk};
 ghost use Rattle.sqlite_wal.specs.Files.{image_at};
-ghost use Rattle.store.specs.Opened.{IsOfOpening};
+ghost use Rattle.setup.specs.Opened.{IsOfOpening};
 ghost use Rattle.store.specs.Restart.{HoldsNoDatabase};
 
-use crate::refusal::Refusal;
+use setup::refusal::Refusal;
 use sqlite::{Connection, Error, ErrorCode, FileFrom, FileStore, Files, Leftover, Start};
 use sqlite_disk::Disk;
 use sqlite_pager::Options;

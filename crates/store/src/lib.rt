@@ -1,6 +1,7 @@
 //! Team shelves as rows of SQL tables, behind the traits `world::shelves::Shelves` and `outline::outlines::Outlines`.
 //!
-//! The crate `tables` defines the tables and the world that they stand for; the crate `statements` reads and changes them.
+//! The crate `tables` defines the tables and the world that they stand for; the crate `statements` reads and changes them;
+//! the crate `setup` finds or makes them, and copies shelves; the crate `kept` caches what was found.
 //! A store opens over these tables if they stand for a world, or over no tables at all. It refuses everything else, and a
 //! connection that then stays open shows what it showed.
 //!
@@ -9,7 +10,7 @@
 //!
 //! | call | what it calls |
 //! |---|---|
-//! | `adopt` | `tables::fit::stand_for_world`, or `tables::create::create` if there are no tables |
+//! | `adopt` | `setup::adopt::open_tables` |
 //! | `key` | `statements::registry::find_key` |
 //! | `entry` | `find_heading` along the chain, and the cached zip; without one, `find_entry`, whose zip is then cached |
 //! | `heading` | `statements::entries::find_heading`, along the chain |
@@ -22,7 +23,7 @@
 //! | `insert` | `statements::entries::add_entry` |
 //! | `team_add`, `group_add`, `key_add` | `add_team`, `add_group`, `add_key` of `statements::registry` |
 //! | `key_revoke` | `statements::revoke::revoke_key` |
-//! | `extract`, `extract_teams`, `copy` | writes the rows of the shelves, then `statements::extract_rows`, in one transaction |
+//! | `extract`, `extract_teams`, `copy` | `setup::extract::extract_part`, which writes in one transaction |
 //! | `migrate` | `older::schema::format_of`, and `migration::write::write_world`, into a fresh store in one transaction |
 //!
 //! The chain of a shelf is its own shelf, its group if it has one, and `common`. `statements::registry::find_shelf` finds the
@@ -32,22 +33,14 @@
 //! otherwise `Device`, which is counted.
 #![tactic(auto)]
 
-mod adopt;
 mod chain;
-mod choice;
 mod extract;
-mod extract_judge;
-mod extract_part;
 pub mod files;
-mod groups;
-mod kept;
 pub mod laws;
-mod lists;
 pub mod migrate;
 pub mod open;
 pub mod open_older;
-mod recent;
-pub mod refusal;
 mod seen;
 pub mod store;
-mod zips;
+
+pub use setup::refusal;

@@ -7,12 +7,12 @@ ghost use Rattle.store.specs.Shown.{shown_with};
 ghost use Rattle.store.specs.Migrated.{MigratesRows, Migrates, HasCauseInOne, is_whole};
 
 use crate::extract::told_as;
-use crate::extract_judge::is_blank;
-use crate::kept::Kept;
-use crate::refusal::{Refusal, open_refusal};
 use crate::store::{SqlShelves, fault};
+use kept::kept::Kept;
 use migration::write::write_world;
 use older::schema::format_of;
+use setup::extract_judge::is_blank;
+use setup::refusal::{Refusal, open_refusal};
 use sqlite::{Alter, Connection, Error, ErrorCode};
 use statements::extract_rows::CopyError;
 use std::alloc::Global;

@@ -8,12 +8,12 @@ ghost use Rattle.sqlite.specs.Steps.{over_memory};
 ghost use Rattle.sqlite_wal.specs.Files.{image_at};
 ghost use Rattle.world.specs.World.{only_common};
 ghost use Rattle.store.specs.Shown.{shown_with, BeginsAt};
-ghost use Rattle.store.specs.Opened.{IsOfOpening};
+ghost use Rattle.setup.specs.Opened.{IsOfOpening};
 ghost use Rattle.store.specs.Restart.{HoldsStore, HoldsNoStore};
 
 use crate::files::connect;
-use crate::refusal::Refusal;
 use crate::store::SqlShelves;
+use setup::refusal::Refusal;
 use sqlite::{Alter, Connection, File, FileFrom, FileStore, Leftover, MemStore, Start, Unknown};
 use std::alloc::Global;
 use std::rt::HostRuntime;

@@ -5,10 +5,10 @@ ghost use Rattle.sqlite.specs.Files.{file_state};
 ghost use Rattle.sqlite_wal.specs.Files.{image_at};
 ghost use Rattle.statements.specs.Calls.{IsOpenIfHonest};
 ghost use Rattle.store.specs.Older.{FindsOlder};
-ghost use Rattle.store.specs.Opened.{IsOfOpening};
+ghost use Rattle.setup.specs.Opened.{IsOfOpening};
 
 use crate::files::connect;
-use crate::refusal::Refusal;
+use setup::refusal::Refusal;
 use sqlite::{Connection, FileFrom, FileStore, Leftover, Start};
 use std::rt::HostRuntime;
 

@@ -4,13 +4,15 @@ ghost use Rattle.std.specs.Prelude.{◌≡◌, [], ◌∷◌, map as each, IfOk}
 ghost use Rattle.sqlite.specs.Held.{state};
 ghost use Rattle.world.specs.World.{first_on, without_zip};
 ghost use Rattle.statements.specs.Calls.{InEachWorld, Spares};
-ghost use Rattle.store.specs.Zips.{seen_heading};
+ghost use Rattle.statements.specs.Reading.{entry_with};
+ghost use Rattle.store.specs.Seen.{seen_heading};
 
 use sqlite::{Alter, Connection, Error};
 use statements::entries::find_heading;
 use std::alloc::Global;
 use text::Text;
-use world::entry::Heading;
+use world::bytes::Bytes;
+use world::entry::{Entry, Heading, Seen};
 
 /// The heading of a version that is seen, with the shelf that its entry stands on.
 #[derive(Drop)]
@@ -53,4 +55,18 @@ pub(crate) fn find_seen<S: Alter>(
         }
     }
     Ok(None)
+}
+
+/// What is seen of a version, with its zip.
+pub(crate) fn with_zip(seen: SeenHeading, zip: Bytes) -> Seen
+    ensures { result ≡ record { shelf = seen.shelf; entry = entry_with seen.heading zip } }
+{
+    Seen {
+        shelf: seen.shelf,
+        entry: Entry {
+            gomod: seen.heading.gomod,
+            zip,
+            time: seen.heading.time,
+        },
+    }
 }

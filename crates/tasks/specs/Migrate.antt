@@ -9,7 +9,7 @@ use Rattle.statements.specs.Calls.{IsOpenIfHonest}
 use Rattle.world.specs.Store.{Shown}
 use Rattle.store.specs.Migrated.{Migrates, HasCauseInOne, IsForeign}
 use Rattle.store.specs.Older.{FindsOlder}
-use Rattle.store.specs.declared.refusal.Refusal.{Refusal as Unopened}
+use Rattle.setup.specs.declared.refusal.Refusal.{Refusal as Unopened}
 use Rattle.commands.specs.declared.refusal.Refusal.{Refusal}
 use Rattle.commands.specs.declared.refusal.Refusal.TheVariants.{NotEmpty}
 use Rattle.tasks.specs.Extract.{extracted}

@@ -5,8 +5,8 @@ use Rattle.world.specs.Store.{Shown}
 use Rattle.world.specs.World.{World}
 use Rattle.store.specs.Shown.{BeginsAt}
 use Rattle.store.specs.Restart.{HoldsStore}
-use Rattle.store.specs.declared.refusal.Refusal.{Refusal as Unopened}
-use Rattle.store.specs.declared.refusal.Refusal.TheVariants as store
+use Rattle.setup.specs.declared.refusal.Refusal.{Refusal as Unopened}
+use Rattle.setup.specs.declared.refusal.Refusal.TheVariants as store
 use Rattle.commands.specs.declared.refusal.Refusal.{Refusal}
 use Rattle.commands.specs.declared.refusal.Refusal.TheVariants as refusal
 

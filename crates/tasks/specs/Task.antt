@@ -3,7 +3,7 @@ use Rattle.std.specs.Prelude.{ℕ, map as each, List, ◌≡◌, ◌⊎◌, Bool
 use Rattle.sqlite_wal.specs.Recovery.{Image}
 use Rattle.sqlite.specs.State.{State}
 use Rattle.world.specs.Store.{Shown}
-use Rattle.store.specs.declared.refusal.Refusal.{Refusal as Unopened}
+use Rattle.setup.specs.declared.refusal.Refusal.{Refusal as Unopened}
 use Rattle.control.specs.declared.order.Order.{Order}
 use Rattle.commands.specs.Opening.{AnsweredFor}
 use Rattle.commands.specs.Order.{OrdersThere, StopsThere}

@@ -1,6 +1,6 @@
 use Rattle.std.proofs.Common.{sym, subst}
-use Rattle.store.specs.Kept.{IsNothing}
-use Rattle.store.specs.Parts.{IsThere, what}
+use Rattle.kept.specs.Kept.{IsNothing}
+use Rattle.setup.specs.Parts.{IsThere, what}
 use Rattle.store.proofs.ExtractedLemmas.{fills_kept}
 use Rattle.store.proofs.store.SqlShelves.fill.Goals as goal
 

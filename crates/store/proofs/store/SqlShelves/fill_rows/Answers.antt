@@ -2,9 +2,9 @@ use Rattle.std.proofs.Common.{Ok, Err, ap, subst}
 use Rattle.sqlite.specs.Held.{state}
 use Rattle.tables.proofs.FailureLemmas.{was_clean}
 use Rattle.statements.specs.Calls.{ChangesAt}
-use Rattle.store.specs.Parts.{IsJudged, IsThere, is_fit, is_written, what}
-use Rattle.store.specs.declared.extract_judge.Judged.{Judged}
-use Rattle.store.specs.declared.refusal.Refusal.TheVariants as refusal
+use Rattle.setup.specs.Parts.{IsJudged, IsThere, is_fit, is_written, what}
+use Rattle.setup.specs.declared.extract_judge.Judged.{Judged}
+use Rattle.setup.specs.declared.refusal.Refusal.TheVariants as refusal
 use Rattle.store.proofs.ExtractedLemmas.{is_read, fills_at, what_is_world, fault_tells, done_is_fit, fault_is_fit}
 use Rattle.store.proofs.store.SqlShelves.fill_rows.Goals as goal
 

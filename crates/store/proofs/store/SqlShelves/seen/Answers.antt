@@ -1,7 +1,7 @@
 use Rattle.std.proofs.Common.{◌≡◌, ◌∷◌, map, Ok, Err, rules}
 use Rattle.sqlite.specs.Held.{state}
 use Rattle.world.specs.World.{above, first_on}
-use Rattle.store.specs.Zips.{seen_heading}
+use Rattle.store.specs.Seen.{seen_heading}
 use Rattle.store.proofs.StoreLemmas.{reads_along, reads_failed}
 use Rattle.store.proofs.store.SqlShelves.seen.Goals as goal
 

@@ -2,7 +2,8 @@ use Rattle.std.proofs.Common.{◌∙◌, Some, sym, ap, rules}
 use Rattle.modver.specs.SemanticVersion.{version_text}
 use Rattle.world.specs.World.{chain, view}
 use Rattle.store.proofs.StoreLemmas.{reads_failed}
-use Rattle.store.proofs.ZipLemmas.{fewer_zips, none_seen, stands_on, whole}
+use Rattle.kept.proofs.ZipLemmas.{fewer_zips, stands_on}
+use Rattle.store.proofs.SeenLemmas.{none_seen, whole}
 use Rattle.store.proofs.store.SqlShelvesShelves.entry.Goals as goal
 
 pub returns-in_err-seen-clause-reads : goal.returns-in_err-seen-clause-reads

@@ -1,11 +1,11 @@
 use Rattle.std.proofs.Common.{Ok, Err, refl, subst}
 use Rattle.sqlite.specs.Held.{state}
-use Rattle.store.specs.Lists.{AreLists}
+use Rattle.kept.specs.Lists.{AreLists}
 use Rattle.world.specs.World.{World, place, with_entry}
 use Rattle.modver.specs.SemanticVersion.{version_text}
 use Rattle.world.proofs.Sound.{entry_added}
 use Rattle.store.proofs.StoreLemmas.{changes}
-use Rattle.store.proofs.ZipLemmas.{zips_still}
+use Rattle.kept.proofs.ZipLemmas.{zips_still}
 use Rattle.store.proofs.store.SqlShelvesShelves.insert.Goals as goal
 
 pub returns-in-Ok-clause-does : goal.returns-in-Ok-clause-does

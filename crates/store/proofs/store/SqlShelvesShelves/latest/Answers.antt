@@ -3,7 +3,7 @@ use Rattle.sqlite.specs.Held.{state}
 use Rattle.world.specs.Latest.{AllOf, highest}
 use Rattle.world.proofs.Newest.{none_read, latest_read}
 use Rattle.store.specs.Shown.{shown_with}
-use Rattle.store.proofs.ListLemmas.{fewer}
+use Rattle.kept.proofs.ListLemmas.{fewer}
 use Rattle.store.proofs.StoreLemmas.{reads_kept, reads_then, reads_failed, reads_with_less}
 use Rattle.store.proofs.store.SqlShelvesShelves.latest.Goals as goal
 

@@ -1,7 +1,7 @@
 use Rattle.std.proofs.Common.{Ok}
 use Rattle.sqlite.specs.Held.{state}
 use Rattle.store.specs.Shown.{shown_with}
-use Rattle.store.proofs.ListLemmas.{fewer}
+use Rattle.kept.proofs.ListLemmas.{fewer}
 use Rattle.store.proofs.StoreLemmas.{reads_kept, reads_then, reads_failed, reads_with_less}
 use Rattle.store.proofs.store.SqlShelvesShelves.versions.Goals as goal
 

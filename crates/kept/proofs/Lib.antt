@@ -1,0 +1,5 @@
+pub mod GroupLemmas
+pub mod RecentLemmas
+pub mod ListLemmas
+pub mod ZipLemmas
+pub mod KeptLemmas

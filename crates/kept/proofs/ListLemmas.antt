@@ -1,0 +1,93 @@
+-- Cached lists stay right when one more is cached, when some are dropped, and when the world grows.
+use Rattle.std.proofs.Common.{◌≡◌, ◌∙◌, ◌⊎◌, ℕ, List, [], ◌∷◌, false, Option, None, Some, inl, inr, refl, sym, ap, subst, IfSome}
+use Rattle.std.specs.Prelude.{bytes_eq, is_some, IsTrue}
+use Rattle.std.specs.FinMap as map
+use Rattle.std.specs.FinSet.{same_set}
+use Rattle.std.specs.Option.{option_or}
+use Rattle.std.proofs.lemmas.Bool.{and_parts}
+use Rattle.modver.specs.SemanticVersion.{SemanticVersion, version_text}
+use Rattle.world.specs.declared.entry.Entry.{Entry}
+use Rattle.world.specs.declared.entry.Place.{Place}
+use Rattle.world.specs.Latest.{highest, highest_left, module_of, latest_by, latest_of}
+use Rattle.world.specs.Lines.{in_order}
+use Rattle.world.specs.Versions.{named, by_precedence, versions_of}
+use Rattle.world.specs.Visible.{versions_seen}
+use Rattle.world.specs.World.{World, place, chain, seen_at, first_on, without_zip, heading, with_entry, with_group}
+use Rattle.world.proofs.Orders.{texts_total, texts_exact, places_total, places_exact, get_elsewhere, text_apart, text_same}
+use Rattle.world.proofs.Seen.{contains_versions}
+use Rattle.kept.specs.declared.lists.KeptList.{KeptList}
+use Rattle.kept.specs.Lists.{is_of, IsListIn, AreLists}
+use Rattle.kept.specs.Recent.{Holds}
+use Rattle.kept.proofs.GroupLemmas.{same_versions, same_view}
+use Rattle.kept.proofs.RecentLemmas.{holds_none}
+
+abbrev pub Kept : Type 0
+Kept = List (ℕ × (ℕ × KeptList))
+
+-- the list has the versions of the path that the shelf sees, and its latest version, if cached, is the one that the shelf sees
+abbrev pub IsListOf : World → KeptList → List ℕ → List ℕ → Type 0
+IsListOf w list s p = (list.versions ≡ versions_of w s p) × IfSome list.latest (λ latest. latest ≡ latest_of w s p)
+
+-- ---- fewer lists, none, and one more
+
+pub fewer : (w : World) (old new : Kept) → ((list : KeptList) → Holds new list → Holds old list) → AreLists w old → AreLists w new
+fewer w old new among are list at = are list (among list at)
+
+pub no_lists : (w : World) (lists : Kept) → lists ≡ [] → AreLists w lists
+no_lists w lists none list at = absurd (holds_none list (subst (λ l. Holds l list) none at))
+
+pub one_more : (w : World) (old new : Kept) (it : KeptList) → ((list : KeptList) → Holds new list → Holds old list ⊎ (list ≡ it)) → AreLists w old → IsListIn w it → AreLists w new
+one_more w old new it split are is list at = elim (split list at) [
+  | inl was ↦ are list was
+  | inr same ↦ subst (IsListIn w) (sym same) is
+]
+
+-- ---- a list that is found
+
+pub found : (w : World) (lists : Kept) (list : KeptList) (s p : List ℕ) → Holds lists list → IsTrue (is_of s p list) → AreLists w lists → IsListOf w list s p
+found w lists list s p at is are =
+    let both = and_parts (bytes_eq list.shelf s) (bytes_eq list.path p) is in
+    subst (λ t. IsListOf w list t p) (text_same list.shelf s both.0) (subst (IsListOf w list list.shelf) (text_same list.path p both.1) (are list at))
+
+-- ---- the world grows
+
+-- a list is right in x if it is right in w, and the shelf sees the same versions and headings of the path in both
+module _ (w x : World) (s p : List ℕ) (versions : versions_of w s p ≡ versions_of x s p) (headings : (u : List ℕ) → heading w s p u ≡ heading x s p u) where
+  by_same : (top : Option SemanticVersion) → latest_by w s p top ≡ latest_by x s p top
+  by_same None = refl
+  by_same (Some top) = ap (λ shown. highest_left (module_of shown) (versions_of w s p)) (headings (version_text top)) ∙ ap (highest_left (module_of (heading x s p (version_text top)))) versions
+
+  same_latest : latest_of w s p ≡ latest_of x s p
+  same_latest = by_same (highest (versions_of w s p)) ∙ ap (λ vs. latest_by x s p (highest vs)) versions
+
+  same_list : (list : KeptList) → IsListOf w list s p → IsListOf x list s p
+  same_list list is = (is.0 ∙ versions, subst (λ latest. IfSome list.latest (λ l. l ≡ latest)) same_latest is.1)
+
+-- a list stays right when another path gets a version
+module _ (w : World) (s p v : List ℕ) (e : Entry) (other : List ℕ) (apart : bytes_eq other p ≡ false) where
+  on_others : (ss : List (List ℕ)) (u : List ℕ) → first_on (with_entry w (place s p v) e) ss other u ≡ first_on w ss other u
+  on_others [] u = refl
+  on_others (t ∷ ts) u =
+      ap (λ o. option_or (seen_at o t) (first_on (with_entry w (place s p v) e) ts other u))
+      (get_elsewhere places_total places_exact w.entries (place s p v) e (place t other u) (λ i. text_apart other p apart (ap (λ (q : Place). q.path) i)))
+      ∙ ap (λ o. option_or (seen_at (map.get w.entries (place t other u)) t) o) (on_others ts u)
+
+  seen_still : (t : List ℕ) → versions_seen (with_entry w (place s p v) e) t other ≡ versions_seen w t other
+  seen_still t =
+      same_set texts_total texts_exact (versions_seen (with_entry w (place s p v) e) t other) (versions_seen w t other)
+      (λ u. contains_versions (with_entry w (place s p v) e) t other u ∙ (ap is_some (on_others (chain w t) u) ∙ sym (contains_versions w t other u)))
+
+  still : (t : List ℕ) (list : KeptList) → IsListOf w list t other → IsListOf (with_entry w (place s p v) e) list t other
+  still t list is =
+      same_list w (with_entry w (place s p v) e) t other
+      (ap (λ texts. in_order (by_precedence (named (in_order texts)))) (sym (seen_still t)))
+      (λ u. ap without_zip (sym (on_others (chain w t) u))) list is
+
+pub others_still : (w : World) (s p v : List ℕ) (e : Entry) (lists : Kept) → ((list : KeptList) → Holds lists list → bytes_eq list.path p ≡ false) → AreLists w lists → AreLists (with_entry w (place s p v) e) lists
+others_still w s p v e lists apart are list at = still w s p v e list.path (apart list at) list.shelf list (are list at)
+
+-- lists stay right when a group is added
+pub lists_still : (w : World) (g : List ℕ) → map.contains_key w.shelves g ≡ false → (lists : Kept) → AreLists w lists → AreLists (with_group w g) lists
+lists_still w g free lists are list at =
+    same_list w (with_group w g) list.shelf list.path (sym (same_versions w g free list.shelf list.path))
+    (λ u. ap without_zip (sym (same_view w g free list.shelf list.path u))) list (are list at)

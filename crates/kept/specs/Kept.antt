@@ -1,0 +1,17 @@
+-- What a store caches from call to call.
+use Rattle.std.specs.Prelude.{◌≡◌, []}
+use Rattle.std.specs.FinMap as map
+use Rattle.world.specs.World.{World}
+use Rattle.world.specs.Counts.{AreCounts}
+use Rattle.kept.specs.Groups.{AreGroups}
+use Rattle.kept.specs.Lists.{AreLists}
+use Rattle.kept.specs.Zips.{AreZips}
+use Rattle.kept.specs.declared.kept.Kept.{Kept}
+
+-- all that is cached is true in the world
+abbrev pub AreKept : World → Kept → Type 0
+AreKept w kept = AreCounts w kept.counts × AreLists w kept.lists × AreGroups w kept.groups × AreZips w kept.zips
+
+-- nothing is cached
+abbrev pub IsNothing : Kept → Type 0
+IsNothing kept = (kept.counts ≡ map.empty) × (kept.lists ≡ []) × (kept.groups ≡ map.empty) × (kept.zips ≡ [])

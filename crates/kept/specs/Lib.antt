@@ -1,0 +1,5 @@
+pub mod Groups
+pub mod Recent
+pub mod Lists
+pub mod Zips
+pub mod Kept

@@ -1,0 +1,17 @@
+//! What a store keeps from call to call, so that it need not query its tables again.
+//!
+//! | module | what it keeps | until when it is right |
+//! |---|---|---|
+//! | `lists` | the versions of a path that a shelf sees, and the latest of them | the path gets a version, or a team is added |
+//! | `groups` | the group of a shelf, or that it has none | for good: the group of a shelf never changes |
+//! | `zips` | the zip of the entry at a place | for good: an entry never changes |
+//! | `kept` | all of them, and the counts of `world::counts` | |
+//!
+//! If memory runs out, less is kept.
+#![tactic(auto)]
+
+pub mod groups;
+pub mod kept;
+pub mod lists;
+pub mod recent;
+pub mod zips;

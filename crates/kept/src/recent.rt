@@ -1,0 +1,163 @@
+//! A cache that drops the values that were asked for longest ago.
+
+ghost use Rattle.std.specs.Prelude.{◌≡◌, ◌⊎◌, [], IfOk, IfSome};
+ghost use Rattle.std.specs.Option.{option_map_or};
+ghost use Rattle.kept.specs.Recent.{Holds};
+
+use lru::LruCache;
+use std::alloc::{AllocError, Global};
+use std::marker::Model;
+
+/// Values with their weights, those that were asked for last first. It drops none by itself.
+type Cache<V> = LruCache<u64, (usize, V)>;
+
+/// Values under numbers, which together weigh at most a fixed figure. If a new value has no room, those that were asked for
+/// longest ago go. Contracts see each value with its number and its weight.
+#[derive(Drop)]
+pub struct Recent<V> {
+    pub(crate) cache: Option<Cache<V>>,
+    weight: usize,
+    most: usize,
+}
+
+impl<V> Model for Recent<V> {
+    ghost use Rattle.std.specs.Prelude.{ℕ, ◌≤◌, List, []};
+    ghost use Rattle.std.specs.Coded.{coded_list, coded×, coded_ℕ};
+    ghost use Rattle.std.specs.Option.{option_map_or};
+    ghost use Rattle.kept.specs.Recent.{weight_in};
+
+    ghost Value = { List (ℕ × (ℕ × V)) };
+
+    ghost coded = { coded_list (coded× coded_ℕ (coded× coded_ℕ V.code)) };
+
+    ghost view = { λ r. option_map_or (λ cache. cache.entries) r.cache [] };
+
+    ghost invariant = { λ r. (weight_in (option_map_or (λ cache. cache.entries) r.cache []) ≤ r.weight) × (r.weight ≤ r.most) };
+}
+
+impl<V> Recent<V> {
+    /// Returns an empty cache, whose values together may weigh at most `most`. It takes no memory.
+    pub(crate) fn new(most: usize) -> Recent<V>
+        ensures { result ≡ [] }
+    {
+        Recent {
+            cache: None,
+            weight: 0,
+            most,
+        }
+    }
+
+    /// Returns the value under a number, or None if there is none.
+    pub(crate) fn get(&self, number: u64) -> Option<&V>
+        ensures { IfSome result (λ value. Holds self.now value.now) }
+    {
+        let held = self.cache.as_ref()?.peek(&number)?;
+        Some(&held.1)
+    }
+
+    /// Makes the value under a number, if there is one, the one that was asked for last.
+    pub(crate) fn promote(&mut self, number: u64)
+        ensures { (v : _) → Holds self.new v → Holds self.old v }
+    {
+        let Some(cache) = &mut self.cache else {
+            return;
+        };
+        cache.promote(&number);
+    }
+
+    /// Takes the value under a number out of the cache and returns it, or returns None if there is none.
+    pub(crate) fn take(&mut self, number: u64) -> Option<V>
+        ensures others { (v : _) → Holds self.new v → Holds self.old v }
+        ensures taken { IfSome result (Holds self.old) }
+    {
+        let Some(cache) = &mut self.cache else {
+            return None;
+        };
+        let (_, (weight, value)) = cache.pop_entry(&number)?;
+        self.weight = self.weight.saturating_sub(weight);
+        Some(value)
+    }
+}
+
+impl<V: Drop> Recent<V> {
+    /// Caches a value of this weight under a number, in place of the one that was there. If memory runs out, the value is not
+    /// cached. A value that weighs more than `most` changes nothing.
+    pub(crate) fn keep(&mut self, alloc: Global, number: u64, weight: usize, value: V)
+        ensures { (v : _) → Holds self.new v → Holds self.old v ⊎ (v ≡ value) }
+    {
+        if weight > self.most {
+            return;
+        }
+        self.drop_one(number);
+        self.make_room(weight);
+        self.put(alloc, number, weight, value);
+    }
+
+    /// Drops the value under a number, if there is one.
+    pub(crate) fn drop_one(&mut self, number: u64)
+        ensures { (v : _) → Holds self.new v → Holds self.old v }
+    {
+        drop(self.take(number));
+    }
+
+    /// Drops the values that were asked for longest ago, until one of this weight has room.
+    pub(crate) fn make_room(&mut self, weight: usize)
+        ensures { (v : _) → Holds self.new v → Holds self.old v }
+    {
+        for _ in 0..self.len() {
+            if weight <= self.most - self.weight {
+                return;
+            }
+            self.drop_last();
+        }
+    }
+
+    /// Returns how many values there are.
+    fn len(&self) -> usize {
+        match &self.cache {
+            Some(cache) => cache.len(),
+            None => 0,
+        }
+    }
+
+    /// Drops the value that was asked for longest ago, if there is one.
+    fn drop_last(&mut self)
+        ensures { (v : _) → Holds self.new v → Holds self.old v }
+    {
+        let Some(cache) = &mut self.cache else {
+            return;
+        };
+        if let Some((_, (weight, value))) = cache.pop_lru() {
+            self.weight = self.weight.saturating_sub(weight);
+            drop(value);
+        }
+    }
+
+    /// Adds a value of this weight, if it has room and there is memory.
+    fn put(&mut self, alloc: Global, number: u64, weight: usize, value: V)
+        ensures { (v : _) → Holds self.new v → Holds self.old v ⊎ (v ≡ value) }
+    {
+        if weight > self.most - self.weight {
+            return;
+        }
+        let Ok(mut cache) = cache_or_new(alloc, self.cache.take()) else {
+            return;
+        };
+        let Ok(_) = cache.put(number, (weight, value)) else {
+            self.cache = Some(cache);
+            return;
+        };
+        self.weight += weight;
+        self.cache = Some(cache);
+    }
+}
+
+/// Returns the cache, or an empty one if there is none. Fails if memory runs out.
+fn cache_or_new<V>(alloc: Global, cache: Option<Cache<V>>) -> Result<Cache<V>, AllocError>
+    ensures { IfOk result (λ made. made.entries ≡ option_map_or (λ old. old.entries) cache []) }
+{
+    match cache {
+        Some(cache) => Ok(cache),
+        None => LruCache::unbounded(alloc),
+    }
+}

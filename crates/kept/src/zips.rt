@@ -1,0 +1,133 @@
+//! Caches zips.
+
+ghost use Rattle.std.specs.Prelude.{◌≡◌, [], IfOk, IfSome, IsTrue, option_copied};
+ghost use Rattle.world.specs.World.{World, place};
+ghost use Rattle.kept.specs.Recent.{Holds};
+ghost use Rattle.kept.specs.Zips.{is_at, IsZipAt, IsSeenAt, AreZips};
+
+use crate::recent::Recent;
+use std::alloc::{AllocError, Global};
+use std::hash::{FoldHasher, Hasher};
+use world::bytes::Bytes;
+use world::entry::{MAX_ZIP, Place, Seen};
+
+/// The most that all zips weigh: 32 MiB, so that two of the largest are kept. A byte weighs one.
+/// The figure bounds the memory, not the answers: a zip that is not kept is read from the tables.
+const MOST_WEIGHT: usize = 2 * (MAX_ZIP + ZIP_WEIGHT);
+
+/// What a zip weighs beside its bytes: the names of its place, and its place among the others.
+const ZIP_WEIGHT: usize = 512;
+
+/// The zip of an entry, with the place where that stands.
+#[derive(Drop)]
+pub struct KeptZip {
+    pub(crate) place: Place,
+    pub(crate) zip: Bytes,
+}
+
+impl KeptZip {
+    /// Reports whether it is the zip of the entry at a place.
+    fn is_at(&self, shelf: &str, path: &str, version: &str) -> bool
+        ensures { result ≡ is_at (place shelf.now path.now version.now) self.now }
+    {
+        self.place.shelf.as_str() == shelf
+            && self.place.path.as_str() == path
+            && self.place.version.as_str() == version
+    }
+
+    /// Returns a copy of the zip of the entry at a place. Fails if memory runs out.
+    fn copy_of(
+        alloc: Global,
+        shelf: &str,
+        path: &str,
+        version: &str,
+        zip: &[u8],
+    ) -> Result<KeptZip, AllocError>
+        ensures { IfOk result (λ it. it ≡ record { place = place shelf.now path.now version.now; zip = zip.now }) }
+    {
+        Ok(KeptZip {
+            place: Place::new(alloc, shelf, path, version)?,
+            zip: Bytes::copy_of(alloc, zip)?,
+        })
+    }
+}
+
+/// Zips of entries. An entry never changes, so none is ever wrong. Where one more has no room, those that were asked
+/// longest ago go. A zip is found by where its entry stands, so all shelves that see the entry share it.
+pub type Zips = Recent<KeptZip>;
+
+impl Recent<KeptZip> {
+    /// Returns an empty cache, which takes no memory.
+    pub fn no_zips() -> Zips
+        ensures { result ≡ [] }
+    {
+        Recent::new(MOST_WEIGHT)
+    }
+
+    /// Returns a copy of the zip of the entry at a place, or None if it is not cached or memory runs out.
+    pub fn zip(&mut self, alloc: Global, shelf: &str, path: &str, version: &str) -> Option<Bytes>
+        ensures others { (it : _) → Holds self.new it → Holds self.old it }
+        ensures found { IfSome result (λ zip. (w : World) → AreZips w self.old
+            → IsZipAt w (place shelf.now path.now version.now) zip) }
+    {
+        self.promote(number_of(shelf, path, version));
+        let kept = self.kept_zip(shelf, path, version)?;
+        match Bytes::copy_of(alloc, kept.zip.as_slice()) {
+            Ok(copy) => Some(copy),
+            Err(_) => None,
+        }
+    }
+
+    /// Caches a copy of the zip of what is seen of a version, if anything is. If memory runs out, it is not cached.
+    pub fn keep_seen(&mut self, alloc: Global, path: &str, version: &str, seen: Option<&Seen>)
+        ensures { (w : World) → AreZips w self.old → IsSeenAt w path.now version.now (option_copied seen.entry)
+            → AreZips w self.new }
+    {
+        let Some(seen) = seen else {
+            return;
+        };
+        self.keep_copy_of(
+            alloc,
+            seen.shelf.as_str(),
+            path,
+            version,
+            seen.entry.zip.as_slice(),
+        );
+    }
+
+    /// Caches a copy of the zip of the entry at a place. It makes room before it copies, so all zips never take more than
+    /// their figure.
+    fn keep_copy_of(&mut self, alloc: Global, shelf: &str, path: &str, version: &str, zip: &[u8])
+        ensures { (w : World) → AreZips w self.old → IsZipAt w (place shelf.now path.now version.now) zip.now
+            → AreZips w self.new }
+    {
+        let weight = zip.len().saturating_add(ZIP_WEIGHT);
+        self.make_room(weight);
+        if let Ok(kept) = KeptZip::copy_of(alloc, shelf, path, version, zip) {
+            self.keep(alloc, number_of(shelf, path, version), weight, kept);
+        }
+    }
+
+    /// Returns the zip of the entry at a place, or None if it is not cached.
+    fn kept_zip(&self, shelf: &str, path: &str, version: &str) -> Option<&KeptZip>
+        ensures held { IfSome result (λ it. Holds self.now it.now) }
+        ensures place { IfSome result (λ it. IsTrue (is_at (place shelf.now path.now version.now) it.now)) }
+    {
+        let kept = self.get(number_of(shelf, path, version))?;
+        if kept.is_at(shelf, path, version) {
+            Some(kept)
+        } else {
+            None
+        }
+    }
+}
+
+/// Returns the number under which the zip of the entry at a place is cached. Two zips with one number replace each other, and
+/// a zip is told apart by its place.
+fn number_of(shelf: &str, path: &str, version: &str) -> u64 {
+    let mut hasher = FoldHasher::default();
+    hasher.write(shelf.as_bytes());
+    hasher.write(path.as_bytes());
+    hasher.write(version.as_bytes());
+    hasher.finish()
+}

@@ -1,0 +1,4 @@
+pub mod Shown
+pub mod Opened
+pub mod Extracted
+pub mod Parts

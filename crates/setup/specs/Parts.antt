@@ -1,0 +1,169 @@
+-- Copying some shelves of a store into a fresh store: those that some teams see, or all.
+use Rattle.std.specs.Prelude.{ℕ, ◌≡◌, ◌≢◌, List, [], ◌∷◌, ◌++◌, map as each, Bool, true, false, Option, Some, None, Result, Ok, Err, OnOk, OnErr, IsTrue}
+use Rattle.std.specs.FinMap as map
+use Rattle.sqlite.specs.State.{State, HasCleanDisk}
+use Rattle.sqlite.specs.Tree.{Trees}
+use Rattle.sqlite_rules.specs.Lists.{Has}
+use Rattle.tables.specs.Means.{Means, StandFor}
+use Rattle.statements.specs.Rows.{Filling, GoesOn}
+use Rattle.statements.specs.Extract.{OfWorlds, PutsShelf, CopiesKeys, CopiesVersions, CopiesPieces}
+use Rattle.statements.specs.Shelves.{names_of, added, AreShelves}
+use Rattle.statements.specs.declared.extract_rows.CopyError.{CopyError}
+use Rattle.statements.specs.declared.shelf_list.Shelf.{Shelf}
+use Rattle.world.specs.Part.{IsTeam, is_held}
+use Rattle.world.specs.Store.{Shown}
+use Rattle.world.specs.World.{World, IsWorld, common, chain, is_among, only_common}
+use Rattle.setup.specs.Extracted.{IsRead, IsUnfit}
+use Rattle.setup.specs.declared.choice.Wanted.{Wanted}
+use Rattle.setup.specs.declared.choice.Wanted.TheVariants as wanted
+use Rattle.setup.specs.declared.extract_judge.Judged.{Judged}
+use Rattle.setup.specs.declared.extract_judge.Judged.TheVariants as judged
+use Rattle.setup.specs.declared.extract_part.Rows.{Rows}
+use Rattle.setup.specs.declared.extract_part.Rows.TheVariants as rows
+use Rattle.setup.specs.declared.refusal.Refusal.{Refusal}
+use Rattle.setup.specs.declared.refusal.Refusal.TheVariants as refusal
+
+-- ---- some shelves of a world
+
+-- these shelves, each with its parent, their entries and their keys with their rights, and nothing else
+abbrev pub part_of : World → List (List ℕ) → World
+part_of w ss = record {
+  keys = map.retain_keys w.keys (λ k. is_held ss (map.get w.keys k));
+  shelves = map.retain_keys w.shelves (is_among ss);
+  entries = map.retain_keys w.entries (λ q. is_among ss q.shelf);
+}
+
+-- the shelves that any of these teams sees, and `common`
+abbrev pub chains : World → List (List ℕ) → List (List ℕ)
+chains w [] = common ∷ []
+chains w (t ∷ ts) = chain w t ++ chains w ts
+
+-- at least one name is given, and each is the name of a team
+abbrev pub AreTeams : World → List (List ℕ) → Type 0
+AreTeams w ts = (ts ≢ []) × ((t : List ℕ) → Has ts t → IsTeam w t)
+
+-- ---- the choice
+
+-- the list with the parent of a team, and then the team, added
+abbrev pub behind_parent : List Shelf → List ℕ → List ℕ → List Shelf
+behind_parent shelves parent t = added (added shelves (record { name = parent; parent = None })) (record { name = t; parent = Some parent })
+
+-- a team is added behind its parent; None: there is no such team
+abbrev pub AddsTeam : World → List ℕ → List Shelf → Option (List Shelf) → Type 0
+AddsTeam w t shelves None = ¬ IsTeam w t
+AddsTeam w t shelves (Some more) =
+    (parent : List ℕ) × (map.get w.shelves t ≡ Some (Some parent))
+    × (more ≡ behind_parent shelves parent t)
+
+-- these are shelves of the world, and their names, with `common`, are the names ss
+pub record AreOf (w : World) (ss : List (List ℕ)) (shelves : List Shelf) : Type 0 where
+  pub are : AreShelves w shelves
+  pub same : (s : List ℕ) → is_among (common ∷ names_of shelves) s ≡ is_among ss s
+
+-- these are the shelves that the teams see; None: no team is named, or a name is not a team's
+abbrev pub ListsTeams : World → List (List ℕ) → Option (List Shelf) → Type 0
+ListsTeams w ts None = ¬ AreTeams w ts
+ListsTeams w ts (Some shelves) = AreTeams w ts × AreOf w (chains w ts) shelves
+
+-- what is wanted exists: each wanted team does
+abbrev pub IsThere : World → Wanted → Type 0
+IsThere w (wanted.Teams ts) = AreTeams w (each (λ t. t.now) ts.now)
+IsThere w wanted.All = Unit {0}
+
+-- the names of the shelves that are wanted
+abbrev pub shelves_of : World → Wanted → List (List ℕ)
+shelves_of w (wanted.Teams ts) = chains w (each (λ t. t.now) ts.now)
+shelves_of w wanted.All = map.keys w.shelves
+
+-- the world of the shelves that are wanted
+abbrev pub what : Wanted → World → World
+what (wanted.Teams ts) w = part_of w (chains w (each (λ t. t.now) ts.now))
+what wanted.All w = w
+
+-- the shelves, with `common`, are those that are wanted; None: what is wanted does not exist
+abbrev pub Chooses : World → Wanted → Option (List Shelf) → Type 0
+Chooses w it None = ¬ IsThere w it
+Chooses w it (Some shelves) = IsThere w it × AreShelves w shelves × (part_of w (common ∷ names_of shelves) ≡ what it w)
+
+-- the verdict on copying wanted shelves of w into a store of x
+abbrev pub IsJudged : World → World → Wanted → Judged → Type 0
+IsJudged w x it (judged.Fit shelves) =
+    IsThere w it × AreShelves w shelves × (part_of w (common ∷ names_of shelves) ≡ what it w) × (x ≡ only_common)
+IsJudged w x it judged.NoTeam = ¬ IsThere w it
+IsJudged w x it judged.NotEmpty = IsThere w it × (x ≢ only_common)
+
+-- whether the shelves are to be written
+abbrev pub is_fit : Judged → Bool
+is_fit (judged.Fit shelves) = true
+is_fit judged.NoTeam = false
+is_fit judged.NotEmpty = false
+
+-- whether the shelves were written
+abbrev pub is_written : Result Judged CopyError → Bool
+is_written (Ok judged) = is_fit judged
+is_written (Err e) = false
+
+-- ---- the rows
+
+-- Rows are put into a fresh store inside a transaction of it. If the call is done, `Makes` relates the tables before and after.
+pub record Puts (Makes : Trees → Trees → Type 0) (fresh fresh_new : State) (done : Bool) : Type 0 where
+  pub goes_on : GoesOn fresh fresh_new done
+  pub makes : HasCleanDisk fresh_new → Filling fresh → IsTrue done → Makes fresh.now.trees fresh_new.now.trees × Filling fresh_new
+
+-- these shelves are put in, one after another
+abbrev pub PutsShelves : List Shelf → Trees → Trees → Type 0
+PutsShelves [] db after = db ≡ after
+PutsShelves (s ∷ shelves) db after = (mid : Trees) × PutsShelf s.name s.parent db mid × PutsShelves shelves mid after
+
+-- the rows of one kind of a shelf are put in, beside those that were there
+abbrev pub CopiesRows : Rows → List ℕ → Trees → Trees → Trees → Type 0
+CopiesRows rows.Keys shelf = OfWorlds (CopiesKeys shelf)
+CopiesRows rows.Versions shelf = CopiesVersions shelf
+CopiesRows rows.Pieces shelf = CopiesPieces shelf
+
+-- if the source means w, and the fresh tables stood for `common` alone, they come to mean w with only these shelves and `common`
+abbrev pub MakesPart : List Shelf → Trees → Trees → Trees → Type 0
+MakesPart shelves source db after =
+    (w : World) → Means source w → IsWorld w → AreShelves w shelves → StandFor db only_common → Means after (part_of w (common ∷ names_of shelves))
+
+-- ---- the calls `extract_teams` and `copy`
+
+-- What the result of copying shelves into a store of x says: it is done, or why it is refused, or memory ran out or a device failed.
+-- `NoTeam` comes before `NotEmpty`.
+abbrev pub Tells : Type 0 → World → Result (Unit {0}) Refusal → Type 0
+Tells There x (Ok u) = There × (x ≡ only_common)
+Tells There x (Err refusal.NoTeam) = ¬ There
+Tells There x (Err refusal.NotEmpty) = There × (x ≢ only_common)
+Tells There x (Err refusal.BadSchema) = ⊥
+Tells There x (Err refusal.Device) = Unit {0}
+Tells There x (Err refusal.Memory) = Unit {0}
+
+-- The fresh store stands for the next world if the call returns Ok, and for what it stood for otherwise. If a crash left only x, it
+-- leaves x or the next world, and only the next world once the call has returned Ok.
+pub record FillsAt (old new : Shown) (There : Type 0) (next x : World) (result : Result (Unit {0}) Refusal) : Type 0 where
+  pub tells : Tells There x result
+  pub ok : OnOk result (new.stands next)
+  pub err : OnErr result (new.stands x)
+  pub left : old.leaves x x → new.leaves x next
+  pub kept : old.leaves x x → OnOk result (new.leaves next next)
+
+-- For each world of the source and each of the fresh store, `FillsAt` holds, if the disks have returned what was written. The
+-- source is only read, and so is the fresh store if `IsUnfit` holds of the result.
+pub record FillsBy (There : World → Type 0) (next : World → World) (source source_new fresh fresh_new : Shown) (result : Result (Unit {0}) Refusal) : Type 0 where
+  pub reads : IsRead source source_new
+  pub honest : fresh_new.is_honest → fresh.is_honest
+  pub spares : IsUnfit result → IsRead fresh fresh_new
+  pub at :
+      source_new.is_honest → fresh_new.is_honest → (w x : World) → source.stands w → fresh.stands x
+      → FillsAt fresh fresh_new (There w) (next w) x result
+
+abbrev pub Fills : Wanted → Shown → Shown → Shown → Shown → Result (Unit {0}) Refusal → Type 0
+Fills it = FillsBy (λ w. IsThere w it) (what it)
+
+-- the part of these teams is put into a fresh store
+abbrev pub ExtractsTeams : List (List ℕ) → Shown → Shown → Shown → Shown → Result (Unit {0}) Refusal → Type 0
+ExtractsTeams ts = FillsBy (λ w. AreTeams w ts) (λ w. part_of w (chains w ts))
+
+-- the whole store is put into a fresh store
+abbrev pub CopiesAll : Shown → Shown → Shown → Shown → Result (Unit {0}) Refusal → Type 0
+CopiesAll = FillsBy (λ _. Unit {0}) (λ w. w)

@@ -1,0 +1,19 @@
+//! Sets up a store on a connection: finds or makes its tables, or fills them with shelves of another store.
+//!
+//! The crate `store` makes calls of a store of the calls here. Each call uses connections, and nothing that a store keeps.
+//!
+//! | call | what it calls |
+//! |---|---|
+//! | `adopt::open_tables` | `tables::fit::stand_for_world`, or `tables::create::create` if there are no tables |
+//! | `extract_judge::is_blank` | `statements::query::find_row` for a shelf other than `common`, a key and an entry |
+//! | `extract::extract_part` | `find_shelf` or `find_shelves` of `statements` and `is_blank`; then, in one transaction, `statements::extract_rows` |
+//!
+//! What contracts say of values holds if the disk has returned what was written.
+#![tactic(auto)]
+
+pub mod adopt;
+pub mod choice;
+pub mod extract;
+pub mod extract_judge;
+mod extract_part;
+pub mod refusal;

@@ -1,0 +1,34 @@
+//! Why a call that opens a store, or makes one from another, fails.
+
+ghost use Rattle.std.specs.Prelude.{◌≡◌, ◌≢◌};
+ghost use Rattle.setup.specs.Opened.{IsOfOpening};
+
+use sqlite::{Error, ErrorCode};
+
+/// Why a call that opens a store, copies one or a part of it, or migrates one, fails.
+#[derive(Clone, Copy, Debug, PartialEq, Eq)]
+pub enum Refusal {
+    /// A disk failed, the system or the name does not let a file be opened, the connection is closed, in a
+    /// transaction or limited in its steps, or a table has 2^64 rows, one for each rowid.
+    Device,
+    /// Memory ran out.
+    Memory,
+    /// The tables are not those of the schema (for a migration, not those of an older schema), or stand for no world.
+    BadSchema,
+    /// The fresh store has more than `common`: another shelf, a key or an entry.
+    NotEmpty,
+    /// There is no such team, or none is named. `common` and groups are no teams.
+    NoTeam,
+}
+
+/// Returns the refusal for tables that cannot be read or made: `Memory` if memory ran out, and otherwise `Device`.
+pub fn open_refusal(error: Error) -> Refusal
+    ensures named { result ≢ Refusal.BadSchema }
+    ensures opening { IsOfOpening result }
+    ensures memory { error ≡ Error.SqliteFailure ErrorCode.OutOfMemory → result ≡ Refusal.Memory }
+{
+    match error {
+        Error::SqliteFailure(ErrorCode::OutOfMemory) => Refusal::Memory,
+        _ => Refusal::Device,
+    }
+}

@@ -31,7 +31,7 @@ groups_still w s parent groups free are t g at =
 
 -- ---- what each shelf sees stays when a group is added
 
-none_there : {X : Type 0} (o : Option X) → is_some o ≡ false → o ≡ None
+pub none_there : {X : Type 0} (o : Option X) → is_some o ≡ false → o ≡ None
 none_there None e = refl
 none_there (Some x) e = absurd (true≢false e)
 

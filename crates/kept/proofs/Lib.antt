@@ -2,4 +2,6 @@ pub mod GroupLemmas
 pub mod RecentLemmas
 pub mod ListLemmas
 pub mod ZipLemmas
+pub mod HeadingLemmas
+pub mod KeyLemmas
 pub mod KeptLemmas

@@ -26,6 +26,23 @@ module _ {V : Type 0} where
   pub holds_none : (v : V) → Holds [] v → ⊥
   holds_none v h = Contains-nil h.0 h.1
 
+  -- ---- what is true of each value
+
+  module _ (P : V → Type 0) (old new : Held V) where
+    pub fewer_held : ((v : V) → Holds new v → Holds old v) → ((v : V) → Holds old v → P v) → (v : V) → Holds new v → P v
+    fewer_held among are v at = are v (among v at)
+
+    pub one_more_held : (it : V) → ((v : V) → Holds new v → Holds old v ⊎ (v ≡ it)) → ((v : V) → Holds old v → P v) → P it → (v : V) → Holds new v → P v
+    one_more_held it split are is v at = elim (split v at) [
+      | inl was ↦ are v was
+      | inr same ↦ subst P (sym same) is
+    ]
+
+  pub none_held : (P : V → Type 0) (held : Held V) → held ≡ [] → (v : V) → Holds held v → P v
+  none_held P held none v at = absurd (holds_none v (subst (λ l. Holds l v) none at))
+
+  -- ---- which values are found, taken and put
+
   pub holds_found : (test : ℕ → Bool) (es : Held V) (x : ℕ × V) → lookup test es ≡ Some x → Holds es x.1
   holds_found test es x found = let it = Contains-lookup test es x found in ((it.0, x), it.1, refl)
 

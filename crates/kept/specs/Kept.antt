@@ -4,14 +4,21 @@ use Rattle.std.specs.FinMap as map
 use Rattle.world.specs.World.{World}
 use Rattle.world.specs.Counts.{AreCounts}
 use Rattle.kept.specs.Groups.{AreGroups}
+use Rattle.kept.specs.Headings.{AreHeadings}
+use Rattle.kept.specs.Keys.{AreKeys}
 use Rattle.kept.specs.Lists.{AreLists}
 use Rattle.kept.specs.Zips.{AreZips}
 use Rattle.kept.specs.declared.kept.Kept.{Kept}
 
+-- what is cached of single versions and keys is true in the world
+abbrev pub AreFound : World → Kept → Type 0
+AreFound w kept = AreZips w kept.zips × AreHeadings w kept.headings × AreKeys w kept.keys
+
 -- all that is cached is true in the world
 abbrev pub AreKept : World → Kept → Type 0
-AreKept w kept = AreCounts w kept.counts × AreLists w kept.lists × AreGroups w kept.groups × AreZips w kept.zips
+AreKept w kept = AreCounts w kept.counts × AreLists w kept.lists × AreGroups w kept.groups × AreFound w kept
 
 -- nothing is cached
 abbrev pub IsNothing : Kept → Type 0
-IsNothing kept = (kept.counts ≡ map.empty) × (kept.lists ≡ []) × (kept.groups ≡ map.empty) × (kept.zips ≡ [])
+IsNothing kept =
+    (kept.counts ≡ map.empty) × (kept.lists ≡ []) × (kept.groups ≡ map.empty) × (kept.zips ≡ []) × (kept.headings ≡ []) × (kept.keys ≡ [])

@@ -2,4 +2,6 @@ pub mod Groups
 pub mod Recent
 pub mod Lists
 pub mod Zips
+pub mod Headings
+pub mod Keys
 pub mod Kept

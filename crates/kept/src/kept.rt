@@ -4,6 +4,8 @@ ghost use Rattle.std.specs.Prelude.{◌≡◌};
 ghost use Rattle.kept.specs.Kept.{IsNothing};
 
 use crate::groups::Groups;
+use crate::headings::Headings;
+use crate::keys::Keys;
 use crate::lists::Lists;
 use crate::zips::Zips;
 use std::alloc::Global;
@@ -17,6 +19,8 @@ pub struct Kept {
     pub lists: Lists,
     pub groups: Groups,
     pub zips: Zips,
+    pub headings: Headings,
+    pub keys: Keys,
 }
 
 impl Kept {
@@ -29,6 +33,8 @@ impl Kept {
             lists: Lists::no_lists(),
             groups: Groups::new(alloc),
             zips: Zips::no_zips(),
+            headings: Headings::no_headings(),
+            keys: Keys::no_keys(),
         }
     }
 }

@@ -5,13 +5,17 @@
 //! | `lists` | the versions of a path that a shelf sees, and the latest of them | the path gets a version, or a team is added |
 //! | `groups` | the group of a shelf, or that it has none | for good: the group of a shelf never changes |
 //! | `zips` | the zip of the entry at a place | for good: an entry never changes |
+//! | `headings` | what a shelf sees of a version, without its zip | any path gets a version, or a team is added |
+//! | `keys` | what a key holds | a key is revoked |
 //! | `kept` | all of them, and the counts of `world::counts` | |
 //!
 //! If memory runs out, less is kept.
 #![tactic(auto)]
 
 pub mod groups;
+pub mod headings;
 pub mod kept;
+pub mod keys;
 pub mod lists;
 pub mod recent;
 pub mod zips;

@@ -122,9 +122,9 @@ impl Recent<KeptZip> {
     }
 }
 
-/// Returns the number under which the zip of the entry at a place is cached. Two zips with one number replace each other, and
-/// a zip is told apart by its place.
-fn number_of(shelf: &str, path: &str, version: &str) -> u64 {
+/// Returns the number under which what is cached of a shelf and a version is found. Two with one number replace each other, and
+/// the names in each say whose it is.
+pub(crate) fn number_of(shelf: &str, path: &str, version: &str) -> u64 {
     let mut hasher = FoldHasher::default();
     hasher.write(shelf.as_bytes());
     hasher.write(path.as_bytes());

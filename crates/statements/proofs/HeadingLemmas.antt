@@ -20,9 +20,10 @@ use Rattle.world.specs.declared.entry.Place.{Place}
 use Rattle.world.specs.declared.entry.Entry.{Entry}
 use Rattle.world.specs.declared.entry.Seen.{Seen}
 use Rattle.world.specs.declared.entry.Heading.{Heading}
-use Rattle.world.specs.World.{World, place, seen_at, first_on, without_zip}
+use Rattle.world.specs.World.{World, place, seen_at, first_on}
 use Rattle.statements.specs.declared.entries.VersionRow.{VersionRow}
 use Rattle.tables.specs.Means.{Means, IsAt, ArePieces}
+use Rattle.outline.specs.Seen.{seen_heading}
 use Rattle.statements.specs.Reading.{IsRowOf, entry_with}
 use Rattle.statements.specs.Lookup.{lookup, passes, FirstFound}
 use Rattle.tables.proofs.ValueLemmas.{equals_text, equals_itself}
@@ -144,6 +145,6 @@ entry_of_row db seen row zip it zips =
     let whole : entry_with row.heading zip ≡ it.entry = λ i. record { gomod = mods i; zip = zips i; time = times i } in
     ap (λ (e : Entry). Some (record { shelf = row.shelf; entry = e })) whole ∙ sym it.is
 
--- the row alone is the heading that is seen
-pub heading_of_row : (db : Trees) (seen : Option Seen) (row : VersionRow) → IsRowOf db seen row → Some row.heading ≡ without_zip seen
-heading_of_row db seen row it = ap Some it.heading ∙ sym (ap without_zip it.is)
+-- the row alone is what is seen without the zip
+pub seen_of_row : (db : Trees) (seen : Option Seen) (row : VersionRow) → IsRowOf db seen row → Some (record { shelf = row.shelf; heading = row.heading }) ≡ seen_heading seen
+seen_of_row db seen row it = ap (λ (h : Heading). Some (record { shelf = row.shelf; heading = h })) it.heading ∙ sym (ap seen_heading it.is)

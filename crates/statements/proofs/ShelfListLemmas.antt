@@ -1,9 +1,9 @@
 -- Lists of shelves, no two of one name, and those that rows show.
 use Rattle.std.proofs.Common.{◌≡◌, ◌⊎◌, ℕ, Bool, true, false, cond, List, [], ◌∷◌, ◌++◌, Option, Some, None, ◌+◌, ◌<◌, length, take, get_or, inl, inr, refl, sym, ap, subst, subst₂, ◌∙◌, true≢false, is_some}
-use Rattle.std.specs.Prelude.{map as each, bytes_eq, ◌||◌}
+use Rattle.std.specs.Prelude.{bytes_eq, ◌||◌}
 use Rattle.std.specs.FinMap as map
 use Rattle.std.specs.FinSet as set
-use Rattle.std.proofs.lemmas.Bool.{cases_Bool, or_left, or_right, or_cases}
+use Rattle.std.proofs.lemmas.Bool.{or_right}
 use Rattle.std.proofs.lemmas.Map.Text.{is_eq-slice_cmp}
 use Rattle.std.proofs.lemmas.List.{take_more}
 use Rattle.sqlite_rules.specs.Lists.{Has}

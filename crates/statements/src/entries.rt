@@ -9,7 +9,8 @@ ghost use Rattle.sqlite.specs.Held.{state};
 ghost use Rattle.sqlite.specs.State.{KeepsCommit, Survives};
 ghost use Rattle.sqlite_trees.specs.View.{doubt};
 ghost use Rattle.modver.specs.SemanticVersion.{version_text};
-ghost use Rattle.world.specs.World.{place, first_on, without_zip, count, with_entry};
+ghost use Rattle.world.specs.World.{place, first_on, count, with_entry};
+ghost use Rattle.outline.specs.Seen.{seen_heading};
 ghost use Rattle.tables.specs.Schema.{version_table};
 ghost use Rattle.tables.specs.Means.{StandsFor};
 ghost use Rattle.tables.specs.Inserted.{Inserted};
@@ -25,6 +26,7 @@ use crate::pieces::{find_zip, insert_zip};
 use crate::query::find_row;
 use crate::transaction::commit_if;
 use modver::{TimeText, Version, read_time};
+use outline::seen::SeenHeading;
 use sqlite::{Alter, Connection, Error, ErrorCode, Row, Transaction, params};
 use std::alloc::Global;
 use text::Text;
@@ -149,21 +151,24 @@ pub fn find_entry<S: Alter>(
     }))
 }
 
-/// Returns the go.mod and the time of a version on the first of these shelves that has it, or None if none has.
+/// Returns what is seen of a version on the first of these shelves that has it, without its zip, or None if none has.
 /// It does not read the zip: up to 16 MiB of rows would push out the pages that the database keeps in memory.
-pub fn find_heading<S: Alter>(
+pub fn find_seen<S: Alter>(
     conn: &mut Connection<S>,
     shelves: &[&str],
     path: &str,
     version: &str,
-) -> Result<Option<Heading>, Error>
+) -> Result<Option<SeenHeading>, Error>
     ensures spares { Spares (state S.Store conn.old) (state S.Store conn.new) }
     ensures answer { InEachWorld (state S.Store conn.old) (state S.Store conn.new) (λ _ _ w.
         IfOk result (λ found. found
-        ≡ without_zip (first_on w (each (λ shelf. shelf.now) shelves.now) path.now version.now))) }
+        ≡ seen_heading (first_on w (each (λ shelf. shelf.now) shelves.now) path.now version.now))) }
 {
     match row_seen(conn, shelves, path, version)? {
-        Some(row) => Ok(Some(row.heading)),
+        Some(row) => Ok(Some(SeenHeading {
+            shelf: row.shelf,
+            heading: row.heading,
+        })),
         None => Ok(None),
     }
 }

@@ -12,10 +12,10 @@
 //! | `registry::find_key` | read the row of `access` that has the key |
 //! | `registry::find_shelf` | read the row of `shelf` that has the name |
 //! | `shelves::find_shelves` | read all rows of `shelf` |
-//! | `entries::find_heading` | read the row of `version` on each shelf in turn, up to the first that has one, and no row of `piece` |
-//! | `outlines::find_outline` | those of `find_heading`, then read the last row of `piece`, and look for one more behind a full one |
-//! | `entries::find_entry` | those of `find_heading`, then read the last row of `piece` of the version, then all in order |
-//! | `compare::find_standing` | those of `find_heading`; if it is equal, read rows of `piece` by number, up to the first that differs |
+//! | `entries::find_seen` | read the row of `version` on each shelf in turn, up to the first that has one, and no row of `piece` |
+//! | `outlines::find_outline` | those of `find_seen`, then read the last row of `piece`, and look for one more behind a full one |
+//! | `entries::find_entry` | those of `find_seen`, then read the last row of `piece` of the version, then all in order |
+//! | `compare::find_standing` | those of `find_seen`; if it is equal, read rows of `piece` by number, up to the first that differs |
 //! | `visible::find_versions`, `find_paths` | read rows of `version` on each shelf in turn |
 //! | `entries::count_entries` | count the rows of `version` that the path has on the shelf |
 //! | `entries::add_entry` | choose a number (see the module `numbers`), then in one transaction write the rows of the entry |

@@ -10,15 +10,20 @@ use Rattle.world.specs.Store.{Shown, Does, DoesWhere, DoesAt, Reads}
 use Rattle.world.specs.declared.registry.Registered.{Registered}
 use Rattle.world.specs.declared.registry.Registered.TheVariants.{Done, Name, Taken, NoTeam, NoKey, NoGroup}
 use Rattle.world.specs.declared.entry.Right.{Right}
-use Rattle.world.specs.Registry.{team_added, group_added, after_team_add, after_group_add, after_key_add, after_key_revoke}
+use Rattle.world.specs.Registry.{team_added, group_added, key_added, after_team_add, after_group_add, after_key_add, after_key_revoke}
 use Rattle.world.proofs.Sound.{new_team, new_group}
 use Rattle.tables.specs.Means.{Stands, StandsFor}
 use Rattle.statements.specs.Calls.{Spares, LeavesOnly, ChangesAt}
 use Rattle.store.specs.Shown.{LeavesEither, shown_with}
 use Rattle.kept.specs.declared.kept.Kept.{Kept}
 use Rattle.kept.specs.Kept.{AreKept}
+use Rattle.kept.specs.declared.headings.KeptHeading.{KeptHeading}
+use Rattle.kept.specs.declared.keys.KeptKey.{KeptKey}
 use Rattle.kept.proofs.GroupLemmas.{groups_still}
+use Rattle.kept.proofs.HeadingLemmas.{headings_still}
 use Rattle.kept.proofs.ListLemmas.{Kept as Lists, no_lists, lists_still}
+use Rattle.kept.proofs.KeyLemmas.{keys_still}
+use Rattle.kept.proofs.RecentLemmas.{Held, none_held}
 use Rattle.tables.proofs.FailureLemmas.{was_clean}
 
 pub narrow : (s : State) (w : World) → LeavesEither s w w → LeavesOnly s (λ x. x ≡ w)
@@ -88,6 +93,14 @@ reads_then start new kept after r value read right = record {
   at = λ clean w stands. let told = read.at clean w stands in record { answer = told.answer; stays = (told.stays.0, right clean w stands told.stays.1); left = told.left };
 }
 
+-- what is made of a value that was read
+pub reads_as : {T U : Type 0} (start end : Shown) (f : T → U) (x : T) (y : U) (value : World → T) (other : World → U) → y ≡ f x → ((w : World) → f (value w) ≡ other w)
+    → Reads start end (Ok x) value → Reads start end (Ok y) other
+reads_as start end f x y value other made same read = record {
+  honest = read.honest;
+  at = λ clean w stands. let told = read.at clean w stands in record { answer = made ∙ (ap f told.answer ∙ same w); stays = told.stays; left = told.left };
+}
+
 -- if a read on the way fails, the whole read fails
 pub reads_failed : {T U : Type 0} (start end : Shown) (r : Result T StoreFault) (s : Result U StoreFault) (value : World → T) (other : World → U) → IsErr s → Reads start end r value → Reads start end s other
 reads_failed start end r s value other failed read = record {
@@ -138,17 +151,19 @@ refused old kept x value next same = record {
   };
 }
 
--- ---- the commands of the registry leave the cache as it is, except for the lists of versions when a team is added
+-- ---- the commands of the registry leave the cache as it is, except for lists and headings when a team is added, and for keys when one is revoked
 
 module _ (w : World) (kept : Kept) (right : AreKept w kept) where
-  module _ (lists : Lists) (none : lists ≡ []) where
-    pub kept_but_lists : AreKept w (record kept { lists = lists })
-    kept_but_lists = (right.0, no_lists w lists none, right.2, right.3)
+  module _ (lists : Lists) (headings : Held KeptHeading) (none : lists ≡ []) (none_too : headings ≡ []) where
+    pub kept_but_lists : AreKept w (record kept { lists = lists; headings = headings })
+    kept_but_lists = (right.0, no_lists w lists none, right.2, (right.3.0, none_held _ headings none_too, right.3.2))
 
-    kept_with_shelf : (s : List ℕ) (parent : Option (List ℕ)) → map.contains_key w.shelves s ≡ false → AreKept (with_shelf w s parent) (record kept { lists = lists })
-    kept_with_shelf s parent free = (right.0, no_lists (with_shelf w s parent) lists none, groups_still w s parent kept.groups free right.2, right.3)
+    kept_with_shelf : (s : List ℕ) (parent : Option (List ℕ)) → map.contains_key w.shelves s ≡ false → AreKept (with_shelf w s parent) (record kept { lists = lists; headings = headings })
+    kept_with_shelf s parent free =
+        (right.0, no_lists (with_shelf w s parent) lists none, groups_still w s parent kept.groups free right.2, (right.3.0, none_held _ headings none_too, right.3.2))
 
-    pub kept_after_team : (name : List ℕ) (group : Option (List ℕ)) (r : Registered) → team_added w name group ≡ r → AreKept (after_team_add w name group r) (record kept { lists = lists })
+    pub kept_after_team : (name : List ℕ) (group : Option (List ℕ)) (r : Registered) → team_added w name group ≡ r
+        → AreKept (after_team_add w name group r) (record kept { lists = lists; headings = headings })
     kept_after_team name group Done is = kept_with_shelf name _ (new_team w name group is).1
     kept_after_team name group Name is = kept_but_lists
     kept_after_team name group Taken is = kept_but_lists
@@ -158,26 +173,34 @@ module _ (w : World) (kept : Kept) (right : AreKept w kept) where
 
   pub kept_after_group : (name : List ℕ) (r : Registered) → group_added w name ≡ r → AreKept (after_group_add w name r) kept
   kept_after_group name Done is =
-      let free = (new_group w name is).1 in
-      (right.0, lists_still w name free kept.lists right.1, groups_still w name None kept.groups free right.2, right.3)
+      let free = (new_group w name is).1 in (
+        right.0,
+        lists_still w name free kept.lists right.1,
+        groups_still w name None kept.groups free right.2,
+        (right.3.0, headings_still w name free kept.headings right.3.1, right.3.2),
+      )
   kept_after_group name Name is = right
   kept_after_group name Taken is = right
   kept_after_group name NoTeam is = right
   kept_after_group name NoKey is = right
   kept_after_group name NoGroup is = right
 
-  pub kept_after_key : (shelf key : List ℕ) (may : Right) (r : Registered) → AreKept (after_key_add w shelf key may r) kept
-  kept_after_key shelf key may Done = right
-  kept_after_key shelf key may Name = right
-  kept_after_key shelf key may Taken = right
-  kept_after_key shelf key may NoTeam = right
-  kept_after_key shelf key may NoKey = right
-  kept_after_key shelf key may NoGroup = right
+  pub kept_after_key : (shelf key : List ℕ) (may : Right) (r : Registered) → key_added w shelf key ≡ r → AreKept (after_key_add w shelf key may r) kept
+  kept_after_key shelf key may Done is = (right.0, right.1, right.2, (right.3.0, right.3.1, keys_still w shelf key _ is kept.keys right.3.2))
+  kept_after_key shelf key may Name is = right
+  kept_after_key shelf key may Taken is = right
+  kept_after_key shelf key may NoTeam is = right
+  kept_after_key shelf key may NoKey is = right
+  kept_after_key shelf key may NoGroup is = right
 
-  pub kept_after_revoke : (key : List ℕ) (r : Registered) → AreKept (after_key_revoke w key r) kept
-  kept_after_revoke key Done = right
-  kept_after_revoke key Name = right
-  kept_after_revoke key Taken = right
-  kept_after_revoke key NoTeam = right
-  kept_after_revoke key NoKey = right
-  kept_after_revoke key NoGroup = right
+  module _ (keys : Held KeptKey) (none : keys ≡ []) where
+    pub kept_but_keys : AreKept w (record kept { keys = keys })
+    kept_but_keys = (right.0, right.1, right.2, (right.3.0, right.3.1, none_held _ keys none))
+
+    pub kept_after_revoke : (key : List ℕ) (r : Registered) → AreKept (after_key_revoke w key r) (record kept { keys = keys })
+    kept_after_revoke key Done = (right.0, right.1, right.2, (right.3.0, right.3.1, none_held _ keys none))
+    kept_after_revoke key Name = kept_but_keys
+    kept_after_revoke key Taken = kept_but_keys
+    kept_after_revoke key NoTeam = kept_but_keys
+    kept_after_revoke key NoKey = kept_but_keys
+    kept_after_revoke key NoGroup = kept_but_keys

@@ -6,4 +6,3 @@ pub mod Shown
 pub mod Restart
 pub mod Migrated
 pub mod Older
-pub mod Seen

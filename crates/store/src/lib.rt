@@ -11,9 +11,9 @@
 //! | call | what it calls |
 //! |---|---|
 //! | `adopt` | `setup::adopt::open_tables` |
-//! | `key` | `statements::registry::find_key` |
-//! | `entry` | `find_heading` along the chain, and the cached zip; without one, `find_entry`, whose zip is then cached |
-//! | `heading` | `statements::entries::find_heading`, along the chain |
+//! | `key` | `statements::registry::find_key`; then cached until a key is revoked |
+//! | `entry` | what `heading` is made of, and the cached zip; without one, `find_entry`, whose zip is then cached |
+//! | `heading` | `statements::entries::find_seen`, along the chain; cached until a version or a team is added |
 //! | `outline` | `statements::outlines::find_outline`, along the chain |
 //! | `compare` | `statements::compare::find_standing`, along the chain |
 //! | `versions` | `statements::visible::find_versions`, along the chain; cached until the path gets a version or a team is added |

@@ -8,24 +8,27 @@ ghost use Rattle.world.specs.Versions.{versions_of};
 ghost use Rattle.world.specs.World.{group_of, view};
 ghost use Rattle.store.specs.Shown.{shown_with};
 ghost use Rattle.kept.specs.Kept.{IsNothing};
-ghost use Rattle.store.specs.Seen.{seen_heading};
+ghost use Rattle.outline.specs.Seen.{seen_heading};
 ghost use Rattle.tables.specs.Calls.{Honestly};
 ghost use Rattle.tables.specs.Causes.{IsHindered, IsVast};
 ghost use Rattle.setup.specs.Opened.{Opens, IsBad, LeavesFirst, IsOfOpening};
 
 use crate::chain::Chain;
-use crate::seen::{SeenHeading, find_seen, with_zip};
+use crate::seen::{heading_in, with_zip};
 use kept::groups::{copied, group_in};
+use kept::headings::Headings;
 use kept::kept::Kept;
+use kept::keys::Keys;
 use kept::lists::Lists;
 use modpath::ModulePath;
 use modver::Version;
 use outline::outlines::{Outline, Outlines};
+use outline::seen::SeenHeading;
 use setup::adopt::open_tables;
 use setup::refusal::Refusal;
 use sqlite::{Alter, Connection, Error, ErrorCode};
 use statements::compare::find_standing;
-use statements::entries::{add_entry, count_entries, find_entry, find_heading};
+use statements::entries::{add_entry, count_entries, find_entry, find_seen};
 use statements::outlines::find_outline;
 use statements::registry::{add_group, add_key, add_team, find_key, find_shelf};
 use statements::revoke::revoke_key;
@@ -44,7 +47,7 @@ use world::versions::{highest, latest_left};
 
 /// Shelves whose entries and keys are rows of SQL tables.
 /// Once a fault has shut the connection, the store stands for every world that agrees with what it keeps, and answers
-/// errors, kept counts and kept lists alone.
+/// errors and what it keeps alone.
 #[derive(Drop)]
 pub struct SqlShelves<S: Alter> {
     pub(crate) conn: Connection<S>,
@@ -83,8 +86,14 @@ impl<S: Alter> Shelves for SqlShelves<S> {
     }
 
     fn key(&mut self, key: &str) -> Result<Option<Holder>, StoreFault> {
+        if let Some(holder) = self.kept.keys.holder(self.alloc, key) {
+            return Ok(Some(holder));
+        }
         match find_key(&mut self.conn, key) {
-            Ok(found) => Ok(found),
+            Ok(found) => {
+                self.kept.keys.keep_holder(self.alloc, key, found.as_ref());
+                Ok(found)
+            }
             Err(error) => Err(fault(&mut self.failures, error)),
         }
     }
@@ -117,17 +126,8 @@ impl<S: Alter> Shelves for SqlShelves<S> {
         path: &ModulePath,
         version: &Version,
     ) -> Result<Option<Heading>, StoreFault> {
-        let group = self.group_of(shelf)?;
-        let chain = Chain::new(shelf, group.as_ref());
-        match find_heading(
-            &mut self.conn,
-            chain.as_slice(),
-            path.as_str(),
-            version.as_str(),
-        ) {
-            Ok(found) => Ok(found),
-            Err(error) => Err(fault(&mut self.failures, error)),
-        }
+        let seen = self.seen(shelf, path.as_str(), version.as_str())?;
+        Ok(heading_in(seen))
     }
 
     fn compare(
@@ -221,6 +221,7 @@ impl<S: Alter> Shelves for SqlShelves<S> {
             Ok(()) => {
                 self.kept.counts.raise(self.alloc, shelf, path.as_str());
                 self.kept.lists.forget(self.alloc, path.as_str());
+                self.kept.headings = Headings::no_headings(); // The entry can hide another from its shelf.
                 Ok(())
             }
             Err(error) => Err(fault(&mut self.failures, error)),
@@ -231,8 +232,9 @@ impl<S: Alter> Shelves for SqlShelves<S> {
         if !is_team_name(name) {
             return Ok(Registered::Name);
         }
-        // A list that was asked of this name before lacks what the group of the team has.
+        // What was asked of this name before lacks what the group of the team has.
         self.kept.lists = Lists::no_lists();
+        self.kept.headings = Headings::no_headings();
         match add_team(&mut self.conn, name, group) {
             Ok(registered) => Ok(registered),
             Err(error) => Err(fault(&mut self.failures, error)),
@@ -260,6 +262,7 @@ impl<S: Alter> Shelves for SqlShelves<S> {
     }
 
     fn key_revoke(&mut self, key: &str) -> Result<Registered, StoreFault> {
+        self.kept.keys = Keys::no_keys();
         match revoke_key(&mut self.conn, key) {
             Ok(registered) => Ok(registered),
             Err(error) => Err(fault(&mut self.failures, error)),
@@ -354,7 +357,8 @@ impl<S: Alter> SqlShelves<S> {
         }
     }
 
-    /// What a shelf sees of a version without its zip, with the shelf that its entry stands on. Queries the tables.
+    /// Returns what a shelf sees of a version without its zip, with the shelf that its entry stands on. Takes what is cached if there
+    /// is one, and queries the tables otherwise.
     fn seen(
         &mut self,
         shelf: &str,
@@ -365,10 +369,18 @@ impl<S: Alter> SqlShelves<S> {
             (shown_with (state S.Store self.new.conn) self.new.kept) result (λ w. seen_heading (view w shelf.now path.now version.now)) }
         ensures cause { HasCause self.old.failures self.new.failures result }
     {
+        if let Some(seen) = self.kept.headings.seen(self.alloc, shelf, path, version) {
+            return Ok(Some(seen));
+        }
         let group = self.group_of(shelf)?;
         let chain = Chain::new(shelf, group.as_ref());
-        match find_seen(self.alloc, &mut self.conn, chain.as_slice(), path, version) {
-            Ok(seen) => Ok(seen),
+        match find_seen(&mut self.conn, chain.as_slice(), path, version) {
+            Ok(seen) => {
+                self.kept
+                    .headings
+                    .keep_seen(self.alloc, shelf, path, version, seen.as_ref());
+                Ok(seen)
+            }
             Err(error) => Err(fault(&mut self.failures, error)),
         }
     }

@@ -32,8 +32,8 @@ returns-in-Some-zip-clause-reads g c =
           let told = read.at h w stands in
           let right = told.stays.1 in
           record {
-            answer = ap Some c.with_zip.ensures ∙ whole w (chain w s) p v c.in-Some.seen c.in-Some-zip.zip (sym c.in-Some.is ∙ told.answer) (zip w right.3);
-            stays = (told.stays.0, (right.0, right.1, right.2, fewer_zips w c.seen.new.self.kept.zips c.zip.new.self c.zip.ensures.others right.3));
+            answer = ap Some c.with_zip.ensures ∙ whole w (chain w s) p v c.in-Some.seen c.in-Some-zip.zip (sym c.in-Some.is ∙ told.answer) (zip w right.3.0);
+            stays = (told.stays.0, (right.0, right.1, right.2, (fewer_zips w c.seen.new.self.kept.zips c.zip.new.self c.zip.ensures.others right.3.0, right.3.1, right.3.2)));
             left = told.left;
           };
     }
@@ -51,11 +51,11 @@ returns-clause-reads g c =
       at = λ h w stands.
           let told = read.at (then.honest h) w stands in
           let right = told.stays.1 in
-          let more = then.at h w (told.stays.0, (right.0, right.1, right.2, fewer_zips w c.seen.new.self.kept.zips c.zip.new.self c.zip.ensures.others right.3)) in
+          let more = then.at h w (told.stays.0, (right.0, right.1, right.2, (fewer_zips w c.seen.new.self.kept.zips c.zip.new.self c.zip.ensures.others right.3.0, right.3.1, right.3.2))) in
           let after = more.stays.1 in
           record {
             answer = more.answer;
-            stays = (more.stays.0, (after.0, after.1, after.2, kept w after.3 (stands_on w (chain w s) p v c.in_ok-found.found (sym more.answer))));
+            stays = (more.stays.0, (after.0, after.1, after.2, (kept w after.3.0 (stands_on w (chain w s) p v c.in_ok-found.found (sym more.answer)), after.3.1, after.3.2)));
             left = λ x y was. more.left x y (told.left x y was);
           };
     }
@@ -69,6 +69,6 @@ returns-in_err-found-clause-reads g c =
       at = λ h w stands.
           let told = read.at (then.honest h) w stands in
           let right = told.stays.1 in
-          let more = then.at h w (told.stays.0, (right.0, right.1, right.2, fewer_zips w c.seen.new.self.kept.zips c.zip.new.self c.zip.ensures.others right.3)) in
+          let more = then.at h w (told.stays.0, (right.0, right.1, right.2, (fewer_zips w c.seen.new.self.kept.zips c.zip.new.self c.zip.ensures.others right.3.0, right.3.1, right.3.2))) in
           record { answer = search rules; stays = more.stays; left = λ x y was. more.left x y (told.left x y was) };
     }

@@ -1,22 +1,16 @@
-use Rattle.std.proofs.Common.{◌≡◌, ◌∷◌, map, Ok, Err, rules}
-use Rattle.sqlite.specs.Held.{state}
+use Rattle.std.specs.Prelude.{option_map}
 use Rattle.modver.specs.SemanticVersion.{version_text}
-use Rattle.world.specs.World.{above, first_on, without_zip}
-use Rattle.store.proofs.StoreLemmas.{reads_along, reads_failed}
+use Rattle.world.specs.World.{view}
+use Rattle.outline.specs.declared.seen.SeenHeading.{SeenHeading}
+use Rattle.store.proofs.SeenLemmas.{heading_seen}
+use Rattle.store.proofs.StoreLemmas.{reads_as, reads_failed}
 use Rattle.store.proofs.store.SqlShelvesShelves.heading.Goals as goal
-
-pub returns-in-Ok-clause-reads : goal.returns-in-Ok-clause-reads
-returns-in-Ok-clause-reads g c =
-    let along : map (λ s. s.now) c.as_slice.result.now ≡ c.args.shelf.now ∷ above c.in_ok-group.group = search rules in
-    let answer = rw (c.as_str.ensures.value, c.as_str-2.ensures.value) at c.in-Ok.ensures.answer in
-    reads_along _ (state g.S.Store c.group_of.new.self.conn) (state g.S.Store c.find_heading.new.conn) c.group_of.new.self.kept c.args.shelf.now _ _ (Ok c.in-Ok.found) (λ w ss. without_zip (first_on w ss c.args.path.now (version_text c.args.version.now)))
-    along c.in_ok-group.ensures.reads c.find_heading.ensures.spares answer
 
 pub returns-clause-reads : goal.returns-clause-reads
 returns-clause-reads g c =
-    let along : map (λ s. s.now) c.as_slice.result.now ≡ c.args.shelf.now ∷ above c.in_ok-group.group = search rules in
-    reads_along _ (state g.S.Store c.group_of.new.self.conn) (state g.S.Store c.find_heading.new.conn) c.group_of.new.self.kept c.args.shelf.now _ _ (Err c.fault.result) (λ w ss. without_zip (first_on w ss c.args.path.now (version_text c.args.version.now)))
-    along c.in_ok-group.ensures.reads c.find_heading.ensures.spares (λ _ _ _. tt)
+    let read = rw (c.as_str.ensures.value, c.as_str-2.ensures.value) at c.in_ok-seen.ensures.reads in
+    reads_as _ _ (option_map (λ (it : SeenHeading). it.heading)) c.in_ok-seen.seen c.heading_in.result _ _ c.heading_in.ensures
+    (λ w. heading_seen (view w c.args.shelf.now c.args.path.now (version_text c.args.version.now))) read
 
-pub returns-in_err-group-clause-reads : goal.returns-in_err-group-clause-reads
-returns-in_err-group-clause-reads g c = reads_failed _ _ _ c.from_residual.result _ _ c.from_residual.ensures.0 c.in_err-group.ensures.reads
+pub returns-in_err-seen-clause-reads : goal.returns-in_err-seen-clause-reads
+returns-in_err-seen-clause-reads g c = reads_failed _ _ _ c.from_residual.result _ _ c.from_residual.ensures.0 c.in_err-seen.ensures.reads

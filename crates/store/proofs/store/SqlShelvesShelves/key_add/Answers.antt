@@ -20,7 +20,7 @@ pub returns-in-Ok-clause-does : goal.returns-in-Ok-clause-does
 returns-in-Ok-clause-does g c =
     changes (state g.S.Store c.args.self.now.conn) (state g.S.Store c.add_key.new.conn) c.args.self.now.kept c.args.self.now.kept (Ok c.in-Ok.registered) _ _ _ c.add_key.ensures.changes.clean
     (λ clean w stands _. (c.in-Ok.ensures.answer clean w stands.0, c.in-Ok.ensures.changes.at w, sound_key w c.args.shelf.now c.args.key.now c.args.right _ stands.1 refl))
-    (λ w _ right. kept_after_key w _ right c.args.shelf.now c.args.key.now c.args.right _)
+    (λ w _ right. kept_after_key w _ right c.args.shelf.now c.args.key.now c.args.right _ refl)
 
 pub returns-in-Err-clause-does : goal.returns-in-Err-clause-does
 returns-in-Err-clause-does g c =

@@ -1,0 +1,94 @@
+//! Caches what keys hold.
+
+ghost use Rattle.std.specs.Prelude.{◌≡◌, [], Some, bytes_eq, IfOk, IfSome, IsTrue, option_copied};
+ghost use Rattle.std.specs.FinMap as map;
+ghost use Rattle.world.specs.World.{World};
+ghost use Rattle.kept.specs.Keys.{AreKeys};
+ghost use Rattle.kept.specs.Recent.{Holds};
+
+use crate::recent::Recent;
+use std::alloc::{AllocError, Global};
+use std::hash::{FoldHasher, Hasher};
+use text::Text;
+use world::entry::Holder;
+
+/// The most keys that are cached. Each takes about 300 bytes.
+/// The figure bounds the memory, not the answers: what another key holds is queried each time.
+const MOST_KEYS: usize = 8_192;
+
+/// A key with what it holds.
+#[derive(Drop)]
+pub struct KeptKey {
+    pub(crate) key: Text,
+    pub(crate) holder: Holder,
+}
+
+/// Cached keys. If one more has no room, the key that was used longest ago goes.
+pub type Keys = Recent<KeptKey>;
+
+impl Recent<KeptKey> {
+    /// Returns an empty cache, which takes no memory.
+    pub fn no_keys() -> Keys
+        ensures { result ≡ [] }
+    {
+        Recent::new(MOST_KEYS)
+    }
+
+    /// Returns a copy of what a key holds, or None if it is not cached or memory runs out.
+    pub fn holder(&mut self, alloc: Global, key: &str) -> Option<Holder>
+        ensures others { (it : _) → Holds self.new it → Holds self.old it }
+        ensures found { IfSome result (λ holder. (w : World) → AreKeys w self.old → map.get w.keys key.now ≡ Some holder) }
+    {
+        self.promote(number_of(key));
+        let kept = self.kept_key(key)?;
+        match kept.holder.copy(alloc) {
+            Ok(copy) => Some(copy),
+            Err(_) => None,
+        }
+    }
+
+    /// Caches a copy of what a key holds, if the key exists. If memory runs out, it is not cached.
+    pub fn keep_holder(&mut self, alloc: Global, key: &str, holder: Option<&Holder>)
+        ensures { (w : World) → AreKeys w self.old → map.get w.keys key.now ≡ option_copied holder.entry → AreKeys w self.new }
+    {
+        let Some(holder) = holder else {
+            return;
+        };
+        if let Ok(kept) = KeptKey::copy_of(alloc, key, holder) {
+            self.keep(alloc, number_of(key), 1, kept);
+        }
+    }
+
+    /// Returns the key with what it holds, or None if it is not cached.
+    fn kept_key(&self, key: &str) -> Option<&KeptKey>
+        ensures held { IfSome result (λ it. Holds self.now it.now) }
+        ensures name { IfSome result (λ it. IsTrue (bytes_eq it.now.key key.now)) }
+    {
+        let kept = self.get(number_of(key))?;
+        if kept.key.as_str() == key {
+            Some(kept)
+        } else {
+            None
+        }
+    }
+}
+
+impl KeptKey {
+    /// Returns a key with a copy of what it holds. Fails if memory runs out.
+    fn copy_of(alloc: Global, key: &str, holder: &Holder) -> Result<KeptKey, AllocError>
+        ensures { IfOk result (λ it. it ≡ record { key = key.now; holder = holder.now }) }
+    {
+        Ok(KeptKey {
+            key: Text::copy_of(alloc, key)?,
+            holder: holder.copy(alloc)?,
+        })
+    }
+}
+
+/// Returns the number under which a key is cached. Two keys with one number replace each other, and the text in a cached key says
+/// which one it is.
+fn number_of(key: &str) -> u64 {
+    let mut hasher = FoldHasher::default();
+    hasher.write(key.as_bytes());
+    hasher.finish()
+}

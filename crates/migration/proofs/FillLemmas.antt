@@ -5,9 +5,9 @@ use Rattle.world.specs.World.{only_common}
 use Rattle.tables.specs.Means.{StandFor}
 use Rattle.statements.specs.Extract.{Then}
 use Rattle.older.specs.declared.schema.Format.{Format}
-use Rattle.older.specs.declared.schema.Format.TheVariants.{One}
-use Rattle.migration.specs.Filled.{PutsEntries, PutsZips, Fills, HasEntries}
-use Rattle.migration.specs.Registry.{IsNamed, PutsShelves, PutsKeys}
+use Rattle.migration.specs.Filled.{Fills}
+use Rattle.older_rows.specs.Entered.{PutsEntries, PutsZips}
+use Rattle.older_rows.specs.Registry.{IsNamed, PutsShelves, PutsKeys}
 
 -- `meta`, then the shelves, the keys, the versions and the zips
 abbrev pub InTurn : Format → Trees → Trees → Trees → Type 0
@@ -25,7 +25,3 @@ fills format old db after it blank sound =
     let entries = fourth.2 keys in
     let all = it.2 entries sound in
     record { world = all.world; is = all.is; means = record { named = named.0; shelves = all.shelves; access = all.keys; entries = all.entries }; stands = all.stands }
-
--- in schema 1 nothing remains to be put in, because the zips came with their versions
-pub zips_came : (old db : Trees) → PutsZips One old db db
-zips_came old db was sound = record { world = was.world; is = was.is; shelves = was.shelves; keys = was.keys; entries = was.entries; stands = was.stands }

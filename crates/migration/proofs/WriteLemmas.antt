@@ -17,8 +17,8 @@ use Rattle.statements.specs.Rows.{Writing}
 use Rattle.statements.proofs.RowLemmas.{filling_of}
 use Rattle.statements.proofs.TransactionEnds.{begins_writing}
 use Rattle.migration.specs.Filled.{Fills, Migrates, IsOfTables}
-use Rattle.migration.specs.Visits.{Moves, IsReadyAs}
-use Rattle.migration.proofs.WalkLemmas.{unchanged_itself}
+use Rattle.older_rows.specs.Visits.{Moves, IsReadyAs}
+use Rattle.older_rows.proofs.WalkLemmas.{unchanged_itself}
 
 -- a world that may be written, for which the connection stands inside the transaction if all was done
 pub record HasWritten (format : Format) (old last : State) (done : Bool) : Type 0 where

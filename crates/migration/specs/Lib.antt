@@ -1,6 +1,3 @@
-pub mod Causes
-pub mod Visits
-pub mod Registry
-pub mod Entries
-pub mod Zips
+pub use Rattle.older_rows.specs.Causes
+pub use Rattle.older_rows.specs.Visits
 pub mod Filled

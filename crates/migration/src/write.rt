@@ -2,8 +2,8 @@
 
 ghost use Rattle.std.specs.Prelude.{◌≡◌};
 ghost use Rattle.sqlite.specs.Held.{state};
-ghost use Rattle.migration.specs.Causes.{FailsAs};
-ghost use Rattle.migration.specs.Visits.{is_done};
+ghost use Rattle.older_rows.specs.Causes.{FailsAs};
+ghost use Rattle.older_rows.specs.Visits.{is_done};
 ghost use Rattle.migration.specs.Filled.{Migrates};
 
 use crate::fill::fill;

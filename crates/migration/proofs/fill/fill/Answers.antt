@@ -2,12 +2,13 @@ use Rattle.std.proofs.Common.{true, false, Err, sym, subst}
 use Rattle.sqlite.specs.Held.{state}
 use Rattle.statements.specs.Extract.{Then}
 use Rattle.tables.proofs.WalkCauses.{told_error}
-use Rattle.migration.specs.Filled.{PutsEntries, PutsZips, Fills}
-use Rattle.migration.specs.Registry.{IsNamed, PutsShelves, PutsKeys}
-use Rattle.migration.specs.Visits.{Moves, is_done}
-use Rattle.migration.proofs.CauseLemmas.{fails_then}
+use Rattle.older_rows.specs.Entered.{PutsEntries, PutsZips}
+use Rattle.older_rows.specs.Registry.{IsNamed, PutsShelves, PutsKeys}
+use Rattle.older_rows.specs.Visits.{Moves, is_done}
+use Rattle.older_rows.proofs.CauseLemmas.{fails_then}
+use Rattle.migration.specs.Filled.{Fills}
 use Rattle.migration.proofs.FillLemmas.{InTurn, fills}
-use Rattle.migration.proofs.WalkLemmas.{moves_then, moves_weaker, moves_none, not_done}
+use Rattle.older_rows.proofs.WalkLemmas.{moves_then, moves_weaker, moves_none, not_done}
 use Rattle.migration.proofs.fill.fill.Goals as goal
 
 pub returns-clause-moves : goal.returns-clause-moves

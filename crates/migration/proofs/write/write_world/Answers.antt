@@ -3,8 +3,8 @@ use Rattle.sqlite.specs.Held.{state}
 use Rattle.world.specs.World.{only_common}
 use Rattle.statements.proofs.TransactionEnds.{ended_by, failed_by}
 use Rattle.migration.specs.Filled.{Migrates}
-use Rattle.migration.specs.Visits.{is_done}
-use Rattle.migration.proofs.WalkLemmas.{read_part}
+use Rattle.older_rows.specs.Visits.{is_done}
+use Rattle.older_rows.proofs.WalkLemmas.{read_part}
 use Rattle.migration.proofs.WriteLemmas.{migrates}
 use Rattle.migration.proofs.write.write_world.Goals as goal
 

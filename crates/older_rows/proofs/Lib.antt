@@ -1,0 +1,13 @@
+pub mod WalkLemmas
+pub mod CauseLemmas
+pub mod ListedLemmas
+pub mod MetaLemmas
+pub mod TeamLemmas
+pub mod KeyLemmas
+pub mod EntryLemmas
+pub mod OneLemmas
+pub mod TwoLemmas
+pub mod ZipLemmas
+pub mod EndLemmas
+pub mod PieceWalk
+pub mod Walkable

@@ -1,0 +1,287 @@
+//! Tests the rows of `version` and puts them in.
+
+ghost use Rattle.std.specs.Prelude.{◌≡◌, IfOk, IfSome, IsTrue, MatchOption, Some};
+ghost use Rattle.sqlite.specs.declared.types.Value.TheVariants.{Text, Blob};
+ghost use Rattle.sqlite.specs.Held.{state};
+ghost use Rattle.sqlite.specs.Order.{column};
+ghost use Rattle.sqlite.specs.Values.{or_null};
+ghost use Rattle.world.specs.World.{place};
+ghost use Rattle.tables.specs.Walks.{MayFollow, run_with};
+ghost use Rattle.older_rows.specs.Causes.{FailsAs};
+ghost use Rattle.older_rows.specs.Visits.{Moves, is_done};
+ghost use Rattle.older_rows.specs.Entries.{ShowsEntry, ShowsZip, ShowsKeys, IsFitRow, IsKeyed, PutsEntry};
+ghost use Rattle.older_rows.specs.Entered.{PutsEntries};
+
+use crate::columns::{blob_at, int_at, text_at};
+use crate::put::{Keyed, Shown, put_entry};
+use crate::walk::{Visit, visit_rows};
+use modver::{TimeText, order_key, rank_key, read_time};
+use older::schema::Format;
+use sqlite::types::ValueRef;
+use sqlite::{Alter, Connection, Error, Row, Transaction};
+use statements::extract_rows::CopyError;
+use std::alloc::{AllocError, Global};
+use world::entry::{EntryRef, MAX_VERSIONS, Place};
+use world::entry_test::fitting_version;
+
+/// Returns the time that the bytes write, or None if they write no time.
+fn time_of(bytes: &[u8]) -> Option<TimeText>
+    ensures { IfSome result (λ t. t ≡ bytes.now) }
+{
+    match std::str::from_utf8(bytes) {
+        Ok(text) => read_time(text).ok(),
+        Err(_) => None,
+    }
+}
+
+/// Returns the time in a column, or Some(None) if the column is NULL. Returns None if it is neither.
+fn time_at(row: &Row, at: usize) -> Result<Option<Option<TimeText>>, Error>
+    ensures { IfOk result (λ found. IfSome found (λ t. column row.now at ≡ or_null Text t)) }
+{
+    match row.get_ref(at)? {
+        ValueRef::Null => Ok(Some(None)),
+        ValueRef::Text(bytes) => match time_of(bytes) {
+            Some(time) => Ok(Some(Some(time))),
+            None => Ok(None),
+        },
+        _ => Ok(None),
+    }
+}
+
+/// Returns the entry that a row shows, with this zip. Returns None if a column is not of its type.
+fn entry_at<'r>(row: &'r Row, zip: &'r [u8]) -> Result<Option<Shown<'r>>, Error>
+    ensures { IfOk result (λ found. IfSome found (λ s.
+        ShowsEntry row.now (place s.shelf.now s.path.now s.version.now) s.entry × (s.entry.zip ≡ zip.now))) }
+{
+    let Some(shelf) = text_at(row, 0)? else {
+        return Ok(None);
+    };
+    let Some(path) = text_at(row, 1)? else {
+        return Ok(None);
+    };
+    let Some(version) = text_at(row, 2)? else {
+        return Ok(None);
+    };
+    let Some(time) = time_at(row, 3)? else {
+        return Ok(None);
+    };
+    let Some(gomod) = blob_at(row, 4)? else {
+        return Ok(None);
+    };
+    let entry = EntryRef { gomod, zip, time };
+    Ok(Some(Shown {
+        shelf,
+        path,
+        version,
+        entry,
+    }))
+}
+
+/// Returns the zip that a row shows, or None if the column is not a BLOB. In schema 2 zips are rows of their own, so the zip
+/// is empty here.
+fn zip_at(format: Format, row: &Row) -> Result<Option<&[u8]>, Error>
+    ensures { IfOk result (λ found. IfSome found (λ zip. ShowsZip format row.now zip.now)) }
+{
+    match format {
+        Format::One => blob_at(row, 6),
+        Format::Two => Ok(Some(&[])),
+    }
+}
+
+fn is_blob_at(row: &Row, at: usize, bytes: &[u8]) -> Result<bool, Error>
+    ensures { IfOk result (λ b. IsTrue b → column row.now at ≡ Blob bytes.now) }
+{
+    Ok(matches!(row.get_ref(at)?, ValueRef::Blob(found) if found == bytes))
+}
+
+/// Reports whether a row shows these order keys. In schema 1 a row has none, and the answer is true.
+fn shows_keys(format: Format, row: &Row, order: &[u8], rank: &[u8]) -> Result<bool, Error>
+    ensures { IfOk result (λ shows. IsTrue shows → ShowsKeys format row.now order.now rank.now) }
+{
+    match format {
+        Format::One => Ok(true),
+        Format::Two => Ok(is_blob_at(row, 6, order)? && is_blob_at(row, 7, rank)?),
+    }
+}
+
+/// Returns the entry that a row shows, with its number and order keys. Returns None if the row does not show them, or the
+/// entry may not stand at its place.
+fn fit_row<'r>(alloc: Global, format: Format, row: &'r Row) -> Result<Option<Keyed<'r>>, Error>
+    ensures { IfOk result (λ found. IfSome found (λ k. IsKeyed k × IsFitRow format row.now k.id
+        (place k.shown.shelf.now k.shown.path.now k.shown.version.now) k.shown.entry)) }
+{
+    let Some(zip) = zip_at(format, row)? else {
+        return Ok(None);
+    };
+    let Some(shown) = entry_at(row, zip)? else {
+        return Ok(None);
+    };
+    let Some(version) = fitting_version(alloc, shown.path, shown.version, &shown.entry)? else {
+        return Ok(None);
+    };
+    let order = order_key(alloc, &version)?;
+    let rank = rank_key(alloc, &version)?;
+    if !shows_keys(format, row, &order, &rank)? {
+        return Ok(None);
+    }
+    let Some(id) = int_at(row, 5)? else {
+        return Ok(None);
+    };
+    Ok(Some(Keyed {
+        id,
+        shown,
+        order,
+        rank,
+    }))
+}
+
+/// Returns how many versions of the path on its shelf have come with this place, or None if it may not follow the last one.
+fn run_up_to(last: &Option<Place>, many: u64, place: &Place) -> Option<u64>
+    ensures { MatchOption result
+        (MayFollow last.now many place.now → ⊥)
+        (λ n. MayFollow last.now many place.now × (n ≡ run_with last.now many place.now)) }
+{
+    let Some(last) = last else {
+        return Some(1);
+    };
+    if *last == *place {
+        return None;
+    }
+    if place.shelf != last.shelf || place.path != last.path {
+        return Some(1);
+    }
+    if many < MAX_VERSIONS {
+        Some(many + 1)
+    } else {
+        None
+    }
+}
+
+/// Visits the rows of `version` in the order of their places. It refuses an entry that may not stand at its place, a place that
+/// comes twice, and a path with too many versions on a shelf.
+#[derive(Drop)]
+struct EntryRows {
+    alloc: Global,
+    format: Format,
+    last: Option<Place>,
+    many: u64,
+}
+
+impl EntryRows {
+    /// Reports whether an entry may follow the last one, and if so makes it the last one.
+    fn follows(&mut self, shown: &Shown) -> Result<bool, AllocError>
+        ensures { IfOk result (λ may. IsTrue may
+            → MayFollow self.old.last self.old.many (place shown.now.shelf.now shown.now.path.now shown.now.version.now)
+            × ((self.new.format ≡ self.old.format)
+            × ((self.new.last ≡ Some (place shown.now.shelf.now shown.now.path.now shown.now.version.now))
+            × (self.new.many ≡ run_with self.old.last self.old.many
+            (place shown.now.shelf.now shown.now.path.now shown.now.version.now))))) }
+    {
+        let place = Place::new(self.alloc, shown.shelf, shown.path, shown.version)?;
+        let Some(many) = run_up_to(&self.last, self.many, &place) else {
+            return Ok(false);
+        };
+        self.last = Some(place);
+        self.many = many;
+        Ok(true)
+    }
+}
+
+impl Visit for EntryRows {
+    ghost Puts = { λ kept row db next after. (next.format ≡ kept.format)
+        × PutsEntry kept.format kept.last kept.many row db after next.last next.many };
+
+    fn visit<F: Alter>(&mut self, tx: &mut Transaction<'_, F>, row: &Row) -> Result<bool, Error> {
+        let Some(keyed) = fit_row(self.alloc, self.format, row)? else {
+            return Ok(false);
+        };
+        if !self.follows(&keyed.shown)? {
+            return Ok(false);
+        }
+        let shown = &keyed.shown;
+        put_entry(
+            tx,
+            keyed.id,
+            shown.shelf,
+            shown.path,
+            shown.version,
+            &shown.entry,
+            &keyed.order,
+            &keyed.rank,
+        )?;
+        Ok(true)
+    }
+}
+
+/// Puts in each version of schema 1 with its go.mod and its zip. Returns false if one may not stand at its place.
+/// A version without a row of `body` shows NULL for its zip. The index of places has this order, so the database sorts
+/// nothing.
+fn put_with_zips<S: Alter, F: Alter>(
+    alloc: Global,
+    source: &mut Connection<S>,
+    tx: &mut Transaction<'_, F>,
+) -> Result<bool, CopyError>
+    ensures same_reference { tx.new.conn.ghost_name ≡ tx.old.conn.ghost_name }
+    ensures moves { Moves Format.One (PutsEntries Format.One) (state S.Store source.old) (state S.Store source.new)
+        (state F.Store tx.old.conn.now) (state F.Store tx.new.conn.now) (is_done result) }
+    ensures cause { FailsAs Format.One (state S.Store source.old) (state S.Store source.new) result }
+{
+    let mut rows = EntryRows {
+        alloc,
+        format: Format::One,
+        last: None,
+        many: 0,
+    };
+    visit_rows(
+        source,
+        Format::One,
+        "SELECT v.shelf, v.path, v.version, v.time, v.mod, v.id, b.zip FROM version AS v LEFT JOIN body AS b ON b.id = v.id ORDER BY v.shelf, v.path, v.version",
+        tx,
+        &mut rows,
+    )
+}
+
+/// Puts in each version of schema 2 with its go.mod. Returns false if one may not stand at its place.
+fn put_without_zips<S: Alter, F: Alter>(
+    alloc: Global,
+    source: &mut Connection<S>,
+    tx: &mut Transaction<'_, F>,
+) -> Result<bool, CopyError>
+    ensures same_reference { tx.new.conn.ghost_name ≡ tx.old.conn.ghost_name }
+    ensures moves { Moves Format.Two (PutsEntries Format.Two) (state S.Store source.old) (state S.Store source.new)
+        (state F.Store tx.old.conn.now) (state F.Store tx.new.conn.now) (is_done result) }
+    ensures cause { FailsAs Format.Two (state S.Store source.old) (state S.Store source.new) result }
+{
+    let mut rows = EntryRows {
+        alloc,
+        format: Format::Two,
+        last: None,
+        many: 0,
+    };
+    visit_rows(
+        source,
+        Format::Two,
+        "SELECT shelf, path, version, time, mod, id, order_key, rank_key FROM version ORDER BY shelf, path, version",
+        tx,
+        &mut rows,
+    )
+}
+
+/// Puts in each version with its go.mod, and in schema 1 with its zip. Returns false if one may not stand at its place.
+/// Fails with `Source` or `Fresh`, by the store that failed.
+pub fn put_entries<S: Alter, F: Alter>(
+    alloc: Global,
+    source: &mut Connection<S>,
+    format: Format,
+    tx: &mut Transaction<'_, F>,
+) -> Result<bool, CopyError>
+    ensures same_reference { tx.new.conn.ghost_name ≡ tx.old.conn.ghost_name }
+    ensures moves { Moves format (PutsEntries format) (state S.Store source.old) (state S.Store source.new)
+        (state F.Store tx.old.conn.now) (state F.Store tx.new.conn.now) (is_done result) }
+    ensures cause { FailsAs format (state S.Store source.old) (state S.Store source.new) result }
+{
+    match format {
+        Format::One => put_with_zips(alloc, source, tx),
+        Format::Two => put_without_zips(alloc, source, tx),
+    }
+}

@@ -1,0 +1,22 @@
+//! The rows of a store of an older schema, each tested and put into a fresh store of today's schema.
+//!
+//! A call reads a table once, `version` and `piece` in the order of their index. It tests each row and puts it into the fresh
+//! store at once, so only one entry is in memory. A row that no world has ends the call.
+//!
+//! | call | the rows |
+//! |---|---|
+//! | `meta::names_schema` | the number of the schema, for which nothing is written |
+//! | `shelves::put_shelves` | `common`, and teams without a group |
+//! | `keys::put_keys` | keys with their shelves and rights |
+//! | `entries::put_entries` | versions; those of schema 1 with their zips, which become pieces, and with order keys that are computed |
+//! | `pieces::put_zips` | the zips of schema 2, in pieces |
+#![tactic(auto)]
+
+mod columns;
+pub mod entries;
+pub mod keys;
+pub mod meta;
+pub mod pieces;
+mod put;
+pub mod shelves;
+mod walk;

@@ -1,0 +1,118 @@
+//! Puts rows of an older store into a fresh one, one after another.
+
+ghost use Rattle.std.specs.Prelude.{◌≡◌, ◌≤◌, [], false, OnOk, IfOk, IfErr, is_ok, IsTrue};
+ghost use Rattle.sqlite.specs.Effect.{Reads};
+ghost use Rattle.sqlite.specs.Given.{IsPlain};
+ghost use Rattle.sqlite.specs.Held.{state};
+ghost use Rattle.sqlite.specs.Listing.{understood, reads_listing};
+ghost use Rattle.sqlite.specs.Order.{Row as Shown};
+ghost use Rattle.sqlite.specs.State.{HasCleanDisk, KeepsCommit, Survives};
+ghost use Rattle.sqlite.specs.Tree.{Trees};
+ghost use Rattle.sqlite.proofs.Callers.{command_of};
+ghost use Rattle.sqlite_trees.specs.View.{doubt};
+ghost use Rattle.tables.specs.Calls.{Honestly, HonestlyOver};
+ghost use Rattle.older.specs.Schemas.{schema_of};
+ghost use Rattle.statements.specs.Extract.{IsReadBy};
+ghost use Rattle.statements.specs.Rows.{Filling, GoesOn};
+ghost use Rattle.older_rows.specs.Causes.{IsWalkableAs, HasReasonAs, FailsAs};
+ghost use Rattle.older_rows.specs.Visits.{Visits, is_taken};
+
+use older::schema::Format;
+use sqlite::{Alter, Connection, Error, ErrorCode, Row, Transaction};
+use statements::extract_rows::CopyError;
+
+/// Visits the rows of a table, and may keep something of those before.
+pub(crate) trait Visit {
+    /// How a row changes what is kept, and the fresh tables.
+    ghost Puts: { Self → Shown → Trees → Self → Trees → Type 0 };
+
+    /// Tests a row and puts it into the fresh tables. Returns false if no world has such a row.
+    fn visit<F: Alter>(&mut self, tx: &mut Transaction<'_, F>, row: &Row) -> Result<bool, Error>
+        ensures same_reference { tx.new.conn.ghost_name ≡ tx.old.conn.ghost_name }
+        ensures survives { Survives (state F.Store tx.old.conn.now) (state F.Store tx.new.conn.now) (λ _. ⊥) }
+        ensures kept { Honestly (state F.Store tx.old.conn.now) (state F.Store tx.new.conn.now) (λ old new.
+            IsTrue old.in_transaction → KeepsCommit old new) }
+        ensures inside { Honestly (state F.Store tx.old.conn.now) (state F.Store tx.new.conn.now) (λ old new.
+            IsTrue old.in_transaction → OnOk result (IsTrue new.in_transaction)) }
+        ensures puts { Honestly (state F.Store tx.old.conn.now) (state F.Store tx.new.conn.now) (λ old new.
+            Filling old → IfOk result (λ fits. IsTrue fits
+            → Puts self.old row.now old.now.trees self.new new.now.trees × Filling new)) };
+}
+
+/// Visits each row that a query shows of the tables of a format, while the query is read, so only one row is in memory. It
+/// returns what the visitor did: true after the last row, false at the first row that it refuses, and its error at the first
+/// row that the fresh store does not take. Fails if the older store does.
+fn visit_each<S: Alter, F: Alter, V: Visit>(
+    source: &mut Connection<S>,
+    format: Format,
+    sql: &str,
+    tx: &mut Transaction<'_, F>,
+    visitor: &mut V,
+) -> Result<Result<bool, Error>, Error>
+    requires plain { IsPlain (understood (schema_of format) sql.now) }
+    requires tables { reads_listing (schema_of format) sql.now ≡ false }
+    requires walkable { IsWalkableAs format sql.now }
+    ensures clean { doubt (state S.Store source.old).is_clean ≤ doubt (state S.Store source.new).is_clean }
+    ensures reads { (state S.Store source.old).now.schema ≡ schema_of format
+        → IsReadBy (state S.Store source.old) (state S.Store source.new) (is_ok result) }
+    ensures survives { (state S.Store source.old).now.schema ≡ schema_of format
+        → Survives (state S.Store source.old) (state S.Store source.new) (λ _. ⊥) }
+    ensures same_reference { tx.new.conn.ghost_name ≡ tx.old.conn.ghost_name }
+    ensures goes_on { GoesOn (state F.Store tx.old.conn.now) (state F.Store tx.new.conn.now) (is_taken result) }
+    ensures puts { HasCleanDisk (state S.Store source.new) → HasCleanDisk (state F.Store tx.new.conn.now)
+        → (state S.Store source.old).now.schema ≡ schema_of format → Filling (state F.Store tx.old.conn.now)
+        → IfOk result (λ visited. IfOk visited (λ all. IsTrue all → Filling (state F.Store tx.new.conn.now)
+        × ((rows : _) × Reads (command_of (understood (schema_of format) sql.now)) (state S.Store source.old).now [] rows
+        × Visits (λ kept row db next after. V.Puts kept row db next after) visitor.old (state F.Store tx.old.conn.now).now.trees
+        rows visitor.new (state F.Store tx.new.conn.now).now.trees))) }
+    ensures cause { HonestlyOver (schema_of format) (state S.Store source.old) (state S.Store source.new) (λ old new.
+        IfErr result (HasReasonAs format old new)) }
+{
+    let mut rows = source.query(sql, &[])?;
+    'rows: for _turn in 0..u128::MAX {
+        let Some(row) = rows.next()? else {
+            return Ok(Ok(true));
+        };
+        match visitor.visit(tx, row) {
+            Ok(true) => {}
+            Ok(false) => return Ok(Ok(false)),
+            Err(error) => return Ok(Err(error)),
+        }
+    }
+    // A query shows this many rows only if a table has a row for each rowid.
+    Err(Error::SqliteFailure(ErrorCode::TooBig))
+}
+
+/// Visits each row that a query shows of the tables of a format. Returns true after the last row, and false at the first row
+/// that the visitor refuses. Fails with `Source` if the older store does, and with `Fresh` if the fresh one does.
+pub(crate) fn visit_rows<S: Alter, F: Alter, V: Visit>(
+    source: &mut Connection<S>,
+    format: Format,
+    sql: &str,
+    tx: &mut Transaction<'_, F>,
+    visitor: &mut V,
+) -> Result<bool, CopyError>
+    requires plain { IsPlain (understood (schema_of format) sql.now) }
+    requires tables { reads_listing (schema_of format) sql.now ≡ false }
+    requires walkable { IsWalkableAs format sql.now }
+    ensures clean { doubt (state S.Store source.old).is_clean ≤ doubt (state S.Store source.new).is_clean }
+    ensures reads { (state S.Store source.old).now.schema ≡ schema_of format
+        → IsReadBy (state S.Store source.old) (state S.Store source.new) (is_ok result) }
+    ensures survives { (state S.Store source.old).now.schema ≡ schema_of format
+        → Survives (state S.Store source.old) (state S.Store source.new) (λ _. ⊥) }
+    ensures same_reference { tx.new.conn.ghost_name ≡ tx.old.conn.ghost_name }
+    ensures goes_on { GoesOn (state F.Store tx.old.conn.now) (state F.Store tx.new.conn.now) (is_ok result) }
+    ensures puts { HasCleanDisk (state S.Store source.new) → HasCleanDisk (state F.Store tx.new.conn.now)
+        → (state S.Store source.old).now.schema ≡ schema_of format → Filling (state F.Store tx.old.conn.now)
+        → IfOk result (λ all. IsTrue all → Filling (state F.Store tx.new.conn.now)
+        × ((rows : _) × Reads (command_of (understood (schema_of format) sql.now)) (state S.Store source.old).now [] rows
+        × Visits (λ kept row db next after. V.Puts kept row db next after) visitor.old (state F.Store tx.old.conn.now).now.trees
+        rows visitor.new (state F.Store tx.new.conn.now).now.trees)) }
+    ensures cause { FailsAs format (state S.Store source.old) (state S.Store source.new) result }
+{
+    match visit_each(source, format, sql, tx, visitor) {
+        Ok(Ok(all)) => Ok(all),
+        Ok(Err(error)) => Err(CopyError::Fresh(error)),
+        Err(error) => Err(CopyError::Source(error)),
+    }
+}

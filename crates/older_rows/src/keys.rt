@@ -7,12 +7,11 @@ ghost use Rattle.older_rows.specs.Visits.{Moves, is_done};
 ghost use Rattle.older_rows.specs.Registry.{ShowsRight, ShowsAs, IsGoodKey, IsKeyRow, PutsKeys};
 
 use crate::columns::text_at;
-use crate::put::put_key;
 use crate::walk::{Visit, visit_rows};
 use older::schema::Format;
 use sqlite::types::ValueRef;
 use sqlite::{Alter, Connection, Error, Row, Transaction};
-use statements::extract_rows::CopyError;
+use statements::extract_rows::{CopyError, Keys, RowSink};
 use world::entry::Right;
 use world::names::is_key;
 
@@ -65,7 +64,7 @@ impl Visit for KeyRows {
         if !shows_key(row)? {
             return Ok(false);
         }
-        put_key(tx, row)?;
+        Keys.put(tx, row)?;
         Ok(true)
     }
 }

@@ -14,11 +14,10 @@ ghost use Rattle.older_rows.specs.Zips.{last_piece, last_one};
 ghost use Rattle.older_rows.specs.Entered.{PutsZips};
 
 use crate::columns::{blob_at, int_at};
-use crate::put::put_shown_piece;
 use crate::walk::{Visit, visit_rows};
 use older::schema::Format;
 use sqlite::{Alter, Connection, Error, Row, Transaction};
-use statements::extract_rows::CopyError;
+use statements::extract_rows::{CopyError, Pieces, RowSink};
 use tables::pieces::PIECE_SIZE;
 
 /// The most pieces of a zip.
@@ -100,7 +99,7 @@ impl Visit for ZipRows {
         if !may_go_on(self.last, piece) {
             return Ok(false);
         }
-        put_shown_piece(tx, row)?;
+        Pieces.put(tx, row)?;
         self.last = Some(piece);
         Ok(true)
     }

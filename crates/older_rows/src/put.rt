@@ -1,24 +1,23 @@
 //! Writes rows into a fresh store.
 
-ghost use Rattle.std.specs.Prelude.{◌≡◌, [], ◌∷◌, Some, OnOk, is_ok, IsTrue};
-ghost use Rattle.sqlite.specs.declared.types.Value.TheVariants.{Int, Text, Blob};
+ghost use Rattle.std.specs.Prelude.{◌≡◌, Some, OnOk, is_ok, IsTrue};
+ghost use Rattle.sqlite.specs.declared.types.Value.TheVariants.{Text};
 ghost use Rattle.sqlite.specs.Held.{state};
 ghost use Rattle.sqlite.specs.State.{KeepsCommit, Survives};
 ghost use Rattle.sqlite.specs.Values.{or_null};
 ghost use Rattle.world.specs.World.{common, place};
 ghost use Rattle.tables.specs.Calls.{Honestly};
-ghost use Rattle.tables.specs.Fit.{IsPieceRow};
 ghost use Rattle.tables.specs.Inserted.{Inserted};
 ghost use Rattle.tables.specs.Schema.{version_table};
 ghost use Rattle.tables.specs.VersionKeys.{order_key_at, rank_key_at};
-ghost use Rattle.statements.specs.Added.{AddsZip, version_row};
-ghost use Rattle.statements.specs.Extract.{IsKeyShown, PutsKey, PutsShelf};
-ghost use Rattle.statements.specs.Rows.{Filling, GoesOn, PutsPiece};
+ghost use Rattle.statements.specs.Added.{version_row};
+ghost use Rattle.statements.specs.Extract.{PutsShelf};
+ghost use Rattle.statements.specs.Rows.{Filling, GoesOn};
 ghost use Rattle.older_rows.specs.Entries.{AddsAs};
 
 use modver::TimeText;
-use sqlite::{Alter, Error, ErrorCode, Row, Transaction, params};
-use tables::pieces::PIECE_SIZE;
+use sqlite::{Alter, Error, Transaction, params};
+use statements::pieces::insert_zip;
 use world::entry::EntryRef;
 use world::names::COMMON;
 
@@ -54,44 +53,6 @@ pub(crate) fn put_team<F: Alter>(tx: &mut Transaction<'_, F>, name: &str) -> Res
     tx.execute(
         "INSERT INTO shelf (name, parent) VALUES (?1, ?2)",
         params![name, COMMON],
-    )?;
-    Ok(())
-}
-
-/// Writes the row of a key with the values of another row.
-pub(crate) fn put_key<F: Alter>(tx: &mut Transaction<'_, F>, row: &Row) -> Result<(), Error>
-    ensures same_reference { tx.new.conn.ghost_name ≡ tx.old.conn.ghost_name }
-    ensures survives { Survives (state F.Store tx.old.conn.now) (state F.Store tx.new.conn.now) (λ _. ⊥) }
-    ensures kept { Honestly (state F.Store tx.old.conn.now) (state F.Store tx.new.conn.now) (λ old new.
-        IsTrue old.in_transaction → KeepsCommit old new) }
-    ensures inside { Honestly (state F.Store tx.old.conn.now) (state F.Store tx.new.conn.now) (λ old new.
-        IsTrue old.in_transaction → OnOk result (IsTrue new.in_transaction)) }
-    ensures puts { Honestly (state F.Store tx.old.conn.now) (state F.Store tx.new.conn.now) (λ old new. IsKeyShown row.now
-        → Filling old → OnOk result (PutsKey row.now old.now.trees new.now.trees × Filling new)) }
-{
-    let values = [row.get_ref(0)?, row.get_ref(1)?, row.get_ref(2)?];
-    tx.execute(
-        "INSERT INTO access (token, shelf, publish) VALUES (?1, ?2, ?3)",
-        &values,
-    )?;
-    Ok(())
-}
-
-/// Writes the row of a piece with the values of another row.
-pub(crate) fn put_shown_piece<F: Alter>(tx: &mut Transaction<'_, F>, row: &Row) -> Result<(), Error>
-    ensures same_reference { tx.new.conn.ghost_name ≡ tx.old.conn.ghost_name }
-    ensures survives { Survives (state F.Store tx.old.conn.now) (state F.Store tx.new.conn.now) (λ _. ⊥) }
-    ensures kept { Honestly (state F.Store tx.old.conn.now) (state F.Store tx.new.conn.now) (λ old new.
-        IsTrue old.in_transaction → KeepsCommit old new) }
-    ensures inside { Honestly (state F.Store tx.old.conn.now) (state F.Store tx.new.conn.now) (λ old new.
-        IsTrue old.in_transaction → OnOk result (IsTrue new.in_transaction)) }
-    ensures puts { Honestly (state F.Store tx.old.conn.now) (state F.Store tx.new.conn.now) (λ old new. IsPieceRow row.now
-        → Filling old → OnOk result (PutsPiece row.now old.now.trees new.now.trees × Filling new)) }
-{
-    let values = [row.get_ref(0)?, row.get_ref(1)?, row.get_ref(2)?];
-    tx.execute(
-        "INSERT INTO piece (version, number, bytes) VALUES (?1, ?2, ?3)",
-        &values,
     )?;
     Ok(())
 }
@@ -136,49 +97,6 @@ fn put_version<'p, F: Alter>(
     Ok(())
 }
 
-/// Writes the row of one piece.
-fn put_piece<F: Alter>(
-    tx: &mut Transaction<'_, F>,
-    id: i64,
-    number: i64,
-    bytes: &[u8],
-) -> Result<(), Error>
-    ensures same_reference { tx.new.conn.ghost_name ≡ tx.old.conn.ghost_name }
-    ensures survives { Survives (state F.Store tx.old.conn.now) (state F.Store tx.new.conn.now) (λ _. ⊥) }
-    ensures kept { Honestly (state F.Store tx.old.conn.now) (state F.Store tx.new.conn.now) (λ old new.
-        IsTrue old.in_transaction → KeepsCommit old new) }
-    ensures inside { Honestly (state F.Store tx.old.conn.now) (state F.Store tx.new.conn.now) (λ old new.
-        IsTrue old.in_transaction → OnOk result (IsTrue new.in_transaction)) }
-    ensures puts { Honestly (state F.Store tx.old.conn.now) (state F.Store tx.new.conn.now) (λ old new.
-        Filling old → OnOk result (PutsPiece (Int id ∷ Int number ∷ Blob bytes.now ∷ [])
-        old.now.trees new.now.trees × Filling new)) }
-{
-    tx.execute(
-        "INSERT INTO piece (version, number, bytes) VALUES (?1, ?2, ?3)",
-        params![id, number, bytes],
-    )?;
-    Ok(())
-}
-
-/// Writes the rows of a zip, a row for each piece.
-fn put_zip<F: Alter>(tx: &mut Transaction<'_, F>, id: i64, zip: &[u8]) -> Result<(), Error>
-    ensures same_reference { tx.new.conn.ghost_name ≡ tx.old.conn.ghost_name }
-    ensures goes_on { GoesOn (state F.Store tx.old.conn.now) (state F.Store tx.new.conn.now) (is_ok result) }
-    ensures adds { Honestly (state F.Store tx.old.conn.now) (state F.Store tx.new.conn.now) (λ old new.
-        Filling old → OnOk result (AddsZip id zip.now old.now.trees new.now.trees × Filling new)) }
-{
-    let mut rest = zip;
-    for number in 0..u32::MAX {
-        if rest.is_empty() {
-            return Ok(());
-        }
-        let (piece, later) = rest.split_at(rest.len().min(PIECE_SIZE));
-        put_piece(tx, id, i64::from(number), piece)?;
-        rest = later;
-    }
-    Err(Error::SqliteFailure(ErrorCode::TooBig))
-}
-
 /// Writes the rows of an entry: the row of its version, then the rows of its zip.
 pub(crate) fn put_entry<'p, F: Alter>(
     tx: &mut Transaction<'_, F>,
@@ -198,5 +116,5 @@ pub(crate) fn put_entry<'p, F: Alter>(
         old.now.trees new.now.trees × Filling new)) }
 {
     put_version(tx, id, shelf, path, version, entry, order, rank)?;
-    put_zip(tx, id, entry.zip)
+    insert_zip(tx, id, entry.zip)
 }

@@ -37,13 +37,15 @@ impl From<Error> for CopyError {
 }
 
 /// Takes the rows that a query shows, one at a time.
-pub(crate) trait RowSink {
+pub trait RowSink {
     /// Which rows `Puts` speaks of.
     ghost Fits: { Shown → Type 0 };
 
     /// How a row changes the tables: the row, the tables before, and the tables after.
     ghost Puts: { Shown → Trees → Trees → Type 0 };
 
+    /// Writes a row with the values of this one into a transaction. Fails with the error of the connection, or if the row has
+    /// too few columns.
     fn put<F: Alter>(&self, tx: &mut Transaction<'_, F>, row: &Row) -> Result<(), Error>
         ensures same_reference { tx.new.conn.ghost_name ≡ tx.old.conn.ghost_name }
         ensures survives { Survives (state F.Store tx.old.conn.now) (state F.Store tx.new.conn.now) (λ _. ⊥) }
@@ -98,7 +100,7 @@ pub(crate) fn hand_on<S: Alter, F: Alter, T: RowSink>(
 }
 
 /// Writes the rows of keys into `access` unchanged.
-struct Keys;
+pub struct Keys;
 
 impl RowSink for Keys {
     ghost Fits = { IsKeyShown };
@@ -182,7 +184,7 @@ pub fn copy_versions<S: Alter, F: Alter>(
 }
 
 /// Writes the rows of pieces into `piece` unchanged.
-struct Pieces;
+pub struct Pieces;
 
 impl RowSink for Pieces {
     ghost Fits = { λ _. ⊤ };

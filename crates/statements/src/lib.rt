@@ -24,7 +24,9 @@
 //! | `registry::add_key` | those of `find_shelf` and `find_key`, then write a row of `access` |
 //! | `revoke::revoke_key` | that of `find_key`, then delete the row of `access` |
 //! | `transaction::commit_if` | the end of a transaction |
+//! | `pieces::insert_zip` | write a row of `piece` for each piece of the zip |
 //! | `extract_rows::copy_keys`, `copy_versions`, `copy_pieces` | read the rows of one shelf, and write each into another store |
+//! | `extract_rows::RowSink::put` | write a row with the values of a row of another store |
 //!
 //! The rows of an entry are a row of `version`, with the order keys of the version, and a row of `piece` for each piece of
 //! the zip.
@@ -39,7 +41,7 @@ pub mod extract_rows;
 mod keyed;
 mod numbers;
 pub mod outlines;
-mod pieces;
+pub mod pieces;
 pub mod query;
 pub mod registry;
 pub mod revoke;

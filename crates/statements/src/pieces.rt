@@ -155,12 +155,9 @@ pub(crate) fn insert_piece<S: Alter>(
     Ok(())
 }
 
-/// Writes the rows of a zip, a row for each piece.
-pub(crate) fn insert_zip<S: Alter>(
-    tx: &mut Transaction<'_, S>,
-    id: i64,
-    zip: &[u8],
-) -> Result<(), Error>
+/// Writes the rows of a zip, a row for each piece. Fails with the error of the connection, or with `TooBig` if the zip has
+/// 2^32 - 1 pieces or more.
+pub fn insert_zip<S: Alter>(tx: &mut Transaction<'_, S>, id: i64, zip: &[u8]) -> Result<(), Error>
     ensures same_reference { tx.new.conn.ghost_name ≡ tx.old.conn.ghost_name }
     ensures goes_on { GoesOn (state S.Store tx.old.conn.now) (state S.Store tx.new.conn.now) (is_ok result) }
     ensures adds { Honestly (state S.Store tx.old.conn.now) (state S.Store tx.new.conn.now) (λ old new.

@@ -21,7 +21,6 @@ use Rattle.older.specs.Schemas.{schema_2}
 use Rattle.older_rows.specs.declared.pieces.ZipRows.{ZipRows}
 use Rattle.older_rows.specs.Entered.{PutsZips}
 use Rattle.older_rows.specs.Visits.{Visits}
-use Rattle.older_rows.specs.Zips.{last_one}
 use Rattle.older_rows.proofs.EndLemmas.{has_all}
 use Rattle.older_rows.proofs.ZipLemmas.{Puts, tested, passed, else_same, same_pieces_read, pieces_permuted}
 
@@ -51,7 +50,7 @@ read_today old rows reads =
 module _ (old : Database) (rows : List Row) (reads : Reads (command_of (understood schema_2 piece_rows_text)) old [] rows) (start stop : ZipRows) (db after : Trees) (new : start.last ≡ None) (visited : Visits Puts start db rows stop after) where
   -- the walk tests the pieces as today's test does, so they are fit
   fit : ArePiecesFit (mapped piece_shown (old.trees 8))
-  fit = pieces_true (today old.trees) (tested start) (tested stop) (ap last_one new) (rows, read_today old rows reads, passed start stop db after rows visited)
+  fit = pieces_true (today old.trees) (tested start) (tested stop) new (rows, read_today old rows reads, passed start stop db after rows visited)
 
   pub puts_zips : PutsZips Two old.trees db after
   puts_zips was sound =

@@ -21,10 +21,9 @@ use Rattle.statements.specs.Rows.{PutsPiece, piece_of, piece_read, IsElseSame}
 use Rattle.statements.proofs.RowLemmas.{else_itself, else_then}
 use Rattle.older_rows.specs.declared.pieces.ZipRows.{ZipRows}
 use Rattle.older_rows.specs.Visits.{Visits}
-use Rattle.older_rows.specs.Zips.{last_one}
 
 abbrev pub Puts : ZipRows → Row → Trees → ZipRows → Trees → Type 0
-Puts kept row db next after = IsPieceRow row × (MayGoOn (last_one kept.last) (piece_in row) × ((last_one next.last ≡ Some (piece_in row)) × PutsPiece row db after))
+Puts kept row db next after = IsPieceRow row × (MayGoOn kept.last (piece_in row) × ((next.last ≡ Some (piece_in row)) × PutsPiece row db after))
 
 -- ---- a row that is put in is put in at some place
 
@@ -79,7 +78,7 @@ FirstOf {A} P = A
 
 -- what the visitor keeps, as today's test keeps it
 abbrev pub tested : ZipRows → FirstOf PieceFits
-tested kept = record { last = last_one kept.last }
+tested kept = record { last = kept.last }
 
 -- each passes today's test after those before it
 pub passed : (kept end : ZipRows) (db after : Trees) (rows : List Row) → Visits Puts kept db rows end after → Pass PieceFits PieceKeeps (tested kept) rows (tested end)

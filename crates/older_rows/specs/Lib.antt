@@ -2,5 +2,4 @@ pub mod Causes
 pub mod Visits
 pub mod Registry
 pub mod Entries
-pub mod Zips
 pub mod Entered

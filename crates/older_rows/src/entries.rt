@@ -1,10 +1,7 @@
 //! Tests the rows of `version` and puts them in.
 
-ghost use Rattle.std.specs.Prelude.{◌≡◌, IfOk, IfSome, IsTrue, MatchOption, Some};
-ghost use Rattle.sqlite.specs.declared.types.Value.TheVariants.{Text, Blob};
+ghost use Rattle.std.specs.Prelude.{◌≡◌, IfOk, IfSome, IsTrue, Some};
 ghost use Rattle.sqlite.specs.Held.{state};
-ghost use Rattle.sqlite.specs.Order.{column};
-ghost use Rattle.sqlite.specs.Values.{or_null};
 ghost use Rattle.world.specs.World.{place};
 ghost use Rattle.tables.specs.Walks.{MayFollow, run_with};
 ghost use Rattle.older_rows.specs.Causes.{FailsAs};
@@ -12,41 +9,17 @@ ghost use Rattle.older_rows.specs.Visits.{Moves, is_done};
 ghost use Rattle.older_rows.specs.Entries.{ShowsEntry, ShowsZip, ShowsKeys, IsFitRow, IsKeyed, PutsEntry};
 ghost use Rattle.older_rows.specs.Entered.{PutsEntries};
 
-use crate::columns::{blob_at, int_at, text_at};
 use crate::put::{Keyed, Shown, put_entry};
 use crate::walk::{Visit, visit_rows};
-use modver::{TimeText, order_key, rank_key, read_time};
+use modver::{order_key, rank_key};
 use older::schema::Format;
-use sqlite::types::ValueRef;
 use sqlite::{Alter, Connection, Error, Row, Transaction};
 use statements::extract_rows::CopyError;
 use std::alloc::{AllocError, Global};
-use world::entry::{EntryRef, MAX_VERSIONS, Place};
+use tables::columns::{blob_at, int_at, is_blob_at, text_at};
+use tables::fit::{run_up_to, time_at};
+use world::entry::{EntryRef, Place};
 use world::entry_test::fitting_version;
-
-/// Returns the time that the bytes write, or None if they write no time.
-fn time_of(bytes: &[u8]) -> Option<TimeText>
-    ensures { IfSome result (λ t. t ≡ bytes.now) }
-{
-    match std::str::from_utf8(bytes) {
-        Ok(text) => read_time(text).ok(),
-        Err(_) => None,
-    }
-}
-
-/// Returns the time in a column, or Some(None) if the column is NULL. Returns None if it is neither.
-fn time_at(row: &Row, at: usize) -> Result<Option<Option<TimeText>>, Error>
-    ensures { IfOk result (λ found. IfSome found (λ t. column row.now at ≡ or_null Text t)) }
-{
-    match row.get_ref(at)? {
-        ValueRef::Null => Ok(Some(None)),
-        ValueRef::Text(bytes) => match time_of(bytes) {
-            Some(time) => Ok(Some(Some(time))),
-            None => Ok(None),
-        },
-        _ => Ok(None),
-    }
-}
 
 /// Returns the entry that a row shows, with this zip. Returns None if a column is not of its type.
 fn entry_at<'r>(row: &'r Row, zip: &'r [u8]) -> Result<Option<Shown<'r>>, Error>
@@ -88,12 +61,6 @@ fn zip_at(format: Format, row: &Row) -> Result<Option<&[u8]>, Error>
     }
 }
 
-fn is_blob_at(row: &Row, at: usize, bytes: &[u8]) -> Result<bool, Error>
-    ensures { IfOk result (λ b. IsTrue b → column row.now at ≡ Blob bytes.now) }
-{
-    Ok(matches!(row.get_ref(at)?, ValueRef::Blob(found) if found == bytes))
-}
-
 /// Reports whether a row shows these order keys. In schema 1 a row has none, and the answer is true.
 fn shows_keys(format: Format, row: &Row, order: &[u8], rank: &[u8]) -> Result<bool, Error>
     ensures { IfOk result (λ shows. IsTrue shows → ShowsKeys format row.now order.now rank.now) }
@@ -133,28 +100,6 @@ fn fit_row<'r>(alloc: Global, format: Format, row: &'r Row) -> Result<Option<Key
         order,
         rank,
     }))
-}
-
-/// Returns how many versions of the path on its shelf have come with this place, or None if it may not follow the last one.
-fn run_up_to(last: &Option<Place>, many: u64, place: &Place) -> Option<u64>
-    ensures { MatchOption result
-        (MayFollow last.now many place.now → ⊥)
-        (λ n. MayFollow last.now many place.now × (n ≡ run_with last.now many place.now)) }
-{
-    let Some(last) = last else {
-        return Some(1);
-    };
-    if *last == *place {
-        return None;
-    }
-    if place.shelf != last.shelf || place.path != last.path {
-        return Some(1);
-    }
-    if many < MAX_VERSIONS {
-        Some(many + 1)
-    } else {
-        None
-    }
 }
 
 /// Visits the rows of `version` in the order of their places. It refuses an entry that may not stand at its place, a place that

@@ -6,12 +6,12 @@ ghost use Rattle.older_rows.specs.Causes.{FailsAs};
 ghost use Rattle.older_rows.specs.Visits.{Moves, is_done};
 ghost use Rattle.older_rows.specs.Registry.{ShowsRight, ShowsAs, IsGoodKey, IsKeyRow, PutsKeys};
 
-use crate::columns::text_at;
 use crate::walk::{Visit, visit_rows};
 use older::schema::Format;
 use sqlite::types::ValueRef;
 use sqlite::{Alter, Connection, Error, Row, Transaction};
 use statements::extract_rows::{CopyError, Keys, RowSink};
+use tables::columns::text_at;
 use world::entry::Right;
 use world::names::is_key;
 

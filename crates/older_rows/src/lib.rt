@@ -12,7 +12,6 @@
 //! | `pieces::put_zips` | the zips of schema 2, in pieces |
 #![tactic(auto)]
 
-mod columns;
 pub mod entries;
 pub mod keys;
 pub mod meta;

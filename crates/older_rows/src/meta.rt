@@ -7,11 +7,11 @@ ghost use Rattle.older_rows.specs.Visits.{Moves, is_done};
 ghost use Rattle.older_rows.specs.Registry.{NamesSchema, IsNamed};
 ghost use Rattle.older.specs.Schemas.{number_of};
 
-use crate::columns::{int_at, text_at};
 use crate::walk::{Visit, visit_rows};
 use older::schema::Format;
 use sqlite::{Alter, Connection, Error, Row, Transaction};
 use statements::extract_rows::CopyError;
+use tables::columns::{int_at, text_at};
 
 /// Visits the rows of `meta` and refuses one that does not name this schema. It puts none into the fresh store, which has a row
 /// of its own.

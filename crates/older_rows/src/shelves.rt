@@ -6,13 +6,13 @@ ghost use Rattle.older_rows.specs.Causes.{FailsAs};
 ghost use Rattle.older_rows.specs.Visits.{Moves, is_done};
 ghost use Rattle.older_rows.specs.Registry.{IsCommonRow, IsTeamRow, PutsShelves};
 
-use crate::columns::text_at;
 use crate::put::put_team;
 use crate::walk::{Visit, visit_rows};
 use older::schema::Format;
 use sqlite::{Alter, Connection, Error, Row, Transaction};
 use statements::extract_rows::CopyError;
 use std::alloc::Global;
+use tables::columns::text_at;
 use world::names::{COMMON, is_team_name};
 use world::text_set::TextSet;
 

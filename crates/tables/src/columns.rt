@@ -8,7 +8,7 @@ use sqlite::types::ValueRef;
 use sqlite::{Error, Row};
 
 /// Returns the text of a column, or None if it holds no UTF-8 text. Fails only if the row has no such column.
-pub(crate) fn text_at(row: &Row, at: usize) -> Result<Option<&str>, Error>
+pub fn text_at(row: &Row, at: usize) -> Result<Option<&str>, Error>
     ensures found { IfOk result (λ found. MatchOption found
         ((t : _) → column row.now at ≡ Text t → IsUtf8 t → ⊥)
         (λ t. (column row.now at ≡ Text t.now) × IsUtf8 t.now)) }
@@ -24,7 +24,7 @@ pub(crate) fn text_at(row: &Row, at: usize) -> Result<Option<&str>, Error>
 }
 
 /// Returns the bytes of a column, or None if it holds no blob. Fails only if the row has no such column.
-pub(crate) fn blob_at(row: &Row, at: usize) -> Result<Option<&[u8]>, Error>
+pub fn blob_at(row: &Row, at: usize) -> Result<Option<&[u8]>, Error>
     ensures found { IfOk result (λ found. MatchOption found
         ((b : _) → column row.now at ≡ Blob b → ⊥)
         (λ b. column row.now at ≡ Blob b.now)) }
@@ -37,7 +37,7 @@ pub(crate) fn blob_at(row: &Row, at: usize) -> Result<Option<&[u8]>, Error>
 }
 
 /// Returns the integer of a column, or None if it holds none. Fails only if the row has no such column.
-pub(crate) fn int_at(row: &Row, at: usize) -> Result<Option<i64>, Error>
+pub fn int_at(row: &Row, at: usize) -> Result<Option<i64>, Error>
     ensures found { IfOk result (λ found. MatchOption found
         ((n : _) → column row.now at ≡ Int n → ⊥)
         (λ n. column row.now at ≡ Int n)) }
@@ -50,7 +50,7 @@ pub(crate) fn int_at(row: &Row, at: usize) -> Result<Option<i64>, Error>
 }
 
 /// Whether a column is a blob with these bytes. Fails only if the row has no such column.
-pub(crate) fn is_blob_at(row: &Row, at: usize, bytes: &[u8]) -> Result<bool, Error>
+pub fn is_blob_at(row: &Row, at: usize, bytes: &[u8]) -> Result<bool, Error>
     ensures found { IfOk result (λ b. Decides b (column row.now at ≡ Blob bytes.now)) }
     ensures past { IfErr result (λ _. length row.now ≤ at) }
 {

@@ -44,7 +44,7 @@ fn time_of(bytes: &[u8]) -> Option<TimeText>
 
 /// Returns the time of a column, or Some(None) if the column is NULL, or None if it is neither a time nor NULL.
 /// Fails only if the row has no such column.
-fn time_at(row: &Row, at: usize) -> Result<Option<Option<TimeText>>, Error>
+pub fn time_at(row: &Row, at: usize) -> Result<Option<Option<TimeText>>, Error>
     ensures found { IfOk result (λ found. MatchOption found
         ((t : _) → column row.now at ≡ or_null StoredText t → IfSome t IsTime → ⊥)
         (λ t. column row.now at ≡ or_null StoredText t)) }
@@ -344,7 +344,7 @@ fn shows_entry(alloc: Global, row: &Row, path: &str, version: &str) -> Result<bo
 }
 
 /// Returns how many versions of the path on its shelf have come with this place, or None if the place may not follow the last.
-fn run_up_to(last: &Option<Place>, many: u64, place: &Place) -> Option<u64>
+pub fn run_up_to(last: &Option<Place>, many: u64, place: &Place) -> Option<u64>
     ensures { MatchOption result
         (MayFollow last.now many place.now → ⊥)
         (λ n. MayFollow last.now many place.now × (n ≡ run_with last.now many place.now)) }

@@ -23,7 +23,7 @@
 //! What contracts say of values holds as long as the disk returns what was written.
 #![tactic(auto)]
 
-mod columns;
+pub mod columns;
 pub mod create;
 pub mod fit;
 pub mod laws;

@@ -22,7 +22,7 @@ const MAX_PIECES: u64 = 256;
 
 /// What a walk keeps of the last row of `piece`.
 #[derive(Clone, Copy)]
-struct LastPiece {
+pub struct LastPiece {
     version: i64,
     number: u64,
     is_full: bool,
@@ -73,7 +73,7 @@ fn number_at(row: &Row, at: usize) -> Result<Option<u64>, Error>
 }
 
 /// Returns what a walk keeps of the piece in a row, or None if the row holds no piece. Fails only if the row is too short.
-fn piece_at(row: &Row) -> Result<Option<LastPiece>, Error>
+pub fn piece_at(row: &Row) -> Result<Option<LastPiece>, Error>
     ensures found { IfOk result (λ found. MatchOption found
         (IsPieceRow row.now → ⊥)
         (λ p. (p ≡ piece_in row.now) × IsPieceRow row.now)) }
@@ -99,7 +99,7 @@ fn piece_at(row: &Row) -> Result<Option<LastPiece>, Error>
 }
 
 /// Whether a piece may follow the last one, if there is one.
-fn may_go_on(last: Option<LastPiece>, piece: LastPiece) -> bool
+pub fn may_go_on(last: Option<LastPiece>, piece: LastPiece) -> bool
     ensures { Decides result (MayGoOn last piece) }
 {
     let Some(last) = last else {

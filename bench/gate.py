@@ -3,10 +3,10 @@
 
 usage: python3 bench/gate.py [COMMIT] [--kept]
 
-COMMIT is HEAD if it is left out. With --kept, proofs of earlier runs on this machine count, as they do at a landing. The total is what
-the system counted for all processes of the run. The rest is a sample of the run's processes of the prover, twice a second: it misses
-the end of each. A peak is the most memory that one process held. The output of the run goes to gate.log in the folder that is printed
-first.
+COMMIT is HEAD if it is left out. With --kept, proofs of earlier runs on this machine count, as they do at a landing; kit 13b keeps none, so
+it is refused there. The total is what the system counted for all processes of the run. The rest is a sample of the run's processes of the
+prover, twice a second: it misses the end of each. A peak is the most memory that one process held. The output of the run goes to gate.log in
+the folder that is printed first.
 """
 
 import argparse
@@ -28,6 +28,16 @@ KINDS = ("proofs", "proofs of tests", "first bodies", "wrong bodies", "compilers
 def read(path):
     with open(path, encoding="utf-8", errors="replace") as it:
         return it.read()
+
+
+def gate(is_kept):
+    """The words that run the gate: a kit that keeps proofs runs from nothing by `--anew`, and one that keeps none has no such word."""
+    # (its status is 2)
+    told = subprocess.run(["rt", "help"], stdout=subprocess.PIPE, stderr=subprocess.STDOUT, text=True, check=False).stdout
+    keeps = "--anew" in told
+    if is_kept and not keeps:
+        sys.exit("--kept: this kit keeps no proofs, so each run is from nothing")
+    return ["rt", "ci", *(["--anew"] if keeps and not is_kept else [])]
 
 
 def kind_of(words, folder):
@@ -97,6 +107,7 @@ def main():
     words.add_argument("commit", nargs="?", default="HEAD", metavar="COMMIT")
     words.add_argument("--kept", action="store_true")
     said = words.parse_args()
+    command = gate(said.kept)
     commit = subprocess.run(["git", "-C", ROOT, "rev-parse", "--short", said.commit], capture_output=True, text=True, check=True).stdout.strip()
     folder = tempfile.mkdtemp(prefix="gate-")
     print(f"{commit} in {folder}", flush=True)
@@ -105,9 +116,8 @@ def main():
     sampler, start = Sampler(), time.monotonic()
     sampler.start()
     with open(f"{folder}/gate.log", "w", encoding="utf-8") as log:
-        gate = ["rt", "ci", *([] if said.kept else ["--anew"])]
         settings = dict(os.environ, PYTHONUNBUFFERED="1")
-        status = subprocess.run(gate, cwd=f"{folder}/goshelf", env=settings, stdin=subprocess.DEVNULL, stdout=log, stderr=log).returncode
+        status = subprocess.run(command, cwd=f"{folder}/goshelf", env=settings, stdin=subprocess.DEVNULL, stdout=log, stderr=log).returncode
     sampler.ends.set()
     wall, took = (time.monotonic() - start) / 60, resource.getrusage(resource.RUSAGE_CHILDREN)
     sums = table(sampler.seen.values())

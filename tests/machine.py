@@ -26,7 +26,7 @@ start)
     mkdir -p "@/run/goshelf"
     goshelf serve --db "@/var/lib/goshelf/shelves.db" --port PORT --control "@/run/goshelf/control" > "@/serve.out" 2> "@/serve.err" < /dev/null &
     echo $! > "@/serve.pid"
-    until grep -qs '^listening on' "@/serve.out"; do kill -0 $! || exit 1; sleep 0.05; done ;;
+    until grep -qs '^listening on' "@/serve.out"; do kill -0 $! || { cat "@/serve.err" >&2; exit 1; }; sleep 0.05; done ;;
 stop)
     [ -e "@/serve.pid" ] || exit 0
     kill "$(cat "@/serve.pid")"

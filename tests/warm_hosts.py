@@ -140,8 +140,10 @@ class Warm(Company):
         wait_until(lambda: self.warm.workers() and not before & self.warm.workers())
 
     def kill(self):
-        """The store's goshelf is killed."""
-        os.kill(int(self.first.read("serve.pid")), 9)
+        """The store's goshelf is killed, and has ended: until then it holds the store."""
+        number = int(self.first.read("serve.pid"))
+        os.kill(number, 9)
+        wait_until(lambda: not os.path.exists(f"/proc/{number}"))
 
     def back(self, status=200):
         wait_until(lambda: self.desk.ask(WARM, "ann", "/-/modules")[0] == status)

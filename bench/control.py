@@ -4,7 +4,8 @@
 Build the program first (`./goshelf --version`); cc is on the path. With --program FILE it measures that program. It prints a table for
 bench/RESULTS.md, of four parts, or of those that --only names:
 
-  gets      GETs a second of one `.mod` with `--control` beside those without, in turn, by a client in C, each on a connection of its own
+  gets      GETs a second of one `.mod` with `--control` beside those without, in turn, by a client in C, each on a connection of its own, and
+            the server's processor time of one, which other processes on the machine hardly change
   orders    how long orders take while eight clients ask on and on: keys that are added and revoked, each on the disk before it is told
   revoke    on a store of a million versions, made by sqlite3: how long a key's revocation takes while eight clients ask with it, and how
             many requests that began after `done` were answered 200, of which there may be none
@@ -90,26 +91,44 @@ def in_order(values, share):
     return sorted(values)[min(len(values) - 1, int(share * len(values)))]
 
 
+def used(child):
+    """Microseconds of processor time that a process has used."""
+    with open(f"/proc/{child.pid}/schedstat", encoding="ascii") as file:
+        return int(file.read().split()[0]) / 1_000
+
+
+def got(words, client, child, port, lanes):
+    """GETs a second of a server, and the microseconds of its processor time that one takes."""
+    before = used(child)
+    seconds, _ = fetched(client, port, [mod(0)] * words.gets, lanes)
+    return words.gets / seconds, (used(child) - before) / words.gets
+
+
 def gets(words, folder, client):
-    """GETs a second with the socket beside those without, as rows of the table."""
+    """GETs with the socket beside those without, as rows of the table."""
     files = [os.path.join(folder, f"{name}.db") for name in ("with", "without")]
     for file in files:
         store.filled(file, 1)
-    server, (plain, port) = Server(words.program, files[0], f"{folder}/control"), started(words.program, files[1])
-    targets, rows = [mod(0)] * words.gets, []
+    server, plain = Server(words.program, files[0], f"{folder}/control"), started(words.program, files[1])
+    both, rows = [(server.child, server.port), plain], []
     for lanes in (1, 8):
-        took = {it: [] for it in (server.port, port)}
+        took = [[], []]
         for number in range(words.rounds):
             # by turns the one and the other first
-            for it in sorted(took, reverse=number % 2 == 0):
-                took[it].append(fetched(client, it, targets, lanes)[0])
-        ours, theirs = ([words.gets / seconds for seconds in took[it]] for it in (server.port, port))
-        ratio = statistics.median(one / other for one, other in zip(ours, theirs))
-        text = f"{statistics.median(ours):,.0f} a second, {ratio:.2f} times the {statistics.median(theirs):,.0f} without"
+            for at in (number % 2, 1 - number % 2):
+                took[at].append(got(words, client, *both[at], lanes))
+        rates, micros = zip(*(zip(*it) for it in took))
+        text = beside(*rates, ",.0f", " a second") + " without; " + beside(*micros, ".1f", " µs of the server's processor")
         rows.append((f"GETs of a `.mod` with `--control`, {clients(lanes)}", text))
     server.stop()
-    stopped(plain)
+    stopped(plain[0])
     return rows
+
+
+def beside(ours, theirs, form, unit):
+    """The medians of two kinds of turns, and that of their ratios turn by turn."""
+    ratio = statistics.median(one / other for one, other in zip(ours, theirs))
+    return f"{statistics.median(ours):{form}}{unit}, {ratio:.2f} times the {statistics.median(theirs):{form}}"
 
 
 def clients(count):

@@ -1,4 +1,4 @@
--- What was accepted is written for good: the law of runs, in bytes.
+-- What a publish handed in is served for good once it was accepted: the law of runs, in bytes.
 use Rattle.std.proofs.Common.{◌≡◌, ◌⊎◌, ◌≤◌, ℕ, [], ◌∷◌, refl, ◌∙◌, ap, subst, inl, inr, arith}
 use Rattle.shelf.specs.declared.ask.Ask.TheVariants.{Get, Put}
 use Rattle.shelf.specs.declared.ask.Event.TheVariants.{Asked}
@@ -26,6 +26,7 @@ above : (n : ℕ) → 202 ≤ n → ¬ IsGood n
 above n more (inl is) = omega arith
 above n more (inr is) = omega arith
 
+-- a decision with status 201 or 200 accepts the publish
 accepted : (d : Decision) → IsGood (fixed_status (fixed_of d)) → IsAccepted d
 accepted decision.Published good = tt
 accepted decision.Same good = tt
@@ -42,6 +43,7 @@ accepted (decision.Refused refusal.IncompatibleGoMod) good = absurd (above 422 (
 accepted decision.Conflict good = absurd (above 409 (omega arith) good)
 accepted decision.Full good = absurd (above 507 (omega arith) good)
 
+-- a GET after an accepted publish gets what the publish handed in, or the 503
 pub accepted_is_written : AcceptedIsWritten
 accepted_is_written old mid new s k later p b wanted r put get events answers is own asks body good run later_own targets back again =
     by_answer (answer_of put) refl
@@ -52,7 +54,7 @@ accepted_is_written old mid new s k later p b wanted r put get events answers is
     after : Run mid (Asked (Get later (spec.query_of wanted)) ∷ []) (answer_of get ∷ []) new
     after = subst (λ e. Run mid (e ∷ []) (answer_of get ∷ []) new) (ap Asked asks_again) again
 
-    -- the status of a PUT that was replied to is that of its decision
+    -- the PUT was not answered by a fault, because a 503 is neither 201 nor 200, so its status is that of its decision
     by_answer : (a : Answer) → answer_of put ≡ a → (text_of get ≡ bytes_of get.message (Replied r)) ⊎ (text_of get ≡ unavailable)
     by_answer (Failed fault) told =
         absurd (above 503 (omega arith) (subst IsGood (ap (λ a. page_status (page_for put.message a)) told) good))

@@ -14,7 +14,7 @@ use Rattle.wire.specs.declared.request.Target.TheVariants as target
 use Rattle.shelf.specs.declared.ask.GivenTime.TheVariants.{Malformed}
 use Rattle.engine.specs.Ask.{time_in, given_time, ask_at, asking_of, is_summed, sum_at, sum_by, sum_of, target_in}
 
--- more than one value of `Version-Time`
+-- more than one value of `Version-Time` is malformed
 pub many_times : (values : List (Vec ℕ Global)) → 1 < length values → given_time (texts values) ≡ Malformed
 many_times [] many = absurd (omega arith)
 many_times (v ∷ []) many = absurd (omega arith)
@@ -25,11 +25,11 @@ time_or_not text true moment form m never =
     absurd (never (IsUtf8-from_ascii text (fits_form-ascii (codes "dddd-dd-ddTdd:dd:ddZ") text refl form)))
 time_or_not text false moment form m never = rw form refl
 
--- what is no text is no time
+-- a value that is not UTF-8 is malformed
 pub no_text : (text : List ℕ) → (IsUtf8 text → ⊥) → time_in text ≡ Malformed
 no_text text never = time_or_not text (has_time_form text) (is_moment text) refl refl never
 
--- the go.sum line that is asked for is that of the go.mod that the machine is asked for
+-- the go.sum line that a message asks for is that of the go.mod that the machine is asked for
 sum_at_target : (m : Request) (t : Target) → sum_by (record { ask = ask_at m t; is_summed = is_summed t }) ≡ sum_at t
 sum_at_target m target.Unreadable = refl
 sum_at_target m (target.Put key path version) = refl

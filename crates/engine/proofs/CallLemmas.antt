@@ -40,7 +40,7 @@ marked_messages (false ∷ marks) (piece ∷ pieces) (m ∷ ms) are = marked_mes
 
 -- ---- a call that came to the end
 
--- what closed the stream is what its end asks for
+-- the end of a stream that was not closed by the 503 determines the bytes that closed it
 closed : (rest : List ℕ) (closing : Option Fixed) → IsClosing rest closing → closing ≢ Some Unavailable
     → (end : End) × Ends rest end × (closing_bytes closing ≡ end_bytes end)
 closed rest None closes other = (clean, closes, refl)
@@ -53,11 +53,12 @@ texts_joined : (xs : List Exchange) → texts_of xs ≡ concat (map text_of xs)
 texts_joined [] = refl
 texts_joined (x ∷ xs) = ap (λ texts. text_of x ++ texts) (texts_joined xs)
 
--- it answered each message of the stream
+-- a call answered each message of the stream
 record CameToTheEnd (messages : List Request) (end : End) (xs : List Exchange) (out : List ℕ) : Type 0 where
   all : map message_of xs ≡ messages
   wrote : out ≡ concat (map text_of xs) ++ end_bytes end
 
+-- a call that returned `Ok` and did not close with the 503 answered each message of its stream
 came_to_the_end : (old new : Shown) (before now : ℕ) (bytes : List ℕ) (unread written written_new : Option (List ℕ)) (messages : List Request) (end : End)
     → IsStream bytes messages end → (call : Serves old new before now (Some bytes) unread written written_new (Ok tt))
     → call.ends.1.0 ≢ Some Unavailable → CameToTheEnd messages end call.exchanges call.out
@@ -72,7 +73,7 @@ came_to_the_end old new before now bytes unread written written_new messages end
           ∙ ap (λ last. concat (map text_of call.exchanges) ++ last) (at.2 ∙ ap end_bytes same.1);
     }
 
--- the texts of the messages that are kept of a stream
+-- the marks of a whole stream keep the same texts of its first exchanges as the marks of these
 texts_kept : (w : World) (ss : List (List ℕ)) (messages : List Request) (xs : List Exchange) (left : List Request) → messages ≡ map message_of xs ++ left
     → marked (kept_for w ss messages) (map text_of xs) ≡ kept_texts w ss xs
 texts_kept w ss messages xs left is =
@@ -87,7 +88,8 @@ all_asked : (xs : List Exchange) → AllAsked (map event_of xs)
 all_asked [] = tt
 all_asked (x ∷ xs) = all_asked xs
 
--- what two calls told, for what s sees in a world that is later than their begin: a stream has no command of the registry
+-- two calls wrote the same texts for the kept messages, and their worlds agree, by what s sees in a later world than the first;
+-- a stream has no registry command, so what s sees does not change within it
 told_alike : (w x one two later : World) (s : List ℕ) (full purged : List Exchange) → IsWorld w → Later w later → Agree w x (chain later s)
     → Run w (map event_of full) (map answer_of full) one → Run x (map event_of purged) (map answer_of purged) two
     → map message_of purged ≡ kept_messages w (chain later s) full → NoneUnavailable (kept_texts w (chain later s) full) → NoneUnavailable (map text_of purged)
@@ -95,6 +97,7 @@ told_alike : (w x one two later : World) (s : List ℕ) (full purged : List Exch
 told_alike w x one two later s full purged is then agree run again same others none =
     exchanges_alike w x one two later s full purged is (later_than_asked w one later (map event_of full) (map answer_of full) (all_asked full) run then) agree run again same others none
 
+-- two calls that both came to the end of their streams wrote alike
 pub calls_tell_alike : (old new old_too new_too : Shown) → ((w : World) → old.stands w → IsWorld w) → CallsTellAlike old new old_too new_too
 calls_tell_alike old new old_too new_too sound w x later s events answers messages end leads calls other other_too others none =
     let ss : List (List ℕ) = chain later s in
@@ -127,7 +130,7 @@ calls_tell_alike old new old_too new_too sound w x later s events answers messag
 
 -- ---- as far as both went
 
--- what a call answered begins with its stream
+-- the stream of a call begins with the input that it answered
 input_begins : (bytes : List ℕ) (unread : Option (List ℕ)) (xs : List Exchange) (input rest out : List ℕ) (result : Result (Unit {0}) Io)
     → Ended (Some bytes) unread xs input rest out result → (more : List ℕ) × (bytes ≡ input ++ more)
 input_begins bytes unread xs input rest out (Ok u) (told, closing) = ([], sym told ∙ sym (append-nil input))
@@ -135,7 +138,7 @@ input_begins bytes None xs input rest out (Err io.Read) (consumed, waits, is) = 
 input_begins bytes (Some left) xs input rest out (Err io.Read) (consumed, waits, is) = (left, consumed)
 input_begins bytes unread xs input rest out (Err io.Write) (told, broken) = ([], sym told ∙ sym (append-nil input))
 
--- so its messages are the first of the stream's
+-- the messages that a call answered are the first of its stream
 first_messages : (old new : Shown) (before now : ℕ) (bytes : List ℕ) (unread written written_new : Option (List ℕ)) (result : Result (Unit {0}) Io)
     (messages : List Request) (end : End) → IsStream bytes messages end → (call : Serves old new before now (Some bytes) unread written written_new result)
     → (left : List Request) × (messages ≡ map message_of call.exchanges ++ left)
@@ -145,6 +148,7 @@ first_messages old new before now bytes unread written written_new result messag
     stream_begins bytes (map message_of call.exchanges) messages (call.rest ++ begins.0) end
     (subst (λ all. ReadsMessages all (map message_of call.exchanges) (call.rest ++ begins.0)) (sym begins.1) reads) stream
 
+-- whichever of two calls ended first, the texts of one begin with those of the other
 as_far : (w x one two later : World) (s : List ℕ) → IsWorld w → Later w later → Agree w x (chain later s) → (full purged : List Exchange)
     → Run w (map event_of full) (map answer_of full) one → Run x (map event_of purged) (map answer_of purged) two
     → NoneUnavailable (kept_texts w (chain later s) full) → NoneUnavailable (map text_of purged)
@@ -163,6 +167,7 @@ as_far w x one two later s is then agree full purged run again others none (inr 
     let alike = told_alike w x short.0 two later s front purged is then agree short.1 again same (none_front (kept_texts w ss front) kept_so.0 (subst NoneUnavailable all others)) none in
     (kept_so.0, inl (all ∙ ap (λ texts. texts ++ kept_so.0) (sym alike.0)))
 
+-- however two calls ended, they wrote the same texts for the kept messages as far as both went
 pub calls_tell_alike_as_far : (old new old_too new_too : Shown) → ((w : World) → old.stands w → IsWorld w) → CallsTellAlikeAsFar old new old_too new_too
 calls_tell_alike_as_far old new old_too new_too sound w x later s events answers messages end result result_too leads calls others none =
     let ss : List (List ℕ) = chain later s in

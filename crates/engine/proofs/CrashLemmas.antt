@@ -5,7 +5,7 @@ use Rattle.world.specs.Store.{Shown}
 use Rattle.engine.specs.Exchange.{Exchange, Outcome, Unserved, Met, Told}
 use Rattle.engine.specs.Store.{LeavesTwo, AllCalm, world_at}
 
--- what holds of the store's worlds before holds of its worlds now
+-- if each crash that may leave a world before may also leave it now, `LeavesTwo` still holds
 pub leaves_kept : (mid new : Shown) → ((w x : World) → mid.leaves w x → new.leaves w x) → (w : World) (xs : List Exchange)
     → LeavesTwo mid w xs → LeavesTwo new w xs
 leaves_kept mid new kept w [] leaves = kept w w leaves
@@ -21,7 +21,7 @@ world_step w x xs = by_outcome x.outcome
     by_outcome (Met fault) = refl
     by_outcome (Told reply) = refl
 
--- after messages that met no fault, more messages
+-- if `LeavesTwo` holds of more messages once the first ones were calm, it holds of all of them
 pub leaves_more : (new : Shown) (w : World) (xs : List Exchange) (y : Exchange) (ys : List Exchange)
     → (AllCalm w xs → LeavesTwo new (world_at w xs) (y ∷ ys)) → LeavesTwo new w (xs ++ y ∷ ys)
 leaves_more new w [] y ys next = next tt

@@ -1,4 +1,4 @@
--- What the first turn of a stream says.
+-- The first turn of a stream.
 use Rattle.std.proofs.Common.{◌≡◌, ℕ, List, [], ◌++◌, Option, Some, None, Result, Ok, Err, inl, inr, refl, sym, ap, ◌∙◌, subst, IfOk, IfErr}
 use Rattle.std.specs.Io.KnownBytes.{Consumes, Keeps, Appends}
 use Rattle.std.proofs.KnownBytes.{Appends-kept, Keeps-trans}
@@ -16,7 +16,7 @@ use Rattle.engine.specs.declared.session.Turn.{Turn}
 use Rattle.engine.specs.declared.session.Turn.TheVariants as turn
 use Rattle.engine.proofs.ServedLemmas.{left_of, Tells_left, Tells_after}
 
--- what stands next where nothing is held stands first
+-- what comes next comes first if nothing is held
 pub first_next : (old new : Framing) (u u' : Option (List ℕ)) (first : First) → old.held ≡ [] → TakesNext old new u u' first → TakesFirst u u' first
 first_next old new u u' first none next =
     let near = next.near (unfinished_nothing old.held none) in
@@ -32,6 +32,7 @@ first_next old new u u' first none next =
       unfinished = subst (λ (held : List ℕ). IsUnfinished (held ++ near.early)) none near.unfinished;
     }
   where
+    -- what comes next is the first of some input of the reader
     by_first : (first : First) → IsNext old new u next.bytes first → (input : List ℕ) × (Tells u input × IsFirst first input)
     by_first (Answers x) (reads, sound) = (
       next.bytes ++ left_of u',
@@ -50,7 +51,7 @@ status_of_turn : (first : First) → turn_status (turn_of first) ≡ first_statu
 status_of_turn (Answers x) = refl
 status_of_turn (Closes closing) = refl
 
--- the first turn of a stream, and its end
+-- the first turn of a stream and `end_turn` make what `answer_one` promises
 pub first_turned : (old new : Shown) (before now : ℕ) (u u' w w' w'' : Option (List ℕ)) (held held_new : Framing) (turned : Result Turn Io)
     (result : Result (Option ℕ) Io) → held.held ≡ [] → Turns old new before now u u' w w' held held_new turned → Keeps w' w'' → EndsBy turned result
     → ServesFirst old new before now u u' w w'' result
@@ -66,7 +67,7 @@ first_turned old new before now u u' w w' w'' held held_new (Err io.Write) resul
     subst (ServesFirst old new before now u u' w w'') (sym ends)
     (first, first_next held held_new u u' first none next, through, inl (part, begins, Appends-kept w w' w'' part appends keeps))
 
--- no status is told only where the stream was closed
+-- what holds of a turn that closed the stream holds of a result without a status
 pub none_told : (turned : Result Turn Io) (result : Result (Option ℕ) Io) (P : Type 0) → IfOk turned (λ t. IsClosed t → P) → EndsBy turned result
     → IfOk result (λ status. status ≡ None → P)
 none_told (Ok (turn.Answered n)) (Ok status) P closed ends = λ none. cc
@@ -75,7 +76,7 @@ none_told (Ok turned) (Err e) P closed ends = tt
 none_told (Err before) (Ok status) P closed ends = λ none. cc
 none_told (Err before) (Err e) P closed ends = tt
 
--- a read failed only within the turn
+-- what holds of a turn with a failed read holds of a result with one, because `end_turn` reads nothing
 pub unread_told : (turned : Result Turn Io) (result : Result (Option ℕ) Io) (P : Type 0) → IfErr turned (λ e. e ≡ io.Read → P) → EndsBy turned result
     → IfErr result (λ e. e ≡ io.Read → P)
 unread_told turned (Ok status) P unread ends = tt

@@ -1,4 +1,4 @@
--- The front of a run, and of what is kept of it.
+-- The front of a run, and the front of what is kept of it.
 use Rattle.std.proofs.Common.{◌≡◌, ◌⊎◌, ℕ, List, [], ◌∷◌, ◌++◌, Bool, true, false, refl, ◌∙◌, sym, ap, inl, inr}
 use Rattle.std.specs.Prelude.{map}
 use Rattle.wire.specs.Message.{Request}
@@ -12,7 +12,7 @@ use Rattle.engine.specs.Reply.{text_of}
 use Rattle.engine.specs.Calls.{NoneUnavailable}
 use Rattle.engine.proofs.PurgedLemmas.{kept_messages, kept_texts}
 
--- a run over the first messages
+-- the front of a run is a run
 pub run_front : (w new : World) (xs more : List Exchange) → Run w (map event_of (xs ++ more)) (map answer_of (xs ++ more)) new
     → (mid : World) × Run w (map event_of xs) (map answer_of xs) mid
 run_front w new [] more run = (w, refl)
@@ -37,7 +37,7 @@ marked_nothing [] = refl
 marked_nothing (true ∷ marks) = refl
 marked_nothing (false ∷ marks) = refl
 
--- the marks of more messages say the same of the first
+-- the marks of more messages keep the same texts of the first ones
 pub marks_front : (w : World) (ss : List (List ℕ)) (xs : List Exchange) (left : List Request)
     → marked (kept w ss (map spec.event_of (map message_of xs ++ left))) (map text_of xs) ≡ kept_texts w ss xs
 marks_front w ss [] left = marked_nothing (kept w ss (map spec.event_of left))
@@ -48,6 +48,7 @@ marks_front w ss (x ∷ xs) left =
       | false ↦ marks_front next ss xs left
     ]
 
+-- the texts kept of more exchanges begin with those kept of the first ones
 pub kept_front : (w : World) (ss : List (List ℕ)) (xs more : List Exchange)
     → (others : List (List ℕ)) × (kept_texts w ss (xs ++ more) ≡ kept_texts w ss xs ++ others)
 kept_front w ss [] more = (kept_texts w ss more, refl)
@@ -61,21 +62,21 @@ kept_front w ss (x ∷ xs) more =
       ],
     )
 
--- ---- where the one ends before the other
+-- ---- if one ends before the other
 
--- the second list goes as far as the first, or farther
+-- the second list begins with all that is kept of the first
 abbrev pub GoesAsFar : World → List (List ℕ) → List Exchange → List Exchange → Type 0
 GoesAsFar w ss xs ys = (front more : List Exchange) × (ys ≡ front ++ more) × (map message_of front ≡ kept_messages w ss xs)
 
--- it ends before
+-- the second list is what is kept of a front of the first
 abbrev pub EndsBefore : World → List (List ℕ) → List Exchange → List Exchange → Type 0
 EndsBefore w ss xs ys = (front more : List Exchange) × (xs ≡ front ++ more) × (map message_of ys ≡ kept_messages w ss front)
 
--- the kept messages among these, where the first is kept or not
+-- the kept messages among these, if the mark of the first is b
 abbrev headed : World → List (List ℕ) → Exchange → List Exchange → Bool → List Request
 headed w ss x xs b = marked (b ∷ kept (after w (event_of x)) ss (map event_of xs)) (message_of x ∷ map message_of xs)
 
--- the exchanges of a stream, and those of the stream without what is not kept, each as far as they went
+-- of the exchanges with a stream and those with the kept part of it, one list ends before the other or both end together
 pub either_ends : (w : World) (ss : List (List ℕ)) (xs ys : List Exchange) (left left_too : List Request)
     → marked (kept w ss (map spec.event_of (map message_of xs ++ left))) (map message_of xs ++ left) ≡ map message_of ys ++ left_too
     → GoesAsFar w ss xs ys ⊎ EndsBefore w ss xs ys

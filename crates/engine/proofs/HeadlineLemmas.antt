@@ -29,9 +29,9 @@ use Rattle.engine.specs.Reply.{reply_page, page_of, page_for, page_bytes, page_s
 use Rattle.engine.specs.Headline.{unavailable, CallersAreToldAlike, BytesStayServed, TellsLatest, LatestIsWritten}
 use Rattle.engine.proofs.ToldLemmas.{text_to, texts, events_are, told_events, told_texts, marked_events, marked_texts, IsExact, exact}
 
--- ---- nothing of others
+-- ---- nothing about others
 
--- by whatever text there is for what came and its answer
+-- two runs write the same texts for what is kept, whatever text is written for what came and its answer
 pub told_alike_by : (text_for : Coming → Answer → List ℕ) (old old_too new new_too : World) (s : List ℕ) (full purged : List Happening) → IsWorld old
     → Agree old old_too (chain new s)
     → Run old (map event_at full) (map answer_at full) new → Run old_too (map event_at purged) (map answer_at purged) new_too
@@ -69,7 +69,7 @@ callers_are_told_alike = told_alike_by text_in
 keyed : (w : World) (s k : List ℕ) (q : Query) (r : Reply) → belongs w k s → r ≡ keyed_reply w (fin.get w.keys k) q → r ≡ query_reply w s q
 keyed w s k q r own is = is ∙ ap (λ o. keyed_reply w o q) own.1 ∙ ap (λ t. query_reply w t q) own.2
 
--- what is told of a version with a 200 was found
+-- a reply about a version with status 200 found the version
 found_gomod : (m : Request) (o : Option Heading) → page_status (page_of m (gomod_reply o)) ≡ 200 → IsFound (gomod_reply o)
 found_gomod m None is = let wrong : ◌≡◌ {A = ℕ} 404 200 = is in absurd (omega arith)
 found_gomod m (Some shown) is = tt
@@ -99,6 +99,7 @@ pub failed_text : (m : Request) (a : Answer) → IsFailed a → bytes_of m a ≡
 failed_text m (Replied r) never = absurd never
 failed_text m (Failed fault) failed = refl
 
+-- a GET after one that was answered 200 gets the same text or the 503
 pub bytes_stay_served : BytesStayServed
 bytes_stay_served old mid new s k later wanted first last events answers is own one targets ok run later_own targets_again again =
     by_answer (answer_of first) refl
@@ -115,6 +116,7 @@ bytes_stay_served old mid new s k later wanted first last events answers is own 
     sums : spec.sum_of last.message ≡ spec.sum_of first.message
     sums = ap spec.sum_at targets_again ∙ sym (ap spec.sum_at targets)
 
+    -- the first GET was not answered by a fault, because a 503 is not 200
     by_answer : (a : Answer) → answer_of first ≡ a → (text_of last ≡ text_of first) ⊎ (text_of last ≡ unavailable)
     by_answer (Failed fault) told =
         let wrong : ◌≡◌ {A = ℕ} 503 200 = sym (ap (λ a. page_status (page_for first.message a)) told) ∙ ok in absurd (omega arith)
@@ -133,6 +135,7 @@ bytes_stay_served old mid new s k later wanted first last events answers is own 
 
 -- ---- the latest version
 
+-- the machine's reply for the latest version is written as the rules say
 latest_text : (w : World) → IsWorld w → (s path : List ℕ) (m : Request) → TellsLatest w s path (bytes_of m (Replied (query_reply w s (query.Latest path))))
 latest_text w is s path m =
     elim (latest_of w s path) as (λ o. latest_of w s path ≡ o → TellsLatest w s path (bytes_of m (Replied (query_reply w s (query.Latest path))))) [
@@ -144,6 +147,7 @@ latest_text w is s path m =
           inl (v, seen.0.entry.time, top, (seen.0, seen.1, refl), told)
     ] refl
 
+-- a GET of the latest version gets the text for it or the 503
 pub latest_is_written : LatestIsWritten
 latest_is_written old new s k path x is own asks run = by_answer (answer_of x) refl
   where

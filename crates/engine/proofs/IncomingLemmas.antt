@@ -1,4 +1,4 @@
--- What is read until the next message is whole.
+-- Reading until the next message is whole.
 use Rattle.std.proofs.Common.{◌≡◌, ℕ, ◌<◌, ◌≤◌, ◌+◌, List, [], ◌++◌, Option, Some, None, Ok, Err, length, refl, sym, ap, ◌∙◌, subst, arith, append_assoc, append-nil}
 use Rattle.std.specs.Io.KnownBytes.{Consumes}
 use Rattle.std.proofs.KnownBytes.{Consumes-nil, Consumes-trans, Consumes-kept}
@@ -19,7 +19,7 @@ use Rattle.engine.proofs.MessageLemmas.{message_shortens}
 use Rattle.engine.proofs.ReadLemmas.{near_few}
 use Rattle.engine.proofs.ServedLemmas.{left_of, Tells_left, Tells_after}
 
--- nothing was read
+-- at first nothing was read
 pub none_read : (held : Framing) (unread : Option (List ℕ)) (reads : ℕ) → held.failure ≡ None → ReadSoFar held held unread unread reads reads
 none_read held unread reads sound = record {
   bytes = [];
@@ -32,7 +32,7 @@ none_read held unread reads sound = record {
 
 module _
     (old now : Framing) (u₀ u₁ : Option (List ℕ)) (reads reads_now : ℕ) (far : ReadSoFar old now u₀ u₁ reads reads_now) where
-  -- bytes behind those that are held now stand behind those that were held at first
+  -- bytes behind those that are held now come behind those that were held at first and those that were read since
   behind : (more : List ℕ) → now.held ++ more ≡ old.held ++ (far.bytes ++ more)
   behind more = ap (λ (held : List ℕ). held ++ more) far.held ∙ append_assoc old.held far.bytes more
 
@@ -45,14 +45,14 @@ module _
     few = near.few;
   }
 
-  -- a message is whole
+  -- if a message is whole, it comes next
   pub message_comes : (new : Framing) (message : Message) → Takes now (taken.Message message) new
       → Comes old new reads reads_now u₀ u₁ (Ok (incoming.Message message))
   message_comes new message (reads_it, sound) =
       let shorter : length new.held < length now.held = message_shortens now.held (view message) new.held reads_it in
       (far.bytes, far.consumed, far.near, subst (λ (bytes : List ℕ). ReadsMessage bytes (view message) new.held) far.held reads_it, sound, omega (arith, shorter, far.less))
 
-  -- nothing that is held can go on
+  -- if the bytes held can't go on, the end comes next
   pub close_comes : (new : Framing) (closing : Fixed) → Takes now (taken.Close closing) new
       → Comes old new reads reads_now u₀ u₁ (Ok (incoming.End (Some closing)))
   close_comes new closing (closes, memory) = record {
@@ -62,17 +62,17 @@ module _
     stands = (far.bytes ++ left_of u₁, Tells_after u₀ u₁ far.bytes (left_of u₁) far.consumed (Tells_left u₁), subst (λ (bytes : List ℕ). IsClosing bytes (Some closing)) (behind (left_of u₁)) (closes (left_of u₁)));
   }
 
-  -- no read is left
+  -- if no read is left, the call fails with `Io::Read`
   pub no_read_left : (new : Framing) → IsUnfinished now.held → Comes old new reads reads_now u₀ u₁ (Err io.Read)
   no_read_left new waits = (refl, (far.bytes, far.consumed, subst IsUnfinished far.held waits))
 
   module _ (u₂ : Option (List ℕ)) (next : Framing) where
-    -- a read failed
+    -- if a read fails, the call fails
     pub read_fails : (e : Io) (left : ℕ) → IsUnfinished now.held → ReadsOn now next u₁ u₂ (Err e) → Comes old next reads left u₀ u₂ (Err e)
     read_fails e left waits (is, keeps) =
         (is, (far.bytes, Consumes-kept u₀ u₁ u₂ far.bytes far.consumed keeps, subst IsUnfinished far.held waits))
 
-    -- the read ended the stream
+    -- if the read ended the stream, the end comes next
     pub end_comes : (closing : Option Fixed) (left : ℕ) → ReadsOn now next u₁ u₂ (Ok (reading.Ends closing))
         → Comes old next reads left u₀ u₂ (Ok (incoming.End closing))
     end_comes closing left (bytes, consumes, near, (all, told, closes), some) = record {
@@ -82,7 +82,7 @@ module _
       stands = (far.bytes ++ all, Tells_after u₀ u₁ far.bytes all far.consumed told, subst (λ (bytes : List ℕ). IsClosing bytes closing) (behind all) closes);
     }
 
-    -- the read gave more bytes
+    -- if the read gave more bytes, these were read too
     pub more_read : (left : ℕ) → left + 1 ≡ reads_now → ReadsOn now next u₁ u₂ (Ok reading.GoesOn)
         → length next.held ≤ length now.held + 65536 → ReadSoFar old next u₀ u₂ reads left
     more_read left one (bytes, consumes, near, is) few = record {
@@ -94,7 +94,7 @@ module _
       less = omega (arith, one, few, far.less);
     }
 
--- a message that came stands next, with what becomes of it
+-- a message that was taken comes next, whatever its outcome
 pub message_next : (old new : Framing) (reads left : ℕ) (u u' : Option (List ℕ)) (message : Message) (x : Exchange) → x.message ≡ view message
     → Comes old new reads left u u' (Ok (incoming.Message message)) → TakesNext old new u u' (Answers x)
 message_next old new reads left u u' message x is (bytes, consumed, near, reads_it, sound, less) = record {

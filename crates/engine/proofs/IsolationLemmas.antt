@@ -1,4 +1,4 @@
--- A caller is told what it is told in every world that is the same to it.
+-- A caller gets what it would get in every world that is the same to it.
 use Rattle.std.proofs.Common.{◌≡◌, ◌≢◌, ℕ, List, Option, Some, None, Result, Ok, refl, sym, ap, ◌∙◌, subst}
 use Rattle.std.specs.Io.KnownBytes.{Appends}
 use Rattle.wire.specs.Message.{Request, ReadsMessage, clean, too_large, bad}
@@ -32,18 +32,19 @@ closed_by_503 (Some BadRequest) input m rest status reads closes is = absurd (no
 closed_by_503 (Some Unavailable) input m rest status reads closes is = some_inside status 503 is
 closed_by_503 (Some other) input m rest status reads closes is = absurd closes
 
--- the machine's reply, in the world that the store stood for, was written and its status told
+-- the call wrote the machine's reply in this world, which the store stood for, and returned its status
 record IsReplied (new : Shown) (written written_new : Option (List ℕ)) (w : World) (m : Request) (status : ℕ) : Type 0 where
   bytes : Appends written written_new (bytes_of m (Replied (ask_reply w (ask_of m))))
   number : status ≡ page_status (page_of m (ask_reply w (ask_of m)))
   stands : new.stands (after_ask w (ask_of m))
 
--- so it was in each world that the store may have stood for
+-- the call did so in each world that the store may have stood for
 abbrev IsRepliedInEach : Shown → Shown → Option (List ℕ) → Option (List ℕ) → Request → ℕ → Type 0
 IsRepliedInEach old new written written_new m status =
     new.is_honest → (w : World) → old.stands w → IsReplied new written written_new w m status
 
 module _ (old new : Shown) (before now : ℕ) (u u' written written_new : Option (List ℕ)) where
+  -- a message that was answered with another status than 503 was replied to
   outcome_told : (m : Request) (outcome : Outcome) (status : ℕ) → let first = Answers (record { message = m; outcome = outcome }) in
       GoesThrough old new before now (first_exchanges first) → Some status ≡ first_status first → Appends written written_new (first_bytes first)
       → status ≢ 503 → IsRepliedInEach old new written written_new m status
@@ -57,6 +58,7 @@ module _ (old new : Shown) (before now : ℕ) (u u' written written_new : Option
         stands = at.ends;
       }
 
+  -- the first message of a known input was replied to, if the status is not 503
   first_told : (first : First) (input : List ℕ) (m : Request) (rest : List ℕ) (status : ℕ) → u ≡ Some input → TakesFirst u u' first
       → GoesThrough old new before now (first_exchanges first) → Some status ≡ first_status first → Appends written written_new (first_bytes first)
       → ReadsMessage input m rest → status ≢ 503 → IsRepliedInEach old new written written_new m status
@@ -74,6 +76,7 @@ module _ (old new : Shown) (before now : ℕ) (u u' written written_new : Option
   message_told input m rest status known (first, takes, through, is, appends) reads other =
       first_told first input m rest status known takes through is appends reads other
 
+  -- `answer_one` answers a message by the shelf of its key alone, unless it writes a 503
   pub alike : ((w : World) → old.stands w → IsWorld w) → (result : Result (Option ℕ) Io)
       → ServesFirst old new before now u u' written written_new result → AnswersByItsShelf old new u written written_new result
   alike sound result serves input m rest status known reads ended other honest w x s t k stands is_world low seen has key =
@@ -87,6 +90,7 @@ module _ (old new : Shown) (before now : ℕ) (u u' written written_new : Option
 
 -- ---- two stores
 
+-- two stores whose worlds are the same to the caller answer its request alike, unless one writes a 503
 pub two_answers_are_alike : (old new old_too new_too : Shown) → ((w : World) → old.stands w → IsWorld w)
     → ((w : World) → old_too.stands w → IsWorld w) → TwoAnswersAreAlike old new old_too new_too
 two_answers_are_alike old new old_too new_too sound sound_too w x s m written written_new written_too written_too_new status status_too two other other_too =

@@ -1,4 +1,4 @@
--- What is written for the requests of a team, by a store and by another that stands for the team's part of its world.
+-- What two stores write for the requests of a team, if the second stands for the team's part of the first one's world.
 use Rattle.std.proofs.Common.{◌≡◌, ◌⊎◌, List, [], ◌∷◌, inl, inr, refl, sym, ap, subst, ◌∙◌}
 use Rattle.std.specs.Prelude.{map}
 use Rattle.wire.specs.Message.{Request}
@@ -24,12 +24,12 @@ use Rattle.engine.proofs.ToldLemmas.{texts, events_are, told_events, told_texts}
 
 -- ---- two runs that answered alike
 
--- where what came is the same to both, so are its events
+-- two runs that answered the same messages and commands answered the same events
 pub answered_alike : (xs ys : List Happening) → map coming_of (told xs) ≡ map coming_of (told ys)
     → answered (map event_at xs) (map answer_at xs) ≡ answered (map event_at ys) (map answer_at ys)
 answered_alike xs ys same = told_events xs ∙ (events_are (told xs) ∙ ap (map event_in) same ∙ sym (events_are (told ys))) ∙ sym (told_events ys)
 
--- and where the replies are the same too, so are the texts
+-- two runs that answered the same messages and commands with the same replies wrote the same texts
 pub written_alike : (xs ys : List Happening) → map coming_of (told xs) ≡ map coming_of (told ys)
     → replies_of (map answer_at xs) ≡ replies_of (map answer_at ys) → map text_at (told xs) ≡ map text_at (told ys)
 written_alike xs ys same replies =
@@ -62,7 +62,7 @@ not_found_written m reply.NotFound is = refl
 not_found_written m (reply.Decided decision.NotFound) is = refl
 not_found_written m r is = absurd is
 
--- what is written for a message that the machine does not find
+-- a message whose reply is not found gets the 404 or the 503
 pub not_found_or_unavailable : (mid new : World) (x : Exchange) → IsNotFound (ask_reply mid (spec.ask_of x.message))
     → Run mid (event_of x ∷ []) (answer_of x ∷ []) new → (text_of x ≡ fixed_bytes NotFound) ⊎ (text_of x ≡ unavailable)
 not_found_or_unavailable mid new x found last = go (answer_of x) refl

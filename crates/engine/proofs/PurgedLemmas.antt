@@ -1,4 +1,4 @@
--- Messages that were answered, and those that are kept of them, where none of these was answered by the 503.
+-- The exchanges of a run, and those that are kept of them, if none of the kept ones was answered by the 503.
 use Rattle.std.proofs.Common.{◌≡◌, ◌≢◌, ℕ, List, [], ◌∷◌, Bool, true, false, refl, ◌∙◌, sym, ap, subst}
 use Rattle.std.specs.Prelude.{map}
 use Rattle.wire.specs.Message.{Request}
@@ -15,7 +15,7 @@ use Rattle.engine.specs.Exchange.{Exchange, message_of, event_of, answer_of}
 use Rattle.engine.specs.Headline.{unavailable}
 use Rattle.engine.specs.Reply.{bytes_of, text_of}
 
--- which of the messages are kept, these, and the texts written for them
+-- which of the exchanges are kept, their messages, and their texts
 abbrev pub are_kept : World → List (List ℕ) → List Exchange → List Bool
 are_kept w ss exchanges = kept w ss (map event_of exchanges)
 
@@ -25,7 +25,7 @@ kept_messages w ss exchanges = marked (are_kept w ss exchanges) (map message_of 
 abbrev pub kept_texts : World → List (List ℕ) → List Exchange → List (List ℕ)
 kept_texts w ss exchanges = marked (are_kept w ss exchanges) (map text_of exchanges)
 
--- what is written for messages with these answers
+-- the texts for messages with these answers
 abbrev texts_for : List Request → List Answer → List (List ℕ)
 texts_for (m ∷ ms) (a ∷ answers) = bytes_of m a ∷ texts_for ms answers
 texts_for ms answers = []
@@ -52,7 +52,7 @@ marked_texts (false ∷ marks) [] = refl
 marked_texts (true ∷ marks) (x ∷ xs) = ap (λ ts. text_of x ∷ ts) (marked_texts marks xs)
 marked_texts (false ∷ marks) (x ∷ xs) = marked_texts marks xs
 
--- a message that was not answered by the 503 was answered
+-- a message that was not answered by the 503 got a reply
 answered : (m : Request) (a : Answer) → bytes_of m a ≢ unavailable → IsAnsweredIfKept true a
 answered m (Replied r) other = tt
 answered m (Failed fault) other = absurd (other refl)
@@ -75,8 +75,8 @@ all_replied : (xs : List Exchange) → NoneUnavailable (map text_of xs) → AllR
 all_replied [] none = tt
 all_replied (x ∷ xs) none = (replied x.message (answer_of x) none.0, all_replied xs none.1)
 
--- Of two runs from worlds that agree, one over all messages and one over those that are kept, these are written the same, where none of them
--- was answered by the 503; and the worlds after both agree. So it is for what s sees in a later world.
+-- Two runs from worlds that agree, one over all messages and one over the kept ones, write the same texts for the kept ones if
+-- none of these is the 503, and the worlds after both agree. A later world says what s sees, and so what is kept.
 pub exchanges_alike : (old old_too new new_too later : World) (s : List ℕ) (full purged : List Exchange) → IsWorld old → Later new later → Agree old old_too (chain later s)
     → Run old (map event_of full) (map answer_of full) new → Run old_too (map event_of purged) (map answer_of purged) new_too
     → map message_of purged ≡ kept_messages old (chain later s) full

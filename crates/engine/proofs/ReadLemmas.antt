@@ -1,4 +1,4 @@
--- What a read says of the bytes held and of those that follow.
+-- What a read says about the bytes held and those that follow.
 use Rattle.std.proofs.Common.{◌≡◌, ◌≢◌, ℕ, ◌<◌, ◌≤◌, ◌+◌, ◌-◌, List, [], ◌++◌, Option, Some, None, length, take, drop, refl, sym, ap, ◌∙◌, subst, arith, append-nil, length-append, length-drop, take-append-drop}
 use Rattle.std.proofs.lemmas.List.{length-take-le}
 use Rattle.std.specs.Io.KnownBytes.{Consumes, IsAtEnd}
@@ -8,35 +8,35 @@ use Rattle.wire.proofs.StreamLemmas.{ReadsMessage-append, no_message_at_end}
 use Rattle.engine.specs.Served.{read_limit, Tells}
 use Rattle.engine.specs.Turn.{StaysNear}
 
--- a reader at its end told nothing more
+-- a reader that gave no bytes and is at its end had none
 pub Tells_end : (old new : Option (List ℕ)) → Consumes old new [] → IsAtEnd new → Tells old []
 Tells_end None new x end = tt
 Tells_end (Some xs) None x end = absurd x
 Tells_end (Some xs) (Some ys) x end = sym (x ∙ end)
 
--- bytes that end within a message
+-- if the input ends while the bytes held are unfinished and not empty, it ends badly
 pub ends_badly : (held : List ℕ) → IsUnfinished held → held ≢ [] → Ends (held ++ []) bad
 ends_badly held waits some = subst (λ bytes. Ends bytes bad) (sym (append-nil held)) (waits.ends some)
 
--- some bytes came
+-- if a byte came, the bytes held with all that follow are not empty
 pub some_came : (held bytes more : List ℕ) (n : ℕ) → 0 < n → n ≤ length bytes → held ++ (take n bytes ++ more) ≢ []
 some_came held bytes more n some within e =
     absurd (omega (arith, ap length e, length-append held (take n bytes ++ more), length-append (take n bytes) more, length-take-le n bytes within))
 
--- those that came are some
+-- if a byte came, the bytes that came are not empty
 pub are_some : (bytes : List ℕ) (n : ℕ) → 0 < n → n ≤ length bytes → take n bytes ≢ []
 are_some bytes n some within e = absurd (omega (arith, ap length e, length-take-le n bytes within))
 
--- they are no more than the buffer holds
+-- no more bytes came than the buffer holds
 pub are_few : (bytes : List ℕ) (n most : ℕ) → n ≤ length bytes → length bytes ≤ most → length (take n bytes) ≤ most
 are_few bytes n most within room = omega (arith, length-take-le n bytes within)
 
--- the framer holds no more than so many bytes more
+-- the framer grows by at most the bytes that it is fed
 pub fed_few : (old new : Framing) (bytes : List ℕ) (most : ℕ) → new ≡ record old { held = old.held ++ bytes } → length bytes ≤ most
     → length new.held ≤ length old.held + most
 fed_few old new bytes most is few = rw is (omega (arith, length-append old.held bytes, few))
 
--- few bytes came
+-- a read of at most `read_limit` bytes stays near
 pub near_few : (held bytes : List ℕ) → IsUnfinished held → length bytes ≤ read_limit → StaysNear held bytes
 near_few held bytes waits few = record {
   early = [];
@@ -46,7 +46,7 @@ near_few held bytes waits few = record {
   few = few;
 }
 
--- no more came than are missing of a message
+-- a read of at most the bytes that are missing of a message stays near
 pub near_missing : (held bytes : List ℕ) (missing : ℕ) → ((more : List ℕ) → length more < missing → IsUnfinished (held ++ more))
     → read_limit < missing → length bytes ≤ missing → StaysNear held bytes
 near_missing held bytes missing waits long few =
@@ -60,7 +60,7 @@ near_missing held bytes missing waits long few =
       few = omega (arith, length-drop n bytes);
     }
 
--- bytes that begin with a message are some
+-- bytes that begin with a message are not empty
 pub message_some : (bytes : List ℕ) → HasMessage bytes → (more : List ℕ) → bytes ++ more ≢ []
 message_some bytes (m, rest, reads) more e =
     no_message_at_end (bytes ++ more) clean e m (rest ++ more) (ReadsMessage-append bytes more m rest reads)

@@ -1,4 +1,4 @@
--- A run of the machine that another run follows.
+-- A run of the machine followed by another.
 use Rattle.std.proofs.Common.{◌≡◌, ◌⊎◌, List, [], ◌∷◌, ◌++◌, refl, inl, inr}
 use Rattle.shelf.specs.declared.ask.Event.{Event}
 use Rattle.shelf.specs.declared.reply.Answer.{Answer}
@@ -6,7 +6,7 @@ use Rattle.shelf.specs.declared.reply.Answer.TheVariants.{Replied, Failed}
 use Rattle.world.specs.World.{World}
 use Rattle.shelf.specs.Machine.{after, Run, MetDevice, world_after}
 
--- the world after both is that after the second, from the world after the first
+-- the world after both runs is the world after the second, from the world after the first
 pub world_more : (old mid : World) (events more : List Event) (answers last : List Answer) → Run old events answers mid
     → world_after (world_after old events answers) more last ≡ world_after old (events ++ more) (answers ++ last)
 world_more old mid [] more [] last run = refl

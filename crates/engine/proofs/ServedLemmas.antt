@@ -1,4 +1,4 @@
--- What the whole call says, from what was answered so far.
+-- The end of `answer_all`, from what was answered so far.
 use Rattle.std.proofs.Common.{◌≡◌, ℕ, inl, inr, List, [], ◌∷◌, ◌++◌, Option, Some, None, Result, Ok, Err, refl, sym, ap, ◌∙◌, subst, IfErr}
 use Rattle.std.specs.Io.KnownBytes.{Consumes, Appends, Keeps}
 use Rattle.std.proofs.KnownBytes.{Appends-trans, Appends-kept, Consumes-trans, Consumes-nil}
@@ -14,7 +14,7 @@ use Rattle.engine.specs.declared.fault.Io.TheVariants as io
 use Rattle.engine.specs.declared.session.Turn.TheVariants as turn
 use Rattle.engine.proofs.TurnLemmas.{answered_none, answered_nothing, answered_before, answered_one, answered_more, cut_before, cut_one, cut_more}
 
--- the bytes that a reader still has, as far as it tells
+-- the bytes that a reader still has, or none if they are not known
 abbrev pub left_of : Option (List ℕ) → List ℕ
 left_of None = []
 left_of (Some bytes) = bytes
@@ -23,14 +23,14 @@ pub Tells_left : (unread : Option (List ℕ)) → Tells unread (left_of unread)
 Tells_left None = tt
 Tells_left (Some bytes) = refl
 
--- what was read, and what the reader tells then
+-- the bytes that were read and those that the reader has then are those that it had
 pub Tells_after : (old new : Option (List ℕ)) (got more : List ℕ) → Consumes old new got → Tells new more → Tells old (got ++ more)
 Tells_after None new got more x tells = tt
 Tells_after (Some xs) None got more x tells = absurd x
 Tells_after (Some xs) (Some ys) got more x tells = ap (λ rest. got ++ rest) tells ∙ sym x
 
 module _ (old new : Shown) (before now : ℕ) (u u' w₀ w₁ w₂ : Option (List ℕ)) (input rest : List ℕ) where
-  -- the stream was closed
+  -- a call that answered the messages at the front and wrote what closes the stream, or failed at it, does as `Serves` says
   pub served : (closing : Option Fixed) (result : Result (Unit {0}) Io) → Answered old new before now w₀ w₁ input rest → Tells u input
       → IsClosing rest closing → Delivers w₁ w₂ (closing_bytes closing) result → Serves old new before now u u' w₀ w₂ result
   served closing (Ok tt) far told closes delivers = record {
@@ -65,7 +65,7 @@ module _ (old new : Shown) (before now : ℕ) (u u' w₀ w₁ w₂ : Option (Lis
     ends = (told, inr (inr (closing, closes, refl)));
   }
 
-  -- the last answer was cut short
+  -- a call whose last answer was cut short does as `Serves` says
   pub served_cut : CutShort old new before now w₀ w₁ input rest → Tells u input → Serves old new before now u u' w₀ w₁ (Err io.Write)
   served_cut far told = record {
     exchanges = far.first ++ far.last ∷ [];
@@ -86,7 +86,7 @@ so_far_none shown count u w = record {
   sound = refl;
 }
 
--- a text was written whole, and then the flush went well, or failed
+-- a text that was written whole is delivered, whether or not the flush fails
 pub delivered : (w w' w'' : Option (List ℕ)) (text : List ℕ) (result : Result (Unit {0}) Io) → Appends w w' text → Keeps w' w''
     → IfErr result (λ e. e ≡ io.Write) → Delivers w w'' text result
 delivered w w' w'' text (Ok u) appends keeps which = Appends-kept w w' w'' text appends keeps
@@ -95,17 +95,17 @@ delivered w w' w'' text (Err e) appends keeps which = (which, inr (Appends-kept 
 module _
     (old mid : Shown) (before between : ℕ) (u₀ u₁ w₀ w₁ : Option (List ℕ)) (framing : Framing)
     (far : SoFar old mid before between u₀ u₁ w₀ w₁ framing) (new : Shown) (now : ℕ) (u₂ w₂ : Option (List ℕ)) (next : Framing) where
-  -- what was answered before, with more bytes
+  -- what was answered before, if more bytes come
   with_more : (more : List ℕ) → Answered old mid before between w₀ w₁ (far.got ++ more) (framing.held ++ more)
   with_more more = answered_before old mid before between w₀ w₁ far.got framing.held more far.answered
 
-  -- so it was, and no message more
+  -- what was answered before, if more bytes come and no message is answered more
   with_nothing : (more : List ℕ) → GoesThrough mid new between now [] → Answered old new before now w₀ w₁ (far.got ++ more) (framing.held ++ more)
   with_nothing more through = answered_more
       old mid new before between now w₀ w₁ w₁ (far.got ++ more) (framing.held ++ more) (framing.held ++ more)
       (with_more more) (answered_nothing mid new between now w₁ (framing.held ++ more) through)
 
-  -- a message more was answered
+  -- after a turn that answered a message, one more is answered
   pub went_on : (status : ℕ) → Turns mid new between now u₁ u₂ w₁ w₂ framing next (Ok (turn.Answered status))
       → SoFar old new before now u₀ u₂ w₀ w₂ next
   went_on status (Closes closing, takes, through, is, appends) = cc
@@ -125,7 +125,7 @@ module _
       served old new before now u₀ u₂ w₀ w₁ w₃ (far.got ++ all) (framing.held ++ all) closing result (with_nothing all through)
       (Tells_after u₀ u₁ far.got all far.consumed told) closes delivers
 
-  -- the stream was closed, and flushed
+  -- a call does as `Serves` says if its last turn closed the stream and it flushed, or failed at it
   pub closed : (closing : Option Fixed) (w₃ : Option (List ℕ)) (result : Result (Unit {0}) Io)
       → Turns mid new between now u₁ u₂ w₁ w₂ framing next (Ok (turn.Closed closing)) → Keeps w₂ w₃ → IfErr result (λ e. e ≡ io.Write)
       → Serves old new before now u₀ u₂ w₀ w₃ result
@@ -133,7 +133,7 @@ module _
   closed closing w₃ result (Closes by, takes, through, is, appends) keeps which =
       closed_by by w₃ result takes through (delivered w₁ w₂ w₃ (closing_bytes by) result appends keeps which)
 
-  -- a turn failed
+  -- a call whose last turn failed does as `Serves` says
   pub failed : (e : Io) → Turns mid new between now u₁ u₂ w₁ w₂ framing next (Err e) → Serves old new before now u₀ u₂ w₀ w₂ (Err e)
   failed io.Read (bytes, consumed, waits, through, keeps) =
       let all = with_nothing bytes through in

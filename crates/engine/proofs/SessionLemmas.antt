@@ -1,4 +1,4 @@
--- What a turn says, from what came.
+-- What a turn does, from what came.
 use Rattle.std.proofs.Common.{◌≡◌, ℕ, ◌<◌, List, [], ◌∷◌, ◌++◌, Option, Result, Ok, Err, IfOk, IfErr, refl, sym, subst}
 use Rattle.std.proofs.KnownBytes.{Keeps-refl}
 use Rattle.wire.specs.Message.{Request}
@@ -23,7 +23,7 @@ use Rattle.engine.proofs.IncomingLemmas.{message_next}
 use Rattle.engine.proofs.StoreLemmas.{through_none}
 
 module _ (u u' w w' : Option (List ℕ)) (held held_new : Framing) (reads left : ℕ) where
-  -- a message came, and its reply was written
+  -- a turn that took a message and wrote its reply, or failed at it, does as `Turns` says
   pub turned_message : (old new : Shown) (before now : ℕ) (message : Message) (x : Exchange) (result : Result Turn Io) → x.message ≡ view message
       → Comes held held_new reads left u u' (Ok (incoming.Message message)) → GoesThrough old new before now (x ∷ [])
       → Writes w w' (text_of x) result → IfOk result (λ t. t ≡ turn.Answered (status_of x))
@@ -34,7 +34,7 @@ module _ (u u' w w' : Option (List ℕ)) (held held_new : Framing) (reads left :
   turned_message old new before now message x (Err io.Write) same comes through (_, part) is =
       (Answers x, message_next held held_new reads left u u' message x same comes, through, part)
 
-  -- so it was where the reply is this page
+  -- a turn that took a message and wrote the page for it, or failed at it, does as `Turns` says
   pub turned_page : (old new : Shown) (before now : ℕ) (message : Message) (x : Exchange) (page : Page) (result : Result Turn Io)
       → x.message ≡ view message → Comes held held_new reads left u u' (Ok (incoming.Message message)) → GoesThrough old new before now (x ∷ [])
       → page ≡ page_to x → Writes w w' (page_bytes page) result → IfOk result (λ t. t ≡ turn.Answered (page_status page))
@@ -43,7 +43,7 @@ module _ (u u' w w' : Option (List ℕ)) (held held_new : Framing) (reads left :
       old new before now message x result same comes through (subst (λ (p : Page). Writes w w' (page_bytes p) result) shown writes)
       (subst (λ (p : Page). IfOk result (λ t. t ≡ turn.Answered (page_status p))) shown is)
 
-  -- none came, and the stream was closed
+  -- a turn that took no message and closed the stream, or failed at it, does as `Turns` says
   pub turned_end : (shown : Shown) (count : ℕ) (closing : Option Fixed) (result : Result Turn Io)
       → Comes held held_new reads left u u' (Ok (incoming.End closing)) → Writes w w' (closing_bytes closing) result
       → IfOk result (λ t. t ≡ turn.Closed closing) → Turns shown shown count count u u' w w' held held_new result
@@ -51,7 +51,7 @@ module _ (u u' w w' : Option (List ℕ)) (held held_new : Framing) (reads left :
   turned_end shown count closing (Err io.Read) comes (wrong, part) is = cc
   turned_end shown count closing (Err io.Write) comes (_, part) is = (Closes closing, comes, through_none shown count, part)
 
--- a read failed
+-- a turn whose read failed does as `Turns` says
 pub turned_unread : (shown : Shown) (count : ℕ) (u u' w : Option (List ℕ)) (held held_new : Framing) (reads left : ℕ) (e : Io) (result : Result Turn Io)
     → Comes held held_new reads left u u' (Err e) → result ≡ Err e → Turns shown shown count count u u' w w held held_new result
 turned_unread shown count u u' w held held_new reads left io.Read result (_, (bytes, consumed, waits)) is =

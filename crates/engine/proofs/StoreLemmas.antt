@@ -25,7 +25,7 @@ calm_parts w [] ys all = (tt, all)
 calm_parts w (x ∷ xs) ys all =
     let parts = calm_parts (world_at w (x ∷ [])) xs ys all.1 in ((all.0, parts.0), subst (λ v. AllCalm v ys) (world_step w x xs) parts.1)
 
--- the count of failures only grows
+-- if the count of failures grew or is full at one of two moments, it grew or is full after both
 grown_first : (before mid now : ℕ) → GrewOrFull before mid → mid ≤ now → GrewOrFull before now
 grown_first before mid now (inl grew) more = inl (omega arith)
 grown_first before mid now (inr full) more = inr (omega arith)
@@ -34,7 +34,7 @@ grown_next : (before mid now : ℕ) → before ≤ mid → GrewOrFull mid now �
 grown_next before mid now less (inl grew) = inl (omega arith)
 grown_next before mid now less (inr full) = inr full
 
--- a body that is composed is one
+-- a reply whose body is composed has a body
 composed_body : (sum : Option (List ℕ × SemanticVersion)) (r : Reply) → IsComposed sum r → HasBody r
 composed_body sum (GoMod b) composed = tt
 composed_body sum (Info v time) composed = tt
@@ -44,6 +44,7 @@ composed_body sum other composed = absurd composed
 
 -- ---- none
 
+-- an unchanged store goes through no messages
 pub through_none : (shown : Shown) (count : ℕ) → GoesThrough shown shown count count []
 through_none shown count = record {
   runs = record {
@@ -59,7 +60,7 @@ through_none shown count = record {
 
 -- ---- one
 
--- the machine was not asked
+-- an unchanged store goes through a message that the machine did not see
 pub through_unasked : (shown : Shown) (count : ℕ) (m : Request) → ((w x : World) → shown.leaves w w → shown.leaves w x)
     → GoesThrough shown shown count count (record { message = m; outcome = Unserved } ∷ [])
 through_unasked shown count m wider = record {
@@ -75,13 +76,13 @@ through_unasked shown count m wider = record {
 }
 
 module _ (old new : Shown) (before now : ℕ) (m : Request) (ask : Ask) (is : ask ≡ ask_of m) where
-  -- in one world, of the message
+  -- the step does in each world what it does for the event of the message
   asked : new.is_honest → (w : World) → old.stands w → (told : Result Reply StoreFault)
       → Does {T = Reply} old new told (λ w. ask_reply w ask) (λ w. after_ask w ask)
       → DoesAt {T = Reply} old new w told (reply_to w (event_of_message m)) (after w (event_of_message m))
   asked h w stands told does = subst (λ a. DoesAt {T = Reply} old new w told (ask_reply w a) (after_ask w a)) is (does.at h w stands tt)
 
-  -- it met a fault
+  -- the store goes through a message at which it met a fault
   pub through_met : (fault : StoreFault) → Does {T = Reply} old new (Err fault) (λ w. ask_reply w ask) (λ w. after_ask w ask)
       → HasCause {T = Reply} before now (Err fault) → GoesThrough old new before now (record { message = m; outcome = Met fault } ∷ [])
   through_met fault does cause = record {
@@ -99,7 +100,7 @@ module _ (old new : Shown) (before now : ℕ) (m : Request) (ask : Ask) (is : as
     device = λ met. elim met [ inl same ↦ cause.device cc | inr never ↦ absurd never ];
   }
 
-  -- it replied
+  -- the store goes through a message that got a reply
   pub through_told : (reply : Reply) → Does {T = Reply} old new (Ok reply) (λ w. ask_reply w ask) (λ w. after_ask w ask)
       → HasCause {T = Reply} before now (Ok reply) → GoesThrough old new before now (record { message = m; outcome = Told reply } ∷ [])
   through_told reply does cause = record {
@@ -117,7 +118,7 @@ module _ (old new : Shown) (before now : ℕ) (m : Request) (ask : Ask) (is : as
       kept : (w : World) → new.leaves (after_ask w ask) (after_ask w ask) → new.leaves (after_ask w (ask_of m)) (after_ask w (ask_of m))
       kept w leaves = subst (λ x. new.leaves x x) (ap (after_ask w) is) leaves
 
-  -- it replied with a body that there was no memory for: the world is as it was
+  -- the store goes through a message whose reply had a body that memory ran out for: the world is unchanged
   pub through_unshown : (reply : Reply) → HasBody reply → Does {T = Reply} old new (Ok reply) (λ w. ask_reply w ask) (λ w. after_ask w ask)
       → HasCause {T = Reply} before now (Ok reply) → GoesThrough old new before now (record { message = m; outcome = Unserved } ∷ [])
   through_unshown reply body does cause = record {
@@ -138,7 +139,7 @@ module _ (old new : Shown) (before now : ℕ) (m : Request) (ask : Ask) (is : as
       kept : new.is_honest → (w : World) → old.stands w → old.leaves w w → new.leaves w w
       kept h w stands was = subst (λ x. new.leaves x x) (same h w stands) ((does.at h w stands tt).kept was)
 
-  -- it answered
+  -- the store goes through a message with the outcome that fits the machine's answer
   pub through_asked : (told : Result Reply StoreFault) (outcome : Outcome) → IsOutcome (sum_of m) told outcome
       → Does {T = Reply} old new told (λ w. ask_reply w ask) (λ w. after_ask w ask) → HasCause {T = Reply} before now told
       → GoesThrough old new before now (record { message = m; outcome = outcome } ∷ [])
@@ -156,7 +157,7 @@ none_of [] ys e = (refl, e)
 none_of (x ∷ xs) ys e = cc
 
 module _ (old mid new : Shown) (before between now : ℕ) (xs : List Exchange) (first : GoesThrough old mid before between xs) where
-  -- a crash after both, by whether there are more
+  -- a crash after more messages leaves one of two worlds
   leaves_after : (ys : List Exchange) → GoesThrough mid new between now ys → new.is_honest → (w : World) → old.stands w → old.leaves w w
       → LeavesTwo new w (xs ++ ys)
   leaves_after [] next h w stands was =
@@ -172,6 +173,7 @@ module _ (old mid new : Shown) (before between now : ℕ) (xs : List Exchange) (
         rw (map-append event_of xs ys, map-append answer_of xs ys)
         (world_more w _ (map event_of xs) (map event_of ys) (map answer_of xs) (map answer_of ys) (first.runs.at h w stands).run)
 
+    -- a store that goes through some messages and then through more goes through all of them
     pub through_more : GoesThrough mid new between now ys → GoesThrough old new before now (xs ++ ys)
     through_more next = record {
       runs = rw (map-append event_of xs ys, map-append answer_of xs ys)

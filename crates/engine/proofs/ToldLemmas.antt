@@ -1,4 +1,4 @@
--- What was told of all that came, by the events that were answered and the replies to them.
+-- The happenings that met no fault, by the events that were answered and their replies.
 use Rattle.std.proofs.Common.{◌≡◌, List, [], ◌∷◌, Bool, true, false, refl, ◌∙◌, sym, ap}
 use Rattle.std.specs.Prelude.{ℕ, map}
 use Rattle.world.specs.World.{World}
@@ -25,7 +25,7 @@ told_events (x ∷ xs) = go x.answer refl (told_events xs)
     go (Failed fault) is rest = rw is rest
     go (Replied r) is rest = rw is (ap (λ es. event_at x ∷ es) rest)
 
--- ---- what is marked
+-- ---- the marked events
 
 pub marked_events : (marks : List Bool) (cs : List Coming) → marked marks (map event_in cs) ≡ map event_in (marked marks cs)
 marked_events [] cs = refl
@@ -34,13 +34,13 @@ marked_events (false ∷ marks) [] = refl
 marked_events (true ∷ marks) (c ∷ cs) = ap (λ es. event_in c ∷ es) (marked_events marks cs)
 marked_events (false ∷ marks) (c ∷ cs) = marked_events marks cs
 
--- ---- texts for what came, by its answer
+-- ---- the texts for what came, by the answers
 
 module _ (text_for : Coming → Answer → List ℕ) where
   abbrev pub text_to : Happening → List ℕ
   text_to h = text_for h.coming h.answer
 
-  -- what is written for what came, by the replies
+  -- the texts for what came, by the replies
   abbrev pub texts : List Coming → List Reply → List (List ℕ)
   texts (c ∷ cs) (r ∷ rs) = text_for c (Replied r) ∷ texts cs rs
   texts cs rs = []
@@ -69,9 +69,9 @@ module _ (text_for : Coming → Answer → List ℕ) where
   marked_texts (true ∷ marks) (c ∷ cs) (r ∷ rs) = ap (λ ts. text_for c (Replied r) ∷ ts) (marked_texts marks cs rs)
   marked_texts (false ∷ marks) (c ∷ cs) (r ∷ rs) = marked_texts marks cs rs
 
--- ---- a run, by what was answered in it
+-- ---- a run, by the events that were answered in it
 
--- the replies are those of the machine over what was answered, and it ends where that ends
+-- the replies are those of the machine to these events, and the run ends in the world after them
 pub record IsExact (w new : World) (es : List Event) (rs : List Reply) : Type 0 where
   pub told : rs ≡ replies w es
   pub ends : new ≡ after_all w es

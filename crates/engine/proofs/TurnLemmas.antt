@@ -1,4 +1,4 @@
--- What was answered so far goes on.
+-- Answering goes on from what was answered so far.
 use Rattle.std.proofs.Common.{◌≡◌, ℕ, List, [], ◌∷◌, ◌++◌, Option, map, refl, sym, ap, ◌∙◌, subst, append_assoc, append-nil}
 use Rattle.std.specs.Io.KnownBytes.{Appends}
 use Rattle.std.proofs.KnownBytes.{Appends-trans, Appends-nil}
@@ -15,7 +15,7 @@ use Rattle.engine.specs.Written.{WritesPart}
 use Rattle.wire.proofs.PieceLemmas.{ReadsMessages-append, ReadsMessages-join}
 use Rattle.engine.proofs.StoreLemmas.{through_none, through_more}
 
--- nothing has been answered
+-- at first nothing was answered
 pub answered_none : (shown : Shown) (count : ℕ) (written : Option (List ℕ)) (input : List ℕ) → Answered shown shown count count written written input input
 answered_none shown count written input = record {
   exchanges = [];
@@ -24,7 +24,7 @@ answered_none shown count written input = record {
   appended = Appends-nil written;
 }
 
--- no message was answered
+-- a store that went through no message answered none
 pub answered_nothing : (old new : Shown) (before now : ℕ) (written : Option (List ℕ)) (input : List ℕ) → GoesThrough old new before now []
     → Answered old new before now written written input input
 answered_nothing old new before now written input through = record {
@@ -34,7 +34,7 @@ answered_nothing old new before now written input through = record {
   appended = Appends-nil written;
 }
 
--- more bytes came
+-- more bytes behind the input come behind the rest
 pub answered_before : (old new : Shown) (before now : ℕ) (w w' : Option (List ℕ)) (input rest more : List ℕ)
     → Answered old new before now w w' input rest → Answered old new before now w w' (input ++ more) (rest ++ more)
 answered_before old new before now w w' input rest more far = record {
@@ -44,6 +44,7 @@ answered_before old new before now w w' input rest more far = record {
   appended = far.appended;
 }
 
+-- more bytes behind an input whose last answer was cut short come behind the rest
 pub cut_before : (old new : Shown) (before now : ℕ) (w w' : Option (List ℕ)) (input rest more : List ℕ)
     → CutShort old new before now w w' input rest → CutShort old new before now w w' (input ++ more) (rest ++ more)
 cut_before old new before now w w' input rest more far = record {
@@ -56,7 +57,7 @@ cut_before old new before now w w' input rest more far = record {
   appended = far.appended;
 }
 
--- one message was answered
+-- a message whose answer was written was answered
 pub answered_one : (old new : Shown) (before now : ℕ) (w w' : Option (List ℕ)) (input rest : List ℕ) (x : Exchange)
     → ReadsMessage input x.message rest → GoesThrough old new before now (x ∷ []) → Appends w w' (text_of x)
     → Answered old new before now w w' input rest
@@ -67,7 +68,7 @@ answered_one old new before now w w' input rest x reads through appends = record
   appended = subst (Appends w w') (sym (append-nil (text_of x))) appends;
 }
 
--- its answer was cut short
+-- a message with only a beginning of its answer written was cut short
 pub cut_one : (old new : Shown) (before now : ℕ) (w w' : Option (List ℕ)) (input rest : List ℕ) (x : Exchange)
     → ReadsMessage input x.message rest → GoesThrough old new before now (x ∷ []) → WritesPart w w' (text_of x)
     → CutShort old new before now w w' input rest
@@ -84,7 +85,7 @@ cut_one old new before now w w' input rest x reads through (part, begins, append
 module _
     (old mid new : Shown) (before between now : ℕ) (w₀ w₁ w₂ : Option (List ℕ)) (input rest after : List ℕ)
     (far : Answered old mid before between w₀ w₁ input rest) where
-  -- more messages were answered
+  -- if more messages were answered, all of them were
   pub answered_more : Answered mid new between now w₁ w₂ rest after → Answered old new before now w₀ w₂ input after
   answered_more next = record {
     exchanges = far.exchanges ++ next.exchanges;
@@ -94,7 +95,7 @@ module _
     appended = subst (Appends w₀ w₂) (sym (flat_map-append text_of far.exchanges next.exchanges)) (Appends-trans w₀ w₁ w₂ _ _ far.appended next.appended);
   }
 
-  -- they were, but for the last
+  -- if more messages were answered and the last of them was cut short, all of them were answered up to that
   pub cut_more : CutShort mid new between now w₁ w₂ rest after → CutShort old new before now w₀ w₂ input after
   cut_more next =
       let same : far.exchanges ++ (next.first ++ next.last ∷ []) ≡ (far.exchanges ++ next.first) ++ next.last ∷ [] =

@@ -20,37 +20,37 @@ use Rattle.shelf.specs.declared.ask.Event.TheVariants.{Asked}
 use Rattle.world.specs.Forms.{is_time}
 use Rattle.engine.specs.declared.ask.Asking.{Asking}
 
--- a number that is not above the most
+-- a number, if it is at most this
 abbrev pub at_most : ℕ → Option ℕ → Option ℕ
 at_most most None = None
 at_most most (Some n) = if nat_le n most then Some n else None
 
--- the length of the go.mod: that of the one `Mod-Length`, where it is a length value and not above the body
+-- the length of the go.mod: the one value of `Mod-Length`, if it is a length value and not above the length of the body
 abbrev pub gomod_len : List (List ℕ) → ℕ → Option ℕ
 gomod_len [] most = None
 gomod_len (text ∷ []) most = at_most most (length_value text)
 gomod_len (text ∷ other ∷ more) most = None
 
--- the first so many bytes are the go.mod, the rest is the zip
+-- the first n bytes are the go.mod, and the rest is the zip
 abbrev pub split_at : List ℕ → Option ℕ → Option Body
 split_at body None = None
 split_at body (Some n) = Some (record { gomod = take n body; zip = drop n body })
 
--- the files of a publish
+-- the files of a publish, if the length of its go.mod is known
 abbrev pub body_of : Request → Option Body
 body_of m = split_at m.body (gomod_len m.mod_lengths (length m.body))
 
--- the time that a value writes
+-- the time that a value writes, or malformed if it writes none
 abbrev pub time_in : List ℕ → GivenTime
 time_in text = if is_time text then At text else Malformed
 
--- the time that the values of `Version-Time` give: none, the one that a single value writes, or what is no time
+-- the time that the values of `Version-Time` give: none, that of a single value, or malformed
 abbrev pub given_time : List (List ℕ) → GivenTime
 given_time [] = Absent
 given_time (text ∷ []) = time_in text
 given_time (text ∷ other ∷ more) = Malformed
 
--- the query of the machine: a go.sum line is made of the go.mod
+-- the machine's query: for a go.sum line it asks for the go.mod
 abbrev pub query_of : Wanted → Query
 query_of (wanted.Info path version) = query.Info path version
 query_of (wanted.GoMod path version) = query.GoMod path version
@@ -60,16 +60,18 @@ query_of (wanted.Latest path) = query.Latest path
 query_of wanted.Modules = query.Modules
 query_of (wanted.GoSum path version) = query.GoMod path version
 
+-- what a message with this target asks
 abbrev pub ask_at : Request → Target → Ask
 ask_at m target.Unreadable = ask.Unreadable
 ask_at m (target.Get key wanted) = ask.Get key (query_of wanted)
 ask_at m (target.Put key path version) =
     ask.Put key (record { path = path; version = version; body = body_of m; time = given_time m.version_times })
 
--- what a message asks for by its method and its target
+-- the target that the method and the target of a message write
 abbrev pub target_in : Request → Target
 target_in m = target_of m.method m.target
 
+-- what a message asks
 abbrev pub ask_of : Request → Ask
 ask_of m = ask_at m (target_in m)
 
@@ -79,38 +81,41 @@ event_of m = Asked (ask_of m)
 
 -- ---- go.sum lines
 
--- the version whose go.sum line is asked for
+-- the version whose go.sum line the query asks for, if it asks for one
 abbrev pub sum_in : Wanted → Option (List ℕ × SemanticVersion)
 sum_in (wanted.GoSum path version) = Some (path, version)
 sum_in other = None
 
+-- the version whose go.sum line the target asks for, if it asks for one
 abbrev pub sum_at : Target → Option (List ℕ × SemanticVersion)
 sum_at (target.Get key wanted) = sum_in wanted
 sum_at other = None
 
--- The version whose go.sum line a message asks for, if it asks for one.
+-- the version whose go.sum line a message asks for, if it asks for one
 abbrev pub sum_of : Request → Option (List ℕ × SemanticVersion)
 sum_of m = sum_at (target_in m)
 
--- ---- the same, by what is asked of the machine
+-- ---- go.sum lines, by what the machine is asked
 
--- whether a go.sum line is asked for
+-- whether the query asks for a go.sum line
 abbrev pub is_sum : Wanted → Bool
 is_sum (wanted.GoSum path version) = true
 is_sum other = false
 
+-- whether the target asks for a go.sum line
 abbrev pub is_summed : Target → Bool
 is_summed (target.Get key wanted) = is_sum wanted
 is_summed other = false
 
+-- what a message asks, with whether it asks for a go.sum line
 abbrev pub asking_of : Request → Asking
 asking_of m = record { ask = ask_of m; is_summed = is_summed (target_in m) }
 
--- the version whose go.mod is asked for
+-- the version whose go.mod the machine is asked for, if it is asked for one
 abbrev pub gomod_asked : Ask → Option (List ℕ × SemanticVersion)
 gomod_asked (ask.Get key (query.GoMod path version)) = Some (path, version)
 gomod_asked other = None
 
--- the version whose go.sum line is told
+-- the version whose go.sum line is written, if one is
 abbrev pub sum_by : Asking → Option (List ℕ × SemanticVersion)
 sum_by asking = if asking.is_summed then gomod_asked asking.ask else None

@@ -22,18 +22,19 @@ use Rattle.engine.specs.declared.fault.Io.{Io}
 abbrev pub NoneUnavailable : List (List ℕ) → Type 0
 NoneUnavailable texts = AllByRecursion (λ text. text ≢ unavailable) texts
 
--- which messages of a stream are kept for these shelves: not one whose key belongs, at its moment, to another
+-- which messages of a stream are kept for these shelves: all but those whose key belongs, at that moment, to another shelf
 abbrev pub kept_for : World → List (List ℕ) → List Request → List Bool
 kept_for w ss messages = kept w ss (map event_of messages)
 
--- what is written at the end of a stream: nothing, the 413, or the 400
+-- the bytes written at the end of a stream: none, the 413, or the 400
 abbrev pub end_bytes : End → List ℕ
 end_bytes clean = []
 end_bytes too_large = fixed_bytes TooLarge
 end_bytes bad = fixed_bytes BadRequest
 
--- Two calls of `answer_all` over stores whose worlds agreed on these shelves, each on an honest disk. The stream is these messages, the bytes
--- of each a piece, and then a rest with this end. The one call was told all of it, the other all but the pieces of others' messages.
+-- Two calls of `answer_all` over stores whose worlds agreed on these shelves, each on an honest disk. The stream is these
+-- messages, the bytes of each a piece, and then a rest with this end. One call read all of it, and the other all but the pieces
+-- of others' messages.
 pub record AreTwoCalls
     (old new old_too new_too : Shown) (w x : World) (ss : List (List ℕ)) (messages : List Request) (end : End)
     (result result_too : Result (Unit {0}) Io) : Type 0 where
@@ -61,8 +62,8 @@ pub record AreTwoCalls
       Serves old_too new_too before_too now_too (Some (concat (marked (kept_for w ss messages) pieces) ++ rest)) unread_too
       written_too written_too_new result_too
 
--- What two calls wrote, the one for these messages and the other for those that are marked: a text for each message, the same in both,
--- and then the same for the end. The stores stand for worlds that agree again on these shelves.
+-- Two calls, one for these messages and one for the marked ones, wrote an equal text for each message and equal bytes for the
+-- end. The stores stand for worlds that agree again on these shelves.
 pub record WriteAlike
     (new new_too : Shown) (ss : List (List ℕ)) (messages : List Request) (marks : List Bool) (end : End) (one two : List Exchange) (out out_too : List ℕ) : Type 0 where
   pub all : map message_of one ≡ messages
@@ -76,9 +77,9 @@ pub record WriteAlike
   pub stands_too : new_too.stands world_too
   pub agree : Agree world world_too ss
 
--- Where both ended well and neither wrote the 503, not in the place of what was left, and not for a message that is kept, they wrote alike.
--- The shelves are those that s sees now or after any events to come, which may add it to a group, so that calls with commands of the registry
--- between them may follow each other.
+-- If two calls both ended well, and neither wrote the 503 in place of what was left or for a kept message, they wrote alike.
+-- The shelves are those that s sees now or after any events to come, which may add it to a group, so that calls with registry
+-- commands between them may follow each other.
 abbrev pub CallsTellAlike : Shown → Shown → Shown → Shown → Type 0
 CallsTellAlike old new old_too new_too =
     (w x later : World) (s : List ℕ) (events : List Event) (answers : List Answer) (messages : List Request) (end : End) → Run w events answers later
@@ -88,12 +89,12 @@ CallsTellAlike old new old_too new_too =
     → NoneUnavailable (marked marks (map text_of calls.full.exchanges)) → NoneUnavailable (map text_of calls.purged.exchanges)
     → WriteAlike new new_too (chain later s) messages marks end calls.full.exchanges calls.purged.exchanges calls.full.out calls.purged.out
 
--- the one list begins with the other
+-- one list begins with the other
 abbrev pub AgreeAsFar : List (List ℕ) → List (List ℕ) → Type 0
 AgreeAsFar one two = (more : List (List ℕ)) × ((one ≡ two ++ more) ⊎ (two ≡ one ++ more))
 
--- However they ended, by a failed read or write or by the 503 in the place of what was left, which may be others': where none of the texts
--- written for the kept messages is the 503, those of one call begin with those of the other.
+-- However two calls ended, by a failed read or write or by the 503 in place of what was left: if none of the texts written for
+-- the kept messages is the 503, those of one call begin with those of the other.
 abbrev pub CallsTellAlikeAsFar : Shown → Shown → Shown → Shown → Type 0
 CallsTellAlikeAsFar old new old_too new_too =
     (w x later : World) (s : List ℕ) (events : List Event) (answers : List Answer) (messages : List Request) (end : End) (result result_too : Result (Unit {0}) Io)

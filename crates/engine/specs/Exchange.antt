@@ -1,4 +1,4 @@
--- A message, and what became of it.
+-- A message, and its outcome.
 use Rattle.wire.specs.Message.{Request}
 use Rattle.shelf.specs.declared.ask.Event.{Event}
 use Rattle.shelf.specs.declared.reply.Answer.{Answer}
@@ -8,22 +8,22 @@ use Rattle.world.specs.declared.registry.StoreFault.{StoreFault}
 use Rattle.world.specs.declared.registry.StoreFault.TheVariants.{Memory}
 use Rattle.engine.specs.Ask as spec
 
--- What became of a message.
+-- the outcome of a message
 pub data Outcome : Type 0 where
-  -- there was no memory outside the store: to read what the message asks, or for the body of the reply
+  -- memory ran out outside the store: before the machine saw what the message asks, or for the body of the reply
   Unserved : Outcome
   -- the store met a fault
   Met : StoreFault → Outcome
   -- the machine replied
   Told : Reply → Outcome
 
--- the machine's answer: want of memory outside the store is a fault that changes nothing
+-- the machine's answer: running out of memory outside the store counts as a fault that changes nothing
 abbrev pub answer_to : Outcome → Answer
 answer_to Unserved = Failed Memory
 answer_to (Met fault) = Failed fault
 answer_to (Told reply) = Replied reply
 
--- a message, and what became of it
+-- a message and its outcome
 pub record Exchange : Type 0 where
   pub message : Request
   pub outcome : Outcome

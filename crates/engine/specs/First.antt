@@ -1,4 +1,4 @@
--- What is written for the first message of a stream.
+-- What `answer_one` does with the first message of a stream.
 use Rattle.std.specs.Prelude.{◌≡◌, ℕ, ◌≤◌, ◌⊎◌, List, [], ◌∷◌, ◌++◌, length, Option, Some, Result, Ok, Err}
 use Rattle.std.specs.Io.KnownBytes.{Consumes, Appends, Keeps}
 use Rattle.wire.specs.Message.{ReadsMessage}
@@ -13,21 +13,22 @@ use Rattle.engine.specs.Served.{read_limit, Tells, IsClosing, closing_bytes, clo
 use Rattle.engine.specs.declared.fault.Io.{Io}
 use Rattle.engine.specs.declared.fault.Io.TheVariants as io
 
--- what stands first: a message, or what closes a stream that begins with none
+-- what comes first in a stream: a message with its outcome, or what closes a stream that begins with none
 pub data First : Type 0 where
   Answers : Exchange → First
   Closes : Option Fixed → First
 
--- it stands first in the input
+-- it comes first in the input
 abbrev pub IsFirst : First → List ℕ → Type 0
 IsFirst (Answers x) input = (rest : List ℕ) × ReadsMessage input x.message rest
 IsFirst (Closes closing) input = IsClosing input closing
 
+-- the bytes that are written for it
 abbrev pub first_bytes : First → List ℕ
 first_bytes (Answers x) = text_of x
 first_bytes (Closes closing) = closing_bytes closing
 
--- the number of the status written, or none where nothing is
+-- the status that is written, if any is
 abbrev pub first_status : First → Option ℕ
 first_status (Answers x) = Some (status_of x)
 first_status (Closes closing) = closing_status closing
@@ -36,8 +37,8 @@ abbrev pub first_exchanges : First → List Exchange
 first_exchanges (Answers x) = x ∷ []
 first_exchanges (Closes closing) = []
 
--- It stands first in what the reader tells, and no more was read than was needed: before the last read, of no more bytes than the limit,
--- there was no whole message, and the stream could go on.
+-- It comes first in what the reader holds, and little more was read than was needed: the bytes that were read, without at most
+-- the last `read_limit`, begin with no whole message, and the stream could go on from them.
 pub record TakesFirst (unread unread_new : Option (List ℕ)) (first : First) : Type 0 where
   pub input : List ℕ
   pub told : Tells unread input
@@ -48,8 +49,9 @@ pub record TakesFirst (unread unread_new : Option (List ℕ)) (first : First) : 
   pub few : length last ≤ read_limit
   pub unfinished : IsUnfinished early
 
--- The first message was answered as the machine answers it, or the stream closed without one: the number tells which status was
--- written. Or a read failed before, and nothing was done; or a write failed, and a beginning was written, or the flush alone failed.
+-- The first message was answered as the machine answers it, or the stream was closed without one, and the result is the status
+-- that was written. Or a read failed before, and nothing was done. Or a write failed, and a beginning was written, or the flush
+-- alone failed.
 abbrev pub ServesFirst :
     Shown → Shown → ℕ → ℕ → Option (List ℕ) → Option (List ℕ) → Option (List ℕ) → Option (List ℕ) → Result (Option ℕ) Io → Type 0
 ServesFirst old new before now unread unread_new written written_new (Ok status) =

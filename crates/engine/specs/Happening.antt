@@ -1,4 +1,4 @@
--- What comes to a store, a message or a command of the registry, and what became of it.
+-- What comes to a store, a message or a registry command, and its answer.
 use Rattle.std.specs.Prelude.{ℕ, List, [], ◌∷◌}
 use Rattle.wire.specs.Message.{Request}
 use Rattle.shelf.specs.declared.ask.Event.{Event}
@@ -7,11 +7,12 @@ use Rattle.shelf.specs.declared.reply.Answer.TheVariants.{Replied, Failed}
 use Rattle.engine.specs.Ask as spec
 use Rattle.engine.specs.Reply.{bytes_of}
 
+-- a message or a registry command
 pub data Coming : Type 0 where
   Message : Request → Coming
   Command : Event → Coming
 
--- what came, and what became of it
+-- what came, and its answer
 pub record Happening : Type 0 where
   pub coming : Coming
   pub answer : Answer
@@ -20,7 +21,7 @@ abbrev pub event_in : Coming → Event
 event_in (Message m) = spec.event_of m
 event_in (Command e) = e
 
--- what is written for it: nothing for a command
+-- the text that is written for what came: none for a command
 abbrev pub text_in : Coming → Answer → List ℕ
 text_in (Message m) a = bytes_of m a
 text_in (Command e) a = []
@@ -37,11 +38,12 @@ answer_at h = h.answer
 abbrev pub text_at : Happening → List ℕ
 text_at h = text_in h.coming h.answer
 
+-- puts a happening before others if this answer is a reply
 abbrev pub if_told : Happening → Answer → List Happening → List Happening
 if_told h (Replied r) hs = h ∷ hs
 if_told h (Failed fault) hs = hs
 
--- those that met no fault: a message that was not answered 503, a command that was done or refused
+-- the happenings that met no fault: messages that were not answered 503, and commands that were done or refused
 abbrev pub told : List Happening → List Happening
 told [] = []
 told (h ∷ hs) = if_told h h.answer (told hs)

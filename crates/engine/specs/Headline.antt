@@ -1,4 +1,4 @@
--- What the callers of a stream are told, in bytes: nothing of others, the same for good, and the latest version by the rules' words.
+-- What the callers of a stream get, in bytes: nothing about others, what was served before, and the latest version.
 use Rattle.std.specs.Prelude.{ℕ, ◌≡◌, ◌⊎◌, List, [], ◌∷◌, Bool, Option, map}
 use Rattle.latest.specs.Latest.{IsTop}
 use Rattle.modver.specs.SemanticVersion.{SemanticVersion}
@@ -25,11 +25,11 @@ use Rattle.engine.specs.Reply.{text_of, status_of}
 abbrev pub unavailable : List ℕ
 unavailable = fixed_bytes Unavailable
 
--- ---- nothing of others
+-- ---- nothing about others
 
--- From worlds that agree on what s sees, in one run all that came, and in another what is kept of it, the others' messages taken out: what is
--- told of a kept message is the same text. A message that was answered 503, in either run, is left out there, and so is a command that met
--- a fault. The worlds after both agree again.
+-- Two runs begin in worlds that agree on what s sees: one with all that came, the other with what is kept of it, without the
+-- messages of others. They write the same texts for what is kept, and the worlds after both agree again. A message that a run
+-- answered 503 is left out of that run, and so is a command that met a fault.
 abbrev pub CallersAreToldAlike : Type 0
 CallersAreToldAlike =
     (old old_too new new_too : World) (s : List ℕ) (full purged : List Happening) → IsWorld old → Agree old old_too (chain new s)
@@ -38,10 +38,10 @@ CallersAreToldAlike =
     map coming_of (told purged) ≡ marked marks (map coming_of (told full))
     → (map text_at (told purged) ≡ marked marks (map text_at (told full))) × Agree new new_too (chain new s)
 
--- ---- the same for good
+-- ---- what was served before
 
--- Once a GET of one version by a key of s was answered 200, then after any events the same GET by any key that then belongs to s is
--- written the same, or the 503. It asks for the time of the version, for its go.mod, its zip or its go.sum line.
+-- Once a GET of the time, the go.mod, the zip or the go.sum line of a version by a key of s is answered 200, then after any
+-- events a GET of the same by any key that then belongs to s gets the same text or the 503.
 abbrev pub BytesStayServed : Type 0
 BytesStayServed =
     (old mid new : World) (s k later : List ℕ) (q : Wanted) (first last : Exchange) (events : List Event) (answers : List Answer)
@@ -52,15 +52,15 @@ BytesStayServed =
 
 -- ---- the latest version
 
--- The text tells the latest version of a path: the name and the time of the highest version that the shelf sees and that the go.mod of
--- the highest does not retract; or the 404, where there is none.
+-- The text is the reply for the latest version of a path: the name and the time of the highest version that the shelf sees and
+-- that the go.mod of the highest does not retract; or the 404 if there is none.
 abbrev pub TellsLatest : World → List ℕ → List ℕ → List ℕ → Type 0
 TellsLatest w s path text =
     ((v : SemanticVersion) × (time : Option (List ℕ)) × IsTop (unretracted_versions w s path) v × HasTime w s path v time
     × (text ≡ reply_bytes 200 Json (info_bytes v time)))
     ⊎ (((v : SemanticVersion) → ¬ unretracted_versions w s path v) × (text ≡ fixed_bytes NotFound))
 
--- So a GET of the latest version by a key of s is answered, or by the 503.
+-- A GET of the latest version by a key of s gets that text or the 503.
 abbrev pub LatestIsWritten : Type 0
 LatestIsWritten =
     (old new : World) (s k path : List ℕ) (x : Exchange) → IsWorld old → belongs old k s → ask_of x.message ≡ Get k (Latest path)

@@ -1,4 +1,4 @@
--- What a caller can tell of the other shelves.
+-- The answer to a request does not depend on the shelves that its key does not see.
 use Rattle.std.specs.Prelude.{◌≡◌, ◌≢◌, ℕ, List, Option, Some, true, Result, Ok}
 use Rattle.std.specs.Io.KnownBytes.{Appends}
 use Rattle.wire.specs.Message.{Request, ReadsMessage}
@@ -11,22 +11,22 @@ use Rattle.engine.specs.Ask.{ask_of}
 use Rattle.engine.specs.Reply.{bytes_of}
 use Rattle.engine.specs.declared.fault.Io.{Io}
 
--- The bytes written are those of the reply that the machine gives in the world x, and the worlds after it are the same to s.
+-- The bytes written are those of the machine's reply in the world x, and the worlds after the message are the same to s.
 pub record IsAnsweredAlike
     (new : Shown) (written written_new : Option (List ℕ)) (m : Request) (w x : World) (s : List ℕ) : Type 0 where
   pub bytes : Appends written written_new (bytes_of m (Replied (ask_reply x (ask_of m))))
   pub stands : new.stands (after_ask w (ask_of m))
   pub low : Low (after_ask w (ask_of m)) (after_ask x (ask_of m)) s
 
--- So it is where the key of the message belongs to a shelf that s sees: whatever world the store stood for, and in each world
--- that is the same to s.
+-- If the key of the message belongs to a shelf that s sees, the message is answered alike from each world that the store may
+-- stand for and each world x that is the same to s.
 abbrev pub IsToldByItsShelf : Shown → Shown → Option (List ℕ) → Option (List ℕ) → Request → Type 0
 IsToldByItsShelf old new written written_new m =
     new.is_honest → (w x : World) (s t k : List ℕ) → old.stands w → IsWorld x → Low w x s
     → sees w s t ≡ true → belongs w k t → key_of (ask_of m) ≡ Some k
     → IsAnsweredAlike new written written_new m w x s
 
--- So the first message is answered, but for a 503.
+-- The first message is answered by its shelf alone, unless the answer is a 503.
 abbrev pub AnswersByItsShelf :
     Shown → Shown → Option (List ℕ) → Option (List ℕ) → Option (List ℕ) → Result (Option ℕ) Io → Type 0
 AnswersByItsShelf old new unread written written_new result =

@@ -1,4 +1,4 @@
--- What is written for the requests of a team, by a store and by another that stands for the team's part of its world.
+-- What two stores write for the requests of a team, if the second stands for the team's part of the first one's world.
 use Rattle.std.specs.Prelude.{ℕ, ◌≡◌, ◌⊎◌, List, [], ◌∷◌, Some, false, map}
 use Rattle.std.specs.FinMap as fin
 use Rattle.wire.specs.Reply.{fixed_bytes}
@@ -14,8 +14,8 @@ use Rattle.engine.specs.Happening.{Happening, coming_of, event_at, answer_at, te
 use Rattle.engine.specs.Headline.{unavailable}
 use Rattle.engine.specs.Reply.{text_of}
 
--- Of two runs, one from a world and one from a team's part of it: where what was answered is the same, each a message with a key of a
--- shelf that the team sees, so is the text that was written for each.
+-- Two runs, one from a world and one from a team's part of it, write the same texts if they answered the same messages, each
+-- with a key of a shelf that the team sees.
 abbrev pub PartWritesTheSame : Type 0
 PartWritesTheSame =
     (w new other : World) (s : List ℕ) (xs ys : List Happening) → IsWorld w
@@ -23,7 +23,7 @@ PartWritesTheSame =
     → map coming_of (told xs) ≡ map coming_of (told ys) → AllOwn w s (map event_at (told xs))
     → map text_at (told xs) ≡ map text_at (told ys)
 
--- After any messages, for one whose key belongs to no shelf that the team sees, or to none, the 404 is written, or the 503.
+-- From the part, after any messages, a message whose key belongs to no shelf that the team sees gets the 404 or the 503.
 abbrev pub OthersAreWrittenNotFound : Type 0
 OthersAreWrittenNotFound =
     (w mid new : World) (s k : List ℕ) (before : List Exchange) (x : Exchange)

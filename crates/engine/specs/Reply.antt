@@ -31,7 +31,7 @@ refusal_of (refusal.BadGoMod line) = fixed.BadGoMod line
 refusal_of refusal.ModulePath = fixed.ModulePath
 refusal_of refusal.IncompatibleGoMod = fixed.IncompatibleGoMod
 
--- the fixed reply of a decision on a publish
+-- the fixed reply for a decision on a publish
 abbrev pub fixed_of : Decision → Fixed
 fixed_of decision.Published = fixed.Published
 fixed_of decision.Same = fixed.AlreadyPublished
@@ -43,13 +43,13 @@ fixed_of (decision.Refused why) = refusal_of why
 fixed_of decision.Conflict = fixed.Conflict
 fixed_of decision.Full = fixed.Full
 
--- a go.mod as it is told: as it was received, or by its go.sum line and a newline, where that of its version is asked for
+-- the body for a go.mod: the bytes that were received, or the go.sum line of this version and a newline
 abbrev pub gomod_body : Option (List ℕ × SemanticVersion) → List ℕ → List ℕ
 gomod_body None text = text
 gomod_body (Some (path, version)) text = line_of path (version_text version) text ++ codes "\n"
 
--- A reply as it is written, where the go.sum line of this version is asked for, or of none; the outcome of a command, which no
--- request gets, reads as not found. A version is told by its info object, and versions and paths by one line each.
+-- What is written for a reply to a request for the go.sum line of this version, or of none. The outcome of a command, which no
+-- request gets, is written as not found. A version is written as its info object, and versions and paths one a line.
 abbrev pub reply_page : Option (List ℕ × SemanticVersion) → Reply → Page
 reply_page sum reply.NotFound = page.Fixed fixed.NotFound
 reply_page sum (reply.Decided decision) = page.Fixed (fixed_of decision)
@@ -60,16 +60,16 @@ reply_page sum (reply.Versions versions) = page.Body kind.TextPlain (lines_of (m
 reply_page sum (reply.Paths paths) = page.Body kind.TextPlain (lines_of (in_order paths))
 reply_page sum (reply.Registry outcome) = page.Fixed fixed.NotFound
 
--- a reply to a request as it is written
+-- what is written for a reply to a request
 abbrev pub page_of : Request → Reply → Page
 page_of m reply = reply_page (sum_of m) reply
 
--- a go.sum line is asked for
+-- the request asks for a go.sum line
 abbrev pub IsSummed : Option (List ℕ × SemanticVersion) → Type 0
 IsSummed None = ⊥
 IsSummed (Some version) = Unit {0}
 
--- a reply whose body is composed, and is no file as it was received
+-- the body of the reply is composed, and is not a file as it was received
 abbrev pub IsComposed : Option (List ℕ × SemanticVersion) → Reply → Type 0
 IsComposed sum (reply.GoMod text) = IsSummed sum
 IsComposed sum (reply.Info version time) = Unit {0}
@@ -77,20 +77,20 @@ IsComposed sum (reply.Versions versions) = Unit {0}
 IsComposed sum (reply.Paths paths) = Unit {0}
 IsComposed sum other = ⊥
 
--- What becomes of a message, by what the machine answered: its reply is told, or it is not for want of memory for a body that
--- is composed; or the store met a fault.
+-- The outcome of a message for this answer of the machine: its reply, unless memory runs out for a body that is composed; or
+-- the fault that the store met.
 abbrev pub IsOutcome : Option (List ℕ × SemanticVersion) → Result Reply StoreFault → Outcome → Type 0
 IsOutcome sum (Ok reply) (Told told) = told ≡ reply
 IsOutcome sum (Ok reply) Unserved = IsComposed sum reply
 IsOutcome sum (Err fault) (Met met) = met ≡ fault
 IsOutcome sum answer outcome = ⊥
 
--- an answer as it is written: the reply, or the 503
+-- what is written for an answer: the reply, or the 503
 abbrev pub answer_page : Option (List ℕ × SemanticVersion) → Answer → Page
 answer_page sum (Replied reply) = reply_page sum reply
 answer_page sum (Failed fault) = page.Fixed fixed.Unavailable
 
--- an answer to a request as it is written
+-- what is written for an answer to a request
 abbrev pub page_for : Request → Answer → Page
 page_for m answer = answer_page (sum_of m) answer
 
@@ -106,7 +106,7 @@ page_status (page.Body kind text) = 200
 abbrev pub bytes_of : Request → Answer → List ℕ
 bytes_of m answer = page_bytes (page_for m answer)
 
--- what is written for an exchange, and its status
+-- what is written for an exchange
 abbrev pub page_to : Exchange → Page
 page_to x = page_for x.message (answer_of x)
 

@@ -1,4 +1,4 @@
--- What is written for a stream.
+-- What `answer_all` does with a stream.
 use Rattle.std.specs.Prelude.{◌≡◌, ◌≢◌, ℕ, ◌⊎◌, List, [], ◌∷◌, ◌++◌, Option, Some, None, map, ⊤, Result, Ok, Err}
 use Rattle.std.specs.List.{flat_map}
 use Rattle.std.specs.Io.KnownBytes.{Consumes, Appends}
@@ -19,13 +19,13 @@ use Rattle.engine.specs.declared.fault.Io.TheVariants as io
 abbrev pub read_limit : ℕ
 read_limit = 4096
 
--- the input is what the reader tells, where it tells
+-- the input is what the reader holds, if that is known
 abbrev pub Tells : Option (List ℕ) → List ℕ → Type 0
 Tells None input = ⊤
 Tells (Some bytes) input = input ≡ bytes
 
--- What closes a stream whose messages leave this rest: nothing at a good end, the 413 at a front that is too large, the 400
--- at any other rest; or one 503 for want of memory, in the place of what is left.
+-- What closes a stream whose messages leave this rest: nothing at a good end, the 413 for a body that is too large, the 400 for
+-- any other rest; or one 503 in place of what is left if memory runs out.
 abbrev pub IsClosing : List ℕ → Option Fixed → Type 0
 IsClosing rest None = Ends rest clean
 IsClosing rest (Some TooLarge) = Ends rest too_large
@@ -41,11 +41,11 @@ abbrev pub closing_status : Option Fixed → Option ℕ
 closing_status None = None
 closing_status (Some closing) = Some (fixed_status closing)
 
--- all that is written for the exchanges
+-- all texts for the exchanges, one after another
 abbrev pub texts_of : List Exchange → List ℕ
 texts_of exchanges = flat_map text_of exchanges
 
--- a write failed: in the last answer, or in what closes the stream, or only the flush after all
+-- a write failed: in the last answer, in what closes the stream, or only in the flush after it
 abbrev pub IsBrokenOff : List Exchange → List ℕ → List ℕ → Type 0
 IsBrokenOff exchanges rest out =
     ((first : List Exchange) × (last : Exchange) × (part : List ℕ) × (exchanges ≡ first ++ last ∷ [])
@@ -54,8 +54,8 @@ IsBrokenOff exchanges rest out =
     × IsBeginning part (closing_bytes closing) × (out ≡ texts_of exchanges ++ part))
     ⊎ ((closing : Option Fixed) × IsClosing rest closing × (out ≡ texts_of exchanges ++ closing_bytes closing))
 
--- How it ended. A good end: all messages were answered, and the stream was closed. A failed read: each message that was read
--- was answered, and what was read behind them is no whole message. A failed write: as above.
+-- How the call ended. A good end: all messages were answered, and the stream was closed. A failed read: each message that was
+-- read was answered, and what was read behind them is no whole message. A failed write: as `IsBrokenOff` says.
 abbrev pub Ended : Option (List ℕ) → Option (List ℕ) → List Exchange → List ℕ → List ℕ → List ℕ → Result (Unit {0}) Io → Type 0
 Ended unread unread_new exchanges input rest out (Ok u) =
     Tells unread input × ((closing : Option Fixed) × IsClosing rest closing × (out ≡ texts_of exchanges ++ closing_bytes closing))
@@ -63,7 +63,8 @@ Ended unread unread_new exchanges input rest out (Err io.Read) =
     Consumes unread unread_new input × IsUnfinished rest × (out ≡ texts_of exchanges)
 Ended unread unread_new exchanges input rest out (Err io.Write) = Tells unread input × IsBrokenOff exchanges rest out
 
--- The messages at the front of the input were answered one after another, as the machine answers them, and so it ended.
+-- The messages at the front of the input were answered one after another, as the machine answers them, and then the call ended
+-- as `Ended` says.
 pub record Serves
     (old new : Shown) (before now : ℕ) (unread unread_new written written_new : Option (List ℕ))
     (result : Result (Unit {0}) Io) : Type 0 where

@@ -6,7 +6,7 @@ use Rattle.world.specs.Store.{Shown, GrewOrFull}
 use Rattle.shelf.specs.Runs.{Runs}
 use Rattle.engine.specs.Exchange.{Exchange, event_of, answer_of, IsUnmet}
 
--- where the machine is after the exchanges
+-- the machine's world after the exchanges
 abbrev pub world_at : World → List Exchange → World
 world_at w exchanges = world_after w (map event_of exchanges) (map answer_of exchanges)
 
@@ -14,27 +14,28 @@ world_at w exchanges = world_after w (map event_of exchanges) (map answer_of exc
 abbrev pub IsCalm : World → Exchange → Type 0
 IsCalm w x = IsUnmet x.outcome ⊎ (after w (event_of x) ≡ w)
 
--- so it is of each, at its moment
+-- each message is calm in the world that it meets
 abbrev pub AllCalm : World → List Exchange → Type 0
 AllCalm w [] = Unit {0}
 AllCalm w (x ∷ xs) = IsCalm w x × AllCalm (world_at w (x ∷ [])) xs
 
--- As long as no message but the last met a fault, a crash leaves the world before the last or the world after it.
+-- As long as all messages but the last are calm, a crash leaves the world before the last or the world after it.
 abbrev pub LeavesTwo : Shown → World → List Exchange → Type 0
 LeavesTwo shown w [] = shown.leaves w w
 LeavesTwo shown w (x ∷ []) = shown.leaves w (after w (event_of x))
 LeavesTwo shown w (x ∷ y ∷ more) = IsCalm w x → LeavesTwo shown (world_at w (x ∷ [])) (y ∷ more)
 
--- From old to new the store went through the exchanges, with these counts of device failures before and now.
+-- From old to new the store went through the exchanges, and counted this many device failures before and now.
 pub record GoesThrough (old new : Shown) (before now : ℕ) (exchanges : List Exchange) : Type 0 where
   -- the messages were answered in a run of the machine
   pub runs : Runs old new (map event_of exchanges) (map answer_of exchanges)
-  -- where a crash left the world of the begin alone: two worlds at most, and that of the end alone if no message met a fault
+  -- if a crash before the messages could leave only the first world, a crash now leaves one of two worlds, as `LeavesTwo` says
   pub left : new.is_honest → (w : World) → old.stands w → old.leaves w w → LeavesTwo new w exchanges
+  -- if also all messages were calm, a crash now leaves only the last world
   pub settled : new.is_honest → (w : World) → old.stands w → AllCalm w exchanges → old.leaves w w
       → new.leaves (world_at w exchanges) (world_at w exchanges)
   -- without messages nothing changes
   pub untouched : exchanges ≡ [] → new.is_honest → (w x : World) → old.leaves w x → new.leaves w x
-  -- a failed device is told only where one failed
+  -- the count never falls, and a `Device` fault is met only if it grew or is full
   pub no_fewer : before ≤ now
   pub device : MetDevice (map answer_of exchanges) → GrewOrFull before now

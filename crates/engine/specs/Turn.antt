@@ -22,14 +22,14 @@ use Rattle.engine.specs.declared.read.Reading.TheVariants as reading
 use Rattle.engine.specs.declared.session.Turn.{Turn}
 use Rattle.engine.specs.declared.session.Turn.TheVariants as turn
 
--- what is taken from the front of the bytes held; memory is wanted only for a message that is whole
+-- what is taken from the front of the held bytes; memory runs out only for a whole message
 abbrev pub Takes : Framing → Taken → Framing → Type 0
 Takes old (taken.Message message) new = ReadsMessage old.held (view message) new.held × (new.failure ≡ None)
 Takes old taken.More new = IsUnfinished old.held × (new ≡ old)
 Takes old (taken.Close closing) new =
     ((more : List ℕ) → IsClosing (old.held ++ more) (Some closing)) × (closing ≡ fixed.Unavailable → HasMessage old.held)
 
--- no more than the limit came behind what left the stream unfinished
+-- without at most the last `read_limit` bytes that came, the stream was unfinished
 pub record StaysNear (held bytes : List ℕ) : Type 0 where
   pub early : List ℕ
   pub late : List ℕ
@@ -37,7 +37,7 @@ pub record StaysNear (held bytes : List ℕ) : Type 0 where
   pub unfinished : IsUnfinished (held ++ early)
   pub few : length late ≤ read_limit
 
--- what a read gave the framer, or why it closes the stream; memory is wanted only for bytes that came
+-- what a read gave the framer, or why it closes the stream; memory runs out only for bytes that came
 abbrev pub ReadsOn : Framing → Framing → Option (List ℕ) → Option (List ℕ) → Result Reading Io → Type 0
 ReadsOn old new unread unread_new (Ok reading.GoesOn) =
     (bytes : List ℕ) × Consumes unread unread_new bytes × StaysNear old.held bytes × (new ≡ record old { held = old.held ++ bytes })
@@ -47,12 +47,12 @@ ReadsOn old new unread unread_new (Ok (reading.Ends closing)) =
     × (closing ≡ Some fixed.Unavailable → bytes ≢ [])
 ReadsOn old new unread unread_new (Err e) = (e ≡ io.Read) × Keeps unread unread_new
 
--- What is left to do on a stream with these reads left and these bytes held: a read gives at most 65,536 bytes, so a read and a message
--- that is taken off lessen it.
+-- What is left to do on a stream with these reads left and these bytes held. A read gives at most 65,536 bytes, so each read and
+-- each message that is taken lessens it.
 abbrev pub work : ℕ → List ℕ → ℕ
 work reads held = reads * 65537 + length held
 
--- what was read so far behind the bytes held at first, until a message is whole
+-- what was read so far behind the bytes that were held at first, while no message is whole
 pub record ReadSoFar (old now : Framing) (unread unread_now : Option (List ℕ)) (reads reads_now : ℕ) : Type 0 where
   pub bytes : List ℕ
   pub consumed : Consumes unread unread_now bytes
@@ -61,19 +61,19 @@ pub record ReadSoFar (old now : Framing) (unread unread_now : Option (List ℕ))
   pub sound : now.failure ≡ None
   pub less : work reads_now now.held ≤ work reads old.held
 
--- what stands behind these bytes held, of which so many more were read: a message, which is taken off; or what closes the stream
+-- what comes next once these bytes are read behind the held ones: a message, which is taken, or what closes the stream
 abbrev pub IsNext : Framing → Framing → Option (List ℕ) → List ℕ → First → Type 0
 IsNext old new unread bytes (Answers x) = ReadsMessage (old.held ++ bytes) x.message new.held × (new.failure ≡ None)
 IsNext old new unread bytes (Closes closing) = (all : List ℕ) × Tells unread all × IsClosing (old.held ++ all) closing
 
--- It stands next in what is held and what the reader tells, and no more was read than was needed.
+-- It comes next in the bytes held and those of the reader, and little more was read than was needed.
 pub record TakesNext (old new : Framing) (unread unread_new : Option (List ℕ)) (first : First) : Type 0 where
   pub bytes : List ℕ
   pub consumed : Consumes unread unread_new bytes
   pub near : IsUnfinished old.held → StaysNear old.held bytes
   pub stands : IsNext old new unread bytes first
 
--- The next message was taken, or what closes the stream; or a read failed before that was there, or none was left.
+-- The next message was taken, or the stream is to be closed; or a read failed before that, or no read was left.
 abbrev pub Comes : Framing → Framing → ℕ → ℕ → Option (List ℕ) → Option (List ℕ) → Result Incoming Io → Type 0
 Comes old new reads reads_new unread unread_new (Ok (incoming.Message message)) =
     (bytes : List ℕ) × Consumes unread unread_new bytes × (IsUnfinished old.held → StaysNear old.held bytes)
@@ -82,12 +82,12 @@ Comes old new reads reads_new unread unread_new (Ok (incoming.End closing)) = Ta
 Comes old new reads reads_new unread unread_new (Err e) =
     (e ≡ io.Read) × ((bytes : List ℕ) × Consumes unread unread_new bytes × IsUnfinished (old.held ++ bytes))
 
--- what a turn tells of what stood next
+-- the turn that takes what comes next
 abbrev pub turn_of : First → Turn
 turn_of (Answers x) = turn.Answered (status_of x)
 turn_of (Closes closing) = turn.Closed closing
 
--- the number of the status that a turn wrote, or none where it wrote nothing
+-- the status that a turn wrote, if it wrote one
 abbrev pub turn_status : Turn → Option ℕ
 turn_status (turn.Answered status) = Some status
 turn_status (turn.Closed closing) = closing_status closing
@@ -100,8 +100,8 @@ abbrev pub IsClosed : Turn → Type 0
 IsClosed (turn.Answered status) = ⊥
 IsClosed (turn.Closed closing) = Unit {0}
 
--- The next message was answered as the machine answers it, or the stream closed without one. Or a read failed before, and nothing was
--- done; or a write failed, and a beginning was written.
+-- The next message was answered as the machine answers it, or the stream was closed without one. Or a read failed before, and
+-- nothing was done; or a write failed, and a beginning was written.
 abbrev pub Turns :
     Shown → Shown → ℕ → ℕ → Option (List ℕ) → Option (List ℕ) → Option (List ℕ) → Option (List ℕ) → Framing → Framing
     → Result Turn Io → Type 0
@@ -115,7 +115,7 @@ Turns old new before now unread unread_new written written_new held held_new (Er
     (first : First) × TakesNext held held_new unread unread_new first × GoesThrough old new before now (first_exchanges first)
     × WritesPart written written_new (first_bytes first)
 
--- the stream ended after a turn: its status is told, or the flush failed; what failed is told as it is
+-- the result of `end_turn`: the status of the turn, `Io::Write` if the flush failed, or the error of the turn
 abbrev pub EndsBy : Result Turn Io → Result (Option ℕ) Io → Type 0
 EndsBy (Ok turn) (Ok status) = status ≡ turn_status turn
 EndsBy (Ok turn) (Err e) = e ≡ io.Write
@@ -129,7 +129,7 @@ pub record Answered
   pub through : GoesThrough old new before now exchanges
   pub appended : Appends written written_new (texts_of exchanges)
 
--- so they were, but for the last, whose answer was cut short
+-- the messages at the front of the input were answered, the last with only a beginning of its answer, and rest follows them
 pub record CutShort
     (old new : Shown) (before now : ℕ) (written written_new : Option (List ℕ)) (input rest : List ℕ) : Type 0 where
   pub first : List Exchange
@@ -140,7 +140,7 @@ pub record CutShort
   pub begins : IsBeginning part (text_of last)
   pub appended : Appends written written_new (texts_of first ++ part)
 
--- so far: what was read is the messages answered and what the framer holds
+-- what was read so far is the answered messages and what the framer holds
 pub record SoFar
     (old new : Shown) (before now : ℕ) (unread unread_new written written_new : Option (List ℕ)) (framing : Framing) : Type 0 where
   pub got : List ℕ

@@ -1,4 +1,4 @@
--- One request to two stores whose worlds are the same to the shelf of its key.
+-- One request to two stores whose worlds are the same to a shelf that sees the shelf of its key.
 use Rattle.std.specs.Prelude.{◌≡◌, ◌≢◌, ℕ, List, Option, Some, true, Ok}
 use Rattle.std.specs.Io.KnownBytes.{Appends}
 use Rattle.wire.specs.Message.{Request, ReadsMessage}
@@ -9,9 +9,9 @@ use Rattle.shelf.specs.Isolation.{sees, belongs, key_of, Low}
 use Rattle.engine.specs.Ask.{ask_of}
 use Rattle.engine.specs.First.{ServesFirst}
 
--- Two calls of `answer_one`, the one over a store that stood for w and the other over one that stood for x, each on an honest disk. Both
--- read this input, which begins with the message m. Its key belongs to a shelf that s sees, and w and x are the same to s. Both ended
--- well, with these statuses.
+-- Two calls of `answer_one`, one over a store that stood for w and one over a store that stood for x, each on an honest disk.
+-- Both read this input, which begins with the message m. Its key belongs to a shelf that s sees, and w and x are the same to s.
+-- Both returned these statuses.
 pub record AreTwoAnswers
     (old new old_too new_too : Shown) (w x : World) (s : List ℕ) (m : Request)
     (written written_new written_too written_too_new : Option (List ℕ)) (status status_too : ℕ) : Type 0 where
@@ -37,7 +37,8 @@ pub record AreTwoAnswers
   pub serves : ServesFirst old new before now (Some input) unread written written_new (Ok (Some status))
   pub serves_too : ServesFirst old_too new_too before_too now_too (Some input) unread_too written_too written_too_new (Ok (Some status_too))
 
--- Both wrote one text, and told one status. The stores stand for the worlds after the request, and these are the same to s again.
+-- Both wrote the same text and returned the same status. The stores stand for the worlds after the request, and these are the
+-- same to s again.
 pub record AnswerAlike
     (new new_too : Shown) (w x : World) (s : List ℕ) (m : Request)
     (written written_new written_too written_too_new : Option (List ℕ)) (status status_too : ℕ) : Type 0 where
@@ -49,7 +50,7 @@ pub record AnswerAlike
   pub stands_too : new_too.stands (after_ask x (ask_of m))
   pub low : Low (after_ask w (ask_of m)) (after_ask x (ask_of m)) s
 
--- So it is where neither wrote the 503.
+-- Two such calls answer alike unless one of them wrote a 503.
 abbrev pub TwoAnswersAreAlike : Shown → Shown → Shown → Shown → Type 0
 TwoAnswersAreAlike old new old_too new_too =
     (w x : World) (s : List ℕ) (m : Request) (written written_new written_too written_too_new : Option (List ℕ)) (status status_too : ℕ)

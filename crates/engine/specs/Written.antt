@@ -1,4 +1,4 @@
--- What a writer got of a text.
+-- How much of a text a writer got.
 use Rattle.std.specs.Prelude.{◌≡◌, ◌≢◌, ℕ, List, [], ◌++◌, Option, Result, MatchResult}
 use Rattle.std.specs.Io.KnownBytes.{Appends}
 use Rattle.engine.specs.declared.fault.Io.{Io}

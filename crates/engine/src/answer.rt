@@ -13,10 +13,11 @@ use wire::RouteTable;
 use world::shelves::Shelves;
 
 /// Answers all messages of a stream, one after another, and closes it: with nothing at a good end, a 413 for a body that
-/// is too large, a 400 for any other rest, or one 503 in place of all that is left when memory runs out.
+/// is too large, a 400 for any other rest, or one 503 in place of all that is left if memory runs out.
 ///
-/// `Io::Read`: each message that was read whole has been answered. `Io::Write`: all texts but the last were written, and a
-/// beginning of the last, or the flush alone failed; the shelves are as after the last message.
+/// `Io::Read`: a read failed, and each message that was read whole is answered. `Io::Write`: a write or the flush failed;
+/// all texts but the last are written, with a beginning of the last or all of it, and the shelves are as after the last
+/// message.
 pub fn answer_all<R: Read, W: Write, S: Shelves>(
     alloc: Global,
     reader: &mut R,
@@ -36,10 +37,10 @@ pub fn answer_all<R: Read, W: Write, S: Shelves>(
 }
 
 /// Answers the first message of a stream and returns the status that it wrote, or None exactly for an empty input. It reads
-/// no more than it needs: before the last read no message was whole.
+/// at most 4,096 bytes behind the first message, or behind the point at which the stream can't go on.
 ///
-/// `Io::Read`: nothing was done, and nothing written. `Io::Write`: a beginning of the text was written, or the flush alone
-/// failed; the shelves are as after the message.
+/// `Io::Read`: a read failed, nothing was done, and nothing is written. `Io::Write`: a write or the flush failed; a beginning
+/// of the text is written or all of it, and the shelves are as after the message.
 pub fn answer_one<R: Read, W: Write, S: Shelves>(
     alloc: Global,
     reader: &mut R,
@@ -48,10 +49,10 @@ pub fn answer_one<R: Read, W: Write, S: Shelves>(
 ) -> Result<Option<u16>, Io>
     ensures serves { ServesFirst (S.shown shelves.old) (S.shown shelves.new) (S.failure_count shelves.old) (S.failure_count shelves.new)
         (R.remaining reader.old) (R.remaining reader.new) (W.contents writer.old) (W.contents writer.new) result }
-    // Where there was no message, or it was not read whole, the shelves were not touched.
+    // An empty input and a failed read leave the shelves untouched.
     ensures empty { IfOk result (λ status. status ≡ None → shelves.new ≡ shelves.old) }
     ensures unread { IfErr result (λ e. e ≡ Io.Read → shelves.new ≡ shelves.old) }
-    // What a caller is told does not hang on the shelves that it does not see.
+    // The answer does not depend on the shelves that the caller does not see.
     ensures isolated { AnswersByItsShelf (S.shown shelves.old) (S.shown shelves.new)
         (R.remaining reader.old) (W.contents writer.old) (W.contents writer.new) result }
 {

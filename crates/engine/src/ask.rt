@@ -10,17 +10,17 @@ use wire::{Memory, Message, Query as Wanted, RouteTable, Target, length_value, t
 use world::bytes::Bytes;
 
 /// What a message asks of the machine.
-/// The machine answers with the go.mod, so its replies and its laws know nothing of sums. The line borrows its
-/// path and version from the ask.
+/// For a go.sum line the machine is asked for the go.mod, so its replies and its laws know nothing of sums. The line takes
+/// its path and its version from the ask.
 #[derive(Drop)]
 pub(crate) struct Asking {
     pub(crate) ask: Ask,
-    /// A go.mod is asked for, to tell its go.sum line.
+    /// The message asks for a go.sum line, and so the ask is for the go.mod.
     pub(crate) is_summed: bool,
 }
 
-/// What the message asks. The go.mod of a publish is the first bytes of its body, as many as `Mod-Length` says, and its time
-/// is that of its `Version-Time`.
+/// Returns what the message asks. The go.mod of a publish is the first bytes of its body, as many as `Mod-Length` says, and
+/// its time is that of its `Version-Time`. Fails only if memory runs out.
 pub(crate) fn asking_of(routes: &mut RouteTable, message: Message) -> Result<Asking, Memory>
     ensures { IfOk result (λ asking. asking ≡ spec.asking_of (view message)) }
 {
@@ -30,7 +30,7 @@ pub(crate) fn asking_of(routes: &mut RouteTable, message: Message) -> Result<Ask
     Ok(Asking { ask, is_summed })
 }
 
-/// Whether a go.sum line is asked for.
+/// Whether the target asks for a go.sum line.
 fn is_summed(target: &Target) -> bool
     ensures { result ≡ spec.is_summed target.now }
 {
@@ -49,7 +49,7 @@ fn is_sum(wanted: &Wanted) -> bool
     }
 }
 
-/// What a message with this target asks.
+/// Returns what a message with this target asks. Fails only if memory runs out.
 fn ask_at(message: Message, target: Target) -> Result<Ask, AllocError>
     ensures { IfOk result (λ ask. ask ≡ spec.ask_at (view message) target) }
 {
@@ -75,7 +75,7 @@ fn ask_at(message: Message, target: Target) -> Result<Ask, AllocError>
     }
 }
 
-/// The query of the machine: a go.sum line is made of the go.mod.
+/// Returns the machine's query. For a go.sum line it asks for the go.mod.
 fn query_of(wanted: Wanted) -> Query
     ensures { result ≡ spec.query_of wanted }
 {
@@ -90,7 +90,7 @@ fn query_of(wanted: Wanted) -> Query
     }
 }
 
-/// The time that the values of `Version-Time` give.
+/// Returns the time that the values of `Version-Time` give: `Absent` for none, and `Malformed` for more than one.
 #[tactic(auto, using(crate::proofs::AskLemmas::many_times))]
 fn given_time(values: &[Vec<u8>]) -> GivenTime
     ensures { result ≡ spec.given_time (texts values.now) }
@@ -104,8 +104,7 @@ fn given_time(values: &[Vec<u8>]) -> GivenTime
     }
 }
 
-/// The time that a value writes.
-/// A value that is not text is no time.
+/// Returns the time that a value writes, or `Malformed` if it writes none, for example because it is not UTF-8.
 fn time_in(text: &[u8]) -> GivenTime
     ensures { result ≡ spec.time_in text.now }
 {
@@ -118,7 +117,7 @@ fn time_in(text: &[u8]) -> GivenTime
     }
 }
 
-/// The files of a publish.
+/// Returns the files of a publish, or None if `gomod_len` gives no length for the go.mod. Fails only if memory runs out.
 fn body_of(message: Message) -> Result<Option<Body>, AllocError>
     ensures { IfOk result (λ body. body ≡ spec.body_of (view message)) }
 {
@@ -132,7 +131,8 @@ fn body_of(message: Message) -> Result<Option<Body>, AllocError>
     }))
 }
 
-/// The first so many bytes of a text, and the others: the shorter of both are copied, and the text itself becomes the longer.
+/// Returns the first `len` bytes of a text, and the others. It copies the shorter part and returns the longer one in the
+/// buffer of the text. Fails only if memory runs out.
 fn cut_in_two(mut text: Vec<u8>, len: usize) -> Result<(Vec<u8>, Vec<u8>), AllocError>
     requires { len ≤ vec_len text }
     ensures front { IfOk result (λ parts. parts.0.items ≡ take len text.items) }
@@ -148,7 +148,8 @@ fn cut_in_two(mut text: Vec<u8>, len: usize) -> Result<(Vec<u8>, Vec<u8>), Alloc
     Ok((front, text))
 }
 
-/// The length of the go.mod, where the values of `Mod-Length` say one that is not above the body.
+/// Returns the length of the go.mod, or None if `Mod-Length` does not have exactly one value, if that is no length value, or
+/// if it is more than `most`, the length of the body.
 fn gomod_len(values: &[Vec<u8>], most: usize) -> Option<usize>
     ensures { result ≡ spec.gomod_len (texts values.now) most }
 {

@@ -1,4 +1,4 @@
-//! What the machine answered, as a reply.
+//! The reply for an answer of the machine.
 ghost use Rattle.std.specs.Prelude.{◌≡◌};
 ghost use Rattle.engine.specs.Exchange.{Outcome, answer_to};
 ghost use Rattle.engine.specs.Ask.{sum_by};
@@ -11,8 +11,8 @@ use std::alloc::Global;
 use wire::reply::Fixed;
 use world::registry::StoreFault;
 
-/// What is written for what the machine answered: its reply, or 503 where the store met a fault, or where there is no memory
-/// for the body of the reply.
+/// Returns what is written for the machine's answer: its reply, or the 503 if the store met a fault or memory runs out for
+/// the body of the reply.
 pub(crate) fn page_told(alloc: Global, asking: &Asking, told: Result<Reply, StoreFault>) -> Page
     ensures { (outcome : Outcome) × IsOutcome (sum_by asking.now) told outcome
         × (result ≡ answer_page (sum_by asking.now) (answer_to outcome)) }

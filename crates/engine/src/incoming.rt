@@ -1,4 +1,4 @@
-//! What comes next on a stream.
+//! Taking the next message of a stream.
 ghost use Rattle.std.specs.Prelude.{◌≡◌, None};
 ghost use Rattle.engine.specs.Turn.{Comes, Takes};
 
@@ -12,9 +12,9 @@ use wire::{Bad, Framer, Message, Next};
 #[derive(Drop)]
 pub(crate) enum Taken {
     Message(Message),
-    /// No whole message yet.
+    /// No whole message, but maybe the beginning of one.
     More,
-    /// Nothing that can go on: this reply closes the stream.
+    /// The stream can't go on, and this reply closes it.
     Close(Fixed),
 }
 
@@ -22,12 +22,13 @@ pub(crate) enum Taken {
 #[derive(Drop)]
 pub(crate) enum Incoming {
     Message(Message),
-    /// No message: the stream is to be closed, by this reply, or by nothing at a good end.
+    /// No message: this reply closes the stream, or nothing does at a good end.
     End(Option<Fixed>),
 }
 
-/// Takes the next message from the framer.
-/// One that holds nothing is not asked, since a stream begins with that.
+/// Takes the next message from the framer if it holds a whole one, and otherwise returns `More`, or `Close` with the 400, the
+/// 413, or the 503 if memory runs out.
+/// An empty framer is not asked, because every stream begins with one.
 fn take(framer: &mut Framer) -> Taken
     requires { framer.old.failure ≡ None }
     ensures { Takes framer.old result framer.new }
@@ -44,8 +45,8 @@ fn take(framer: &mut Framer) -> Taken
     }
 }
 
-/// Takes the next message of a stream, and reads until it is whole; or returns what closes the stream. `Io::Read` if a read
-/// failed, or no read is left.
+/// Reads until the next message of a stream is whole and returns it, or returns what closes the stream. `Io::Read` if a read
+/// fails, or if no read is left.
 pub(crate) fn next_message<R: Read>(
     reader: &mut R,
     framer: &mut Framer,

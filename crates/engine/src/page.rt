@@ -1,4 +1,4 @@
-//! Replies as they are written.
+//! What is written for a reply of the machine.
 ghost use Rattle.std.specs.Prelude.{◌≡◌, Some, IfOk, OnErr};
 ghost use Rattle.engine.specs.Ask.{sum_by};
 ghost use Rattle.engine.specs.Reply as spec;
@@ -15,7 +15,7 @@ use wire::reply::{Fixed, Kind};
 use wire::{Memory, info_body};
 use world::bytes::Bytes;
 
-/// A reply as it is written.
+/// What is written for a reply.
 #[derive(Drop)]
 pub enum Page {
     /// One of the fixed replies.
@@ -24,7 +24,7 @@ pub enum Page {
     Body(Kind, Bytes),
 }
 
-/// The fixed reply that refuses the content of a publish.
+/// Returns the fixed reply that refuses the content of a publish.
 fn refusal_of(refusal: Refusal) -> Fixed
     ensures { result ≡ spec.refusal_of refusal }
 {
@@ -38,8 +38,8 @@ fn refusal_of(refusal: Refusal) -> Fixed
     }
 }
 
-/// The fixed reply of a decision on a publish.
-/// An unknown key writes the same 404 as an unreadable request.
+/// Returns the fixed reply for a decision on a publish.
+/// A publish with an unknown key gets the 404 that an unreadable request gets.
 pub fn fixed_of(decision: Decision) -> Fixed
     ensures { result ≡ spec.fixed_of decision }
 {
@@ -56,7 +56,7 @@ pub fn fixed_of(decision: Decision) -> Fixed
     }
 }
 
-/// The go.sum line of a go.mod, and a newline. `Memory` where there is no room for it.
+/// Returns the go.sum line of a go.mod, and a newline. `Memory` if there is no room for it.
 fn sum_body(
     alloc: Global,
     path: &ModulePath,
@@ -70,7 +70,8 @@ fn sum_body(
     Ok(Bytes::new(line.into_bytes()))
 }
 
-/// A go.mod as it is told: as it was received, or by its go.sum line where that is asked for. `Memory` only for the line.
+/// Returns the body for a go.mod: the bytes that were received, or its go.sum line if the message asks for that. `Memory` only
+/// if there is no room for the line.
 fn gomod_body(alloc: Global, asking: &Asking, gomod: Bytes) -> Result<Bytes, Memory>
     ensures body { IfOk result (λ body. body ≡ spec.gomod_body (sum_by asking.now) gomod) }
     ensures memory { OnErr result (IsSummed (sum_by asking.now)) }
@@ -87,9 +88,9 @@ fn gomod_body(alloc: Global, asking: &Asking, gomod: Bytes) -> Result<Bytes, Mem
     }
 }
 
-/// A reply of the machine to what was asked as it is written. `Memory` only for a body that is composed; a file is moved, as it was
-/// received.
-/// A reply whose body is composed changed nothing, so a 503 in its place loses nothing.
+/// Returns what is written for the machine's reply to what was asked. `Memory` only if there is no room for a body that is
+/// composed; the bytes of a file are moved into the page.
+/// A request whose reply has a composed body changed nothing, so a 503 in its place loses nothing.
 pub(crate) fn page_of(alloc: Global, asking: &Asking, reply: Reply) -> Result<Page, Memory>
     ensures page { IfOk result (λ page. page ≡ spec.reply_page (sum_by asking.now) reply) }
     ensures memory { OnErr result (IsComposed (sum_by asking.now) reply) }

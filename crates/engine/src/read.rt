@@ -10,26 +10,27 @@ use std::io::{ErrorKind, Read};
 use wire::Framer;
 use wire::reply::Fixed;
 
-/// How often a call that was interrupted is made anew.
+/// How often a call is tried while it is interrupted.
 /// The bound ends a stream that is interrupted without end.
 pub(crate) const TRIES: u32 = 1_000;
 
-/// The most bytes that are read behind a message, and of a read where little or nothing is known to be missing.
+/// The most bytes that are read behind a message. A read takes no more unless more of a message is known to be missing.
 const READ_LIMIT: usize = 4_096;
 
-/// The most bytes of a read where more than that is missing of a message.
+/// The most bytes of one read, however many of a message are missing.
 const BODY_READ_LIMIT: usize = 65_536;
 
-/// What a read gave.
+/// What a read led to.
 #[derive(Clone, Copy, Drop)]
 pub(crate) enum Reading {
-    /// Bytes, which the framer holds.
+    /// Bytes came, and the framer holds them.
     GoesOn,
-    /// The stream is to be closed: by this reply, or by nothing at a good end.
+    /// This reply closes the stream, or nothing does at a good end.
     Ends(Option<Fixed>),
 }
 
-/// Reads once; a call that is interrupted is made anew.
+/// Reads once and returns how many bytes came, which is 0 only at the end. `Io::Read` if the reader fails, or if it is
+/// interrupted at each of `TRIES` calls.
 fn read_some<R: Read>(reader: &mut R, chunk: &mut [u8]) -> Result<usize, Io>
     requires { 0 < length chunk.old }
     ensures room { IfOk result (λ _. length chunk.new ≤ length chunk.old) }
@@ -49,7 +50,8 @@ fn read_some<R: Read>(reader: &mut R, chunk: &mut [u8]) -> Result<usize, Io>
     Err(Io::Read)
 }
 
-/// Reads once, and feeds the framer what came. An end, and want of memory, close the stream.
+/// Reads once and feeds the framer what came. Returns `Ends` at the end of the input, with the 400 if the framer holds
+/// something, and with the 503 if memory runs out. `Io::Read` if the read fails.
 fn feed_some<R: Read>(reader: &mut R, framer: &mut Framer, chunk: &mut [u8]) -> Result<Reading, Io>
     requires waits { IsUnfinished framer.old.held }
     requires room { 0 < length chunk.old }
@@ -67,7 +69,8 @@ fn feed_some<R: Read>(reader: &mut R, framer: &mut Framer, chunk: &mut [u8]) -> 
     }
 }
 
-/// Reads once for a message that lacks more than one read takes, and reads no byte behind it.
+/// Reads once for a message that lacks more than `READ_LIMIT` bytes, and reads no byte behind it. Returns and fails as
+/// `feed_some` does.
 #[inline(never)]
 fn read_body<R: Read>(reader: &mut R, framer: &mut Framer, missing: usize) -> Result<Reading, Io>
     requires waits { IsUnfinished framer.old.held }
@@ -81,7 +84,8 @@ fn read_body<R: Read>(reader: &mut R, framer: &mut Framer, missing: usize) -> Re
     feed_some(reader, framer, &mut chunk[..most])
 }
 
-/// Reads once, and feeds the framer what came; while much of a message is missing, as much of it as comes.
+/// Reads once and feeds the framer what came: at most 4,096 bytes, or 65,536 while more than 4,096 are known to be missing of a
+/// message. Returns and fails as `feed_some` does.
 pub(crate) fn read_more<R: Read>(reader: &mut R, framer: &mut Framer) -> Result<Reading, Io>
     requires { IsUnfinished framer.old.held }
     ensures on { ReadsOn framer.old framer.new (R.remaining reader.old) (R.remaining reader.new) result }

@@ -1,4 +1,4 @@
-//! A stream of requests, and what answers it.
+//! Answering a stream of requests, turn by turn.
 ghost use Rattle.std.specs.Prelude.{◌≡◌, ◌<◌, [], None, IfOk, IfErr};
 ghost use Rattle.std.specs.Io.KnownBytes.{Keeps};
 ghost use Rattle.engine.specs.Reply.{page_bytes, page_status};
@@ -22,14 +22,14 @@ use world::shelves::Shelves;
 /// What a turn did.
 #[derive(Clone, Copy, Drop)]
 pub enum Turn {
-    /// A message was answered, with this number of a status.
+    /// It answered a message, with this status.
     Answered(u16),
-    /// The stream was closed: by this reply, or by nothing at a good end.
+    /// It closed the stream: by this reply, or by nothing at a good end.
     Closed(Option<Fixed>),
 }
 
 impl Turn {
-    /// The number of the status that was written, or None if nothing was.
+    /// Returns the status that was written, or None if nothing was.
     fn number(self) -> Option<u16>
         ensures { result ≡ turn_status self }
     {
@@ -41,7 +41,7 @@ impl Turn {
     }
 }
 
-/// Writes the reply to a message, and returns the turn that it was.
+/// Writes the reply to a message and returns the turn. `Io::Write` if a write fails.
 fn answer_with<W: Write>(alloc: Global, writer: &mut W, page: Page) -> Result<Turn, Io>
     ensures bytes { Writes (W.contents writer.old) (W.contents writer.new) (page_bytes page) result }
     ensures turn { IfOk result (λ turn. turn ≡ Turn.Answered (page_status page)) }
@@ -50,7 +50,7 @@ fn answer_with<W: Write>(alloc: Global, writer: &mut W, page: Page) -> Result<Tu
     Ok(Turn::Answered(status.as_u16()))
 }
 
-/// Closes a stream: by a fixed reply, or by nothing.
+/// Closes a stream by a fixed reply or by nothing, and returns the turn. `Io::Write` if a write fails.
 fn close_by<W: Write>(writer: &mut W, closing: Option<Fixed>) -> Result<Turn, Io>
     ensures bytes { Writes (W.contents writer.old) (W.contents writer.new) (closing_bytes closing) result }
     ensures turn { IfOk result (λ turn. turn ≡ Turn.Closed closing) }
@@ -61,8 +61,8 @@ fn close_by<W: Write>(writer: &mut W, closing: Option<Fixed>) -> Result<Turn, Io
     Ok(Turn::Closed(closing))
 }
 
-/// Flushes what a turn wrote, and returns the number of its status, or None if nothing was written. `Io::Write` if the flush
-/// failed. A turn that failed is returned as it is.
+/// Flushes what a turn wrote and returns its status, or None if it wrote nothing. `Io::Write` if the flush fails. If the turn
+/// failed, it returns the turn's error and does not flush.
 pub fn end_turn<W: Write>(writer: &mut W, turned: Result<Turn, Io>) -> Result<Option<u16>, Io>
     ensures bytes { Keeps (W.contents writer.old) (W.contents writer.new) }
     ensures told { EndsBy turned result }
@@ -72,17 +72,17 @@ pub fn end_turn<W: Write>(writer: &mut W, turned: Result<Turn, Io>) -> Result<Op
     Ok(turn.number())
 }
 
-/// A stream of requests that is answered: what was read of it, but for the messages that were answered.
+/// A stream of requests that is being answered. It holds the bytes that were read behind the answered messages.
 #[derive(Drop)]
 pub struct Session {
     pub(crate) alloc: Global,
     pub(crate) framer: Framer,
-    /// How many reads are left. A stream that has had `u64::MAX` of them fails as one that can't be read.
+    /// How many reads are left. A stream that needs more than `u64::MAX` reads fails with `Io::Read`.
     pub(crate) reads: u64,
 }
 
 impl Session {
-    /// A session at the begin of a stream.
+    /// Returns a session at the beginning of a stream.
     pub fn new(alloc: Global) -> Session
         ensures { result.framer ≡ record { held = []; failure = None } }
     {
@@ -93,12 +93,12 @@ impl Session {
         }
     }
 
-    /// Takes one turn: answers the next message of the stream, or closes the stream where none comes. It reads no more than it
-    /// needs: before the last read no message was whole. It does not flush. The router is lent, so that a caller makes one for
-    /// many streams.
+    /// Takes one turn: answers the next message of the stream, or closes the stream if none comes. It reads at most 4,096 bytes
+    /// behind that message, or behind the point at which the stream can't go on. It does not flush. The caller lends the router,
+    /// so that it makes one for many streams.
     ///
-    /// `Io::Read`: nothing was done, and nothing written. `Io::Write`: a beginning of the text was written; the shelves are as
-    /// after the message.
+    /// `Io::Read`: a read failed, nothing was done, and nothing is written. `Io::Write`: a write failed; a beginning of the text
+    /// is written, and the shelves are as after the message.
     pub fn turn<R: Read, W: Write, S: Shelves>(
         &mut self,
         routes: &mut RouteTable,
@@ -110,7 +110,7 @@ impl Session {
         ensures turns { Turns (S.shown shelves.old) (S.shown shelves.new) (S.failure_count shelves.old) (S.failure_count shelves.new)
             (R.remaining reader.old) (R.remaining reader.new) (W.contents writer.old) (W.contents writer.new)
             self.old.framer self.new.framer result }
-        // Where there was no message, or it was not read whole, the shelves were not touched.
+        // A turn that closed the stream and a failed read leave the shelves untouched.
         ensures empty { IfOk result (λ turn. IsClosed turn → shelves.new ≡ shelves.old) }
         ensures unread { IfErr result (λ e. e ≡ Io.Read → shelves.new ≡ shelves.old) }
         ensures falls { IfOk result (λ turn. IsAnswered turn

@@ -14,10 +14,11 @@ use wire::reply::{Fixed, Kind, StatusCode};
 use wire::{fixed, put_head};
 
 /// The most bytes of a body that is written with its head.
-/// One write keeps a socket from sending the head alone and waiting. Without memory for the copy there are two.
+/// One write keeps a socket from sending the head alone and waiting. Without memory to join them there are two.
 const JOINED_LIMIT: usize = 65_536;
 
-/// Writes some of the bytes; a call that is interrupted is made anew.
+/// Writes some of the bytes and returns how many. `Io::Write` if the writer fails or takes nothing, or if it is interrupted at
+/// each of `TRIES` calls.
 fn write_some<W: Write>(writer: &mut W, bytes: &[u8]) -> Result<usize, Io>
     ensures some { IfOk result (λ n. 0 < n) }
     ensures within { IfOk result (λ n. n ≤ length bytes.now) }
@@ -36,7 +37,7 @@ fn write_some<W: Write>(writer: &mut W, bytes: &[u8]) -> Result<usize, Io>
     Err(Io::Write)
 }
 
-/// Writes all the bytes. An `Err` has written a beginning of them, and not all.
+/// Writes all the bytes. `Io::Write` if a write fails: then a beginning of them is written, and not all.
 pub fn write_bytes<W: Write>(writer: &mut W, bytes: &[u8]) -> Result<(), Io>
     ensures { Writes (W.contents writer.old) (W.contents writer.new) bytes.now result }
 {
@@ -48,7 +49,7 @@ pub fn write_bytes<W: Write>(writer: &mut W, bytes: &[u8]) -> Result<(), Io>
     Ok(())
 }
 
-/// Writes one text after another. An `Err` has written a beginning of both, and not all.
+/// Writes one text after another. `Io::Write` if a write fails: then a beginning of both is written, and not all.
 pub fn write_both<W: Write>(writer: &mut W, first: &[u8], second: &[u8]) -> Result<(), Io>
     ensures { Writes (W.contents writer.old) (W.contents writer.new) (first.now ++ second.now) result }
 {
@@ -56,7 +57,7 @@ pub fn write_both<W: Write>(writer: &mut W, first: &[u8], second: &[u8]) -> Resu
     write_bytes(writer, second)
 }
 
-/// One text behind another. An `Err` tells that memory was refused.
+/// Returns one text behind another. Fails only if memory runs out.
 fn joined(alloc: Global, first: &[u8], second: &[u8]) -> Result<Vec<u8>, AllocError>
     ensures { IfOk result (λ text. text.items ≡ first.now ++ second.now) }
 {
@@ -66,7 +67,8 @@ fn joined(alloc: Global, first: &[u8], second: &[u8]) -> Result<Vec<u8>, AllocEr
     Ok(text)
 }
 
-/// Writes a head and then a body: a short body in one with its head, where there is memory to join them.
+/// Writes a head and then a body: in one write if the body is short and there is memory to join them. `Io::Write` if a write
+/// fails.
 fn write_joined<W: Write>(alloc: Global, writer: &mut W, head: &[u8], body: &[u8]) -> Result<(), Io>
     ensures { Writes (W.contents writer.old) (W.contents writer.new) (head.now ++ body.now) result }
 {
@@ -78,7 +80,7 @@ fn write_joined<W: Write>(alloc: Global, writer: &mut W, head: &[u8], body: &[u8
     write_both(writer, head, body)
 }
 
-/// Writes a fixed reply, with no memory, and answers its status.
+/// Writes a fixed reply, without taking memory, and returns its status. `Io::Write` if a write fails.
 pub(crate) fn write_fixed<W: Write>(writer: &mut W, answer: Fixed) -> Result<StatusCode, Io>
     ensures bytes { Writes (W.contents writer.old) (W.contents writer.new) (fixed_bytes answer) result }
     ensures status { IfOk result (λ status. status ≡ fixed_status answer) }
@@ -89,7 +91,8 @@ pub(crate) fn write_fixed<W: Write>(writer: &mut W, answer: Fixed) -> Result<Sta
     Ok(answer.status())
 }
 
-/// Writes a 200 with a body, and answers its status. Memory is used, where there is some, only to write a short body with its head.
+/// Writes a 200 with a body, and returns its status. `Io::Write` if a write fails. It takes memory only to join a short body with
+/// its head, and needs none.
 fn write_body<W: Write>(
     alloc: Global,
     writer: &mut W,
@@ -105,7 +108,7 @@ fn write_body<W: Write>(
     Ok(StatusCode::OK)
 }
 
-/// Writes a reply, and answers its status. No want of memory stops it.
+/// Writes a reply, and returns its status. `Io::Write` if a write fails; it does not fail if memory runs out.
 pub(crate) fn write_page<W: Write>(
     alloc: Global,
     writer: &mut W,
@@ -120,7 +123,7 @@ pub(crate) fn write_page<W: Write>(
     }
 }
 
-/// Flushes what was written.
+/// Flushes what was written. `Io::Write` if the flush fails.
 pub(crate) fn flush<W: Write>(writer: &mut W) -> Result<(), Io>
     ensures bytes { Keeps (W.contents writer.old) (W.contents writer.new) }
     ensures which { IfErr result (λ e. e ≡ Io.Write) }

@@ -1,4 +1,4 @@
--- What a store goes through on one connection, and on those before it.
+-- What a store goes through on one more connection.
 use Rattle.std.proofs.Common.{ℕ, ◌+◌, ◌≤◌, ◌≡◌, refl, sym, ap, ◌∙◌, subst, List, [], ◌∷◌, ◌++◌, length, map, Option, Some, None, Result, Ok, Err, inl, inr, arith, append_assoc, append-nil}
 use Rattle.std.proofs.lemmas.List.{length-append, map-append}
 use Rattle.std.proofs.lemmas.List.Elements.{All-nil, All-push}
@@ -15,7 +15,7 @@ one_at_most None = omega arith
 one_at_most (Some (Message x)) = omega arith
 one_at_most (Some (Closes closing)) = omega arith
 
--- no more messages than connections
+-- there are at most as many messages as visits
 pub one_each : {P : Type 0} (visits : List (Visit P)) → length (exchanges_with visits) ≤ length visits
 one_each [] = omega arith
 one_each (visit ∷ visits) = omega (
@@ -36,7 +36,7 @@ none_come : {P : Type 0} (waiting : Option (List P)) → Come waiting waiting []
 none_come None = tt
 none_come (Some all) = refl
 
--- these come, and then those
+-- if some peers come and then others, all of them come
 then_come : {P : Type 0} (waiting left rest : Option (List P)) (first next : List P) → Come waiting left first → Come left rest next
     → Come waiting rest (first ++ next)
 then_come None left rest first next one two = tt
@@ -50,7 +50,7 @@ same_come : {P : Type 0} (waiting left rest : Option (List P)) (first : List P) 
 same_come waiting left rest first one two = subst (Come waiting rest) (append-nil first) (then_come waiting left rest first [] one two)
 
 module _ {P : Type 0} (unread written : P → Option (List ℕ)) where
-  -- the peer that was served was answered
+  -- a peer whose first message was served as `ServesFirst` says was answered
   pub answered : (old new : Shown) (before now : ℕ) (peer after : P) (told : Result (Option ℕ) Io)
       → ServesFirst old new before now (unread peer) (unread after) (written peer) (written after) told
       → Answers unread written peer old new before now
@@ -85,7 +85,7 @@ module _ {P : Type 0} (unread written : P → Option (List ℕ)) where
 
   module _ (waiting left rest : Option (List P)) (old mid new : Shown) (before between now n : ℕ)
       (first : AnswersEach unread written waiting left old mid before between n) where
-    -- another connection
+    -- answering one more peer after others answers each of them
     pub each_more : (peer : P) → Come left rest (peer ∷ []) → Answers unread written peer mid new between now
         → AnswersEach unread written waiting rest old new before now (n + 1)
     each_more peer comes next = record {
@@ -99,7 +99,7 @@ module _ {P : Type 0} (unread written : P → Option (List ℕ)) where
           (through_more old mid new before between now (exchanges_with first.visits) first.through (exchanges_of next.visit.first) next.through);
     }
 
-  -- no connection came
+  -- a failed accept counts, and answers nobody
   pub each_same : (waiting left rest : Option (List P)) (old new : Shown) (before now n : ℕ) → Come left rest []
       → AnswersEach unread written waiting left old new before now n → AnswersEach unread written waiting rest old new before now (n + 1)
   each_same waiting left rest old new before now n comes first = record {

@@ -7,24 +7,24 @@ use Rattle.engine.specs.First.{First, TakesFirst, first_bytes, first_exchanges}
 use Rattle.engine.specs.Store.{GoesThrough}
 use Rattle.engine.specs.Written.{WritesPart}
 
--- In one run of the machine messages were answered, no more than there are connections.
+-- The store went through a run of messages, at most as many as there are connections.
 pub record GoesThroughMost (old new : Shown) (before now connections : ℕ) : Type 0 where
   pub exchanges : List Exchange
   pub few : length exchanges ≤ connections
   pub through : GoesThrough old new before now exchanges
 
--- the peers that come next are these, and then those that are left, where they are known
+-- if the peers that wait are known, they are these and then those that are left
 abbrev pub Come : {P : Type 0} → Option (List P) → Option (List P) → List P → Type 0
 Come None left peers = Unit {0}
 Come (Some all) None peers = ⊥
 Come (Some all) (Some left) peers = all ≡ peers ++ left
 
--- the next peer is taken, or none is
+-- the next peer is taken, or no peer if the accept fails
 abbrev pub Accepts : {P E : Type 0} → Option (List P) → Option (List P) → Result P E → Type 0
 Accepts waiting left (Ok peer) = Come waiting left (peer ∷ [])
 Accepts waiting left (Err e) = Come waiting left []
 
--- A peer before and after it was answered, and what it sent first. There is none where a read failed before that was whole.
+-- A peer before and after it was answered, and what came first on its connection, unless a read failed before that was whole.
 pub record Visit (P : Type 0) : Type 0 where
   pub before : P
   pub after : P
@@ -33,36 +33,38 @@ pub record Visit (P : Type 0) : Type 0 where
 abbrev pub peer_of : {P : Type 0} → Visit P → P
 peer_of visit = visit.before
 
+-- the message that came first with its outcome, if a message did
 abbrev pub exchanges_of : Option First → List Exchange
 exchanges_of None = []
 exchanges_of (Some first) = first_exchanges first
 
--- the messages of the peers, in the order of their connections
+-- the exchanges with all peers, in the order of their connections
 abbrev pub exchanges_with : {P : Type 0} → List (Visit P) → List Exchange
 exchanges_with [] = []
 exchanges_with (visit ∷ visits) = exchanges_of visit.first ++ exchanges_with visits
 
 module _ {P : Type 0} (unread written : P → Option (List ℕ)) where
-  -- What came first came from this peer, and its reply went to this peer: all of it, or a beginning where a write failed. Where
-  -- nothing came whole, nothing was written.
+  -- What came first came from this peer, and its reply went to this peer: all of it, or a beginning if a write failed. If nothing
+  -- came whole, nothing was written.
   abbrev pub IsBetween : P → P → Option First → Type 0
   IsBetween before after None = Keeps (written before) (written after)
   IsBetween before after (Some first) =
       TakesFirst (unread before) (unread after) first
       × (WritesPart (written before) (written after) (first_bytes first) ⊎ Appends (written before) (written after) (first_bytes first))
 
+  -- the visit is one between its peer before and after it
   abbrev pub IsAnsweredThere : Visit P → Type 0
   IsAnsweredThere visit = IsBetween visit.before visit.after visit.first
 
-  -- a peer was answered, as it was before that
+  -- this peer was visited, and the store went through its message
   pub record Answers (peer : P) (old new : Shown) (before now : ℕ) : Type 0 where
     pub visit : Visit P
     pub begins : visit.before ≡ peer
     pub there : IsAnsweredThere visit
     pub through : GoesThrough old new before now (exchanges_of visit.first)
 
-  -- The peers that came were answered one after another and each once, no more than there are connections. What a peer sent was
-  -- answered to that peer.
+  -- The peers that came were answered one after another, each once, and at most as many as there are connections. What a peer
+  -- sent was answered to that peer.
   pub record AnswersEach (waiting left : Option (List P)) (old new : Shown) (before now connections : ℕ) : Type 0 where
     pub visits : List (Visit P)
     pub few : length visits ≤ connections

@@ -14,25 +14,26 @@ use std::time::Clock;
 use wire::RouteTable;
 use world::shelves::Shelves;
 
-/// The two ends of a connection, and how its first request was answered, as `answer_one` tells it.
+/// The two ends of a connection, and the result of answering its first request.
 #[derive(Drop)]
 pub struct Answered<R, W> {
     /// What the request was read from, at the byte behind the last that was read.
     pub reader: R,
     /// What the reply was written to.
     pub writer: W,
-    /// The number of the status that was written, `None` where the peer sent nothing; `Io::Read` or `Io::Write` where a read or a
-    /// write failed, or the time for it was over.
+    /// The status that was written, or `None` if the peer sent nothing; `Io::Read` or `Io::Write` if a read or a write failed or
+    /// its time was over.
     pub told: Result<Option<u16>, Io>,
 }
 
-/// Answers the first request of a peer (RFC 9112, in the crate `wire`'s profile), as `engine::answer_one` does. All reads together
-/// have 5 seconds and one more for each 1,048,576 bytes that were read, and so have all writes; the time begins at the first of
-/// them. Each wait is bounded to what is left of it. A read or a write fails where nothing is left, where the clock can't be read,
-/// and where its wait can't be bounded. The router is lent, so that one serves all connections.
+/// Answers the first request of a peer (RFC 9112, in the profile of the crate `wire`) as `engine::answer_one` does, and returns
+/// both ends with the result. All reads together have 5 seconds and one more for each 1,048,576 bytes read, and so have all
+/// writes for the bytes written; the time of each begins at the first of them. Each wait is bounded by what is left. A read or a
+/// write fails if no time is left, the clock can't be read, or its wait can't be bounded. The caller lends the router, so that
+/// one serves all connections.
 ///
-/// `Io::Read`: nothing was done, and nothing written. `Io::Write`: a beginning of the reply was written, or the flush alone
-/// failed; the shelves are as after the request.
+/// `Io::Read`: a read failed, nothing was done, and nothing is written. `Io::Write`: a write or the flush failed; a beginning
+/// of the reply is written or all of it, and the shelves are as after the request.
 pub fn answer_in_time<C: Clock, R: BoundRead + Drop, W: BoundWrite + Drop, S: Shelves>(
     alloc: Global,
     clock: &C,
@@ -43,10 +44,10 @@ pub fn answer_in_time<C: Clock, R: BoundRead + Drop, W: BoundWrite + Drop, S: Sh
 ) -> Answered<R, W>
     ensures serves { ServesFirst (S.shown shelves.old) (S.shown shelves.new) (S.failure_count shelves.old) (S.failure_count shelves.new)
         (R.remaining reader) (R.remaining result.reader) (W.contents writer) (W.contents result.writer) result.told }
-    // Where there was no message, or it was not read whole, the shelves were not touched.
+    // An empty input and a failed read leave the shelves untouched.
     ensures empty { IfOk result.told (λ status. status ≡ None → shelves.new ≡ shelves.old) }
     ensures unread { IfErr result.told (λ e. e ≡ Io.Read → shelves.new ≡ shelves.old) }
-    // What a caller is told does not hang on the shelves that it does not see.
+    // The answer does not depend on the shelves that the caller does not see.
     ensures isolated { AnswersByItsShelf (S.shown shelves.old) (S.shown shelves.new)
         (R.remaining reader) (W.contents writer) (W.contents result.writer) result.told }
 {
@@ -67,13 +68,13 @@ pub trait Peer {
     ghost use Rattle.std.specs.Prelude.{ℕ, List, Option, ◌≡◌};
     ghost use Rattle.engine.specs.First.{ServesFirst};
 
-    /// The bytes that it sends from here on, where they are known.
+    /// The bytes that it sends from here on, if they are known.
     ghost unread: { Self → Option (List ℕ) };
 
-    /// The bytes that it was sent, where they are known.
+    /// The bytes that it was sent, if they are known.
     ghost written: { Self → Option (List ℕ) };
 
-    /// Answers its first request, as `engine::answer_one` does, with a router that is lent.
+    /// Answers its first request, and returns and fails as `engine::answer_one` does. The caller lends the router.
     fn answer<C: Clock, S: Shelves>(
         &mut self,
         alloc: Global,
@@ -89,7 +90,7 @@ pub trait Peer {
         ensures { written self.new ≡ written self.old };
 }
 
-/// A socket tells no bytes.
+/// The bytes of a socket are not known.
 impl Peer for TcpStream {
     ghost use Rattle.std.specs.Prelude.{None};
 
@@ -108,26 +109,26 @@ impl Peer for TcpStream {
         answer_in_time(alloc, clock, routes, stream, stream, shelves).told
     }
 
-    /// Shuts the writing side, and drops what the peer sent behind its message.
+    /// Shuts the writing side, and drops what the peer sent behind its message. Errors are ignored: the reply is written.
     fn end<C: Clock>(&mut self, clock: &C, status: u16) {
         let _ = drop_rest(clock, self, status);
     }
 }
 
-/// What takes connections.
+/// A source of connections.
 pub trait Listener<P> {
     ghost use Rattle.std.specs.Prelude.{List, Option};
     ghost use Rattle.socket.specs.Connections.{Accepts};
 
-    /// The peers that connect from here on, in their order, where they are known.
+    /// The peers that connect from here on, in their order, if they are known.
     ghost waiting: { Self → Option (List P) };
 
-    /// Takes the next connection, and waits for it as long as it takes.
+    /// Waits for the next connection, however long that takes, and returns its peer. Fails if the connection can't be taken.
     fn accept(&mut self) -> io::Result<P>
         ensures { Accepts (waiting self.old) (waiting self.new) result };
 }
 
-/// Nobody knows who connects to a port.
+/// The peers that connect to a port are not known.
 impl<'a> Listener<TcpStream> for &'a TcpListener {
     ghost use Rattle.std.specs.Prelude.{None};
 

@@ -1,4 +1,4 @@
-//! How long a peer may take.
+//! Streams whose peer has a limited time.
 ghost use Rattle.std.specs.Prelude.{◌≡◌, ◌+◌, ◌*◌, ◌/◌, ◌<◌, ◌≤◌, IfOk, IfSome, IfNone};
 ghost use Rattle.std.specs.Duration.{as_nanos};
 
@@ -7,7 +7,7 @@ use crate::wait::{BoundRead, BoundWrite};
 use std::io::{self, ErrorKind, Read, Write};
 use std::time::{Clock, Duration, Instant};
 
-/// What a peer has time for.
+/// What a peer gets time for.
 #[derive(Clone, Copy)]
 pub(crate) enum Part {
     /// The request, or the reply.
@@ -16,8 +16,8 @@ pub(crate) enum Part {
     Rest,
 }
 
-/// A stream whose peer has a time, which begins at the first read or write. One that begins later than that fails, and none waits
-/// longer than what is left.
+/// A stream whose peer has a limited time, which begins at the first read or write. A read or write that begins after it fails,
+/// and none waits longer than what is left.
 #[derive(Drop)]
 pub(crate) struct Paced<'a, C: Clock, T> {
     inner: T,
@@ -28,7 +28,7 @@ pub(crate) struct Paced<'a, C: Clock, T> {
 }
 
 impl<'a, C: Clock, T: Drop> Paced<'a, C, T> {
-    /// The stream with a time that has not begun.
+    /// Returns the stream with a time that has not begun.
     pub(crate) fn new(inner: T, clock: &'a C, part: Part) -> Paced<'a, C, T>
         ensures { result.inner ≡ inner }
     {
@@ -41,14 +41,14 @@ impl<'a, C: Clock, T: Drop> Paced<'a, C, T> {
         }
     }
 
-    /// The stream alone.
+    /// Returns the stream alone.
     pub(crate) fn into_inner(self) -> T
         ensures { result ≡ self.entry.inner }
     {
         self.inner
     }
 
-    /// Begins the time of the peer, and returns what is left of it, or fails where it is over.
+    /// Returns what is left of the peer's time, which the first call begins. Fails if none is left, or if the clock can't be read.
     fn left(&mut self) -> io::Result<Duration>
         ensures same { self.new.inner ≡ self.old.inner }
         ensures some { IfOk result (λ left. 0 < as_nanos left) }
@@ -62,7 +62,7 @@ impl<'a, C: Clock, T: Drop> Paced<'a, C, T> {
         time_left(time, now.duration_since(begun)).ok_or(io::Error::from(ErrorKind::TimedOut))
     }
 
-    /// So many bytes more were moved.
+    /// Adds to the bytes that were moved.
     fn count(&mut self, bytes: usize)
         ensures { self.new.inner ≡ self.old.inner }
     {
@@ -70,7 +70,7 @@ impl<'a, C: Clock, T: Drop> Paced<'a, C, T> {
     }
 }
 
-/// The time of a peer that has moved so many bytes.
+/// Returns the whole time of a peer that has moved this many bytes.
 fn time_for(part: Part, moved: u64) -> Duration
     ensures message { part ≡ Part.Message → as_nanos result ≡ (5 + moved / 1_048_576) * 1_000_000_000 }
     ensures rest { part ≡ Part.Rest → as_nanos result ≡ 2_000_000_000 }
@@ -81,7 +81,7 @@ fn time_for(part: Part, moved: u64) -> Duration
     }
 }
 
-/// What is left of a time of which so much is spent, `None` where it is over.
+/// Returns what is left of a time after some is spent, or `None` if nothing is left.
 fn time_left(time: Duration, spent: Duration) -> Option<Duration>
     ensures some { IfSome result (λ left. (0 < as_nanos left) × (as_nanos left + as_nanos spent ≡ as_nanos time)) }
     ensures none { IfNone result (as_nanos time ≤ as_nanos spent) }

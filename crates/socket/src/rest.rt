@@ -1,4 +1,4 @@
-//! What a peer sends behind its message.
+//! Dropping what a peer sends behind its message.
 ghost use Rattle.std.specs.Prelude.{◌≡◌, ◌==◌, ◌||◌};
 
 use crate::bounds::MOST_DROPPED;
@@ -15,7 +15,7 @@ fn leaves_a_rest(status: u16) -> bool
     status == 400 || status == 413 || status == 503
 }
 
-/// What comes behind a message, and whether a read waits for it.
+/// The bytes behind a message, and whether a read waits for them.
 #[derive(Drop)]
 struct Rest<'a> {
     stream: &'a TcpStream,
@@ -33,7 +33,7 @@ impl<'a> Read for Rest<'a> {
 }
 
 impl<'a> BoundRead for Rest<'a> {
-    /// Needs no call of the system where no read waits.
+    /// Does nothing if no read waits, and otherwise fails if the bound can't be set.
     fn bound_reads(&self, longest: Duration) -> io::Result<()> {
         if self.waits {
             self.stream.bound_reads(longest)
@@ -43,8 +43,9 @@ impl<'a> BoundRead for Rest<'a> {
     }
 }
 
-/// Shuts the writing side, and drops what the peer sent behind the message that was answered with this status, or still sends
-/// where its request may not have been read to its end.
+/// Shuts the writing side, and drops what the peer sent behind the message that was answered with this status; also what it
+/// still sends if its request may not have been read to its end. Fails if a call of the system fails, or if a read would wait
+/// that may not.
 pub(crate) fn drop_rest<C: Clock>(clock: &C, stream: &TcpStream, status: u16) -> io::Result<()> {
     stream.shutdown(Shutdown::Write)?;
     let waits = leaves_a_rest(status);
@@ -54,7 +55,7 @@ pub(crate) fn drop_rest<C: Clock>(clock: &C, stream: &TcpStream, status: u16) ->
     skip(Paced::new(Rest { stream, waits }, clock, Part::Rest))
 }
 
-/// Reads to the end of a reader, or so many bytes, and drops them.
+/// Reads and drops the bytes of a reader, at most `MOST_DROPPED`. Fails if a read fails.
 fn skip<R: Read + Drop>(reader: R) -> io::Result<()> {
     let mut front = reader.take(MOST_DROPPED);
     let mut chunk = [0; 16_384];

@@ -1,4 +1,4 @@
-//! One connection after another.
+//! Serving one connection after another.
 ghost use Rattle.socket.specs.Connections.{AnswersEach, GoesThroughMost};
 
 use crate::connection::{Listener, Peer};
@@ -8,11 +8,12 @@ use wire::RouteTable;
 use world::shelves::Shelves;
 
 /// Takes connections from a listener, one after another, and answers on each the first message that comes over it; the store
-/// goes through at most as many requests as there are connections. It returns after the last of them, and waits for each as
-/// long as it takes.
+/// goes through at most as many requests as there are connections. It waits for each connection however long that takes, and
+/// returns after the last of them.
 ///
-/// A connection that fails counts and is reported to nobody. If its request was not read whole, it changed nothing; if its
-/// reply failed, what the request did stays. An accept that fails counts too, so a server without descriptors ends.
+/// It never fails. A connection that fails counts and is reported to nobody: if its request was not read whole, it changed
+/// nothing; if its reply failed, what the request did stays. An accept that fails counts too, so a server without descriptors
+/// ends.
 pub fn serve_on<C: Clock, P: Peer + Drop, L: Listener<P>, S: Shelves>(
     alloc: Global,
     clock: &C,
@@ -22,7 +23,7 @@ pub fn serve_on<C: Clock, P: Peer + Drop, L: Listener<P>, S: Shelves>(
 )
     ensures most { GoesThroughMost (S.shown shelves.old) (S.shown shelves.new) (S.failure_count shelves.old) (S.failure_count shelves.new)
         connections }
-    // Each message is answered on the connection that it came over, at most one on each.
+    // Each message is answered on the connection that it came over, and at most one on each.
     ensures each { AnswersEach P.unread P.written (L.waiting listener.old) (L.waiting listener.new)
         (S.shown shelves.old) (S.shown shelves.new) (S.failure_count shelves.old) (S.failure_count shelves.new) connections }
 {

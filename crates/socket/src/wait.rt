@@ -1,4 +1,4 @@
-//! How long a read or a write may wait for a peer.
+//! Bounds on how long a read or a write waits for a peer.
 
 use std::io::{self, Read, Write};
 use std::net::TcpStream;
@@ -6,13 +6,14 @@ use std::time::Duration;
 
 /// A reader whose waits can be bounded.
 pub trait BoundRead: Read {
-    /// From now on a read that waits longer than this fails.
+    /// Makes every later read fail that waits longer than this. Fails if the bound can't be set.
     fn bound_reads(&self, longest: Duration) -> io::Result<()>;
 }
 
 /// A writer whose waits can be bounded.
 pub trait BoundWrite: Write {
-    /// From now on a write that waits longer than this fails, or returns what it wrote before.
+    /// Makes every later write that waits longer than this fail, or return what it wrote until then. Fails if the bound can't be
+    /// set.
     fn bound_writes(&self, longest: Duration) -> io::Result<()>;
 }
 

@@ -1,9 +1,11 @@
 pub mod WordLemmas
 pub mod OrderLemmas
 pub mod LineLemmas
+pub mod CopyLemmas
 pub mod OutcomeLemmas
 pub mod CrashLemmas
 pub mod TurnLemmas
 pub mod HearingLemmas
+pub mod StepLemmas
 pub mod ServeLemmas
 pub mod IsolatedLemmas

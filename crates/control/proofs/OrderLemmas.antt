@@ -11,14 +11,14 @@ use Rattle.control.specs.declared.order.Order.{Order}
 use Rattle.control.specs.declared.order.Order.TheVariants.{TeamAdd, GroupAdd, KeyAdd, KeyRevoke}
 use Rattle.control.proofs.WordLemmas.{one_saying}
 
-abbrev verb_of : Said → List ℕ
+abbrev pub verb_of : Said → List ℕ
 verb_of s = s.verb
 
-abbrev has_more : Option (List ℕ) → Bool
+abbrev pub has_more : Option (List ℕ) → Bool
 has_more None = false
 has_more (Some word) = true
 
-abbrev is_longer : Said → Bool
+abbrev pub is_longer : Said → Bool
 is_longer s = has_more s.second
 
 pub shorter_none : (verb name : List ℕ) → verb ≢ codes "team-add" → verb ≢ codes "group-add" → verb ≢ codes "key-revoke"

@@ -18,6 +18,7 @@ told_by line =
     else if bytes_eq line (codes "no-key\n") then outcome.Registered registered.NoKey
     else if bytes_eq line (codes "device\n") then outcome.Failed fault.Device
     else if bytes_eq line (codes "memory\n") then outcome.Failed fault.Memory
+    else if bytes_eq line (codes "not-empty\n") then outcome.NotEmpty
     else if bytes_eq line (codes "stopping\n") then outcome.Stopping
     else outcome.Bad
 
@@ -30,6 +31,7 @@ tells_itself (outcome.Registered registered.NoGroup) = refl
 tells_itself (outcome.Registered registered.NoKey) = refl
 tells_itself (outcome.Failed fault.Device) = refl
 tells_itself (outcome.Failed fault.Memory) = refl
+tells_itself outcome.NotEmpty = refl
 tells_itself outcome.Stopping = refl
 tells_itself outcome.Bad = refl
 

@@ -1,5 +1,6 @@
 -- A store goes through turns: none, one, and more after others.
-use Rattle.std.proofs.Common.{◌≡◌, ℕ, ◌+◌, ◌≤◌, List, [], ◌∷◌, ◌++◌, length, map, refl, sym, subst, ap, ◌∙◌, inl, inr, Result, Ok, Err, arith, append-nil}
+use Rattle.std.specs.Prelude.{◌||◌}
+use Rattle.std.proofs.Common.{◌≡◌, ℕ, ◌+◌, ◌≤◌, Bool, true, false, List, [], ◌∷◌, ◌++◌, length, map, refl, sym, subst, ap, ◌∙◌, inl, inr, Result, Ok, Err, arith, append-nil}
 use Rattle.std.proofs.lemmas.List.{map-append}
 use Rattle.world.specs.World.{World}
 use Rattle.world.specs.Store.{Shown, Does, DoesAt, HasCause}
@@ -8,19 +9,21 @@ use Rattle.world.specs.declared.registry.StoreFault.{StoreFault}
 use Rattle.shelf.specs.Machine.{after, reply_to}
 use Rattle.shelf.specs.declared.reply.Reply.{Reply}
 use Rattle.shelf.specs.declared.reply.Reply.TheVariants.{Registry}
+use Rattle.shelf.specs.Runs.{RunsAt}
 use Rattle.shelf.proofs.Runs.{runs_none, runs_replied, runs_failed, runs_joined, grown_more, grown_before}
 use Rattle.engine.specs.Exchange.{Exchange}
 use Rattle.engine.specs.Store.{GoesThrough}
 use Rattle.engine.proofs.RunLemmas.{world_more, met_either}
+use Rattle.control.specs.Copying.{IsOnlyRead}
 use Rattle.control.specs.Order.{event_of, outcome_in}
-use Rattle.control.specs.Turns.{Turn, Asked, Ordered, turn_event, turn_answer, messages, AllCalm, LeavesTwo, world_at, GoesThroughTurns}
+use Rattle.control.specs.Turns.{Turn, Asked, Ordered, turn_event, turn_answer, messages, AllCalm, LeavesTwo, StandsIf, world_at, GoesThroughTurns}
 use Rattle.control.specs.declared.order.Order.{Order}
 use Rattle.control.specs.declared.order.Order.TheVariants.{TeamAdd, GroupAdd, KeyAdd, KeyRevoke}
 use Rattle.control.proofs.CrashLemmas.{leaves_kept, leaves_more, world_step}
 
 -- ---- none
 
-pub turns_none : (shown : Shown) (count : ℕ) → GoesThroughTurns shown shown count count []
+pub turns_none : (shown : Shown) (count : ℕ) → GoesThroughTurns shown shown count count [] false
 turns_none shown count = record {
   runs = record {
     honest = λ h. h;
@@ -28,21 +31,68 @@ turns_none shown count = record {
   };
   left = λ h w stands was. was;
   settled = λ h w stands calm was. was;
-  untouched = λ none h w x was. was;
+  untouched = λ none stands h w x was. was;
   no_fewer = omega arith;
   device = λ met. absurd met;
 }
+
+-- a store that nothing was done with
+pub read_none : (shown : Shown) (count : ℕ) → IsOnlyRead shown shown count count
+read_none shown count = record {
+  honest = λ h. h;
+  stays = λ h w stands. stands;
+  left = λ h w x y stands was. was;
+  no_fewer = omega arith;
+}
+
+read_runs : (old new : Shown) (w : World) → new.stands w → ((x y : World) → old.leaves x y → new.leaves x y) → RunsAt old new w [] []
+read_runs old new w stands left = record {
+  run = refl;
+  ends = stands;
+  left = λ idle was. left w w was;
+  settled = λ never. absurd never;
+  beside = λ x was. (x, left w x was, inr (inr (refl, tt)));
+}
+
+-- none, while it was read for a copy
+pub turns_read : (old new : Shown) (before now : ℕ) → IsOnlyRead old new before now → GoesThroughTurns old new before now [] true
+turns_read old new before now read = record {
+  runs = record {
+    honest = read.honest;
+    at = λ h w stands. read_runs old new w (read.stays h w stands) (λ x y was. read.left h w x y stands was);
+  };
+  left = λ h w stands was. read.left h w w w stands was;
+  settled = λ h w stands calm was. read.left h w w w stands was;
+  untouched = λ none some h w x was. read.left h some.0 w x some.1 was;
+  no_fewer = read.no_fewer;
+  device = λ met. absurd met;
+}
+
+-- a copy was made of a store that stands for a world
+pub stands_if : (copied : Bool) (shown : Shown) (w : World) → shown.stands w → StandsIf copied shown
+stands_if false shown w stands = tt
+stands_if true shown w stands = (w, stands)
+
+stands_first : (b c : Bool) (shown : Shown) → StandsIf (b || c) shown → StandsIf b shown
+stands_first false c shown some = tt
+stands_first true c shown some = some
+
+stands_next : (b c : Bool) (old mid : Shown) → ((w : World) → old.stands w → (x : World) × mid.stands x) → StandsIf (b || c) old
+    → StandsIf c mid
+stands_next b false old mid on some = tt
+stands_next false true old mid on some = on some.0 some.1
+stands_next true true old mid on some = on some.0 some.1
 
 -- ---- one
 
 -- what the messages of one connection went through
 pub turns_asked : (old new : Shown) (before now : ℕ) (xs : List Exchange) → length xs ≤ 1 → GoesThrough old new before now xs
-    → GoesThroughTurns old new before now (map Asked xs)
+    → GoesThroughTurns old new before now (map Asked xs) false
 turns_asked old new before now [] few through = record {
   runs = through.runs;
   left = through.left;
   settled = λ h w stands calm was. through.settled h w stands tt was;
-  untouched = λ none. through.untouched refl;
+  untouched = λ none stands. through.untouched refl;
   no_fewer = through.no_fewer;
   device = through.device;
 }
@@ -80,7 +130,7 @@ module _ (old new : Shown) (w : World) where
 
 pub turns_ordered : (old new : Shown) (before now : ℕ) (o : Order) (told : Result Registered StoreFault)
     → Does old new told (λ w. outcome_in w o) (λ w. after w (event_of o)) → HasCause before now told
-    → GoesThroughTurns old new before now (Ordered o told ∷ [])
+    → GoesThroughTurns old new before now (Ordered o told ∷ []) false
 turns_ordered old new before now o (Ok r) does cause = record {
   runs = record {
     honest = λ h. does.honest h;
@@ -123,37 +173,41 @@ messages_append [] us = omega arith
 messages_append (Asked x ∷ ts) us = let e = messages_append ts us in omega (arith, e)
 messages_append (Ordered o told ∷ ts) us = messages_append ts us
 
-module _ (old mid new : Shown) (before between now : ℕ) (ts : List Turn) (first : GoesThroughTurns old mid before between ts) where
+module _ (old mid new : Shown) (before between now : ℕ) (ts : List Turn) (b : Bool) (first : GoesThroughTurns old mid before between ts b) where
   -- a crash after both, by whether there are more
-  leaves_after : (us : List Turn) → GoesThroughTurns mid new between now us → new.is_honest → (w : World) → old.stands w → old.leaves w w
+  leaves_after : (us : List Turn) (c : Bool) → GoesThroughTurns mid new between now us c → new.is_honest → (w : World) → old.stands w → old.leaves w w
       → LeavesTwo new w (ts ++ us)
-  leaves_after [] next h w stands was =
+  leaves_after [] c next h w stands was =
+      let honest = next.runs.honest h in
+      let there = stands_if c mid _ ((first.runs.at honest w stands).ends) in
       subst (LeavesTwo new w) (sym (append-nil ts))
-      (leaves_kept mid new (next.untouched refl h) w ts (first.left (next.runs.honest h) w stands was))
-  leaves_after (u ∷ us) next h w stands was =
+      (leaves_kept mid new (next.untouched refl there h) w ts (first.left honest w stands was))
+  leaves_after (u ∷ us) c next h w stands was =
       let honest = next.runs.honest h in
       leaves_more new w ts u us (λ all. next.left h _ (first.runs.at honest w stands).ends (first.settled honest w stands all was))
 
-  module _ (us : List Turn) where
+  module _ (us : List Turn) (c : Bool) where
     same_world : mid.is_honest → (w : World) → old.stands w → world_at (world_at w ts) us ≡ world_at w (ts ++ us)
     same_world h w stands =
         rw (map-append turn_event ts us, map-append turn_answer ts us)
         (world_more w _ (map turn_event ts) (map turn_event us) (map turn_answer ts) (map turn_answer us) (first.runs.at h w stands).run)
 
-    pub turns_more : GoesThroughTurns mid new between now us → GoesThroughTurns old new before now (ts ++ us)
+    pub turns_more : GoesThroughTurns mid new between now us c → GoesThroughTurns old new before now (ts ++ us) (b || c)
     turns_more next = record {
       runs = rw (map-append turn_event ts us, map-append turn_answer ts us)
           (runs_joined old mid new (map turn_event ts) (map turn_event us) (map turn_answer ts) (map turn_answer us) first.runs next.runs);
-      left = leaves_after us next;
+      left = leaves_after us c next;
       settled = λ h w stands calm was.
           let parts = calm_parts w ts us calm in
           let honest = next.runs.honest h in
           let there = (first.runs.at honest w stands).ends in
           subst (λ x. new.leaves x x) (same_world honest w stands)
           (next.settled h _ there parts.1 (first.settled honest w stands parts.0 was));
-      untouched = λ none h w x was.
+      untouched = λ none some h w x was.
           let parts = none_of ts us none in
-          next.untouched parts.1 h w x (first.untouched parts.0 (next.runs.honest h) w x was);
+          let honest = next.runs.honest h in
+          let there = stands_next b c old mid (λ v stands. (_, (first.runs.at honest v stands).ends)) some in
+          next.untouched parts.1 there h w x (first.untouched parts.0 (stands_first b c old some) honest w x was);
       no_fewer = omega (arith, first.no_fewer, next.no_fewer);
       device = λ met.
           let either = met_either (map turn_answer ts) (map turn_answer us) (rw (map-append turn_answer ts us) at met) in

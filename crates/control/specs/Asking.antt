@@ -2,8 +2,9 @@
 use Rattle.std.specs.Prelude.{ℕ, ◌≡◌, ◌⊎◌, List, Option, Result, Ok, Err}
 use Rattle.std.specs.Io.KnownBytes.{Consumes, Appends, Keeps}
 use Rattle.engine.specs.Written.{WritesPart}
-use Rattle.control.specs.Line.{IsSent, stop_line}
+use Rattle.control.specs.Line.{IsSaid, IsSent, IsCopyTo, stop_line}
 use Rattle.control.specs.Outcome.{line_of}
+use Rattle.control.specs.Words.{Said}
 use Rattle.control.specs.declared.client.Untold.{Untold}
 use Rattle.control.specs.declared.client.Untold.TheVariants.{Words, Memory, Io}
 use Rattle.control.specs.declared.order.Order.{Order}
@@ -18,6 +19,16 @@ abbrev pub IsUnsent : Order → Untold → Type 0
 IsUnsent order Words = IsUnsayable order
 IsUnsent order Memory = Unit {0}
 IsUnsent order Io = ⊥
+
+-- no bytes say this
+abbrev pub IsUnsaid : Said → Type 0
+IsUnsaid s = (sent : List ℕ) → ¬ IsSaid sent s
+
+-- why no line was made of the words
+abbrev pub IsUnwritten : Said → Untold → Type 0
+IsUnwritten s Words = IsUnsaid s
+IsUnwritten s Memory = Unit {0}
+IsUnwritten s Io = ⊥
 
 -- the line of the outcome was read
 abbrev pub TellsOutcome : Option (List ℕ) → Option (List ℕ) → Result Outcome Untold → Type 0
@@ -34,6 +45,17 @@ Asks unread unread_new written written_new order (Err Words) = IsUnsayable order
 Asks unread unread_new written written_new order (Err Memory) = Keeps written written_new
 Asks unread unread_new written written_new order (Err Io) =
     (sent : List ℕ) × IsSent sent order × (WritesPart written written_new sent ⊎ Appends written written_new sent)
+
+-- So it was with the line that orders a copy to a path.
+abbrev pub AsksToCopy :
+    Option (List ℕ) → Option (List ℕ) → Option (List ℕ) → Option (List ℕ) → List ℕ → Result Outcome Untold → Type 0
+AsksToCopy unread unread_new written written_new path (Ok told) =
+    (sent : List ℕ) × IsCopyTo sent path × Appends written written_new sent × Consumes unread unread_new (line_of told)
+AsksToCopy unread unread_new written written_new path (Err Words) =
+    ((sent : List ℕ) → ¬ IsCopyTo sent path) × Keeps written written_new
+AsksToCopy unread unread_new written written_new path (Err Memory) = Keeps written written_new
+AsksToCopy unread unread_new written written_new path (Err Io) =
+    (sent : List ℕ) × IsCopyTo sent path × (WritesPart written written_new sent ⊎ Appends written written_new sent)
 
 -- So it was with the line that ends the server.
 abbrev pub AsksToStop :

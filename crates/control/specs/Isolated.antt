@@ -32,7 +32,8 @@ told (t ∷ ts) = if_told t (turn_answer t) (told ts)
 abbrev pub kept_for : World → List ℕ → List Turn → List Bool
 kept_for w s turns = kept w (chain (world_at w turns) s) (map turn_event (told turns))
 
--- Two stores, each on an honest disk, went through turns, from worlds that agreed on what the shelf sees at the end of the first.
+-- Two stores, each on an honest disk, went through turns, from worlds that agreed on what the shelf sees at the end of the first. Each was
+-- copied in between, or not.
 pub record AreTwoRuns (old new old_too new_too : Shown) (w x : World) (s : List ℕ) (full purged : List Turn) : Type 0 where
   pub stands : old.stands w
   pub stands_too : old_too.stands x
@@ -43,8 +44,10 @@ pub record AreTwoRuns (old new old_too new_too : Shown) (w x : World) (s : List 
   pub now : ℕ
   pub before_too : ℕ
   pub now_too : ℕ
-  pub through : GoesThroughTurns old new before now full
-  pub through_too : GoesThroughTurns old_too new_too before_too now_too purged
+  pub copied : Bool
+  pub copied_too : Bool
+  pub through : GoesThroughTurns old new before now full copied
+  pub through_too : GoesThroughTurns old_too new_too before_too now_too purged copied_too
 
 -- What was told of those that are kept is the same text. The stores stand for worlds that agree again.
 pub record AreToldAlike (new new_too : Shown) (w x : World) (s : List ℕ) (full purged : List Turn) : Type 0 where

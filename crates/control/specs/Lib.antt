@@ -1,4 +1,5 @@
 pub mod Asking
+pub mod Copying
 pub mod Hearing
 pub mod Isolated
 pub mod Laws

@@ -1,9 +1,9 @@
 -- A line among the bytes that were read.
-use Rattle.std.specs.Prelude.{ℕ, ◌≡◌, ◌<◌, ◌≤◌, ◌⊎◌, ◌++◌, ◌∷◌, Bool, IsTrue, List, [], length, codes, Contains, Option}
+use Rattle.std.specs.Prelude.{ℕ, ◌≡◌, ◌≢◌, ◌<◌, ◌≤◌, ◌⊎◌, ◌++◌, ◌∷◌, Bool, IsTrue, List, [], length, codes, Contains, Option}
 use Rattle.std.specs.Str.{IsUtf8}
 use Rattle.std.specs.Io.KnownBytes.{Consumes, IsAtEnd}
-use Rattle.control.specs.Order.{Orders}
-use Rattle.control.specs.Words.{line_end}
+use Rattle.control.specs.Order.{Orders, two}
+use Rattle.control.specs.Words.{Said, IsTextOf, line_end}
 use Rattle.control.specs.declared.order.Order.{Order}
 
 -- the most bytes of a line without its end
@@ -28,6 +28,32 @@ pub record IsSent (got : List ℕ) (order : Order) : Type 0 where
 -- they are no order's
 abbrev pub IsNoOrder : List ℕ → Type 0
 IsNoOrder got = (order : Order) → ¬ IsSent got order
+
+-- The bytes are a line that says this.
+pub record IsSaid (got : List ℕ) (s : Said) : Type 0 where
+  pub line : List ℕ
+  pub ends : IsLine got line
+  pub says : IsTextOf line s
+
+-- the words that order a copy to a path
+abbrev pub copy_words : List ℕ → Said
+copy_words path = two (codes "copy") path
+
+-- the bytes are the line that orders a copy to this path
+abbrev pub IsCopyTo : List ℕ → List ℕ → Type 0
+IsCopyTo got path = IsSaid got (copy_words path)
+
+-- they order no copy
+abbrev pub IsNoCopy : List ℕ → Type 0
+IsNoCopy got = (path : List ℕ) → ¬ IsCopyTo got path
+
+-- a line orders no copy
+abbrev pub CopiesNothing : List ℕ → Type 0
+CopiesNothing line = (path : List ℕ) → ¬ IsTextOf line (copy_words path)
+
+-- these words order none
+abbrev pub SaysNoCopy : Said → Type 0
+SaysNoCopy s = (path : List ℕ) → s ≢ copy_words path
 
 -- the line that ends the server
 abbrev pub stop_line : List ℕ

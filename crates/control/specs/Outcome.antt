@@ -5,12 +5,21 @@ use Rattle.world.specs.declared.registry.Registered.TheVariants as registered
 use Rattle.world.specs.declared.registry.StoreFault.{StoreFault}
 use Rattle.world.specs.declared.registry.StoreFault.TheVariants as fault
 use Rattle.control.specs.Words.{line_end}
+use Rattle.control.specs.declared.copies.CopyRefusal.{CopyRefusal}
+use Rattle.control.specs.declared.copies.CopyRefusal.TheVariants as copy
 use Rattle.control.specs.declared.outcome.Outcome.{Outcome}
 use Rattle.control.specs.declared.outcome.Outcome.TheVariants as outcome
 
 abbrev pub outcome_of : Result Registered StoreFault → Outcome
 outcome_of (Ok r) = outcome.Registered r
 outcome_of (Err f) = outcome.Failed f
+
+-- what is told of a copy
+abbrev pub outcome_of_copy : Result (Unit {0}) CopyRefusal → Outcome
+outcome_of_copy (Ok done) = outcome.Registered registered.Done
+outcome_of_copy (Err copy.NotEmpty) = outcome.NotEmpty
+outcome_of_copy (Err copy.Device) = outcome.Failed fault.Device
+outcome_of_copy (Err copy.Memory) = outcome.Failed fault.Memory
 
 abbrev pub word_of : Outcome → List ℕ
 word_of (outcome.Registered registered.Done) = codes "done"
@@ -21,6 +30,7 @@ word_of (outcome.Registered registered.NoGroup) = codes "no-group"
 word_of (outcome.Registered registered.NoKey) = codes "no-key"
 word_of (outcome.Failed fault.Device) = codes "device"
 word_of (outcome.Failed fault.Memory) = codes "memory"
+word_of outcome.NotEmpty = codes "not-empty"
 word_of outcome.Stopping = codes "stopping"
 word_of outcome.Bad = codes "bad"
 

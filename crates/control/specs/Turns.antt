@@ -1,5 +1,5 @@
 -- What a store goes through while peers ask and operators order.
-use Rattle.std.specs.Prelude.{ℕ, ◌≡◌, ◌≤◌, ◌+◌, ◌⊎◌, List, [], ◌∷◌, map, Result, Ok, Err}
+use Rattle.std.specs.Prelude.{ℕ, ◌≡◌, ◌≤◌, ◌+◌, ◌⊎◌, Bool, true, false, List, [], ◌∷◌, map, Result, Ok, Err}
 use Rattle.shelf.specs.declared.ask.Event.{Event}
 use Rattle.shelf.specs.declared.reply.Answer.{Answer}
 use Rattle.shelf.specs.declared.reply.Answer.TheVariants.{Replied, Failed}
@@ -69,8 +69,14 @@ LeavesTwo shown w [] = shown.leaves w w
 LeavesTwo shown w (t ∷ []) = shown.leaves w (after w (turn_event t))
 LeavesTwo shown w (t ∷ u ∷ more) = IsCalm w t → LeavesTwo shown (world_at w (t ∷ [])) (u ∷ more)
 
--- From old to new the store went through the turns, with these counts of device failures before and now.
-pub record GoesThroughTurns (old new : Shown) (before now : ℕ) (turns : List Turn) : Type 0 where
+-- A store that was read for a copy stands for a world; of any other nothing is asked.
+abbrev pub StandsIf : Bool → Shown → Type 0
+StandsIf false shown = Unit {0}
+StandsIf true shown = (w : World) × shown.stands w
+
+-- From old to new the store went through the turns, with these counts of device failures before and now, and was read for copies
+-- between them or was not.
+pub record GoesThroughTurns (old new : Shown) (before now : ℕ) (turns : List Turn) (copied : Bool) : Type 0 where
   -- in one run of the machine the messages were answered and the orders carried out
   pub runs : Runs old new (map turn_event turns) (map turn_answer turns)
   -- where a crash left the world of the begin alone: two worlds at most, and that of the end alone if no turn met a fault
@@ -78,7 +84,7 @@ pub record GoesThroughTurns (old new : Shown) (before now : ℕ) (turns : List T
   pub settled : new.is_honest → (w : World) → old.stands w → AllCalm w turns → old.leaves w w
       → new.leaves (world_at w turns) (world_at w turns)
   -- without turns nothing changes
-  pub untouched : turns ≡ [] → new.is_honest → (w x : World) → old.leaves w x → new.leaves w x
+  pub untouched : turns ≡ [] → StandsIf copied old → new.is_honest → (w x : World) → old.leaves w x → new.leaves w x
   -- a failed device is told only where one failed
   pub no_fewer : before ≤ now
   pub device : MetDevice (map turn_answer turns) → GrewOrFull before now
@@ -86,5 +92,6 @@ pub record GoesThroughTurns (old new : Shown) (before now : ℕ) (turns : List T
 -- so it did, with so many messages at most
 pub record GoesOn (old new : Shown) (before now most : ℕ) : Type 0 where
   pub turns : List Turn
+  pub copied : Bool
   pub few : messages turns ≤ most
-  pub through : GoesThroughTurns old new before now turns
+  pub through : GoesThroughTurns old new before now turns copied

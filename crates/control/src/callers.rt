@@ -1,4 +1,5 @@
 //! Who comes: peers that ask, and operators that order.
+use crate::copies::Copies;
 use crate::obeying::obey;
 use crate::outcome::Outcome;
 use crate::patience::Timed;
@@ -35,13 +36,15 @@ pub trait Operator {
     ghost written: { Self → Option (List ℕ) };
 
     /// Carries out its order, as `obey` does.
-    fn obeyed<C: Clock, S: Shelves>(
+    fn obeyed<C: Clock, S: Shelves, K: Copies<S>>(
         &mut self,
         alloc: Global,
         clock: &C,
         shelves: &mut S,
+        copies: &mut K,
     ) -> Result<Outcome, Io>
-        ensures { Obeys (S.shown shelves.old) (S.shown shelves.new) (S.failure_count shelves.old) (S.failure_count shelves.new)
+        ensures { Obeys (K.copied shelves.old shelves.new)
+            (S.shown shelves.old) (S.shown shelves.new) (S.failure_count shelves.old) (S.failure_count shelves.new)
             (unread self.old) (unread self.new) (written self.old) (written self.new) result };
 }
 
@@ -54,16 +57,17 @@ impl Operator for UnixStream {
     ghost written = { λ _. None };
 
     /// An operator has 2 seconds for the whole line, and so has the write of the outcome.
-    fn obeyed<C: Clock, S: Shelves>(
+    fn obeyed<C: Clock, S: Shelves, K: Copies<S>>(
         &mut self,
         alloc: Global,
         clock: &C,
         shelves: &mut S,
+        copies: &mut K,
     ) -> Result<Outcome, Io> {
         let stream: &UnixStream = self;
         let mut reader = Timed::new(stream, clock);
         let mut writer = Timed::new(stream, clock);
-        obey(alloc, &mut reader, &mut writer, shelves)
+        obey(alloc, &mut reader, &mut writer, shelves, copies)
     }
 }
 

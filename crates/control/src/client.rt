@@ -1,12 +1,13 @@
 //! The operator's side.
 ghost use Rattle.std.specs.Prelude.{◌≡◌, ◌++◌, ◌∷◌, [], IfOk, IfErr, IfSome, OnOk, option_copied};
-ghost use Rattle.control.specs.Asking.{Asks, AsksToStop, IsUnsent, TellsOutcome};
-ghost use Rattle.control.specs.Line.{IsSent};
+ghost use Rattle.control.specs.Asking.{Asks, AsksToCopy, AsksToStop, IsUnsent, IsUnwritten, TellsOutcome};
+ghost use Rattle.control.specs.Line.{IsCopyTo, IsSaid, IsSent, copy_words};
 ghost use Rattle.control.specs.Order as spec;
 ghost use Rattle.control.specs.Order.{said_in};
 ghost use Rattle.control.specs.Outcome.{line_of};
 ghost use Rattle.control.specs.Words.{said, text_of, behind, line_end};
 
+use crate::copy_line::words_to_copy;
 use crate::line::{line_in, read_line};
 use crate::order::Order;
 use crate::outcome::Outcome;
@@ -53,6 +54,24 @@ pub fn ask<R: Read, W: Write>(
     }
 }
 
+/// Orders a copy of the served store to a path, as the server sees it, and returns the outcome that the order is answered with.
+/// `Untold::Words`: the path has a space or the end of a line, or more than 122 bytes, and nothing was sent.
+pub fn ask_to_copy<R: Read, W: Write>(
+    alloc: Global,
+    reader: &mut R,
+    writer: &mut W,
+    path: &str,
+) -> Result<Outcome, Untold>
+    ensures { AsksToCopy (R.remaining reader.old) (R.remaining reader.new)
+        (W.contents writer.old) (W.contents writer.new) path.now result }
+{
+    let line = copy_to_send(alloc, path)?;
+    match write_bytes(writer, &line) {
+        Ok(()) => hear_outcome(alloc, reader),
+        Err(_) => Err(Untold::Io),
+    }
+}
+
 /// Has the server end, and returns what it tells: `Outcome::Stopping` if it does. It fails with `Untold::Io` alone.
 pub fn ask_to_stop<R: Read, W: Write>(
     alloc: Global,
@@ -73,10 +92,27 @@ fn line_to_send(alloc: Global, order: &Order) -> Result<Vec<u8>, Untold>
     ensures err { IfErr result (λ why. IsUnsent order.now why) }
 {
     let words = words_in(order);
-    if !are_words(&words) {
+    line_saying(alloc, &words)
+}
+
+/// The line that orders a copy to a path, with its end.
+fn copy_to_send(alloc: Global, path: &str) -> Result<Vec<u8>, Untold>
+    ensures ok { IfOk result (λ line. IsCopyTo line.items path.now) }
+    ensures err { IfErr result (λ why. IsUnwritten (copy_words path.now) why) }
+{
+    let words = words_to_copy(path);
+    line_saying(alloc, &words)
+}
+
+/// The line that says words, with its end.
+fn line_saying(alloc: Global, words: &Words) -> Result<Vec<u8>, Untold>
+    ensures ok { IfOk result (λ line. IsSaid line.items (said words.now)) }
+    ensures err { IfErr result (λ why. IsUnwritten (said words.now) why) }
+{
+    if !are_words(words) {
         return Err(Untold::Words);
     }
-    let line = line_with(alloc, &words)?;
+    let line = line_with(alloc, words)?;
     if line_in(&line).is_none() {
         return Err(Untold::Words);
     }

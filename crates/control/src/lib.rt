@@ -3,15 +3,18 @@
 //! | what | where |
 //! |---|---|
 //! | the orders, and the line that each is | [`Order`], [`order_of`] |
+//! | the order to copy the store, and what carries it out | [`copy_path_of`], [`Copies`] |
 //! | what came of an order, and the line that tells it | [`Outcome`] |
 //! | carrying an operator's order out | [`obey`] |
 //! | peers of a port and operators of a socket, one after another | [`serve_both`], [`Callers`], [`Doors`] |
-//! | the socket, and the operator's side | [`operators_at`], [`leave_place`], [`server_at`], [`ask`], [`ask_to_stop`] |
+//! | the socket, and the operator's side | [`operators_at`], [`leave_place`], [`server_at`], [`ask`], [`ask_to_copy`], [`ask_to_stop`] |
 #![tactic(auto)]
 
 mod callers;
 mod carry;
 mod client;
+mod copies;
+mod copy_line;
 pub mod laws;
 mod line;
 mod obeying;
@@ -23,7 +26,9 @@ mod serve;
 mod words;
 
 pub use callers::{Caller, Callers, Doors, Operator};
-pub use client::{Untold, ask, ask_to_stop};
+pub use client::{Untold, ask, ask_to_copy, ask_to_stop};
+pub use copies::{Copies, CopyRefusal};
+pub use copy_line::copy_path_of;
 pub use obeying::obey;
 pub use order::{Order, order_of};
 pub use outcome::Outcome;

@@ -2,15 +2,18 @@
 ghost use Rattle.std.specs.Prelude.{◌≡◌, MatchOption};
 ghost use Rattle.control.specs.Outcome as spec;
 
+use crate::copies::CopyRefusal;
 use world::registry::{Registered, StoreFault};
 
 /// What an operator is told.
 #[derive(Clone, Copy, Debug, Drop, PartialEq, Eq)]
 pub enum Outcome {
-    /// The machine's reply to the order; only `Done` changed anything.
+    /// The machine's reply to the order; only `Done` changed anything. `Done` also tells of a copy that was made.
     Registered(Registered),
     /// The store met a fault, and the order changed nothing.
     Failed(StoreFault),
+    /// No copy was made: the file has more than an empty store, or belongs to the served store.
+    NotEmpty,
     /// The server ends.
     Stopping,
     /// What came is no order's line, and nothing was done.
@@ -24,6 +27,18 @@ pub(crate) fn outcome_of(told: Result<Registered, StoreFault>) -> Outcome
     match told {
         Ok(registered) => Outcome::Registered(registered),
         Err(fault) => Outcome::Failed(fault),
+    }
+}
+
+/// What came of a copy.
+pub(crate) fn outcome_of_copy(told: Result<(), CopyRefusal>) -> Outcome
+    ensures { result ≡ spec.outcome_of_copy told }
+{
+    match told {
+        Ok(()) => Outcome::Registered(Registered::Done),
+        Err(CopyRefusal::NotEmpty) => Outcome::NotEmpty,
+        Err(CopyRefusal::Device) => Outcome::Failed(StoreFault::Device),
+        Err(CopyRefusal::Memory) => Outcome::Failed(StoreFault::Memory),
     }
 }
 
@@ -41,6 +56,7 @@ impl Outcome {
             Outcome::Registered(Registered::NoKey) => "no-key\n",
             Outcome::Failed(StoreFault::Device) => "device\n",
             Outcome::Failed(StoreFault::Memory) => "memory\n",
+            Outcome::NotEmpty => "not-empty\n",
             Outcome::Stopping => "stopping\n",
             Outcome::Bad => "bad\n",
         }
@@ -59,6 +75,7 @@ impl Outcome {
             "no-key" => Some(Outcome::Registered(Registered::NoKey)),
             "device" => Some(Outcome::Failed(StoreFault::Device)),
             "memory" => Some(Outcome::Failed(StoreFault::Memory)),
+            "not-empty" => Some(Outcome::NotEmpty),
             "stopping" => Some(Outcome::Stopping),
             "bad" => Some(Outcome::Bad),
             _ => None,

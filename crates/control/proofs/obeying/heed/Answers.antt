@@ -1,7 +1,7 @@
 use Rattle.std.proofs.Common.{refl, sym, ◌∙◌}
 use Rattle.std.proofs.lemmas.Bool.{false≢true}
-use Rattle.control.specs.Hearing.{Carried, Stop, NoOrder}
-use Rattle.control.proofs.TurnLemmas.{turns_none, turns_ordered}
+use Rattle.control.specs.Hearing.{Carried, Copied, Stop, NoOrder}
+use Rattle.control.proofs.TurnLemmas.{turns_none, turns_read, turns_ordered}
 use Rattle.control.proofs.obeying.heed.Goals as goal
 
 pub returns-then-is_stop : goal.returns-then-is_stop
@@ -10,20 +10,32 @@ returns-then-is_stop g c = record {
   from = c.is_stop.ensures.0 c.if-is_stop.true;
   tells = refl;
   through = turns_none _ _;
+  came = tt;
 }
 
 pub returns-in-Some : goal.returns-in-Some
 returns-in-Some g c = record {
-  heard = Carried c.in-Some.order c.carry_out.result;
+  heard = Copied c.in-Some.path.now c.copy.result;
   from = c.in-Some.ensures;
+  tells = c.outcome_of_copy.ensures;
+  through = turns_read _ _ _ _ c.copy.ensures.reads;
+  came = c.copy.ensures.came;
+}
+
+pub returns-in-Some-order_in : goal.returns-in-Some-order_in
+returns-in-Some-order_in g c = record {
+  heard = Carried c.in-Some-order_in.order c.carry_out.result;
+  from = c.in-Some-order_in.ensures;
   tells = c.outcome_of.ensures;
   through = turns_ordered _ _ _ _ _ _ c.carry_out.ensures.does c.carry_out.ensures.cause;
+  came = tt;
 }
 
 pub returns-in-None : goal.returns-in-None
 returns-in-None g c = record {
   heard = NoOrder;
-  from = (c.in-None.ensures, λ is. false≢true (sym c.if-is_stop.false ∙ c.is_stop.ensures.1 is));
+  from = (c.in-None.ensures, λ is. false≢true (sym c.if-is_stop.false ∙ c.is_stop.ensures.1 is), rw c.in_default.is at c.copy_in.ensures);
   tells = refl;
   through = turns_none _ _;
+  came = tt;
 }

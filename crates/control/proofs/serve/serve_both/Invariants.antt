@@ -1,5 +1,5 @@
 use Rattle.std.proofs.Common.{◌≤◌, ◌-◌}
-use Rattle.control.specs.Visits.{ServesEach}
+use Rattle.control.specs.Visits.{CopiesEach}
 use Rattle.control.proofs.serve.serve_both.Given as goal
 
 -- the callers so far
@@ -9,6 +9,6 @@ invariant-loop g l =
     let waiting = g.L.Callers.waiting in
     record {
       some : l.left ≤ l.fn.connections;
-      each : ServesEach g.O.Operator.unread g.O.Operator.written g.P.Peer.unread g.P.Peer.written (waiting l.fn.callers) (waiting l.callers)
-          (s.shown l.fn.shelves) (s.shown l.shelves) (s.failure_count l.fn.shelves) (s.failure_count l.shelves) (l.fn.connections - l.left);
+      all : CopiesEach g.O.Operator.unread g.O.Operator.written g.P.Peer.unread g.P.Peer.written s.shown s.failure_count g.K.Copies.copied
+          (waiting l.fn.callers) (waiting l.callers) l.fn.shelves l.shelves (l.fn.connections - l.left);
     }

@@ -1,0 +1,81 @@
+-- The line that orders a copy.
+use Rattle.std.proofs.Common.{◌≡◌, ◌≢◌, ℕ, List, true, false, Option, Some, None, Result, Ok, Err, MatchOption, sym, ap, ◌∙◌, subst}
+use Rattle.std.specs.Prelude.{codes, option_copied, IfOk, IfErr}
+use Rattle.std.proofs.lemmas.Bool.{false≢true}
+use denote.Ref.{Bor}
+use Rattle.control.specs.Asking.{IsUnwritten, IsUnsent}
+use Rattle.control.specs.Line.{IsLine, IsSaid, IsSent, HoldsNoLine, IsNoCopy, CopiesNothing, SaysNoCopy, copy_words}
+use Rattle.control.specs.Order.{two, said_in}
+use Rattle.control.specs.Words.{Said, said, IsTextOf, HasNoWords}
+use Rattle.control.specs.declared.words.Words.{Words}
+use Rattle.control.specs.declared.client.Untold.{Untold}
+use Rattle.control.specs.declared.client.Untold.TheVariants as untold
+use Rattle.control.specs.declared.order.Order.{Order}
+use Rattle.control.proofs.LineLemmas.{one_line}
+use Rattle.control.proofs.OrderLemmas.{verb_of, is_longer}
+use Rattle.control.proofs.WordLemmas.{one_saying}
+
+-- ---- which words order one
+
+pub another_verb : (verb path : List ℕ) → verb ≢ codes "copy" → SaysNoCopy (two verb path)
+another_verb verb path other to e = other (ap verb_of e)
+
+pub by_two : (w : Words) (r : Option (Bor (List ℕ))) → w.second ≡ None
+    → MatchOption r (SaysNoCopy (two w.verb.now w.first.now)) (λ p. two w.verb.now w.first.now ≡ copy_words p.now)
+    → MatchOption r (SaysNoCopy (said w)) (λ p. said w ≡ copy_words p.now)
+by_two w r none two_say =
+    let same : two w.verb.now w.first.now ≡ said w =
+    ap (λ o. record { verb = w.verb.now; first = w.first.now; second = option_copied o }) (sym none) in
+    subst (λ s. MatchOption r (SaysNoCopy s) (λ p. s ≡ copy_words p.now)) same two_say
+
+pub three_words : (s : Said) → is_longer s ≡ true → SaysNoCopy s
+three_words s longer to e = false≢true (sym (ap is_longer e) ∙ longer)
+
+-- ---- which lines do
+
+pub no_words_copied : (line : List ℕ) → HasNoWords line → CopiesNothing line
+no_words_copied line none path = none (copy_words path)
+
+copies_nothing : (line : List ℕ) (s : Said) → IsTextOf line s → SaysNoCopy s → CopiesNothing line
+copies_nothing line s told none path says = none path (one_saying line s (copy_words path) told says)
+
+pub copy_told : (line : List ℕ) (s : Said) → IsTextOf line s → (r : Option (Bor (List ℕ))) → MatchOption r (SaysNoCopy s) (λ p. s ≡ copy_words p.now)
+    → MatchOption r (CopiesNothing line) (λ p. IsTextOf line (copy_words p.now))
+copy_told line s told None none = copies_nothing line s told none
+copy_told line s told (Some p) same = subst (IsTextOf line) same told
+
+-- ---- which bytes do
+
+pub no_line_copied : (got : List ℕ) → HoldsNoLine got → IsNoCopy got
+no_line_copied got none path says = none says.line says.ends
+
+pub no_copy : (got line : List ℕ) → IsLine got line → CopiesNothing line → IsNoCopy got
+no_copy got line holds nothing path says =
+    nothing path (subst (λ l. IsTextOf l (copy_words path)) (one_line got line says.line holds.is says.ends) says.says)
+
+-- ---- the line of an order is the one that says its words
+
+-- words that are the same
+module _ {V : Type 0} (items : V → List ℕ) (s t : Said) (is : s ≡ t) where
+  pub ok_said : (r : Result V Untold) → IfOk r (λ v. IsSaid (items v) s) → IfOk r (λ v. IsSaid (items v) t)
+  ok_said r = subst (λ u. IfOk r (λ v. IsSaid (items v) u)) is
+
+pub err_unwritten : {V : Type 0} (s t : Said) → s ≡ t → (r : Result V Untold) → IfErr r (λ why. IsUnwritten s why)
+    → IfErr r (λ why. IsUnwritten t why)
+err_unwritten s t is r = subst (λ u. IfErr r (λ why. IsUnwritten u why)) is
+
+sent_unwritten : (order : Order) (why : Untold) → IsUnwritten (said_in order) why → IsUnsent order why
+sent_unwritten order untold.Words none = λ sent is. none sent (record { line = is.line; ends = is.ends; says = is.orders })
+sent_unwritten order untold.Memory none = tt
+sent_unwritten order untold.Io never = never
+
+module _ {V : Type 0} (items : V → List ℕ) (order : Order) (s : Said) (is : s ≡ said_in order) where
+  pub ok_sent : (r : Result V Untold) → IfOk r (λ v. IsSaid (items v) s) → IfOk r (λ v. IsSent (items v) order)
+  ok_sent (Ok v) said =
+      let so = subst (IsSaid (items v)) is said in record { line = so.line; ends = so.ends; orders = so.says }
+  ok_sent (Err why) said = tt
+
+pub err_unsent : {V : Type 0} (order : Order) (s : Said) → s ≡ said_in order → (r : Result V Untold) → IfErr r (λ why. IsUnwritten s why)
+    → IfErr r (λ why. IsUnsent order why)
+err_unsent order s is (Ok v) none = tt
+err_unsent order s is (Err why) none = sent_unwritten order why (subst (λ t. IsUnwritten t why) is none)

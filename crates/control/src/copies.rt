@@ -1,0 +1,32 @@
+//! What copies a store that is served.
+use world::shelves::Shelves;
+
+/// Why a copy was not made.
+#[derive(Clone, Copy, Debug, Drop, PartialEq, Eq)]
+pub enum CopyRefusal {
+    /// The file has more than an empty store, or it belongs to the served store.
+    NotEmpty,
+    /// A disk failed, or the file can't be opened.
+    Device,
+    /// Memory was wanted.
+    Memory,
+}
+
+/// What copies a store between two requests.
+pub trait Copies<S: Shelves> {
+    ghost use Rattle.std.specs.Prelude.{ℕ, List, Result};
+    ghost use Rattle.control.specs.Copying.{IsOnlyRead};
+    ghost use Rattle.control.specs.declared.copies.CopyRefusal.{CopyRefusal};
+
+    /// What came of a copy, by the served store before and after it, the path, and what was told.
+    ghost copied: { S → S → List ℕ → Result (Unit {0}) CopyRefusal → Type 0 };
+
+    /// Makes the store of a file, with this path, one of the served store as it is at this moment. The served store is only read.
+    ///
+    /// Fails with `NotEmpty` if the file has more than an empty store, or belongs to the served store; with `Device` if it can't be
+    /// opened or a disk failed; and with `Memory` if memory ran out.
+    fn copy(&mut self, shelves: &mut S, path: &str) -> Result<(), CopyRefusal>
+        ensures reads { IsOnlyRead (S.shown shelves.old) (S.shown shelves.new)
+            (S.failure_count shelves.old) (S.failure_count shelves.new) }
+        ensures came { copied shelves.old shelves.new path.now result };
+}

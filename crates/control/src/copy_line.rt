@@ -1,0 +1,56 @@
+//! The line that orders a copy.
+ghost use Rattle.std.specs.Prelude.{◌≡◌, MatchOption};
+ghost use Rattle.control.specs.Line as spec;
+ghost use Rattle.control.specs.Order.{two};
+ghost use Rattle.control.specs.Words.{IsTextOf, said};
+
+use crate::line::line_in;
+use crate::words::{Words, words_of};
+
+/// The path that a line, without its end, orders a copy to, or None if it orders no copy: `copy PATH`.
+pub fn copy_path_of(line: &str) -> Option<&str>
+    ensures { MatchOption result (spec.CopiesNothing line.now) (λ path. IsTextOf line.now (spec.copy_words path.now)) }
+{
+    let Some(words) = words_of(line) else {
+        return None;
+    };
+    path_in(&words)
+}
+
+/// The path that words order a copy to.
+fn path_in<'a>(words: &Words<'a>) -> Option<&'a str>
+    ensures { MatchOption result (spec.SaysNoCopy (said words.now))
+        (λ path. said words.now ≡ spec.copy_words path.now) }
+{
+    match words.second {
+        Some(_) => None,
+        None => path_behind(words.verb, words.first),
+    }
+}
+
+/// The path that two words order a copy to.
+fn path_behind<'a>(verb: &'a str, path: &'a str) -> Option<&'a str>
+    ensures { MatchOption result (spec.SaysNoCopy (two verb.now path.now))
+        (λ to. two verb.now path.now ≡ spec.copy_words to.now) }
+{
+    if verb == "copy" { Some(path) } else { None }
+}
+
+/// The path that the bytes order a copy to, or None if they order none.
+pub(crate) fn copy_in(got: &[u8]) -> Option<&str>
+    ensures { MatchOption result (spec.IsNoCopy got.now) (λ path. spec.IsCopyTo got.now path.now) }
+{
+    let line = line_in(got)?;
+    copy_path_of(line)
+}
+
+/// The words that order a copy.
+pub(crate) fn words_to_copy<'a>(path: &'a str) -> Words<'a>
+    ensures { said result ≡ spec.copy_words path.now }
+{
+    Words {
+        verb: "copy",
+        first: path,
+        second: None,
+    }
+}

@@ -1,26 +1,29 @@
 -- A command with `--control`, and the `serve` that its line came to.
 use Rattle.std.proofs.Common.{◌≡◌, ℕ, List, [], ◌∷◌, ◌++◌, Bool, true, false, Some, Result, Ok, Err, refl, ◌∙◌, sym, ap, subst, inl, inr, true≢false}
-use Rattle.std.specs.Prelude.{◌&&◌, codes}
+use Rattle.std.specs.Prelude.{◌&&◌, bytes_eq, codes}
 use Rattle.std.proofs.lemmas.List.Folds.{list_all-append}
 use Rattle.world.specs.Store.{Shown}
 use Rattle.world.specs.World.{World, IsWorld}
 use Rattle.world.specs.declared.registry.Registered.{Registered}
 use Rattle.world.specs.declared.registry.Registered.TheVariants.{Done}
 use Rattle.world.specs.declared.registry.StoreFault.{StoreFault}
+use Rattle.world.specs.declared.entry.Right.TheVariants.{Reads, Publishes}
 use Rattle.shelf.specs.Machine.{after, reply_to}
 use Rattle.shelf.specs.declared.reply.Reply.{Reply}
 use Rattle.shelf.specs.declared.reply.Reply.TheVariants.{Registry}
 use Rattle.control.specs.Asking.{Asks}
-use Rattle.control.specs.Hearing.{Heard, Carried, Stop, NoOrder, NoMemory, IsHeardIn, outcome_heard, turns_heard}
-use Rattle.control.specs.Line.{IsSent, stop_line}
+use Rattle.control.specs.Hearing.{Heard, Carried, Copied, Stop, NoOrder, NoMemory, IsHeardIn, is_copied, outcome_heard, turns_heard}
+use Rattle.control.specs.Line.{IsSent, IsCopyTo, copy_words, stop_line}
 use Rattle.control.specs.Order.{Orders, said_in, event_of, outcome_in}
 use Rattle.control.specs.Outcome.{outcome_of}
 use Rattle.control.specs.Turns.{GoesThroughTurns}
-use Rattle.control.specs.Words.{space, is_word, is_word_byte, behind}
+use Rattle.control.specs.Words.{Said, IsTextOf, space, is_word, is_word_byte, behind}
+use Rattle.control.specs.declared.copies.CopyRefusal.{CopyRefusal}
 use Rattle.control.specs.declared.order.Order.{Order}
 use Rattle.control.specs.declared.order.Order.TheVariants.{TeamAdd, GroupAdd, KeyAdd, KeyRevoke}
 use Rattle.control.proofs.LineLemmas.{one_line}
 use Rattle.control.proofs.OrderLemmas.{one_event}
+use Rattle.control.proofs.WordLemmas.{one_saying}
 use Rattle.commands.specs.Controlled.{EndsAt, EndsAsOnTheStore}
 use Rattle.commands.specs.Order.{ComeToTheSame, told_ending}
 use Rattle.commands.specs.declared.refusal.Refusal.{Refusal}
@@ -37,6 +40,24 @@ no_stop order sent =
     let line = one_line stop_line (codes "stop") sent.line refl sent.ends in
     let words : is_word (said.verb ++ space ∷ (said.first ++ behind said.second)) ≡ true = ap is_word (sym sent.orders.is ∙ line) in
     never (is_word said.verb) (sym (list_all-append is_word_byte said.verb (space ∷ (said.first ++ behind said.second))) ∙ words)
+
+-- ---- nor that which orders a copy
+
+abbrev says_copy : Said → Bool
+says_copy s = bytes_eq s.verb (codes "copy")
+
+no_copy_words : (path : List ℕ) (order : Order) → ¬ (copy_words path ≡ said_in order)
+no_copy_words path (TeamAdd name group) e = true≢false (ap says_copy e)
+no_copy_words path (GroupAdd name) e = true≢false (ap says_copy e)
+no_copy_words path (KeyAdd shelf key Publishes) e = true≢false (ap says_copy e)
+no_copy_words path (KeyAdd shelf key Reads) e = true≢false (ap says_copy e)
+no_copy_words path (KeyRevoke key) e = true≢false (ap says_copy e)
+
+no_copy : (sent path : List ℕ) (order : Order) → IsSent sent order → ¬ IsCopyTo sent path
+no_copy sent path order orders copies =
+    let line = one_line sent orders.line copies.line orders.ends.is copies.ends in
+    no_copy_words path order
+    (one_saying orders.line (copy_words path) (said_in order) (subst (λ l. IsTextOf l (copy_words path)) line copies.says) orders.orders)
 
 -- ---- one order
 
@@ -58,7 +79,7 @@ replied w (KeyRevoke key) = refl
 module _ (old new : Shown) (before now : ℕ) (sent : List ℕ) (order asked : Order) (result : Result (Unit {0}) Refusal) (w : World) where
   carried : new.is_honest → old.stands w → IsWorld w → ComeToTheSame asked order → IsSent sent asked → (other : Order) → IsSent sent other
       → (told : Result Registered StoreFault) → result ≡ told_ending asked (Ok (outcome_of told))
-      → GoesThroughTurns old new before now (turns_heard (Carried other told)) → EndsAt new w order result
+      → GoesThroughTurns old new before now (turns_heard (Carried other told)) false → EndsAt new w order result
   carried honest stands is same asks other heard (Ok r) ends through =
       let run = through.runs.at honest w stands in
       let event = same_event sent asked other asks heard in
@@ -67,14 +88,17 @@ module _ (old new : Shown) (before now : ℕ) (sent : List ℕ) (order asked : O
   carried honest stands is same asks other heard (Err fault) ends through = inr (fault, ends, (through.runs.at honest w stands).ends)
 
   heard_so : new.is_honest → old.stands w → IsWorld w → ComeToTheSame asked order → IsSent sent asked → (heard : Heard) → IsHeardIn sent heard
-      → result ≡ told_ending asked (Ok (outcome_heard heard)) → GoesThroughTurns old new before now (turns_heard heard) → EndsAt new w order result
+      → result ≡ told_ending asked (Ok (outcome_heard heard)) → GoesThroughTurns old new before now (turns_heard heard) (is_copied heard)
+      → EndsAt new w order result
   heard_so honest stands is same asks (Carried other told) from ends through = carried honest stands is same asks other from told ends through
+  heard_so honest stands is same asks (Copied path told) from ends through = absurd (no_copy sent path asked asks from)
   heard_so honest stands is same asks Stop from ends through = absurd (no_stop asked (subst (λ got. IsSent got asked) from asks))
   heard_so honest stands is same asks NoOrder from ends through = absurd (from.0 asked asks)
   heard_so honest stands is same asks NoMemory from ends through = absurd from
 
-pub ends_as_on_the_store : (old new : Shown) → ((w : World) → old.stands w → IsWorld w) → EndsAsOnTheStore old new
-ends_as_on_the_store old new sound order result w two honest stands =
+pub ends_as_on_the_store : (copied : List ℕ → Result (Unit {0}) CopyRefusal → Type 0) (old new : Shown) → ((w : World) → old.stands w → IsWorld w)
+    → EndsAsOnTheStore copied old new
+ends_as_on_the_store copied old new sound order result w two honest stands =
     let asked = two.command.asked in
     let asks = subst (λ told. Asks two.unread two.unread_new (Some []) (Some two.sent) asked told) two.heard two.command.asks in
     let sends : IsSent two.sent asked = subst (λ got. IsSent got asked) (sym asks.2) asks.1 in

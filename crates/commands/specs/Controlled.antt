@@ -6,6 +6,7 @@ use Rattle.world.specs.declared.registry.StoreFault.{StoreFault}
 use Rattle.shelf.specs.Machine.{after}
 use Rattle.control.specs.Hearing.{Heeds}
 use Rattle.control.specs.Order.{event_of, outcome_in}
+use Rattle.control.specs.declared.copies.CopyRefusal.{CopyRefusal}
 use Rattle.control.specs.declared.order.Order.{Order}
 use Rattle.control.specs.declared.outcome.Outcome.{Outcome}
 use Rattle.commands.specs.Ending.{ending}
@@ -13,7 +14,9 @@ use Rattle.commands.specs.Order.{OrdersOver}
 use Rattle.commands.specs.declared.refusal.Refusal.{Refusal}
 
 -- The command wrote these bytes, the server did what they order, and what came of it is what the command was told.
-pub record AreConnected (old new : Shown) (order : Order) (result : Result (Unit {0}) Refusal) : Type 0 where
+pub record AreConnected (copied : List ℕ → Result (Unit {0}) CopyRefusal → Type 0) (old new : Shown) (order : Order)
+    (result : Result (Unit {0}) Refusal)
+    : Type 0 where
   pub unread : Option (List ℕ)
   pub unread_new : Option (List ℕ)
   pub sent : List ℕ
@@ -22,7 +25,7 @@ pub record AreConnected (old new : Shown) (order : Order) (result : Result (Unit
   pub now : ℕ
   pub command : OrdersOver unread unread_new (Some []) (Some sent) order result
   pub heard : command.told ≡ Ok told
-  pub server : Heeds old new before now sent told
+  pub server : Heeds copied old new before now sent told
 
 -- In this world, the command ends as the order does there, and the store stands for the world after the order. Or it met a fault, and the
 -- store stands for the world still.
@@ -32,7 +35,8 @@ EndsAt new w order result =
     ⊎ ((fault : StoreFault) × (result ≡ ending (Err fault)) × new.stands w)
 
 -- So it is in each world that the store stood for, on an honest disk.
-abbrev pub EndsAsOnTheStore : Shown → Shown → Type 0
-EndsAsOnTheStore old new =
-    (order : Order) (result : Result (Unit {0}) Refusal) (w : World) → AreConnected old new order result → new.is_honest → old.stands w
+abbrev pub EndsAsOnTheStore : (List ℕ → Result (Unit {0}) CopyRefusal → Type 0) → Shown → Shown → Type 0
+EndsAsOnTheStore copied old new =
+    (order : Order) (result : Result (Unit {0}) Refusal) (w : World)
+    → AreConnected copied old new order result → new.is_honest → old.stands w
     → EndsAt new w order result

@@ -3,7 +3,7 @@ use Rattle.std.specs.Prelude.{ℕ, ◌≡◌, ◌⊎◌, if◌then◌else◌, Bo
 use Rattle.std.specs.Borrow.{Bor}
 use Rattle.world.specs.World.{World, IsWorld, common, is_team_name, is_key}
 use Rattle.shelf.specs.Machine.{after}
-use Rattle.control.specs.Asking.{Asks, AsksToStop}
+use Rattle.control.specs.Asking.{Asks, AsksToCopy, AsksToStop}
 use Rattle.control.specs.declared.client.Untold.{Untold}
 use Rattle.control.specs.declared.client.Untold.TheVariants as untold
 use Rattle.control.specs.declared.order.Order.{Order}
@@ -13,7 +13,7 @@ use Rattle.control.specs.declared.outcome.Outcome.{Outcome}
 use Rattle.control.specs.declared.outcome.Outcome.TheVariants as outcome
 use Rattle.commands.specs.Ending.{ending}
 use Rattle.commands.specs.declared.refusal.Refusal.{Refusal}
-use Rattle.commands.specs.declared.refusal.Refusal.TheVariants.{Name, NoTeam, NoKey, Device, Memory, Io}
+use Rattle.commands.specs.declared.refusal.Refusal.TheVariants.{Name, NoTeam, NoKey, NotEmpty, Device, Memory, Io}
 
 -- ---- what is sent
 
@@ -49,6 +49,7 @@ unsayable (KeyRevoke key) = NoKey
 abbrev pub told_ending : Order → Result Outcome Untold → Result (Unit {0}) Refusal
 told_ending order (Ok (outcome.Registered registered)) = ending (Ok registered)
 told_ending order (Ok (outcome.Failed fault)) = ending (Err fault)
+told_ending order (Ok outcome.NotEmpty) = Err Io
 told_ending order (Ok outcome.Stopping) = Err Io
 told_ending order (Ok outcome.Bad) = Err Io
 told_ending order (Err untold.Words) = Err (unsayable order)
@@ -75,11 +76,36 @@ OrdersThere order result =
     ((unread unread_new written written_new : Option (List ℕ)) × OrdersOver unread unread_new written written_new order result)
     ⊎ (result ≡ Err Device)
 
+-- how `copy` ends, by what was told; a path that no line can carry is a name that breaks its rule
+abbrev pub copy_ending : Result Outcome Untold → Result (Unit {0}) Refusal
+copy_ending (Ok (outcome.Registered registered)) = ending (Ok registered)
+copy_ending (Ok (outcome.Failed fault)) = ending (Err fault)
+copy_ending (Ok outcome.NotEmpty) = Err NotEmpty
+copy_ending (Ok outcome.Stopping) = Err Io
+copy_ending (Ok outcome.Bad) = Err Io
+copy_ending (Err untold.Words) = Err Name
+copy_ending (Err untold.Memory) = Err Memory
+copy_ending (Err untold.Io) = Err Io
+
+-- the line that orders a copy to the path was written, the line of its outcome was read, and the command ends by it
+pub record CopiesOver (unread unread_new written written_new : Option (List ℕ)) (path : List ℕ)
+    (result : Result (Unit {0}) Refusal) : Type 0 where
+  pub told : Result Outcome Untold
+  pub asks : AsksToCopy unread unread_new written written_new path told
+  pub ends : result ≡ copy_ending told
+
+-- so it was over a connection, or nobody listens
+abbrev pub CopiesThere : List ℕ → Result (Unit {0}) Refusal → Type 0
+CopiesThere path result =
+    ((unread unread_new written written_new : Option (List ℕ)) × CopiesOver unread unread_new written written_new path result)
+    ⊎ (result ≡ Err Device)
+
 -- how the command ends that ends a server, by what was told
 abbrev pub stop_ending : Result Outcome Untold → Result (Unit {0}) Refusal
 stop_ending (Ok outcome.Stopping) = Ok tt
 stop_ending (Ok (outcome.Failed fault)) = ending (Err fault)
 stop_ending (Ok (outcome.Registered registered)) = Err Io
+stop_ending (Ok outcome.NotEmpty) = Err Io
 stop_ending (Ok outcome.Bad) = Err Io
 stop_ending (Err why) = Err Io
 

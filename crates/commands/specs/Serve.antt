@@ -3,7 +3,9 @@ use Rattle.std.specs.Prelude.{ℕ, ◌≡◌, ◌≢◌, ◌++◌, List, codes, 
 use Rattle.std.specs.Io.KnownBytes.{Appends}
 use Rattle.world.specs.Store.{Shown}
 use Rattle.socket.specs.Connections.{GoesThroughMost}
+use Rattle.control.specs.Copying.{GoesOnCopied}
 use Rattle.control.specs.Turns.{GoesOn}
+use Rattle.control.specs.declared.copies.CopyRefusal.{CopyRefusal}
 use Rattle.commands.specs.declared.refusal.Refusal.{Refusal}
 use Rattle.commands.specs.declared.refusal.Refusal.TheVariants.{Io}
 use Rattle.commands.specs.declared.serve.Entrance.{Entrance}
@@ -38,16 +40,27 @@ Listens shown failures old new entrance connections written written_new result =
     (λ _. Announces entrance written written_new × GoesThroughMost (shown old) (shown new) (failures old) (failures new) connections)
     (λ e. (e ≡ Io) × (new ≡ old))
 
--- So it was, and between the requests orders were carried out. Or the socket can't be had.
-abbrev pub ListensToBoth : {S : Type 0} → (S → Shown) → (S → ℕ) → S → S → Entrance → ℕ → Option (List ℕ) → Option (List ℕ) → Result (Unit {0}) Refusal → Type 0
-ListensToBoth shown failures old new entrance connections written written_new result =
+-- what came of a copy, by the store before and after it, the path, and what was told
+abbrev pub Copied : Type 0 → Type 1
+Copied S = S → S → List ℕ → Result (Unit {0}) CopyRefusal → Type 0
+
+-- So it was, and between the requests orders were carried out, and copies made of the machine's world at their moments. Or the socket
+-- can't be had.
+abbrev pub ListensToBoth :
+    {S : Type 0} → (S → Shown) → (S → ℕ) → Copied S → S → S → Entrance → ℕ
+    → Option (List ℕ) → Option (List ℕ) → Result (Unit {0}) Refusal → Type 0
+ListensToBoth shown failures copied old new entrance connections written written_new result =
     MatchResult result
-    (λ _. Announces entrance written written_new × GoesOn (shown old) (shown new) (failures old) (failures new) connections)
+    (λ _. Announces entrance written written_new
+    × GoesOn (shown old) (shown new) (failures old) (failures new) connections
+    × GoesOnCopied shown copied failures old new connections)
     (λ e. (e ≡ Io) × (new ≡ old))
 
 -- the one without a socket of operators, the other with one
-abbrev pub ListensAs : {S : Type 0} → (S → Shown) → (S → ℕ) → S → S → Entrance → ℕ → Option (List ℕ) → Option (List ℕ) → Option (List ℕ) → Result (Unit {0}) Refusal → Type 0
-ListensAs shown failures old new entrance connections None written written_new result =
+abbrev pub ListensAs :
+    {S : Type 0} → (S → Shown) → (S → ℕ) → Copied S → S → S → Entrance → ℕ
+    → Option (List ℕ) → Option (List ℕ) → Option (List ℕ) → Result (Unit {0}) Refusal → Type 0
+ListensAs shown failures copied old new entrance connections None written written_new result =
     Listens shown failures old new entrance connections written written_new result
-ListensAs shown failures old new entrance connections (Some path) written written_new result =
-    ListensToBoth shown failures old new entrance connections written written_new result
+ListensAs shown failures copied old new entrance connections (Some path) written written_new result =
+    ListensToBoth shown failures copied old new entrance connections written written_new result

@@ -3,6 +3,7 @@ ghost use Rattle.commands.specs.Controlled.{EndsAsOnTheStore};
 ghost use Rattle.commands.specs.Rows.{RowsAreWhole};
 ghost use Rattle.commands.specs.Repetition.{RepeatedImportChangesNothing};
 
+use control::Copies;
 use world::shelves::Shelves;
 
 /// A list that was imported whole changes nothing when it is imported again, with the same files and by a key that may
@@ -20,6 +21,6 @@ pub fn rows_are_whole()
 /// A command with `--control`, whose line a `serve` carried out and whose outcome came, ends as the same command does on
 /// the store of a file: by what comes of its order in the world that the store stood for, and the store stands for the
 /// world after it; or by a fault of the store, which changes nothing.
-pub fn orders_end_as_on_the_store<S: Shelves>()
-    ensures { (old new : S) → EndsAsOnTheStore (S.shown old) (S.shown new) }
+pub fn orders_end_as_on_the_store<S: Shelves, K: Copies<S>>()
+    ensures { (old new : S) → EndsAsOnTheStore (K.copied old new) (S.shown old) (S.shown new) }
 {}

@@ -1,11 +1,12 @@
-//! The commands of the registry that are sent to a running `serve`, and its end.
+//! The commands of the registry that are sent to a running `serve`, a copy of its store, and its end.
 ghost use Rattle.std.specs.Prelude.{◌≡◌, option_copied};
 ghost use Rattle.commands.specs.Order as spec;
 
 use crate::refusal::{Refusal, ending};
-use control::{Order, Outcome, Untold, ask, ask_to_stop, server_at};
+use control::{Order, Outcome, Untold, ask, ask_to_copy, ask_to_stop, server_at};
 use std::alloc::Global;
-use std::io::{Read, Write};
+use std::io::{self, Read, Write};
+use std::os::unix::net::UnixStream;
 use std::rt::HostRuntime;
 use world::names::{COMMON, is_key, is_team_name};
 
@@ -66,7 +67,7 @@ fn told_ending(told: Result<Outcome, Untold>, order: &Order) -> Result<(), Refus
     match told {
         Ok(Outcome::Registered(registered)) => ending(Ok(registered)),
         Ok(Outcome::Failed(fault)) => ending(Err(fault)),
-        Ok(Outcome::Stopping | Outcome::Bad) => Err(Refusal::Io),
+        Ok(Outcome::NotEmpty | Outcome::Stopping | Outcome::Bad) => Err(Refusal::Io),
         Err(Untold::Words) => Err(unsayable(order)),
         Err(Untold::Memory) => Err(Refusal::Memory),
         Err(Untold::Io) => Err(Refusal::Io),
@@ -90,6 +91,53 @@ fn refusal_by(keeps: bool, refusal: Refusal) -> Refusal
     ensures { result ≡ spec.refusal_by keeps refusal }
 {
     if keeps { refusal } else { Refusal::Name }
+}
+
+/// Has the `serve` that listens at a socket copy its store into the file of a path, as that server sees it, and waits for that as long
+/// as it takes. `NotEmpty` if the file has more than an empty store or belongs to the served store. `Device` if nobody listens there,
+/// the file can't be opened or a disk failed. `Name` if no line can carry the path: nothing was sent. `Io` if no outcome came.
+pub fn copy_at(rt: &HostRuntime, control: &str, path: &str) -> Result<(), Refusal>
+    ensures { spec.CopiesThere path.now result }
+{
+    match patient_server_at(rt, control) {
+        Ok(server) => copy_over(rt.alloc(), &mut &server, &mut &server, path),
+        Err(_) => Err(Refusal::Device),
+    }
+}
+
+/// A connection to the server that listens at a socket, each read from which waits as long as it takes.
+fn patient_server_at(rt: &HostRuntime, control: &str) -> io::Result<UnixStream> {
+    let server = server_at(rt, control)?;
+    server.set_read_timeout(None)?;
+    Ok(server)
+}
+
+/// Writes the line that orders a copy, and reads the line of its outcome.
+pub fn copy_over<R: Read, W: Write>(
+    alloc: Global,
+    reader: &mut R,
+    writer: &mut W,
+    path: &str,
+) -> Result<(), Refusal>
+    ensures { spec.CopiesOver (R.remaining reader.old) (R.remaining reader.new)
+        (W.contents writer.old) (W.contents writer.new) path.now result }
+{
+    let told = ask_to_copy(alloc, reader, writer, path);
+    copy_ending(told)
+}
+
+/// How `copy` ends, by what was told.
+fn copy_ending(told: Result<Outcome, Untold>) -> Result<(), Refusal>
+    ensures { result ≡ spec.copy_ending told }
+{
+    match told {
+        Ok(Outcome::Registered(registered)) => ending(Ok(registered)),
+        Ok(Outcome::Failed(fault)) => ending(Err(fault)),
+        Ok(Outcome::NotEmpty) => Err(Refusal::NotEmpty),
+        Ok(Outcome::Stopping | Outcome::Bad) | Err(Untold::Io) => Err(Refusal::Io),
+        Err(Untold::Words) => Err(Refusal::Name),
+        Err(Untold::Memory) => Err(Refusal::Memory),
+    }
 }
 
 /// Has the `serve` that listens at a socket end, after the request in hand. `Device` if nobody listens there, `Io` if it was not told that
@@ -123,6 +171,7 @@ fn stop_ending(told: Result<Outcome, Untold>) -> Result<(), Refusal>
         Ok(Outcome::Stopping) => Ok(()),
         Ok(Outcome::Failed(fault)) => ending(Err(fault)),
         Ok(Outcome::Registered(_)) => Err(Refusal::Io),
+        Ok(Outcome::NotEmpty) => Err(Refusal::Io),
         Ok(Outcome::Bad) => Err(Refusal::Io),
         Err(_) => Err(Refusal::Io),
     }

@@ -4,7 +4,7 @@ ghost use Rattle.std.specs.Io.KnownBytes.{Appends};
 ghost use Rattle.commands.specs.Serve.{Announces, Listens, ListensToBoth, ListensAs, Prints, input_line, port_line, port_text};
 
 use crate::refusal::Refusal;
-use control::{Doors, leave_place, operators_at, serve_both};
+use control::{Copies, Doors, leave_place, operators_at, serve_both};
 use itoa::Buffer;
 use socket::serve_on;
 use std::io::{self, ErrorKind, Write};
@@ -24,22 +24,23 @@ pub enum Entrance {
 }
 
 /// Prints the line of the entrance, and serves the connections that come in: the store goes through at most as many requests as there
-/// are connections. If a socket `control` is named, the orders of operators who connect to it are carried out between them, and do not
-/// count. `Io` if the port or the socket can't be had or the output fails; a connection that fails only counts.
-pub fn serve<S: Shelves, O: Write>(
+/// are connections. If a socket `control` is named, the orders of operators who connect to it are carried out between them, copies by
+/// `copies`, and do not count. `Io` if the port or the socket can't be had or the output fails; a connection that fails only counts.
+pub fn serve<S: Shelves, K: Copies<S>, O: Write>(
     rt: &HostRuntime,
     shelves: &mut S,
+    copies: &mut K,
     entrance: Entrance,
     connections: u32,
     control: Option<&str>,
     output: &mut O,
 ) -> Result<(), Refusal>
-    ensures { ListensAs S.shown S.failure_count shelves.old shelves.new entrance connections (option_copied control.entry)
-        (O.contents output.old) (O.contents output.new) result }
+    ensures { ListensAs S.shown S.failure_count K.copied shelves.old shelves.new entrance connections
+        (option_copied control.entry) (O.contents output.old) (O.contents output.new) result }
 {
     match control {
         None => serve_peers(rt, shelves, entrance, connections, output),
-        Some(path) => serve_operators(rt, shelves, entrance, connections, path, output),
+        Some(path) => serve_operators(rt, shelves, copies, entrance, connections, path, output),
     }
 }
 
@@ -61,15 +62,16 @@ fn serve_peers<S: Shelves, O: Write>(
 }
 
 /// Serves the connections of peers, and the operators of a socket, which is made first and taken away at the end.
-fn serve_operators<S: Shelves, O: Write>(
+fn serve_operators<S: Shelves, K: Copies<S>, O: Write>(
     rt: &HostRuntime,
     shelves: &mut S,
+    copies: &mut K,
     entrance: Entrance,
     connections: u32,
     path: &str,
     output: &mut O,
 ) -> Result<(), Refusal>
-    ensures { ListensToBoth S.shown S.failure_count shelves.old shelves.new entrance connections
+    ensures { ListensToBoth S.shown S.failure_count K.copied shelves.old shelves.new entrance connections
         (O.contents output.old) (O.contents output.new) result }
 {
     let Ok(operators) = operators_at(rt, path) else {
@@ -77,7 +79,7 @@ fn serve_operators<S: Shelves, O: Write>(
     };
     match open_doors(rt, entrance, operators, output) {
         Ok(mut doors) => {
-            serve_both(rt.alloc(), rt, &mut doors, shelves, connections);
+            serve_both(rt.alloc(), rt, &mut doors, shelves, copies, connections);
             leave_place(rt, path);
             Ok(())
         }

@@ -9,6 +9,7 @@ use crate::refusal::Refusal;
 use crate::registry::{add_group, add_key, add_team, revoke_key};
 use crate::report::{Named, print_inventory, print_requirements};
 use crate::serve::{Entrance, serve};
+use control::Copies;
 use outline::outlines::Outlines;
 use std::io::{Read, Write};
 use std::rt::HostRuntime;
@@ -58,7 +59,7 @@ pub enum Work<'a> {
     /// `answer --db F`: answers the requests on the input.
     Answer,
     /// `serve`: answers one request on each of so many connections, and carries out between them the orders that come over a socket,
-    /// if one is named.
+    /// if one is named, copies among them.
     Serve {
         entrance: Entrance,
         connections: u32,
@@ -67,14 +68,16 @@ pub enum Work<'a> {
 }
 
 /// Does one work on a store and returns whether it was accepted; only a publish and an import can be done and not accepted.
-pub fn work_on<S: Outlines, I: Read, O: Write>(
+/// `copies` makes the copies that are ordered while the store is served.
+pub fn work_on<S: Outlines, K: Copies<S>, I: Read, O: Write>(
     rt: &HostRuntime,
     shelves: &mut S,
+    copies: &mut K,
     work: &Work,
     input: &mut I,
     output: &mut O,
 ) -> Result<bool, Refusal>
-    ensures { spec.Works S.shown S.failure_count
+    ensures { spec.Works S.shown S.failure_count K.copied
         (record { store = shelves.old; unread = I.remaining input.old; written = O.contents output.old })
         (record { store = shelves.new; unread = I.remaining input.new; written = O.contents output.new }) result work.now }
 {
@@ -97,7 +100,15 @@ pub fn work_on<S: Outlines, I: Read, O: Write>(
             entrance,
             connections,
             control,
-        } => acceptance(serve(rt, shelves, *entrance, *connections, *control, output)),
+        } => acceptance(serve(
+            rt,
+            shelves,
+            copies,
+            *entrance,
+            *connections,
+            *control,
+            output,
+        )),
     }
 }
 

@@ -1,7 +1,7 @@
 //! The command line: its commands, their help, and the parser.
 use crate::options::{
-    ANSWER, EXTRACT, GROUP_ADD, IMPORT, INIT, INVENTORY, KEY_ADD, KEY_REVOKE, MIGRATE, Needed,
-    OptionRow, PUBLISH, REQUIRES, SERVE, STOP, TEAM_ADD, Value,
+    ANSWER, COPY, EXTRACT, GROUP_ADD, IMPORT, INIT, INVENTORY, KEY_ADD, KEY_REVOKE, MIGRATE,
+    Needed, OptionRow, PUBLISH, REQUIRES, SERVE, STOP, TEAM_ADD, Value,
 };
 use crate::version::VERSION;
 use clap::builder::ValueParser;
@@ -21,7 +21,7 @@ struct CommandRow {
 }
 
 /// The commands, in the order of the help.
-static COMMANDS: [CommandRow; 14] = [
+static COMMANDS: [CommandRow; 15] = [
     CommandRow {
         name: "init",
         about: "Makes a store with the shelf common alone, in a file that has no bytes",
@@ -112,6 +112,13 @@ static COMMANDS: [CommandRow; 14] = [
         options: &SERVE,
         forms: Some(SERVE_FORMS),
         example: SERVE_EXAMPLE,
+    },
+    CommandRow {
+        name: "copy",
+        about: "Has a running serve copy its store into another file, between two requests",
+        options: &COPY,
+        forms: None,
+        example: "",
     },
     CommandRow {
         name: "stop",

@@ -25,6 +25,10 @@ pub fn task_of<'m, 'a>(matches: &'m ArgMatches<'a>) -> Option<Task<'m>> {
             from: text(matches, "from"),
             to: text(matches, "to"),
         }),
+        "copy" => Some(Task::Copy {
+            control: text(matches, "control"),
+            to: text(matches, "to"),
+        }),
         "stop" => Some(Task::Stop {
             control: text(matches, "control"),
         }),

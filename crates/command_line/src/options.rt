@@ -293,6 +293,18 @@ pub(crate) const SERVE: [OptionRow; 5] = [
     },
 ];
 
+pub(crate) const COPY: [OptionRow; 2] = [
+    OptionRow {
+        needed: Needed::Always,
+        help: "The socket of the serve whose store is copied",
+        ..CONTROL
+    },
+    OptionRow {
+        help: "The file of the copy, as that serve sees it: up to 122 bytes and no space; missing, or an empty store",
+        ..TO
+    },
+];
+
 pub(crate) const STOP: [OptionRow; 1] = [OptionRow {
     needed: Needed::Always,
     help: "The socket of the serve that is to end",

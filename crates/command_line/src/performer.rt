@@ -34,6 +34,28 @@ pub trait Performer {
 /// The store of files as they are found: nothing here names what they held.
 pub type Found = FileShelves<Unknown>;
 
+/// What the files held that a task writes anew, at which clauses say no more than at `Unknown`. A `serve` writes such a file for each
+/// copy, so it is `Copy`, which `Unknown` is not.
+#[derive(Clone, Copy, Drop)]
+pub struct UnknownTarget;
+
+impl Start for UnknownTarget {
+    ghost use Rattle.std.specs.Prelude.{true, []};
+
+    ghost log = { [] };
+
+    ghost db = { [] };
+
+    ghost is_mixing = { true };
+
+    fn mixes() -> bool {
+        true
+    }
+}
+
+/// The store of such a file.
+pub type Target = FileShelves<UnknownTarget>;
+
 /// The tables of files as they are found.
 pub type FoundFiles = FileStore<File>;
 
@@ -49,8 +71,10 @@ impl<'a> Performer for SystemStores<'a> {
     ghost use Rattle.tasks.specs.Task.{Performs};
 
     ghost performed = { λ _ _.
-        Performs (state ⟦<FoundFiles as Store>⟧) ⟦<Found as Shelves>⟧.shown ⟦<Found as Shelves>⟧.failure_count (image_at ⟦<Unknown as Start>⟧)
-        ⟦<Found as Shelves>⟧.shown ⟦<Found as Shelves>⟧.failure_count (image_at ⟦<Unknown as Start>⟧) };
+        Performs (state ⟦<FoundFiles as Store>⟧)
+        ⟦<Found as Shelves>⟧.shown ⟦<Found as Shelves>⟧.failure_count (image_at ⟦<Unknown as Start>⟧)
+        ⟦<Target as Shelves>⟧.shown ⟦<Target as Shelves>⟧.failure_count
+        (image_at ⟦<UnknownTarget as Start>⟧) };
 
     fn is_new(&self, db: &str) -> bool {
         is_empty_file(self.rt, db) || is_missing(self.rt, db)
@@ -62,7 +86,7 @@ impl<'a> Performer for SystemStores<'a> {
         input: &mut I,
         output: &mut O,
     ) -> Result<bool, Refusal> {
-        perform(self.rt, task, Unknown, Unknown, input, output)
+        perform(self.rt, task, Unknown, UnknownTarget, input, output)
     }
 }
 

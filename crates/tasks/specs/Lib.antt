@@ -1,3 +1,4 @@
+pub mod Copies
 pub mod Extract
 pub mod Migrate
 pub mod Opened

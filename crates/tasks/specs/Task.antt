@@ -6,12 +6,14 @@ use Rattle.world.specs.Store.{Shown}
 use Rattle.setup.specs.declared.refusal.Refusal.{Refusal as Unopened}
 use Rattle.control.specs.declared.order.Order.{Order}
 use Rattle.commands.specs.Opening.{AnsweredFor}
-use Rattle.commands.specs.Order.{OrdersThere, StopsThere}
+use Rattle.commands.specs.Order.{CopiesThere, OrdersThere, StopsThere}
+use Rattle.commands.specs.Serve.{Copied}
 use Rattle.commands.specs.Work.{Works, acceptance}
 use Rattle.commands.specs.declared.refusal.Refusal.{Refusal}
 use Rattle.commands.specs.declared.refusal.Refusal.TheVariants.{NotEmpty}
 use Rattle.commands.specs.declared.work.Work.{Work}
 use Rattle.commands.specs.declared.work.Work.TheVariants.{Open}
+use Rattle.tasks.specs.Copies.{CopiesFile}
 use Rattle.tasks.specs.Extract.{ExtractsFile}
 use Rattle.tasks.specs.Migrate.{MigratesFile}
 use Rattle.tasks.specs.Opened.{unopened, unmade, HasBegun}
@@ -42,20 +44,26 @@ module _ (unread unread_new written written_new : Option (List ℕ)) (result : R
     pub orders : OrdersThere order ended
     pub tells : TellsAlone (acceptance ended)
 
+  -- a copy was ordered from a running `serve`, no store was opened, and nothing was read or written
+  pub record CopiesAlone (path : List ℕ) : Type 0 where
+    pub ended : Result (Unit {0}) Refusal
+    pub copies : CopiesThere path ended
+    pub tells : TellsAlone (acceptance ended)
+
   -- a running `serve` was to end, no store was opened, and nothing was read or written
   pub record StopsAlone : Type 0 where
     pub ended : Result (Unit {0}) Refusal
     pub stops : StopsThere ended
     pub tells : TellsAlone (acceptance ended)
 
-module _ {S : Type 0} (shown : S → Shown) (failures : S → ℕ) (held : Image) where
+module _ {S : Type 0} (shown : S → Shown) (failures : S → ℕ) (copied : Copied S) (held : Image) where
   -- the store of files that held this was opened, and the work was done on it
   pub record WorksOpened
       (unread unread_new written written_new : Option (List ℕ)) (work : Work) (result : Result Bool Refusal) : Type 0 where
     pub begun : S
     pub ended : S
     pub begins : HasBegun shown failures held begun
-    pub works : Works shown failures
+    pub works : Works shown failures copied
         (record { store = begun; unread = unread; written = written })
         (record { store = ended; unread = unread_new; written = written_new }) result work
 
@@ -86,12 +94,17 @@ module _ {C S F : Type 0} (state_of : C → State) (shown : S → Shown) (failur
     pub migrates : MigratesFile state_of held shown_too failures_too held_too ended
     pub tells : TellsAlone unread unread_new written written_new result (acceptance ended)
 
+  -- what comes of a copy that is ordered while the store is served, into a file that held what the second file of a task does
+  abbrev pub copies : Copied S
+  copies = CopiesFile shown failures shown_too failures_too held_too
+
   -- What is done, by the kind of task, where the first file of the task held this and its log, and the second file that.
   abbrev pub Performs : Task → Type 0
-  Performs (task.Init db) = Inits shown failures held unread unread_new written written_new result
+  Performs (task.Init db) = Inits shown failures copies held unread unread_new written written_new result
   Performs (task.AnswerInMemory team key) = AnswersInMemory unread unread_new written written_new result team.now key.now
-  Performs (task.OnStore db work) = WorksOnFile shown failures held unread unread_new written written_new work result
+  Performs (task.OnStore db work) = WorksOnFile shown failures copies held unread unread_new written written_new work result
   Performs (task.Extract db teams to) = ExtractsAlone (each (λ team. team.now) teams.now)
   Performs (task.Migrate from to) = MigratesAlone
   Performs (task.Order control order) = OrdersAlone unread unread_new written written_new result order
+  Performs (task.Copy control to) = CopiesAlone unread unread_new written written_new result to.now
   Performs (task.Stop control) = StopsAlone unread unread_new written written_new result

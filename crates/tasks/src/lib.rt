@@ -8,6 +8,7 @@
 //! | [`Task::Extract`] | opens the stores of two files and puts some teams' part of the one into the other |
 //! | [`Task::Migrate`] | opens a file of an older schema and the store of another file, and makes the second one of the first |
 //! | [`Task::Order`] | opens no store, and sends an order to the `serve` that has one open |
+//! | [`Task::Copy`] | opens no store, and has the `serve` that has one open copy it into another file |
 //! | [`Task::Stop`] | opens no store, and has the `serve` end that has one open |
 //!
 //! A store of a file is held by one function for each kind of task: that of a work, that of what is extracted or migrated from, that
@@ -18,21 +19,24 @@ ghost use Rattle.std.specs.Prelude.{◌≡◌};
 ghost use Rattle.sqlite.specs.Held.{state};
 ghost use Rattle.sqlite_wal.specs.Files.{image_at};
 ghost use Rattle.commands.specs.Work as told;
+ghost use Rattle.tasks.specs.Copies.{CopiesFile};
 ghost use Rattle.tasks.specs.Opened as spec;
 ghost use Rattle.tasks.specs.Task.{Performs, Inits, WorksOnFile};
 
+mod copies;
 mod extract;
 pub mod laws;
 mod migrate;
 mod old_file;
 
+use crate::copies::work_with_copies;
 use crate::extract::extract_file;
 use crate::migrate::migrate_file;
 use commands::files::holds_bytes;
 use commands::memory::answer_in_memory;
-use commands::order::{order_at, stop_at};
+use commands::order::{copy_at, order_at, stop_at};
 use commands::refusal::Refusal;
-use commands::work::{Work, work_on};
+use commands::work::Work;
 use control::Order;
 use sqlite::{FileFrom, FileStore, Start};
 use sqlite_trees::store::Store;
@@ -75,6 +79,12 @@ pub enum Task<'a> {
         control: &'a str,
         order: Order<'a>,
     },
+    /// `copy --control S --to G`: has the `serve` that listens at the socket S make the store of G, as that server sees the file, a copy
+    /// of its own.
+    Copy {
+        control: &'a str,
+        to: &'a str,
+    },
     /// `stop --control S`: has the `serve` that listens at the socket S end.
     Stop {
         control: &'a str,
@@ -83,9 +93,10 @@ pub enum Task<'a> {
 
 /// Does a task and returns whether it was accepted; only a publish and an import can be done and not accepted.
 ///
-/// `T` stands for what the file of the task and its log hold, and `U` for that of the file that `extract` and `migrate` write. It
-/// is proved for all contents: a task goes on from the world that they hold.
-pub fn perform<T: Start, U: Start, I: Read, O: Write>(
+/// `T` stands for what the file of the task and its log hold, and `U` for that of the file that `extract` and `migrate` write, or that
+/// a served store is copied into. It is proved for all contents: a task goes on from the world that they hold. If a store is copied
+/// into several files, that holds for each with its own contents.
+pub fn perform<T: Start, U: Start + Copy, I: Read, O: Write>(
     rt: &HostRuntime,
     task: &Task,
     start: T,
@@ -100,17 +111,18 @@ pub fn perform<T: Start, U: Start, I: Read, O: Write>(
         result task.now }
 {
     match task {
-        Task::Init { db } => init(rt, db, start, input, output),
+        Task::Init { db } => init(rt, db, start, target, input, output),
         Task::AnswerInMemory { team, key } => {
             answer_in_memory(rt.alloc(), team, key, input, output)?;
             Ok(true)
         }
-        Task::OnStore { db, work } => on_file(rt, db, start, work, input, output),
+        Task::OnStore { db, work } => on_file(rt, db, start, target, work, input, output),
         Task::Extract { db, teams, to } => acceptance(extract_file(
             rt, db, start, teams, to, target,
         )),
         Task::Migrate { from, to } => acceptance(migrate_file(rt, from, start, to, target)),
         Task::Order { control, order } => acceptance(order_at(rt, control, order)),
+        Task::Copy { control, to } => acceptance(copy_at(rt, control, to)),
         Task::Stop { control } => acceptance(stop_at(rt, control)),
     }
 }
@@ -125,20 +137,24 @@ fn acceptance(ended: Result<(), Refusal>) -> Result<bool, Refusal>
 
 /// Makes a store with the shelf `common` alone. A file that has bytes is `NotEmpty`.
 /// It reads one byte. If the file can't be read, opening the store says what is wrong.
-fn init<T: Start, I: Read, O: Write>(
+fn init<T: Start, U: Start + Copy, I: Read, O: Write>(
     rt: &HostRuntime,
     path: &str,
     start: T,
+    target: U,
     input: &mut I,
     output: &mut O,
 ) -> Result<bool, Refusal>
-    ensures { Inits ⟦<FileShelves<T> as Shelves>⟧.shown ⟦<FileShelves<T> as Shelves>⟧.failure_count (image_at T.Start)
-        (I.remaining input.old) (I.remaining input.new) (O.contents output.old) (O.contents output.new) result }
+    ensures { Inits ⟦<FileShelves<T> as Shelves>⟧.shown ⟦<FileShelves<T> as Shelves>⟧.failure_count
+        (CopiesFile ⟦<FileShelves<T> as Shelves>⟧.shown ⟦<FileShelves<T> as Shelves>⟧.failure_count
+        ⟦<FileShelves<U> as Shelves>⟧.shown ⟦<FileShelves<U> as Shelves>⟧.failure_count (image_at U.Start))
+        (image_at T.Start) (I.remaining input.old) (I.remaining input.new)
+        (O.contents output.old) (O.contents output.new) result }
 {
     if holds_bytes(rt, path) {
         return Err(Refusal::NotEmpty);
     }
-    match on_file(rt, path, start, &Work::Open, input, output) {
+    match on_file(rt, path, start, target, &Work::Open, input, output) {
         Ok(done) => Ok(done),
         Err(refusal) => Err(unmade(refusal)),
     }
@@ -168,24 +184,28 @@ fn open_refusal(unopened: Unopened) -> Refusal
 }
 
 /// Does a work on the store of a file. Where the store is not opened, nothing is read or written.
-fn on_file<T: Start, I: Read, O: Write>(
+fn on_file<T: Start, U: Start + Copy, I: Read, O: Write>(
     rt: &HostRuntime,
     path: &str,
     start: T,
+    target: U,
     work: &Work,
     input: &mut I,
     output: &mut O,
 ) -> Result<bool, Refusal>
     ensures { WorksOnFile
-        ⟦<FileShelves<T> as Shelves>⟧.shown ⟦<FileShelves<T> as Shelves>⟧.failure_count (image_at T.Start)
-        (I.remaining input.old) (I.remaining input.new) (O.contents output.old) (O.contents output.new)
+        ⟦<FileShelves<T> as Shelves>⟧.shown ⟦<FileShelves<T> as Shelves>⟧.failure_count
+        (CopiesFile ⟦<FileShelves<T> as Shelves>⟧.shown ⟦<FileShelves<T> as Shelves>⟧.failure_count
+        ⟦<FileShelves<U> as Shelves>⟧.shown ⟦<FileShelves<U> as Shelves>⟧.failure_count (image_at U.Start))
+        (image_at T.Start) (I.remaining input.old) (I.remaining input.new)
+        (O.contents output.old) (O.contents output.new)
         work.now result }
 {
     let mut shelves = match FileShelves::open_from(rt, path, start) {
         Ok(shelves) => shelves,
         Err((unopened, _)) => return Err(open_refusal(unopened)),
     };
-    let told = work_on(rt, &mut shelves, work, input, output);
+    let told = work_with_copies(rt, path, &mut shelves, target, work, input, output);
     drop(shelves.close());
     told
 }

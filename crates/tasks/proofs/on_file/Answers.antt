@@ -4,7 +4,7 @@ use Rattle.tasks.proofs.on_file.Goals as goal
 pub returns : goal.returns
 returns g c = inl (record {
   begun = c.in-Ok.shelves;
-  ended = c.work_on-told.new.shelves;
+  ended = c.work_with_copies-told.new.shelves;
   begins = record { world = c.in-Ok.ensures.begins; found = c.in-Ok.ensures.found; none_failed = c.in-Ok.ensures.none_failed };
-  works = c.work_on-told.ensures;
+  works = c.work_with_copies-told.ensures;
 })

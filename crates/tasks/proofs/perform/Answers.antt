@@ -26,6 +26,13 @@ returns-in-Order g c = performed _ _ _ _ _ _ _ _ _ _ _ _ _ _ c.in-Order.is (reco
   tells = record { tells = c.acceptance-in-Order.ensures; input = refl; output = refl };
 })
 
+pub returns-in-Copy : goal.returns-in-Copy
+returns-in-Copy g c = performed _ _ _ _ _ _ _ _ _ _ _ _ _ _ c.in-Copy.is (record {
+  ended = c.copy_at.result;
+  copies = c.copy_at.ensures;
+  tells = record { tells = c.acceptance-in-Copy.ensures; input = refl; output = refl };
+})
+
 pub returns-in-Stop : goal.returns-in-Stop
 returns-in-Stop g c = performed _ _ _ _ _ _ _ _ _ _ _ _ _ _ c.in-Stop.is (record {
   ended = c.stop_at.result;

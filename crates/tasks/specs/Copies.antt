@@ -1,0 +1,49 @@
+-- What a copy of the store of a served file into that of another file does.
+use Rattle.std.specs.Prelude.{ℕ, List, ◌≡◌, ◌⊎◌, Result, Ok, Err}
+use Rattle.sqlite_wal.specs.Recovery.{Image}
+use Rattle.world.specs.Store.{Shown}
+use Rattle.store.specs.Extracted.{HasCauseInEither}
+use Rattle.store.specs.Parts.{CopiesAll}
+use Rattle.store.specs.declared.refusal.Refusal.{Refusal as Unopened}
+use Rattle.store.specs.declared.refusal.Refusal.TheVariants as store
+use Rattle.control.specs.declared.copies.CopyRefusal.{CopyRefusal}
+use Rattle.control.specs.declared.copies.CopyRefusal.TheVariants as copy
+use Rattle.tasks.specs.Opened.{HasBegun}
+
+-- why no copy was made, by what opening or the copy told; tables that are none of a store's are bytes like others, and no team is named
+abbrev pub uncopied : Unopened → CopyRefusal
+uncopied store.Device = copy.Device
+uncopied store.Memory = copy.Memory
+uncopied store.BadSchema = copy.NotEmpty
+uncopied store.NotEmpty = copy.NotEmpty
+uncopied store.NoTeam = copy.Device
+
+-- how a copy ends
+abbrev pub copied : Result (Unit {0}) Unopened → Result (Unit {0}) CopyRefusal
+copied (Ok u) = Ok tt
+copied (Err why) = Err (uncopied why)
+
+module _ {S F : Type 0} (shown : S → Shown) (failures : S → ℕ) (shown_too : F → Shown) (failures_too : F → ℕ) where
+  -- an open store was made a copy of the served one, or it was not, and why is told
+  pub record CopiesInto (source source_new : S) (fresh fresh_new : F) (result : Result (Unit {0}) CopyRefusal) : Type 0 where
+    pub told : Result (Unit {0}) Unopened
+    pub copies : CopiesAll (shown source) (shown source_new) (shown_too fresh) (shown_too fresh_new) told
+    pub cause : HasCauseInEither (failures source) (failures source_new) (failures_too fresh) (failures_too fresh_new) told
+    pub ends : result ≡ copied told
+
+  module _ (held : Image) where
+    -- the store of files that held this was opened, and made a copy or not
+    pub record CopiesOpened (source source_new : S) (result : Result (Unit {0}) CopyRefusal) : Type 0 where
+      pub fresh : F
+      pub fresh_new : F
+      pub begins : HasBegun shown_too failures_too held fresh
+      pub copies : CopiesInto source source_new fresh fresh_new result
+
+    -- nothing was done with the served store: the file is its own, or the store of the file was not opened, and why is told
+    pub record CopiesNone (source source_new : S) (result : Result (Unit {0}) CopyRefusal) : Type 0 where
+      pub same : source_new ≡ source
+      pub tells : (result ≡ Err copy.NotEmpty) ⊎ ((why : Unopened) × (result ≡ Err (uncopied why)))
+
+    -- one of the two, whatever the path is: no clause ties a path to the bytes of a file
+    abbrev pub CopiesFile : S → S → List ℕ → Result (Unit {0}) CopyRefusal → Type 0
+    CopiesFile source source_new path result = CopiesOpened source source_new result ⊎ CopiesNone source source_new result

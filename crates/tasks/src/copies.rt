@@ -1,0 +1,139 @@
+//! Copies of the store of a file while it is served.
+
+ghost use Rattle.std.specs.Prelude.{◌≡◌};
+ghost use Rattle.commands.specs.Work.{Works};
+ghost use Rattle.control.specs.Copying.{IsOnlyRead};
+ghost use Rattle.sqlite_wal.specs.Files.{image_at};
+ghost use Rattle.tasks.specs.Copies as spec;
+ghost use Rattle.tasks.specs.Copies.{CopiesFile, CopiesInto};
+
+use commands::files::is_same_file;
+use commands::refusal::Refusal;
+use commands::work::{Work, work_on};
+use control::{Copies, CopyRefusal};
+use sqlite::{Alter, Start};
+use std::fs;
+use std::io::{Read, Write};
+use std::rt::HostRuntime;
+use store::open::FileShelves;
+use store::refusal::Refusal as Unopened;
+use store::store::SqlShelves;
+use world::shelves::Shelves;
+
+/// Copies the served store of a file into other files. `U` stands for what such a file holds before its copy. What is proved holds for
+/// all contents, so for each of several copies it holds with those of its own file.
+#[derive(Drop)]
+struct FileCopies<'a, U: Start + Copy> {
+    rt: &'a HostRuntime,
+    /// The file of the served store.
+    db: &'a str,
+    target: U,
+}
+
+impl<'a, S: Alter, U: Start + Copy> Copies<SqlShelves<S>> for FileCopies<'a, U> {
+    ghost use Rattle.sqlite_wal.specs.Files.{image_at};
+    ghost use Rattle.tasks.specs.Copies.{CopiesFile};
+
+    ghost copied = { CopiesFile ⟦<SqlShelves<S> as Shelves>⟧.shown ⟦<SqlShelves<S> as Shelves>⟧.failure_count
+        ⟦<FileShelves<U> as Shelves>⟧.shown ⟦<FileShelves<U> as Shelves>⟧.failure_count (image_at U.Start) };
+
+    fn copy(&mut self, shelves: &mut SqlShelves<S>, path: &str) -> Result<(), CopyRefusal> {
+        copy_to(self.rt, self.db, shelves, path, self.target)
+    }
+}
+
+/// Does a work on an open store, whose file is at `db`. The copies that are ordered while it is served are made from this store.
+/// It is generic over the store, because a contract of one function names one store of files alone.
+pub(crate) fn work_with_copies<S: Alter, U: Start + Copy, I: Read, O: Write>(
+    rt: &HostRuntime,
+    db: &str,
+    shelves: &mut SqlShelves<S>,
+    target: U,
+    work: &Work,
+    input: &mut I,
+    output: &mut O,
+) -> Result<bool, Refusal>
+    ensures { Works ⟦<SqlShelves<S> as Shelves>⟧.shown ⟦<SqlShelves<S> as Shelves>⟧.failure_count
+        (CopiesFile ⟦<SqlShelves<S> as Shelves>⟧.shown ⟦<SqlShelves<S> as Shelves>⟧.failure_count
+        ⟦<FileShelves<U> as Shelves>⟧.shown ⟦<FileShelves<U> as Shelves>⟧.failure_count (image_at U.Start))
+        (record { store = shelves.old; unread = I.remaining input.old; written = O.contents output.old })
+        (record { store = shelves.new; unread = I.remaining input.new; written = O.contents output.new })
+        result work.now }
+{
+    let mut copies = FileCopies { rt, db, target };
+    work_on(rt, shelves, &mut copies, work, input, output)
+}
+
+/// Opens the store of a file and makes it a copy of a served store, whose file is at `db`. The file and the log of the served one are
+/// not opened again: they are `NotEmpty`, and so are hard links to them.
+fn copy_to<S: Alter, U: Start>(
+    rt: &HostRuntime,
+    db: &str,
+    source: &mut SqlShelves<S>,
+    to: &str,
+    target: U,
+) -> Result<(), CopyRefusal>
+    ensures reads { IsOnlyRead
+        (⟦<SqlShelves<S> as Shelves>⟧.shown source.old) (⟦<SqlShelves<S> as Shelves>⟧.shown source.new)
+        (⟦<SqlShelves<S> as Shelves>⟧.failure_count source.old)
+        (⟦<SqlShelves<S> as Shelves>⟧.failure_count source.new) }
+    ensures came { CopiesFile ⟦<SqlShelves<S> as Shelves>⟧.shown ⟦<SqlShelves<S> as Shelves>⟧.failure_count
+        ⟦<FileShelves<U> as Shelves>⟧.shown ⟦<FileShelves<U> as Shelves>⟧.failure_count (image_at U.Start)
+        source.old source.new to.now result }
+{
+    if is_served(rt, db, to) {
+        return Err(CopyRefusal::NotEmpty);
+    }
+    let mut fresh = match FileShelves::open_from(rt, to, target) {
+        Ok(shelves) => shelves,
+        Err((unopened, _)) => return Err(uncopied(unopened)),
+    };
+    let told = copy_into(source, &mut fresh);
+    drop(fresh.close());
+    told
+}
+
+/// Whether a path leads to a file of the served store, whose file is at `db`.
+fn is_served(rt: &HostRuntime, db: &str, path: &str) -> bool {
+    is_same_file(rt, db, path) || is_log_of(rt, db, path)
+}
+
+/// Whether a path leads to the log of a database file, which lies beside the file that a link leads to. If that can't be found out, the
+/// lock of the log refuses it.
+fn is_log_of(rt: &HostRuntime, db: &str, path: &str) -> bool {
+    let Ok(real) = fs::canonicalize(rt, db) else {
+        return false;
+    };
+    match format!(in rt.alloc(); "{}-wal", real.as_str()) {
+        Ok(log) => is_same_file(rt, log.as_str(), path),
+        Err(_) => false,
+    }
+}
+
+/// Makes an open store a copy of the served one.
+fn copy_into<S: Alter, F: Alter>(
+    source: &mut SqlShelves<S>,
+    fresh: &mut SqlShelves<F>,
+) -> Result<(), CopyRefusal>
+    ensures { CopiesInto ⟦<SqlShelves<S> as Shelves>⟧.shown ⟦<SqlShelves<S> as Shelves>⟧.failure_count
+        ⟦<SqlShelves<F> as Shelves>⟧.shown ⟦<SqlShelves<F> as Shelves>⟧.failure_count
+        source.old source.new fresh.old fresh.new result }
+{
+    match source.copy(fresh) {
+        Ok(()) => Ok(()),
+        Err(refusal) => Err(uncopied(refusal)),
+    }
+}
+
+/// Why no copy was made.
+fn uncopied(refusal: Unopened) -> CopyRefusal
+    ensures { result ≡ spec.uncopied refusal }
+{
+    match refusal {
+        Unopened::Device => CopyRefusal::Device,
+        Unopened::Memory => CopyRefusal::Memory,
+        Unopened::BadSchema => CopyRefusal::NotEmpty,
+        Unopened::NotEmpty => CopyRefusal::NotEmpty,
+        Unopened::NoTeam => CopyRefusal::Device,
+    }
+}

@@ -111,7 +111,7 @@ def cron(suite, machine):
 
 
 def by_hand(suite, machine):
-    """sqlite3 copies a store whose program is stopped. While it runs the copy fails, and is empty, which an inventory shows."""
+    """goshelf copies its store while it runs. sqlite3 copies it once goshelf is stopped; before, its copy is empty, as an inventory shows."""
     ways = re.findall(r"`(sqlite3 F [^`]*COPY[^`]*)`", PAGE)
     suite.equal("ways to copy", len(ways), 3)
     listed = beginning("goshelf inventory").replace("KEY", ALPHA)
@@ -122,8 +122,11 @@ def by_hand(suite, machine):
         suite.holds(f"{way}: leaves an empty copy", os.path.getsize(copy) == 0)
         suite.equal(f"{way}: sqlite3 calls that copy good", machine.does(f"sqlite3 {copy} 'PRAGMA integrity_check'"), "ok\n")
         suite.equal(f"{way}: an inventory does not", machine.sh(listed.replace("COPY", copy)), (1, "", "goshelf: no-key\n"))
+    machine.does(block("sh", "goshelf copy --control"))
     machine.does("systemctl stop goshelf")
     wanted = machine.does(listed.replace("COPY", machine.store))
+    suite.equal("goshelf's copy is a store", machine.does(listed.replace("COPY", "/var/lib/goshelf/copy.db")), wanted)
+    machine.does("rm /var/lib/goshelf/copy.db /var/lib/goshelf/copy.db-wal")
     for at, way in enumerate(ways):
         copy = f"{machine.folder}/root/good-{at}.db"
         machine.does(way.replace("F", machine.store, 1).replace("COPY", copy))
@@ -135,7 +138,16 @@ def backups(suite, machine):
     """Backups that are good, and those that are not."""
     at = f"{machine.folder}/var/backups/goshelf"
     suite.equal("a backup prints nothing", machine.sh("goshelf-backup"), (0, "", ""))
+    suite.holds("and goshelf runs on", runs(machine))
+    by_copy = copies(machine)[0]
+    suite.equal("nothing is left beside the store", sorted(os.listdir(f"{machine.folder}/var/lib/goshelf")), ["shelves.db", "shelves.db-wal"])
+    os.rename(f"{at}/{by_copy}", f"{machine.folder}/root/by-copy")
+    suite.equal("a backup that stops goshelf prints nothing", machine.sh("goshelf-backup stop"), (0, "", ""))
     suite.holds("and goshelf runs again", runs(machine))
+    versions = [read(f"{it}/versions") for it in (f"{at}/{copies(machine)[0]}", f"{machine.folder}/root/by-copy")]
+    suite.equal("it has the same versions", versions[0], versions[1])
+    shutil.rmtree(f"{at}/{copies(machine)[0]}")
+    os.rename(f"{machine.folder}/root/by-copy", f"{at}/{by_copy}")
     first = copies(machine)
     suite.equal("there is one copy", len(first), 1)
     suite.equal("only root may read it", {os.stat(f"{at}/{it}").st_mode & 0o077 for it in (".", first[0], f"{first[0]}/shelves.db")}, {0})

@@ -1,4 +1,5 @@
 //! An operator and a peer who come at once.
+use crate::copier::Copier;
 use control::{Doors, serve_both};
 use std::fs;
 use std::io::{self, Write};
@@ -13,7 +14,7 @@ const GET: &[u8] = b"GET /k/alphakey00000001/example.com/lib/@v/list HTTP/1.1\r\
 
 /// Serves one peer, and before it the operators.
 fn serve<S: Shelves + Drop>(rt: &HostRuntime, doors: &mut Doors, mut shelves: S) {
-    serve_both(rt.alloc(), rt, doors, &mut shelves, 1);
+    serve_both(rt.alloc(), rt, doors, &mut shelves, &mut Copier, 1);
 }
 
 #[test]

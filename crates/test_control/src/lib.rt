@@ -5,4 +5,6 @@
 #[cfg(test)]
 mod both;
 #[cfg(test)]
+mod copier;
+#[cfg(test)]
 mod orders;

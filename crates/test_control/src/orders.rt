@@ -1,5 +1,6 @@
 //! Lines and their outcomes.
-use commands::order::order_over;
+use crate::copier::Copier;
+use commands::order::{copy_over, order_over};
 use commands::refusal::Refusal;
 use control::{Order, obey};
 use std::alloc::Global;
@@ -31,7 +32,14 @@ team-add a b c|bad
 team-add|bad
 Team-add delta|bad
 |bad
-key-revoke commonreader0001|done";
+key-revoke commonreader0001|done
+copy /var/backups/one.db|done
+copy full|not-empty
+copy small|memory
+copy |device
+copy|bad
+copy one two|bad
+Copy one|bad";
 
 /// In each row: the number of an order, the outcome that comes, what is sent, and how the command ends.
 const SENT: &str = "\
@@ -52,12 +60,24 @@ const SENT: &str = "\
 6|done||NoTeam
 7|done||NoKey";
 
-/// Returns a column of a row.
+/// Paths of copies, the outcome that comes, what is sent, and how the command ends.
+const COPIES: &str = "\
+/var/backups/one.db|done|copy /var/backups/one.db|done
+one.db|not-empty|copy one.db|NotEmpty
+one.db|device|copy one.db|Device
+one.db|memory|copy one.db|Memory
+one.db|taken|copy one.db|Taken
+one.db|stopping|copy one.db|Io
+one.db|bad|copy one.db|Io
+one.db||copy one.db|Io
+a path|done||Name";
+
+/// A column of a row.
 fn column(row: &str, place: usize) -> &str {
     row.split('|').nth(place).unwrap_or("")
 }
 
-/// Returns the order of a number. No line can carry those from 4 on; 5 is sent with another group.
+/// Returns the order of a number. No line can carry those from 4 on.
 fn order_at(number: &str) -> Order<'static> {
     let (shelf, key) = ("alpha", "alphakey00000001");
     match number {
@@ -94,7 +114,15 @@ fn wrong_row<S: Shelves + Drop>(alloc: Global, mut shelves: S) -> Result<&'stati
     for row in ROWS.lines() {
         let sent = format!(in alloc; "{}\n", column(row, 0))?;
         let mut told = Vec::new(alloc);
-        if obey(alloc, &mut sent.as_bytes(), &mut told, &mut shelves).is_err() {
+        if obey(
+            alloc,
+            &mut sent.as_bytes(),
+            &mut told,
+            &mut shelves,
+            &mut Copier,
+        )
+        .is_err()
+        {
             return Ok(row);
         }
         let wanted = format!(in alloc; "{}\n", column(row, 1))?;
@@ -113,7 +141,24 @@ fn ended(alloc: Global, told: Result<(), Refusal>) -> Result<String, Fail> {
     }
 }
 
-/// Sends an order, and reports whether its line is sent and the command ends as its row says.
+/// Whether what was sent is the line of a row, and the command ended as its row says.
+fn is_row(alloc: Global, row: &str, sent: &[u8], told: Result<(), Refusal>) -> Result<bool, Fail> {
+    let line = match column(row, 2) {
+        "" => String::new(alloc),
+        line => format!(in alloc; "{line}\n")?,
+    };
+    Ok(sent == line.as_bytes() && ended(alloc, told)?.as_str() == column(row, 3))
+}
+
+/// Whether the line of a copy is sent, and the command ends as its row says.
+fn is_copied(alloc: Global, row: &str) -> Result<bool, Fail> {
+    let reply = format!(in alloc; "{}\n", column(row, 1))?;
+    let mut sent = Vec::new(alloc);
+    let told = copy_over(alloc, &mut reply.as_bytes(), &mut sent, column(row, 0));
+    is_row(alloc, row, &sent, told)
+}
+
+/// Whether the line of the order is sent, and the command ends as its row says.
 fn is_sent(alloc: Global, row: &str) -> Result<bool, Fail> {
     let reply = format!(in alloc; "{}\n", column(row, 1))?;
     let mut sent = Vec::new(alloc);
@@ -123,11 +168,7 @@ fn is_sent(alloc: Global, row: &str) -> Result<bool, Fail> {
         &mut sent,
         &order_at(column(row, 0)),
     );
-    let line = match column(row, 2) {
-        "" => String::new(alloc),
-        line => format!(in alloc; "{line}\n")?,
-    };
-    Ok(sent.as_slice() == line.as_bytes() && ended(alloc, told)?.as_str() == column(row, 3))
+    is_row(alloc, row, &sent, told)
 }
 
 #[test]
@@ -143,6 +184,14 @@ fn answers_each_line(rt: HostRuntime) -> Result<(), Fail> {
 fn sends_the_line_of_an_order_and_ends_by_its_outcome(rt: HostRuntime) -> Result<(), Fail> {
     for row in SENT.lines() {
         assert!(rt; is_sent(rt.alloc(), row)?);
+    }
+    Ok(())
+}
+
+#[test]
+fn sends_the_line_of_a_copy_and_ends_by_its_outcome(rt: HostRuntime) -> Result<(), Fail> {
+    for row in COPIES.lines() {
+        assert!(rt; is_copied(rt.alloc(), row)?);
     }
     Ok(())
 }

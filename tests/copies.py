@@ -1,0 +1,233 @@
+#!/usr/bin/env python3
+"""`copy --control S --to G`: copies of a store while peers ask and publish, each opened and compared; what is refused; a full disk; kills.
+
+A copy has each version that was acknowledged before the order, and none whose publish began after the answer. The store that is served
+keeps its bytes. 5 kills in the middle of a copy, and 50 with --long; --seed N repeats a run.
+"""
+
+import os
+import random
+import subprocess
+import sys
+import threading
+import time
+
+from control import CONTROL, GOMOD, LIST, Load, Server, by_false_server
+from harness import KEY, KEYS, MEMBERS, PLATFORM, SHELVES, Suite, answered, get, in_new_folders, mounted, new_store, put, read, run, write
+from kills import fetch, kill_after, publish
+
+# versions of a store that is copied; their zips have up to 150,000 bytes
+VERSIONS = 12
+KILLS, MANY_KILLS = 5, 50
+DONE = 0, b"", ""
+LONGEST = 122
+
+
+def refusal(word):
+    return 1, b"", f"goshelf: {word}\n"
+
+
+def copy(to, control=CONTROL):
+    """How a copy ends."""
+    return run(["copy", "--control", control, f"--to={to}"])
+
+
+def inventories(store):
+    """What each key sees in a store that nobody has open."""
+    return [run(["inventory", "--db", store, "--key", key]) for key in KEYS.values()]
+
+
+def zips_in(store, numbers):
+    return answered(["--db", store], [fetch(number, kind) for number in numbers for kind in ("mod", "zip", "info")])
+
+
+def whole(suite):
+    """Copies of a store with groups, teams and keys, each at its moment, in one run of `serve`."""
+    new_store("served.db", *SHELVES, *MEMBERS, groups=[PLATFORM])
+    server = Server("served.db")
+    for number in range(VERSIONS):
+        server.status(publish(number, KEYS["P"] if number % 3 == 0 else KEY))
+    before = read("served.db-wal"), read("served.db")
+    suite.equal("a copy into a file that is missing", copy("one.db"), DONE)
+    suite.equal("leaves the store as it was", (read("served.db-wal"), read("served.db")), before)
+    suite.equal("a publish after it", server.status(publish(100)), 201)
+    write({"two.db": ""})
+    suite.equal("a copy into an empty file", copy("two.db"), DONE)
+    suite.equal("a key after it", server.order(b"key-add alpha newkey0000000001\n"), b"done\n")
+    new_store("three.db")
+    suite.equal("a copy into an empty store", copy("three.db"), DONE)
+    longest = os.path.join(os.getcwd(), "g").ljust(LONGEST, "g")
+    suite.equal("a copy to a path of 122 bytes", (len(longest), copy(longest)), (LONGEST, DONE))
+    server.kill()
+    suite.equal("the third copy sees what the store sees", inventories("three.db"), inventories("served.db"))
+    suite.equal("and answers so", zips_in("three.db", [*range(VERSIONS), 100]), zips_in("served.db", [*range(VERSIONS), 100]))
+    suite.equal("the second has the publish", zips_in("two.db", [100]), zips_in("served.db", [100]))
+    suite.equal("and not the key", run(["inventory", "--db", "two.db", "--key", "newkey0000000001"])[0], 1)
+    suite.equal("the first has not the publish", {status for status, _ in zips_in("one.db", [100])}, {404})
+    suite.equal("and all before it", zips_in("one.db", range(VERSIONS)), zips_in("served.db", range(VERSIONS)))
+    server = Server("one.db")
+    suite.equal("a copy is served", server.status(fetch(1, "mod")), 200)
+    suite.equal("and published to", server.status(publish(200)), 201)
+    suite.equal("and copied", copy("four.db"), DONE)
+    server.kill()
+    suite.equal("with that", zips_in("four.db", [1, 200]), zips_in("one.db", [1, 200]))
+
+
+class Publishes:
+    """Publishes one version after another, and when each began and was acknowledged."""
+
+    def __init__(self, server):
+        self.server, self.stopped, self.seen = server, threading.Event(), []
+        self.thread = threading.Thread(target=self.publish)
+        self.thread.start()
+
+    def publish(self):
+        number = VERSIONS
+        while not self.stopped.is_set():
+            begun = time.monotonic()
+            assert self.server.status(publish(number)) == 201
+            self.seen.append((number, begun, time.monotonic()))
+            number += 1
+
+    def stop(self):
+        self.stopped.set()
+        self.thread.join()
+
+
+def loaded(suite):
+    """Copies while 8 clients ask and one publishes."""
+    new_store("served.db", *SHELVES)
+    server = Server("served.db")
+    for number in range(VERSIONS):
+        server.status(publish(number))
+    suite.equal("a version that peers list", server.status(put("example.com/lib", "v1.0.0", GOMOD)), 201)
+    load, publishes, made = Load(server, KEY, 8), Publishes(server), []
+    for number in range(4):
+        time.sleep(0.3)
+        begun = time.monotonic()
+        suite.equal(f"copy {number} under load", copy(f"copy{number}.db"), DONE)
+        made.append((begun, time.monotonic()))
+    publishes.stop()
+    load.stop()
+    suite.equal(f"{len(load.seen)} requests meanwhile", {status for _, _, status in load.seen}, {200})
+    server.kill()
+    for number, (begun, ended) in enumerate(made):
+        numbers = [it for it, _, _ in publishes.seen]
+        told = answered(["--db", f"copy{number}.db"], [fetch(it, "mod") for it in numbers])
+        is_there = {it: status == 200 for it, (status, _) in zip(numbers, told)}
+        lost = [it for it, _, at in publishes.seen if at < begun and not is_there[it]]
+        late = [it for it, at, _ in publishes.seen if at > ended and is_there[it]]
+        suite.equal(f"copy {number} has what was acknowledged before it, and nothing of later", (lost, late), ([], []))
+        kept = [*range(VERSIONS), *(it for it in is_there if is_there[it])]
+        suite.holds(f"with the bytes of {len(kept)} versions", zips_in(f"copy{number}.db", kept) == zips_in("served.db", kept))
+    print(f"a copy of {len(publishes.seen) + VERSIONS} versions under load takes {max(ended - begun for begun, ended in made):.2f} s at most")
+
+
+def refused(suite):
+    """What no copy is made of; nothing is changed then, and peers are answered."""
+    new_store("served.db", ("alpha", KEY))
+    new_store("other.db", ("beta", KEYS["B"]))
+    write({"text": "bytes\n"})
+    os.mkdir("folder")
+    suite.equal("nobody listens", copy("one.db"), refusal("device"))
+    server = Server("served.db")
+    suite.equal("a version", server.status(put("example.com/lib", "v1.0.0", GOMOD, b"zip")), 201)
+    suite.equal("a copy", copy("made.db"), DONE)
+    os.link("served.db", "linked.db")
+    os.link("served.db-wal", "linked.log")
+    os.symlink("served.db", "named.db")
+    os.symlink("none/one.db", "nowhere.db")
+    files = ["served.db", "served.db-wal", "other.db", "other.db-wal", "made.db", "made.db-wal", "text"]
+    before, names = [read(it) for it in files], sorted(os.listdir("."))
+    other = Server("other.db", "other")
+    rows = [
+        ("text", "not-empty"), ("other.db", "device"), ("made.db", "not-empty"), ("served.db", "not-empty"), ("./served.db", "not-empty"),
+        (os.path.abspath("served.db"), "not-empty"), ("named.db", "not-empty"), ("linked.db", "not-empty"), ("served.db-wal", "not-empty"),
+        ("linked.log", "not-empty"), ("folder", "device"), ("none/one.db", "device"), ("nowhere.db", "device"), ("/dev/null", "device"), ("", "device"),
+        (":memory:", "device"), ("file:one.db", "device"), ("a path.db", "name"), ("path\n", "name"), ("p" * 123, "name"), ("p" * 300, "name"),
+    ]  # fmt: skip
+    for to, word in rows:
+        suite.equal(f"a copy to {to[:60]!r}", copy(to), refusal(word))
+        suite.counts(f"a peer after {to!r}", None if server.status(get(LIST)) == 200 else "not answered")
+    suite.equal("the files are as they were", [read(it) for it in files], before)
+    # (opening a file that is no store leaves a log beside it)
+    suite.equal("and no others", [it for it in sorted(os.listdir(".")) if it not in names], ["other", "text-wal"])
+    for sent, told in ((b"copy\n", b"bad\n"), (b"copy \n", b"device\n"), (b"copy a b\n", b"bad\n"), (b"Copy one.db\n", b"bad\n"),
+                       (b"copy one.db", b"bad\n"), (b"copy one.db\n\n", b"bad\n"), (b"copy " + b"p" * 123 + b"\n", b"bad\n")):  # fmt: skip
+        suite.equal(f"told of {sent[:60]!r}", server.order(sent), told)
+    suite.equal("no copy was made", os.path.lexists("one.db"), False)
+    other.kill()
+    suite.equal("a store with a team", copy("other.db"), refusal("not-empty"))
+    server.kill()
+    for name in ("linked.db", "linked.log"):
+        os.unlink(name)
+    suite.equal("the store is whole", run(["inventory", "--db", "served.db", "--key", KEY])[:2], run(["inventory", "--db", "made.db", "--key", KEY])[:2])
+    new_store("odd-wal", ("alpha", KEY))
+    server = Server("odd-wal")
+    suite.equal("a copy whose log would be the store", copy("odd"), refusal("device"))
+    suite.equal("which is held all the same", run(["inventory", "--db", "odd-wal", "--key", KEY]), refusal("device"))
+    suite.equal("and answers on", server.status(put("example.com/lib", "v1.0.0", GOMOD)), 201)
+    server.kill()
+    words = ["copy", "--to", "one.db", "--control"]
+    for told, word in ((b"", "io"), (b"bad\n", "io"), (b"stopping\n", "io"), (b"not-empty\n", "not-empty"), (b"device\n", "device"), (b"memory\n", "memory")):
+        suite.equal(f"a server that tells {told}", by_false_server(words, told), (refusal(word), b"copy one.db\n"))
+    suite.equal("one that tells done", by_false_server(words, b"done\n"), (DONE, b"copy one.db\n"))
+    for words in (["copy"], ["copy", "--control", "S"], ["copy", "--to", "G"], ["copy", "--db", "F", "--control", "S", "--to", "G"]):
+        suite.equal(f"bad usage: {words}", run(words)[0], 2)
+
+
+def full(suite):
+    """A copy onto a full disk ends with `device`, and is taken once there is room; the server goes on."""
+    os.mkdir("small")
+    if not mounted("small", "64k"):
+        suite.skip("a copy onto a full disk", "this needs to mount a tmpfs")
+        return
+    try:
+        new_store("served.db", *SHELVES)
+        server = Server("served.db")
+        for number in range(VERSIONS):
+            server.status(publish(number))
+        before = read("served.db-wal"), read("served.db")
+        suite.equal("a copy onto a full disk", copy("small/one.db"), refusal("device"))
+        suite.equal("the store is as it was", (read("served.db-wal"), read("served.db")), before)
+        suite.equal("and answers on", server.status(fetch(1, "zip")), 200)
+        subprocess.run(["mount", "-o", "remount,size=64m", "small"], check=True)
+        suite.equal("with more room it is made", copy("small/one.db"), DONE)
+        suite.equal("and publishes are taken", server.status(publish(100)), 201)
+        server.kill()
+        suite.equal("it is whole", zips_in("small/one.db", range(VERSIONS)), zips_in("served.db", range(VERSIONS)))
+    finally:
+        subprocess.run(["umount", "small"], check=True)
+
+
+def killed(suite):
+    """A server that is killed while it copies leaves the copy empty or whole, and its own store as it was."""
+    words = sys.argv[1:]
+    seed = int(words[words.index("--seed") + 1]) if "--seed" in words else time.time_ns() % 10**9
+    random.seed(seed)
+    print(f"seed {seed}")
+    new_store("served.db", *SHELVES)
+    server = Server("served.db")
+    for number in range(10 * VERSIONS):
+        server.status(publish(number))
+    began = time.monotonic()
+    assert copy("first.db") == DONE
+    took = time.monotonic() - began
+    server.kill()
+    wanted, whole_ones = inventories("served.db"), 0
+    for turn in range(MANY_KILLS if "--long" in words else KILLS):
+        server, to = Server("served.db"), f"copy{turn}.db"
+        timer = kill_after(server.child, 1.2 * took * random.random())
+        told = copy(to)
+        timer.cancel()
+        server.kill()
+        seen = inventories(to)
+        is_whole, is_empty = seen == wanted, all(status == 1 for status, _, _ in seen)
+        suite.counts(f"kill {turn}: the copy is whole or empty", None if is_whole or (is_empty and told != DONE) else (told, seen))
+        whole_ones += is_whole
+    suite.equal("the store is as it was", inventories("served.db"), wanted)
+    print(f"{turn + 1} kills, after which {whole_ones} copies were whole")
+
+
+if __name__ == "__main__":
+    sys.exit(in_new_folders(Suite(), whole, loaded, refused, full, killed))

@@ -15,7 +15,7 @@ use Rattle.control.proofs.LineLemmas.{one_line}
 use Rattle.control.proofs.OrderLemmas.{verb_of, is_longer}
 use Rattle.control.proofs.WordLemmas.{one_saying}
 
--- ---- which words order one
+-- ---- which words order a copy
 
 pub another_verb : (verb path : List ℕ) → verb ≢ codes "copy" → SaysNoCopy (two verb path)
 another_verb verb path other to e = other (ap verb_of e)
@@ -31,7 +31,7 @@ by_two w r none two_say =
 pub three_words : (s : Said) → is_longer s ≡ true → SaysNoCopy s
 three_words s longer to e = false≢true (sym (ap is_longer e) ∙ longer)
 
--- ---- which lines do
+-- ---- which lines order a copy
 
 pub no_words_copied : (line : List ℕ) → HasNoWords line → CopiesNothing line
 no_words_copied line none path = none (copy_words path)
@@ -44,7 +44,7 @@ pub copy_told : (line : List ℕ) (s : Said) → IsTextOf line s → (r : Option
 copy_told line s told None none = copies_nothing line s told none
 copy_told line s told (Some p) same = subst (IsTextOf line) same told
 
--- ---- which bytes do
+-- ---- which bytes order a copy
 
 pub no_line_copied : (got : List ℕ) → HoldsNoLine got → IsNoCopy got
 no_line_copied got none path says = none says.line says.ends
@@ -55,7 +55,7 @@ no_copy got line holds nothing path says =
 
 -- ---- the line of an order is the one that says its words
 
--- words that are the same
+-- what holds of words holds of equal words
 module _ {V : Type 0} (items : V → List ℕ) (s t : Said) (is : s ≡ t) where
   pub ok_said : (r : Result V Untold) → IfOk r (λ v. IsSaid (items v) s) → IfOk r (λ v. IsSaid (items v) t)
   ok_said r = subst (λ u. IfOk r (λ v. IsSaid (items v) u)) is

@@ -6,7 +6,7 @@ use Rattle.wire.specs.Message.{Request}
 use Rattle.engine.specs.Exchange.{Outcome, Unserved, Met, Told}
 use Rattle.control.specs.Turns.{Turn, Asked, Ordered, LeavesTwo, AllCalm, world_at}
 
--- what holds of the store's worlds before holds of its worlds now
+-- if each crash that may leave a world before may also leave it now, `LeavesTwo` still holds
 pub leaves_kept : (mid new : Shown) → ((w x : World) → mid.leaves w x → new.leaves w x) → (w : World) (ts : List Turn)
     → LeavesTwo mid w ts → LeavesTwo new w ts
 leaves_kept mid new kept w [] leaves = kept w w leaves
@@ -24,7 +24,7 @@ world_step w (Asked x) ts = step_asked w x.message x.outcome ts
 world_step w (Ordered order (Ok r)) ts = refl
 world_step w (Ordered order (Err fault)) ts = refl
 
--- after turns that met no fault, more turns
+-- if `LeavesTwo` holds of more turns once the first ones were calm, it holds of all of them
 pub leaves_more : (new : Shown) (w : World) (ts : List Turn) (u : Turn) (us : List Turn)
     → (AllCalm w ts → LeavesTwo new (world_at w ts) (u ∷ us)) → LeavesTwo new w (ts ++ u ∷ us)
 leaves_more new w [] u us next = next tt

@@ -1,4 +1,4 @@
--- What an operator's line came to.
+-- Hearing an operator's line.
 use Rattle.std.proofs.Common.{◌≡◌, ℕ, false, List, [], Option, Result, Ok, Err, sym, subst}
 use Rattle.std.specs.Io.KnownBytes.{Keeps}
 use Rattle.world.specs.Store.{Shown}

@@ -1,4 +1,4 @@
--- What peers and operators can tell of the messages of others, by what is told of what comes to a store.
+-- Peers and operators learn nothing about the messages of others, because the callers of a store don't.
 use Rattle.std.proofs.Common.{◌≡◌, ℕ, List, [], ◌∷◌, Result, Ok, Err, refl, ◌∙◌, sym, ap, subst}
 use Rattle.std.specs.Prelude.{map}
 use Rattle.world.specs.World.{World, IsWorld, chain}
@@ -19,7 +19,7 @@ use Rattle.control.specs.Isolated.{coming_at, text_at, if_told, told, TurnsAreTo
 use Rattle.control.specs.Outcome.{outcome_of, line_of}
 use Rattle.control.specs.Turns.{Turn, Asked, Ordered, happening_of, turn_event, turn_answer, world_at}
 
--- ---- what is told, by the machine's answer
+-- ---- what is written, by the machine's answer
 
 abbrev line_for : Answer → List ℕ
 line_for (Replied (Registry r)) = line_of (outcome_of (Ok r))
@@ -50,7 +50,7 @@ told_is : (ts : List Turn) → happened.told (map happening_of ts) ≡ map happe
 told_is [] = refl
 told_is (t ∷ ts) = told_step t (turn_answer t) (happened.told (map happening_of ts)) (told ts) (told_is ts)
 
--- what is said of each that was told
+-- what holds of each happening that met no fault holds of each turn that met none
 said_of : {X : Type 0} (f : Happening → X) (g : Turn → X) → ((t : Turn) → f (happening_of t) ≡ g t) → (ts : List Turn)
     → map f (happened.told (map happening_of ts)) ≡ map g (told ts)
 said_of f g same ts = ap (map f) (told_is ts) ∙ fused f g same (told ts)
@@ -63,6 +63,7 @@ ran w new ts run =
 
 -- ---- two runs
 
+-- two runs whose turns without faults are all, and the kept ones, write alike
 pub turns_are_told_alike : (old new old_too new_too : Shown) → ((w : World) → old.stands w → IsWorld w) → TurnsAreToldAlike old new old_too new_too
 turns_are_told_alike old new old_too new_too sound w x s full purged two same =
     let ss : List (List ℕ) = chain (world_at w full) s in

@@ -28,7 +28,7 @@ no_end_cut s p r is cases = subst (λ o. MatchOption o ((front : List ℕ) → s
 
 -- ---- lines
 
--- the line of bytes is one
+-- bytes have at most one line
 pub one_line : (got line other : List ℕ) → got ≡ line ++ line_end ∷ [] → IsLine got other → other ≡ line
 one_line got line other is holds = append_cancel_right other line (line_end ∷ []) (sym holds.is ∙ is)
 
@@ -42,7 +42,7 @@ too_long got line is long other holds =
 pub no_text : (got line : List ℕ) → got ≡ line ++ line_end ∷ [] → ¬ IsUtf8 line → HoldsNoLine got
 no_text got line is none other holds = none (subst IsUtf8 (one_line got line other is holds) holds.text)
 
--- the order of bytes that hold a line is that line's
+-- bytes with a line that orders nothing are no order's
 pub no_order : (got line : List ℕ) → IsLine got line → OrdersNothing line → IsNoOrder got
 no_order got line holds nothing order sent =
     nothing order (subst (λ l. Orders l order) (one_line got line sent.line holds.is sent.ends) sent.orders)
@@ -50,7 +50,7 @@ no_order got line holds nothing order sent =
 pub no_line : (got : List ℕ) → HoldsNoLine got → IsNoOrder got
 no_line got none order sent = none sent.line sent.ends
 
--- a byte that a search found
+-- bytes in which a search found a byte contain it
 pub has_byte : (x : ℕ) (bytes : List ℕ) (r : Bool) → IsAnyAnswer (λ y b. eqb y x ≡ b) bytes r → r ≡ true → Contains bytes x
 has_byte x bytes true found is = (found.0, found.1, eqb-true (get_or bytes found.0 x) x (found.2 x))
 has_byte x bytes false found is = absurd (false≢true is)

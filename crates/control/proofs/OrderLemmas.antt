@@ -34,7 +34,7 @@ longer_none verb first second no_team no_key (GroupAdd n) e = false≢true (sym 
 longer_none verb first second no_team no_key (KeyAdd shelf key right) e = no_key right (ap verb_of e)
 longer_none verb first second no_team no_key (KeyRevoke key) e = false≢true (sym (ap is_longer e))
 
--- where the words of a line say no order, it is no order's
+-- a line whose words say no order is no order's
 pub orders_nothing : (line : List ℕ) (s : Said) → IsTextOf line s → SaysNoOrder s → OrdersNothing line
 orders_nothing line s told none order orders = none order (one_saying line s (said_in order) told orders)
 
@@ -45,7 +45,7 @@ order_told line s told (Some o) same = subst (IsTextOf line) same told
 
 -- ---- the event of an order
 
--- what words order, if they order anything
+-- the event that words order, if they order any
 abbrev ordered_by : Said → Event
 ordered_by s =
     if bytes_eq s.verb (codes "team-add") then event.TeamAdd s.first s.second

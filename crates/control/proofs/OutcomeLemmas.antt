@@ -1,4 +1,4 @@
--- What lines tell.
+-- Each outcome has a line of its own.
 use Rattle.std.proofs.Common.{◌≡◌, ℕ, List, refl, sym, ap, ◌∙◌}
 use Rattle.std.specs.Prelude.{codes, bytes_eq, if◌then◌else◌}
 use Rattle.world.specs.declared.registry.Registered.TheVariants as registered
@@ -7,7 +7,7 @@ use Rattle.control.specs.Outcome.{line_of}
 use Rattle.control.specs.declared.outcome.Outcome.{Outcome}
 use Rattle.control.specs.declared.outcome.Outcome.TheVariants as outcome
 
--- what a line tells
+-- the outcome of a line
 abbrev told_by : List ℕ → Outcome
 told_by line =
     if bytes_eq line (codes "done\n") then outcome.Registered registered.Done
@@ -22,6 +22,7 @@ told_by line =
     else if bytes_eq line (codes "stopping\n") then outcome.Stopping
     else outcome.Bad
 
+-- the outcome of an outcome's line is that outcome
 tells_itself : (told : Outcome) → told_by (line_of told) ≡ told
 tells_itself (outcome.Registered registered.Done) = refl
 tells_itself (outcome.Registered registered.Name) = refl

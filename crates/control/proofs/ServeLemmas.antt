@@ -25,7 +25,7 @@ use Rattle.control.proofs.TurnLemmas.{turns_none, turns_asked, turns_more, messa
 
 -- ---- one connection
 
--- what came first of a peer
+-- a store that goes through what came first from a peer goes through at most one turn
 pub turns_first : (old new : Shown) (before now : ℕ) (first : Option First) → GoesThrough old new before now (exchanges_of first)
     → GoesThroughTurns old new before now (map Asked (exchanges_of first)) false
 turns_first old new before now None through = turns_asked old new before now [] (omega arith) through
@@ -78,7 +78,7 @@ none_come : {C : Type 0} (waiting : Option (List C)) → Come waiting waiting []
 none_come None = tt
 none_come (Some all) = refl
 
--- these come, and then those
+-- if some callers come and then others, all of them come
 then_come : {C : Type 0} (waiting left rest : Option (List C)) (first next : List C) → Come waiting left first → Come left rest next
     → Come waiting rest (first ++ next)
 then_come None left rest first next one two = tt
@@ -105,6 +105,7 @@ module _ {P O : Type 0} where
   peers_last (OfPeer visit ∷ calls) last = let e = peers_last calls last in omega (arith, e)
   peers_last (OfOperator audience ∷ calls) last = peers_last calls last
 
+  -- there are at most as many messages as peers
   one_each : (calls : List (Call P O)) → messages (turns_with calls) ≤ peers calls
   one_each [] = omega arith
   one_each (OfPeer visit ∷ calls) = omega (
@@ -123,6 +124,7 @@ module _ {P O : Type 0} where
   module _ (heeded told : O → Option (List ℕ)) (unread written : P → Option (List ℕ)) where
     module _ (waiting left rest : Option (List (Caller P O))) (old mid new : Shown) (before between now n m : ℕ)
         (first : ServesEach heeded told unread written waiting left old mid before between n) where
+      -- serving one more caller after others serves each of them
       each_push : (call : Call P O) → Come left rest (caller_of call ∷ []) → IsCallThere heeded told unread written call
           → GoesThroughTurns mid new between now (turns_of call) (copied_by call) → n + peers (call ∷ []) ≤ m
           → ServesEach heeded told unread written waiting rest old new before now m
@@ -136,6 +138,7 @@ module _ {P O : Type 0} where
             (turns_more old mid new before between now (turns_with first.calls) (copied_with first.calls) first.through (turns_of call) (copied_by call) through);
       }
 
+    -- if nobody came, and more connections count, those who came before were served
     each_wider : (waiting left rest : Option (List (Caller P O))) (old new : Shown) (before now n m : ℕ) → Come left rest []
         → ServesEach heeded told unread written waiting left old new before now n → n ≤ m
         → ServesEach heeded told unread written waiting rest old new before now m
@@ -189,7 +192,7 @@ module _ {P O : Type 0} where
             next.there (turns_first (shown mid) (shown new) (failures mid) (failures new) next.visit.first next.through)
             (λ h w stands. no_copies shown copied w (exchanges_of next.visit.first)) (omega (arith, few))
 
-        -- an operator more
+        -- one more operator is served
         pub each_operator : (operator : O) → Come left rest (Operator operator ∷ [])
             → ObeysOne heeded told (copied mid new) operator (shown mid) (shown new) (failures mid) (failures new)
             → n ≤ m → Each waiting rest old new m

@@ -1,4 +1,4 @@
--- The steps of those who come: their turns, and the copies between them.
+-- The steps of the callers: their turns, and the copies between them.
 use Rattle.std.specs.Prelude.{◌||◌}
 use Rattle.std.proofs.Common.{◌≡◌, ℕ, Bool, true, false, List, [], ◌∷◌, ◌++◌, map, refl, sym, ap, ◌∙◌, subst, Option, Some, None, Result, append_assoc, append-nil}
 use Rattle.world.specs.World.{World}
@@ -35,7 +35,7 @@ copy_append [] ys = refl
 copy_append (Turned t ∷ xs) ys = copy_append xs ys
 copy_append (Copied path told ∷ xs) ys = refl
 
--- ---- the steps of one
+-- ---- the steps of one caller
 
 turns_asked : (xs : List Exchange) → turns_in (map (λ x. Turned (Asked x)) xs) ≡ map Asked xs
 turns_asked [] = refl
@@ -61,7 +61,7 @@ copy_heard_in (Some Stop) = refl
 copy_heard_in (Some NoOrder) = refl
 copy_heard_in (Some NoMemory) = refl
 
--- ---- the steps of those who came
+-- ---- the steps of all callers
 
 module _ {P O : Type 0} where
   turns_of_one : (call : Call P O) → turns_in (steps_of call) ≡ turns_of call
@@ -72,7 +72,7 @@ module _ {P O : Type 0} where
   copy_of_one (OfPeer visit) = no_copy_asked (exchanges_of visit.first)
   copy_of_one (OfOperator audience) = copy_heard_in audience.heard
 
-  -- the turns are those of the steps
+  -- the turns of the callers are the turns of their steps
   pub turns_of_steps : (calls : List (Call P O)) → turns_in (steps_with calls) ≡ turns_with calls
   turns_of_steps [] = refl
   turns_of_steps (call ∷ calls) = turns_append (steps_of call) (steps_with calls) ∙ (λ i. turns_of_one call i ++ turns_of_steps calls i)

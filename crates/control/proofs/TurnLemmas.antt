@@ -23,6 +23,7 @@ use Rattle.control.proofs.CrashLemmas.{leaves_kept, leaves_more, world_step}
 
 -- ---- none
 
+-- an unchanged store goes through no turns
 pub turns_none : (shown : Shown) (count : ℕ) → GoesThroughTurns shown shown count count [] false
 turns_none shown count = record {
   runs = record {
@@ -36,7 +37,7 @@ turns_none shown count = record {
   device = λ met. absurd met;
 }
 
--- a store that nothing was done with
+-- an unchanged store was only read
 pub read_none : (shown : Shown) (count : ℕ) → IsOnlyRead shown shown count count
 read_none shown count = record {
   honest = λ h. h;
@@ -54,7 +55,7 @@ read_runs old new w stands left = record {
   beside = λ x was. (x, left w x was, inr (inr (refl, tt)));
 }
 
--- none, while it was read for a copy
+-- a store that was only read goes through no turns
 pub turns_read : (old new : Shown) (before now : ℕ) → IsOnlyRead old new before now → GoesThroughTurns old new before now [] true
 turns_read old new before now read = record {
   runs = record {
@@ -68,7 +69,7 @@ turns_read old new before now read = record {
   device = λ met. absurd met;
 }
 
--- a copy was made of a store that stands for a world
+-- a store that stands for a world does so whether or not it was copied
 pub stands_if : (copied : Bool) (shown : Shown) (w : World) → shown.stands w → StandsIf copied shown
 stands_if false shown w stands = tt
 stands_if true shown w stands = (w, stands)
@@ -85,7 +86,7 @@ stands_next true true old mid on some = on some.0 some.1
 
 -- ---- one
 
--- what the messages of one connection went through
+-- a store that goes through the messages of one connection goes through their turns
 pub turns_asked : (old new : Shown) (before now : ℕ) (xs : List Exchange) → length xs ≤ 1 → GoesThrough old new before now xs
     → GoesThroughTurns old new before now (map Asked xs) false
 turns_asked old new before now [] few through = record {
@@ -107,7 +108,7 @@ turns_asked old new before now (x ∷ []) few through = record {
 turns_asked old new before now (x ∷ y ∷ more) few through = absurd (omega (arith, few))
 
 module _ (old new : Shown) (w : World) where
-  -- in one world, of the order's event
+  -- what was done for an order is what the machine does for its event
   by_event : (o : Order) (told : Result Registered StoreFault) → DoesAt old new w told (outcome_in w o) (after w (event_of o))
       → (outcome : Registered) × (reply_to w (event_of o) ≡ Registry outcome) × DoesAt old new w told outcome (after w (event_of o))
   by_event (TeamAdd name group) told does = (_, refl, does)
@@ -115,7 +116,7 @@ module _ (old new : Shown) (w : World) where
   by_event (KeyAdd shelf key right) told does = (_, refl, does)
   by_event (KeyRevoke key) told does = (_, refl, does)
 
-  -- the machine's reply to it
+  -- an order that was done got the machine's reply to its event
   pub replied : (o : Order) (r : Registered) → DoesAt old new w (Ok r) (outcome_in w o) (after w (event_of o))
       → DoesAt {T = Reply} old new w (Ok (Registry r)) (reply_to w (event_of o)) (after w (event_of o))
   replied o r does = let so = by_event o (Ok r) does in record {
@@ -128,6 +129,7 @@ module _ (old new : Shown) (w : World) where
     failed = tt;
   }
 
+-- a store that carried out an order goes through one turn
 pub turns_ordered : (old new : Shown) (before now : ℕ) (o : Order) (told : Result Registered StoreFault)
     → Does old new told (λ w. outcome_in w o) (λ w. after w (event_of o)) → HasCause before now told
     → GoesThroughTurns old new before now (Ordered o told ∷ []) false
@@ -174,7 +176,7 @@ messages_append (Asked x ∷ ts) us = let e = messages_append ts us in omega (ar
 messages_append (Ordered o told ∷ ts) us = messages_append ts us
 
 module _ (old mid new : Shown) (before between now : ℕ) (ts : List Turn) (b : Bool) (first : GoesThroughTurns old mid before between ts b) where
-  -- a crash after both, by whether there are more
+  -- a crash after more turns leaves one of two worlds
   leaves_after : (us : List Turn) (c : Bool) → GoesThroughTurns mid new between now us c → new.is_honest → (w : World) → old.stands w → old.leaves w w
       → LeavesTwo new w (ts ++ us)
   leaves_after [] c next h w stands was =
@@ -192,6 +194,7 @@ module _ (old mid new : Shown) (before between now : ℕ) (ts : List Turn) (b : 
         rw (map-append turn_event ts us, map-append turn_answer ts us)
         (world_more w _ (map turn_event ts) (map turn_event us) (map turn_answer ts) (map turn_answer us) (first.runs.at h w stands).run)
 
+    -- a store that goes through some turns and then through more goes through all of them
     pub turns_more : GoesThroughTurns mid new between now us c → GoesThroughTurns old new before now (ts ++ us) (b || c)
     turns_more next = record {
       runs = rw (map-append turn_event ts us, map-append turn_answer ts us)

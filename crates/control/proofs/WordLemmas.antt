@@ -1,4 +1,4 @@
--- Where a text is cut into words.
+-- Cutting a text into words.
 use Rattle.std.proofs.Common.{◌≡◌, ◌≢◌, ℕ, zero, suc, ◌<◌, Bool, true, false, ◌&&◌, List, [], ◌∷◌, ◌++◌, length, get_or, arith, refl, sym, ap, ◌∙◌, subst, Option, Some, None, lit<, append-nil}
 use Rattle.std.proofs.lemmas.Bool.{false≢true}
 use Rattle.std.proofs.lemmas.List.Folds.{list_all-append}
@@ -30,8 +30,9 @@ no_space (b ∷ bs) passes (suc i) below = no_space bs (both_true (is_word_byte 
 has_space : (front rest : List ℕ) → is_word (front ++ space ∷ rest) ≡ true → ⊥
 has_space front rest passes = false_after (is_word front) (sym (list_all-append is_word_byte front (space ∷ rest)) ∙ passes)
 
--- ---- where the first space cuts it
+-- ---- a text is cut at its first space
 
+-- a text that was split at its first space is cut there, and in no other way
 pub cut_some : (text : List ℕ) (x : Bor (List ℕ) × Bor (List ℕ)) → IsSplitOnceResult space text (Some x) → IsCut text x.0.now (Some x.1.now)
 cut_some text x split = ((split_parts space text (Some x) split (lit< tt)).0, unique)
   where
@@ -86,6 +87,7 @@ abbrev head_of : List ℕ → ℕ
 head_of [] = 0
 head_of (b ∷ bs) = b
 
+-- two words with spaces behind them that begin equal texts are equal, and so is what follows
 word_ends : (a b x y : List ℕ) → is_word a ≡ true → is_word b ≡ true → a ++ space ∷ x ≡ b ++ space ∷ y → (a ≡ b) × (x ≡ y)
 word_ends [] [] x y passes passes_too e = (refl, ap tail_of e)
 word_ends [] (d ∷ ds) x y passes passes_too e =

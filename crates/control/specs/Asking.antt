@@ -1,4 +1,4 @@
--- What an operator sends, and what is told.
+-- What an operator sends, and what it gets.
 use Rattle.std.specs.Prelude.{ℕ, ◌≡◌, ◌⊎◌, List, Option, Result, Ok, Err}
 use Rattle.std.specs.Io.KnownBytes.{Consumes, Appends, Keeps}
 use Rattle.engine.specs.Written.{WritesPart}
@@ -10,33 +10,33 @@ use Rattle.control.specs.declared.client.Untold.TheVariants.{Words, Memory, Io}
 use Rattle.control.specs.declared.order.Order.{Order}
 use Rattle.control.specs.declared.outcome.Outcome.{Outcome}
 
--- no bytes are the order's line
+-- no bytes are a line of this order
 abbrev pub IsUnsayable : Order → Type 0
 IsUnsayable order = (sent : List ℕ) → ¬ IsSent sent order
 
--- why no line was made of the order
+-- why there is no line of the order
 abbrev pub IsUnsent : Order → Untold → Type 0
 IsUnsent order Words = IsUnsayable order
 IsUnsent order Memory = Unit {0}
 IsUnsent order Io = ⊥
 
--- no bytes say this
+-- no bytes are a line of these words
 abbrev pub IsUnsaid : Said → Type 0
 IsUnsaid s = (sent : List ℕ) → ¬ IsSaid sent s
 
--- why no line was made of the words
+-- why there is no line of the words
 abbrev pub IsUnwritten : Said → Untold → Type 0
 IsUnwritten s Words = IsUnsaid s
 IsUnwritten s Memory = Unit {0}
 IsUnwritten s Io = ⊥
 
--- the line of the outcome was read
+-- the line of the outcome was read, or `Io` was returned
 abbrev pub TellsOutcome : Option (List ℕ) → Option (List ℕ) → Result Outcome Untold → Type 0
 TellsOutcome unread unread_new (Ok told) = Consumes unread unread_new (line_of told)
 TellsOutcome unread unread_new (Err e) = e ≡ Io
 
--- The line of the order was sent, and the line of the outcome came. Or nothing was sent, since the order has no line, or for want of
--- memory. Or the line was sent, or a beginning of it, and no outcome came.
+-- The line of the order was sent, and the line of the outcome came. Or nothing was sent, because the order has no line or memory
+-- ran out. Or the line was sent, or a beginning of it, and no outcome came.
 abbrev pub Asks :
     Option (List ℕ) → Option (List ℕ) → Option (List ℕ) → Option (List ℕ) → Order → Result Outcome Untold → Type 0
 Asks unread unread_new written written_new order (Ok told) =
@@ -46,7 +46,7 @@ Asks unread unread_new written written_new order (Err Memory) = Keeps written wr
 Asks unread unread_new written written_new order (Err Io) =
     (sent : List ℕ) × IsSent sent order × (WritesPart written written_new sent ⊎ Appends written written_new sent)
 
--- So it was with the line that orders a copy to a path.
+-- `Asks`, with the line that orders a copy to a path in place of an order's.
 abbrev pub AsksToCopy :
     Option (List ℕ) → Option (List ℕ) → Option (List ℕ) → Option (List ℕ) → List ℕ → Result Outcome Untold → Type 0
 AsksToCopy unread unread_new written written_new path (Ok told) =
@@ -57,7 +57,7 @@ AsksToCopy unread unread_new written written_new path (Err Memory) = Keeps writt
 AsksToCopy unread unread_new written written_new path (Err Io) =
     (sent : List ℕ) × IsCopyTo sent path × (WritesPart written written_new sent ⊎ Appends written written_new sent)
 
--- So it was with the line that ends the server.
+-- The line that ends the server was sent, and the line of the outcome came. Or it was sent, or a beginning of it, and none came.
 abbrev pub AsksToStop :
     Option (List ℕ) → Option (List ℕ) → Option (List ℕ) → Option (List ℕ) → Result Outcome Untold → Type 0
 AsksToStop unread unread_new written written_new (Ok told) =

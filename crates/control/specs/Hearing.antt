@@ -1,4 +1,4 @@
--- What an operator's line comes to, and what the operator is told.
+-- What an operator's line orders, and the outcome that the operator gets.
 use Rattle.std.specs.Prelude.{ℕ, ◌≡◌, ◌≢◌, Bool, true, false, List, [], ◌∷◌, Option, Result, Ok, Err}
 use Rattle.std.specs.Io.KnownBytes.{Appends, Keeps}
 use Rattle.world.specs.Store.{Shown}
@@ -16,17 +16,17 @@ use Rattle.control.specs.declared.order.Order.{Order}
 use Rattle.control.specs.declared.outcome.Outcome.{Outcome}
 use Rattle.control.specs.declared.outcome.Outcome.TheVariants.{Failed, Stopping, Bad}
 
--- what a line came to
+-- what a line ordered, and the result
 pub data Heard : Type 0 where
   -- it was an order, which was carried out
   Carried : Order → Result Registered StoreFault → Heard
-  -- a copy to a path was ordered, and this was told
+  -- a copy to a path was ordered, with this result
   Copied : List ℕ → Result (Unit {0}) CopyRefusal → Heard
   -- the server was to end
   Stop : Heard
   -- it was no order
   NoOrder : Heard
-  -- there was no memory to read it
+  -- memory ran out before it was read
   NoMemory : Heard
 
 abbrev pub outcome_heard : Heard → Outcome
@@ -36,7 +36,7 @@ outcome_heard Stop = Stopping
 outcome_heard NoOrder = Bad
 outcome_heard NoMemory = Failed Memory
 
--- just the order's event happened, or none
+-- the turns of it: one for an order, and otherwise none
 abbrev pub turns_heard : Heard → List Turn
 turns_heard (Carried order told) = Ordered order told ∷ []
 turns_heard (Copied path told) = []
@@ -52,7 +52,7 @@ is_copied Stop = false
 is_copied NoOrder = false
 is_copied NoMemory = false
 
--- these bytes came to it
+-- these bytes ordered it
 abbrev pub IsHeardIn : List ℕ → Heard → Type 0
 IsHeardIn got (Carried order told) = IsSent got order
 IsHeardIn got (Copied path told) = IsCopyTo got path
@@ -60,7 +60,7 @@ IsHeardIn got Stop = got ≡ stop_line
 IsHeardIn got NoOrder = IsNoOrder got × (got ≢ stop_line) × IsNoCopy got
 IsHeardIn got NoMemory = ⊥
 
--- it was read
+-- the bytes that ordered it were read
 abbrev pub IsHeard : Option (List ℕ) → Option (List ℕ) → Heard → Type 0
 IsHeard unread unread_new (Carried order told) = (got : List ℕ) × ReadsLine unread unread_new got × IsSent got order
 IsHeard unread unread_new (Copied path told) = (got : List ℕ) × ReadsLine unread unread_new got × IsCopyTo got path

@@ -1,4 +1,4 @@
--- What peers and operators can tell of the messages of others: nothing.
+-- Peers and operators learn nothing about the messages of others.
 use Rattle.std.specs.Prelude.{ℕ, ◌≡◌, List, [], ◌∷◌, Bool, map}
 use Rattle.world.specs.World.{World, chain}
 use Rattle.world.specs.Store.{Shown}
@@ -14,21 +14,23 @@ use Rattle.control.specs.Turns.{Turn, Asked, Ordered, happening_of, turn_event, 
 abbrev pub coming_at : Turn → Coming
 coming_at t = coming_of (happening_of t)
 
--- what is told of it: the bytes that are written for a message, the line of what came of an order
+-- what is written for it: the bytes for a message, or the line of an order's outcome
 abbrev pub text_at : Turn → List ℕ
 text_at (Asked x) = text_of x
 text_at (Ordered order told) = line_of (outcome_of told)
 
+-- puts a turn before others if this answer is a reply
 abbrev pub if_told : Turn → Answer → List Turn → List Turn
 if_told t (Replied r) ts = t ∷ ts
 if_told t (Failed fault) ts = ts
 
--- those that met no fault: a message that was not answered 503, an order that was done or refused
+-- the turns that met no fault: messages that were not answered 503, and orders that were done or refused
 abbrev pub told : List Turn → List Turn
 told [] = []
 told (t ∷ ts) = if_told t (turn_answer t) (told ts)
 
--- which of these are kept for a shelf: not a message whose key belongs, at its moment, to a shelf that it does not see at the end
+-- which of these are kept for a shelf: all but the messages whose key belongs, at that moment, to a shelf that it does not see at
+-- the end
 abbrev pub kept_for : World → List ℕ → List Turn → List Bool
 kept_for w s turns = kept w (chain (world_at w turns) s) (map turn_event (told turns))
 
@@ -49,14 +51,14 @@ pub record AreTwoRuns (old new old_too new_too : Shown) (w x : World) (s : List 
   pub through : GoesThroughTurns old new before now full copied
   pub through_too : GoesThroughTurns old_too new_too before_too now_too purged copied_too
 
--- What was told of those that are kept is the same text. The stores stand for worlds that agree again.
+-- The texts written for the kept turns are equal, and the stores stand for worlds that agree again.
 pub record AreToldAlike (new new_too : Shown) (w x : World) (s : List ℕ) (full purged : List Turn) : Type 0 where
   pub texts : map text_at (told purged) ≡ marked (kept_for w s full) (map text_at (told full))
   pub stands : new.stands (world_at w full)
   pub stands_too : new_too.stands (world_at x purged)
   pub agree : Agree (world_at w full) (world_at x purged) (chain (world_at w full) s)
 
--- So it is where, of the turns that met no fault, those of the second are those of the first that are kept.
+-- Two such runs write alike if the turns of the second that met no fault are those of the first that are kept.
 abbrev pub TurnsAreToldAlike : Shown → Shown → Shown → Shown → Type 0
 TurnsAreToldAlike old new old_too new_too =
     (w x : World) (s : List ℕ) (full purged : List Turn) → AreTwoRuns old new old_too new_too w x s full purged

@@ -10,7 +10,7 @@ use Rattle.control.specs.declared.order.Order.{Order}
 abbrev pub longest : ℕ
 longest = 127
 
--- The bytes are a text that is not too long, and the end of its line.
+-- The bytes are this text, which is not too long, and the end of a line.
 pub record IsLine (got line : List ℕ) : Type 0 where
   pub is : got ≡ line ++ line_end ∷ []
   pub few : length line ≤ longest
@@ -25,11 +25,11 @@ pub record IsSent (got : List ℕ) (order : Order) : Type 0 where
   pub ends : IsLine got line
   pub orders : Orders line order
 
--- they are no order's
+-- the bytes are no line of an order
 abbrev pub IsNoOrder : List ℕ → Type 0
 IsNoOrder got = (order : Order) → ¬ IsSent got order
 
--- The bytes are a line that says this.
+-- The bytes are a line of these words.
 pub record IsSaid (got : List ℕ) (s : Said) : Type 0 where
   pub line : List ℕ
   pub ends : IsLine got line
@@ -43,7 +43,7 @@ copy_words path = two (codes "copy") path
 abbrev pub IsCopyTo : List ℕ → List ℕ → Type 0
 IsCopyTo got path = IsSaid got (copy_words path)
 
--- they order no copy
+-- the bytes order no copy
 abbrev pub IsNoCopy : List ℕ → Type 0
 IsNoCopy got = (path : List ℕ) → ¬ IsCopyTo got path
 
@@ -51,7 +51,7 @@ IsNoCopy got = (path : List ℕ) → ¬ IsCopyTo got path
 abbrev pub CopiesNothing : List ℕ → Type 0
 CopiesNothing line = (path : List ℕ) → ¬ IsTextOf line (copy_words path)
 
--- these words order none
+-- these words order no copy
 abbrev pub SaysNoCopy : Said → Type 0
 SaysNoCopy s = (path : List ℕ) → s ≢ copy_words path
 

@@ -1,4 +1,4 @@
--- What an operator orders, its line, and what it does.
+-- Orders, their lines, and what they do.
 use Rattle.std.specs.Prelude.{ℕ, ◌≢◌, List, codes, Some, None, option_copied}
 use Rattle.shelf.specs.declared.ask.Event.{Event}
 use Rattle.shelf.specs.declared.ask.Event.TheVariants as event
@@ -16,7 +16,7 @@ abbrev pub add_word : Right → List ℕ
 add_word Publishes = codes "key-add"
 add_word Reads = codes "reader-add"
 
--- two words, and three
+-- what two words say, and three
 abbrev pub two : List ℕ → List ℕ → Said
 two verb first = record { verb = verb; first = first; second = None }
 
@@ -42,11 +42,11 @@ AddsNoKey verb = (right : Right) → verb ≢ add_word right
 abbrev pub line_of : Order → List ℕ
 line_of order = text_of (said_in order)
 
--- The line is the order's, and each of its words is a word.
+-- The line is the order's, and each of its words has no space and no end of a line.
 abbrev pub Orders : List ℕ → Order → Type 0
 Orders line order = IsTextOf line (said_in order)
 
--- it is no order's
+-- the line is no order's
 abbrev pub OrdersNothing : List ℕ → Type 0
 OrdersNothing line = (order : Order) → ¬ Orders line order
 
@@ -57,7 +57,7 @@ event_of (GroupAdd name) = event.GroupAdd name.now
 event_of (KeyAdd shelf key right) = event.KeyAdd shelf.now key.now right
 event_of (KeyRevoke key) = event.KeyRevoke key.now
 
--- what comes of it in a world
+-- the machine's reply to the order in a world
 abbrev pub outcome_in : World → Order → Registered
 outcome_in w (TeamAdd name group) = team_added w name.now (option_copied group)
 outcome_in w (GroupAdd name) = group_added w name.now

@@ -1,4 +1,4 @@
--- What is told of an order, and its line.
+-- The outcome of an order, and its line.
 use Rattle.std.specs.Prelude.{ℕ, ◌≢◌, List, [], ◌∷◌, ◌++◌, codes, Result, Ok, Err}
 use Rattle.world.specs.declared.registry.Registered.{Registered}
 use Rattle.world.specs.declared.registry.Registered.TheVariants as registered
@@ -10,11 +10,12 @@ use Rattle.control.specs.declared.copies.CopyRefusal.TheVariants as copy
 use Rattle.control.specs.declared.outcome.Outcome.{Outcome}
 use Rattle.control.specs.declared.outcome.Outcome.TheVariants as outcome
 
+-- the outcome of an order that was carried out with this result
 abbrev pub outcome_of : Result Registered StoreFault → Outcome
 outcome_of (Ok r) = outcome.Registered r
 outcome_of (Err f) = outcome.Failed f
 
--- what is told of a copy
+-- the outcome of a copy with this result
 abbrev pub outcome_of_copy : Result (Unit {0}) CopyRefusal → Outcome
 outcome_of_copy (Ok done) = outcome.Registered registered.Done
 outcome_of_copy (Err copy.NotEmpty) = outcome.NotEmpty
@@ -38,6 +39,6 @@ word_of outcome.Bad = codes "bad"
 abbrev pub line_of : Outcome → List ℕ
 line_of told = word_of told ++ line_end ∷ []
 
--- the word tells nothing
+-- the word is no outcome's
 abbrev pub TellsNothing : List ℕ → Type 0
 TellsNothing word = (told : Outcome) → word ≢ word_of told

@@ -1,4 +1,4 @@
--- What a store goes through while peers ask and operators order.
+-- What a store goes through while peers send requests and operators send orders.
 use Rattle.std.specs.Prelude.{ℕ, ◌≡◌, ◌≤◌, ◌+◌, ◌⊎◌, Bool, true, false, List, [], ◌∷◌, map, Result, Ok, Err}
 use Rattle.shelf.specs.declared.ask.Event.{Event}
 use Rattle.shelf.specs.declared.reply.Answer.{Answer}
@@ -15,7 +15,7 @@ use Rattle.engine.specs.Happening.{Happening, Message, Command, event_at, answer
 use Rattle.control.specs.Order.{event_of}
 use Rattle.control.specs.declared.order.Order.{Order}
 
--- a message was answered, or an order carried out
+-- a message that was answered, or an order that was carried out
 pub data Turn : Type 0 where
   Asked : Exchange → Turn
   Ordered : Order → Result Registered StoreFault → Turn
@@ -24,7 +24,7 @@ abbrev pub answer_to_order : Result Registered StoreFault → Answer
 answer_to_order (Ok r) = Replied (Registry r)
 answer_to_order (Err fault) = Failed fault
 
--- what came to the store, and what became of it
+-- what came to the store, and its answer
 abbrev pub happening_of : Turn → Happening
 happening_of (Asked x) = record { coming = Message x.message; answer = answer_to_message x }
 happening_of (Ordered order told) = record { coming = Command (event_of order); answer = answer_to_order told }
@@ -41,7 +41,7 @@ messages [] = 0
 messages (Asked x ∷ ts) = messages ts + 1
 messages (Ordered order told ∷ ts) = messages ts
 
--- the store met no fault
+-- the order met no fault
 abbrev pub IsUnmetOrder : Result Registered StoreFault → Type 0
 IsUnmetOrder (Ok r) = Unit {0}
 IsUnmetOrder (Err fault) = ⊥
@@ -50,26 +50,26 @@ abbrev pub IsUnmetTurn : Turn → Type 0
 IsUnmetTurn (Asked x) = IsUnmet x.outcome
 IsUnmetTurn (Ordered order told) = IsUnmetOrder told
 
--- where the machine is after the turns
+-- the machine's world after the turns
 abbrev pub world_at : World → List Turn → World
 world_at w turns = world_after w (map turn_event turns) (map turn_answer turns)
 
--- the store met no fault, or the turn changes nothing
+-- the store met no fault at the turn, or the turn changes nothing
 abbrev pub IsCalm : World → Turn → Type 0
 IsCalm w t = IsUnmetTurn t ⊎ (after w (turn_event t) ≡ w)
 
--- so it is of each, at its moment
+-- each turn is calm in the world that it meets
 abbrev pub AllCalm : World → List Turn → Type 0
 AllCalm w [] = Unit {0}
 AllCalm w (t ∷ ts) = IsCalm w t × AllCalm (world_at w (t ∷ [])) ts
 
--- As long as no turn but the last met a fault, a crash leaves the world before the last or the world after it.
+-- As long as all turns but the last are calm, a crash leaves the world before the last or the world after it.
 abbrev pub LeavesTwo : Shown → World → List Turn → Type 0
 LeavesTwo shown w [] = shown.leaves w w
 LeavesTwo shown w (t ∷ []) = shown.leaves w (after w (turn_event t))
 LeavesTwo shown w (t ∷ u ∷ more) = IsCalm w t → LeavesTwo shown (world_at w (t ∷ [])) (u ∷ more)
 
--- A store that was read for a copy stands for a world; of any other nothing is asked.
+-- If the flag is true, the store stands for a world.
 abbrev pub StandsIf : Bool → Shown → Type 0
 StandsIf false shown = Unit {0}
 StandsIf true shown = (w : World) × shown.stands w
@@ -79,8 +79,9 @@ StandsIf true shown = (w : World) × shown.stands w
 pub record GoesThroughTurns (old new : Shown) (before now : ℕ) (turns : List Turn) (copied : Bool) : Type 0 where
   -- in one run of the machine the messages were answered and the orders carried out
   pub runs : Runs old new (map turn_event turns) (map turn_answer turns)
-  -- where a crash left the world of the begin alone: two worlds at most, and that of the end alone if no turn met a fault
+  -- if a crash before the turns could leave only the first world, a crash now leaves one of two worlds, as `LeavesTwo` says
   pub left : new.is_honest → (w : World) → old.stands w → old.leaves w w → LeavesTwo new w turns
+  -- if also all turns were calm, a crash now leaves only the last world
   pub settled : new.is_honest → (w : World) → old.stands w → AllCalm w turns → old.leaves w w
       → new.leaves (world_at w turns) (world_at w turns)
   -- without turns nothing changes
@@ -89,7 +90,7 @@ pub record GoesThroughTurns (old new : Shown) (before now : ℕ) (turns : List T
   pub no_fewer : before ≤ now
   pub device : MetDevice (map turn_answer turns) → GrewOrFull before now
 
--- so it did, with so many messages at most
+-- the store went through turns with at most this many messages
 pub record GoesOn (old new : Shown) (before now most : ℕ) : Type 0 where
   pub turns : List Turn
   pub copied : Bool

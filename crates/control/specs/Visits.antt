@@ -15,7 +15,7 @@ use Rattle.control.specs.declared.callers.Caller.{Caller}
 use Rattle.control.specs.declared.copies.CopyRefusal.{CopyRefusal}
 use Rattle.control.specs.declared.callers.Caller.TheVariants.{Peer, Operator}
 
--- An operator before and after it was obeyed, and what its line came to. There is nothing where a read failed before it was whole.
+-- An operator before and after it was obeyed, and what its line ordered, unless a read failed before that was whole.
 pub record Audience (O : Type 0) : Type 0 where
   pub before : O
   pub after : O
@@ -30,11 +30,12 @@ abbrev pub caller_of : {P O : Type 0} → Call P O → Caller P O
 caller_of (OfPeer visit) = Peer visit.before
 caller_of (OfOperator audience) = Operator audience.before
 
--- just the order's event happened, or none
+-- the turns of what an operator ordered: one for an order, and otherwise none
 abbrev pub turns_if : Option Heard → List Turn
 turns_if None = []
 turns_if (Some heard) = turns_heard heard
 
+-- the turns of one caller: at most one
 abbrev pub turns_of : {P O : Type 0} → Call P O → List Turn
 turns_of (OfPeer visit) = map Asked (exchanges_of visit.first)
 turns_of (OfOperator audience) = turns_if audience.heard
@@ -76,7 +77,7 @@ abbrev pub steps_with : {P O : Type 0} → List (Call P O) → List Step
 steps_with [] = []
 steps_with (call ∷ calls) = steps_of call ++ steps_with calls
 
--- how many of them are peers
+-- how many of the callers are peers
 abbrev pub peers : {P O : Type 0} → List (Call P O) → ℕ
 peers [] = 0
 peers (OfPeer visit ∷ calls) = peers calls + 1
@@ -96,7 +97,7 @@ module _ {O : Type 0} (heeded told : O → Option (List ℕ)) where
       IsHeard (heeded before) (heeded after) heard
       × (WritesPart (told before) (told after) (line_of (outcome_heard heard)) ⊎ Appends (told before) (told after) (line_of (outcome_heard heard)))
 
-  -- an operator was obeyed, as it was before that
+  -- this operator was obeyed, and the store went through its order
   pub record ObeysOne
       (copied : List ℕ → Result (Unit {0}) CopyRefusal → Type 0) (operator : O) (old new : Shown) (before now : ℕ) : Type 0 where
     pub audience : Audience O
@@ -110,8 +111,8 @@ module _ {O : Type 0} (heeded told : O → Option (List ℕ)) where
     IsCallThere (OfPeer visit) = socket.IsAnsweredThere unread written visit
     IsCallThere (OfOperator audience) = IsToldThere audience.before audience.after audience.heard
 
-    -- Those who came were served one after another and each once, no more peers than there are connections. What a peer sent was
-    -- answered to that peer, and what an operator ordered was told to that operator.
+    -- The callers were served one after another, each once, and at most as many peers as there are connections. What a peer sent
+    -- was answered to that peer, and the outcome of an operator's order went to that operator.
     pub record ServesEach (waiting left : Option (List (Caller P O))) (old new : Shown) (before now connections : ℕ) : Type 0 where
       pub calls : List (Call P O)
       pub few : peers calls ≤ connections

@@ -20,7 +20,7 @@ abbrev pub is_word_if : Option (List ℕ) → Bool
 is_word_if None = true
 is_word_if (Some text) = is_word text
 
--- What is said in words: what is to be done, what it is done to, and perhaps a third word.
+-- What words say: what to do, what to do it to, and maybe a third word.
 pub record Said : Type 0 where
   pub verb : List ℕ
   pub first : List ℕ
@@ -29,12 +29,12 @@ pub record Said : Type 0 where
 abbrev pub said : Words → Said
 said w = record { verb = w.verb.now; first = w.first.now; second = option_copied w.second }
 
--- a word behind others
+-- a word behind others, with the space before it
 abbrev pub behind : Option (List ℕ) → List ℕ
 behind None = []
 behind (Some word) = space ∷ word
 
--- the text of it: one space stands between two words
+-- the text of the words, with one space between each two
 abbrev pub text_of : Said → List ℕ
 text_of s = s.verb ++ space ∷ (s.first ++ behind s.second)
 
@@ -42,16 +42,16 @@ text_of s = s.verb ++ space ∷ (s.first ++ behind s.second)
 abbrev pub are_words : Said → Bool
 are_words s = is_word s.verb && (is_word s.first && is_word_if s.second)
 
--- the text says this, in words
+-- the text is that of these words
 pub record IsTextOf (text : List ℕ) (s : Said) : Type 0 where
   pub is : text ≡ text_of s
   pub words : are_words s ≡ true
 
--- the text says nothing
+-- the text is that of no words
 abbrev pub HasNoWords : List ℕ → Type 0
 HasNoWords text = (s : Said) → ¬ IsTextOf text s
 
--- The text up to its first space, and what stands behind that.
+-- The front is the text up to its first space, and the rest is what comes behind that.
 abbrev pub IsCut : List ℕ → List ℕ → Option (List ℕ) → Type 0
 IsCut text front rest =
     (text ≡ front ++ behind rest)

@@ -1,4 +1,4 @@
-//! Who comes: peers that ask, and operators that order.
+//! Callers: peers, who send requests, and operators, who send orders.
 use crate::copies::Copies;
 use crate::obeying::obey;
 use crate::outcome::Outcome;
@@ -15,12 +15,12 @@ use std::rt::HostRuntime;
 use std::time::Clock;
 use world::shelves::Shelves;
 
-/// One who came.
+/// A caller who has connected.
 #[derive(Drop)]
 pub enum Caller<P, O> {
-    /// Sends a request.
+    /// It sends a request.
     Peer(P),
-    /// Sends an order.
+    /// It sends an order.
     Operator(O),
 }
 
@@ -48,7 +48,7 @@ pub trait Operator {
             (unread self.old) (unread self.new) (written self.old) (written self.new) result };
 }
 
-/// A socket tells no bytes.
+/// The bytes of a socket are not known.
 impl Operator for UnixStream {
     ghost use Rattle.std.specs.Prelude.{None};
 
@@ -56,7 +56,7 @@ impl Operator for UnixStream {
 
     ghost written = { λ _. None };
 
-    /// An operator has 2 seconds for the whole line, and so has the write of the outcome.
+    /// All reads of the line together have 2 seconds, and so have all writes of the outcome.
     fn obeyed<C: Clock, S: Shelves, K: Copies<S>>(
         &mut self,
         alloc: Global,
@@ -71,16 +71,16 @@ impl Operator for UnixStream {
     }
 }
 
-/// What takes the connections of both.
+/// A source of peers and operators.
 pub trait Callers<P, O> {
     ghost use Rattle.std.specs.Prelude.{List, Option};
     ghost use Rattle.socket.specs.Connections.{Accepts};
     ghost use Rattle.control.specs.declared.callers.Caller.{Caller};
 
-    /// Those who connect from here on, in their order, where they are known.
+    /// The callers who connect from here on, in their order, if they are known.
     ghost waiting: { Self → Option (List (Caller P O)) };
 
-    /// Takes the next connection, and waits for it as long as it takes.
+    /// Waits for the next connection, however long that takes, and returns its caller. Fails if the connection can't be taken.
     fn next(&mut self) -> io::Result<Caller<P, O>>
         ensures { Accepts (waiting self.old) (waiting self.new) result };
 }
@@ -95,7 +95,7 @@ pub struct Doors {
 }
 
 impl Doors {
-    /// Waits on both. It fails if the system refuses to wait on one of them.
+    /// Returns doors that wait on both. Fails if the system refuses to watch one of them, or if memory runs out.
     pub fn new(rt: &HostRuntime, peers: TcpListener, operators: UnixListener) -> io::Result<Doors> {
         peers.set_nonblocking(true)?;
         operators.set_nonblocking(true)?;
@@ -111,7 +111,7 @@ impl Doors {
         })
     }
 
-    /// Takes a connection that has come, an operator's before a peer's. None if there is none.
+    /// Returns a caller who has connected, an operator before a peer, or None if there is none. Fails if the system does.
     fn accept(&self) -> io::Result<Option<Caller<TcpStream, UnixStream>>> {
         match self.operators.accept() {
             Ok((stream, _)) => return Ok(Some(Caller::Operator(stream))),
@@ -126,14 +126,14 @@ impl Doors {
     }
 }
 
-/// Nobody knows who connects.
+/// The callers who connect are not known.
 impl Callers<TcpStream, UnixStream> for Doors {
     ghost use Rattle.std.specs.Prelude.{None};
 
     ghost waiting = { λ _. None };
 
-    /// An operator comes before a peer. The system is waited for only where nobody has come: a wait returns once for each that
-    /// comes, so both are asked until there is nobody.
+    /// Takes an operator before a peer. A wait returns only once for each connection, so it waits only when neither listener has
+    /// one left.
     fn next(&mut self) -> io::Result<Caller<TcpStream, UnixStream>> {
         for _ in 0..u64::MAX {
             if let Some(caller) = self.accept()? {

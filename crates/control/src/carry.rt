@@ -7,7 +7,8 @@ use crate::order::Order;
 use world::registry::{Registered, StoreFault};
 use world::shelves::Shelves;
 
-/// Carries an order out: just its event happens, or none if the store met a fault.
+/// Carries out an order and returns the machine's reply: exactly the order's event happens. Fails if the store meets a fault, and
+/// then no event happens.
 pub(crate) fn carry_out<S: Shelves>(
     shelves: &mut S,
     order: &Order,

@@ -8,7 +8,7 @@ pub enum CopyRefusal {
     NotEmpty,
     /// A disk failed, or the file can't be opened.
     Device,
-    /// Memory was wanted.
+    /// Memory ran out.
     Memory,
 }
 
@@ -18,7 +18,7 @@ pub trait Copies<S: Shelves> {
     ghost use Rattle.control.specs.Copying.{IsOnlyRead};
     ghost use Rattle.control.specs.declared.copies.CopyRefusal.{CopyRefusal};
 
-    /// What came of a copy, by the served store before and after it, the path, and what was told.
+    /// What a copy does: relates the served store before and after it, the path, and the result.
     ghost copied: { S → S → List ℕ → Result (Unit {0}) CopyRefusal → Type 0 };
 
     /// Makes the store of a file, with this path, one of the served store as it is at this moment. The served store is only read.

@@ -7,7 +7,7 @@ ghost use Rattle.control.specs.Words.{IsTextOf, said};
 use crate::line::line_in;
 use crate::words::{Words, words_of};
 
-/// The path that a line, without its end, orders a copy to, or None if it orders no copy: `copy PATH`.
+/// Returns the path of a line `copy PATH` without its end, or None if the line orders no copy.
 pub fn copy_path_of(line: &str) -> Option<&str>
     ensures { MatchOption result (spec.CopiesNothing line.now) (λ path. IsTextOf line.now (spec.copy_words path.now)) }
 {
@@ -17,7 +17,7 @@ pub fn copy_path_of(line: &str) -> Option<&str>
     path_in(&words)
 }
 
-/// The path that words order a copy to.
+/// Returns the path that the words order a copy to, or None if they order none.
 fn path_in<'a>(words: &Words<'a>) -> Option<&'a str>
     ensures { MatchOption result (spec.SaysNoCopy (said words.now))
         (λ path. said words.now ≡ spec.copy_words path.now) }
@@ -28,7 +28,7 @@ fn path_in<'a>(words: &Words<'a>) -> Option<&'a str>
     }
 }
 
-/// The path that two words order a copy to.
+/// Returns the path that two words order a copy to, or None if they order none.
 fn path_behind<'a>(verb: &'a str, path: &'a str) -> Option<&'a str>
     ensures { MatchOption result (spec.SaysNoCopy (two verb.now path.now))
         (λ to. two verb.now path.now ≡ spec.copy_words to.now) }
@@ -36,7 +36,7 @@ fn path_behind<'a>(verb: &'a str, path: &'a str) -> Option<&'a str>
     if verb == "copy" { Some(path) } else { None }
 }
 
-/// The path that the bytes order a copy to, or None if they order none.
+/// Returns the path that the bytes order a copy to, or None if they order none.
 pub(crate) fn copy_in(got: &[u8]) -> Option<&str>
     ensures { MatchOption result (spec.IsNoCopy got.now) (λ path. spec.IsCopyTo got.now path.now) }
 {
@@ -44,7 +44,7 @@ pub(crate) fn copy_in(got: &[u8]) -> Option<&str>
     copy_path_of(line)
 }
 
-/// The words that order a copy.
+/// Returns the words that order a copy to a path.
 pub(crate) fn words_to_copy<'a>(path: &'a str) -> Words<'a>
     ensures { said result ≡ spec.copy_words path.now }
 {

@@ -1,4 +1,4 @@
-//! What lines mean, and what the callers of one run can tell of each other.
+//! What lines mean, and what the callers of one run learn about each other.
 ghost use Rattle.control.specs.Isolated.{TurnsAreToldAlike};
 ghost use Rattle.control.specs.Laws.{OneEventALine, OneOutcomeALine};
 
@@ -16,8 +16,8 @@ pub fn outcome_has_a_line_of_its_own()
 
 /// Isolation also holds between two calls of [`serve_both`](crate::serve_both), over any two stores whose worlds agree on the
 /// registry and on what a shelf sees, on honest disks: if the second goes through the turns of the first without the
-/// messages of other teams, it writes the same bytes for each kept message, and tells each operator the same line. Each call
-/// leaves out the messages that it answered 503 and the orders that met a fault. The worlds after both agree again.
+/// messages of other teams, it writes the same bytes for each kept message, and the same line for each order. The messages
+/// that a call answered 503 and the orders that met a fault are left out of it. The worlds after both agree again.
 pub fn isolation_of_turns<S: Shelves, T: Shelves>()
     ensures { (old new : S) (old_too new_too : T)
         → TurnsAreToldAlike (S.shown old) (S.shown new) (T.shown old_too) (T.shown new_too) }

@@ -1,8 +1,8 @@
-//! Changes to a store while it is served: an operator sends an order over a socket of the machine, and is told what came of it.
+//! Changes to a store while it is served: an operator sends an order over a Unix socket, and gets the line of its outcome.
 //!
 //! | what | where |
 //! |---|---|
-//! | the orders, and the line that each is | [`Order`], [`order_of`] |
+//! | the orders, and the line of each | [`Order`], [`order_of`] |
 //! | the order to copy the store, and what carries it out | [`copy_path_of`], [`Copies`] |
 //! | what came of an order, and the line that tells it | [`Outcome`] |
 //! | carrying an operator's order out | [`obey`] |

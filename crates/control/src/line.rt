@@ -1,4 +1,4 @@
-//! Lines, read and told apart.
+//! Reading lines, and telling what they order.
 ghost use Rattle.std.specs.Prelude.{◌≡◌, ◌↔◌, MatchOption, IfOk, IsTrue};
 ghost use Rattle.control.specs.Line as spec;
 
@@ -9,15 +9,15 @@ use std::io::{ErrorKind, Read};
 /// The most bytes of a line without its end.
 const LONGEST: usize = 127;
 
-/// How often a read is made at most, since one may be interrupted.
+/// The most reads of one line, interrupted ones included.
 const TRIES: u32 = 1_000;
 
 /// Why no line was read.
 #[derive(Clone, Copy, Debug, Drop, PartialEq, Eq)]
 pub(crate) enum Unread {
-    /// A read failed.
+    /// A read failed, or `TRIES` reads did not end a line.
     Io,
-    /// There was no memory.
+    /// Memory ran out.
     Memory,
 }
 
@@ -64,7 +64,7 @@ fn is_enough(bytes: &[u8]) -> bool
     bytes.len() > LONGEST || bytes.contains(&b'\n')
 }
 
-/// The line that the bytes are, without its end, or None if they are none: it has no end, or it is too long, or no text.
+/// Returns the line that the bytes are, without its end, or None if they have no end, are too many, or are not UTF-8.
 pub(crate) fn line_in(got: &[u8]) -> Option<&str>
     ensures { MatchOption result (spec.HoldsNoLine got.now) (λ line. spec.IsLine got.now line.now) }
 {

@@ -1,4 +1,4 @@
-//! What an operator orders, as a line.
+//! Orders, and the line of each.
 ghost use Rattle.std.specs.Prelude.{◌≡◌, MatchOption};
 ghost use Rattle.control.specs.Order as spec;
 ghost use Rattle.control.specs.Words.{said};
@@ -6,7 +6,7 @@ ghost use Rattle.control.specs.Words.{said};
 use crate::words::{Words, words_of};
 use world::entry::Right;
 
-/// A command of the registry.
+/// A registry command that an operator orders.
 #[derive(Clone, Copy, Drop)]
 pub enum Order<'a> {
     /// `team-add NAME` or `team-add NAME GROUP`: adds a team, as a member of a group or of none.
@@ -24,14 +24,14 @@ pub enum Order<'a> {
         key: &'a str,
         right: Right,
     },
-    /// `key-revoke KEY`: takes a key away.
+    /// `key-revoke KEY`: revokes a key.
     KeyRevoke {
         key: &'a str,
     },
 }
 
-/// The order that a line is, without its end, or None if it is no order's line. Whether the names and the key keep their rules is
-/// told by the store that the order is carried out on.
+/// Returns the order of a line without its end, or None if it is no order's line. It does not check the rules of names and keys:
+/// the store does, when the order is carried out.
 pub fn order_of<'a>(line: &'a str) -> Option<Order<'a>>
     ensures { MatchOption result (spec.OrdersNothing line.now) (λ order. spec.Orders line.now order) }
 {
@@ -39,7 +39,7 @@ pub fn order_of<'a>(line: &'a str) -> Option<Order<'a>>
     order_in(&words)
 }
 
-/// The order that words say.
+/// Returns the order that the words say, or None if they say none.
 fn order_in<'a>(words: &Words<'a>) -> Option<Order<'a>>
     ensures { MatchOption result (spec.SaysNoOrder (said words.now)) (λ order. said words.now ≡ spec.said_in order) }
 {
@@ -49,7 +49,7 @@ fn order_in<'a>(words: &Words<'a>) -> Option<Order<'a>>
     }
 }
 
-/// The order that three words say.
+/// Returns the order that three words say, or None if they say none.
 fn longer<'a>(verb: &'a str, first: &'a str, second: &'a str) -> Option<Order<'a>>
     ensures { MatchOption result (spec.SaysNoOrder (spec.three verb.now first.now second.now))
         (λ order. spec.three verb.now first.now second.now ≡ spec.said_in order) }
@@ -66,7 +66,7 @@ fn longer<'a>(verb: &'a str, first: &'a str, second: &'a str) -> Option<Order<'a
     })
 }
 
-/// The right of the keys that a word adds.
+/// Returns the right of the keys that a word adds, or None if it adds no key.
 fn right_of(verb: &str) -> Option<Right>
     ensures { MatchOption result (spec.AddsNoKey verb.now) (λ right. verb.now ≡ spec.add_word right) }
 {
@@ -79,7 +79,7 @@ fn right_of(verb: &str) -> Option<Right>
     }
 }
 
-/// The order that two words say.
+/// Returns the order that two words say, or None if they say none.
 fn shorter<'a>(verb: &'a str, name: &'a str) -> Option<Order<'a>>
     ensures { MatchOption result (spec.SaysNoOrder (spec.two verb.now name.now)) (λ order. spec.two verb.now name.now ≡ spec.said_in order) }
 {

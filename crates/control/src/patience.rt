@@ -1,4 +1,4 @@
-//! How long an operator may take.
+//! An operator's connection with a limited time.
 ghost use Rattle.std.specs.Prelude.{◌≡◌, ◌+◌, ◌<◌, ◌≤◌, IfOk};
 ghost use Rattle.std.specs.Duration.{as_nanos};
 
@@ -6,11 +6,11 @@ use std::io::{self, ErrorKind, Read, Write};
 use std::os::unix::net::UnixStream;
 use std::time::{Clock, Duration, Instant};
 
-/// The seconds that an operator has for the whole line. Peers wait meanwhile.
+/// The seconds for all reads of an operator's line, and again for all writes of the outcome. Peers wait meanwhile.
 const PATIENCE: u64 = 2;
 
-/// One side of an operator's connection, with a time that begins at the first read or write. One that begins when it is over fails,
-/// and none waits longer than what is left.
+/// One side of an operator's connection, with a time that begins at the first read or write. A read or write that begins after it
+/// fails, and none waits longer than what is left.
 #[derive(Drop)]
 pub(crate) struct Timed<'a, C: Clock> {
     stream: &'a UnixStream,
@@ -19,7 +19,7 @@ pub(crate) struct Timed<'a, C: Clock> {
 }
 
 impl<'a, C: Clock> Timed<'a, C> {
-    /// The stream with a time that has not begun.
+    /// Returns the stream with a time that has not begun.
     pub(crate) fn new(stream: &'a UnixStream, clock: &'a C) -> Timed<'a, C> {
         Timed {
             stream,
@@ -28,7 +28,7 @@ impl<'a, C: Clock> Timed<'a, C> {
         }
     }
 
-    /// Begins the time, and returns what is left of it, or fails where it is over.
+    /// Returns what is left of the time, which the first call begins. Fails if none is left, or if the clock can't be read.
     fn left(&mut self) -> io::Result<Duration>
         ensures some { IfOk result (λ left. 0 < as_nanos left) }
         ensures within { IfOk result (λ left. as_nanos left ≤ 2_000_000_000) }

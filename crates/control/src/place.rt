@@ -1,4 +1,4 @@
-//! The socket of the operators, a file of the system.
+//! The socket of the operators in the file system.
 use std::fs::{self, Permissions};
 use std::io::{self, ErrorKind};
 use std::os::unix::fs::{FileTypeExt, PermissionsExt};
@@ -9,10 +9,11 @@ use std::time::Duration;
 /// The seconds that an operator waits for an outcome. One connection of a peer holds the server at most half as long.
 const LONGEST_WAIT: u64 = 60;
 
-/// A socket with this name, which its owner alone may connect to. A name has at most 107 bytes. One that nobody listens at any more is
-/// taken away first; a name of anything else is an error, and so is one of a socket that somebody listens at.
+/// Makes a socket with this file name, which only its owner may connect to, and returns its listener. It first removes a socket
+/// that nobody listens at any more. Fails if somebody listens there, if the name is that of another file or has more than 107
+/// bytes, or if the system refuses the socket.
 ///
-/// Who may connect between the making of the socket and the change of its mode is decided by the umask.
+/// Between making the socket and changing its mode, the umask decides who may connect.
 pub fn operators_at(rt: &HostRuntime, path: &str) -> io::Result<UnixListener> {
     make_way(rt, path)?;
     let operators = UnixListener::bind(rt, path)?;
@@ -20,7 +21,7 @@ pub fn operators_at(rt: &HostRuntime, path: &str) -> io::Result<UnixListener> {
     Ok(operators)
 }
 
-/// Takes a socket away that an earlier server left.
+/// Removes a socket that an earlier server left. Fails if the name is that of another file, or if somebody listens there.
 fn make_way(rt: &HostRuntime, path: &str) -> io::Result<()> {
     match fs::symlink_metadata(rt, path) {
         Ok(found) if found.file_type().is_socket() => remove_left(rt, path),
@@ -30,7 +31,7 @@ fn make_way(rt: &HostRuntime, path: &str) -> io::Result<()> {
     }
 }
 
-/// Takes a socket away that nobody listens at.
+/// Removes a socket if nobody listens there, and otherwise fails.
 fn remove_left(rt: &HostRuntime, path: &str) -> io::Result<()> {
     match UnixStream::connect(rt, path) {
         Ok(_) => Err(io::Error::from(ErrorKind::AddrInUse)),
@@ -39,7 +40,7 @@ fn remove_left(rt: &HostRuntime, path: &str) -> io::Result<()> {
     }
 }
 
-/// Takes the socket away at the end, if the name is still that of a socket. Nothing is told where this fails.
+/// Removes the socket at the end, if the name is still that of a socket. Errors are ignored.
 pub fn leave_place(rt: &HostRuntime, path: &str) {
     match fs::symlink_metadata(rt, path) {
         Ok(found) if found.file_type().is_socket() => {
@@ -49,8 +50,8 @@ pub fn leave_place(rt: &HostRuntime, path: &str) {
     }
 }
 
-/// A connection to the server that listens at this socket, over which `ask` sends an order. It fails if nobody listens there, or the
-/// system lets nobody connect. Each read from it waits at most a minute.
+/// Connects to the server that listens at this socket, and returns the connection, over which `ask` sends an order. Each read from
+/// it waits at most a minute. Fails if nobody listens there, or if the system refuses the connection.
 pub fn server_at(rt: &HostRuntime, path: &str) -> io::Result<UnixStream> {
     let server = UnixStream::connect(rt, path)?;
     server.set_read_timeout(Some(Duration::from_secs(LONGEST_WAIT)))?;

@@ -5,14 +5,15 @@ ghost use Rattle.control.specs.Words as spec;
 /// The words of a line that has two or three.
 #[derive(Clone, Copy, Drop)]
 pub(crate) struct Words<'a> {
-    /// What is to be done.
+    /// What to do.
     pub(crate) verb: &'a str,
-    /// What it is done to.
+    /// What to do it to.
     pub(crate) first: &'a str,
     pub(crate) second: Option<&'a str>,
 }
 
-/// The words of a line with one space between them, or None if there are fewer than two or more than three, or a line ends in it.
+/// Returns the words of a line with one space between each two, or None if there are fewer than two or more than three, or if it
+/// has an end of a line in it.
 pub(crate) fn words_of(line: &str) -> Option<Words<'_>>
     ensures { MatchOption result (spec.HasNoWords line.now) (λ words. spec.IsTextOf line.now (spec.said words)) }
 {
@@ -28,14 +29,14 @@ pub(crate) fn words_of(line: &str) -> Option<Words<'_>>
     if are_words(&words) { Some(words) } else { None }
 }
 
-/// Whether each of them is a word.
+/// Whether each of these is a word.
 pub(crate) fn are_words(words: &Words) -> bool
     ensures { result ≡ spec.are_words (spec.said words.now) }
 {
     is_word(words.verb) && is_word(words.first) && is_word_if(words.second)
 }
 
-/// The text before the first space, and the text behind it if there is one.
+/// Returns the text before the first space, and the text behind it if there is a space.
 fn cut(text: &str) -> (&str, Option<&str>)
     ensures { spec.IsCut text.now result.0.now (option_copied result.1) }
 {

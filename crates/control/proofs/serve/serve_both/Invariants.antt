@@ -2,7 +2,7 @@ use Rattle.std.proofs.Common.{◌≤◌, ◌-◌}
 use Rattle.control.specs.Visits.{CopiesEach}
 use Rattle.control.proofs.serve.serve_both.Given as goal
 
--- the callers so far
+-- the callers so far were served, and the connections that are left count no more than at first
 abbrev pub invariant-loop : goal.invariant-loop
 invariant-loop g l =
     let s = g.S.Shelves in

@@ -1,4 +1,4 @@
--- A command with `--control`, and the `serve` that its line came to.
+-- A command with `--control`, and the `serve` that gets its line.
 use Rattle.std.proofs.Common.{◌≡◌, ℕ, List, [], ◌∷◌, ◌++◌, Bool, true, false, Some, Result, Ok, Err, refl, ◌∙◌, sym, ap, subst, inl, inr, true≢false}
 use Rattle.std.specs.Prelude.{◌&&◌, bytes_eq, codes}
 use Rattle.std.proofs.lemmas.List.Folds.{list_all-append}
@@ -41,7 +41,7 @@ no_stop order sent =
     let words : is_word (said.verb ++ space ∷ (said.first ++ behind said.second)) ≡ true = ap is_word (sym sent.orders.is ∙ line) in
     never (is_word said.verb) (sym (list_all-append is_word_byte said.verb (space ∷ (said.first ++ behind said.second))) ∙ words)
 
--- ---- nor that which orders a copy
+-- ---- nor one that orders a copy
 
 abbrev says_copy : Said → Bool
 says_copy s = bytes_eq s.verb (codes "copy")

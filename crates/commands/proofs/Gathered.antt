@@ -1,27 +1,27 @@
--- What is gathered from a store, part by part.
+-- Gathering a list from a store, part by part.
 use Rattle.std.proofs.Common.{◌≡◌, ◌++◌, ◌∷◌, List, Ok, ◌∙◌, ap, subst, append_assoc}
 use Rattle.std.specs.List.{flat_map}
 use Rattle.world.specs.Store.{Shown}
 use Rattle.world.specs.World.{World}
 use Rattle.commands.specs.Reading.{Adds}
 
--- in this world this is so, and the store stands for it still
+-- this holds, and the store still stands for this world
 pub record KeepsAt (old new : Shown) (w : World) (so : Type 0) : Type 0 where
   pub holds : so
   pub stays : new.stands w
   pub left : (x y : World) → old.leaves x y → new.leaves x y
 
--- so it is in each world that the store stood for
+-- it holds in each world that the store stood for
 pub record Keeps (old new : Shown) (so : World → Type 0) : Type 0 where
   pub honest : new.is_honest → old.is_honest
   pub at : new.is_honest → (w : World) → old.stands w → KeepsAt old new w (so w)
 
 module _ {X T : Type 0} (f : World → X → List T) (before : List T) (goal : World → List T) where
-  -- what is there, and what is left to gather
+  -- the items gathered, and those of what is left, are those that were there first and the goal
   abbrev pub Gathers : List T → List X → World → Type 0
   Gathers items rest w = items ++ flat_map (f w) rest ≡ before ++ goal w
 
-  -- one part more was added
+  -- if the items of one more part were added, gathering goes on
   pub gathered_more : (a b c : Shown) (items more : List T) (x : X) (rest : List X)
       → Keeps a b (Gathers items (x ∷ rest)) → Adds b c items more (Ok tt) (λ w. f w x) → Keeps a c (Gathers more rest)
   gathered_more a b c items more x rest far adds = record {
@@ -36,7 +36,7 @@ module _ {X T : Type 0} (f : World → X → List T) (before : List T) (goal : W
         };
   }
 
-  -- the same of the next part of what is left
+  -- if the items of the next part of what is left were added, gathering goes on
   pub gathered_next : (a b c : Shown) (items more : List T) (x y : X) (left rest : List X) → left ≡ x ∷ rest → y ≡ x
       → Keeps a b (Gathers items left) → Adds b c items more (Ok tt) (λ w. f w y) → Keeps a c (Gathers more rest)
   gathered_next a b c items more x y left rest begins is far adds =

@@ -22,7 +22,7 @@ module _ {R : Type 0} (remaining : R → Option (List ℕ)) (a b : Reader R) (f 
   at_next (Some text) rows config at read =
       rows-more remaining a b f default_config st.StartRecord (strip_bom text) at.0 rows config at.1 at.2 read
 
-  -- one record more was read
+  -- if one more record was read, the reader has read one more row
   pub read_more : (list : Option (List ℕ)) (rows : List (List (List ℕ))) → HasRead remaining list rows a → ReadRecord remaining a b true f
       → is_flexible b ≡ is_flexible a → took_first b ≡ true → HasRead remaining list (rows ++ f ∷ []) b
   read_more list rows so read flexible took = record {
@@ -33,7 +33,7 @@ module _ {R : Type 0} (remaining : R → Option (List ℕ)) (a b : Reader R) (f 
     at = at_next list rows so.config so.at read;
   }
 
--- what was read stands at the front of the list
+-- the list begins with the rows that were read
 pub read_begins : {R : Type 0} (remaining : R → Option (List ℕ)) (list : Option (List ℕ)) (rows : List (List (List ℕ))) (reader : Reader R)
     → HasRead remaining list rows reader → Begins list rows
 read_begins remaining None rows reader so = tt
@@ -41,14 +41,14 @@ read_begins remaining (Some text) rows reader so = (reader_state reader, so.at.0
 
 -- ---- fields
 
--- a field before the end is there
+-- there is a field at each place before the end
 pub field_is_there : (fs : List (List ℕ)) (i : ℕ) → i < length fs → None ≡ field_at fs i → ⊥
 unfolding field_at
 field_is_there [] i below none = absurd (omega arith)
 field_is_there (f ∷ fs) zero below none = cc
 field_is_there (f ∷ fs) (suc i) below none = field_is_there fs i (omega arith) none
 
--- fields that are five are these
+-- five fields are those at the places 0 to 4
 pub five_fields : (fs : List (List ℕ)) (p v t g z : List ℕ) → length fs ≡ 5 → Some p ≡ field_at fs 0 → Some v ≡ field_at fs 1 → Some t ≡ field_at fs 2
     → Some g ≡ field_at fs 3 → Some z ≡ field_at fs 4 → fs ≡ p ∷ v ∷ t ∷ g ∷ z ∷ []
 unfolding field_at

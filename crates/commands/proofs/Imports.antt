@@ -77,7 +77,7 @@ module _ (old new : Shown) (before now : ℕ) (ask : Ask) where
   }
 
 module _ (told : List ℕ → Option (Option (List ℕ))) (key : List ℕ) where
-  -- a row whose files were had is a publish of them
+  -- a row whose files were read is a publish of them
   pub row_published : (old new : Shown) (before now : ℕ) (l : Line) (body : Body) (answer : Fixed) → IsBodyOf told l (Ok body)
       → Publishes old new before now (spec.ask_of key l body) answer → DoesRow old new before now told key l (outcome.Answered answer)
   row_published old new before now l body answer had is = record {
@@ -102,7 +102,7 @@ module _ (told : List ℕ → Option (Option (List ℕ))) (key : List ℕ) where
     is = refl;
   }
 
-  -- nothing is done
+  -- an unchanged store goes through no rows
   pub nothing_done : (old : Shown) (before : ℕ) → GoesThrough old old before before told key []
   nothing_done old before = record {
     done = tt;
@@ -111,13 +111,13 @@ module _ (told : List ℕ → Option (Option (List ℕ))) (key : List ℕ) where
     device = λ never. absurd never;
   }
 
-  -- ---- one row more
+  -- ---- one more row
 
   done_more : (turns : List Turn) (t : Turn) → spec.AreDone told key turns → spec.IsDone told key t.line t.done → spec.AreDone told key (turns ++ t ∷ [])
   done_more [] t done last = (last, tt)
   done_more (u ∷ turns) t done last = (done.0, done_more turns t done.1 last)
 
-  -- the rows that were done, and one more
+  -- a store that goes through rows and then through one more goes through all of them
   pub through_more : (a b c : Shown) (n0 n1 n2 : ℕ) (turns : List Turn) (t : Turn) → GoesThrough a b n0 n1 told key turns
       → GoesThrough b c n1 n2 told key (t ∷ []) → GoesThrough a c n0 n2 told key (turns ++ t ∷ [])
   through_more a b c n0 n1 n2 turns t far next = record {
@@ -133,7 +133,7 @@ module _ (told : List ℕ → Option (Option (List ℕ))) (key : List ℕ) where
         ];
   }
 
-  -- the rows that were done, and then nothing
+  -- a store that goes through rows and then through none goes through the rows
   pub through_idle : (a b c : Shown) (n0 n1 n2 : ℕ) (turns : List Turn) → GoesThrough a b n0 n1 told key turns
       → GoesThrough b c n1 n2 told key [] → GoesThrough a c n0 n2 told key turns
   through_idle a b c n0 n1 n2 turns far idle = record {
@@ -148,7 +148,7 @@ module _ (told : List ℕ → Option (Option (List ℕ))) (key : List ℕ) where
   -- ---- how an import ends
 
   module _ (old new : Shown) (before now : ℕ) (list w0 w1 w2 : Option (List ℕ)) (turns : List Turn) where
-    -- no further row is done
+    -- an import that did these rows and printed the line that ends it does as `Imports` says
     pub closed : (n : ℕ) (why : Closing) (accepted : Bool) (result : Result Ending Io) → spec.AreFirst list turns
         → GoesThrough old new before now told key turns → spec.IsOver list turns n why → accepted ≡ list_all spec.is_accepted turns → Appends w0 w1 (spec.lines_from 1 turns)
         → spec.Closes n why accepted w1 w2 result → Imports old new before now told key list w0 w2 result
@@ -165,7 +165,7 @@ module _ (told : List ℕ → Option (Option (List ℕ))) (key : List ℕ) where
       ends = (closes.0, inr (n, why, closes.1.0, over, closes.1.1, Appends-trans w0 w1 w2 _ _ printed closes.1.2));
     }
 
-    -- the line of a row broke off
+    -- an import whose output broke off in the line of a row does as `Imports` says
     pub broken_off : (mid : Shown) (between n : ℕ) (t : Turn) (e : Io) → spec.AreFirst list (turns ++ t ∷ [])
         → GoesThrough old mid before between told key turns
         → GoesThrough mid new between now told key (t ∷ []) → Appends w0 w1 (spec.lines_from 1 turns) → n ≡ length turns + 1 → e ≡ io.Write
@@ -194,7 +194,7 @@ module _ {R : Type 0} (remaining : R → Option (List ℕ)) (list : Option (List
   are_first [] reader read = tt
   are_first (t ∷ ts) reader read = begun list _ _ _ read.at
 
--- the rows, and one more
+-- the rows with one more at the end
 pub rows_more : (turns : List Turn) (t : Turn) → spec.rows_of turns ++ fields_of_line t.line ∷ [] ≡ spec.rows_of (turns ++ t ∷ [])
 rows_more turns t = ap (λ l. header ∷ l) (sym (map-append (λ (u : Turn). fields_of_line u.line) turns (t ∷ [])))
 
@@ -206,7 +206,7 @@ lines_after n (u ∷ turns) t =
     ∙ sym (append_assoc (spec.line_of n u) (spec.lines_from (n + 1) turns) (spec.line_of (n + 1 + length turns) t))
     ∙ ap (λ k. (spec.line_of n u ++ spec.lines_from (n + 1) turns) ++ spec.line_of k t) same
 
--- the lines, and one more
+-- printing the line of one more row prints the lines of all
 pub lines_more : (a b c : Option (List ℕ)) (n : ℕ) (turns : List Turn) (t : Turn) → n ≡ length turns + 1 → Appends a b (spec.lines_from 1 turns)
     → Appends b c (spec.line_of n t) → Appends a c (spec.lines_from 1 (turns ++ t ∷ []))
 lines_more a b c n turns t count printed more =
@@ -222,7 +222,7 @@ and_assoc : (a b c : Bool) → a && (b && c) ≡ (a && b) && c
 and_assoc true b c = refl
 and_assoc false b c = refl
 
--- whether all are accepted, with one more
+-- all rows with one more are accepted if the first ones and the last are
 pub all_more : (turns : List Turn) (t : Turn) → list_all spec.is_accepted (turns ++ t ∷ []) ≡ list_all spec.is_accepted turns && spec.is_accepted t
 all_more [] t = and_true (spec.is_accepted t)
 all_more (u ∷ turns) t =

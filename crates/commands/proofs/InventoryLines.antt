@@ -13,7 +13,7 @@ use Rattle.commands.specs.InventoryLines.{lines_of, lines_at, lines_of_path, lin
 use Rattle.commands.specs.Reading.{Adds}
 
 module _ {A B C : Type 0} where
-  -- part by part
+  -- flattening twice is flattening once, part by part
   flat_map_twice : (g : B → List C) (f : A → List B) (xs : List A) → flat_map g (flat_map f xs) ≡ flat_map (λ x. flat_map g (f x)) xs
   flat_map_twice g f [] = refl
   flat_map_twice g f (x ∷ xs) = flat_map-append g (f x) (flat_map f xs) ∙ ap (λ l. flat_map g (f x) ++ l) (flat_map_twice g f xs)
@@ -36,7 +36,7 @@ module _ (w : World) (s : List ℕ) where
   pub whole_text : line header ++ lines_seen w s ≡ inventory_of_shelf w s
   whole_text = sym (ap (λ l. line header ++ l) same_lines)
 
--- so a writer that was given both was given the inventory
+-- a writer that was given the header and these lines was given the inventory
 pub reads_lines : (old new : Shown) (s before after text : List ℕ) → before ≡ line header → text ≡ after
     → Adds old new before after (Ok tt) (λ w. lines_seen w s) → Reads old new (Ok text) (λ w. inventory_of_shelf w s)
 reads_lines old new s before after text begins is adds = record {

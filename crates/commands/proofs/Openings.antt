@@ -21,7 +21,7 @@ use Rattle.engine.specs.Served.{Serves}
 use Rattle.engine.specs.declared.fault.Io.{Io as Failure}
 use Rattle.commands.specs.Opening.{ServedFrom, opening}
 
--- a team has another name than common
+-- no team is named `common`
 not_common : (t : List ℕ) → is_team_name t ≡ true → t ≡ common → ⊥
 not_common t named =
     let last = (and_parts (nat_le (length t) 32 && begins_lower t && list_all (λ c. is_lower c || is_digit c || nat_eq c 45) t) (not (bytes_eq t common)) named).1 in
@@ -56,7 +56,7 @@ module _ (old new : World) (t : List ℕ) (r : Registered) where
       (does.at tt (with_team only_common t None) (begins, one_team t team) tt).ok.0
       ∙ ap (after_key_add (with_team only_common t None) t k Publishes) (key_is_added t k named)
 
--- what holds of shelves that are those of the opening holds of the opening
+-- requests that were answered from shelves at the opening's world were answered from the opening
 pub served_from : (start begin end : World) (unread unread_new written written_new : Option (List ℕ)) (result : Result (Unit {0}) Failure)
     → Serves (in_memory start) (in_memory end) 0 0 unread unread_new written written_new result → start ≡ begin
     → ServedFrom begin unread unread_new written written_new result

@@ -11,13 +11,14 @@ use Rattle.commands.specs.InventoryLines.{outlined, lines_of, lines_at}
 use Rattle.commands.specs.Reading.{Adds}
 use Rattle.commands.specs.declared.inventory.Row.{Row}
 
--- the row of what is seen is that of its outline
+-- the row of what is seen is the row of its outline
 same_row : (p : List ℕ) (v : SemanticVersion) (seen : Option Seen) → outlined p v (in_outline seen) ≡ row_of p v seen
 same_row p v None = refl
 same_row p v (Some seen) = refl
 
 -- once the outline of a version was read
 module _ (old new : Shown) (s p : List ℕ) (v : SemanticVersion) (found : Option Outline) (read : Reads old new (Ok found) (λ w. outline w s p (version_text v))) (before after : List ℕ) where
+  -- adding the lines of the outline adds those of the version
   adds_lines : (o : Option Outline) → found ≡ o → after ≡ before ++ lines_of (outlined p v o) → Adds old new before after (Ok tt) (λ w. lines_at w s p v)
   adds_lines o is told = record {
     honest = read.honest;
@@ -31,11 +32,11 @@ module _ (old new : Shown) (s p : List ℕ) (v : SemanticVersion) (found : Optio
         };
   }
 
-  -- no line is to be added where there is none
+  -- without an outline, adding nothing adds the lines of the version
   pub adds_none : found ≡ None → after ≡ before → Adds old new before after (Ok tt) (λ w. lines_at w s p v)
   adds_none is same = adds_lines None is (same ∙ sym (append-nil before))
 
-  -- the line of its row is
+  -- with an outline, adding the line of its row adds those of the version
   pub adds_one : (it : Outline) (row : Row) → found ≡ Some it → row ∷ [] ≡ outlined p v (Some it) → after ≡ before ++ line (fields row) → Adds old new before after (Ok tt) (λ w. lines_at w s p v)
   adds_one it row is rows told =
       adds_lines (Some it) is (told ∙ (ap (λ l. before ++ l) (sym (append-nil (line (fields row)))) ∙ ap (λ rs. before ++ lines_of rs) rows))

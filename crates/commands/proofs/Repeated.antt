@@ -63,7 +63,7 @@ AreFront [] qs = Unit {0}
 AreFront (r ∷ rs) [] = ⊥
 AreFront (r ∷ rs) (q ∷ qs) = (r ≡ q) × AreFront rs qs
 
--- what is read of a text is the front of all its rows
+-- the rows that were read from a text are the first of all its rows
 front_of_all : (cfg : Config) (s s1 s2 : State) (xs y1 y2 : List ℕ) (rs qs : List (List (List ℕ))) → Reached cfg s xs rs s1 y1 → Reached cfg s xs qs s2 y2
     → next_record cfg s2 [] [] y2 ≡ None → AreFront rs qs
 unfolding Reached
@@ -81,7 +81,7 @@ abbrev line_in : List (List ℕ) → Line
 line_in (path ∷ version ∷ time ∷ gomod ∷ zip ∷ []) = record { path = path; version = version; time = time; gomod = gomod; zip = zip }
 line_in fields = record { path = []; version = []; time = []; gomod = []; zip = [] }
 
--- the rows of the first are the first rows of the second
+-- the rows of the first import are the first rows of the second
 abbrev AreFirstOf : List Turn → List Turn → Type 0
 AreFirstOf [] us = Unit {0}
 AreFirstOf (t ∷ ts) [] = ⊥
@@ -108,6 +108,7 @@ refused (refusal.BadGoMod line) is = cc is
 refused refusal.ModulePath is = cc is
 refused refusal.IncompatibleGoMod is = cc is
 
+-- a decision that is answered 200 or 201 accepts the publish
 decided : (d : Decision) → accepts (fixed_status (answer_of (Ok (reply.Decided d)))) ≡ true → IsAccepted d
 decided decision.Published is = tt
 decided decision.Same is = tt
@@ -119,7 +120,7 @@ decided (decision.Refused why) is = absurd (refused why is)
 decided decision.Conflict is = absurd (cc is)
 decided decision.Full is = absurd (cc is)
 
--- only a decision that accepts is answered so
+-- a reply that is answered 200 or 201 is a decision that accepts the publish
 accepted : (r : Reply) → accepts (fixed_status (answer_of (Ok r))) ≡ true → (d : Decision) × (r ≡ reply.Decided d) × IsAccepted d
 accepted (reply.Decided d) is = (d, refl, decided d is)
 accepted reply.NotFound is = absurd (cc is)
@@ -133,7 +134,7 @@ accepted (reply.Registry outcome) is = absurd (cc is)
 no_decision : (d : Decision) → reply.Decided d ≡ reply.NotFound → ⊥
 no_decision d e = cc e
 
--- what was decided on is a publish, by whatever key it is asked
+-- an ask that got a decision is a publish, and with each key it is that publish
 asked_put : (key : List ℕ) (path : Option (List ℕ)) (version : Option SemanticVersion) (time : GivenTime) (body : Body) (w : World) (d : Decision)
     → reply.Decided d ≡ ask_reply w (asked_at key path version time body)
     → (p : Publish) × ((k : List ℕ) → asked_at k path version time body ≡ Put k p) × (is_some path && is_some version ≡ true)
@@ -143,7 +144,7 @@ asked_put key None (Some version) time body w d is = absurd (no_decision d is)
 asked_put key None None time body w d is = absurd (no_decision d is)
 
 module _ (files : List ℕ → Option (Option (List ℕ))) where
-  -- the row asks this publish, by whatever key
+  -- the row asks this publish with each key
   record Asks (l : Line) (p : Publish) : Type 0 where
     body : Body
     had : IsBodyOf files l (Ok body)
@@ -157,7 +158,7 @@ module _ (files : List ℕ → Option (Option (List ℕ))) where
   AskEach (t ∷ ts) [] = ⊥
   AskEach (t ∷ ts) (p ∷ ps) = Asks t.line p × AskEach ts ps
 
-  -- what a row that was accepted did
+  -- what was done with a row that was accepted
   record Accepted (key : List ℕ) (l : Line) (d : Done) : Type 0 where
     publish : Publish
     asks : Asks l publish
@@ -166,6 +167,7 @@ module _ (files : List ℕ → Option (Option (List ℕ))) where
     answer : answers_of d ≡ told ∷ []
     accepts : IsAcceptance told
 
+  -- a row that was accepted is a publish that the machine accepted
   row_accepted : (key : List ℕ) (w new : World) (l : Line) (d : Done) (es : List Event) (told : List Answer) → IsDone files key l d
       → accepts_outcome (outcome_of d) ≡ true → Run w (events_of d ++ es) (answers_of d ++ told) new → Accepted key l d
   row_accepted key w new l (Answers ask (Replied r)) es told (body, had, is) accepts run =
@@ -184,7 +186,7 @@ module _ (files : List ℕ → Option (Option (List ℕ))) where
   row_accepted key w new l HasNoFile es told done accepts run = absurd (cc accepts)
   row_accepted key w new l Unfetched es told done accepts run = absurd (cc accepts)
 
-  -- what an import did whose rows were all accepted
+  -- what was done by an import whose rows were all accepted
   record TookAll (key : List ℕ) (turns : List Turn) : Type 0 where
     publishes : List Publish
     asks : AskEach turns publishes
@@ -195,6 +197,7 @@ module _ (files : List ℕ → Option (Option (List ℕ))) where
   run_after w new e (Replied r) es told run = (after w e, run.1)
   run_after w new e (Failed fault) es told run = (w, run)
 
+  -- rows that were all accepted are publishes that the machine accepted
   all_in : (key : List ℕ) (w new : World) (turns : List Turn) → AreDone files key turns → list_all spec.is_accepted turns ≡ true
       → Run w (events turns) (answers turns) new → TookAll key turns
   all_in key w new [] done all run = record { publishes = []; asks = tt; are = refl; accepts = tt }
@@ -244,23 +247,24 @@ module _ (files : List ℕ → Option (Option (List ℕ))) where
           | inr z ↦ told_or_none zip_limit (files l.zip) asks.body.zip (known l.zip) zip z
         ]
 
-    -- it is published again, by another key
+    -- a row that is done again with another key asks the same publish
     asked_again : (key : List ℕ) (l : Line) (p : Publish) (ask : Ask) (answer : Answer) → Asks l p → IsDone files key l (Answers ask answer) → ask ≡ Put key p
     asked_again key l p ask answer asks (b, had, is) =
         is ∙ ap (spec.ask_of key l) (same_body l b asks.body asks.readable had asks.had) ∙ asks.asks key
 
-    -- what a row was told; a fault where it was not asked
+    -- the answer of a row, or a fault if the machine was not asked
     abbrev answer_in : Done → Answer
     answer_in (Answers ask answer) = answer
     answer_in HasNoFile = Failed Memory
     answer_in Unfetched = Failed Memory
 
-    -- an answer for each publish: a fault for those that were not asked
+    -- an answer for each publish, which is a fault for those that the machine was not asked
     abbrev padded : List Publish → List Turn → List Answer
     padded [] ts = []
     padded (p ∷ ps) [] = Failed Memory ∷ padded ps []
     padded (p ∷ ps) (t ∷ ts) = answer_in t.done ∷ padded ps ts
 
+    -- a run over a row that is done again is a run over its publish
     one_again : (key : List ℕ) (w new : World) (l : Line) (d : Done) (p : Publish) (es fs : List Event) (told more : List Answer) → Asks l p → IsDone files key l d
         → ((v : World) → Run v es told new → Run v fs more new) → Run w (events_of d ++ es) (answers_of d ++ told) new
         → Run w (Asked (Put key p) ∷ fs) (answer_in d ∷ more) new
@@ -272,6 +276,7 @@ module _ (files : List ℕ → Option (Option (List ℕ))) where
     one_again key w new l HasNoFile p es fs told more asks done go run = absurd (has_files l p asks done)
     one_again key w new l Unfetched p es fs told more asks done go run = go w run
 
+    -- a run over rows that are done again is a run over their publishes
     all_again : (key : List ℕ) (w new : World) (us ts : List Turn) (ps : List Publish) → AskEach us ps → AreFirstOf ts us → AreDone files key ts
         → Run w (events ts) (answers ts) new → Run w (puts key ps) (padded ps ts) new
     all_again key w new [] [] [] asks first done run = run
@@ -283,7 +288,7 @@ module _ (files : List ℕ → Option (Option (List ℕ))) where
         one_again key w new t.line t.done p (events ts) (puts key ps) (answers ts) (padded ps ts) (subst (λ l. Asks l p) (sym first.0) asks.0) done.0
         (λ v so. all_again key v new us ts ps asks.1 first.1 done.1 so) run
 
-    -- it was answered that it is published already, or 503
+    -- a row that is done again and got `Same` or a fault is answered `200 already published` or 503
     repeat : (key : List ℕ) (l : Line) (d : Done) (p : Publish) → Asks l p → IsDone files key l d
         → (answer_in d ≡ Replied (reply.Decided decision.Same)) ⊎ IsFailed (answer_in d)
         → (outcome_of d ≡ outcome.Answered fixed.AlreadyPublished) ⊎ (outcome_of d ≡ outcome.Answered fixed.Unavailable)
@@ -307,7 +312,7 @@ all_or_some : (b : Bool) → AllIn ≡ (if b then AllIn else SomeOut) → b ≡ 
 all_or_some true e = refl
 all_or_some false e = absurd (cc e)
 
--- the rows of an import that ended with all in are all those of its list, and each was accepted
+-- an import that ended as all accepted did all rows of its list, and each was accepted
 whole_list : (text : List ℕ) (turns : List Turn) (n : ℕ) (why : Closing) → spec.IsOver (Some text) turns n why → AllIn ≡ spec.ending_of (list_all spec.is_accepted turns) why
     → (list_all spec.is_accepted turns ≡ true) × Meets (Some text) (spec.rows_of turns) (λ next. next ≡ None)
 whole_list text turns n closing.End (inl over) ends = (all_or_some (list_all spec.is_accepted turns) ends, over.1)
@@ -315,6 +320,7 @@ whole_list text turns n closing.End (inr over) ends = absurd over.2
 whole_list text turns n closing.BadRow over ends = absurd (cc ends)
 whole_list text turns n closing.Unread over ends = absurd (cc ends)
 
+-- importing a list again that was imported whole changes nothing
 pub repeated_import_changes_nothing : RepeatedImportChangesNothing
 repeated_import_changes_nothing files text k again s old mid later new turns repeated between told known is own first (n, why, over, ends) after may second =
     let (accepts, whole) = whole_list text turns n why over ends in

@@ -33,7 +33,7 @@ use Rattle.commands.specs.Inventory.{row_of, row_at, rows_of_path, rows_at, rows
 use Rattle.commands.specs.Rows.{is_of, HasOneRow, RowsAreWhole, TellsAll}
 use Rattle.commands.specs.declared.inventory.Row.{Row}
 
--- ---- what is gathered of one member of a set
+-- ---- what is gathered from one member of a set
 
 first : (a b : Bool) → T (a && b) → T a
 first true b h = tt
@@ -49,7 +49,7 @@ not_tied Equal h = absurd h
 not_tied Greater h = absurd h
 
 module _ {K B : Type 0} {R : K → K → Ordering} (o : IsTotalOrder R) (exact : map.IsAntisymmetric R) (f : K → List B) (k : K) where
-  -- nothing is gathered of the other members
+  -- nothing is gathered from the other members
   abbrev pub OfNoOther : List K → Type 0
   OfNoOther ks = (x : K) → Contains ks x → eq_by_cmp R k x ≡ false → f x ≡ []
 
@@ -59,6 +59,7 @@ module _ {K B : Type 0} {R : K → K → Ordering} (o : IsTotalOrder R) (exact :
       ap (λ l. l ++ flat_map f (each (λ x. x.0) es)) (others e.0 (first_member e.0 (each (λ x. x.0) es)) (not_tied (R k e.0) (first _ _ below)))
       ∙ none_above es (second _ _ below) (λ x at. others x (later_member e.0 x (each (λ y. y.0) es) at))
 
+  -- gathering from sorted members gives what one of them gives, if the others give nothing
   just_one : (es : List (K × Unit {0})) → T (map.is_sorted R es) → Contains (each (λ e. e.0) es) k → OfNoOther (each (λ e. e.0) es) → flat_map f (each (λ e. e.0) es) ≡ f k
   just_one [] up at others = absurd (no_member k at)
   just_one (e ∷ es) up at others =
@@ -96,7 +97,7 @@ module _ {X B : Type 0} where
 
 -- ---- each path and version has one row
 
--- members that a set tells apart are others
+-- texts that a set tells apart are different
 other_text : (p x : List ℕ) → eq_by_cmp text_cmp p x ≡ false → bytes_eq x p ≡ false
 other_text p x apart = false_from_ne_true (bytes_eq x p) (λ same.
     true≢false (sym (ap is_eq (tied_itself texts_total p)) ∙ ap (eq_by_cmp text_cmp p) (sym (text_same x p same)) ∙ apart))
@@ -146,6 +147,7 @@ module _ (w : World) (is : IsWorld w) (s p t : List ℕ) (seen : Seen) (found : 
         ap (λ b. b && bytes_eq (version_text v) t) (text_self p) ∙ ap (λ x. bytes_eq x t) text ∙ text_self t in
         ap (λ o. filter (is_of p t) (row_of p v o)) (ap (view w s p) text ∙ found) ∙ ap (λ b. cond b (row_of p v (Some seen)) []) both
 
+  -- a version that the shelf sees has exactly one row
   one_row : HasOneRow (rows_seen w s) p t seen
   one_row =
       let reads = seen_places_read w s p t is (seen, found) in
@@ -158,7 +160,7 @@ module _ (w : World) (is : IsWorld w) (s p t : List ℕ) (seen : Seen) (found : 
             ∙ at_version reads.named valid reads.text ∙ row_there reads.named valid reads.text;
       }
 
--- ---- each row is of what is seen
+-- ---- each row is of a version that is seen
 
 row_is_seen : (w : World) (s p : List ℕ) (v : SemanticVersion) (r : Row) (o : Option Seen) → view w s p (version_text v) ≡ o → Contains (row_of p v o) r → IsSeen w s r.path (version_text r.version)
 row_is_seen w s p v r None none at = absurd (no_member r at)
@@ -179,7 +181,7 @@ rows_are_seen w s r at = let of = member_of_one (rows_of_text w s) (in_order (pa
 pub rows_are_whole : RowsAreWhole
 rows_are_whole w s is = record { each = λ p t seen found. one_row w is s p t seen found; no_other = λ r at. rows_are_seen w s r at }
 
--- so an inventory tells all
+-- the inventory of a key is whole
 pub tells_all : (w : World) (key text : List ℕ) → IsWorld w → Some text ≡ inventory_of w (map.get w.keys key) → TellsAll w key text
 tells_all w key text is told = by_holder (map.get w.keys key) refl told
   where

@@ -1,4 +1,4 @@
--- Orders that no line can carry: what comes of them in each world.
+-- How orders that no line can carry end in each world.
 use Rattle.std.proofs.Common.{◌≡◌, ◌≢◌, ℕ, ◌+◌, ◌<◌, ◌≤◌, ◌⊎◌, inl, inr, List, [], ◌∷◌, ◌++◌, length, Bool, true, false, Option, Some, None, Result, Ok, Err, refl, ◌∙◌, sym, ap, subst, arith, nat_eq, nat_lt, ltb-true, leb-true, true≢false}
 use Rattle.std.specs.Borrow.{Bor}
 use Rattle.std.specs.Prelude.{◌&&◌, ◌||◌, not, if◌then◌else◌, codes, bytes_eq, nat_le, is_some, option_copied}
@@ -35,7 +35,7 @@ use Rattle.commands.specs.declared.refusal.Refusal.TheVariants.{NoTeam}
 
 -- ---- words that a line can carry
 
--- a word of ASCII, of so many bytes at most
+-- a word of ASCII with at most this many bytes
 record Fits (most : ℕ) (word : List ℕ) : Type 0 where
   says : is_word word ≡ true
   ascii : IsAscii word
@@ -80,7 +80,7 @@ key_fits k h =
       few = leb-true (length k) 64 (and_parts _ _ all.0).1;
     }
 
--- a literal word
+-- a literal word fits if these tests hold
 word_fits : (most : ℕ) (word : List ℕ) → is_word word ≡ true → list_all (λ b. nat_lt b 128) word ≡ true → nat_le (length word) most ≡ true → Fits most word
 word_fits most word says ascii few = record { says = says; ascii = ascii_by (λ b. nat_lt b 128) small word ascii; few = leb-true (length word) most few }
 
@@ -92,7 +92,7 @@ add_fits : (right : Right) → Fits 10 (add_word right)
 add_fits Publishes = word_fits 10 (codes "key-add") refl refl refl
 add_fits Reads = word_fits 10 (codes "reader-add") refl refl refl
 
--- ---- the line of them
+-- ---- a line of such words
 
 abbrev FitsIf : ℕ → Option (List ℕ) → Type 0
 FitsIf most None = Unit {0}
@@ -110,6 +110,7 @@ behind_few : (most : ℕ) (o : Option (List ℕ)) → FitsIf most o → length (
 behind_few most None fits = omega arith
 behind_few most (Some word) fits = let few = fits.few in omega (arith, few)
 
+-- an order whose words fit into 127 bytes has a line
 carried : (a b c : ℕ) (order : Order) → Fits a (said_in order).verb → Fits b (said_in order).first → FitsIf c (said_in order).second → a + b + c + 2 ≤ 127
     → (sent : List ℕ) × IsSent sent order
 carried a b c order verb first second room =
@@ -132,7 +133,7 @@ carried a b c order verb first second room =
 
 -- ---- groups that are sent for others
 
--- the group that a team names can stand in a line
+-- the group of a team fits in a line
 abbrev IsGroupSayable : Option (List ℕ) → Type 0
 IsGroupSayable None = Unit {0}
 IsGroupSayable (Some group) = (group ≡ common) ⊎ (is_team_name group ≡ true)
@@ -167,7 +168,7 @@ no_group w g is unnamed = go (map.get w.shelves g) refl
       | inr named ↦ absurd (true≢false (sym named ∙ unnamed))
     ]
 
--- where it is no group, the team is refused
+-- the answer to adding a team, by these tests
 abbrev answer : Bool → Bool → Bool → Registered
 answer named there group =
     if not named then registered.Name else if there then registered.Taken else if not group then registered.NoGroup else registered.Done
@@ -182,6 +183,7 @@ refused w t g none =
     idle true false = refl
     idle false there = refl
 
+-- adding a team with the group that is sent does what adding it with its own group does
 same_team : (w : World) (t : List ℕ) (group : Option (List ℕ)) → IsWorld w
     → (team_added w t (group_sent group) ≡ team_added w t group)
     × (after_team_add w t (group_sent group) (team_added w t (group_sent group)) ≡ after_team_add w t group (team_added w t group))
@@ -208,8 +210,9 @@ comes_to_the_same (GroupAdd name) sent is w world = (ap (outcome_in w) is, ap (�
 comes_to_the_same (KeyAdd shelf key right) sent is w world = (ap (outcome_in w) is, ap (λ o. after w (event_of o)) is)
 comes_to_the_same (KeyRevoke key) sent is w world = (ap (outcome_in w) is, ap (λ o. after w (event_of o)) is)
 
--- ---- what comes of an order that no line carries
+-- ---- how an order that no line carries ends
 
+-- adding a team that no line carries is refused in each world as the command says
 team_unsaid : (name : Bor (List ℕ)) (group : Option (Bor (List ℕ))) → IsGroupSayable (option_copied group) → IsUnsayable (TeamAdd name group)
     → (w : World) → ending (Ok (outcome_in w (TeamAdd name group))) ≡ Err (unsayable (TeamAdd name group))
 team_unsaid name group sayable unsaid w = go (is_team_name name.now) refl
@@ -237,10 +240,12 @@ key_told named there taken = if not named then registered.Name else if not there
 abbrev key_word : Bool → Result (Unit {0}) Refusal
 key_word named = Err (refusal_by named NoTeam)
 
+-- adding a key that no line carries is refused in each world as the command says
 key_unsaid : (shelf key : Bor (List ℕ)) (right : Right) → IsUnsayable (KeyAdd shelf key right) → (w : World) → IsWorld w
     → ending (Ok (outcome_in w (KeyAdd shelf key right))) ≡ Err (unsayable (KeyAdd shelf key right))
 key_unsaid shelf key right unsaid w is = go (is_key key.now) (map.contains_key w.shelves shelf.now) refl refl
   where
+    -- by whether the key keeps its rule, and whether there is the shelf
     go : (named there : Bool) → is_key key.now ≡ named → map.contains_key w.shelves shelf.now ≡ there
         → ending (Ok (outcome_in w (KeyAdd shelf key right))) ≡ Err (unsayable (KeyAdd shelf key right))
     go false there unnamed at =
@@ -262,7 +267,7 @@ revoke_unsaid key unsaid w is = go (map.get w.keys key.now) refl
         let it = carried 10 64 0 (KeyRevoke key) (word_fits 10 (codes "key-revoke") refl refl refl) (key_fits key.now (is.key_names key.now h at)) tt (omega arith) in
         absurd (unsaid it.0 it.1)
 
--- as it is sent for another
+-- an order that no line carries ends in each world as the command says, also if another is sent for it
 pub unsent_ends : (order sent : Order) → IsSentFor order sent → IsUnsayable sent → (w : World) → IsWorld w → Err (unsayable sent) ≡ ending (Ok (outcome_in w order))
 unsent_ends (TeamAdd name group) sent (other, is, same) unsaid w world =
     let sayable = subst IsGroupSayable (sym same) (sent_sayable (option_copied group)) in
@@ -274,6 +279,7 @@ unsent_ends (KeyRevoke key) sent is unsaid w world = ap (λ o. Err (unsayable o)
 
 -- ---- the command
 
+-- a command that sends the order for its own, and ends by the result, does as `OrdersOver` says
 pub orders_over : (unread unread_new written written_new : Option (List ℕ)) (order asked : Order) (told : Result Outcome Untold) (result : Result (Unit {0}) Refusal)
     → IsSentFor order asked → Asks unread unread_new written written_new asked told → result ≡ told_ending asked told
     → OrdersOver unread unread_new written written_new order result

@@ -1,4 +1,4 @@
--- One text is written after another.
+-- Writing one text after another.
 use Rattle.std.proofs.Common.{◌≢◌, ◌++◌, List, ℕ, Option, [], ◌∷◌, Ok, Err, Result, refl, sym, ap, ◌∙◌, append_assoc, append-nil}
 use Rattle.std.proofs.KnownBytes.{Appends-trans}
 use Rattle.std.specs.Io.KnownBytes.{Appends}
@@ -6,7 +6,7 @@ use Rattle.engine.specs.Written.{Writes, WritesPart}
 use Rattle.engine.specs.declared.fault.Io.{Io}
 use Rattle.commands.specs.ImportLine.{PrintsFront}
 
--- a text was written, and then another, or a beginning of it
+-- writing a text and then another, or a beginning of it, writes both, or a beginning
 pub writes_after : {T : Type 0} (a b c : Option (List ℕ)) (first last : List ℕ) (result : Result T Io) → Appends a b first → Writes b c last result
     → Writes a c (first ++ last) result
 writes_after a b c first last (Ok u) done then = Appends-trans a b c first last done then
@@ -24,7 +24,7 @@ longer : (rest last : List ℕ) → rest ≢ [] → rest ++ last ≢ []
 longer [] last some = absurd (some refl)
 longer (x ∷ rest) last some = λ none. cc
 
--- a beginning of the first of two texts is one of both
+-- a beginning of the first of two texts is a beginning of both
 pub part_first : (a b : Option (List ℕ)) (first last : List ℕ) → WritesPart a b first → WritesPart a b (first ++ last)
 part_first a b first last (front, (rest, some, cut), did) =
     (front, (rest ++ last, longer rest last some, ap (λ l. l ++ last) cut ∙ append_assoc front rest last), did)

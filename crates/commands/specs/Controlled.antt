@@ -1,4 +1,4 @@
--- A command with `--control`, and the `serve` that its line came to.
+-- A command with `--control`, and the `serve` that gets its line.
 use Rattle.std.specs.Prelude.{ℕ, ◌≡◌, ◌⊎◌, List, [], Option, Some, Result, Ok, Err}
 use Rattle.world.specs.Store.{Shown}
 use Rattle.world.specs.World.{World}
@@ -13,7 +13,7 @@ use Rattle.commands.specs.Ending.{ending}
 use Rattle.commands.specs.Order.{OrdersOver}
 use Rattle.commands.specs.declared.refusal.Refusal.{Refusal}
 
--- The command wrote these bytes, the server did what they order, and what came of it is what the command was told.
+-- The command wrote these bytes, the server did what they order, and the command got its outcome.
 pub record AreConnected (copied : List ℕ → Result (Unit {0}) CopyRefusal → Type 0) (old new : Shown) (order : Order)
     (result : Result (Unit {0}) Refusal)
     : Type 0 where
@@ -27,14 +27,14 @@ pub record AreConnected (copied : List ℕ → Result (Unit {0}) CopyRefusal →
   pub heard : command.told ≡ Ok told
   pub server : Heeds copied old new before now sent told
 
--- In this world, the command ends as the order does there, and the store stands for the world after the order. Or it met a fault, and the
--- store stands for the world still.
+-- The command ends by the machine's reply to the order in this world, and the store stands for the world after it. Or it ends by a
+-- fault of the store, which still stands for this world.
 abbrev pub EndsAt : Shown → World → Order → Result (Unit {0}) Refusal → Type 0
 EndsAt new w order result =
     ((result ≡ ending (Ok (outcome_in w order))) × new.stands (after w (event_of order)))
     ⊎ ((fault : StoreFault) × (result ≡ ending (Err fault)) × new.stands w)
 
--- So it is in each world that the store stood for, on an honest disk.
+-- On an honest disk, the command ends so in each world that the store stood for.
 abbrev pub EndsAsOnTheStore : (List ℕ → Result (Unit {0}) CopyRefusal → Type 0) → Shown → Shown → Type 0
 EndsAsOnTheStore copied old new =
     (order : Order) (result : Result (Unit {0}) Refusal) (w : World)

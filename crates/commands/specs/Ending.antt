@@ -1,4 +1,4 @@
--- How a command ends, by what the store told.
+-- How a command ends, by the result of the store.
 use Rattle.std.specs.Prelude.{ℕ, ◌≡◌, List, codes, Result, Ok, Err}
 use Rattle.world.specs.World.{World}
 use Rattle.world.specs.Store.{Shown, Does, HasCause}
@@ -9,7 +9,7 @@ use Rattle.world.specs.declared.registry.StoreFault.TheVariants as fault
 use Rattle.commands.specs.declared.refusal.Refusal.{Refusal}
 use Rattle.commands.specs.declared.refusal.Refusal.TheVariants as refusal
 
--- the word that tells why a command was refused
+-- the word that says why a command was refused
 abbrev pub word : Refusal → List ℕ
 word refusal.Name = codes "name"
 word refusal.Taken = codes "taken"
@@ -24,7 +24,7 @@ word refusal.NotFound = codes "not-found"
 word refusal.BadRow = codes "bad-row"
 word refusal.Io = codes "io"
 
--- how a command of the registry ends
+-- how a registry command ends
 abbrev pub ending : Result Registered StoreFault → Result (Unit {0}) Refusal
 ending (Ok registered.Done) = Ok tt
 ending (Ok registered.Name) = Err refusal.Name
@@ -35,8 +35,8 @@ ending (Ok registered.NoGroup) = Err refusal.NoGroup
 ending (Err fault.Device) = Err refusal.Device
 ending (Err fault.Memory) = Err refusal.Memory
 
--- From old to new the store did a command of the registry, with this outcome and this next world in each world that it stood
--- for, or met a fault and changed nothing; and the program ends by what it told.
+-- From old to new the store did a registry command, with this outcome and this next world in each world that it stood for, or
+-- met a fault and changed nothing; and the command ends by that.
 pub record Registers
     (old new : Shown) (before now : ℕ) (outcome : World → Registered) (next : World → World)
     (result : Result (Unit {0}) Refusal) : Type 0 where

@@ -1,4 +1,4 @@
--- How a run ends, and what it tells of it.
+-- How a run ends, and what it writes about that.
 use Rattle.std.specs.Prelude.{ℕ, List, ◌≡◌, ◌++◌, codes, Bool, true, false, Option, Result, Ok, Err}
 use Rattle.commands.specs.Ending.{word}
 use Rattle.commands.specs.ImportLine.{PrintsFront}
@@ -6,7 +6,7 @@ use Rattle.commands.specs.declared.refusal.Refusal.{Refusal}
 use Rattle.commands.specs.declared.exit.Ending.{Ending}
 use Rattle.commands.specs.declared.exit.Ending.TheVariants.{Done, NotAccepted, Refused, BadUsage}
 
--- by what a task told: that it is accepted, that a publish is not, or why it was refused
+-- the ending by a task's result: that it is accepted, that a publish or a row of an import is not, or why it was refused
 abbrev pub ending_of : Result Bool Refusal → Ending
 ending_of (Ok true) = Done
 ending_of (Ok false) = NotAccepted
@@ -19,18 +19,18 @@ status_of NotAccepted = 1
 status_of (Refused why) = 1
 status_of BadUsage = 2
 
--- the line that tells why a command was refused
+-- the line that says why a command was refused
 abbrev pub line_of : Refusal → List ℕ
 line_of why = codes "goshelf: " ++ (word why ++ codes "\n")
 
 module _ (errors errors_new : Option (List ℕ)) where
-  -- nothing was written to the errors, but where the parser's text told there what is wrong with the words
+  -- nothing was written to the errors, except the parser's text about bad usage
   abbrev pub IsSilent : Ending → Type 0
   IsSilent BadUsage = Unit {0}
   IsSilent other = errors_new ≡ errors
 
-  -- Where the command was refused, a beginning of the line of its word was written to the errors: all of it, unless a write
-  -- failed. Else nothing was.
+  -- If the command was refused, a beginning of the line of its word was written to the errors: all of it, unless a write failed.
+  -- Otherwise nothing was.
   abbrev pub Says : Ending → Type 0
   Says (Refused why) = PrintsFront errors errors_new (line_of why)
   Says other = errors_new ≡ errors

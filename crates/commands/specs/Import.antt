@@ -32,7 +32,7 @@ use Rattle.commands.specs.declared.sources.SourceFault.TheVariants as source
 
 -- ---- what is done with a row
 
--- an empty time is none
+-- the time of a field, none if it is empty
 abbrev pub time_of : List ℕ → Option (List ℕ)
 time_of [] = None
 time_of (c ∷ cs) = Some (c ∷ cs)
@@ -41,7 +41,7 @@ time_of (c ∷ cs) = Some (c ∷ cs)
 abbrev pub ask_of : List ℕ → Line → Body → Ask
 ask_of key l body = asked key l.path l.version (time_of l.time) body
 
--- it was asked of the machine, and answered; a file has no bytes; or there was no memory to have the files
+-- what was done with a row: the machine was asked and answered, a file could not be read, or memory ran out for the files
 pub data Done : Type 0 where
   Answers : Ask → Answer → Done
   HasNoFile : Done
@@ -52,7 +52,7 @@ pub record Turn : Type 0 where
   pub line : Line
   pub done : Done
 
--- the publish that was asked, and its answer
+-- the publish that the machine was asked, and its answer
 abbrev pub events_of : Done → List Event
 events_of (Answers ask answer) = Asked ask ∷ []
 events_of HasNoFile = []
@@ -71,7 +71,7 @@ abbrev pub answers : List Turn → List Answer
 answers [] = []
 answers (t ∷ ts) = answers_of t.done ++ answers ts
 
--- the fixed answer to a publish; 503 where the store met a fault
+-- the fixed answer to a publish: the 503 if the store met a fault
 abbrev pub fixed_answer : Answer → Fixed
 fixed_answer (Replied reply) = answer_of (Ok reply)
 fixed_answer (Failed fault) = answer_of (Err fault)
@@ -82,7 +82,7 @@ outcome_of HasNoFile = outcome.NoFile
 outcome_of Unfetched = outcome.Answered Unavailable
 
 module _ (told : List ℕ → Option (Option (List ℕ))) (key : List ℕ) where
-  -- the row was done by what is told of its files
+  -- this could be done with the row, by what is known of its files
   abbrev pub IsDone : Line → Done → Type 0
   IsDone l (Answers ask answer) = (body : Body) × IsBodyOf told l (Ok body) × (ask ≡ ask_of key l body)
   IsDone l HasNoFile = IsBodyOf told l (Err source.NoFile)
@@ -111,7 +111,7 @@ closing_line n closing.End = []
 closing_line n closing.BadRow = numbered n (codes "bad row")
 closing_line n closing.Unread = numbered n (outcome_text (outcome.Answered Unavailable))
 
--- how an import ends, by whether all rows were accepted
+-- how an import ends, by whether all rows were accepted and why no further one is done
 abbrev pub ending_of : Bool → Closing → Ending
 ending_of accepted closing.End = if accepted then ending.AllIn else ending.SomeOut
 ending_of accepted closing.BadRow = ending.BadRow
@@ -132,29 +132,29 @@ abbrev pub AreFirst : Option (List ℕ) → List Turn → Type 0
 AreFirst list [] = Unit {0}
 AreFirst list (t ∷ ts) = Begins list (rows_of (t ∷ ts))
 
--- after these rows a record comes that is no text, or fields that are not five
+-- after these rows comes a record that is not UTF-8 or does not have five fields
 abbrev pub BadRowComes : Option (List ℕ) → List (List (List ℕ)) → Type 0
 BadRowComes list rows =
     Meets list rows IsNoText ⊎ ((fields : List (List ℕ)) × (length fields ≢ 5) × Begins list (rows ++ fields ∷ []))
 
--- the list has no record, one that is no text, or another header
+-- the list has no record, or the first one is not UTF-8 or is not the header
 abbrev pub BadHeaderComes : Option (List ℕ) → Type 0
 BadHeaderComes list =
     Meets list [] IsNone ⊎ Meets list [] IsNoText ⊎ ((fields : List (List ℕ)) × (fields ≢ header) × Begins list (fields ∷ []))
 
--- why no row is done after these; nothing is known where the list can't be read on
+-- why no row is done after these; nothing is known if the rest of the list can't be read
 abbrev pub IsClosing : Option (List ℕ) → List (List (List ℕ)) → Closing → Type 0
 IsClosing list rows closing.End = Meets list rows IsNone
 IsClosing list rows closing.BadRow = BadRowComes list rows
 IsClosing list rows closing.Unread = Unit {0}
 
--- why no row is done at all
+-- why no row at all is done
 abbrev pub IsHeaderClosing : Option (List ℕ) → Closing → Type 0
 IsHeaderClosing list closing.End = ⊥
 IsHeaderClosing list closing.BadRow = BadHeaderComes list
 IsHeaderClosing list closing.Unread = Unit {0}
 
--- after the rows that were done no further one is, and this is its number
+-- no row is done after these, and the next one would have this number: 0 for the header
 abbrev pub IsOver : Option (List ℕ) → List Turn → ℕ → Closing → Type 0
 IsOver list turns n why = ((n ≡ length turns + 1) × IsClosing list (rows_of turns) why) ⊎ ((n ≡ 0) × (turns ≡ []) × IsHeaderClosing list why)
 
@@ -165,7 +165,7 @@ pub record GoesThrough
     (old new : Shown) (before now : ℕ) (told : List ℕ → Option (Option (List ℕ))) (key : List ℕ) (turns : List Turn) : Type 0 where
   pub done : AreDone told key turns
   pub runs : Runs old new (events turns) (answers turns)
-  -- a failed device is told only where one failed
+  -- the count never falls, and a `Device` fault is met only if it grew or is full
   pub no_fewer : before ≤ now
   pub device : MetDevice (answers turns) → GrewOrFull before now
 
@@ -177,7 +177,7 @@ BreaksOff list written written_new turns =
     ⊎ ((n : ℕ) × (why : Closing) × (front : List ℕ) × IsOver list turns n why
     × IsFront front (closing_line n why) × Appends written written_new (lines_from 1 turns ++ front))
 
--- each row has its line, and then comes the line that ends the import, if one does; or the output broke off
+-- each row has its line, and then comes the line that ends the import, if there is one; or the output broke off
 abbrev pub Ends : Option (List ℕ) → Option (List ℕ) → Option (List ℕ) → List Turn → Result Ending Io → Type 0
 Ends list written written_new turns result =
     MatchResult result
@@ -185,7 +185,7 @@ Ends list written written_new turns result =
     × Appends written written_new (lines_from 1 turns ++ closing_line n why))
     (λ e. (e ≡ io.Write) × BreaksOff list written written_new turns)
 
--- The rows at the front of the list were published one after another, and so it ended.
+-- The rows at the front of the list were published one after another, and the import ended as `Ends` says.
 pub record Imports
     (old new : Shown) (before now : ℕ) (told : List ℕ → Option (Option (List ℕ))) (key : List ℕ)
     (list written written_new : Option (List ℕ)) (result : Result Ending Io) : Type 0 where
@@ -196,7 +196,7 @@ pub record Imports
 
 -- ---- its parts
 
--- an ask was answered as the machine does, or met a fault
+-- an ask was answered as the machine answers it, or met a fault
 pub record Publishes (old new : Shown) (before now : ℕ) (ask : Ask) (answer : Fixed) : Type 0 where
   pub told : Answer
   pub runs : Runs old new (Asked ask ∷ []) (told ∷ [])
@@ -211,7 +211,7 @@ pub record DoesRow
   pub through : GoesThrough old new before now told key (record { line = l; done = done } ∷ [])
   pub is : result ≡ outcome_of done
 
--- a line ended the import, if one does, or the output broke off
+-- the line that ends the import, if there is one, was printed, or the output broke off
 abbrev pub Closes : ℕ → Closing → Bool → Option (List ℕ) → Option (List ℕ) → Result Ending Io → Type 0
 Closes n why accepted written written_new result =
     MatchResult result
@@ -219,12 +219,12 @@ Closes n why accepted written written_new result =
     (λ e. (e ≡ io.Write) × PrintsFront written written_new (closing_line n why))
 
 module _ {R : Type 0} (remaining : R → Option (List ℕ)) where
-  -- the header was read, or there is none
+  -- the header was read, or the list does not begin with it
   abbrev pub HeaderRead : Option (List ℕ) → Reader R → Option Closing → Type 0
   HeaderRead list reader None = HasRead remaining list (header ∷ []) reader
   HeaderRead list reader (Some why) = IsHeaderClosing list why
 
-  -- fields were read after these rows, or there are none
+  -- fields were read after these rows, or no row is done after them
   abbrev pub FieldsRead : Option (List ℕ) → List (List (List ℕ)) → Reader R → List (List ℕ) → Option Closing → Type 0
   FieldsRead list rows reader fields None = HasRead remaining list (rows ++ fields ∷ []) reader
   FieldsRead list rows reader fields (Some why) = IsClosing list rows why

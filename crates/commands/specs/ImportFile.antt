@@ -8,7 +8,7 @@ use Rattle.commands.specs.declared.import.Ending.TheVariants.{AllIn, SomeOut, Ba
 use Rattle.commands.specs.declared.refusal.Refusal.{Refusal}
 use Rattle.commands.specs.declared.refusal.Refusal.TheVariants.{BadRow, Io}
 
--- what is told of an import
+-- the result of the command, by how the import ended
 abbrev pub told : Result Ending Failure → Result Bool Refusal
 told (Ok AllIn) = Ok true
 told (Ok SomeOut) = Ok false
@@ -16,14 +16,14 @@ told (Ok ABadRow) = Err BadRow
 told (Err failure) = Err Io
 
 module _ {S : Type 0} (shown : S → Shown) (failures : S → ℕ) (old new : S) (key : List ℕ) where
-  -- a list was imported, of whose bytes and files nothing is told
+  -- a list was imported whose bytes and files are not known
   pub record ImportsList (written written_new : Option (List ℕ)) (result : Result Bool Refusal) : Type 0 where
     pub list : Option (List ℕ)
     pub ended : Result Ending Failure
     pub imports : Imports (shown old) (shown new) (failures old) (failures new) (λ name. None) key list written written_new ended
     pub tells : result ≡ told ended
 
-  -- so it was, or the list can't be opened, which is told, and nothing is done
+  -- a list was imported, or it could not be opened and nothing was done
   abbrev pub ImportsFile : Option (List ℕ) → Option (List ℕ) → Result Bool Refusal → Type 0
   ImportsFile written written_new result =
       ImportsList written written_new result ⊎ ((new ≡ old) × (written_new ≡ written) × (result ≡ Err Io))

@@ -9,20 +9,19 @@ use Rattle.commands.specs.Sources.{IsTold}
 use Rattle.commands.specs.declared.sources.SourceFault.{SourceFault}
 use Rattle.commands.specs.declared.sources.SourceFault.TheVariants.{NoFile, Memory}
 
--- the path and the version of a row read
+-- the path and the version of a row are valid
 abbrev pub IsReadable : Line → Type 0
 IsReadable l = is_some (path_of l.path) && is_some (version_of l.version) ≡ true
 
 module _ (told : List ℕ → Option (Option (List ℕ))) (l : Line) where
-  -- what may be had of the two names
+  -- this may be read from the two files
   abbrev pub GoModIs : Result (List ℕ) SourceFault → Type 0
   GoModIs had = IsTold gomod_limit (told l.gomod) had
 
   abbrev pub ZipIs : Result (List ℕ) SourceFault → Type 0
   ZipIs had = IsTold zip_limit (told l.zip) had
 
-  -- What may be had as the files of a row, by what is told of their names. Where the path or the version does not read, they are
-  -- not looked at.
+  -- This may be read as the files of a row, by what is known of them. If the path or the version is invalid, they are not read.
   abbrev pub IsBodyOf : Result Body SourceFault → Type 0
   IsBodyOf (Ok body) = IsReadable l → GoModIs (Ok body.gomod) × ZipIs (Ok body.zip)
   IsBodyOf (Err NoFile) = IsReadable l × (GoModIs (Err NoFile) ⊎ ZipIs (Err NoFile))

@@ -20,7 +20,7 @@ accepts_outcome (Answered answer) = accepts (fixed_status answer)
 abbrev pub numbered : ℕ → List ℕ → List ℕ
 numbered n text = (decimal n ++ codes " ") ++ (text ++ codes "\n")
 
--- these bytes, and what is left of the text
+-- the text begins with these bytes
 abbrev pub IsFront : List ℕ → List ℕ → Type 0
 IsFront front text = (rest : List ℕ) × (text ≡ front ++ rest)
 
@@ -28,7 +28,7 @@ IsFront front text = (rest : List ℕ) × (text ≡ front ++ rest)
 abbrev pub PrintsFront : Option (List ℕ) → Option (List ℕ) → List ℕ → Type 0
 PrintsFront written written_new text = (front : List ℕ) × IsFront front text × Appends written written_new front
 
--- the text was printed, or the output failed and a beginning of it was
+-- the text was printed, or the output failed and a beginning of it was printed
 abbrev pub Prints : Option (List ℕ) → Option (List ℕ) → List ℕ → Result (Unit {0}) Io → Type 0
 Prints written written_new text result =
     MatchResult result (λ u. Appends written written_new text) (λ e. (e ≡ io.Write) × PrintsFront written written_new text)

@@ -35,20 +35,20 @@ fields_of_row r = fields_of_line (line_of_row r)
 abbrev pub header : List (List ℕ)
 header = codes "path" ∷ codes "version" ∷ codes "time" ∷ codes "mod" ∷ codes "zip" ∷ []
 
--- the row that fields are; none if they are not five
+-- the row of these fields, or none if they are not five
 abbrev pub IsRowOf : List (List ℕ) → Option Row → Type 0
 IsRowOf fields None = length fields ≢ 5
 IsRowOf fields (Some row) = fields ≡ fields_of_row row
 
 -- ---- reading
 
--- The records of the list, where its bytes are known, begin with these rows, and then the reader is in this state, with this rest.
+-- If the bytes of the list are known, its records begin with these rows, and behind them the reader is in this state with this rest.
 abbrev pub IsAt : Option (List ℕ) → List (List (List ℕ)) → State → Option (List ℕ) → Type 0
 IsAt None rows state source = Unit {0}
 IsAt (Some text) rows state source =
     (rest : List ℕ) × (source ≡ Some rest) × Reached default_config st.StartRecord (strip_bom text) rows state rest
 
--- the records of the list, where its bytes are known, begin with these rows, and of what comes next this is so
+-- if the bytes of the list are known, its records begin with these rows, and this holds of what comes next
 abbrev pub Meets : Option (List ℕ) → List (List (List ℕ)) → (Option Read → Type 0) → Type 0
 Meets None rows so = Unit {0}
 Meets (Some text) rows so =
@@ -59,11 +59,11 @@ Meets (Some text) rows so =
 abbrev pub IsNone : Option Read → Type 0
 IsNone next = next ≡ None
 
--- a record comes that is no text
+-- a record comes that is not UTF-8
 abbrev pub IsNoText : Option Read → Type 0
 IsNoText next = (record_next : Read) × (next ≡ Some record_next) × (¬ AllText record_next.0)
 
--- what comes where a read failed
+-- what comes if a read failed with this error
 abbrev pub next_of : ErrorKind → Next
 next_of (kind.Io e) = next.Unread
 next_of kind.OutOfMemory = next.Unread
@@ -78,7 +78,7 @@ module _ {R : Type 0} (remaining : R → Option (List ℕ)) (list : Option (List
     pub flexible : is_flexible reader ≡ true
     pub at : IsAt list rows (reader_state reader) (source_of remaining reader)
 
-  -- what comes after these rows
+  -- this comes after these rows
   abbrev pub Comes : List (List (List ℕ)) → Reader R → List (List ℕ) → Next → Type 0
   Comes rows reader fields next.Fields = HasRead (rows ++ fields ∷ []) reader
   Comes rows reader fields next.End = Meets list rows IsNone

@@ -23,7 +23,7 @@ use Rattle.commands.specs.declared.inventory.Row.{Row}
 
 -- ---- the rows
 
--- a version of a path, by what is seen of it
+-- the row of a version, by what is seen of it; none if nothing is
 abbrev pub row_of : List ℕ → SemanticVersion → Option Seen → List Row
 row_of p v None = []
 row_of p v (Some seen) =
@@ -37,15 +37,15 @@ row_of p v (Some seen) =
     }
     ∷ []
 
--- a version of a path that the shelf sees
+-- the row of a version that the shelf sees, or none if it does not
 abbrev pub row_at : World → List ℕ → List ℕ → SemanticVersion → List Row
 row_at w s p v = row_of p v (view w s p (version_text v))
 
--- the versions of a path that the shelf sees, by precedence
+-- the rows of the versions of a path that the shelf sees, by precedence
 abbrev pub rows_of_path : World → List ℕ → List ℕ → List Row
 rows_of_path w s p = flat_map (row_at w s p) (versions_of w s p)
 
--- the same of the path that a text is
+-- the rows of the path that a text is, or none if it is no path
 abbrev pub rows_at : World → List ℕ → Option (List ℕ) → List Row
 rows_at w s None = []
 rows_at w s (Some p) = rows_of_path w s p
@@ -53,18 +53,18 @@ rows_at w s (Some p) = rows_of_path w s p
 abbrev pub rows_of_text : World → List ℕ → List ℕ → List Row
 rows_of_text w s t = rows_at w s (path_of t)
 
--- all versions that the shelf sees: the paths by their bytes, the versions of each by precedence
+-- the rows of all versions that the shelf sees: the paths by their bytes, the versions of each by precedence
 abbrev pub rows_seen : World → List ℕ → List Row
 rows_seen w s = flat_map (rows_of_text w s) (in_order (paths_seen w s))
 
--- ---- their text
+-- ---- the text of rows
 
 abbrev pub class_word : Class → List ℕ
 class_word class.Release = codes "release"
 class_word class.Pre = codes "pre"
 class_word (class.Pseudo stamp) = codes "pseudo"
 
--- no time is an empty field
+-- the field of a time, empty if there is none
 abbrev pub time_field : Option (List ℕ) → List ℕ
 time_field None = []
 time_field (Some time) = time
@@ -87,24 +87,24 @@ text_of rows = line header ++ flat_map (λ r. line (fields r)) rows
 
 -- ---- the inventory
 
--- that of a shelf
+-- the inventory of a shelf
 abbrev pub inventory_of_shelf : World → List ℕ → List ℕ
 inventory_of_shelf w s = text_of (rows_seen w s)
 
--- that of a key: none of one that there is not
+-- the inventory of a key, or none if there is no such key
 abbrev pub inventory_of : World → Option Holder → Option (List ℕ)
 inventory_of w None = None
 inventory_of w (Some h) = Some (inventory_of_shelf w h.shelf)
 
--- how an inventory ends, by what was read of the store
+-- the result of an inventory, by what was read from the store
 abbrev pub ending : Result (Option (List ℕ)) StoreFault → Result (List ℕ) InventoryFault
 ending (Ok (Some text)) = Ok text
 ending (Ok None) = Err why.NoKey
 ending (Err fault.Device) = Err why.Device
 ending (Err fault.Memory) = Err why.Memory
 
--- From old to new the inventory of the key was read, in each world that the store stood for, or a fault was met; in both nothing
--- was changed. And it ends by what was read.
+-- From old to new the inventory of the key was read, in each world that the store stood for, or a fault was met. Nothing was
+-- changed, and the result is what was read.
 pub record Inventories (old new : Shown) (before now : ℕ) (key : List ℕ) (result : Result (List ℕ) InventoryFault) : Type 0 where
   pub told : Result (Option (List ℕ)) StoreFault
   pub reads : Reads old new told (λ w. inventory_of w (map.get w.keys key))

@@ -15,13 +15,13 @@ use Rattle.commands.specs.Inventory.{row_at, line, fields}
 abbrev pub lines_of : List Row → List ℕ
 lines_of rows = flat_map (λ r. line (fields r)) rows
 
--- a version of a path, by the outline of what is seen of it
+-- the row of a version, by the outline of what is seen of it
 abbrev pub outlined : List ℕ → SemanticVersion → Option Outline → List Row
 outlined p v None = []
 outlined p v (Some it) =
     record { path = p; version = v; shelf = it.shelf; time = it.time; gomod_bytes = it.gomod_bytes; zip_bytes = it.zip_bytes } ∷ []
 
--- the line of a version that the shelf sees
+-- the line of a version that the shelf sees, or none if it does not
 abbrev pub lines_at : World → List ℕ → List ℕ → SemanticVersion → List ℕ
 lines_at w s p v = lines_of (row_at w s p v)
 
@@ -33,7 +33,7 @@ abbrev pub lines_of_read : World → List ℕ → Option (List ℕ) → List ℕ
 lines_of_read w s None = []
 lines_of_read w s (Some p) = lines_of_path w s p
 
--- the lines of the path that a text is
+-- the lines of the path that a text is, or none if it is no path
 abbrev pub lines_of_text : World → List ℕ → List ℕ → List ℕ
 lines_of_text w s t = lines_of_read w s (path_of t)
 

@@ -4,7 +4,7 @@ use Rattle.std.specs.declared.alloc.Global.{Global}
 use Rattle.csv.specs.Writing.{writer_setup, fields_written, has_written, default_writer, text_written}
 use Rattle.csv.specs.declared.writer.Writer.{Writer}
 
--- it writes by the defaults of the crate, and stands at the beginning of a line
+-- it writes by the defaults of the crate, and is at the beginning of a line
 pub record IsBetweenLines {W : Type 0} (writer : Writer W) : Type 0 where
   pub setup : writer_setup writer ≡ default_writer
   pub fields : fields_written writer ≡ 0

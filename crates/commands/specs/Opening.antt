@@ -1,4 +1,4 @@
--- What a run over shelves in memory begins with, and how it ends.
+-- The world that a run over shelves in memory begins with, and how it ends.
 use Rattle.std.specs.Prelude.{ℕ, List, ◌≡◌, true, Option, None, Result, Ok, Err}
 use Rattle.engine.specs.Served.{Serves}
 use Rattle.engine.specs.declared.fault.Io.{Io as Failure}
@@ -18,12 +18,13 @@ pub record AreNames (team key : List ℕ) : Type 0 where
   pub team_name : is_team_name team ≡ true
   pub key_name : is_key key ≡ true
 
--- the requests were answered by shelves that began so, and it ended like this
+-- the requests were answered from shelves in memory that began at this world, with this result
 abbrev pub ServedFrom : World → Option (List ℕ) → Option (List ℕ) → Option (List ℕ) → Option (List ℕ) → Result (Unit {0}) Failure → Type 0
 ServedFrom start unread unread_new written written_new result =
     (end : World) × Serves (in_memory start) (in_memory end) 0 0 unread unread_new written written_new result
 
--- With names that keep their rules the requests are answered, or there was no memory to begin. With others nothing is read or written.
+-- If the team and the key keep their rules, the requests are answered, or memory ran out before that. Otherwise nothing is read or
+-- written.
 abbrev pub AnsweredFor :
     List ℕ → List ℕ → Option (List ℕ) → Option (List ℕ) → Option (List ℕ) → Option (List ℕ) → Result (Unit {0}) Refusal → Type 0
 AnsweredFor team key unread unread_new written written_new (Ok u) =
@@ -36,7 +37,7 @@ AnsweredFor team key unread unread_new written written_new (Err Memory) =
     AreNames team key × (unread_new ≡ unread) × (written_new ≡ written)
 AnsweredFor team key unread unread_new written written_new (Err other) = ⊥
 
--- The requests were answered by shelves that went from old to new, and it ended like this.
+-- The requests were answered from shelves that went from old to new, with this result.
 abbrev pub AnswersAll :
     Shown → Shown → ℕ → ℕ → Option (List ℕ) → Option (List ℕ) → Option (List ℕ) → Option (List ℕ) → Result (Unit {0}) Refusal → Type 0
 AnswersAll old new before now unread unread_new written written_new (Ok u) = Serves old new before now unread unread_new written written_new (Ok tt)

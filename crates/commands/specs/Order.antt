@@ -1,4 +1,4 @@
--- Commands of the registry that are sent to a running `serve`, and its end.
+-- Orders that a command sends to a running `serve`.
 use Rattle.std.specs.Prelude.{ℕ, ◌≡◌, ◌⊎◌, if◌then◌else◌, Bool, List, Option, Some, None, option_copied, Result, Ok, Err}
 use Rattle.std.specs.Borrow.{Bor}
 use Rattle.world.specs.World.{World, IsWorld, common, is_team_name, is_key}
@@ -17,7 +17,8 @@ use Rattle.commands.specs.declared.refusal.Refusal.TheVariants.{Name, NoTeam, No
 
 -- ---- what is sent
 
--- A group whose name breaks the rule may stand in no line. `common` is sent in its place, which is no group either.
+-- The group that is sent for one. A group whose name breaks the rule may fit in no line, so `common` replaces it, which is no group
+-- either.
 abbrev pub group_sent : Option (List ℕ) → Option (List ℕ)
 group_sent None = None
 group_sent (Some group) = if is_team_name group then Some group else Some common
@@ -28,13 +29,13 @@ IsSentFor (TeamAdd name group) sent =
     (other : Option (Bor (List ℕ))) × (sent ≡ TeamAdd name other) × (option_copied other ≡ group_sent (option_copied group))
 IsSentFor order sent = sent ≡ order
 
--- two orders come to the same in each world
+-- two orders have the same outcome and the same effect in each world
 abbrev pub ComeToTheSame : Order → Order → Type 0
 ComeToTheSame one two = (w : World) → IsWorld w → (outcome_in w one ≡ outcome_in w two) × (after w (event_of one) ≡ after w (event_of two))
 
 -- ---- how a command ends
 
--- the word of a name that keeps its rule, else `name`
+-- this refusal if the name keeps its rule, and otherwise `Name`
 abbrev pub refusal_by : Bool → Refusal → Refusal
 refusal_by keeps refusal = if keeps then refusal else Name
 
@@ -45,7 +46,7 @@ unsayable (GroupAdd name) = Name
 unsayable (KeyAdd shelf key right) = refusal_by (is_key key.now) NoTeam
 unsayable (KeyRevoke key) = NoKey
 
--- how a command ends, by what was told of its order
+-- how a command ends, by the result of sending its order
 abbrev pub told_ending : Order → Result Outcome Untold → Result (Unit {0}) Refusal
 told_ending order (Ok (outcome.Registered registered)) = ending (Ok registered)
 told_ending order (Ok (outcome.Failed fault)) = ending (Err fault)
@@ -56,12 +57,12 @@ told_ending order (Err untold.Words) = Err (unsayable order)
 told_ending order (Err untold.Memory) = Err Memory
 told_ending order (Err untold.Io) = Err Io
 
--- it ends as what comes of the order in each world
+-- in each world, the command ends as the order does there
 abbrev pub EndsInEach : Order → Result (Unit {0}) Refusal → Type 0
 EndsInEach order result = (w : World) → IsWorld w → result ≡ ending (Ok (outcome_in w order))
 
--- The line of an order that comes to the same was written, the line of its outcome was read, and the command ends by it. Or nothing was
--- told, for one of the reasons that `Asks` names, and the command ends by that: where it has no line, as the order does in each world.
+-- The line of an order with the same effect was sent as `Asks` says, and the command ends by the result. If that order has no line,
+-- the command ends as the order does in each world.
 pub record OrdersOver (unread unread_new written written_new : Option (List ℕ)) (order : Order) (result : Result (Unit {0}) Refusal) : Type 0 where
   pub asked : Order
   pub same : ComeToTheSame asked order
@@ -76,7 +77,7 @@ OrdersThere order result =
     ((unread unread_new written written_new : Option (List ℕ)) × OrdersOver unread unread_new written written_new order result)
     ⊎ (result ≡ Err Device)
 
--- how `copy` ends, by what was told; a path that no line can carry is a name that breaks its rule
+-- how `copy` ends, by the result of sending its order; a path that no line can carry counts as a name that breaks its rule
 abbrev pub copy_ending : Result Outcome Untold → Result (Unit {0}) Refusal
 copy_ending (Ok (outcome.Registered registered)) = ending (Ok registered)
 copy_ending (Ok (outcome.Failed fault)) = ending (Err fault)
@@ -87,7 +88,7 @@ copy_ending (Err untold.Words) = Err Name
 copy_ending (Err untold.Memory) = Err Memory
 copy_ending (Err untold.Io) = Err Io
 
--- the line that orders a copy to the path was written, the line of its outcome was read, and the command ends by it
+-- the line that orders a copy to the path was sent as `AsksToCopy` says, and the command ends by the result
 pub record CopiesOver (unread unread_new written written_new : Option (List ℕ)) (path : List ℕ)
     (result : Result (Unit {0}) Refusal) : Type 0 where
   pub told : Result Outcome Untold
@@ -100,7 +101,7 @@ CopiesThere path result =
     ((unread unread_new written written_new : Option (List ℕ)) × CopiesOver unread unread_new written written_new path result)
     ⊎ (result ≡ Err Device)
 
--- how the command ends that ends a server, by what was told
+-- how `stop` ends, by the result of sending its order
 abbrev pub stop_ending : Result Outcome Untold → Result (Unit {0}) Refusal
 stop_ending (Ok outcome.Stopping) = Ok tt
 stop_ending (Ok (outcome.Failed fault)) = ending (Err fault)
@@ -109,7 +110,7 @@ stop_ending (Ok outcome.NotEmpty) = Err Io
 stop_ending (Ok outcome.Bad) = Err Io
 stop_ending (Err why) = Err Io
 
--- the line that ends a server was written, the line of its outcome was read, and the command ends by it
+-- the line that ends a server was sent as `AsksToStop` says, and the command ends by the result
 pub record StopsOver (unread unread_new written written_new : Option (List ℕ)) (result : Result (Unit {0}) Refusal) : Type 0 where
   pub told : Result Outcome Untold
   pub asks : AsksToStop unread unread_new written written_new told

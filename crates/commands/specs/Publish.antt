@@ -1,4 +1,4 @@
--- A publish of files by words that stand as they are.
+-- A publish of files, by the words of a command line or a list.
 use Rattle.std.specs.Prelude.{ℕ, List, ◌≡◌, ◌==◌, ◌||◌, ◌++◌, codes, Bool, Option, Some, None, Result, Ok, Err, MatchResult}
 use Rattle.std.specs.Option.{option_copied}
 use Rattle.std.specs.Io.KnownBytes.{Appends}
@@ -26,25 +26,25 @@ use Rattle.commands.specs.declared.publish.Words.{Words}
 use Rattle.commands.specs.declared.refusal.Refusal.{Refusal}
 use Rattle.commands.specs.declared.refusal.Refusal.TheVariants.{Io}
 
--- the time that is given: none, or the one that the text writes
+-- the time that the text writes, malformed if it writes none, or absent without a text
 abbrev pub given_time : Option (List ℕ) → GivenTime
 given_time None = Absent
 given_time (Some text) = time_in text
 
--- to publish the files at a path and a version, where both read; else what is unreadable
+-- a publish of the files at a path and a version, if both are valid, and otherwise an unreadable request
 abbrev pub asked_at : List ℕ → Option (List ℕ) → Option SemanticVersion → GivenTime → Body → Ask
 asked_at key (Some path) (Some version) time body = Put key (record { path = path; version = version; body = Some body; time = time })
 asked_at key path version time body = Unreadable
 
--- what a publish asks of the machine: its path and its version are not escaped, and its files are told apart
+-- what a publish asks of the machine, with a path and a version that are not escaped
 abbrev pub asked : List ℕ → List ℕ → List ℕ → Option (List ℕ) → Body → Ask
 asked key path version time body = asked_at key (path_of path) (version_of version) (given_time time) body
 
--- the same of the words of a command line
+-- what a publish by these words asks of the machine
 abbrev pub asked_by : Words → Body → Ask
 asked_by words body = asked words.key.now words.path.now words.version.now (option_copied words.time) body
 
--- the fixed answer to a publish: 503 where the store met a fault
+-- the fixed answer to a publish: the 503 if the store met a fault
 abbrev pub answer_of : Result Reply StoreFault → Fixed
 answer_of (Ok (reply.Decided decision)) = fixed_of decision
 answer_of (Ok other) = fixed.NotFound
@@ -54,15 +54,15 @@ answer_of (Err fault) = fixed.Unavailable
 abbrev pub accepts : ℕ → Bool
 accepts status = (status == 200) || (status == 201)
 
--- the line of the answer was printed, and it is told whether it accepts; or the output failed
+-- the line of the answer was printed, and the result is whether it accepts; or the output failed
 abbrev pub Tells : Fixed → Option (List ℕ) → Option (List ℕ) → Result Bool Refusal → Type 0
 Tells answer written written_new result =
     MatchResult result
     (λ accepted. (accepted ≡ accepts (fixed_status answer)) × Appends written written_new (line_bytes answer ++ codes "\n"))
     (λ e. e ≡ Io)
 
--- From old to new the store did what was asked, as the machine does in each world that it stood for, or met a fault (or there
--- was no memory to ask) and changed nothing; and the answer was told.
+-- From old to new the store did what was asked, as the machine does in each world that it stood for, or met a fault (or memory ran
+-- out before that) and changed nothing; and the line of the answer was printed.
 pub record PublishesAndTells
     (old new : Shown) (before now : ℕ) (ask : Ask) (written written_new : Option (List ℕ))
     (result : Result Bool Refusal) : Type 0 where
@@ -72,15 +72,15 @@ pub record PublishesAndTells
   pub tells : Tells (answer_of told) written written_new result
 
 module _ {S : Type 0} (shown : S → Shown) (failures : S → ℕ) (old new : S) (ask : Body → Ask) where
-  -- How a publish ends by how its two files were had. As a body: it is published, and the outcome is told. Where memory ran out
-  -- while they were read, 503 is told; where one can't be read, nothing is: in both the store stays as it was.
+  -- How a publish ends, by how its two files were read. If they were, they are published, and the outcome is printed. If memory ran
+  -- out, the 503 is printed; if one can't be read, nothing is; and the store stays as it was.
   abbrev pub EndsBy : Option (List ℕ) → Option (List ℕ) → Result Bool Refusal → Result Body FileFault → Type 0
   EndsBy written written_new result (Ok body) =
       PublishesAndTells (shown old) (shown new) (failures old) (failures new) (ask body) written written_new result
   EndsBy written written_new result (Err file.Memory) = (new ≡ old) × Tells fixed.Unavailable written written_new result
   EndsBy written written_new result (Err file.Io) = (new ≡ old) × (written_new ≡ written) × (result ≡ Err Io)
 
-  -- two files were read, and the publish ended by how they were had
+  -- two files were read or not, and the publish ended by that
   pub record PublishesFiles (written written_new : Option (List ℕ)) (result : Result Bool Refusal) : Type 0 where
     pub files : Result Body FileFault
     pub ends : EndsBy written written_new result files

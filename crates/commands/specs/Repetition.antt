@@ -1,4 +1,4 @@
--- A list that was imported whole and is imported again.
+-- Importing a list again that was imported whole.
 use Rattle.std.specs.Prelude.{ℕ, ◌≡◌, ◌⊎◌, List, [], ◌∷◌, Option, Some, None}
 use Rattle.std.specs.List.{list_all}
 use Rattle.std.specs.FinMap as map
@@ -14,11 +14,11 @@ use Rattle.commands.specs.declared.import.Closing.{Closing}
 use Rattle.commands.specs.declared.import.Ending.TheVariants.{AllIn}
 use Rattle.commands.specs.declared.import_line.Outcome.TheVariants.{Answered}
 
--- of each name something is told: its bytes, or that it has none
+-- each file is known, or that there is none
 abbrev pub IsKnown : (List ℕ → Option (Option (List ℕ))) → Type 0
 IsKnown told = (name : List ℕ) → told name ≡ None → ⊥
 
--- the row was answered that it is published already, or 503
+-- the row was answered `200 already published` or 503
 abbrev pub IsRepeat : Turn → Type 0
 IsRepeat t = (outcome_of t.done ≡ Answered AlreadyPublished) ⊎ (outcome_of t.done ≡ Answered Unavailable)
 
@@ -30,19 +30,19 @@ AreRepeats (t ∷ ts) = IsRepeat t × AreRepeats ts
 abbrev pub MayPublish : World → List ℕ → List ℕ → Type 0
 MayPublish w key shelf = map.get w.keys key ≡ Some (record { shelf = shelf; right = Publishes })
 
--- With this key and these files an import went from one world to the other, through rows that are the first of the list.
+-- With this key and these files, an import led from one world to the other, through the first rows of the list.
 pub record ImportRuns (files : List ℕ → Option (Option (List ℕ))) (text key : List ℕ) (old : World) (turns : List Turn) (new : World) : Type 0 where
   pub done : AreDone files key turns
   pub first : AreFirst (Some text) turns
   pub run : Run old (events turns) (answers turns) new
 
--- it ended with all rows of the list accepted
+-- the import ended with all rows of the list accepted
 abbrev pub EndsAllIn : List ℕ → List Turn → Type 0
 EndsAllIn text turns =
     (n : ℕ) × (why : Closing) × IsOver (Some text) turns n why × (AllIn ≡ ending_of (list_all is_accepted turns) why)
 
--- Once a list was imported whole by a key of s, then after any events the same list, with the same files, by a key that then may
--- publish to s is answered `200 already published` or 503 in each row, and changes nothing.
+-- Once a list was imported whole by a key of s, importing it again after any events, with equal files and by a key that then may
+-- publish to s, answers each row `200 already published` or 503, and changes nothing.
 abbrev pub RepeatedImportChangesNothing : Type 0
 RepeatedImportChangesNothing =
     (files : List ℕ → Option (Option (List ℕ))) (text k again s : List ℕ) (old mid later new : World) (turns repeated : List Turn)

@@ -1,4 +1,4 @@
--- What is read of a store and printed.
+-- Printing what a command reads from a store.
 use Rattle.std.specs.Prelude.{ℕ, ◌≡◌, List, Bool, true, Option, Some, None, Result, Ok, Err, MatchResult}
 use Rattle.std.specs.FinMap as map
 use Rattle.std.specs.Io.KnownBytes.{Appends}
@@ -15,21 +15,21 @@ use Rattle.commands.specs.declared.refusal.Refusal.{Refusal}
 use Rattle.commands.specs.declared.refusal.Refusal.TheVariants.{NoKey, Device, Memory, NotFound, Io}
 use Rattle.commands.specs.declared.report.Named.{Named}
 
--- what is told of an inventory
+-- the inventory, or the refusal if there is none
 abbrev pub inventory_told : Result (List ℕ) InventoryFault → Result (List ℕ) Refusal
 inventory_told (Ok text) = Ok text
 inventory_told (Err why.NoKey) = Err NoKey
 inventory_told (Err why.Device) = Err Device
 inventory_told (Err why.Memory) = Err Memory
 
--- what is told of what a version requires
+-- the lines of what a version requires, or the refusal if there are none
 abbrev pub requirements_told : Result (Option (List ℕ)) StoreFault → Result (List ℕ) Refusal
 requirements_told (Ok (Some lines)) = Ok lines
 requirements_told (Ok None) = Err NotFound
 requirements_told (Err fault.Device) = Err Device
 requirements_told (Err fault.Memory) = Err Memory
 
--- the text was printed, or the output failed; where there is none it is told why, and nothing is printed
+-- the text was printed, or the output failed; if there is no text, the result is the refusal, and nothing is printed
 abbrev pub Prints : Option (List ℕ) → Option (List ℕ) → Result Bool Refusal → Result (List ℕ) Refusal → Type 0
 Prints written written_new result (Ok text) =
     MatchResult result (λ accepted. (accepted ≡ true) × Appends written written_new text) (λ e. e ≡ Io)

@@ -16,15 +16,15 @@ line r = r.path ++ (codes " " ++ (version_text r.version ++ codes "\n"))
 abbrev pub lines_of : List Requirement → List ℕ
 lines_of required = flat_map line required
 
--- those of the go.mod of a version that is seen
+-- the lines of the go.mod of a heading, or none without a heading
 abbrev pub required_in : Option Heading → Option (List ℕ)
 required_in shown = option_map (λ (m : GoModule). lines_of m.required) (module_of shown)
 
--- those of a version that a shelf sees
+-- the lines of a version, or none if the shelf does not see it
 abbrev pub required_on : World → List ℕ → List ℕ → SemanticVersion → Option (List ℕ)
 required_on w s p v = required_in (heading w s p (version_text v))
 
--- those of a key, a path and a version: none where there is no such key, or the path or the version does not read
+-- the lines of a version for a key, or none if there is no such key, or the path or the version is invalid
 abbrev pub required_by : World → Option Holder → Option (List ℕ) → Option SemanticVersion → Option (List ℕ)
 required_by w (Some h) (Some p) (Some v) = required_on w h.shelf p v
 required_by w h p v = None

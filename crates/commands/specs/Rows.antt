@@ -14,22 +14,22 @@ use Rattle.commands.specs.declared.inventory.Row.{Row}
 abbrev pub is_of : List ℕ → List ℕ → Row → Bool
 is_of p t r = bytes_eq r.path p && bytes_eq (version_text r.version) t
 
--- just one of these rows is of the path and the version, and it tells what is seen of it
+-- exactly one of these rows is of the path and the version, and it has what is seen of it
 pub record HasOneRow (rows : List Row) (p t : List ℕ) (seen : Seen) : Type 0 where
   pub version : SemanticVersion
   pub text : version_text version ≡ t
   pub one : filter (is_of p t) rows ≡ row_of p version (Some seen)
 
--- each path and version that the shelf sees has just one row, and each row is of one that it sees
+-- each path and version that the shelf sees has exactly one row, and each row is of one that it sees
 pub record AreRowsOf (w : World) (s : List ℕ) (rows : List Row) : Type 0 where
   pub each : (p t : List ℕ) (seen : Seen) → view w s p t ≡ Some seen → HasOneRow rows p t seen
   pub no_other : (r : Row) → Contains rows r → IsSeen w s r.path (version_text r.version)
 
--- So it is in a world.
+-- In each world, the rows of an inventory are those of the shelf.
 abbrev pub RowsAreWhole : Type 0
 RowsAreWhole = (w : World) (s : List ℕ) → IsWorld w → AreRowsOf w s (rows_seen w s)
 
--- in this world the key has a shelf, and the text is of its rows
+-- in this world the key belongs to a shelf, and the text is that of the shelf's rows
 pub record TellsAll (w : World) (key text : List ℕ) : Type 0 where
   pub holder : Holder
   pub has_key : map.get w.keys key ≡ Some holder
@@ -37,6 +37,6 @@ pub record TellsAll (w : World) (key text : List ℕ) : Type 0 where
   pub told : text ≡ text_of rows
   pub whole : AreRowsOf w holder.shelf rows
 
--- an inventory is so in each world that the store stood for
+-- on an honest disk, the text is a whole inventory in each world that the store stood for
 abbrev pub IsWhole : Shown → Shown → List ℕ → List ℕ → Type 0
 IsWhole old new key text = new.is_honest → (w : World) → old.stands w → TellsAll w key text

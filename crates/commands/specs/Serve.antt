@@ -1,4 +1,4 @@
--- Connections that are served from a store, and orders between them.
+-- Serving connections from a store, and orders between them.
 use Rattle.std.specs.Prelude.{ℕ, ◌≡◌, ◌≢◌, ◌++◌, List, codes, decimal, Option, Some, None, Result, MatchResult}
 use Rattle.std.specs.Io.KnownBytes.{Appends}
 use Rattle.world.specs.Store.{Shown}
@@ -11,19 +11,19 @@ use Rattle.commands.specs.declared.refusal.Refusal.TheVariants.{Io}
 use Rattle.commands.specs.declared.serve.Entrance.{Entrance}
 use Rattle.commands.specs.declared.serve.Entrance.TheVariants.{Port, Input}
 
--- the line that tells the port
+-- the line of a port, without its end
 abbrev pub port_text : ℕ → List ℕ
 port_text port = codes "listening on 127.0.0.1:" ++ decimal port
 
--- The line that reports a port.
+-- the line of a port
 abbrev pub port_line : ℕ → List ℕ
 port_line port = port_text port ++ codes "\n"
 
--- the line that reports standard input
+-- the line of standard input
 abbrev pub input_line : List ℕ
 input_line = codes "listening on standard input\n"
 
--- a port was printed: the one that is named, or another in the place of 0
+-- a port was printed: the one that is named, or any for 0
 abbrev pub Prints : ℕ → Option (List ℕ) → Option (List ℕ) → Type 0
 Prints port written written_new = (bound : ℕ) × (port ≢ 0 → bound ≡ port) × Appends written written_new (port_line bound)
 
@@ -32,20 +32,21 @@ abbrev pub Announces : Entrance → Option (List ℕ) → Option (List ℕ) → 
 Announces (Port port) written written_new = Prints port written written_new
 Announces Input written written_new = Appends written written_new input_line
 
--- The entrance was printed, and the store went through no more requests than there are connections. Or the entrance can't be had, or
--- the output failed: then the store stays as it was.
+-- The entrance was printed, and the store went through at most as many requests as there are connections. Or the entrance can't be
+-- had, or the output failed, and the store stays as it was.
 abbrev pub Listens : {S : Type 0} → (S → Shown) → (S → ℕ) → S → S → Entrance → ℕ → Option (List ℕ) → Option (List ℕ) → Result (Unit {0}) Refusal → Type 0
 Listens shown failures old new entrance connections written written_new result =
     MatchResult result
     (λ _. Announces entrance written written_new × GoesThroughMost (shown old) (shown new) (failures old) (failures new) connections)
     (λ e. (e ≡ Io) × (new ≡ old))
 
--- what came of a copy, by the store before and after it, the path, and what was told
+-- what a copy does: a relation of the store before and after it, the path, and the result
 abbrev pub Copied : Type 0 → Type 1
 Copied S = S → S → List ℕ → Result (Unit {0}) CopyRefusal → Type 0
 
--- So it was, and between the requests orders were carried out, and copies made of the machine's world at their moments. Or the socket
--- can't be had.
+-- The entrance was printed, and the store went through at most as many requests as there are connections, with orders between them,
+-- and copies of the machine's world at that moment. Or the entrance or the socket can't be had, or the output failed, and the store
+-- stays as it was.
 abbrev pub ListensToBoth :
     {S : Type 0} → (S → Shown) → (S → ℕ) → Copied S → S → S → Entrance → ℕ
     → Option (List ℕ) → Option (List ℕ) → Result (Unit {0}) Refusal → Type 0
@@ -56,7 +57,7 @@ ListensToBoth shown failures copied old new entrance connections written written
     × GoesOnCopied shown copied failures old new connections)
     (λ e. (e ≡ Io) × (new ≡ old))
 
--- the one without a socket of operators, the other with one
+-- serving without a socket of operators, or with one
 abbrev pub ListensAs :
     {S : Type 0} → (S → Shown) → (S → ℕ) → Copied S → S → S → Entrance → ℕ
     → Option (List ℕ) → Option (List ℕ) → Option (List ℕ) → Result (Unit {0}) Refusal → Type 0

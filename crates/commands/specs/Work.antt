@@ -1,4 +1,4 @@
--- What a work on a store does.
+-- Work on a store.
 use Rattle.std.specs.Prelude.{ℕ, List, ◌≡◌, if◌then◌else◌, true, Bool, Option, option_copied, Result, Ok, Err}
 use Rattle.world.specs.Registry.{team_added, after_team_add, group_added, after_group_add, key_added, after_key_add, key_revoked, after_key_revoke}
 use Rattle.world.specs.Store.{Shown}
@@ -16,7 +16,7 @@ use Rattle.commands.specs.declared.serve.Entrance.{Entrance}
 use Rattle.commands.specs.declared.work.Work.{Work}
 use Rattle.commands.specs.declared.work.Work.TheVariants as work
 
--- a store, what is left to read of the input, and what the output has, at a moment
+-- a store, the bytes left on the input, and the bytes on the output, at a moment
 pub record Moment (S : Type 0) : Type 0 where
   pub store : S
   pub unread : Option (List ℕ)
@@ -27,7 +27,7 @@ pub record IsSilent {S : Type 0} (old new : Moment S) : Type 0 where
   pub unread : new.unread ≡ old.unread
   pub written : new.written ≡ old.written
 
--- what a work tells that is accepted once it is done
+-- the result of a work that is accepted once it is done
 abbrev pub acceptance : Result (Unit {0}) Refusal → Result Bool Refusal
 acceptance (Ok u) = Ok true
 acceptance (Err refusal) = Err refusal
@@ -47,7 +47,7 @@ module _ {S : Type 0} (shown : S → Shown) (failures : S → ℕ) (copied : Cop
         old.unread new.unread old.written new.written ended
     pub told : result ≡ acceptance ended
 
-  -- connections were served from the store, and nothing was read of the input
+  -- connections were served from the store, and nothing was read from the input
   pub record ServesConnections (entrance : Entrance) (connections : ℕ) (control : Option (List ℕ)) (result : Result Bool Refusal) : Type 0 where
     pub ended : Result (Unit {0}) Refusal
     pub serves : ListensAs shown failures copied old.store new.store entrance connections control old.written new.written ended

@@ -7,7 +7,7 @@ use std::alloc::Global;
 use std::io::{Read, Write};
 use world::shelves::Shelves;
 
-/// Answers the requests of the input from shelves. `Io` where the input or the output failed.
+/// Answers the requests of the input from a store. `Io` if the input or the output fails.
 pub fn answer_from<S: Shelves, I: Read, O: Write>(
     alloc: Global,
     shelves: &mut S,

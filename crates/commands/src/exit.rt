@@ -1,4 +1,4 @@
-//! How a run ends: its exit status, and the line that tells why a command was refused.
+//! How a run ends: its exit status, and the line that says why a command was refused.
 ghost use Rattle.std.specs.Prelude.{◌≡◌};
 ghost use Rattle.engine.specs.Written.{Writes};
 ghost use Rattle.commands.specs.Exit as spec;
@@ -11,18 +11,18 @@ use std::io::Write;
 /// How a run ended.
 #[derive(Clone, Copy, Debug, Drop, PartialEq, Eq)]
 pub enum Ending {
-    /// What was asked for is done.
+    /// The command is done.
     Done,
-    /// A publish was not accepted: its outcome, on the output, tells why.
+    /// A publish or a row of an import was not accepted. The output says why.
     NotAccepted,
     /// The command was refused.
     Refused(Refusal),
-    /// The words of the command line ask for nothing that there is.
+    /// The words of the command line are no command that the program has.
     BadUsage,
 }
 
 impl Ending {
-    /// The ending for what a task returned.
+    /// Returns the ending for the result of a task.
     pub fn of_task(told: Result<bool, Refusal>) -> Ending
         ensures { result ≡ spec.ending_of told }
     {
@@ -33,7 +33,7 @@ impl Ending {
         }
     }
 
-    /// The exit status: 0 done, 1 refused or not accepted, 2 bad usage.
+    /// Returns the exit status: 0 done, 1 refused or not accepted, 2 bad usage.
     pub fn status(self) -> u8
         ensures { result ≡ spec.status_of self }
     {
@@ -44,8 +44,8 @@ impl Ending {
         }
     }
 
-    /// Writes the line that says why the command was refused, if it was. If a write fails, a beginning of the line was written,
-    /// and it gives up the rest: the exit status says the same.
+    /// Writes the line that says why the command was refused, if it was. If a write fails, a beginning of the line is written and
+    /// the rest is given up, because the exit status still says that the command failed.
     pub fn tell<E: Write>(self, errors: &mut E)
         ensures { spec.Says (E.contents errors.old) (E.contents errors.new) self }
     {
@@ -55,7 +55,7 @@ impl Ending {
     }
 }
 
-/// Writes the line `goshelf: <word>`. An `Err` has written a beginning of it, and not all.
+/// Writes the line `goshelf: <word>`. `Io::Write` if a write fails: then a beginning of it is written, and not all.
 fn write_line<E: Write>(refusal: Refusal, errors: &mut E) -> Result<(), Io>
     ensures { Writes (E.contents errors.old) (E.contents errors.new) (spec.line_of refusal) result }
 {

@@ -8,12 +8,12 @@ use std::os::unix::fs::MetadataExt;
 use std::rt::HostRuntime;
 use world::bytes::Bytes;
 
-/// Why the bytes of a file could not be had.
+/// Why a file could not be read.
 #[derive(Clone, Copy, Drop)]
 pub enum FileFault {
-    /// The system does not let it be opened or read.
+    /// The system refused to open or read it.
     Io,
-    /// A growth was refused.
+    /// Memory ran out.
     Memory,
 }
 
@@ -26,7 +26,7 @@ impl From<io::Error> for FileFault {
     }
 }
 
-/// Whether there is such a file, and it has bytes.
+/// Whether there is such a file, it can be read, and it has bytes.
 pub fn holds_bytes(rt: &HostRuntime, path: &str) -> bool {
     match File::open(rt, path) {
         Ok(mut file) => has_bytes(&mut file).unwrap_or(false),
@@ -34,7 +34,7 @@ pub fn holds_bytes(rt: &HostRuntime, path: &str) -> bool {
     }
 }
 
-/// Whether there is such a file, and it has no bytes. A folder or a device is none.
+/// Whether there is a file with this name that has no bytes. Folders and devices do not count.
 pub fn is_empty_file(rt: &HostRuntime, path: &str) -> bool {
     match fs::metadata(rt, path) {
         Ok(found) => found.is_file() && found.len() == 0,
@@ -42,7 +42,7 @@ pub fn is_empty_file(rt: &HostRuntime, path: &str) -> bool {
     }
 }
 
-/// Whether both paths lead to one file.
+/// Whether both names lead to one file. False if one of them leads to none.
 pub fn is_same_file(rt: &HostRuntime, path: &str, other: &str) -> bool {
     let (Ok(one), Ok(two)) = (fs::metadata(rt, path), fs::metadata(rt, other)) else {
         return false;
@@ -58,7 +58,7 @@ fn has_bytes<R: Read>(reader: &mut R) -> io::Result<bool>
     Ok(reader.read(&mut byte)? > 0)
 }
 
-/// The bytes of a file, up to one more than `most`.
+/// Returns the bytes of a file, at most `most` and one more. `Io` if the file can't be opened or read, `Memory` if memory runs out.
 pub fn read_file(rt: &HostRuntime, path: &str, most: u64) -> Result<Bytes, FileFault>
     requires { most < 2 ^ 63 }
 {
@@ -66,7 +66,8 @@ pub fn read_file(rt: &HostRuntime, path: &str, most: u64) -> Result<Bytes, FileF
     read_at_most(rt.alloc(), file, most)
 }
 
-/// The bytes of a reader, up to one more than `most`, so that a text that is too long shows it.
+/// Returns the bytes of a reader, at most `most` and one more, so that the caller sees that a text is too long. `Io` if a read
+/// fails, `Memory` if memory runs out.
 pub fn read_at_most<R: Read + Drop>(alloc: Global, reader: R, most: u64) -> Result<Bytes, FileFault>
     requires { most < 2 ^ 63 }
     ensures { IfOk result (λ bytes. IfSome (R.remaining reader) (λ all. bytes ≡ take (most + 1) all)) }

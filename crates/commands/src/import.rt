@@ -20,45 +20,47 @@ use world::entry::{MAX_GOMOD, MAX_ZIP};
 use world::forms::{path_of, version_of};
 use world::shelves::Shelves;
 
-/// How an import ended, where each line was printed.
+/// How an import ended whose lines were all printed.
 #[derive(Clone, Copy, Debug, Drop, PartialEq, Eq)]
 pub enum Ending {
     /// Every row was answered 200 or 201.
     AllIn,
-    /// Some row was not, or the list could not be read on.
+    /// Some row was answered otherwise, or the list could not be read to its end.
     SomeOut,
-    /// The header is wrong or absent, or a row is no text or has not five fields.
+    /// The header is wrong or absent, or a row is not UTF-8 or does not have five fields.
     BadRow,
 }
 
-/// Why no further row is done.
+/// Why the import ends.
 #[derive(Clone, Copy, Debug, Drop, PartialEq, Eq)]
 pub enum Closing {
     /// The list is at its end.
     End,
     /// The next row is bad.
     BadRow,
-    /// The list can't be read on.
+    /// The rest of the list can't be read.
     Unread,
 }
 
-/// What was done next.
+/// One step of an import.
 #[derive(Clone, Copy, Debug, Drop, PartialEq, Eq)]
 pub enum Step {
-    /// A row, and whether it was accepted.
+    /// A row was done; whether it was accepted.
     Row(bool),
-    /// None.
+    /// No row was done, and the import ends.
     Over(Closing),
 }
 
-/// Publishes each row of a list with a key, and prints a line for each once it is done: its number, and the answer or `no file`.
+/// Publishes each row of a list with a key, prints a line for each once it is done, and returns how the import ended. The line is
+/// the number of the row, and its answer or `no file`.
 ///
-/// A row is published by the checks of a publish, with the files that its names have. A file that has none stores nothing for its
-/// row. A header that is wrong or absent, a row that is no text, and one that has not five fields end the import with the line
-/// `bad row`; where the list can't be read on the line `503 unavailable` ends it. `Io` where a line could not be printed: its row
-/// has been done.
-/// A list of the header alone ends as all accepted. A list with more rows than a `u64` counts ends as one that
-/// can't be read on.
+/// A row is published with the files that it names, by the checks of a publish. If one of them can't be read, its line is
+/// `no file` and nothing is stored for it; if memory runs out for them, its line is `503 unavailable`. The line `bad row` ends the
+/// import if the header is wrong or absent, or a row is not UTF-8 or does not have five fields. The line `503 unavailable` ends it
+/// if the rest of the list can't be read.
+/// A list of the header alone ends as all accepted. A list with more rows than a `u64` counts ends as one whose rest can't be read.
+///
+/// `Io::Write` if a line can't be printed; the row of the line is done.
 pub fn import<S: Shelves, L: Read + Drop, F: Sources, O: Write>(
     alloc: Global,
     shelves: &mut S,
@@ -102,7 +104,7 @@ fn both(first: bool, second: bool) -> bool
     first && second
 }
 
-/// Reads the header; tells why no row is done where it is none.
+/// Reads the header, and returns why the import ends if it is wrong, or None.
 fn read_header<R: Read>(reader: &mut Reader<R>, fields: &mut StringRecord) -> Option<Closing>
     ensures { (list : Option (List ℕ)) → HasRead R.remaining list [] reader.old → spec.HeaderRead R.remaining list reader.new result }
 {
@@ -120,7 +122,7 @@ fn read_header<R: Read>(reader: &mut Reader<R>, fields: &mut StringRecord) -> Op
     }
 }
 
-/// Does the next row, and prints its line.
+/// Does the next row and prints its line, or returns why the import ends. `Io::Write` if the line can't be printed.
 fn import_next<S: Shelves, R: Read, F: Sources, O: Write>(
     alloc: Global,
     shelves: &mut S,
@@ -148,7 +150,7 @@ fn import_next<S: Shelves, R: Read, F: Sources, O: Write>(
     }
 }
 
-/// Reads the fields of the next row; tells why there is none.
+/// Reads the fields of the next row, and returns why the import ends if there is none, or None.
 fn read_row<R: Read>(reader: &mut Reader<R>, fields: &mut StringRecord) -> Option<Closing>
     ensures { (list : Option (List ℕ)) (rows : List (List (List ℕ))) → HasRead R.remaining list rows reader.old
         → spec.FieldsRead R.remaining list rows reader.new (fields_of fields.new) result }
@@ -161,7 +163,7 @@ fn read_row<R: Read>(reader: &mut Reader<R>, fields: &mut StringRecord) -> Optio
     }
 }
 
-/// Publishes a row.
+/// Publishes a row with the files that it names, and returns its outcome.
 fn import_row<S: Shelves, F: Sources>(
     alloc: Global,
     shelves: &mut S,
@@ -179,7 +181,7 @@ fn import_row<S: Shelves, F: Sources>(
     }
 }
 
-/// Publishes the files of a row.
+/// Publishes a row with these files, and returns the answer.
 fn publish_row<S: Shelves>(
     alloc: Global,
     shelves: &mut S,
@@ -199,7 +201,7 @@ fn publish_row<S: Shelves>(
     answer_of(publish_by(alloc, shelves, &words, body))
 }
 
-/// The time of a row: an empty one is none.
+/// Returns the time of a row, or None for an empty field.
 fn time_of(time: &str) -> Option<&str>
     ensures { option_copied result ≡ spec.time_of time.now }
 {
@@ -209,7 +211,8 @@ fn time_of(time: &str) -> Option<&str>
     Some(time)
 }
 
-/// The files of a row. Where its path or its version does not read they are not looked at, since the row is not found.
+/// Returns the files of a row. If its path or its version is invalid, they are not read, because the row is answered 404 anyway.
+/// `NoFile` if a file can't be read, and `Memory` if memory runs out.
 fn body_of<F: Sources>(alloc: Global, row: &Row, sources: &F) -> Result<Body, SourceFault>
     ensures { IsBodyOf (F.told sources.now) (line_of_row row.now) result }
 {
@@ -224,7 +227,7 @@ fn body_of<F: Sources>(alloc: Global, row: &Row, sources: &F) -> Result<Body, So
     Ok(Body { gomod, zip })
 }
 
-/// Prints why no further row is done, and tells how the import ended.
+/// Prints the line that ends the import, if one does, and returns how it ended. `Io::Write` if the line can't be printed.
 fn close<O: Write>(
     number: u64,
     closing: Closing,

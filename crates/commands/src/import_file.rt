@@ -11,8 +11,8 @@ use std::io::Write;
 use std::rt::HostRuntime;
 use world::shelves::Shelves;
 
-/// Publishes each row of the list in a file, with the system's files, and returns whether all were accepted. `BadRow` after a
-/// bad row, `Io` where the list can't be opened, and then nothing is done, or where a line could not be printed.
+/// Publishes each row of the list in a file, with files of the system, and returns whether all were accepted. `BadRow` if the
+/// header or a row is bad. `Io` if the list can't be opened, and then nothing is done, or if a line can't be printed.
 pub fn import_file<S: Shelves, O: Write>(
     rt: &HostRuntime,
     shelves: &mut S,
@@ -29,7 +29,7 @@ pub fn import_file<S: Shelves, O: Write>(
     told(import(rt.alloc(), shelves, key, list, &files, output))
 }
 
-/// What is told of an import.
+/// Returns the result of the command for how the import ended.
 fn told(ended: Result<Ending, Io>) -> Result<bool, Refusal>
     ensures { result ≡ spec.told ended }
 {

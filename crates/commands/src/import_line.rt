@@ -11,17 +11,17 @@ use std::io::Write;
 use wire::fixed_line;
 use wire::reply::Fixed;
 
-/// What became of a row.
+/// The outcome of a row.
 #[derive(Clone, Copy, Drop)]
 pub enum Outcome {
-    /// A file has no bytes that can be had, and nothing was stored.
+    /// A file could not be read, and nothing was stored.
     NoFile,
-    /// The answer to its publish.
+    /// Its publish got this answer.
     Answered(Fixed),
 }
 
 impl Outcome {
-    /// Whether it is an answer that accepts: 200 or 201.
+    /// Whether it is the answer 200 or 201.
     pub fn accepts(self) -> bool
         ensures { result ≡ spec.accepts_outcome self }
     {
@@ -32,7 +32,7 @@ impl Outcome {
     }
 }
 
-/// Prints what became of a row: its number, a space and the answer, or `no file`.
+/// Prints the line of a row: its number, a space, and the answer or `no file`. `Io::Write` if the output fails.
 pub fn print_outcome<O: Write>(number: u64, outcome: Outcome, output: &mut O) -> Result<(), Io>
     ensures { spec.Prints (O.contents output.old) (O.contents output.new) (spec.numbered number (spec.outcome_text outcome)) result }
 {
@@ -46,14 +46,14 @@ pub fn print_outcome<O: Write>(number: u64, outcome: Outcome, output: &mut O) ->
     }
 }
 
-/// Prints that a row is bad.
+/// Prints the line of a bad row. `Io::Write` if the output fails.
 pub fn print_bad_row<O: Write>(number: u64, output: &mut O) -> Result<(), Io>
     ensures { spec.Prints (O.contents output.old) (O.contents output.new) (spec.numbered number (codes "bad row")) result }
 {
     print_numbered(number, b"bad row", output)
 }
 
-/// Prints a line: a number, a space and a text. Where that fails, a beginning of it was printed.
+/// Prints a line: a number, a space and a text. `Io::Write` if the output fails: then a beginning of it is printed, or all.
 fn print_numbered<O: Write>(number: u64, text: &[u8], output: &mut O) -> Result<(), Io>
     ensures { spec.Prints (O.contents output.old) (O.contents output.new) (spec.numbered number text.now) result }
 {
@@ -67,7 +67,7 @@ fn print_numbered<O: Write>(number: u64, text: &[u8], output: &mut O) -> Result<
     }
 }
 
-/// Writes a line: a number, a space and a text.
+/// Writes a line: a number, a space and a text. `Io::Write` if a write fails.
 fn write_numbered<O: Write>(number: u64, text: &[u8], output: &mut O) -> Result<(), Io>
     ensures { Writes (O.contents output.old) (O.contents output.new) (spec.numbered number text.now) result }
 {

@@ -10,13 +10,13 @@ use std::io::Read;
 /// What comes next in a list.
 #[derive(Clone, Copy, Debug, Drop, PartialEq, Eq)]
 pub enum Next {
-    /// Fields of text.
+    /// Fields of UTF-8.
     Fields,
     /// Nothing.
     End,
-    /// Fields that are no text.
+    /// Fields that are not UTF-8.
     NoText,
-    /// The list can't be read on: the reader failed, or a growth was refused.
+    /// The rest of the list can't be read: the reader failed, or memory ran out.
     Unread,
 }
 
@@ -25,16 +25,16 @@ pub enum Next {
 pub struct Row<'a> {
     pub path: &'a str,
     pub version: &'a str,
-    /// Empty where no time is given.
+    /// Empty if the row gives no time.
     pub time: &'a str,
-    /// The name of the file of the go.mod.
+    /// The file name of the go.mod.
     pub gomod: &'a str,
-    /// The name of the file of the zip.
+    /// The file name of the zip.
     pub zip: &'a str,
 }
 
-/// A reader at the beginning of a list.
-/// The reader takes records of any length and no header, so a bad row reaches our checks and the line names it.
+/// Returns a reader at the beginning of a list.
+/// It takes records of any length and no header, so a bad row reaches our checks, and a line gives its number.
 pub fn open<R: Read>(alloc: Global, list: R) -> Reader<R>
     ensures { spec.HasRead R.remaining (R.remaining list) [] result }
 {
@@ -44,7 +44,7 @@ pub fn open<R: Read>(alloc: Global, list: R) -> Reader<R>
         .from_reader(alloc, list)
 }
 
-/// Reads the next fields.
+/// Reads the next fields, and returns what came.
 pub fn read_next<R: Read>(reader: &mut Reader<R>, fields: &mut StringRecord) -> Next
     ensures { (list : Option (List ℕ)) (rows : List (List (List ℕ))) → spec.HasRead R.remaining list rows reader.old
         → spec.Comes R.remaining list rows reader.new (fields_of fields.new) result }
@@ -56,7 +56,7 @@ pub fn read_next<R: Read>(reader: &mut Reader<R>, fields: &mut StringRecord) -> 
     }
 }
 
-/// What comes next where a read failed.
+/// Returns what comes next if the read failed with this error.
 fn next_of(kind: &ErrorKind) -> Next
     ensures { result ≡ spec.next_of kind.now }
 {
@@ -66,7 +66,7 @@ fn next_of(kind: &ErrorKind) -> Next
     }
 }
 
-/// The row that fields are, if there are five.
+/// Returns the row of these fields, or None if they are not five.
 pub fn row_of(fields: &StringRecord) -> Option<Row<'_>>
     ensures { spec.IsRowOf (fields_of fields.now) result }
 {
@@ -82,7 +82,7 @@ pub fn row_of(fields: &StringRecord) -> Option<Row<'_>>
     })
 }
 
-/// The field at a place.
+/// Returns the field at a place.
 fn field(fields: &StringRecord, place: usize) -> &str
     requires { place < length (fields_of fields.now) }
     ensures { Some result.now ≡ field_at (fields_of fields.now) place }
@@ -93,7 +93,7 @@ fn field(fields: &StringRecord, place: usize) -> &str
     }
 }
 
-/// Whether fields are the header of a list.
+/// Whether these fields are the header of a list.
 pub fn is_header(fields: &StringRecord) -> bool
     ensures { IsTrue result ↔ (fields_of fields.now ≡ spec.header) }
 {

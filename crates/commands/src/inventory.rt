@@ -19,7 +19,7 @@ use world::bytes::Bytes;
 use world::forms::path_of;
 use world::registry::StoreFault;
 
-/// A version that a shelf sees, with the shelf that it stands on.
+/// A version that a shelf sees, with the shelf that has it.
 #[derive(Drop)]
 pub struct Row {
     pub path: Text,
@@ -32,18 +32,18 @@ pub struct Row {
     pub zip_bytes: usize,
 }
 
-/// Why there is no inventory. The store is as before.
+/// Why there is no inventory. The store is unchanged.
 #[derive(Clone, Copy, Debug, Drop, PartialEq, Eq)]
 pub enum InventoryFault {
     /// There is no such key.
     NoKey,
     /// A device failed.
     Device,
-    /// A growth was refused.
+    /// Memory ran out.
     Memory,
 }
 
-/// The inventory of a key: CSV with exactly one row for each version that its shelf sees, the paths by their bytes, the
+/// Returns the inventory of a key: CSV with exactly one row for each version that its shelf sees, the paths by their bytes, the
 /// versions of each by precedence, pseudo-versions among the others. (RFC 4180; SemVer 2.0.0, section 11.)
 ///
 /// Fails with `NoKey` if there is no such key, `Device` if a disk failed, and `Memory` if memory ran out.
@@ -63,7 +63,7 @@ pub fn inventory<S: Outlines>(
     }
 }
 
-/// The inventory of a key, if there is such a key.
+/// Returns the inventory of a key, or None if there is no such key. Fails if the store meets a fault.
 fn inventory_of<S: Outlines>(
     alloc: Global,
     shelves: &mut S,
@@ -78,7 +78,8 @@ fn inventory_of<S: Outlines>(
     Ok(Some(inventory_on(alloc, shelves, holder.shelf.as_str())?))
 }
 
-/// The inventory of a shelf, in one walk. What is held is its text and the paths.
+/// Returns the inventory of a shelf, in one walk over the paths. Only the text and the list of paths are held in memory. Fails if
+/// the store meets a fault or memory runs out, as do the functions below.
 fn inventory_on<S: Outlines>(
     alloc: Global,
     shelves: &mut S,
@@ -110,7 +111,7 @@ fn add_paths<S: Outlines>(
     Ok(())
 }
 
-/// Adds the lines of the path that a text is.
+/// Adds the lines of the path that a text is, or none if it is no path.
 fn add_text<S: Outlines>(
     alloc: Global,
     shelves: &mut S,
@@ -149,7 +150,7 @@ fn add_path<S: Outlines>(
     Ok(())
 }
 
-/// Adds the line of a version, where the shelf sees it.
+/// Adds the line of a version, if the shelf sees it.
 fn add_version<S: Outlines>(
     alloc: Global,
     shelves: &mut S,
@@ -170,7 +171,7 @@ fn add_version<S: Outlines>(
     Ok(write_row(alloc, lines, &row)?)
 }
 
-/// What the inventory has of a version that is seen.
+/// Returns the row of a version with this outline. Fails only if memory runs out.
 fn row_of(
     alloc: Global,
     path: &ModulePath,

@@ -1,4 +1,4 @@
-//! The inventory as CSV. (RFC 4180.)
+//! The inventory as CSV. Calls here fail only if memory runs out. (RFC 4180.)
 ghost use Rattle.std.specs.Prelude.{◌≡◌, [], ◌∷◌, ◌++◌, decimal, IfOk, OnOk};
 ghost use Rattle.csv.specs.Records.{fields_of, partial_of};
 ghost use Rattle.commands.specs.Inventory as spec;
@@ -11,7 +11,7 @@ use modver::{Class, TimeText, class};
 use std::alloc::{AllocError, Global};
 use world::bytes::Bytes;
 
-/// A writer to which the header was written.
+/// Returns a writer to which the header was written.
 pub(crate) fn headed(alloc: Global) -> Result<Writer<Vec<u8>>, AllocError>
     ensures between { IfOk result IsBetweenLines }
     ensures text { IfOk result (λ lines. text_in lines ≡ spec.line spec.header) }
@@ -36,7 +36,7 @@ pub(crate) fn write_row(
     write_line(lines, &fields)
 }
 
-/// The text that was written.
+/// Returns the text that was written.
 pub(crate) fn text_of(lines: Writer<Vec<u8>>) -> Result<Bytes, AllocError>
     ensures { IfOk result (λ text. text ≡ text_in lines) }
 {
@@ -59,7 +59,7 @@ fn write_line(lines: &mut Writer<Vec<u8>>, fields: &ByteRecord) -> Result<(), Al
     }
 }
 
-/// The fields of the header.
+/// Returns the fields of the header.
 fn header(alloc: Global) -> Result<ByteRecord, AllocError>
     ensures { IfOk result (λ fields. fields_of fields ≡ spec.header) }
 {
@@ -74,7 +74,7 @@ fn header(alloc: Global) -> Result<ByteRecord, AllocError>
     Ok(fields)
 }
 
-/// The fields of a row.
+/// Returns the fields of a row.
 fn fields_of_row(alloc: Global, row: &Row) -> Result<ByteRecord, AllocError>
     ensures { IfOk result (λ fields. fields_of fields ≡ spec.fields row.now) }
 {
@@ -99,7 +99,7 @@ fn push_number(fields: &mut ByteRecord, number: usize) -> Result<(), AllocError>
     fields.push_field(digits.format(number).as_bytes())
 }
 
-/// The word of a class of versions.
+/// Returns the word of a class of versions.
 fn class_word(class: Class) -> &'static str
     ensures { result.now ≡ spec.class_word class }
 {
@@ -110,7 +110,7 @@ fn class_word(class: Class) -> &'static str
     }
 }
 
-/// The time of a version; empty where it has none.
+/// Returns the time of a version, or an empty text if it has none.
 fn time_field(time: &Option<TimeText>) -> &str
     ensures { result.now ≡ spec.time_field time.now }
 {

@@ -12,15 +12,15 @@ pub fn repetition()
     ensures { RepeatedImportChangesNothing }
 {}
 
-/// Each path and version that a shelf sees in a world has exactly one row in an inventory, which tells what is seen of
+/// Each path and version that a shelf sees in a world has exactly one row in an inventory, with what the shelf sees of
 /// it, and each row is of a version that the shelf sees.
 pub fn rows_are_whole()
     ensures { RowsAreWhole }
 {}
 
 /// A command with `--control`, whose line a `serve` carried out and whose outcome came, ends as the same command does on
-/// the store of a file: by what comes of its order in the world that the store stood for, and the store stands for the
-/// world after it; or by a fault of the store, which changes nothing.
+/// the store of a file: by the machine's reply to its order in the world that the store stood for, and the store stands for
+/// the world after it; or by a fault of the store, which changes nothing.
 pub fn orders_end_as_on_the_store<S: Shelves, K: Copies<S>>()
     ensures { (old new : S) → EndsAsOnTheStore (K.copied old new) (S.shown old) (S.shown new) }
 {}

@@ -2,11 +2,11 @@
 //!
 //! | command | what it does | where |
 //! |---|---|---|
-//! | `team-add`, `group-add`, `key-add`, `key-revoke` | one command of the registry, as the machine does it | [`registry`] |
+//! | `team-add`, `group-add`, `key-add`, `key-revoke` | does one registry command, as the machine does | [`registry`] |
 //! | `publish` | asks the machine to publish two files, and prints the line of its outcome | [`publish`] |
 //! | `import` | asks the machine to publish each row of a list, and prints a line for each | [`import`], [`import_file`] |
 //! | `inventory`, `requires` | prints what a shelf sees, and what a version requires | [`report`], [`inventory`], [`requirements`] |
-//! | `answer` | answers the requests of a reader from a store, or from shelves in memory that begin with one team and its key | [`answer`], [`memory`] |
+//! | `answer` | answers the requests of a reader from a store, or from shelves in memory | [`answer`], [`memory`] |
 //! | `serve` | prints its port, answers one request on each of some connections, and carries out orders between them | [`serve`] |
 //! | the commands of the registry with `--control` | send an order to a running `serve`, and end by what it tells | [`order`] |
 //!

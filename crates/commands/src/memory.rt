@@ -12,7 +12,7 @@ use world::map_shelves::MapShelves;
 use world::names::{is_key, is_team_name};
 use world::shelves::Shelves;
 
-/// Adds the first team.
+/// Adds the first team. `Memory` if memory runs out.
 fn add_first_team(shelves: &mut MapShelves, team: &str) -> Result<(), Refusal>
     requires begins { shelves.old ≡ only_common }
     requires named { is_team_name team.now ≡ true }
@@ -25,7 +25,7 @@ fn add_first_team(shelves: &mut MapShelves, team: &str) -> Result<(), Refusal>
     }
 }
 
-/// Adds the publishing key of the first team.
+/// Adds the publishing key of the first team. `Memory` if memory runs out.
 fn add_first_key(shelves: &mut MapShelves, team: &str, key: &str) -> Result<(), Refusal>
     requires begins { shelves.old ≡ with_team only_common team.now None }
     requires team_named { is_team_name team.now ≡ true }
@@ -39,8 +39,8 @@ fn add_first_key(shelves: &mut MapShelves, team: &str, key: &str) -> Result<(), 
     }
 }
 
-/// Shelves in memory that have `common`, the team and its publishing key. A team or a key that breaks its
-/// rule is `Name`; else only want of memory stops it.
+/// Returns shelves in memory that have `common`, the team and its publishing key. `Name` if the team or the key breaks its
+/// rule, and otherwise `Memory` if memory runs out.
 pub fn shelves_with(alloc: Global, team: &str, key: &str) -> Result<MapShelves, Refusal>
     ensures ok { IfOk result (λ shelves. (shelves ≡ opening team.now key.now) × AreNames team.now key.now) }
     ensures err { IfErr result (λ e. ((e ≡ Refusal.Memory) × AreNames team.now key.now) ⊎ ((e ≡ Refusal.Name) × (¬ AreNames team.now key.now))) }
@@ -57,8 +57,8 @@ pub fn shelves_with(alloc: Global, team: &str, key: &str) -> Result<MapShelves, 
 }
 
 /// Answers the requests of the input from shelves in memory that begin with `common`, the team and its
-/// publishing key. `Name` where one of them breaks its rule, and `Memory` where there is none to begin with:
-/// then nothing is read. `Io` where the input or the output failed.
+/// publishing key. `Name` if the team or the key breaks its rule, and `Memory` if memory runs out before the first read:
+/// then nothing is read. `Io` if the input or the output fails.
 pub fn answer_in_memory<I: Read, O: Write>(
     alloc: Global,
     team: &str,

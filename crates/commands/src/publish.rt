@@ -24,7 +24,7 @@ use world::forms::{path_of, version_of};
 use world::registry::StoreFault;
 use world::shelves::Shelves;
 
-/// What a publish says of its version, as it stands on the command line.
+/// What a publish says about its version, in the words of a command line or a list.
 #[derive(Clone, Copy, Drop)]
 pub struct Words<'a> {
     pub key: &'a str,
@@ -40,9 +40,9 @@ pub struct Files<'a> {
     pub zip: &'a str,
 }
 
-/// Reads two files, publishes them and prints the outcome. It returns whether the version now stands with these files. If
-/// memory runs out while it reads, it does nothing on the store and the outcome is the 503. `Io` if a file can't be read,
-/// and then it does nothing, or if the output fails.
+/// Reads two files, publishes them and prints the outcome. It returns whether the version now has these files. If memory runs
+/// out while it reads, it does nothing on the store and the outcome is the 503. `Io` if a file can't be read, and then it does
+/// nothing, or if the output fails.
 pub fn publish<S: Shelves, O: Write>(
     rt: &HostRuntime,
     shelves: &mut S,
@@ -57,7 +57,8 @@ pub fn publish<S: Shelves, O: Write>(
     publish_had(rt.alloc(), shelves, words, had, output)
 }
 
-/// Publishes files by how they were had: where they were not, nothing is done on the store.
+/// Publishes the files that were read, and prints the outcome. If they were not read, it does nothing on the store: it prints the
+/// 503 if memory ran out, and otherwise fails with `Io`.
 fn publish_had<S: Shelves, O: Write>(
     alloc: Global,
     shelves: &mut S,
@@ -75,15 +76,16 @@ fn publish_had<S: Shelves, O: Write>(
     }
 }
 
-/// The go.mod and the zip.
-/// It stops at the first failure: if memory runs out for the go.mod, nobody looks for the zip.
+/// Returns the go.mod and the zip, or why one of them can't be read.
+/// It stops at the first failure: if memory runs out for the go.mod, it does not read the zip.
 fn read_files(rt: &HostRuntime, files: &Files) -> Result<Body, FileFault> {
     let gomod = read_file(rt, files.gomod, MAX_GOMOD as u64)?;
     let zip = read_file(rt, files.zip, MAX_ZIP as u64)?;
     Ok(Body { gomod, zip })
 }
 
-/// Publishes files as the machine does and prints the outcome. It returns whether the version now stands with these files.
+/// Publishes files as the machine does and prints the outcome. It returns whether the version now has these files. `Io` if the
+/// output fails.
 pub fn publish_files<S: Shelves, O: Write>(
     alloc: Global,
     shelves: &mut S,
@@ -98,7 +100,7 @@ pub fn publish_files<S: Shelves, O: Write>(
     tell(answer_of(told), output)
 }
 
-/// Asks the machine to publish files.
+/// Asks the machine to publish files, and returns its reply. Fails if the store meets a fault, or if memory runs out.
 pub(crate) fn publish_by<S: Shelves>(
     alloc: Global,
     shelves: &mut S,
@@ -113,7 +115,8 @@ pub(crate) fn publish_by<S: Shelves>(
     step(alloc, shelves, &ask)
 }
 
-/// What a publish of files asks of the machine: something unreadable where the path or the version does not read.
+/// Returns what a publish of files asks of the machine: `Unreadable` if the path or the version is invalid. Fails only if memory
+/// runs out.
 fn ask_of(alloc: Global, words: &Words, body: Body) -> Result<Ask, AllocError>
     ensures { IfOk result (λ ask. ask ≡ spec.asked_by words.now body) }
 {
@@ -133,7 +136,7 @@ fn ask_of(alloc: Global, words: &Words, body: Body) -> Result<Ask, AllocError>
     Ok(Ask::Put { key, publish })
 }
 
-/// The time that is given, taken as it stands.
+/// Returns the time that the text writes, `Malformed` if it writes none, or `Absent` without a text.
 fn given_time(text: Option<&str>) -> GivenTime
     ensures { result ≡ spec.given_time (option_copied text.entry) }
 {
@@ -146,7 +149,7 @@ fn given_time(text: Option<&str>) -> GivenTime
     }
 }
 
-/// The fixed answer to a publish: 503 where the store met a fault.
+/// Returns the fixed answer to a publish: the 503 if the store met a fault.
 pub(crate) fn answer_of(told: Result<Reply, StoreFault>) -> Fixed
     ensures { result ≡ spec.answer_of told }
 {
@@ -157,7 +160,7 @@ pub(crate) fn answer_of(told: Result<Reply, StoreFault>) -> Fixed
     }
 }
 
-/// Prints an answer as a line, and tells whether it accepts.
+/// Prints an answer as a line, and returns whether it accepts the publish. `Io` if the output fails.
 fn tell<O: Write>(answer: Fixed, output: &mut O) -> Result<bool, Refusal>
     ensures { spec.Tells answer (O.contents output.old) (O.contents output.new) result }
 {
@@ -174,7 +177,7 @@ pub(crate) fn is_accepted(status: u16) -> bool
     status == 200 || status == 201
 }
 
-/// Prints an answer as a line: the number of its status, a space and its body.
+/// Prints an answer as a line: the number of its status, a space and its body. Fails if the output does.
 fn print_line<O: Write>(answer: Fixed, output: &mut O) -> std::io::Result<()>
     ensures { OnOk result (Appends (O.contents output.old) (O.contents output.new) (line_bytes answer ++ codes "\n")) }
 {

@@ -1,4 +1,4 @@
-//! The words on standard error that tell why a command was refused.
+//! The words on standard error that say why a command was refused.
 ghost use Rattle.std.specs.Prelude.{◌≡◌};
 ghost use Rattle.commands.specs.Ending as spec;
 
@@ -18,24 +18,25 @@ pub enum Refusal {
     NoKey,
     /// There is no group of that name.
     NoGroup,
-    /// A disk failed, or a file can't be opened as a store.
+    /// A disk failed, a file can't be opened as a store, or no `serve` listens at the socket of `--control`.
     Device,
-    /// A growth was refused.
+    /// Memory ran out.
     Memory,
-    /// The file has other tables than a store's, or is no database.
+    /// The file has other tables than a store's (for `migrate`, than an older store's), or is no database.
     BadSchema,
-    /// The file has bytes already.
+    /// For `init`, the file has bytes already; for `extract`, `migrate` and `copy`, the new store has more than `common`, or its file
+    /// is that of the other store.
     NotEmpty,
-    /// The shelf of the key sees no such version, or there is no such key.
+    /// The path or the version is invalid, there is no such key, or its shelf does not see the version.
     NotFound,
-    /// A list has another header, or a row that is no text or has not five fields.
+    /// A list has another header, or a row that is not UTF-8 or does not have five fields.
     BadRow,
-    /// The input, the output or a file failed.
+    /// The input, the output or a file failed; `serve` did not get its port or its socket; or no outcome came from a `serve`.
     Io,
 }
 
 impl Refusal {
-    /// The word of the refusal on standard error.
+    /// Returns the word of the refusal on standard error.
     pub fn word(self) -> &'static str
         ensures { result.now ≡ spec.word self }
     {
@@ -62,7 +63,7 @@ impl From<AllocError> for Refusal {
     }
 }
 
-/// How a registry command ends, by the store's answer.
+/// Returns how a registry command ends with this answer of the store.
 pub fn ending(told: Result<Registered, StoreFault>) -> Result<(), Refusal>
     ensures { result ≡ spec.ending told }
 {

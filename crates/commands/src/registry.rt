@@ -1,4 +1,4 @@
-//! The commands of the registry: teams, groups and keys.
+//! The registry commands: teams, groups and keys.
 ghost use Rattle.std.specs.Prelude.{◌≡◌, true, if◌then◌else◌, option_copied};
 ghost use Rattle.world.specs.Registry.{team_added, after_team_add, group_added, after_group_add, key_added, after_key_add, key_revoked, after_key_revoke};
 ghost use Rattle.commands.specs.Ending.{Registers};
@@ -8,7 +8,7 @@ use world::entry::Right;
 use world::shelves::Shelves;
 
 /// Adds a team, as a member of a group or of none, as the machine does.
-/// `Name`, `Taken`, `NoGroup`, or a fault of the store: then nothing is changed.
+/// Fails with `Name`, `Taken`, `NoGroup`, or a fault of the store, and then changes nothing.
 pub fn add_team<S: Shelves>(shelves: &mut S, name: &str, group: Option<&str>) -> Result<(), Refusal>
     ensures { Registers (S.shown shelves.old) (S.shown shelves.new) (S.failure_count shelves.old) (S.failure_count shelves.new)
         (λ w. team_added w name.now (option_copied group.entry))
@@ -18,7 +18,7 @@ pub fn add_team<S: Shelves>(shelves: &mut S, name: &str, group: Option<&str>) ->
     ending(told)
 }
 
-/// Adds a group, as the machine does. `Name`, `Taken`, or a fault of the store: then nothing is changed.
+/// Adds a group, as the machine does. Fails with `Name`, `Taken`, or a fault of the store, and then changes nothing.
 pub fn add_group<S: Shelves>(shelves: &mut S, name: &str) -> Result<(), Refusal>
     ensures { Registers (S.shown shelves.old) (S.shown shelves.new) (S.failure_count shelves.old) (S.failure_count shelves.new)
         (λ w. group_added w name.now) (λ w. after_group_add w name.now (group_added w name.now)) result }
@@ -27,7 +27,8 @@ pub fn add_group<S: Shelves>(shelves: &mut S, name: &str) -> Result<(), Refusal>
     ending(told)
 }
 
-/// Adds a key to a shelf, as the machine does. `Name`, `NoTeam`, `Taken`, or a fault of the store: then nothing is changed.
+/// Adds a key to a shelf, as the machine does. Fails with `Name`, `NoTeam`, `Taken`, or a fault of the store, and then changes
+/// nothing.
 pub fn add_key<S: Shelves>(
     shelves: &mut S,
     shelf: &str,
@@ -43,7 +44,7 @@ pub fn add_key<S: Shelves>(
     ending(told)
 }
 
-/// What a key may do that may only read, or that may publish too.
+/// Returns the right of a key that may only read, or that may publish too.
 fn right_of(read_only: bool) -> Right
     ensures { result ≡ (if read_only then Right.Reads else Right.Publishes) }
 {
@@ -54,7 +55,7 @@ fn right_of(read_only: bool) -> Right
     }
 }
 
-/// Takes a key away, as the machine does. `NoKey`, or a fault of the store: then nothing is changed.
+/// Revokes a key, as the machine does. Fails with `NoKey`, or a fault of the store, and then changes nothing.
 pub fn revoke_key<S: Shelves>(shelves: &mut S, key: &str) -> Result<(), Refusal>
     ensures { Registers (S.shown shelves.old) (S.shown shelves.new) (S.failure_count shelves.old) (S.failure_count shelves.new)
         (λ w. key_revoked w key.now) (λ w. after_key_revoke w key.now (key_revoked w key.now)) result }

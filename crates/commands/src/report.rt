@@ -13,8 +13,8 @@ use world::bytes::Bytes;
 use world::registry::StoreFault;
 use world::shelves::Shelves;
 
-/// Prints the inventory of a key. `NoKey` where there is no such key, `Device` or `Memory` where the store met a fault: then
-/// nothing is printed. `Io` where the output failed.
+/// Prints the inventory of a key, and returns true. `NoKey` if there is no such key, `Device` or `Memory` if the store meets a
+/// fault: then nothing is printed. `Io` if the output fails.
 pub fn print_inventory<S: Outlines, O: Write>(
     alloc: Global,
     shelves: &mut S,
@@ -28,9 +28,9 @@ pub fn print_inventory<S: Outlines, O: Write>(
     print(inventory_told(told), output)
 }
 
-/// Prints what the go.mod of a version requires. `NotFound` where the path or the version does not read, there is no such key
-/// or its shelf does not see the version, `Device` or `Memory` where the store met a fault: then nothing is printed. `Io` where
-/// the output failed.
+/// Prints what the go.mod of a version requires, and returns true. `NotFound` if the path or the version is invalid, there is no
+/// such key or its shelf does not see the version, `Device` or `Memory` if the store meets a fault: then nothing is printed. `Io`
+/// if the output fails.
 pub fn print_requirements<S: Shelves, O: Write>(
     alloc: Global,
     shelves: &mut S,
@@ -44,7 +44,7 @@ pub fn print_requirements<S: Shelves, O: Write>(
     print(requirements_told(told), output)
 }
 
-/// A version as a command line names it: by a key, a path and a version as they stand.
+/// A version, in the words of a command line.
 #[derive(Clone, Copy, Drop)]
 pub struct Named<'a> {
     pub key: &'a str,
@@ -52,7 +52,7 @@ pub struct Named<'a> {
     pub version: &'a str,
 }
 
-/// What is told of an inventory.
+/// Returns the inventory, or the refusal if there is none.
 fn inventory_told(told: Result<Bytes, InventoryFault>) -> Result<Bytes, Refusal>
     ensures { result ≡ spec.inventory_told told }
 {
@@ -64,7 +64,7 @@ fn inventory_told(told: Result<Bytes, InventoryFault>) -> Result<Bytes, Refusal>
     }
 }
 
-/// What is told of what a version requires.
+/// Returns the lines of what a version requires, or the refusal if there are none.
 fn requirements_told(told: Result<Option<Bytes>, StoreFault>) -> Result<Bytes, Refusal>
     ensures { result ≡ spec.requirements_told told }
 {
@@ -76,7 +76,7 @@ fn requirements_told(told: Result<Option<Bytes>, StoreFault>) -> Result<Bytes, R
     }
 }
 
-/// Prints a text, if there is one.
+/// Prints a text and returns true, or fails with the refusal if there is none. `Io` if the output fails.
 fn print<O: Write>(told: Result<Bytes, Refusal>, output: &mut O) -> Result<bool, Refusal>
     ensures { spec.Prints (O.contents output.old) (O.contents output.new) result told }
 {
@@ -90,7 +90,7 @@ fn print<O: Write>(told: Result<Bytes, Refusal>, output: &mut O) -> Result<bool,
     }
 }
 
-/// Writes a text.
+/// Writes a text, and flushes. Fails if the output does.
 fn write_text<O: Write>(text: &[u8], output: &mut O) -> io::Result<()>
     ensures { OnOk result (Appends (O.contents output.old) (O.contents output.new) text.now) }
 {

@@ -17,8 +17,8 @@ use world::reading::Reading;
 use world::registry::StoreFault;
 use world::shelves::Shelves;
 
-/// What the go.mod of a version requires, a line `path version` each, in its order. None where the path or the version
-/// does not read, there is no such key, or its shelf does not see the version.
+/// Returns what the go.mod of a version requires, a line `path version` each, in its order; or None if the path or the version
+/// is invalid, there is no such key, or its shelf does not see the version. Fails if the store meets a fault or memory runs out.
 pub fn requirements<S: Shelves>(
     alloc: Global,
     shelves: &mut S,
@@ -42,7 +42,7 @@ pub fn requirements<S: Shelves>(
     required_on(alloc, shelves, holder.shelf.as_str(), &path, &version)
 }
 
-/// What the go.mod of a version requires that a shelf sees.
+/// Returns what the go.mod of a version requires, or None if the shelf does not see the version.
 fn required_on<S: Shelves>(
     alloc: Global,
     shelves: &mut S,
@@ -58,7 +58,7 @@ fn required_on<S: Shelves>(
     Ok(required_in(alloc, heading)?)
 }
 
-/// What the go.mod of a version that is seen requires.
+/// Returns what the go.mod of a heading requires, or None without a heading. Fails only if memory runs out.
 fn required_in(alloc: Global, heading: Option<Heading>) -> Result<Option<Bytes>, AllocError>
     ensures { IfOk result (λ lines. lines ≡ spec.required_in heading) }
 {
@@ -71,7 +71,7 @@ fn required_in(alloc: Global, heading: Option<Heading>) -> Result<Option<Bytes>,
     }
 }
 
-/// A line `path version` for each requirement.
+/// Returns a line `path version` for each requirement. Fails only if memory runs out.
 fn lines_of(alloc: Global, required: &[Requirement]) -> Result<Bytes, AllocError>
     ensures { IfOk result (λ lines. lines ≡ spec.lines_of required.now) }
 {

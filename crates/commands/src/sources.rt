@@ -1,4 +1,4 @@
-//! Where the files of an import come from.
+//! Sources of the files of an import.
 ghost use Rattle.std.specs.Prelude.{ℕ, ◌≡◌, ◌<◌, ◌^◌, ◌+◌, take, OnOk, OnErr, IfOk, option_copied};
 ghost use Rattle.std.specs.FinMap as map;
 ghost use Rattle.commands.specs.declared.sources.SourceFault.TheVariants.{Memory};
@@ -10,12 +10,12 @@ use std::marker::Model;
 use std::rt::HostRuntime;
 use world::bytes::Bytes;
 
-/// Why the bytes of a name could not be had.
+/// Why a source gives no bytes for a file name.
 #[derive(Clone, Copy, Debug, Drop, PartialEq, Eq)]
 pub enum SourceFault {
-    /// The name has none: there is no such file, or it can't be read.
+    /// There is no such file, or it can't be read.
     NoFile,
-    /// A growth was refused.
+    /// Memory ran out.
     Memory,
 }
 
@@ -27,21 +27,22 @@ impl From<AllocError> for SourceFault {
     }
 }
 
-/// What gives the bytes of names.
+/// A source of files.
 pub trait Sources {
     ghost use Rattle.std.specs.Prelude.{ℕ, List, Option, ◌<◌, ◌^◌};
     ghost use Rattle.commands.specs.Sources.{IsTold};
 
-    /// Which bytes a name has, where that is told: of a name that has none it may be told too.
+    /// The file of a name, or that there is no such file, if that is known.
     ghost told: { Self → List ℕ → Option (Option (List ℕ)) };
 
-    /// The bytes of a name, up to one more than `most`, so that a text that is too long shows it.
+    /// Returns the bytes of a file, at most `most` and one more, so that the caller sees that a text is too long. `NoFile` if there
+    /// is no such file or it can't be read, and `Memory` if memory runs out.
     fn bytes(&self, name: &str, most: u64) -> Result<Bytes, SourceFault>
         requires { most < 2 ^ 63 }
         ensures { IsTold most (told self.now name.now) result };
 }
 
-/// The files of the system, of which nothing is told.
+/// The files of the system, whose bytes are not known.
 #[derive(Clone, Copy, Drop)]
 pub struct SystemFiles<'a> {
     pub rt: &'a HostRuntime,
@@ -83,7 +84,7 @@ impl Model for FilesInMemory {
 }
 
 impl FilesInMemory {
-    /// No files. It takes no memory.
+    /// Returns a source without files. It takes no memory.
     pub fn new(alloc: Global) -> FilesInMemory
         ensures { result ≡ map.empty }
     {
@@ -93,7 +94,7 @@ impl FilesInMemory {
         }
     }
 
-    /// Puts a file there, in the place of one of the same name. Without memory the files stay as they were.
+    /// Adds a file, in place of one with the same name. If memory runs out, it fails and the files stay as they were.
     pub fn insert(&mut self, name: &str, bytes: &[u8]) -> Result<(), AllocError>
         ensures ok { OnOk result (self.new ≡ map.insert self.old name.now bytes.now) }
         ensures err { OnErr result (self.new ≡ self.old) }
@@ -104,7 +105,7 @@ impl FilesInMemory {
         Ok(())
     }
 
-    /// The bytes of a name.
+    /// Returns the bytes of a file, or None if there is no such file.
     fn get(&self, name: &str) -> Option<&Bytes>
         ensures { option_copied result ≡ map.get self.now name.now }
     {
@@ -125,7 +126,7 @@ impl Sources for FilesInMemory {
     }
 }
 
-/// A copy of bytes, of at most one more than this many.
+/// Returns a copy of the first bytes, at most `most` and one more. Fails only if memory runs out.
 fn front_of(alloc: Global, bytes: &[u8], most: u64) -> Result<Bytes, AllocError>
     requires { most < 2 ^ 63 }
     ensures { IfOk result (λ front. front ≡ take (most + 1) bytes.now) }

@@ -1,4 +1,4 @@
-//! What is done on a store, whichever store it is.
+//! Work on a store, whichever store it is.
 ghost use Rattle.std.specs.Prelude.{◌≡◌};
 ghost use Rattle.commands.specs.Work as spec;
 
@@ -14,10 +14,10 @@ use outline::outlines::Outlines;
 use std::io::{Read, Write};
 use std::rt::HostRuntime;
 
-/// What is done on a store.
+/// What to do on a store.
 #[derive(Clone, Copy, Drop)]
 pub enum Work<'a> {
-    /// Nothing: the store is there once it was opened.
+    /// Nothing: opening the store makes it.
     Open,
     /// `team-add`: adds a team, as a member of a group or of none.
     TeamAdd {
@@ -34,7 +34,7 @@ pub enum Work<'a> {
         key: &'a str,
         read_only: bool,
     },
-    /// `key-revoke`: takes a key away.
+    /// `key-revoke`: revokes a key.
     KeyRevoke {
         key: &'a str,
     },
@@ -58,8 +58,8 @@ pub enum Work<'a> {
     },
     /// `answer --db F`: answers the requests on the input.
     Answer,
-    /// `serve`: answers one request on each of so many connections, and carries out between them the orders that come over a socket,
-    /// if one is named, copies among them.
+    /// `serve`: answers one request on each of this many connections, and between them carries out the orders that come over a
+    /// socket, if one is named, copies among them.
     Serve {
         entrance: Entrance,
         connections: u32,
@@ -112,7 +112,7 @@ pub fn work_on<S: Outlines, K: Copies<S>, I: Read, O: Write>(
     }
 }
 
-/// What a work tells that is accepted once it is done.
+/// Returns true if the work is done, or its refusal.
 fn acceptance(ended: Result<(), Refusal>) -> Result<bool, Refusal>
     ensures { result ≡ spec.acceptance ended }
 {

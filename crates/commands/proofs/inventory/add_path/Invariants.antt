@@ -4,7 +4,7 @@ use Rattle.commands.specs.Lines.{IsBetweenLines, text_in}
 use Rattle.commands.proofs.Gathered.{Keeps, Gathers}
 use Rattle.commands.proofs.inventory.add_path.Given as goal
 
--- the lines of the versions so far, and those of the versions that are left
+-- the lines of the versions so far are written, and those of the other versions are left
 abbrev pub invariant-loop-version : goal.invariant-loop-version
 invariant-loop-version g l =
     let s = g.S.Shelves in

@@ -5,7 +5,7 @@ use Rattle.commands.specs.Lines.{IsBetweenLines, text_in}
 use Rattle.commands.proofs.Gathered.{Keeps, Gathers}
 use Rattle.commands.proofs.inventory.add_paths.Given as goal
 
--- the lines of the paths so far, and those of the paths that are left
+-- the lines of the paths so far are written, and those of the other paths are left
 abbrev pub invariant-loop-text : goal.invariant-loop-text
 invariant-loop-text g l =
     let s = g.S.Shelves in

@@ -1,4 +1,4 @@
--- What some teams are told by a store of their part.
+-- A store of some teams' part replies to them as the whole does.
 use Rattle.std.proofs.Common.{◌≡◌, ◌⊎◌, ℕ, List, [], ◌∷◌, ◌++◌, Bool, true, false, cond, inl, inr, refl, ◌∙◌, sym, ap, subst, Option, Some, None, true≢false}
 use Rattle.std.specs.Prelude.{bytes_eq, is_some}
 use Rattle.std.specs.FinMap as map
@@ -113,7 +113,7 @@ low_decided : (w x : World) (s : List ℕ) (o : Option Holder) (p : Publish) (d 
 low_decided w x s (Some h) p Published low = low_stored w x s (place_of h.shelf p) (offered p) low
 low_decided w x s o p d low = low
 
--- what is decided, by the reply
+-- equal replies with decisions have equal decisions
 same_decision : (a b : Decision) → reply.Decided a ≡ reply.Decided b → a ≡ b
 same_decision a b e = cc
 
@@ -148,6 +148,7 @@ module _ (ts : List (List ℕ)) where
       let held : map.get w.keys k ≡ map.get x.keys k = at ∙ sym (((low t there).keys k h seen).0 at) in
       (one.0, λ u here. low_asked w x u a k by held one.0 (low u here))
 
+  -- two worlds that are the same to each team give the same replies to requests with keys of the shelves that the teams see
   all_blind : (w x : World) (es : List Event) → IsWorld w → IsWorld x → AreTeams w ts → AllLow w x ts → AllOf w (chains w ts) es → replies w es ≡ replies x es
   all_blind w x [] is_w is_x are low of = refl
   all_blind w x (Asked a ∷ es) is_w is_x are low of =

@@ -1,4 +1,4 @@
--- What is written for some teams by a store of their part.
+-- A store of some teams' part writes for them what the whole writes.
 use Rattle.std.proofs.Common.{◌≡◌, sym, subst}
 use Rattle.std.specs.Prelude.{map}
 use Rattle.world.specs.World.{World}

@@ -10,7 +10,7 @@ use Rattle.control.specs.declared.copies.CopyRefusal.{CopyRefusal}
 use Rattle.control.specs.declared.copies.CopyRefusal.TheVariants as copy
 use Rattle.tasks.specs.Opened.{HasBegun}
 
--- why no copy was made, by what opening or the copy told; tables that are none of a store's are bytes like others, and no team is named
+-- why no copy was made, by why the store was not opened or copied; other tables than a store's are bytes too, and `NoTeam` never comes
 abbrev pub uncopied : Unopened → CopyRefusal
 uncopied store.Device = copy.Device
 uncopied store.Memory = copy.Memory
@@ -18,13 +18,13 @@ uncopied store.BadSchema = copy.NotEmpty
 uncopied store.NotEmpty = copy.NotEmpty
 uncopied store.NoTeam = copy.Device
 
--- how a copy ends
+-- the result of a copy, by that of the store
 abbrev pub copied : Result (Unit {0}) Unopened → Result (Unit {0}) CopyRefusal
 copied (Ok u) = Ok tt
 copied (Err why) = Err (uncopied why)
 
 module _ {S F : Type 0} (shown : S → Shown) (failures : S → ℕ) (shown_too : F → Shown) (failures_too : F → ℕ) where
-  -- an open store was made a copy of the served one, or it was not, and why is told
+  -- an open store was made a copy of the served one, or it was not, and the result says why
   pub record CopiesInto (source source_new : S) (fresh fresh_new : F) (result : Result (Unit {0}) CopyRefusal) : Type 0 where
     pub told : Result (Unit {0}) Unopened
     pub copies : CopiesAll (shown source) (shown source_new) (shown_too fresh) (shown_too fresh_new) told
@@ -39,11 +39,11 @@ module _ {S F : Type 0} (shown : S → Shown) (failures : S → ℕ) (shown_too 
       pub begins : HasBegun shown_too failures_too held fresh
       pub copies : CopiesInto source source_new fresh fresh_new result
 
-    -- nothing was done with the served store: the file is its own, or the store of the file was not opened, and why is told
+    -- nothing was done with the served store: the file is its own, or its store was not opened, and the result says why
     pub record CopiesNone (source source_new : S) (result : Result (Unit {0}) CopyRefusal) : Type 0 where
       pub same : source_new ≡ source
       pub tells : (result ≡ Err copy.NotEmpty) ⊎ ((why : Unopened) × (result ≡ Err (uncopied why)))
 
-    -- one of the two, whatever the path is: no clause ties a path to the bytes of a file
+    -- a store was opened or not, whatever the path is, because no clause ties a path to the bytes of a file
     abbrev pub CopiesFile : S → S → List ℕ → Result (Unit {0}) CopyRefusal → Type 0
     CopiesFile source source_new path result = CopiesOpened source source_new result ⊎ CopiesNone source source_new result

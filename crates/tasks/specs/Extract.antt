@@ -1,4 +1,4 @@
--- What an extract from the store of one file into that of another does.
+-- Extracting from the store of one file into that of another.
 use Rattle.std.specs.Prelude.{ℕ, List, ◌≡◌, ◌⊎◌, Result, Ok, Err}
 use Rattle.sqlite_wal.specs.Recovery.{Image}
 use Rattle.world.specs.Store.{Shown}
@@ -9,13 +9,13 @@ use Rattle.commands.specs.declared.refusal.Refusal.{Refusal}
 use Rattle.commands.specs.declared.refusal.Refusal.TheVariants.{NotEmpty}
 use Rattle.tasks.specs.Opened.{unopened, unmade, HasBegun}
 
--- how it ends, by what the store told
+-- the result of the command, by that of the store
 abbrev pub extracted : Result (Unit {0}) Unopened → Result (Unit {0}) Refusal
 extracted (Ok u) = Ok tt
 extracted (Err why) = Err (unopened why)
 
 module _ {S F : Type 0} (shown : S → Shown) (failures : S → ℕ) (shown_too : F → Shown) (failures_too : F → ℕ) (source source_new : S) where
-  -- the part of the teams of the source was put into an open store, or it was not, and why is told
+  -- the teams' part of the source was put into an open store, or it was not, and the result says why
   pub record ExtractsPart (fresh fresh_new : F) (teams : List (List ℕ)) (result : Result (Unit {0}) Refusal) : Type 0 where
     pub told : Result (Unit {0}) Unopened
     pub extracts : ExtractsTeams teams (shown source) (shown source_new) (shown_too fresh) (shown_too fresh_new) told
@@ -29,7 +29,7 @@ module _ {S F : Type 0} (shown : S → Shown) (failures : S → ℕ) (shown_too 
     pub begins : HasBegun shown_too failures_too held fresh
     pub extracts : ExtractsPart fresh fresh_new teams result
 
-  -- nothing was done with the source: the file is its own, or its store was not opened, and why is told
+  -- nothing was done with the source: the file is its own, or its store was not opened, and the result says why
   pub record FillsNone (result : Result (Unit {0}) Refusal) : Type 0 where
     pub same : source_new ≡ source
     pub tells : (result ≡ Err NotEmpty) ⊎ ((why : Unopened) × (result ≡ Err (unmade (unopened why))))
@@ -39,13 +39,13 @@ module _ {S F : Type 0} (shown : S → Shown) (failures : S → ℕ) (shown_too 
 
 module _ {S F : Type 0} (shown : S → Shown) (failures : S → ℕ) (held : Image) (shown_too : F → Shown) (failures_too : F → ℕ) (held_too : Image)
     (teams : List (List ℕ)) where
-  -- the store of one file was opened, and the part of some teams of it was put into that of another, or was not
+  -- the store of one file was opened, and some teams' part of it was put into that of another, or was not
   pub record ExtractsOpened (result : Result (Unit {0}) Refusal) : Type 0 where
     pub source : S
     pub source_new : S
     pub begins : HasBegun shown failures held source
     pub fills : Fills shown failures shown_too failures_too source source_new held_too teams result
 
-  -- so it was; or both are one file without bytes, or the store of the first was not opened, and why is told
+  -- the store of the first file was opened; or both are one file without bytes, or it was not opened, and the result says why
   abbrev pub ExtractsFile : Result (Unit {0}) Refusal → Type 0
   ExtractsFile result = ExtractsOpened result ⊎ ((result ≡ Err NotEmpty) ⊎ ((why : Unopened) × (result ≡ Err (unopened why))))

@@ -1,4 +1,4 @@
--- What some teams are told by a store of their part: what they are told by the whole.
+-- A store of some teams' part replies to them as the whole does.
 use Rattle.std.specs.Prelude.{ℕ, ◌≡◌, List, [], ◌∷◌, true, false, Some}
 use Rattle.std.specs.FinMap as map
 use Rattle.world.specs.declared.entry.Holder.{Holder}
@@ -12,13 +12,14 @@ use Rattle.shelf.specs.Isolation.{key_of, asking_key}
 use Rattle.shelf.specs.Parts.{IsNotFound, AllAsked}
 use Rattle.store.specs.Parts.{part_of, chains, AreTeams}
 
--- each is a request with a key of one of these shelves. No request changes what a key holds, so it is the same at its moment.
+-- Each event is a request with a key that belongs to one of these shelves. No request changes where a key belongs, so it still does
+-- when the request comes.
 abbrev pub AllOf : World → List (List ℕ) → List Event → Type 0
 AllOf w ss [] = Unit {0}
 AllOf w ss (e ∷ es) = ((k : List ℕ) × (h : Holder) × (asking_key e ≡ Some k) × (map.get w.keys k ≡ Some h) × (is_among ss h.shelf ≡ true)) × AllOf w ss es
 
--- Of two runs, one over the whole and one over the part of some teams: where what was answered is the same, each a request with a key of a shelf that one
--- of the teams sees, so are the replies.
+-- Two runs, one over the whole and one over the part of some teams, give the same replies if they answered the same requests, each
+-- with a key of a shelf that one of the teams sees.
 abbrev pub TeamsAreToldTheSame : Type 0
 TeamsAreToldTheSame =
     (w new other : World) (ts : List (List ℕ)) (first second : List Event) (told heard : List Answer) → IsWorld w → AreTeams w ts
@@ -26,7 +27,7 @@ TeamsAreToldTheSame =
     → answered first told ≡ answered second heard → AllOf w (chains w ts) (answered first told)
     → replies_of told ≡ replies_of heard
 
--- After any requests, one whose key belongs to no shelf that one of the teams sees is not found there.
+-- From the part, after any requests, a request whose key belongs to no shelf that one of the teams sees is not found.
 abbrev pub OthersOfTeamsAreNotFound : Type 0
 OthersOfTeamsAreNotFound =
     (w : World) (ts : List (List ℕ)) (k : List ℕ) (before : List Event) (a : Ask) → is_held (chains w ts) (map.get w.keys k) ≡ false

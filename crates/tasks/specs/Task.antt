@@ -1,4 +1,4 @@
--- What is done for a task.
+-- What a task does.
 use Rattle.std.specs.Prelude.{ℕ, map as each, List, ◌≡◌, ◌⊎◌, Bool, Option, Result, Ok, Err}
 use Rattle.sqlite_wal.specs.Recovery.{Image}
 use Rattle.sqlite.specs.State.{State}
@@ -20,13 +20,13 @@ use Rattle.tasks.specs.Opened.{unopened, unmade, HasBegun}
 use Rattle.tasks.specs.declared.Task.{Task}
 use Rattle.tasks.specs.declared.Task.TheVariants as task
 
--- how `init` ends, by how the work on its store did
+-- the result of `init`, by that of the work on its store
 abbrev pub made : Result Bool Refusal → Result Bool Refusal
 made (Ok accepted) = Ok accepted
 made (Err refusal) = Err (unmade refusal)
 
 module _ (unread unread_new written written_new : Option (List ℕ)) (result : Result Bool Refusal) where
-  -- this was told, and nothing was read or written
+  -- this is the result, and nothing was read or written
   pub record TellsAlone (told : Result Bool Refusal) : Type 0 where
     pub tells : result ≡ told
     pub input : unread_new ≡ unread
@@ -38,13 +38,13 @@ module _ (unread unread_new written written_new : Option (List ℕ)) (result : R
     pub answers : AnsweredFor team key unread unread_new written written_new ended
     pub tells : result ≡ acceptance ended
 
-  -- an order was sent to a running `serve` or was not, no store was opened, and nothing was read or written
+  -- an order was sent to a running `serve`, or could not be, no store was opened, and nothing was read or written
   pub record OrdersAlone (order : Order) : Type 0 where
     pub ended : Result (Unit {0}) Refusal
     pub orders : OrdersThere order ended
     pub tells : TellsAlone (acceptance ended)
 
-  -- a copy was ordered from a running `serve`, no store was opened, and nothing was read or written
+  -- a running `serve` was ordered to copy its store, or could not be, no store was opened, and nothing was read or written
   pub record CopiesAlone (path : List ℕ) : Type 0 where
     pub ended : Result (Unit {0}) Refusal
     pub copies : CopiesThere path ended
@@ -67,13 +67,13 @@ module _ {S : Type 0} (shown : S → Shown) (failures : S → ℕ) (copied : Cop
         (record { store = begun; unread = unread; written = written })
         (record { store = ended; unread = unread_new; written = written_new }) result work
 
-  -- the store of a file was opened and the work was done on it, or it was not opened, and why is told
+  -- the store of a file was opened and the work was done on it, or it was not opened, and the result says why
   abbrev pub WorksOnFile : Option (List ℕ) → Option (List ℕ) → Option (List ℕ) → Option (List ℕ) → Work → Result Bool Refusal → Type 0
   WorksOnFile unread unread_new written written_new work result =
       WorksOpened unread unread_new written written_new work result
       ⊎ ((why : Unopened) × TellsAlone unread unread_new written written_new result (Err (unopened why)))
 
-  -- the file has bytes, which is told; or its store was opened, and nothing else was done
+  -- the file has bytes, and the result says so; or its store was opened or not, and nothing else was done
   abbrev pub Inits : Option (List ℕ) → Option (List ℕ) → Option (List ℕ) → Option (List ℕ) → Result Bool Refusal → Type 0
   Inits unread unread_new written written_new result =
       TellsAlone unread unread_new written written_new result (Err NotEmpty)
@@ -82,23 +82,23 @@ module _ {S : Type 0} (shown : S → Shown) (failures : S → ℕ) (copied : Cop
 module _ {C S F : Type 0} (state_of : C → State) (shown : S → Shown) (failures : S → ℕ) (held : Image)
     (shown_too : F → Shown) (failures_too : F → ℕ) (held_too : Image)
     (unread unread_new written written_new : Option (List ℕ)) (result : Result Bool Refusal) where
-  -- the part of some teams of the store of a file was put into that of another or was not, and nothing was read or written
+  -- some teams' part of the store of a file was put into that of another, or was not, and nothing was read or written
   pub record ExtractsAlone (teams : List (List ℕ)) : Type 0 where
     pub ended : Result (Unit {0}) Refusal
     pub extracts : ExtractsFile shown failures held shown_too failures_too held_too teams ended
     pub tells : TellsAlone unread unread_new written written_new result (acceptance ended)
 
-  -- the store of a file was made one of the older file, or was not, and nothing was read or written
+  -- what an older file has was put into the store of another, or was not, and nothing was read or written
   pub record MigratesAlone : Type 0 where
     pub ended : Result (Unit {0}) Refusal
     pub migrates : MigratesFile state_of held shown_too failures_too held_too ended
     pub tells : TellsAlone unread unread_new written written_new result (acceptance ended)
 
-  -- what comes of a copy that is ordered while the store is served, into a file that held what the second file of a task does
+  -- what a copy does that is ordered while the store is served, into a file that held what the second file of the task holds
   abbrev pub copies : Copied S
   copies = CopiesFile shown failures shown_too failures_too held_too
 
-  -- What is done, by the kind of task, where the first file of the task held this and its log, and the second file that.
+  -- What each kind of task does, if its first file and the log held this, and its second file that.
   abbrev pub Performs : Task → Type 0
   Performs (task.Init db) = Inits shown failures copies held unread unread_new written written_new result
   Performs (task.AnswerInMemory team key) = AnswersInMemory unread unread_new written written_new result team.now key.now

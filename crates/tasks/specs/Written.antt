@@ -1,4 +1,4 @@
--- What is written for some teams by a store of their part: what is written for them by the whole.
+-- A store of some teams' part writes for them what the whole writes.
 use Rattle.std.specs.Prelude.{ℕ, ◌≡◌, ◌⊎◌, List, [], ◌∷◌, Some, false, map}
 use Rattle.std.specs.FinMap as fin
 use Rattle.wire.specs.Reply.{fixed_bytes}
@@ -15,8 +15,8 @@ use Rattle.engine.specs.Reply.{text_of}
 use Rattle.store.specs.Parts.{part_of, chains, AreTeams}
 use Rattle.tasks.specs.Parts.{AllOf}
 
--- Of two runs, one from a world and one from the part of some teams: where what was answered is the same, each a message with a key of a
--- shelf that one of the teams sees, so is the text that was written for each.
+-- Two runs, one from a world and one from the part of some teams, write the same texts if they answered the same messages, each with
+-- a key of a shelf that one of the teams sees.
 abbrev pub TeamsAreWrittenTheSame : Type 0
 TeamsAreWrittenTheSame =
     (w new other : World) (ts : List (List ℕ)) (xs ys : List Happening) → IsWorld w → AreTeams w ts
@@ -24,7 +24,7 @@ TeamsAreWrittenTheSame =
     → map coming_of (told xs) ≡ map coming_of (told ys) → AllOf w (chains w ts) (map event_at (told xs))
     → map text_at (told xs) ≡ map text_at (told ys)
 
--- After any messages, for one whose key belongs to no shelf that one of the teams sees, or to none, the 404 is written, or the 503.
+-- From the part, after any messages, a message whose key belongs to no shelf that one of the teams sees gets the 404 or the 503.
 abbrev pub OthersOfTeamsAreWrittenNotFound : Type 0
 OthersOfTeamsAreWrittenNotFound =
     (w mid new : World) (ts : List (List ℕ)) (k : List ℕ) (before : List Exchange) (x : Exchange)

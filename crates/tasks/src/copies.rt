@@ -42,7 +42,8 @@ impl<'a, S: Alter, U: Start + Copy> Copies<SqlShelves<S>> for FileCopies<'a, U> 
     }
 }
 
-/// Does a work on an open store, whose file is at `db`. The copies that are ordered while it is served are made from this store.
+/// Does a work on an open store, whose file is at `db`, and returns whether it was accepted. The copies that are ordered while it is
+/// served are made from this store. Fails as the function of the work does.
 /// It is generic over the store, because a contract of one function names one store of files alone.
 pub(crate) fn work_with_copies<S: Alter, U: Start + Copy, I: Read, O: Write>(
     rt: &HostRuntime,
@@ -64,8 +65,8 @@ pub(crate) fn work_with_copies<S: Alter, U: Start + Copy, I: Read, O: Write>(
     work_on(rt, shelves, &mut copies, work, input, output)
 }
 
-/// Opens the store of a file and makes it a copy of a served store, whose file is at `db`. The file and the log of the served one are
-/// not opened again: they are `NotEmpty`, and so are hard links to them.
+/// Opens the store of a file and makes it a copy of a served store, whose file is at `db`. It does not open the file and the log of the
+/// served store again: for them, and for hard links to them, it fails with `NotEmpty`. Otherwise it fails as `Copies::copy` does.
 fn copy_to<S: Alter, U: Start>(
     rt: &HostRuntime,
     db: &str,
@@ -98,8 +99,8 @@ fn is_served(rt: &HostRuntime, db: &str, path: &str) -> bool {
     is_same_file(rt, db, path) || is_log_of(rt, db, path)
 }
 
-/// Whether a path leads to the log of a database file, which lies beside the file that a link leads to. If that can't be found out, the
-/// lock of the log refuses it.
+/// Whether a path leads to the log of a database file, which is beside the file that a link leads to. If it can't find that out, it
+/// returns false, and the lock of the log refuses it.
 fn is_log_of(rt: &HostRuntime, db: &str, path: &str) -> bool {
     let Ok(real) = fs::canonicalize(rt, db) else {
         return false;
@@ -110,7 +111,8 @@ fn is_log_of(rt: &HostRuntime, db: &str, path: &str) -> bool {
     }
 }
 
-/// Makes an open store a copy of the served one.
+/// Makes an open store a copy of the served one. Fails with `NotEmpty` if it has more than an empty store, `Device` if a disk fails,
+/// and `Memory` if memory runs out.
 fn copy_into<S: Alter, F: Alter>(
     source: &mut SqlShelves<S>,
     fresh: &mut SqlShelves<F>,
@@ -125,7 +127,7 @@ fn copy_into<S: Alter, F: Alter>(
     }
 }
 
-/// Why no copy was made.
+/// Returns why no copy was made, by why the store was not opened or copied.
 fn uncopied(refusal: Unopened) -> CopyRefusal
     ensures { result ≡ spec.uncopied refusal }
 {

@@ -1,4 +1,4 @@
-//! The part of some teams of the store of one file as the store of another.
+//! Extracting the part of some teams from the store of one file into that of another.
 
 ghost use Rattle.std.specs.Prelude.{◌≡◌, map as each};
 ghost use Rattle.sqlite_wal.specs.Files.{image_at};
@@ -13,10 +13,10 @@ use store::open::FileShelves;
 use store::store::SqlShelves;
 use world::shelves::Shelves;
 
-/// Makes the store of one file that of some teams' part of the store of another. Where both paths lead to one file it is `NotEmpty`,
-/// and an empty one stays so.
-/// It compares the files after it opened the first and before it opens the second, whose lock would be `Device`.
-/// A hard link to the first file is `Device`, because sqlite refuses the first one itself.
+/// Puts some teams' part of the store of one file into the store of another. Fails with the refusals of the store, and with
+/// `NotEmpty` if both paths lead to one file; if that is empty, it stays so.
+/// It compares the files before it opens the first if that is empty, and otherwise after it and before it opens the second, whose
+/// lock would be `Device`. A hard link to the first file is `Device`, because sqlite refuses the first one itself.
 pub(crate) fn extract_file<T: Start, U: Start>(
     rt: &HostRuntime,
     db: &str,
@@ -42,8 +42,8 @@ pub(crate) fn extract_file<T: Start, U: Start>(
     told
 }
 
-/// Opens the store of a file and puts some teams' part of an open store into it. The file of the open one, which is at `db`, is no
-/// empty store, and is not opened again.
+/// Opens the store of a file and puts some teams' part of an open store into it. It does not open the file of the open store again,
+/// which is at `db`: it fails with `NotEmpty`.
 /// It is generic over the first store, because the checker runs out of steps with two file stores in one function.
 fn extract_to<S: Alter, U: Start>(
     rt: &HostRuntime,
@@ -69,7 +69,7 @@ fn extract_to<S: Alter, U: Start>(
     told
 }
 
-/// Puts some teams' part of one open store into another.
+/// Puts some teams' part of one open store into another. Fails with the refusals of the store.
 fn extract_part<S: Alter, F: Alter>(
     source: &mut SqlShelves<S>,
     teams: &[&str],

@@ -5,8 +5,8 @@
 //! | [`Task::Init`] | makes a store with the shelf `common` alone, in a file that has no bytes |
 //! | [`Task::AnswerInMemory`] | answers requests from shelves in memory |
 //! | [`Task::OnStore`] | opens the store of a file and does one work of `commands` on it |
-//! | [`Task::Extract`] | opens the stores of two files and puts some teams' part of the one into the other |
-//! | [`Task::Migrate`] | opens a file of an older schema and the store of another file, and makes the second one of the first |
+//! | [`Task::Extract`] | opens the stores of two files and puts some teams' part of the first into the second |
+//! | [`Task::Migrate`] | opens a file of an older schema and the store of another file, and puts what the first has into the second |
 //! | [`Task::Order`] | opens no store, and sends an order to the `serve` that has one open |
 //! | [`Task::Copy`] | opens no store, and has the `serve` that has one open copy it into another file |
 //! | [`Task::Stop`] | opens no store, and has the `serve` end that has one open |
@@ -46,7 +46,7 @@ use store::open::FileShelves;
 use store::refusal::Refusal as Unopened;
 use world::shelves::Shelves;
 
-/// What a run is to do.
+/// What a run does.
 #[derive(Clone, Copy, Drop)]
 pub enum Task<'a> {
     /// `init --db F`: makes a store with the shelf `common` alone, in a file that has no bytes.
@@ -58,29 +58,29 @@ pub enum Task<'a> {
         team: &'a str,
         key: &'a str,
     },
-    /// What is done on the store of a file.
+    /// A command with `--db F`: does a work on the store of a file.
     OnStore {
         db: &'a str,
         work: Work<'a>,
     },
-    /// `extract --db F --team A --team B .. --to G`: makes the store of G that of the part of these teams of the store of F.
+    /// `extract --db F --team A --team B .. --to G`: puts these teams' part of the store of F into that of G.
     Extract {
         db: &'a str,
         teams: &'a [&'a str],
         to: &'a str,
     },
-    /// `migrate --from F --to G`: makes the store of G that of F, whose tables have an older schema.
+    /// `migrate --from F --to G`: puts what F has, whose tables have an older schema, into the store of G.
     Migrate {
         from: &'a str,
         to: &'a str,
     },
-    /// A command of the registry with `--control S`: has the `serve` that listens at the socket S carry it out.
+    /// A registry command with `--control S`: orders the `serve` that listens at the socket S to carry it out.
     Order {
         control: &'a str,
         order: Order<'a>,
     },
-    /// `copy --control S --to G`: has the `serve` that listens at the socket S make the store of G, as that server sees the file, a copy
-    /// of its own.
+    /// `copy --control S --to G`: orders the `serve` that listens at the socket S to make the store of G, as that server sees the file,
+    /// a copy of its own.
     Copy {
         control: &'a str,
         to: &'a str,
@@ -91,11 +91,12 @@ pub enum Task<'a> {
     },
 }
 
-/// Does a task and returns whether it was accepted; only a publish and an import can be done and not accepted.
+/// Does a task and returns whether it was accepted; only a publish and an import can be done and not accepted. Fails with the refusal
+/// of the command.
 ///
-/// `T` stands for what the file of the task and its log hold, and `U` for that of the file that `extract` and `migrate` write, or that
-/// a served store is copied into. It is proved for all contents: a task goes on from the world that they hold. If a store is copied
-/// into several files, that holds for each with its own contents.
+/// The type `T` says what the file of the task and its log hold, and `U` what the file holds that `extract` and `migrate` write, or
+/// that a served store is copied into. The clauses are proved for all contents: a task goes on from the world that the files hold.
+/// If a store is copied into several files, they hold for each with its own contents.
 pub fn perform<T: Start, U: Start + Copy, I: Read, O: Write>(
     rt: &HostRuntime,
     task: &Task,
@@ -127,7 +128,7 @@ pub fn perform<T: Start, U: Start + Copy, I: Read, O: Write>(
     }
 }
 
-/// What a task tells that is accepted once it is done.
+/// Returns true if the task is done, or its refusal.
 fn acceptance(ended: Result<(), Refusal>) -> Result<bool, Refusal>
     ensures { result ≡ told.acceptance ended }
 {
@@ -135,7 +136,8 @@ fn acceptance(ended: Result<(), Refusal>) -> Result<bool, Refusal>
     Ok(true)
 }
 
-/// Makes a store with the shelf `common` alone. A file that has bytes is `NotEmpty`.
+/// Makes a store with the shelf `common` alone, and returns true. Fails with `NotEmpty` if the file has bytes, and otherwise as
+/// `on_file` does.
 /// It reads one byte. If the file can't be read, opening the store says what is wrong.
 fn init<T: Start, U: Start + Copy, I: Read, O: Write>(
     rt: &HostRuntime,
@@ -160,7 +162,7 @@ fn init<T: Start, U: Start + Copy, I: Read, O: Write>(
     }
 }
 
-/// Why no store is made in a file. Tables that are none of a store's are bytes like others.
+/// Returns the refusal of a file that a new store is made in: `NotEmpty` in place of `BadSchema`, because other tables are bytes too.
 fn unmade(refusal: Refusal) -> Refusal
     ensures { result ≡ spec.unmade refusal }
 {
@@ -170,7 +172,7 @@ fn unmade(refusal: Refusal) -> Refusal
     }
 }
 
-/// Why a store is not opened, or not made of another.
+/// Returns the refusal of a command whose store is not opened, extracted or migrated.
 fn open_refusal(unopened: Unopened) -> Refusal
     ensures { result ≡ spec.unopened unopened }
 {
@@ -183,7 +185,8 @@ fn open_refusal(unopened: Unopened) -> Refusal
     }
 }
 
-/// Does a work on the store of a file. Where the store is not opened, nothing is read or written.
+/// Does a work on the store of a file, and returns whether it was accepted. If the store can't be opened, it fails with that refusal
+/// and reads and writes nothing; otherwise it fails as the function of the work does.
 fn on_file<T: Start, U: Start + Copy, I: Read, O: Write>(
     rt: &HostRuntime,
     path: &str,

@@ -1,4 +1,4 @@
-//! The store of a file of an older schema as the store of another file.
+//! Migrating the store of a file of an older schema into the store of another file.
 
 ghost use Rattle.std.specs.Prelude.{◌≡◌};
 ghost use Rattle.sqlite.specs.Held.{state};
@@ -21,11 +21,11 @@ use store::refusal::Refusal as Unopened;
 use store::store::SqlShelves;
 use world::shelves::Shelves;
 
-/// Makes the store of one file that of another, whose tables have an older schema. The older file is only read. Where both names
-/// lead to one file it is `NotEmpty`, and the file stays as it was.
+/// Puts what a file has, whose tables have an older schema, into the store of another. The older file is only read. Fails with the
+/// refusals of the store, and with `NotEmpty` if both names lead to one file, which stays as it was.
 ///
-/// The older file is opened before the other, and its tables are judged after the other is opened. One that has no bytes, or is
-/// missing, has no tables: it is not opened, and not made.
+/// It opens the older file before the other, and judges its tables after it opened the other. An older file that has no bytes, or is
+/// missing, has no tables: it is neither opened nor made.
 pub(crate) fn migrate_file<T: Start, U: Start>(
     rt: &HostRuntime,
     from: &str,
@@ -41,7 +41,7 @@ pub(crate) fn migrate_file<T: Start, U: Start>(
     }
     let file = match OldFile::find(rt, from, to) {
         Ok(file) => file,
-        // no copy can be made beside it, as it is the new store
+        // no copy can be made beside it, because it is the new store
         Err(_) if is_one_file(rt, from, to) => return Err(Refusal::NotEmpty),
         Err(unread) => return Err(open_refusal(unread)),
     };
@@ -58,12 +58,13 @@ pub(crate) fn migrate_file<T: Start, U: Start>(
     told
 }
 
-/// Whether both names are one file's.
+/// Whether both names are equal or lead to one file.
 fn is_one_file(rt: &HostRuntime, path: &str, other: &str) -> bool {
     path == other || is_same_file(rt, path, other)
 }
 
-/// Opens the store of a file, and refuses it if it has more than `common`, or because there are no older tables.
+/// Opens the store of a file, and then fails: with `NotEmpty` if it has more than `common`, and otherwise because there are no older
+/// tables.
 fn migrate_nothing<U: Start>(
     rt: &HostRuntime,
     from: &str,
@@ -79,7 +80,8 @@ fn migrate_nothing<U: Start>(
     migrate_to(rt, from, &mut none, to, target)
 }
 
-/// Opens the store of a file and makes it one of an open older store, whose file is at `from`.
+/// Opens the store of a file and puts what an open older store has, whose file is at `from`, into it. Fails with the refusals of the
+/// store, and with `NotEmpty` if both names lead to one file.
 /// It is generic over the older store, because the checker runs out of steps with two file stores in one function.
 fn migrate_to<S: Alter, U: Start>(
     rt: &HostRuntime,
@@ -103,7 +105,7 @@ fn migrate_to<S: Alter, U: Start>(
     told
 }
 
-/// Makes an open store one of an older store.
+/// Puts what an older store has into an open one. Fails with the refusals of the store.
 fn migrate_into<S: Alter, F: Alter>(
     old: &mut Connection<S>,
     fresh: &mut SqlShelves<F>,

@@ -1,9 +1,9 @@
 //! The file of an older store, which a migration only reads.
 //!
-//! sqlite opens the files of a store to write, makes the log where there is none, and puts a few bytes behind the last commit of a
-//! log that another program wrote. So a file that may only be read, or whose folder may, is copied beside the new store first, with
+//! sqlite opens the files of a store to write, makes the log if there is none, and puts a few bytes behind the last commit of a log
+//! that another program wrote. So a file that is read-only, or is in a read-only folder, is first copied beside the new store, with
 //! its log. The copies, and a log that opening made, lose their names as soon as they are open, so the system frees them when the
-//! run ends, however it does; a log that was there gets its length back.
+//! run ends, however it ends; a log that was there gets its length back.
 
 use commands::files::is_same_file;
 use os::RangeLock;
@@ -15,25 +15,25 @@ use std::os::unix::fs::{MetadataExt, OpenOptionsExt};
 use std::rt::HostRuntime;
 use store::refusal::Refusal;
 
-/// Where the locks of a database begin, and how many bytes they have.
+/// The place of the locks of a database, and their number of bytes.
 const LOCKS: (u64, u64) = (1 << 30, 512);
 
-/// The file of an older store, as it is opened.
+/// The file of an older store to open.
 #[derive(Drop)]
 pub(crate) struct OldFile {
     /// The file to open.
     pub path: String,
     log: String,
     is_copy: bool,
-    /// The bytes of the log, where there was one before.
+    /// The length of the log, if there was one before.
     log_length: Option<u64>,
 }
 
 impl OldFile {
-    /// The file at a path, or a copy of it beside the new store if it or its folder may only be read.
+    /// Returns the file at a path, or a copy of it beside the new store if it or its folder is read-only.
     ///
-    /// Fails with `Device` if another process has the file open, it cannot be read, the new store is its log, or a copy cannot be
-    /// written; with `Memory` if memory ran out.
+    /// Fails with `Device` if another process has the file open, it can't be read, the new store is its log, or a copy can't be
+    /// written; with `Memory` if memory runs out.
     pub(crate) fn find(rt: &HostRuntime, path: &str, to: &str) -> Result<OldFile, Refusal> {
         match find_file(rt, path, to) {
             Ok(found) => Ok(found),
@@ -42,8 +42,8 @@ impl OldFile {
         }
     }
 
-    /// Takes the names of the files that this run made: of its copies, and of a log, which is its own only while it has the older
-    /// file open. Whoever opens that later makes another.
+    /// Removes the names of the files that this run made: its copies, and a log, which is its own only while it has the older file
+    /// open. A process that opens that later makes another log. Errors are ignored.
     pub(crate) fn unlink(&self, rt: &HostRuntime, is_open: bool) {
         if self.is_copy {
             let _ = fs::remove_file(rt, self.path.as_str());
@@ -53,7 +53,7 @@ impl OldFile {
         }
     }
 
-    /// Gives a log that was there the length that it had. It is called while the file is still open, so nobody else has it.
+    /// Gives a log that was there the length that it had. The caller still has the file open, so nobody else does. Errors are ignored.
     pub(crate) fn cut_log(&self, rt: &HostRuntime) {
         if let Some(length) = self.log_length {
             let _ = cut_to(rt, self.log.as_str(), length);
@@ -61,7 +61,7 @@ impl OldFile {
     }
 }
 
-/// Whether there is no such file, or it has no bytes. A folder or a device is none.
+/// Whether there is no such file, or it has no bytes. False for a folder or a device.
 pub(crate) fn has_no_bytes(rt: &HostRuntime, path: &str) -> bool {
     match fs::metadata(rt, path) {
         Ok(found) => found.is_file() && found.len() == 0,
@@ -69,7 +69,7 @@ pub(crate) fn has_no_bytes(rt: &HostRuntime, path: &str) -> bool {
     }
 }
 
-/// The file at a path, or its copy.
+/// Returns the file at a path, or its copy. Fails as `OldFile::find` does.
 fn find_file(rt: &HostRuntime, path: &str, to: &str) -> io::Result<OldFile> {
     // sqlite puts the log beside the file that a link leads to
     let real = match fs::canonicalize(rt, path) {
@@ -90,7 +90,7 @@ fn find_file(rt: &HostRuntime, path: &str, to: &str) -> io::Result<OldFile> {
     copied(rt, &db, log.as_str(), to)
 }
 
-/// An open database file that no other process has open to write, as long as it is not dropped.
+/// Opens a database file and returns it; until it is dropped, no other process can open it to write. Fails if one has it open so.
 fn held(rt: &HostRuntime, path: &str) -> io::Result<File> {
     let db = File::open(rt, path)?;
     if os::try_lock_range(db.as_raw_fd(), RangeLock::Shared, LOCKS.0, LOCKS.1) != 0 {
@@ -99,7 +99,7 @@ fn held(rt: &HostRuntime, path: &str) -> io::Result<File> {
     Ok(db)
 }
 
-/// Whether SQLite left a rollback journal, which only it can play back.
+/// Whether SQLite left a rollback journal, which only SQLite can play back. Fails if the system does not say.
 fn has_journal(rt: &HostRuntime, path: &str) -> io::Result<bool> {
     let journal = format!(in rt.alloc(); "{path}-journal")?;
     match fs::symlink_metadata(rt, journal.as_str()) {
@@ -109,12 +109,13 @@ fn has_journal(rt: &HostRuntime, path: &str) -> io::Result<bool> {
     }
 }
 
-/// The name of the log of a database file.
+/// Returns the file name of the log of a database file. Fails only if memory runs out.
 fn log_of(rt: &HostRuntime, path: &str) -> io::Result<String> {
     Ok(format!(in rt.alloc(); "{path}-wal")?)
 }
 
-/// The file itself. A log that is not there now is made by opening it.
+/// Returns the file itself, to be opened where it is. Opening it makes the log if there is none now. Fails if the system does not say
+/// whether there is one, or if memory runs out.
 fn in_place(rt: &HostRuntime, path: &str) -> io::Result<OldFile> {
     let log = log_of(rt, path)?;
     let log_length = match fs::symlink_metadata(rt, log.as_str()) {
@@ -130,7 +131,7 @@ fn in_place(rt: &HostRuntime, path: &str) -> io::Result<OldFile> {
     })
 }
 
-/// Cuts a file that is longer than this.
+/// Cuts a file that is longer than this. Fails if the system does.
 fn cut_to(rt: &HostRuntime, path: &str, length: u64) -> io::Result<()> {
     if fs::symlink_metadata(rt, path)?.len() <= length {
         return Ok(());
@@ -149,7 +150,7 @@ fn is_missing(rt: &HostRuntime, path: &str) -> bool {
     }
 }
 
-/// Whether an error says that something may only be read.
+/// Whether an error says that something is read-only.
 fn is_denied(error: &io::Error) -> bool {
     matches!(
         error.kind(),
@@ -157,7 +158,7 @@ fn is_denied(error: &io::Error) -> bool {
     )
 }
 
-/// Whether a file may be written. What else is wrong with it, opening it tells.
+/// Whether the system lets a file be written. True if anything else is wrong with it, which opening it then says.
 fn may_write(rt: &HostRuntime, path: &str) -> bool {
     match OpenOptions::new().read(true).write(true).open(rt, path) {
         Ok(_) => true,
@@ -165,8 +166,8 @@ fn may_write(rt: &HostRuntime, path: &str) -> bool {
     }
 }
 
-/// Whether a log may be written, or made where there is none: it is made and removed to find out, while the file is held. It fails
-/// if the new store has its name, because that would be made once the log has lost it.
+/// Whether the system lets a log be written, or made if there is none: to find out, it makes and removes one while the file is locked.
+/// Fails if the new store has the log's name, because the new store would be made once the log has lost it.
 fn may_log(rt: &HostRuntime, log: &str, to: &str) -> io::Result<bool> {
     let made = File::create_new(rt, log);
     let is_new_store = is_same_file(rt, log, to);
@@ -183,7 +184,7 @@ fn may_log(rt: &HostRuntime, log: &str, to: &str) -> io::Result<bool> {
     }
 }
 
-/// A copy of a database file and its log, beside the new store. What was written of it is removed if that fails.
+/// Copies a database file and its log to files beside the new store, and returns them. If that fails, it removes what it wrote.
 fn copied(rt: &HostRuntime, db: &File, log: &str, to: &str) -> io::Result<OldFile> {
     let number = RandomState::new(rt)?.hash_one(&0u8);
     let copy = format!(in rt.alloc(); "{to}-from-{number}")?;
@@ -203,7 +204,7 @@ fn copied(rt: &HostRuntime, db: &File, log: &str, to: &str) -> io::Result<OldFil
     }
 }
 
-/// Copies a database file and its log.
+/// Copies a database file, and its log if there is one. Fails if the system does.
 fn copy_both(rt: &HostRuntime, db: &File, log: &str, to: &OldFile) -> io::Result<()> {
     copy_file(rt, db, to.path.as_str())?;
     if is_missing(rt, log) {
@@ -213,7 +214,7 @@ fn copy_both(rt: &HostRuntime, db: &File, log: &str, to: &OldFile) -> io::Result
     copy_file(rt, &found, to.log.as_str())
 }
 
-/// Copies a file into a new one, which its owner alone may read.
+/// Copies a file into a new one, which only its owner may read. Fails if there is such a file already, or if the system does.
 fn copy_file(rt: &HostRuntime, from: &File, to: &str) -> io::Result<()> {
     let copy = OpenOptions::new()
         .write(true)

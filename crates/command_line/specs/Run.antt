@@ -12,30 +12,31 @@ use Rattle.commands.specs.declared.exit.Ending.TheVariants.{Done, Refused, BadUs
 use Rattle.tasks.specs.declared.Task.{Task}
 use Rattle.tasks.specs.declared.Task.TheVariants.{OnStore}
 
--- How a run ends that shows the parser's text in place of a task, by the text's kind: help and the version are what was asked
--- for, and Io where they can't be written; every other text is of bad usage.
+-- How a run ends that shows the parser's text in place of a task, by the text's kind: well for help and the version, or with `Io`
+-- if they can't be written; with `Memory` if memory ran out; and with bad usage for every other text.
 abbrev pub EndsShown : ErrorKind → Ending → Type 0
 EndsShown DisplayHelp ended = (ended ≡ Done) ⊎ (ended ≡ Refused Io)
 EndsShown DisplayVersion ended = (ended ≡ Done) ⊎ (ended ≡ Refused Io)
 EndsShown OutOfMemory ended = ended ≡ Refused Memory
 EndsShown other ended = ended ≡ BadUsage
 
--- How what does tasks is before a task and after it; what is left to read of the input, and what the output has, before and after;
--- what the task told; and the task.
+-- What a performer does for a task: relates the performer before and after, the bytes left on the input before and after, the bytes
+-- on the output before and after, the result, and the task.
 abbrev pub Performed : Type 0 → Type 1
 Performed P = P → P → Option (List ℕ) → Option (List ℕ) → Option (List ℕ) → Option (List ℕ) → Result Bool Refusal → Task → Type 0
 
--- the line that tells that the store to serve is new
+-- the line that says that the store to serve is new
 abbrev pub new_store_line : List ℕ
 new_store_line = codes "new store: the file of --db is missing or empty; without a key, each request gets a 404\n"
 
--- Before a task, nothing was written to the errors, but where it serves a store: that line or nothing, or a beginning where a write failed.
+-- Before a task, nothing was written to the errors. If the task serves a store, that line was or nothing, or a beginning of it if a
+-- write failed.
 abbrev pub Tells : Option (List ℕ) → Option (List ℕ) → Task → Type 0
 Tells errors errors_new (OnStore db (Serve entrance connections control)) = (errors_new ≡ errors) ⊎ PrintsFront errors errors_new new_store_line
 Tells errors errors_new other = errors_new ≡ errors
 
 module _ {P : Type 0} (performed : Performed P) (old new : P) (unread unread_new written written_new : Option (List ℕ)) where
-  -- one task was done, and the run ends by what it told
+  -- one task was done, and the run ends by its result
   pub record DoesTask (errors errors_new : Option (List ℕ)) (ended : Ending) : Type 0 where
     pub task : Task
     pub told : Result Bool Refusal
@@ -55,7 +56,7 @@ module _ {P : Type 0} (performed : Performed P) (old new : P) (unread unread_new
   abbrev pub Runs : Option (List ℕ) → Option (List ℕ) → Ending → Type 0
   Runs errors errors_new ended = DoesTask errors errors_new ended ⊎ ShowsText errors errors_new ended
 
-  -- The program ran, and told by its exit status, and on the errors, how the run ended.
+  -- The program ran, and its exit status and the line on the errors say how the run ended.
   pub record Exits (errors errors_new : Option (List ℕ)) (status : ℕ) : Type 0 where
     pub ended : Ending
     pub errors_run : Option (List ℕ)
@@ -63,7 +64,7 @@ module _ {P : Type 0} (performed : Performed P) (old new : P) (unread unread_new
     pub says : Says errors_run errors_new ended
     pub tells : status ≡ status_of ended
 
--- The words could not be read, and the run ends by why: for want of memory, or because one is no text.
+-- The words could not be read, and the run ends by the reason: memory ran out, or a word is not UTF-8.
 pub record RefusesWords (errors errors_new : Option (List ℕ)) (status : ℕ) : Type 0 where
   pub ended : Ending
   pub why : (ended ≡ Refused Memory) ⊎ (ended ≡ BadUsage)

@@ -8,15 +8,15 @@ use clap::builder::ValueParser;
 use clap::{Arg, ArgAction, Command};
 use std::alloc::{AllocError, Global};
 
-/// A command as help tells of it.
+/// A command, as help shows it.
 #[derive(Clone, Copy, Drop)]
 struct CommandRow {
     name: &'static str,
     about: &'static str,
     options: &'static [OptionRow],
-    /// The forms that are allowed, where options stand in place of others; the parser makes the usage of every other command.
+    /// The allowed forms, if options replace others; the parser makes the usage of every other command.
     forms: Option<&'static str>,
-    /// What stands below the options: nothing, or an example.
+    /// The text below the options: nothing, or an example.
     example: &'static str,
 }
 
@@ -129,7 +129,7 @@ static COMMANDS: [CommandRow; 15] = [
     },
 ];
 
-/// The two forms of `answer`, and below of other commands.
+/// The two forms of `answer`; those of other commands follow.
 /// They are written by hand, because the parser would list `--db`, `--mem`, `--team` and `--key` as all required.
 const ANSWER_FORMS: &str =
     "goshelf answer --db <F>\n       goshelf answer --mem --team <T> --key <K>";
@@ -152,13 +152,13 @@ const SERVE_FORMS: &str = "\
 goshelf serve --db <F> --port <N> [--connections <M>] [--control <S>]
        goshelf serve --db <F> --stdin [--connections <M>] [--control <S>]";
 
-/// A publish.
+/// An example of a publish.
 const PUBLISH_EXAMPLE: &str = "\
 Example:
   goshelf publish --db shelves.db --key alphakey00000001 --module example.com/greet \\
       --version v1.0.0 --mod go.mod --zip greet.zip --time 2024-01-31T12:00:00Z";
 
-/// A list, and its import.
+/// An example of a list and its import.
 const IMPORT_EXAMPLE: &str = "\
 Example, with a list of two versions, of which the second has no time:
   $ cat list.csv
@@ -169,13 +169,13 @@ Example, with a list of two versions, of which the second has no time:
   1 201 published
   2 201 published";
 
-/// A server, and what the go command is told of it.
+/// An example of a server, and of a go command that uses it.
 const SERVE_EXAMPLE: &str = "\
 Example, and the go command that asks it with the key K:
   goshelf serve --db shelves.db --port 8080
   GOPROXY=http://127.0.0.1:8080/k/K GONOSUMDB=example.com go get example.com/greet@v1.0.0";
 
-/// The parser of the whole command line.
+/// Returns the parser of the whole command line. Calls here fail only if memory runs out.
 /// It loops over a table, because a chain of parser calls for each command takes several times as long to prove.
 pub fn parser<'a>(alloc: Global) -> Result<Command<'a>, AllocError> {
     let mut parser = program(alloc)?;
@@ -185,7 +185,7 @@ pub fn parser<'a>(alloc: Global) -> Result<Command<'a>, AllocError> {
     Ok(parser)
 }
 
-/// The program without its commands.
+/// Returns the program without its commands.
 fn program<'a>(alloc: Global) -> Result<Command<'a>, AllocError> {
     described(alloc)
         .no_binary_name(true)
@@ -193,14 +193,14 @@ fn program<'a>(alloc: Global) -> Result<Command<'a>, AllocError> {
         .bin_name("goshelf")
 }
 
-/// The program as help tells of it.
+/// Returns the program, as help shows it.
 fn described<'a>(alloc: Global) -> Command<'a> {
     Command::new(alloc, "goshelf")
         .about("A private Go module proxy with team shelves")
         .version(VERSION)
 }
 
-/// A command as help tells of it, without its options. Where forms are told, the command alone shows its help, as bad usage.
+/// Returns a command without its options, as help shows it. A command with forms shows its help, as bad usage, if no option follows.
 fn told<'a>(alloc: Global, row: &CommandRow) -> Command<'a> {
     let command = Command::new(alloc, row.name)
         .about(row.about)
@@ -211,7 +211,7 @@ fn told<'a>(alloc: Global, row: &CommandRow) -> Command<'a> {
     }
 }
 
-/// A command with its options.
+/// Returns a command with its options.
 fn command<'a>(alloc: Global, row: &CommandRow) -> Result<Command<'a>, AllocError> {
     let mut command = told(alloc, row);
     for option in row.options {
@@ -220,7 +220,7 @@ fn command<'a>(alloc: Global, row: &CommandRow) -> Result<Command<'a>, AllocErro
     Ok(command)
 }
 
-/// An option, and when it has to be given.
+/// Returns an option, with when it is required.
 fn argument<'a>(alloc: Global, row: &OptionRow) -> Result<Arg<'a>, AllocError> {
     let argument = option(alloc, row);
     match row.needed {
@@ -233,7 +233,7 @@ fn argument<'a>(alloc: Global, row: &OptionRow) -> Result<Arg<'a>, AllocError> {
     }
 }
 
-/// An option with its value and its help.
+/// Returns an option with its value and its help.
 fn option<'a>(alloc: Global, row: &OptionRow) -> Arg<'a> {
     let option = Arg::new(alloc, row.name).long(row.name).help(row.help);
     match row.value {

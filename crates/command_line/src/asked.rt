@@ -1,4 +1,4 @@
-//! What the words of the command line ask for.
+//! The task that the words of the command line ask for.
 use clap::ArgMatches;
 use commands::publish::{Files, Words};
 use commands::report::Named;
@@ -8,7 +8,7 @@ use control::Order;
 use tasks::Task;
 use world::entry::Right;
 
-/// What the words ask for: nothing where no command is among them, which the parser refuses.
+/// Returns the task that the words ask for, or None if they have no command, which the parser refuses.
 pub fn task_of<'m, 'a>(matches: &'m ArgMatches<'a>) -> Option<Task<'m>> {
     let (name, matches) = matches.subcommand()?;
     match name {
@@ -42,14 +42,14 @@ pub fn task_of<'m, 'a>(matches: &'m ArgMatches<'a>) -> Option<Task<'m>> {
     }
 }
 
-/// What a command of the registry orders from the server at a socket; nothing where no socket is named, or for another command.
+/// Returns the task of a registry command that names the socket of a server, or None for any other command.
 fn order_task<'a>(name: &str, matches: &ArgMatches<'a>) -> Option<Task<'a>> {
     let order = order_of(name, matches)?;
     let control = matches.get_str("control")?;
     Some(Task::Order { control, order })
 }
 
-/// What a command of the registry orders.
+/// Returns the order of a registry command, or None for another command.
 fn order_of<'a>(name: &str, matches: &ArgMatches<'a>) -> Option<Order<'a>> {
     match name {
         "team-add" => Some(Order::TeamAdd {
@@ -71,7 +71,7 @@ fn order_of<'a>(name: &str, matches: &ArgMatches<'a>) -> Option<Order<'a>> {
     }
 }
 
-/// What a key may do that may only read, or that may publish too.
+/// Returns the right of a key that may only read, or that may publish too.
 fn right_of(read_only: bool) -> Right {
     if read_only {
         Right::Reads
@@ -80,7 +80,7 @@ fn right_of(read_only: bool) -> Right {
     }
 }
 
-/// What `answer` asks for: it takes a file, or a team and its key.
+/// Returns the task of `answer`, which takes a file, or a team and its key.
 fn answer_task<'a>(matches: &ArgMatches<'a>) -> Task<'a> {
     match matches.get_str("db") {
         Some(db) => Task::OnStore {
@@ -94,7 +94,7 @@ fn answer_task<'a>(matches: &ArgMatches<'a>) -> Task<'a> {
     }
 }
 
-/// What a command does on its store.
+/// Returns the work of a command on its store, or None for a command that does none.
 fn work_of<'a>(name: &str, matches: &ArgMatches<'a>) -> Option<Work<'a>> {
     match name {
         "team-add" => Some(Work::TeamAdd {
@@ -132,7 +132,7 @@ fn work_of<'a>(name: &str, matches: &ArgMatches<'a>) -> Option<Work<'a>> {
     }
 }
 
-/// Where the connections of `serve` come in.
+/// Returns where the connections of `serve` come in.
 fn entrance_of<'a>(matches: &ArgMatches<'a>) -> Entrance {
     match matches.get_one("port") {
         Some(port) => Entrance::Port(port),
@@ -140,7 +140,7 @@ fn entrance_of<'a>(matches: &ArgMatches<'a>) -> Entrance {
     }
 }
 
-/// What `publish` does.
+/// Returns the work of `publish`.
 fn publish_of<'a>(matches: &ArgMatches<'a>) -> Work<'a> {
     let words = Words {
         key: text(matches, "key"),
@@ -155,7 +155,7 @@ fn publish_of<'a>(matches: &ArgMatches<'a>) -> Work<'a> {
     Work::Publish { words, files }
 }
 
-/// The version that the words name.
+/// Returns the version that the words name.
 fn named<'a>(matches: &ArgMatches<'a>) -> Named<'a> {
     Named {
         key: text(matches, "key"),
@@ -164,7 +164,7 @@ fn named<'a>(matches: &ArgMatches<'a>) -> Named<'a> {
     }
 }
 
-/// The value of an option that has to be given.
+/// Returns the value of a required option.
 fn text<'a>(matches: &ArgMatches<'a>, name: &str) -> &'a str {
     matches.get_str(name).unwrap_or("")
 }

@@ -39,8 +39,8 @@ pub fn command<'a, I: Read, O: Write, E: Write>(
     command_by(rt.alloc(), &mut stores, words, input, output, errors)
 }
 
-/// Runs the program, whatever does its tasks: one task for the words of a command, and none where the parser's text is shown,
-/// as for `--help`.
+/// Runs the program with any performer of its tasks, and returns the exit status. It does one task for the words of a command, and
+/// none if it shows the parser's text, for example for `--help`.
 pub fn command_by<P: Performer, I: Read, O: Write, E: Write>(
     alloc: Global,
     performer: &mut P,
@@ -58,7 +58,7 @@ pub fn command_by<P: Performer, I: Read, O: Write, E: Write>(
     ending.status()
 }
 
-/// Does what the words say, or shows the parser's text.
+/// Does the task that the words ask for, or shows the parser's text, and returns how the run ended.
 fn run<P: Performer, I: Read, O: Write, E: Write>(
     alloc: Global,
     performer: &mut P,
@@ -80,7 +80,7 @@ fn run<P: Performer, I: Read, O: Write, E: Write>(
     }
 }
 
-/// Does the task that the words ask for. The parser refuses words without a command.
+/// Does the task that the words ask for, and returns how the run ended. The parser refuses words without a command.
 fn perform_matched<P: Performer, I: Read, O: Write, E: Write>(
     performer: &mut P,
     matches: &ArgMatches<'_>,
@@ -122,8 +122,8 @@ fn write_new_store<E: Write>(errors: &mut E)
     );
 }
 
-/// Shows the parser's text: help and the version on the output, what is wrong with the words on `errors`.
-/// If the output fails, the run ends with `goshelf: io`.
+/// Shows the parser's text, and returns how the run ended: help and the version on the output, and what is wrong with the words on
+/// `errors`. If the output fails, the run ends with `goshelf: io`.
 fn show<O: Write, E: Write>(error: clap::Error, output: &mut O, errors: &mut E) -> Ending
     ensures ends { EndsShown (kind_of error) result }
     ensures silent { IsSilent (E.contents errors.old) (E.contents errors.new) result }
@@ -141,8 +141,8 @@ fn show<O: Write, E: Write>(error: clap::Error, output: &mut O, errors: &mut E) 
     }
 }
 
-/// Reports that the words could not be read, and returns the exit status. Words that are not text are bad usage; without
-/// memory the run ends with `goshelf: memory`.
+/// Reports that the words could not be read, and returns the exit status. Words that are not UTF-8 are bad usage; if memory ran
+/// out, the run ends with `goshelf: memory`.
 pub fn words_refused<E: Write>(error: io::Error, errors: &mut E) -> u8
     ensures { RefusesWords (E.contents errors.old) (E.contents errors.new) result }
 {

@@ -1,4 +1,4 @@
-//! One whole run of the program: what the words of its command line ask for, what is done of it, and how that is told.
+//! One whole run of the program: reading the words of its command line, doing the task, and reporting how it ended.
 #![tactic(auto)]
 
 mod arguments;

@@ -1,6 +1,6 @@
 //! The options of the commands, with their help.
 
-/// An option of a command as help tells of it.
+/// An option of a command, as help shows it.
 #[derive(Clone, Copy, Drop)]
 pub(crate) struct OptionRow {
     pub(crate) name: &'static str,
@@ -9,31 +9,31 @@ pub(crate) struct OptionRow {
     pub(crate) help: &'static str,
 }
 
-/// What an option takes, by what help calls it.
+/// The value of an option, with its name in help.
 /// A value is taken as it is, even an empty one; one that begins with a dash needs `=`. The parser refuses a number
 /// that is too large, in its own words.
 #[derive(Clone, Copy, Drop)]
 pub(crate) enum Value {
-    /// Nothing: it is a flag.
+    /// None: the option is a flag.
     Flag,
     /// A text.
     Text(&'static str),
-    /// A text, or as many as the option is given.
+    /// A text for each time that the option is given.
     Texts(&'static str),
-    /// A number from 0 to this most.
+    /// A number from 0 to this limit.
     Number(&'static str, u64),
 }
 
-/// When an option has to be given.
+/// When an option is required.
 #[derive(Clone, Copy, Drop)]
 pub(crate) enum Needed {
     /// Always.
     Always,
     /// Never.
     Never,
-    /// Where this other option is not given.
+    /// If this other option is not given.
     Without(&'static str),
-    /// Where this other option is not given; with it, it may not be.
+    /// If this other option is not given; both together are refused.
     InsteadOf(&'static str),
 }
 
@@ -47,13 +47,13 @@ const DB: OptionRow = OptionRow {
 
 pub(crate) const INIT: [OptionRow; 1] = [DB];
 
-/// The file of the store, where a running server can stand in its place.
+/// The file of the store, for a command that can take a running server instead.
 const DB_OR_CONTROL: OptionRow = OptionRow {
     needed: Needed::Without("control"),
     ..DB
 };
 
-/// The server in its place.
+/// The running server, in place of the file of the store.
 const CONTROL: OptionRow = OptionRow {
     name: "control",
     value: Value::Text("S"),

@@ -1,4 +1,4 @@
-//! What does the tasks of a run.
+//! The performer of the tasks of a run.
 use commands::files::is_empty_file;
 use commands::refusal::Refusal;
 use sqlite::{File, FileStore, Start, Unknown};
@@ -10,17 +10,17 @@ use store::open::FileShelves;
 use tasks::{Task, perform};
 use world::shelves::Shelves;
 
-/// What does the tasks of a run. A run has no other way to the files of stores.
+/// The performer of the tasks of a run. A run reaches the files of stores only by it.
 pub trait Performer {
     ghost use Rattle.command_line.specs.Run.{Performed};
 
-    /// What is done for a task.
+    /// What it does for a task.
     ghost performed: { Performed Self };
 
     /// Whether the file of a store is missing or empty, so that a task begins with a new store.
     fn is_new(&self, db: &str) -> bool;
 
-    /// Does a task and returns whether it was accepted, as [`tasks::perform`] does.
+    /// Does a task and returns whether it was accepted. Fails as [`tasks::perform`] does.
     fn perform<I: Read, O: Write>(
         &mut self,
         task: &Task,
@@ -31,11 +31,11 @@ pub trait Performer {
             (O.contents output.old) (O.contents output.new) result task.now };
 }
 
-/// The store of files as they are found: nothing here names what they held.
+/// The store of files as they are found. Clauses say nothing about what they held.
 pub type Found = FileShelves<Unknown>;
 
-/// What the files held that a task writes anew, at which clauses say no more than at `Unknown`. A `serve` writes such a file for each
-/// copy, so it is `Copy`, which `Unknown` is not.
+/// What the files held that a task writes anew. Clauses say no more about them than about `Unknown`. A `serve` writes such a file
+/// for each copy, so this type is `Copy`, which `Unknown` is not.
 #[derive(Clone, Copy, Drop)]
 pub struct UnknownTarget;
 
@@ -90,7 +90,7 @@ impl<'a> Performer for SystemStores<'a> {
     }
 }
 
-/// Whether there is no file of this name. One that the system does not show may be there.
+/// Whether there is no file with this name. False if the system does not say.
 fn is_missing(rt: &HostRuntime, path: &str) -> bool {
     match fs::metadata(rt, path) {
         Ok(_) => false,

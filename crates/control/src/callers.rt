@@ -12,7 +12,7 @@ use std::net::{TcpListener, TcpStream};
 use std::os::fd::AsRawFd;
 use std::os::unix::net::{UnixListener, UnixStream};
 use std::rt::HostRuntime;
-use std::time::Clock;
+use std::time::{Clock, Duration};
 use world::shelves::Shelves;
 
 /// A caller who has connected.
@@ -85,6 +85,10 @@ pub trait Callers<P, O> {
         ensures { Accepts (waiting self.old) (waiting self.new) result };
 }
 
+const PEERS: Token = Token(0);
+
+const OPERATORS: Token = Token(1);
+
 /// A port for peers and a socket for operators, which one thread waits on.
 #[derive(Drop)]
 pub struct Doors {
@@ -92,6 +96,10 @@ pub struct Doors {
     events: Events<Global>,
     peers: TcpListener,
     operators: UnixListener,
+    /// Whether a peer may wait to be taken.
+    peer_waits: bool,
+    /// Whether an operator may.
+    operator_waits: bool,
 }
 
 impl Doors {
@@ -101,28 +109,54 @@ impl Doors {
         operators.set_nonblocking(true)?;
         let poll = Poll::new(rt)?;
         let events = Events::with_capacity(rt.alloc(), 2)?;
-        watch(&poll, peers.as_raw_fd(), 0)?;
-        watch(&poll, operators.as_raw_fd(), 1)?;
+        watch(&poll, peers.as_raw_fd(), PEERS)?;
+        watch(&poll, operators.as_raw_fd(), OPERATORS)?;
         Ok(Doors {
             poll,
             events,
             peers,
             operators,
+            peer_waits: false,
+            operator_waits: false,
         })
     }
 
+    /// Notes which listeners somebody has connected to, and waits for that if neither may have a connection left. The system names
+    /// a listener once, so it is asked until it has none. An `accept` that finds none costs more than this. Fails if the system does.
+    fn look(&mut self) -> io::Result<()> {
+        let longest = if self.peer_waits || self.operator_waits {
+            Some(Duration::ZERO)
+        } else {
+            None
+        };
+        self.poll.poll(&mut self.events, longest)?;
+        for event in self.events.iter() {
+            if event.token() == OPERATORS {
+                self.operator_waits = true;
+            } else {
+                self.peer_waits = true;
+            }
+        }
+        Ok(())
+    }
+
     /// Returns a caller who has connected, an operator before a peer, or None if there is none. Fails if the system does.
-    fn accept(&self) -> io::Result<Option<Caller<TcpStream, UnixStream>>> {
-        match self.operators.accept() {
-            Ok((stream, _)) => return Ok(Some(Caller::Operator(stream))),
-            Err(e) if e.kind() == ErrorKind::WouldBlock => {}
-            Err(e) => return Err(e),
+    fn accept(&mut self) -> io::Result<Option<Caller<TcpStream, UnixStream>>> {
+        if self.operator_waits {
+            match self.operators.accept() {
+                Ok((stream, _)) => return Ok(Some(Caller::Operator(stream))),
+                Err(e) if e.kind() == ErrorKind::WouldBlock => self.operator_waits = false,
+                Err(e) => return Err(e),
+            }
         }
-        match self.peers.accept() {
-            Ok((stream, _)) => Ok(Some(Caller::Peer(stream))),
-            Err(e) if e.kind() == ErrorKind::WouldBlock => Ok(None),
-            Err(e) => Err(e),
+        if self.peer_waits {
+            match self.peers.accept() {
+                Ok((stream, _)) => return Ok(Some(Caller::Peer(stream))),
+                Err(e) if e.kind() == ErrorKind::WouldBlock => self.peer_waits = false,
+                Err(e) => return Err(e),
+            }
         }
+        Ok(None)
     }
 }
 
@@ -132,20 +166,19 @@ impl Callers<TcpStream, UnixStream> for Doors {
 
     ghost waiting = { λ _. None };
 
-    /// Takes an operator before a peer. A wait returns only once for each connection, so it waits only when neither listener has
-    /// one left.
+    /// Takes an operator before a peer.
     fn next(&mut self) -> io::Result<Caller<TcpStream, UnixStream>> {
         for _ in 0..u64::MAX {
+            self.look()?;
             if let Some(caller) = self.accept()? {
                 return Ok(caller);
             }
-            self.poll.poll(&mut self.events, None)?;
         }
         Err(io::Error::from(ErrorKind::Other))
     }
 }
 
-fn watch(poll: &Poll, fd: i32, token: usize) -> io::Result<()> {
+fn watch(poll: &Poll, fd: i32, token: Token) -> io::Result<()> {
     poll.registry()
-        .register(&mut SourceFd(&fd), Token(token), Interest::READABLE)
+        .register(&mut SourceFd(&fd), token, Interest::READABLE)
 }

@@ -20,7 +20,10 @@ from kills import fetch, kill_after, publish
 VERSIONS = 12
 KILLS, MANY_KILLS = 5, 50
 DONE = 0, b"", ""
-LONGEST = 122
+# the longest path of a store: sqlite's names beside it have eight bytes more, and a path of the system 4,095
+LONGEST = 4_087
+# the longest path in an order
+SAID = 4_090
 
 
 def refusal(word):
@@ -41,6 +44,15 @@ def zips_in(store, numbers):
     return answered(["--db", store], [fetch(number, kind) for number in numbers for kind in ("mod", "zip", "info")])
 
 
+def path_of(length):
+    """A path of so many bytes, in folders that are made."""
+    path = os.getcwd()
+    while length - len(path) > 250:
+        path = os.path.join(path, "d" * 200)
+        os.mkdir(path)
+    return os.path.join(path, "").ljust(length, "g")
+
+
 def whole(suite):
     """Copies of a store with groups, teams and keys, each at its moment, in one run of `serve`."""
     new_store("served.db", *SHELVES, *MEMBERS, groups=[PLATFORM])
@@ -56,8 +68,8 @@ def whole(suite):
     suite.equal("a key after it", server.order(b"key-add alpha newkey0000000001\n"), b"done\n")
     new_store("three.db")
     suite.equal("a copy into an empty store", copy("three.db"), DONE)
-    longest = os.path.join(os.getcwd(), "g").ljust(LONGEST, "g")
-    suite.equal("a copy to a path of 122 bytes", (len(longest), copy(longest)), (LONGEST, DONE))
+    longest = path_of(LONGEST)
+    suite.equal("a copy to a path of 4,087 bytes", (len(longest), copy(longest)), (LONGEST, DONE))
     server.kill()
     suite.equal("the third copy sees what the store sees", inventories("three.db"), inventories("served.db"))
     suite.equal("and answers so", zips_in("three.db", [*range(VERSIONS), 100]), zips_in("served.db", [*range(VERSIONS), 100]))
@@ -144,7 +156,7 @@ def refused(suite):
         ("text", "not-empty"), ("other.db", "device"), ("made.db", "not-empty"), ("served.db", "not-empty"), ("./served.db", "not-empty"),
         (os.path.abspath("served.db"), "not-empty"), ("named.db", "not-empty"), ("linked.db", "not-empty"), ("served.db-wal", "not-empty"),
         ("linked.log", "not-empty"), ("folder", "device"), ("none/one.db", "device"), ("nowhere.db", "device"), ("/dev/null", "device"), ("", "device"),
-        (":memory:", "device"), ("file:one.db", "device"), ("a path.db", "name"), ("path\n", "name"), ("p" * 123, "name"), ("p" * 300, "name"),
+        (":memory:", "device"), ("file:one.db", "device"), ("a path.db", "name"), ("path\n", "name"), ("p" * SAID, "device"), ("p" * (SAID + 1), "name"),
     ]  # fmt: skip
     for to, word in rows:
         suite.equal(f"a copy to {to[:60]!r}", copy(to), refusal(word))
@@ -153,7 +165,7 @@ def refused(suite):
     # (opening a file that is no store leaves a log beside it)
     suite.equal("and no others", [it for it in sorted(os.listdir(".")) if it not in names], ["other", "text-wal"])
     for sent, told in ((b"copy\n", b"bad\n"), (b"copy \n", b"device\n"), (b"copy a b\n", b"bad\n"), (b"Copy one.db\n", b"bad\n"),
-                       (b"copy one.db", b"bad\n"), (b"copy one.db\n\n", b"bad\n"), (b"copy " + b"p" * 123 + b"\n", b"bad\n")):  # fmt: skip
+                       (b"copy one.db", b"bad\n"), (b"copy one.db\n\n", b"bad\n"), (b"copy " + b"p" * (SAID + 1) + b"\n", b"bad\n")):  # fmt: skip
         suite.equal(f"told of {sent[:60]!r}", server.order(sent), told)
     suite.equal("no copy was made", os.path.lexists("one.db"), False)
     other.kill()

@@ -300,7 +300,7 @@ pub(crate) const COPY: [OptionRow; 2] = [
         ..CONTROL
     },
     OptionRow {
-        help: "The file of the copy, as that serve sees it: up to 122 bytes and no space; missing, or an empty store",
+        help: "The file of the copy, as that serve sees it: up to 4,090 bytes and no space; missing, or an empty store",
         ..TO
     },
 ];

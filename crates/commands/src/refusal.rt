@@ -8,7 +8,7 @@ use world::registry::{Registered, StoreFault};
 /// Why a command was refused, with exit status 1.
 #[derive(Clone, Copy, Debug, Drop, PartialEq, Eq)]
 pub enum Refusal {
-    /// The name of a team or a group, or a key, breaks its rule; for `copy`, the path has a space, or more than 122 bytes.
+    /// The name of a team or a group, or a key, breaks its rule; for `copy`, the path has a space, or more than 4,090 bytes.
     Name,
     /// A shelf of that name, or the key, exists already.
     Taken,

@@ -4,7 +4,7 @@ use Rattle.std.specs.Prelude.{codes, option_copied, IfOk, IfErr}
 use Rattle.std.proofs.lemmas.Bool.{false≢true}
 use denote.Ref.{Bor}
 use Rattle.control.specs.Asking.{IsUnwritten, IsUnsent}
-use Rattle.control.specs.Line.{IsLine, IsSaid, IsSent, HoldsNoLine, IsNoCopy, CopiesNothing, SaysNoCopy, copy_words}
+use Rattle.control.specs.Line.{IsLine, IsSaid, IsSent, HoldsNoLine, IsNoCopy, CopiesNothing, SaysNoCopy, copy_words, longest, longest_copy}
 use Rattle.control.specs.Order.{two, said_in}
 use Rattle.control.specs.Words.{Said, said, IsTextOf, HasNoWords}
 use Rattle.control.specs.declared.words.Words.{Words}
@@ -46,36 +46,36 @@ copy_told line s told (Some p) same = subst (IsTextOf line) same told
 
 -- ---- which bytes order a copy
 
-pub no_line_copied : (got : List ℕ) → HoldsNoLine got → IsNoCopy got
+pub no_line_copied : (got : List ℕ) → HoldsNoLine longest_copy got → IsNoCopy got
 no_line_copied got none path says = none says.line says.ends
 
-pub no_copy : (got line : List ℕ) → IsLine got line → CopiesNothing line → IsNoCopy got
+pub no_copy : (got line : List ℕ) → IsLine longest_copy got line → CopiesNothing line → IsNoCopy got
 no_copy got line holds nothing path says =
     nothing path (subst (λ l. IsTextOf l (copy_words path)) (one_line got line says.line holds.is says.ends) says.says)
 
 -- ---- the line of an order is the one that says its words
 
 -- what holds of words holds of equal words
-module _ {V : Type 0} (items : V → List ℕ) (s t : Said) (is : s ≡ t) where
-  pub ok_said : (r : Result V Untold) → IfOk r (λ v. IsSaid (items v) s) → IfOk r (λ v. IsSaid (items v) t)
-  ok_said r = subst (λ u. IfOk r (λ v. IsSaid (items v) u)) is
+module _ {V : Type 0} (items : V → List ℕ) (most : ℕ) (s t : Said) (is : s ≡ t) where
+  pub ok_said : (r : Result V Untold) → IfOk r (λ v. IsSaid most (items v) s) → IfOk r (λ v. IsSaid most (items v) t)
+  ok_said r = subst (λ u. IfOk r (λ v. IsSaid most (items v) u)) is
 
-pub err_unwritten : {V : Type 0} (s t : Said) → s ≡ t → (r : Result V Untold) → IfErr r (λ why. IsUnwritten s why)
-    → IfErr r (λ why. IsUnwritten t why)
-err_unwritten s t is r = subst (λ u. IfErr r (λ why. IsUnwritten u why)) is
+pub err_unwritten : {V : Type 0} (most : ℕ) (s t : Said) → s ≡ t → (r : Result V Untold) → IfErr r (λ why. IsUnwritten most s why)
+    → IfErr r (λ why. IsUnwritten most t why)
+err_unwritten most s t is r = subst (λ u. IfErr r (λ why. IsUnwritten most u why)) is
 
-sent_unwritten : (order : Order) (why : Untold) → IsUnwritten (said_in order) why → IsUnsent order why
+sent_unwritten : (order : Order) (why : Untold) → IsUnwritten longest (said_in order) why → IsUnsent order why
 sent_unwritten order untold.Words none = λ sent is. none sent (record { line = is.line; ends = is.ends; says = is.orders })
 sent_unwritten order untold.Memory none = tt
 sent_unwritten order untold.Io never = never
 
 module _ {V : Type 0} (items : V → List ℕ) (order : Order) (s : Said) (is : s ≡ said_in order) where
-  pub ok_sent : (r : Result V Untold) → IfOk r (λ v. IsSaid (items v) s) → IfOk r (λ v. IsSent (items v) order)
+  pub ok_sent : (r : Result V Untold) → IfOk r (λ v. IsSaid longest (items v) s) → IfOk r (λ v. IsSent (items v) order)
   ok_sent (Ok v) said =
-      let so = subst (IsSaid (items v)) is said in record { line = so.line; ends = so.ends; orders = so.says }
+      let so = subst (IsSaid longest (items v)) is said in record { line = so.line; ends = so.ends; orders = so.says }
   ok_sent (Err why) said = tt
 
-pub err_unsent : {V : Type 0} (order : Order) (s : Said) → s ≡ said_in order → (r : Result V Untold) → IfErr r (λ why. IsUnwritten s why)
+pub err_unsent : {V : Type 0} (order : Order) (s : Said) → s ≡ said_in order → (r : Result V Untold) → IfErr r (λ why. IsUnwritten longest s why)
     → IfErr r (λ why. IsUnsent order why)
 err_unsent order s is (Ok v) none = tt
-err_unsent order s is (Err why) none = sent_unwritten order why (subst (λ t. IsUnwritten t why) is none)
+err_unsent order s is (Err why) none = sent_unwritten order why (subst (λ t. IsUnwritten longest t why) is none)

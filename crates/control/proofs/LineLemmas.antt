@@ -29,25 +29,25 @@ no_end_cut s p r is cases = subst (λ o. MatchOption o ((front : List ℕ) → s
 -- ---- lines
 
 -- bytes have at most one line
-pub one_line : (got line other : List ℕ) → got ≡ line ++ line_end ∷ [] → IsLine got other → other ≡ line
+pub one_line : {most : ℕ} (got line other : List ℕ) → got ≡ line ++ line_end ∷ [] → IsLine most got other → other ≡ line
 one_line got line other is holds = append_cancel_right other line (line_end ∷ []) (sym holds.is ∙ is)
 
-pub no_end : (got : List ℕ) → ((front : List ℕ) → got ≢ front ++ line_end ∷ []) → HoldsNoLine got
-no_end got none line holds = none line holds.is
+pub no_end : (most : ℕ) (got : List ℕ) → ((front : List ℕ) → got ≢ front ++ line_end ∷ []) → HoldsNoLine most got
+no_end most got none line holds = none line holds.is
 
-pub too_long : (got line : List ℕ) → got ≡ line ++ line_end ∷ [] → longest < length line → HoldsNoLine got
-too_long got line is long other holds =
-    let few = subst (λ l. length l ≤ longest) (one_line got line other is holds) holds.few in omega (arith, few, long)
+pub too_long : (most : ℕ) (got line : List ℕ) → got ≡ line ++ line_end ∷ [] → most < length line → HoldsNoLine most got
+too_long most got line is long other holds =
+    let few = subst (λ l. length l ≤ most) (one_line got line other is holds) holds.few in omega (arith, few, long)
 
-pub no_text : (got line : List ℕ) → got ≡ line ++ line_end ∷ [] → ¬ IsUtf8 line → HoldsNoLine got
-no_text got line is none other holds = none (subst IsUtf8 (one_line got line other is holds) holds.text)
+pub no_text : (most : ℕ) (got line : List ℕ) → got ≡ line ++ line_end ∷ [] → ¬ IsUtf8 line → HoldsNoLine most got
+no_text most got line is none other holds = none (subst IsUtf8 (one_line got line other is holds) holds.text)
 
 -- bytes with a line that orders nothing are no order's
-pub no_order : (got line : List ℕ) → IsLine got line → OrdersNothing line → IsNoOrder got
+pub no_order : (got line : List ℕ) → IsLine longest got line → OrdersNothing line → IsNoOrder got
 no_order got line holds nothing order sent =
     nothing order (subst (λ l. Orders l order) (one_line got line sent.line holds.is sent.ends) sent.orders)
 
-pub no_line : (got : List ℕ) → HoldsNoLine got → IsNoOrder got
+pub no_line : (got : List ℕ) → HoldsNoLine longest got → IsNoOrder got
 no_line got none order sent = none sent.line sent.ends
 
 -- bytes in which a search found a byte contain it

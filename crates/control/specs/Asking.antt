@@ -20,15 +20,15 @@ IsUnsent order Words = IsUnsayable order
 IsUnsent order Memory = Unit {0}
 IsUnsent order Io = ⊥
 
--- no bytes are a line of these words
-abbrev pub IsUnsaid : Said → Type 0
-IsUnsaid s = (sent : List ℕ) → ¬ IsSaid sent s
+-- no bytes are a line of these words, of so many bytes at most
+abbrev pub IsUnsaid : ℕ → Said → Type 0
+IsUnsaid most s = (sent : List ℕ) → ¬ IsSaid most sent s
 
 -- why there is no line of the words
-abbrev pub IsUnwritten : Said → Untold → Type 0
-IsUnwritten s Words = IsUnsaid s
-IsUnwritten s Memory = Unit {0}
-IsUnwritten s Io = ⊥
+abbrev pub IsUnwritten : ℕ → Said → Untold → Type 0
+IsUnwritten most s Words = IsUnsaid most s
+IsUnwritten most s Memory = Unit {0}
+IsUnwritten most s Io = ⊥
 
 -- the line of the outcome was read, or `Io` was returned
 abbrev pub TellsOutcome : Option (List ℕ) → Option (List ℕ) → Result Outcome Untold → Type 0

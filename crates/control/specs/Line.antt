@@ -10,19 +10,23 @@ use Rattle.control.specs.declared.order.Order.{Order}
 abbrev pub longest : ℕ
 longest = 127
 
+-- the most bytes of the line that orders a copy, without its end
+abbrev pub longest_copy : ℕ
+longest_copy = 4095
+
 -- The bytes are this text, which is not too long, and the end of a line.
-pub record IsLine (got line : List ℕ) : Type 0 where
+pub record IsLine (most : ℕ) (got line : List ℕ) : Type 0 where
   pub is : got ≡ line ++ line_end ∷ []
-  pub few : length line ≤ longest
+  pub few : length line ≤ most
   pub text : IsUtf8 line
 
-abbrev pub HoldsNoLine : List ℕ → Type 0
-HoldsNoLine got = (line : List ℕ) → ¬ IsLine got line
+abbrev pub HoldsNoLine : ℕ → List ℕ → Type 0
+HoldsNoLine most got = (line : List ℕ) → ¬ IsLine most got line
 
 -- The bytes are the line of an order.
 pub record IsSent (got : List ℕ) (order : Order) : Type 0 where
   pub line : List ℕ
-  pub ends : IsLine got line
+  pub ends : IsLine longest got line
   pub orders : Orders line order
 
 -- the bytes are no line of an order
@@ -30,9 +34,9 @@ abbrev pub IsNoOrder : List ℕ → Type 0
 IsNoOrder got = (order : Order) → ¬ IsSent got order
 
 -- The bytes are a line of these words.
-pub record IsSaid (got : List ℕ) (s : Said) : Type 0 where
+pub record IsSaid (most : ℕ) (got : List ℕ) (s : Said) : Type 0 where
   pub line : List ℕ
-  pub ends : IsLine got line
+  pub ends : IsLine most got line
   pub says : IsTextOf line s
 
 -- the words that order a copy to a path
@@ -41,7 +45,7 @@ copy_words path = two (codes "copy") path
 
 -- the bytes are the line that orders a copy to this path
 abbrev pub IsCopyTo : List ℕ → List ℕ → Type 0
-IsCopyTo got path = IsSaid got (copy_words path)
+IsCopyTo got path = IsSaid longest_copy got (copy_words path)
 
 -- the bytes order no copy
 abbrev pub IsNoCopy : List ℕ → Type 0
@@ -61,7 +65,7 @@ stop_line = codes "stop" ++ line_end ∷ []
 
 -- a line ends in the bytes, or would be too long
 abbrev pub HasEnough : List ℕ → Type 0
-HasEnough got = Contains got line_end ⊎ (longest < length got)
+HasEnough got = Contains got line_end ⊎ (longest_copy < length got)
 
 -- No more has to be read, or nothing comes.
 abbrev pub IsEnough : List ℕ → Option (List ℕ) → Type 0

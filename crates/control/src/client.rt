@@ -1,14 +1,14 @@
 //! The operator's side.
 ghost use Rattle.std.specs.Prelude.{◌≡◌, ◌++◌, ◌∷◌, [], IfOk, IfErr, IfSome, OnOk, option_copied};
 ghost use Rattle.control.specs.Asking.{Asks, AsksToCopy, AsksToStop, IsUnsent, IsUnwritten, TellsOutcome};
-ghost use Rattle.control.specs.Line.{IsCopyTo, IsSaid, IsSent, copy_words};
+ghost use Rattle.control.specs.Line.{IsCopyTo, IsSaid, IsSent, copy_words, longest_copy};
 ghost use Rattle.control.specs.Order as spec;
 ghost use Rattle.control.specs.Order.{said_in};
 ghost use Rattle.control.specs.Outcome.{line_of};
 ghost use Rattle.control.specs.Words.{said, text_of, behind, line_end};
 
 use crate::copy_line::words_to_copy;
-use crate::line::{line_in, read_line};
+use crate::line::{LONGEST, LONGEST_COPY, line_in, read_line};
 use crate::order::Order;
 use crate::outcome::Outcome;
 use crate::words::{Words, are_words};
@@ -55,7 +55,7 @@ pub fn ask<R: Read, W: Write>(
 }
 
 /// Orders a copy of the served store to a path, as the server sees it, and returns the outcome that the order is answered with.
-/// `Untold::Words`: the path has a space or the end of a line, or more than 122 bytes, and nothing was sent.
+/// `Untold::Words`: the path has a space or the end of a line, or more than 4,090 bytes, and nothing was sent.
 pub fn ask_to_copy<R: Read, W: Write>(
     alloc: Global,
     reader: &mut R,
@@ -92,28 +92,28 @@ fn line_to_send(alloc: Global, order: &Order) -> Result<Vec<u8>, Untold>
     ensures err { IfErr result (λ why. IsUnsent order.now why) }
 {
     let words = words_in(order);
-    line_saying(alloc, &words)
+    line_saying(alloc, &words, LONGEST)
 }
 
 /// The line that orders a copy to a path, with its end.
 fn copy_to_send(alloc: Global, path: &str) -> Result<Vec<u8>, Untold>
     ensures ok { IfOk result (λ line. IsCopyTo line.items path.now) }
-    ensures err { IfErr result (λ why. IsUnwritten (copy_words path.now) why) }
+    ensures err { IfErr result (λ why. IsUnwritten longest_copy (copy_words path.now) why) }
 {
     let words = words_to_copy(path);
-    line_saying(alloc, &words)
+    line_saying(alloc, &words, LONGEST_COPY)
 }
 
-/// The line that says words, with its end.
-fn line_saying(alloc: Global, words: &Words) -> Result<Vec<u8>, Untold>
-    ensures ok { IfOk result (λ line. IsSaid line.items (said words.now)) }
-    ensures err { IfErr result (λ why. IsUnwritten (said words.now) why) }
+/// The line that says words, with its end, if it has at most so many bytes without that.
+fn line_saying(alloc: Global, words: &Words, most: usize) -> Result<Vec<u8>, Untold>
+    ensures ok { IfOk result (λ line. IsSaid most line.items (said words.now)) }
+    ensures err { IfErr result (λ why. IsUnwritten most (said words.now) why) }
 {
     if !are_words(words) {
         return Err(Untold::Words);
     }
     let line = line_with(alloc, words)?;
-    if line_in(&line).is_none() {
+    if line_in(&line, most).is_none() {
         return Err(Untold::Words);
     }
     Ok(line)
@@ -197,6 +197,6 @@ fn hear_outcome<R: Read>(alloc: Global, reader: &mut R) -> Result<Outcome, Untol
 fn outcome_in(got: &[u8]) -> Option<Outcome>
     ensures { IfSome result (λ told. got.now ≡ line_of told) }
 {
-    let word = line_in(got)?;
+    let word = line_in(got, LONGEST)?;
     Outcome::of_word(word)
 }

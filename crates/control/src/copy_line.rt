@@ -4,7 +4,7 @@ ghost use Rattle.control.specs.Line as spec;
 ghost use Rattle.control.specs.Order.{two};
 ghost use Rattle.control.specs.Words.{IsTextOf, said};
 
-use crate::line::line_in;
+use crate::line::{LONGEST_COPY, line_in};
 use crate::words::{Words, words_of};
 
 /// Returns the path of a line `copy PATH` without its end, or None if the line orders no copy.
@@ -40,7 +40,7 @@ fn path_behind<'a>(verb: &'a str, path: &'a str) -> Option<&'a str>
 pub(crate) fn copy_in(got: &[u8]) -> Option<&str>
     ensures { MatchOption result (spec.IsNoCopy got.now) (λ path. spec.IsCopyTo got.now path.now) }
 {
-    let line = line_in(got)?;
+    let line = line_in(got, LONGEST_COPY)?;
     copy_path_of(line)
 }
 

@@ -7,7 +7,10 @@ use std::alloc::{AllocError, Global};
 use std::io::{ErrorKind, Read};
 
 /// The most bytes of a line without its end.
-const LONGEST: usize = 127;
+pub(crate) const LONGEST: usize = 127;
+
+/// The most bytes of the line that orders a copy, without its end: it names a file.
+pub(crate) const LONGEST_COPY: usize = 4_095;
 
 /// The most reads of one line, interrupted ones included.
 const TRIES: u32 = 1_000;
@@ -45,7 +48,7 @@ pub(crate) fn read_line<R: Read>(alloc: Global, reader: &mut R) -> Result<Vec<u8
 fn read_on<R: Read>(reader: &mut R, got: &mut Vec<u8>) -> Result<bool, Unread>
     ensures { IfOk result (λ done. spec.ReadsOn (R.remaining reader.old) (R.remaining reader.new) got.old.items got.new.items done) }
 {
-    let mut chunk = [0; LONGEST + 1];
+    let mut chunk = [0; LONGEST_COPY + 1];
     match reader.read(&mut chunk) {
         Ok(0) => Ok(true),
         Ok(n) => {
@@ -61,15 +64,15 @@ fn read_on<R: Read>(reader: &mut R, got: &mut Vec<u8>) -> Result<bool, Unread>
 fn is_enough(bytes: &[u8]) -> bool
     ensures { IsTrue result → spec.HasEnough bytes.now }
 {
-    bytes.len() > LONGEST || bytes.contains(&b'\n')
+    bytes.len() > LONGEST_COPY || bytes.contains(&b'\n')
 }
 
 /// Returns the line that the bytes are, without its end, or None if they have no end, are too many, or are not UTF-8.
-pub(crate) fn line_in(got: &[u8]) -> Option<&str>
-    ensures { MatchOption result (spec.HoldsNoLine got.now) (λ line. spec.IsLine got.now line.now) }
+pub(crate) fn line_in(got: &[u8], most: usize) -> Option<&str>
+    ensures { MatchOption result (spec.HoldsNoLine most got.now) (λ line. spec.IsLine most got.now line.now) }
 {
     let line = got.strip_suffix(b"\n")?;
-    if line.len() > LONGEST {
+    if line.len() > most {
         return None;
     }
     match str::from_utf8(line) {
@@ -89,6 +92,6 @@ pub(crate) fn is_stop(got: &[u8]) -> bool
 pub(crate) fn order_in(got: &[u8]) -> Option<Order<'_>>
     ensures { MatchOption result (spec.IsNoOrder got.now) (λ order. spec.IsSent got.now order) }
 {
-    let line = line_in(got)?;
+    let line = line_in(got, LONGEST)?;
     order_of(line)
 }

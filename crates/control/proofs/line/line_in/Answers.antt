@@ -8,6 +8,6 @@ returns-in-Ok c =
     let same = sym c.in-Ok.ensures.cases.0 in
     record {
       is = front ∙ ap (λ (l : List ℕ). l ++ 10 ∷ []) same;
-      few = subst (λ (l : List ℕ). length l ≤ 127) same c.if-line-gt-LONGEST.false;
+      few = subst (λ (l : List ℕ). length l ≤ c.args.most) same c.if-line-most.false;
       text = subst IsUtf8 same c.in-Ok.ensures.cases.1;
     }

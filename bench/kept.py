@@ -1,6 +1,7 @@
 #!/usr/bin/env python3
 """What a store in a file keeps, in instructions by valgrind's count: `list` and `@latest` of 200 and 2,000 paths, asked in turn once and again;
-`@latest` of a path whose go.mod has as many retractions as one may; a `.zip` of each size, fetched once and again, where another was before.
+`@latest` of a path whose go.mod has as many retractions as one may; a `.zip` of each size, fetched once and again, where another was before;
+a GET of each other kind of a path with one version.
 
 Build the program first (`./goshelf --version`); it wants valgrind. With --program FILE it measures that program. The opening of a store does
 not count.
@@ -76,6 +77,9 @@ def main():
         file = os.path.join(folder, "zips.db")
         made(program, file, zips())
         told(program, file, "`@latest`, with the most retractions", [f"{WORST}/@latest"])
+        path = f"example.com/z{ZIPS[0]}"
+        for rest in ("@v/v1.0.0.mod", "@v/v1.0.0.info", "@v/list", "@latest"):
+            told(program, file, f"`{rest.rpartition('/')[2]}` of a path with one version", [f"{path}/{rest}"], [f"{WORST}/@v/v1.0.0.mod"])
         for size in ZIPS:
             told(program, file, f"a `.zip` of {size:,} bytes", [f"example.com/z{size}/@v/v1.0.0.zip"], [f"{WORST}/@v/v1.0.0.zip"])
         file = os.path.join(folder, "lists.db")

@@ -279,7 +279,7 @@ pub fn wrong_row_of<'a, S: Shelves + Drop>(
 }
 
 /// Returns the answer to a call.
-fn answered<S: Shelves>(alloc: Global, shelves: &mut S, call: &str) -> Result<String, Fail> {
+pub fn answered<S: Shelves>(alloc: Global, shelves: &mut S, call: &str) -> Result<String, Fail> {
     let (first, second) = (column(call, 1), column(call, 2));
     match column(call, 0) {
         "failures" => Ok(named(alloc, Ok(shelves.failures()))?),

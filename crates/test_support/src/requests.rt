@@ -259,7 +259,7 @@ fn put_rest(alloc: Global, gomod: &str, zip: &str, lines: &str) -> Result<String
 
 /// Returns the bytes of a request. `words` are its method, the letter of its key and its target; a PUT also has a go.mod, a zip and
 /// further header lines, in which `;` stands for the end of a line.
-pub fn request(
+fn request(
     alloc: Global,
     words: &str,
     gomod: &str,
@@ -313,14 +313,20 @@ fn replies(alloc: Global, row: &str) -> Result<String, AllocError> {
     Ok(text)
 }
 
-/// Whether the store answers the request or the stream in a row as the row says.
-pub fn is_answered<S: Shelves>(alloc: Global, shelves: &mut S, row: &str) -> Result<bool, Fail> {
+/// Returns the bytes that the store replies to the request or the stream in a row.
+pub fn replied<S: Shelves>(alloc: Global, shelves: &mut S, row: &str) -> Result<Vec<u8>, Fail> {
     let asked = asked(alloc, row)?;
-    let replies = replies(alloc, row)?;
     let mut reader = asked.as_bytes();
     let mut output = Vec::new(alloc);
     answer_all(alloc, &mut reader, &mut output, shelves)?;
-    Ok(output.as_slice() == replies.as_bytes())
+    Ok(output)
+}
+
+/// Whether the store answers the request or the stream in a row as the row says.
+pub fn is_answered<S: Shelves>(alloc: Global, shelves: &mut S, row: &str) -> Result<bool, Fail> {
+    let replies = replies(alloc, row)?;
+    let replied = replied(alloc, shelves, row)?;
+    Ok(replied.as_slice() == replies.as_bytes())
 }
 
 /// Returns the requests of a script in one stream, and the replies to them.

@@ -1,10 +1,10 @@
 //! Connections that have tables before a store adopts them.
-use sqlite::{Connection, Error, MemStore};
-use std::alloc::Global;
+use sqlite::{Alter, Connection, Error};
+use std::alloc::{AllocError, Global};
 use std::test::Fail;
-use store::refusal::Refusal;
 use store::store::SqlShelves;
-use test_support::calls::wrong_row_of;
+use test_support::calls::wrong_row;
+use test_support::rows::column;
 
 /// The statements that make the tables of the schema.
 const TABLES: &str = "\
@@ -24,14 +24,24 @@ INSERT INTO version VALUES (7, 'common', 'example.com/lib', 'v1.0.0', NULL, X'6d
 INSERT INTO piece VALUES (7, 0, X'5A');
 ";
 
-/// Statements that make tables outside the schema in an empty connection.
-const FOREIGN: &str = "\
+/// Tables that are adopted, in sections with `====` between them. The first line of a section has the tables that are there, the
+/// outcome of adopting them, and the script that the store then answers. Each other line has the statements that change the tables
+/// before. `FULL` is the 65,536 bytes of a full piece.
+///
+/// - Tables outside the schema, a transaction that is open, and tables of a schema that is changed: columns of `shelf`, columns, keys
+///   and checks of others, the order and the text of tables.
+/// - Rows that stand for no world; then rows that do: other shelves and parents, a key of a group, another version, an empty zip, zips
+///   of one full piece and of a byte more, and the last table made again as it was.
+/// - Rows of which one has the last rowid, and one the first too; and a limit of one step.
+pub const CASES: &str = "\
+empty|BadSchema None
 CREATE TABLE x (a INTEGER) STRICT
 CREATE TABLE body (id INTEGER PRIMARY KEY, zip BLOB NOT NULL) STRICT
-";
-
-/// Statements that turn the tables into others: the first four change columns of `shelf`, the last two the order and the text of tables.
-const OTHERS: &str = "\
+====
+empty|Device None
+BEGIN
+====
+tables|BadSchema Some(0)
 DROP TABLE piece;DROP TABLE version;DROP TABLE access;DROP TABLE shelf;CREATE TABLE shelf (name TEXT PRIMARY KEY) STRICT;CREATE TABLE access (token TEXT PRIMARY KEY, shelf TEXT NOT NULL REFERENCES shelf (name), publish INTEGER NOT NULL CHECK (publish IN (0, 1))) STRICT;CREATE TABLE version (id INTEGER PRIMARY KEY, shelf TEXT NOT NULL REFERENCES shelf (name), path TEXT NOT NULL, version TEXT NOT NULL, time TEXT, mod BLOB NOT NULL, order_key BLOB NOT NULL, rank_key BLOB NOT NULL, UNIQUE (shelf, path, version)) STRICT;CREATE TABLE piece (version INTEGER NOT NULL REFERENCES version (id), number INTEGER NOT NULL CHECK (number >= 0), bytes BLOB NOT NULL, PRIMARY KEY (version, number)) STRICT
 DROP TABLE piece;DROP TABLE version;DROP TABLE access;DROP TABLE shelf;CREATE TABLE shelf (name TEXT PRIMARY KEY, parent TEXT) STRICT;CREATE TABLE access (token TEXT PRIMARY KEY, shelf TEXT NOT NULL REFERENCES shelf (name), publish INTEGER NOT NULL CHECK (publish IN (0, 1))) STRICT;CREATE TABLE version (id INTEGER PRIMARY KEY, shelf TEXT NOT NULL REFERENCES shelf (name), path TEXT NOT NULL, version TEXT NOT NULL, time TEXT, mod BLOB NOT NULL, order_key BLOB NOT NULL, rank_key BLOB NOT NULL, UNIQUE (shelf, path, version)) STRICT;CREATE TABLE piece (version INTEGER NOT NULL REFERENCES version (id), number INTEGER NOT NULL CHECK (number >= 0), bytes BLOB NOT NULL, PRIMARY KEY (version, number)) STRICT
 DROP TABLE piece;DROP TABLE version;DROP TABLE access;DROP TABLE shelf;CREATE TABLE shelf (name TEXT PRIMARY KEY, parent TEXT NOT NULL REFERENCES shelf (name)) STRICT;CREATE TABLE access (token TEXT PRIMARY KEY, shelf TEXT NOT NULL REFERENCES shelf (name), publish INTEGER NOT NULL CHECK (publish IN (0, 1))) STRICT;CREATE TABLE version (id INTEGER PRIMARY KEY, shelf TEXT NOT NULL REFERENCES shelf (name), path TEXT NOT NULL, version TEXT NOT NULL, time TEXT, mod BLOB NOT NULL, order_key BLOB NOT NULL, rank_key BLOB NOT NULL, UNIQUE (shelf, path, version)) STRICT;CREATE TABLE piece (version INTEGER NOT NULL REFERENCES version (id), number INTEGER NOT NULL CHECK (number >= 0), bytes BLOB NOT NULL, PRIMARY KEY (version, number)) STRICT
@@ -52,10 +62,8 @@ DROP TABLE piece;CREATE TABLE body (id INTEGER PRIMARY KEY REFERENCES version (i
 DROP TABLE meta;CREATE TABLE meta (name TEXT PRIMARY KEY, value INTEGER NOT NULL)
 DROP TABLE piece;DROP TABLE version;DROP TABLE access;CREATE TABLE version (id INTEGER PRIMARY KEY, shelf TEXT NOT NULL REFERENCES shelf (name), path TEXT NOT NULL, version TEXT NOT NULL, time TEXT, mod BLOB NOT NULL, order_key BLOB NOT NULL, rank_key BLOB NOT NULL, UNIQUE (shelf, path, version)) STRICT;CREATE TABLE access (token TEXT PRIMARY KEY, shelf TEXT NOT NULL REFERENCES shelf (name), publish INTEGER NOT NULL CHECK (publish IN (0, 1))) STRICT;CREATE TABLE piece (version INTEGER NOT NULL REFERENCES version (id), number INTEGER NOT NULL CHECK (number >= 0), bytes BLOB NOT NULL, PRIMARY KEY (version, number)) STRICT
 DROP TABLE piece;DROP TABLE version;DROP TABLE access;CREATE TABLE access (token TEXT PRIMARY KEY, shelf TEXT NOT NULL REFERENCES shelf (name), publish INTEGER NOT NULL CHECK (publish = 0 OR publish = 1)) STRICT;CREATE TABLE version (id INTEGER PRIMARY KEY, shelf TEXT NOT NULL REFERENCES shelf (name), path TEXT NOT NULL, version TEXT NOT NULL, time TEXT, mod BLOB NOT NULL, order_key BLOB NOT NULL, rank_key BLOB NOT NULL, UNIQUE (shelf, path, version)) STRICT;CREATE TABLE piece (version INTEGER NOT NULL REFERENCES version (id), number INTEGER NOT NULL CHECK (number >= 0), bytes BLOB NOT NULL, PRIMARY KEY (version, number)) STRICT
-";
-
-/// Statements that make the rows stand for no world.
-const UNFIT: &str = "\
+====
+rows|BadSchema Some(1)
 DELETE FROM meta
 UPDATE meta SET value = 2
 UPDATE meta SET name = 'Schema'
@@ -96,15 +104,8 @@ UPDATE version SET order_key = X''
 UPDATE version SET rank_key = order_key
 UPDATE version SET order_key = rank_key, rank_key = order_key
 UPDATE version SET version = 'v1.0.1'
-";
-
-/// Makes the last table again, as it was.
-const MADE_AGAIN: &str =
-    "DROP TABLE piece;CREATE TABLE piece (version INTEGER NOT NULL REFERENCES version (id), number INTEGER NOT NULL CHECK (number >= 0), bytes BLOB NOT NULL, PRIMARY KEY (version, number)) STRICT;INSERT INTO piece VALUES (7, 0, X'5A')";
-
-/// Statements that keep the rows those of a world: other shelves and parents, a key of a group, another version, an empty zip, and
-/// zips of one full piece and of a byte more.
-const FIT: &str = "\
+====
+rows|answers
 INSERT INTO shelf VALUES ('beta', 'common')
 INSERT INTO shelf VALUES ('beta', 'platform')
 INSERT INTO shelf VALUES ('beta', NULL)
@@ -117,15 +118,28 @@ UPDATE version SET version = 'v0.0.0-20240229123456-0123456789ab', time = '2024-
 DELETE FROM piece
 UPDATE piece SET bytes = X'FULL'
 UPDATE piece SET bytes = X'FULL';INSERT INTO piece VALUES (7, 1, X'5A')
+DROP TABLE piece;CREATE TABLE piece (version INTEGER NOT NULL REFERENCES version (id), number INTEGER NOT NULL CHECK (number >= 0), bytes BLOB NOT NULL, PRIMARY KEY (version, number)) STRICT;INSERT INTO piece VALUES (7, 0, X'5A')
+====
+rows|answers|KEPT
+
+====
+rows|answers|BELOW
+INSERT INTO version VALUES (9223372036854775807, 'common', 'example.com/lib', 'v1.1.0', NULL, X'6d6f64756c65206578616d706c652e636f6d2f6c69620a', X'00000000000000010000000000000001000000000000000003', X'0300000000000000010000000000000001000000000000000003');INSERT INTO piece VALUES (9223372036854775807, 0, X'5959')
+====
+rows|answers|NONE_BELOW
+INSERT INTO version VALUES (9223372036854775807, 'common', 'example.com/lib', 'v1.1.0', NULL, X'6d6f64756c65206578616d706c652e636f6d2f6c69620a', X'00000000000000010000000000000001000000000000000003', X'0300000000000000010000000000000001000000000000000003');INSERT INTO piece VALUES (9223372036854775807, 0, X'5959');INSERT INTO version SELECT -9223372036854775808, shelf, path, 'v1.2.0', time, mod, X'00000000000000010000000000000002000000000000000003', X'0300000000000000010000000000000002000000000000000003' FROM version WHERE id = 7;INSERT INTO piece VALUES (-9223372036854775808, 0, X'5A')
+====
+limited|Device None
+
 ";
 
-const ONE_MORE: &str =
-    "INSERT INTO version SELECT 1, shelf, path, 'v1.0.1', NULL, mod, X'00000000000000010000000000000000000000000000000103', X'0300000000000000010000000000000000000000000000000103' FROM version WHERE id = 7";
+/// Rows of 4,096 versions of a path, and one more.
+pub const MOST: &str = "\
+most|answers
 
-/// Adds a version with the last rowid.
-const LAST: &str = "\
-INSERT INTO version VALUES (9223372036854775807, 'common', 'example.com/lib', 'v1.1.0', NULL, X'6d6f64756c65206578616d706c652e636f6d2f6c69620a', X'00000000000000010000000000000001000000000000000003', X'0300000000000000010000000000000001000000000000000003');
-INSERT INTO piece VALUES (9223372036854775807, 0, X'5959');
+====
+most|BadSchema Some(4097)
+INSERT INTO version SELECT 1, shelf, path, 'v1.0.1', NULL, mod, X'00000000000000010000000000000000000000000000000103', X'0300000000000000010000000000000000000000000000000103' FROM version WHERE id = 7
 ";
 
 /// Publishes into tables of which one row has the last rowid, and reads what they stored.
@@ -138,12 +152,6 @@ GET A example.com/own/@v/v1.1.0.zip | 200 OK | zip | b
 GET A example.com/lib/@v/v1.0.0.zip | 200 OK | zip | Z
 GET A example.com/lib/@v/v1.1.0.zip | 200 OK | zip | YY
 failures = 0
-";
-
-/// Adds a version with the first rowid.
-const FIRST: &str = "\
-INSERT INTO version SELECT -9223372036854775808, shelf, path, 'v1.2.0', time, mod, X'00000000000000010000000000000002000000000000000003', X'0300000000000000010000000000000002000000000000000003' FROM version WHERE id = 7;
-INSERT INTO piece VALUES (-9223372036854775808, 0, X'5A');
 ";
 
 /// A publish into tables of which one row has the last rowid and one the first.
@@ -167,179 +175,116 @@ entry|alpha|example.com/lib|v1.0.0 = common|module example.com/lib;|Z|
 failures = 0
 ";
 
-/// Makes tables and rows, and then runs statements that change them.
-fn prepare(
-    conn: &mut Connection<MemStore>,
-    tables: &str,
-    rows: &str,
-    sql: &str,
-) -> Result<(), Error> {
-    conn.execute_batch(tables)?;
-    conn.execute_batch(rows)?;
-    conn.execute_batch(sql)
-}
-
-fn versions_in(conn: &mut Connection<MemStore>) -> Result<i64, Error> {
-    conn.query_row("SELECT count(*) FROM version", &[])?.get(0)
-}
-
-/// Returns how many versions a connection has that was handed back, or None if it does not say.
-fn versions_left(conn: Connection<MemStore>) -> Option<i64> {
-    let mut conn = conn;
-    versions_in(&mut conn).ok()
-}
-
-/// The outcome of adopting a connection: the first row of a script that the store answers otherwise, or why it was refused and how
-/// many versions the connection has after that.
-type Told<'a> = Result<&'a str, (Refusal, Option<i64>)>;
-
-/// Adopts a connection, and runs a script on the store.
-fn told_of<'a>(
-    alloc: Global,
-    conn: Connection<MemStore>,
-    script: &'a str,
-) -> Result<Told<'a>, Fail> {
-    match SqlShelves::adopt(alloc, conn) {
-        Ok(shelves) => Ok(Ok(wrong_row_of(alloc, shelves, script)?)),
-        Err((refusal, conn)) => Ok(Err((refusal, versions_left(conn)))),
+/// Returns the script of this name, and the empty script if no name is given. It fails if there is no such script.
+fn script(name: &str) -> Result<&'static str, Fail> {
+    match name {
+        "" => Ok(""),
+        "BELOW" => Ok(BELOW),
+        "KEPT" => Ok(KEPT),
+        "NONE_BELOW" => Ok(NONE_BELOW),
+        _ => Err(Fail::new("no such script")),
     }
 }
 
-/// Adopts a connection with these tables and rows, after statements have changed them and with this limit of steps a statement, and
-/// runs a script on the store.
-fn adopted<'a>(
-    alloc: Global,
-    tables: &str,
-    rows: &str,
-    sql: &str,
-    steps: Option<u64>,
-    script: &'a str,
-) -> Result<Told<'a>, Fail> {
-    let mut conn = Connection::open_in_memory(alloc)?;
-    let prepared = prepare(&mut conn, tables, rows, sql);
-    conn.set_step_limit(steps);
-    let told = told_of(alloc, conn, script)?;
-    prepared?;
-    Ok(told)
-}
-
-/// Returns why the tables and rows are refused after statements have changed them, or None if they are taken.
-fn refusal_after(
-    alloc: Global,
-    tables: &str,
-    rows: &str,
-    sql: &str,
-) -> Result<Option<Refusal>, Fail> {
-    match adopted(alloc, tables, rows, sql, None, KEPT)? {
-        Ok(_) => Ok(None),
-        Err((refusal, _)) => Ok(Some(refusal)),
-    }
-}
-
-/// Whether after each of these statements the tables are refused for this reason, or taken for None. `FULL` stands for the 65,536
-/// bytes of a full piece.
-fn are_told(
-    alloc: Global,
-    tables: &str,
-    rows: &str,
-    statements: &str,
-    told: Option<Refusal>,
-) -> Result<bool, Fail> {
-    let full = "5A".repeat(alloc, 65536)?;
-    for line in statements.lines() {
-        let sql = line.replace(alloc, "FULL", full.as_str())?;
-        if refusal_after(alloc, tables, rows, sql.as_str())? != told {
-            return Ok(false);
-        }
-    }
-    Ok(true)
-}
-
-/// Whether after each of these statements the tables are refused as `BadSchema`.
-fn are_bad(alloc: Global, tables: &str, rows: &str, statements: &str) -> Result<bool, Fail> {
-    are_told(alloc, tables, rows, statements, Some(Refusal::BadSchema))
-}
-
-#[test]
-fn bad_tables_are_refused(rt: HostRuntime) -> Result<(), Fail> {
-    let alloc = rt.alloc();
-    assert!(rt; are_bad(alloc, "", "", FOREIGN)?);
-    assert!(rt; are_bad(alloc, TABLES, "", OTHERS)?);
-    assert!(rt; are_bad(alloc, TABLES, ROWS, UNFIT)?);
-    assert!(rt; are_told(alloc, TABLES, ROWS, FIT, None)?);
-    assert_eq!(rt; refusal_after(alloc, TABLES, ROWS, MADE_AGAIN)?, None);
-    Ok(())
-}
-
-/// Returns statements that make 4,096 versions of a path.
-fn most_rows(alloc: Global) -> Result<String, Fail> {
-    let mut rows = String::from_str(alloc, ROWS)?;
+/// Adds statements that make 4,096 versions of a path out of one.
+fn put_most(statements: &mut String) -> Result<(), AllocError> {
     for n in 1..4096_u64 {
         write!(
-            rows,
+            statements,
             "INSERT INTO version SELECT 7 + {n}, shelf, path, 'v1.{n}.0', NULL, mod, \
              X'0000000000000001{n:016x}000000000000000003', X'030000000000000001{n:016x}000000000000000003' FROM version WHERE id = 7;"
         )?;
     }
-    Ok(rows)
-}
-
-#[test]
-fn at_most_4096_versions_of_a_path_are_taken(rt: HostRuntime) -> Result<(), Fail> {
-    let alloc = rt.alloc();
-    let rows = most_rows(alloc)?;
-    assert_eq!(rt; refusal_after(alloc, TABLES, rows.as_str(), "")?, None);
-    assert_eq!(rt;
-        refusal_after(alloc, TABLES, rows.as_str(), ONE_MORE)?,
-        Some(Refusal::BadSchema)
-    );
     Ok(())
 }
 
-#[test]
-fn tables_that_are_there_are_kept(rt: HostRuntime) -> Result<(), Fail> {
-    assert!(rt; adopted(rt.alloc(), TABLES, ROWS, "", None, KEPT)? == Ok(""));
-    Ok(())
+/// Returns the statements that make the tables, change them, and leave them to be adopted.
+fn statements_of(alloc: Global, tables: &str, changes: &str) -> Result<String, AllocError> {
+    let mut statements = String::new(alloc);
+    if tables != "empty" {
+        statements.push_str(TABLES)?;
+    }
+    if tables != "empty" && tables != "tables" {
+        statements.push_str(ROWS)?;
+    }
+    if tables == "most" {
+        put_most(&mut statements)?;
+    }
+    let full = "5A".repeat(alloc, 65536)?;
+    statements.push_str(changes.replace(alloc, "FULL", full.as_str())?.as_str())?;
+    Ok(statements)
 }
 
-#[test]
-fn a_version_finds_a_number_below_the_lowest(rt: HostRuntime) -> Result<(), Fail> {
-    let alloc = rt.alloc();
-    assert_eq!(rt; adopted(alloc, TABLES, ROWS, LAST, None, BELOW)?, Ok(""));
-    let both = format!(in alloc; "{LAST}{FIRST}")?;
-    assert_eq!(rt;
-        adopted(alloc, TABLES, ROWS, both.as_str(), None, NONE_BELOW)?,
-        Ok("")
-    );
-    Ok(())
+fn versions_in<S: Alter>(conn: &mut Connection<S>) -> Result<i64, Error> {
+    conn.query_row("SELECT count(*) FROM version", &[])?.get(0)
 }
 
-#[test]
-fn a_refused_connection_comes_back(rt: HostRuntime) -> Result<(), Fail> {
-    let told = adopted(
-        rt.alloc(),
-        TABLES,
-        ROWS,
-        "UPDATE piece SET number = 1",
-        None,
-        KEPT,
-    )?;
-    assert!(rt; told == Err((Refusal::BadSchema, Some(1))));
-    Ok(())
+/// Runs a script on a store, and returns `answers`, or the first row that the store answers otherwise.
+fn answered<S: Alter>(
+    alloc: Global,
+    shelves: &mut SqlShelves<S>,
+    script: &str,
+) -> Result<String, Fail> {
+    let row = wrong_row(alloc, shelves, script)?;
+    Ok(String::from_str(alloc, if row == "" { "answers" } else { row })?)
 }
 
-#[test]
-fn a_connection_in_a_transaction_is_refused(rt: HostRuntime) -> Result<(), Fail> {
-    assert_eq!(rt;
-        refusal_after(rt.alloc(), "", "", "BEGIN")?,
-        Some(Refusal::Device)
-    );
-    Ok(())
+/// Adopts a connection, and runs a script on the store. If the connection is refused, returns why, and how many versions it has after
+/// that, if it says so.
+fn adopted<S: Alter + Drop>(
+    alloc: Global,
+    conn: Connection<S>,
+    script: &str,
+) -> Result<String, Fail> {
+    match SqlShelves::adopt(alloc, conn) {
+        Ok(mut shelves) => {
+            let told = answered(alloc, &mut shelves, script);
+            shelves.close();
+            told
+        }
+        Err((refusal, mut conn)) => {
+            let left = versions_in(&mut conn).ok();
+            Ok(format!(in alloc; "{refusal:?} {left:?}")?)
+        }
+    }
 }
 
-#[test]
-fn a_connection_limited_in_its_steps_is_refused(rt: HostRuntime) -> Result<(), Fail> {
-    let told = adopted(rt.alloc(), TABLES, ROWS, "", Some(1), KEPT)?;
-    assert!(rt; matches!(told, Err((Refusal::Device, _))));
-    Ok(())
+/// Makes the tables of a heading, changes them, and returns the outcome of adopting them.
+fn outcome(alloc: Global, heading: &str, changes: &str) -> Result<String, Fail> {
+    let tables = column(heading, 0);
+    let script = script(column(heading, 2))?;
+    let statements = statements_of(alloc, tables, changes)?;
+    let mut conn = Connection::open_in_memory(alloc)?;
+    let is_made = conn.execute_batch(statements.as_str()).is_ok();
+    if tables == "limited" {
+        conn.set_step_limit(Some(1));
+    }
+    let outcome = adopted(alloc, conn, script)?;
+    if !is_made {
+        return Err(Fail::new("the tables are not made"));
+    }
+    Ok(outcome)
+}
+
+/// Returns the first line of a section that has another outcome, with its outcome, or the empty text.
+fn wrong_line(alloc: Global, section: &str) -> Result<String, Fail> {
+    let (heading, lines) = section.split_once('\n').ok_or("a section of no line")?;
+    for line in lines.lines() {
+        let outcome = outcome(alloc, heading, line)?;
+        if outcome.as_str() != column(heading, 1) {
+            return Ok(format!(in alloc; "{heading}: {line}: {}", outcome.as_str())?);
+        }
+    }
+    Ok(String::new(alloc))
+}
+
+/// Returns the first line of the sections that has another outcome, with its outcome, or the empty text.
+pub fn wrong_case(alloc: Global, sections: &str) -> Result<String, Fail> {
+    for section in sections.split("====\n") {
+        let wrong = wrong_line(alloc, section)?;
+        if !wrong.is_empty() {
+            return Ok(wrong);
+        }
+    }
+    Ok(String::new(alloc))
 }

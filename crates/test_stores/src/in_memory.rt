@@ -1,8 +1,9 @@
-//! Scripts, each run on new tables in memory.
-use std::alloc::Global;
+//! The tests.
+use crate::adopted_tables::{CASES, MOST, wrong_case};
+use crate::extracts::EXTRACTS;
+use crate::stores::wrong_row_of_all;
 use std::test::Fail;
-use store::store::SqlShelves;
-use test_support::calls::{CALLS, wrong_row_of};
+use test_support::calls::CALLS;
 use test_support::requests::REQUESTS;
 
 /// The tables refuse a second row for a version, and the store counts that as a failure.
@@ -15,15 +16,24 @@ failures = 1
 count|common|example.com/lib = 1
 ";
 
-fn wrong_row_of_tables<'a>(alloc: Global, script: &'a str) -> Result<&'a str, Fail> {
-    wrong_row_of(alloc, SqlShelves::open_memory(alloc)?, script)
+#[test]
+fn tables_in_memory_answer(rt: HostRuntime) -> Result<(), Fail> {
+    for scripts in [CALLS, REQUESTS, SECOND_ROW, EXTRACTS] {
+        assert_eq!(rt; wrong_row_of_all(rt.alloc(), scripts)?, "");
+    }
+    Ok(())
 }
 
 #[test]
-fn tables_in_memory_answer(rt: HostRuntime) -> Result<(), Fail> {
-    for script in CALLS.split("====\n").chain(REQUESTS.split("====\n")) {
-        assert_eq!(rt; wrong_row_of_tables(rt.alloc(), script)?, "");
-    }
-    assert_eq!(rt; wrong_row_of_tables(rt.alloc(), SECOND_ROW)?, "");
+fn tables_are_adopted_or_refused(rt: HostRuntime) -> Result<(), Fail> {
+    let wrong = wrong_case(rt.alloc(), CASES)?;
+    assert!(rt; wrong.is_empty(), "{wrong}");
+    Ok(())
+}
+
+#[test]
+fn at_most_4096_versions_of_a_path_are_adopted(rt: HostRuntime) -> Result<(), Fail> {
+    let wrong = wrong_case(rt.alloc(), MOST)?;
+    assert!(rt; wrong.is_empty(), "{wrong}");
     Ok(())
 }

@@ -1,6 +1,8 @@
-//! The worked examples of stores over tables in memory: tables that are adopted or refused, and stores made from parts of others.
+//! The worked examples of stores over tables in memory: scripts of calls and requests, stores made from parts of others, and tables
+//! that are adopted or refused.
 //!
-//! Each table is a text whose lines are rows.
+//! Each table is a text whose lines are rows. What makes a store also closes it, since a function that drops a store has to prove the
+//! dropping of all its parts, at each of its exits.
 #![tactic(auto)]
 
 #[cfg(test)]
@@ -9,3 +11,5 @@ mod adopted_tables;
 mod extracts;
 #[cfg(test)]
 mod in_memory;
+#[cfg(test)]
+mod stores;

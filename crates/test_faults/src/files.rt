@@ -1,4 +1,4 @@
-//! Files that are lent to a store, and the calls that the store makes of them.
+//! Files that count the calls that a store makes of them.
 use sqlite_disk::{Disk, Tally};
 use std::alloc::Global;
 use std::io;
@@ -29,37 +29,37 @@ impl Calls {
     }
 }
 
-/// A file that is lent: its owner has it back once the borrower has ended.
+/// A file, and the calls that were made of it.
 #[derive(Drop)]
-pub struct Lent<'a, D: Disk> {
-    pub file: &'a mut D,
-    pub calls: &'a mut Calls,
+pub struct Counted<D: Disk> {
+    pub file: D,
+    pub calls: Calls,
 }
 
-impl<'a, D: Disk> Disk for Lent<'a, D> {
-    ghost seen = { λ l. D.Disk.seen l.file.now };
+impl<D: Disk> Disk for Counted<D> {
+    ghost seen = { λ c. D.Disk.seen c.file };
 
-    ghost may_leave = { λ l. D.Disk.may_leave l.file.now };
+    ghost may_leave = { λ c. D.Disk.may_leave c.file };
 
-    ghost is_usable = { λ l. D.Disk.is_usable l.file.now };
+    ghost is_usable = { λ c. D.Disk.is_usable c.file };
 
-    ghost faults = { λ l. D.Disk.faults l.file.now };
+    ghost faults = { λ c. D.Disk.faults c.file };
 
-    ghost tally_of = { λ l. D.Disk.tally_of l.file.now };
+    ghost tally_of = { λ c. D.Disk.tally_of c.file };
 
-    ghost is_rotten = { λ l. D.Disk.is_rotten l.file.now };
+    ghost is_rotten = { λ c. D.Disk.is_rotten c.file };
 
-    ghost key_of = { λ l. D.Disk.key_of l.file.now };
+    ghost key_of = { λ c. D.Disk.key_of c.file };
 
-    ghost is_clean = { λ l. D.Disk.is_clean l.file.now };
+    ghost is_clean = { λ c. D.Disk.is_clean c.file };
 
-    ghost is_fair = { λ l. D.Disk.is_fair l.file.now };
+    ghost is_fair = { λ c. D.Disk.is_fair c.file };
 
-    ghost fair_if_clean = { λ l. D.Disk.fair_if_clean l.file.now };
+    ghost fair_if_clean = { λ c. D.Disk.fair_if_clean c.file };
 
-    ghost seen_may_stay = { λ l. D.Disk.seen_may_stay l.file.now };
+    ghost seen_may_stay = { λ c. D.Disk.seen_may_stay c.file };
 
-    ghost is_mixing = { λ l. D.Disk.is_mixing l.file.now };
+    ghost is_mixing = { λ c. D.Disk.is_mixing c.file };
 
     fn mixes(&self) -> bool {
         self.file.mixes()

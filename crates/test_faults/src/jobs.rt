@@ -1,7 +1,7 @@
 //! Jobs to do with a store. One type describes them all, so that the store in a file is passed to only one function.
 use crate::import::imported;
 use crate::requests::answered;
-use crate::steps::{ALL, SETUP, done};
+use crate::steps::{done, set_up};
 use crate::worlds::told_by;
 use sqlite::Alter;
 use std::alloc::Global;
@@ -17,7 +17,7 @@ pub enum Kind {
     Steps,
     /// Imports the rows of a list. Each row has a bit.
     Import,
-    /// Extracts alpha's part of a store in memory on which the steps of [`SETUP`] were done.
+    /// Extracts alpha's part of a store in memory on which the steps of `SETUP` were done.
     Extract,
     /// Answers the requests, if any bit is chosen, and notes each row that is answered wrong.
     Sweep,
@@ -45,50 +45,55 @@ impl<'a> Job<'a> {
     }
 }
 
-/// Does the parts of a job whose bits are chosen, and returns the bits of those that were acknowledged. Then drops the store.
-pub fn do_job<S: Alter + Drop>(
+/// Does the parts of a job whose bits are chosen, and returns the bits of those that were acknowledged.
+pub fn do_job<S: Alter>(
     alloc: Global,
-    mut shelves: SqlShelves<S>,
+    shelves: &mut SqlShelves<S>,
     job: &mut Job,
     chosen: u8,
 ) -> Result<u8, Fail> {
     if job.kind == Kind::Extract && chosen != 0 {
-        let whole = SqlShelves::open_memory(alloc)?;
-        return extracted(alloc, whole, &mut shelves);
+        return take_part(alloc, shelves);
     }
     do_on_shelves(alloc, shelves, job, chosen)
 }
 
-/// Does the steps of [`SETUP`] on a store, extracts alpha's part of it, and returns 1 if that is done. Then drops the store.
-fn extracted<T: Alter + Drop, S: Alter>(
+/// Extracts alpha's part of a store in memory, and returns 1 if that is done.
+fn take_part<S: Alter>(alloc: Global, fresh: &mut SqlShelves<S>) -> Result<u8, Fail> {
+    let mut whole = SqlShelves::open_memory(alloc)?;
+    let done = extracted(alloc, &mut whole, fresh);
+    whole.close();
+    done
+}
+
+/// Does the steps of `SETUP` on a store, extracts alpha's part of it, and returns 1 if that is done.
+fn extracted<T: Alter, S: Alter>(
     alloc: Global,
-    mut whole: SqlShelves<T>,
+    whole: &mut SqlShelves<T>,
     fresh: &mut SqlShelves<S>,
 ) -> Result<u8, Fail> {
-    if done(alloc, &mut whole, SETUP, ALL)? != ALL {
-        return Err(Fail::new("the steps before are not done"));
-    }
+    set_up(alloc, whole)?;
     Ok(u8::from(whole.extract("alpha", fresh).is_ok()))
 }
 
-/// Does a job that any shelves can do, and returns the bits of the parts that were acknowledged. Then drops the shelves.
-fn do_on_shelves<S: Shelves + Drop>(
+/// Does a job that any shelves can do, and returns the bits of the parts that were acknowledged.
+fn do_on_shelves<S: Shelves>(
     alloc: Global,
-    mut shelves: S,
+    shelves: &mut S,
     job: &mut Job,
     chosen: u8,
 ) -> Result<u8, Fail> {
     match job.kind {
-        Kind::Steps => done(alloc, &mut shelves, job.rows, chosen),
-        Kind::Import => imported(alloc, &mut shelves, chosen),
+        Kind::Steps => done(alloc, shelves, job.rows, chosen),
+        Kind::Import => imported(alloc, shelves, chosen),
         Kind::Sweep if chosen != 0 => answered(
             alloc,
-            &mut shelves,
+            shelves,
             MapShelves::new(alloc)?,
             job.rows,
             &mut job.told,
         ),
-        Kind::Look => told_by(alloc, &mut shelves, &mut job.told),
+        Kind::Look => told_by(alloc, shelves, &mut job.told),
         _ => Ok(0),
     }
 }

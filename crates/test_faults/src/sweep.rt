@@ -2,22 +2,22 @@
 //! the requests that the store did not answer with the 503.
 use crate::jobs::{Job, Kind};
 use crate::open::{Left, NO_STOP, left_by, stop_at};
-use crate::requests::wrong_status;
+use crate::requests::wrong_reply;
 use crate::stops::prepared;
 use std::alloc::Global;
 use std::test::Fail;
 use world::map_shelves::MapShelves;
 
-/// Requests, with the status that each gets if no call fails.
+/// Requests, with the reply that each gets if no call fails.
 const REQUESTS: &str = "\
-PUT A example.com/lib/@v/v1.1.0|module example.com/lib;|zip = 201
-GET A example.com/lib/@v/v1.1.0.zip = 200
-GET B example.com/lib/@v/v1.1.0.zip = 404
-PUT C example.com/new/@v/v1.0.0|module example.com/new;|zip = 201
-PUT A example.com/lib/@v/v1.1.0|module example.com/lib;|zip = 200
-PUT B example.com/lib/@v/v1.0.0|module example.com/lib;|other = 201
-GET A example.com/new/@v/list = 200
-GET A -/modules = 200
+PUT A example.com/lib/@v/v1.1.0 | 201 Created | plain | published; | module example.com/lib; | zip
+GET A example.com/lib/@v/v1.1.0.zip | 200 OK | zip | zip
+GET B example.com/lib/@v/v1.1.0.zip | 404 Not Found | plain | not found;
+PUT C example.com/new/@v/v1.0.0 | 201 Created | plain | published; | module example.com/new; | zip
+PUT A example.com/lib/@v/v1.1.0 | 200 OK | plain | already published; | module example.com/lib; | zip
+PUT B example.com/lib/@v/v1.0.0 | 201 Created | plain | published; | module example.com/lib; | other
+GET A example.com/new/@v/list | 200 OK | plain | v1.0.0;
+GET A -/modules | 200 OK | plain | example.com/lib;example.com/new;example.com/x;
 ";
 
 /// The most calls that a run makes of a file.
@@ -31,9 +31,15 @@ const COUNT: u8 = 8;
 fn wrong_of(alloc: Global, of_log: bool) -> Result<String, Fail> {
     let before = prepared(alloc)?;
     let mut sweep = Job::new(alloc, Kind::Sweep, REQUESTS);
-    let opened = left_by(alloc, &before, &mut sweep, 0, NO_STOP)?;
+    let opened = left_by(alloc, before.written(), &mut sweep, 0, NO_STOP)?;
     for calls in calls_of(&opened, of_log)..MOST {
-        let left = left_by(alloc, &before, &mut sweep, 1, stop_at(calls, of_log))?;
+        let left = left_by(
+            alloc,
+            before.written(),
+            &mut sweep,
+            1,
+            stop_at(calls, of_log),
+        )?;
         if !left.is_stopped && left.acknowledged != COUNT {
             sweep.told.push_str("not all are answered")?;
         }
@@ -56,7 +62,7 @@ fn calls_of(left: &Left, of_log: bool) -> u64 {
 #[test]
 fn maps_answer_as_the_rows_tell(rt: HostRuntime) -> Result<(), Fail> {
     assert_eq!(rt;
-        wrong_status(rt.alloc(), MapShelves::new(rt.alloc())?, REQUESTS)?,
+        wrong_reply(rt.alloc(), MapShelves::new(rt.alloc())?, REQUESTS)?,
         ""
     );
     assert_eq!(rt; REQUESTS.lines().count(), usize::from(COUNT));

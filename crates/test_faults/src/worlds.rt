@@ -1,110 +1,75 @@
 //! Writes down the world of a store.
-use crate::jobs::{Job, Kind};
-use crate::open::on_whole_files;
-use modpath::ModulePath;
-use modver::Version;
-use sqlite::Files;
-use sqlite_disk::Memory;
 use std::alloc::Global;
-use std::str::from_utf8;
 use std::test::Fail;
+use test_support::calls::answered;
 use world::shelves::Shelves;
 
-/// The names that the rows use.
-const KEYS: &str =
-    "alphakey00000001 alphareader00001 betakey000000001 commonkey0000001 gammakey00000001 platformkey00001";
+/// Calls whose answers tell the world, as far as the names of the rows go: the keys, what each shelf sees, and for each shelf whether it
+/// exists and may be a team's group. The last calls add the shelves that do not exist, and a member of each group.
+const CALLS: &str = "\
+key|alphakey00000001
+key|alphareader00001
+key|betakey000000001
+key|commonkey0000001
+key|gammakey00000001
+key|platformkey00001
+paths|alpha
+versions|alpha|example.com/lib
+entry|alpha|example.com/lib|v1.0.0
+entry|alpha|example.com/lib|v1.1.0
+versions|alpha|example.com/new
+entry|alpha|example.com/new|v1.0.0
+entry|alpha|example.com/new|v1.1.0
+versions|alpha|example.com/x
+entry|alpha|example.com/x|v1.0.0
+entry|alpha|example.com/x|v1.1.0
+paths|beta
+versions|beta|example.com/lib
+entry|beta|example.com/lib|v1.0.0
+entry|beta|example.com/lib|v1.1.0
+versions|beta|example.com/new
+entry|beta|example.com/new|v1.0.0
+entry|beta|example.com/new|v1.1.0
+versions|beta|example.com/x
+entry|beta|example.com/x|v1.0.0
+entry|beta|example.com/x|v1.1.0
+paths|gamma
+versions|gamma|example.com/lib
+entry|gamma|example.com/lib|v1.0.0
+entry|gamma|example.com/lib|v1.1.0
+versions|gamma|example.com/new
+entry|gamma|example.com/new|v1.0.0
+entry|gamma|example.com/new|v1.1.0
+versions|gamma|example.com/x
+entry|gamma|example.com/x|v1.0.0
+entry|gamma|example.com/x|v1.1.0
+paths|platform
+versions|platform|example.com/lib
+entry|platform|example.com/lib|v1.0.0
+entry|platform|example.com/lib|v1.1.0
+versions|platform|example.com/new
+entry|platform|example.com/new|v1.0.0
+entry|platform|example.com/new|v1.1.0
+versions|platform|example.com/x
+entry|platform|example.com/x|v1.0.0
+entry|platform|example.com/x|v1.1.0
+team-add|alpha
+team-add|member|alpha
+team-add|beta
+team-add|member|beta
+team-add|gamma
+team-add|member|gamma
+team-add|platform
+team-add|member|platform
+team-add|tools
+team-add|member|tools
+";
 
-const TEAMS: &str = "alpha beta gamma platform tools";
-
-const SHELVES: &str = "alpha beta gamma platform";
-
-const PATHS: &str = "example.com/lib example.com/new example.com/x";
-
-const VERSIONS: &str = "v1.0.0 v1.1.0";
-
-/// Writes down the shelf and the right of a key.
-fn tell_key<S: Shelves>(shelves: &mut S, key: &str, told: &mut String) -> Result<(), Fail> {
-    if let Some(holder) = shelves.key(key)? {
-        write!(told, "{key} {} {:?}\n", holder.shelf.as_str(), holder.right)?;
-    }
-    Ok(())
-}
-
-/// Writes down the entry of a version.
-fn tell_entry<S: Shelves>(
-    shelves: &mut S,
-    shelf: &str,
-    path: &ModulePath,
-    version: &Version,
-    told: &mut String,
-) -> Result<(), Fail> {
-    if let Some(seen) = shelves.entry(shelf, path, version)? {
-        let entry = seen.entry.as_ref();
-        write!(told, "{} {}\n", seen.shelf.as_str(), entry.time.is_some())?;
-        told.push_str(from_utf8(entry.gomod)?)?;
-        told.push_str(from_utf8(entry.zip)?)?;
-    }
-    Ok(())
-}
-
-/// Writes down the versions of a path, and their entries.
-fn tell_path<S: Shelves>(
-    alloc: Global,
-    shelves: &mut S,
-    shelf: &str,
-    path: &str,
-    told: &mut String,
-) -> Result<(), Fail> {
-    let path = ModulePath::parse(alloc, path)?;
-    let lines = shelves.versions(shelf, &path)?.lines(alloc)?;
-    told.push_str(from_utf8(lines.as_slice())?)?;
-    for version in VERSIONS.split(' ') {
-        let version = Version::parse(alloc, version)?;
-        tell_entry(shelves, shelf, &path, &version, told)?;
-    }
-    Ok(())
-}
-
-/// Writes down what a shelf sees.
-fn tell_shelf<S: Shelves>(
-    alloc: Global,
-    shelves: &mut S,
-    shelf: &str,
-    told: &mut String,
-) -> Result<(), Fail> {
-    let lines = shelves.paths(shelf)?.lines(alloc)?;
-    told.push_str(from_utf8(lines.as_slice())?)?;
-    for path in PATHS.split(' ') {
-        tell_path(alloc, shelves, shelf, path, told)?;
-    }
-    Ok(())
-}
-
-/// Writes down for each shelf whether it exists and may be a team's group. It adds the shelves that do not exist, and a member of
-/// each group.
-fn tell_teams<S: Shelves>(shelves: &mut S, told: &mut String) -> Result<(), Fail> {
-    for team in TEAMS.split(' ') {
-        write!(told, "{team} {:?}\n", shelves.team_add(team, None)?)?;
-        write!(told, "{:?}\n", shelves.team_add("member", Some(team))?)?;
-    }
-    Ok(())
-}
-
-/// Writes down the world, as far as the names of the rows go, and returns 0, as nothing is acknowledged. It changes the store.
+/// Writes down the world, and returns 0, as nothing is acknowledged. It changes the store.
 pub fn told_by<S: Shelves>(alloc: Global, shelves: &mut S, told: &mut String) -> Result<u8, Fail> {
-    for key in KEYS.split(' ') {
-        tell_key(shelves, key, told)?;
+    for call in CALLS.lines() {
+        told.push_str(answered(alloc, shelves, call)?.as_str())?;
+        told.push_str("\n")?;
     }
-    for shelf in SHELVES.split(' ') {
-        tell_shelf(alloc, shelves, shelf, told)?;
-    }
-    tell_teams(shelves, told)?;
     Ok(0)
-}
-
-/// Returns the world of the store in two files, or the empty text if it cannot be opened.
-pub fn world_of(alloc: Global, files: Files<Memory>) -> Result<String, Fail> {
-    let mut look = Job::new(alloc, Kind::Look, "");
-    on_whole_files(alloc, files, &mut look)?;
-    Ok(look.told)
 }

@@ -1,5 +1,5 @@
 //! Messages of streams. (RFC 9112.)
-use crate::rows::{Subject, bytes, column, named, on_one_line, wrong_row};
+use crate::rows::{bytes, column, named, on_one_line};
 use std::alloc::{AllocError, Global};
 use std::test::Fail;
 use wire::{Bad, Framer, Memory, Message, Next, length_value};
@@ -10,7 +10,7 @@ use wire::{Bad, Framer, Memory, Message, Next, length_value};
 /// - `last`: a stream, its messages and end without its last byte, and then those with it. The stream repeats the second column as
 ///   often as the third says, and the fourth follows; the result shows the repeated part as `*`. A head has at most 64 headers and
 ///   16,384 bytes.
-const ROWS: &str = "\
+pub const ROWS: &str = "\
 length|0|0
 length|1|1
 length|23|23
@@ -187,11 +187,4 @@ pub fn given(alloc: Global, row: &str) -> Result<String, Fail> {
         return Ok(text);
     }
     Ok(text.replace(alloc, filling.as_str(), "*")?)
-}
-
-#[test]
-fn streams_give_messages(rt: HostRuntime) -> Result<(), Fail> {
-    let wrong = wrong_row(rt.alloc(), Subject::Framing, ROWS)?;
-    assert!(rt; wrong.is_empty(), "{wrong}");
-    Ok(())
 }

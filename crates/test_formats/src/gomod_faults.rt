@@ -1,5 +1,5 @@
 //! Which texts can be read as go.mod files, and the faults of the others. (Go Modules Reference, "go.mod files".)
-use crate::rows::{Subject, bytes, column, wrong_row};
+use crate::rows::{bytes, column};
 use gomod::{GoMod, GoModFault};
 use std::alloc::{AllocError, Global};
 use std::test::Fail;
@@ -7,7 +7,7 @@ use std::test::Fail;
 /// - `read`: a text, and its first fault as a go.mod; if it has none, `bare` if module is its only directive, and otherwise `more`.
 /// - `line`: a text, and the line of its fault.
 /// - `parentheses`: the text after 100,000 opening parentheses, and the fault of the whole.
-const ROWS: &str = "\
+pub const ROWS: &str = "\
 read||NoModule
 read|module example.com/a;retract [v1.1.0, v1.0.0];|Interval(2)
 read|module example.com/a;module example.com/b;|Twice(2)
@@ -157,11 +157,4 @@ pub fn given(alloc: Global, row: &str) -> Result<String, AllocError> {
         }
         _ => read(alloc, &text),
     }
-}
-
-#[test]
-fn texts_read_or_have_a_fault(rt: HostRuntime) -> Result<(), Fail> {
-    let wrong = wrong_row(rt.alloc(), Subject::GoModFaults, ROWS)?;
-    assert!(rt; wrong.is_empty(), "{wrong}");
-    Ok(())
 }

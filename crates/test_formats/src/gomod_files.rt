@@ -261,10 +261,8 @@ require (\r
 fn required(alloc: Global, module: &GoMod) -> Result<String, AllocError> {
     let mut words = String::new(alloc);
     for requirement in module.required() {
-        words.push_str(requirement.path.as_str())?;
-        words.push_str(" ")?;
-        words.push_str(requirement.version.as_str())?;
-        words.push_str(" ")?;
+        let (path, version) = (requirement.path.as_str(), requirement.version.as_str());
+        write!(words, "{path} {version} ")?;
     }
     Ok(words)
 }
@@ -294,8 +292,7 @@ fn says(alloc: Global, said: &str, text: &str) -> Result<bool, Fail> {
 fn with_retractions(alloc: Global) -> Result<String, AllocError> {
     let mut text = String::from_str(alloc, MANY)?;
     for minor in (0..300u32).rev() {
-        let interval = format!(in alloc; "[v1.{minor}.0, v1.{minor}.5]\n")?;
-        text.push_str(interval.as_str())?;
+        write!(text, "[v1.{minor}.0, v1.{minor}.5]\n")?;
     }
     text.push_str(")\n")?;
     Ok(text)

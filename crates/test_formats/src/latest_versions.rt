@@ -1,5 +1,5 @@
 //! The highest version, and the latest. (Go Modules Reference, "GOPROXY protocol", on `@latest`.)
-use crate::rows::{Subject, bytes, column, named, versions_of, wrong_row};
+use crate::rows::{bytes, column, named, versions_of};
 use gomod::GoMod;
 use latest::{latest, top};
 use std::alloc::Global;
@@ -7,7 +7,7 @@ use std::test::Fail;
 
 /// - `top`: versions, and the index of the highest, or `-` if there is none.
 /// - `latest`: versions, a go.mod, and the index of the highest that it does not retract, or `-` if there is none.
-const ROWS: &str = "\
+pub const ROWS: &str = "\
 top||-
 top|v1.0.0-rc.10 v1.0.0 v1.0.0-rc.2|1
 top|v1.0.0-rc.2 v1.0.0-rc.10|1
@@ -31,11 +31,4 @@ pub fn given(alloc: Global, row: &str) -> Result<String, Fail> {
     }
     let gomod = GoMod::read(alloc, &bytes(alloc, column(row, 2))?)?;
     Ok(named(alloc, latest(list.as_slice(), &gomod))?)
-}
-
-#[test]
-fn versions_are_the_highest_or_the_latest(rt: HostRuntime) -> Result<(), Fail> {
-    let wrong = wrong_row(rt.alloc(), Subject::Latest, ROWS)?;
-    assert!(rt; wrong.is_empty(), "{wrong}");
-    Ok(())
 }

@@ -1,6 +1,6 @@
 //! Module paths, loose paths and their escaped form. (Go Modules Reference, "Module paths", "Major version suffixes" and "GOPROXY
 //! protocol".)
-use crate::rows::{Subject, column, named, wrong_row};
+use crate::rows::{column, named};
 use modpath::{
     LoosePath, ModulePath, PathError, check, check_loose, escape, loose_suffix, suffix, unescape,
 };
@@ -9,7 +9,7 @@ use std::test::Fail;
 
 /// - `path` and `loose`: a text, and the major version suffix of the path that it writes, or its fault. A path has at most 255 bytes.
 /// - `escape` and `unescape`: a text, and its other form or its fault.
-const ROWS: &str = "\
+pub const ROWS: &str = "\
 path|gopkg.in/yaml.v2|Dot(2)
 path|example.com/a/v2|Slash(2)
 path|example.com/a~1b|None
@@ -153,11 +153,4 @@ pub fn given(alloc: Global, row: &str) -> Result<String, AllocError> {
         "escape" => escape(alloc, text),
         _ => unescaped(alloc, text),
     }
-}
-
-#[test]
-fn paths_and_escaped_forms(rt: HostRuntime) -> Result<(), Fail> {
-    let wrong = wrong_row(rt.alloc(), Subject::Paths, ROWS)?;
-    assert!(rt; wrong.is_empty(), "{wrong}");
-    Ok(())
 }

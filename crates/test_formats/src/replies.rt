@@ -1,5 +1,5 @@
 //! The bytes of replies.
-use crate::rows::{Subject, column, named, on_one_line, wrong_row};
+use crate::rows::{column, named, on_one_line};
 use modver::{Version, read_time};
 use std::alloc::{AllocError, Global};
 use std::test::Fail;
@@ -10,7 +10,7 @@ use wire::{Fixed, Kind, StatusCode, fixed, fixed_line, info_body, put_head, repl
 /// - `info`: a version, its time, and the body of its `.info`.
 ///
 /// `;` is a newline, except in `text/plain; charset=utf-8`.
-const ROWS: &str = "\
+pub const ROWS: &str = "\
 fixed|AlreadyPublished|HTTP/1.1 200 OK\r;Content-Type: text/plain; charset=utf-8\r;Content-Length: 18\r;Connection: close\r;\r;already published;
 fixed|Published|HTTP/1.1 201 Created\r;Content-Type: text/plain; charset=utf-8\r;Content-Length: 10\r;Connection: close\r;\r;published;
 fixed|BadRequest|HTTP/1.1 400 Bad Request\r;Content-Type: text/plain; charset=utf-8\r;Content-Length: 12\r;Connection: close\r;\r;bad request;
@@ -112,11 +112,4 @@ pub fn given(alloc: Global, row: &str) -> Result<String, Fail> {
             on_one_line(alloc, &buf[..len])
         }
     }
-}
-
-#[test]
-fn replies_have_their_bytes(rt: HostRuntime) -> Result<(), Fail> {
-    let wrong = wrong_row(rt.alloc(), Subject::Replies, ROWS)?;
-    assert!(rt; wrong.is_empty(), "{wrong}");
-    Ok(())
 }

@@ -1,5 +1,5 @@
-//! Reads rows. A row is a line of a table, with `|` between its columns: the call, its arguments, and last what it returns. In a row,
-//! `;` is a newline and `ÿ` the byte 255.
+//! Reads the tables of all modules. A row is a line of a table, with `|` between its columns: the call, its arguments, and last what it
+//! returns. In a row, `;` is a newline and `ÿ` the byte 255.
 use crate::{
     framing, gomod_faults, hashes, latest_versions, module_paths, orders, replies, targets, tokens,
     versions,
@@ -11,11 +11,10 @@ use std::test::Fail;
 
 /// The module to whose calls a table belongs.
 #[derive(Clone, Copy)]
-pub enum Subject {
+enum Subject {
     Framing,
     GoModFaults,
     Hashes,
-    Keys,
     Latest,
     Orders,
     Paths,
@@ -25,13 +24,41 @@ pub enum Subject {
     Versions,
 }
 
+const SUBJECTS: [Subject; 10] = [
+    Subject::Framing,
+    Subject::GoModFaults,
+    Subject::Hashes,
+    Subject::Latest,
+    Subject::Orders,
+    Subject::Paths,
+    Subject::Replies,
+    Subject::Targets,
+    Subject::Tokens,
+    Subject::Versions,
+];
+
+/// Returns the table of a subject.
+fn table(subject: Subject) -> &'static str {
+    match subject {
+        Subject::Framing => framing::ROWS,
+        Subject::GoModFaults => gomod_faults::ROWS,
+        Subject::Hashes => hashes::ROWS,
+        Subject::Latest => latest_versions::ROWS,
+        Subject::Orders => orders::ROWS,
+        Subject::Paths => module_paths::ROWS,
+        Subject::Replies => replies::ROWS,
+        Subject::Targets => targets::ROWS,
+        Subject::Tokens => tokens::ROWS,
+        Subject::Versions => versions::ROWS,
+    }
+}
+
 /// Makes the call of a row, and returns its result as a text.
 fn given(alloc: Global, subject: Subject, row: &str) -> Result<String, Fail> {
     match subject {
         Subject::Framing => framing::given(alloc, row),
         Subject::GoModFaults => Ok(gomod_faults::given(alloc, row)?),
         Subject::Hashes => hashes::given(alloc, row),
-        Subject::Keys => orders::key(alloc, row),
         Subject::Latest => latest_versions::given(alloc, row),
         Subject::Orders => orders::given(alloc, row),
         Subject::Paths => Ok(module_paths::given(alloc, row)?),
@@ -42,10 +69,10 @@ fn given(alloc: Global, subject: Subject, row: &str) -> Result<String, Fail> {
     }
 }
 
-/// Returns the first row whose call does not return its last column, and what the call returns. It returns an empty text if there is
-/// no such row, and fails with the first call that fails.
-pub fn wrong_row(alloc: Global, subject: Subject, rows: &str) -> Result<String, Fail> {
-    for row in rows.lines() {
+/// Returns the first row of a table whose call does not return its last column, and what the call returns. It returns an empty text if
+/// there is no such row, and fails with the first call that fails.
+fn wrong_row(alloc: Global, subject: Subject) -> Result<String, Fail> {
+    for row in table(subject).lines() {
         let (call, wanted) = row.rsplit_once('|').ok_or("a row of one column")?;
         let given = given(alloc, subject, call)?;
         if given.as_str() != wanted {
@@ -98,4 +125,13 @@ pub fn versions_of(alloc: Global, column: &str) -> Result<Vec<Version>, Fail> {
         list.push(Version::parse(alloc, text)?)?;
     }
     Ok(list)
+}
+
+#[test]
+fn calls_return_what_the_rows_say(rt: HostRuntime) -> Result<(), Fail> {
+    for subject in SUBJECTS {
+        let wrong = wrong_row(rt.alloc(), subject)?;
+        assert!(rt; wrong.is_empty(), "{wrong}");
+    }
+    Ok(())
 }

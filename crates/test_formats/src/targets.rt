@@ -1,11 +1,11 @@
 //! What requests ask for. (Go Modules Reference, "GOPROXY protocol".)
-use crate::rows::{Subject, bytes, wrong_row};
+use crate::rows::bytes;
 use std::alloc::{AllocError, Global};
 use std::test::Fail;
 use wire::{Memory, Query, RouteTable, Target, target};
 
 /// A method and a target, and what they ask for: the word, the key, the path and the version; `-` for an unreadable target.
-const ROWS: &str = "\
+pub const ROWS: &str = "\
 GET /k/key/example.com/lib/@v/v1.0.0.info|info key example.com/lib v1.0.0
 GET /k/key/example.com/lib/@v/v1.0.0.mod|mod key example.com/lib v1.0.0
 GET /k/key/example.com/lib/@v/v1.0.0.zip|zip key example.com/lib v1.0.0
@@ -174,11 +174,4 @@ pub fn given(alloc: Global, row: &str) -> Result<String, Fail> {
         return Err(Fail::new("the table of routes answers otherwise the second time"));
     }
     Ok(String::from_str(alloc, first.as_str().trim_end())?)
-}
-
-#[test]
-fn targets_are_read(rt: HostRuntime) -> Result<(), Fail> {
-    let wrong = wrong_row(rt.alloc(), Subject::Targets, ROWS)?;
-    assert!(rt; wrong.is_empty(), "{wrong}");
-    Ok(())
 }

@@ -1,5 +1,5 @@
 //! Tokens of texts and of lines, and their values. (Go Modules Reference, "go.mod files", lexical elements.)
-use crate::rows::{Subject, column, named, with_lines, wrong_row};
+use crate::rows::{column, named, with_lines};
 use modlex::{Token, TokenFault, cut_line, first_tokens, line_tokens, tokens};
 use std::alloc::{AllocError, Global};
 use std::borrow::CowStr;
@@ -9,7 +9,7 @@ use std::test::Fail;
 /// - `line_tokens` and `first_tokens`: line 7 of a text, which begins at byte 20, and its tokens or the first two of them, or the fault.
 /// - `cut_line`: a text, and its first line and what follows, or `-` for a text of one line.
 /// - `word`: a text of one token; whether it is a word, a name, the arrow; whether its value is borrowed from the text; and the value.
-const ROWS: &str = "\
+pub const ROWS: &str = "\
 tokens|go 1.21rc1;a => // x;[\"b\\\"\",`c`];( =>x)|Name 1 0-2 go, Name 1 3-10 1.21rc1, Name 2 11-12 a, Arrow 2 13-15 =>, BracketLeft 3 21-22 [, Quoted 3 22-27 \"b\\\"\", Comma 3 27-28 ,, Raw 3 28-31 `c`, BracketRight 3 31-32 ], ParenLeft 4 33-34 (, Name 4 35-38 =>x, ParenRight 4 38-39 )
 tokens|a;b {|Lex(2)
 line_tokens|  a//b|Name 7 22-23 a
@@ -35,11 +35,11 @@ fn shown(alloc: Global, found: &[Token]) -> Result<String, AllocError> {
             text.push_str(", ")?;
         }
         let (kind, line, span) = (token.kind, token.line, token.span);
-        let one = format!(in alloc;
+        write!(
+            text,
             "{kind:?} {line} {}-{} {}",
             span.start, span.end, token.text
         )?;
-        text.push_str(one.as_str())?;
     }
     Ok(text)
 }
@@ -82,11 +82,4 @@ pub fn given(alloc: Global, row: &str) -> Result<String, AllocError> {
         },
         Err(fault) => format!(in alloc; "{fault:?}"),
     }
-}
-
-#[test]
-fn texts_have_tokens(rt: HostRuntime) -> Result<(), Fail> {
-    let wrong = wrong_row(rt.alloc(), Subject::Tokens, ROWS)?;
-    assert!(rt; wrong.is_empty(), "{wrong}");
-    Ok(())
 }

@@ -20,8 +20,8 @@ struct CommandRow {
     example: &'static str,
 }
 
-/// The commands, in the order of the help.
-static COMMANDS: [CommandRow; 15] = [
+/// The commands that work on one store, in the order of the help.
+static STORE_COMMANDS: [CommandRow; 9] = [
     CommandRow {
         name: "init",
         about: "Makes a store with the shelf common alone, in a file that has no bytes",
@@ -85,6 +85,10 @@ static COMMANDS: [CommandRow; 15] = [
         forms: None,
         example: "",
     },
+];
+
+/// The commands behind them, which make one store of another, or serve one.
+static SERVER_COMMANDS: [CommandRow; 6] = [
     CommandRow {
         name: "extract",
         about: "Makes a store of the part of one team or more: their shelves, their groups' and common, with their versions and keys",
@@ -176,13 +180,33 @@ Example, and the go command that asks it with the key K:
   GOPROXY=http://127.0.0.1:8080/k/K GONOSUMDB=example.com go get example.com/greet@v1.0.0";
 
 /// Returns the parser of the whole command line. Calls here fail only if memory runs out.
-/// It loops over a table, because a chain of parser calls for each command takes several times as long to prove.
 pub fn parser<'a>(alloc: Global) -> Result<Command<'a>, AllocError> {
-    let mut parser = program(alloc)?;
-    for row in COMMANDS.as_slice() {
-        parser = parser.subcommand(command(alloc, row)?)?;
+    let program = with_commands(alloc, program(alloc)?, store_commands())?;
+    with_commands(alloc, program, server_commands())
+}
+
+/// Returns the first table. The two tables are two functions', because the prover reads all texts of a table at once.
+fn store_commands() -> &'static [CommandRow] {
+    STORE_COMMANDS.as_slice()
+}
+
+/// Returns the second table.
+fn server_commands() -> &'static [CommandRow] {
+    SERVER_COMMANDS.as_slice()
+}
+
+/// Returns the program with the commands of a table.
+/// It loops over the table, because a chain of parser calls for each command takes several times as long to prove.
+fn with_commands<'a>(
+    alloc: Global,
+    program: Command<'a>,
+    rows: &[CommandRow],
+) -> Result<Command<'a>, AllocError> {
+    let mut program = program;
+    for row in rows {
+        program = program.subcommand(command(alloc, row)?)?;
     }
-    Ok(parser)
+    Ok(program)
 }
 
 /// Returns the program without its commands.

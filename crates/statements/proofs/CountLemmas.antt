@@ -1,5 +1,6 @@
 -- What the query of a count answers.
-use Rattle.std.proofs.Common.{◌≡◌, ◌≤◌, ◌++◌, ℕ, suc, pos, negsuc, Bool, true, false, cond, List, [], ◌∷◌, length, min, map as mapped, flat_map, filter, Some, inl, inr, refl, sym, ap, subst, ◌∙◌, arith}
+use Rattle.std.proofs.Common.{◌≡◌, ◌≤◌, ◌++◌, ℕ, suc, pos, negsuc, Bool, true, false, cond, List, [], ◌∷◌, length, min, map as mapped, flat_map, filter, Option, Some, None, is_some, inl, inr, refl, sym, ap, subst, ◌∙◌, arith, true≢false}
+use Rattle.std.specs.FinMap as map
 use Rattle.std.specs.List.{AllZip, list_all}
 use Rattle.std.proofs.lemmas.Bool.{and_parts}
 use Rattle.std.proofs.lemmas.List.Sorted.{length_permutation}
@@ -19,15 +20,17 @@ use Rattle.sqlite_rules.specs.Lists.{Has}
 use Rattle.sqlite_rules.proofs.ListLemmas.{has_filtered}
 use Rattle.sqlite_rules.proofs.ProbeLemmas.{has_mapped}
 use Rattle.world.specs.declared.entry.Place.{Place}
+use Rattle.world.specs.declared.entry.Entry.{Entry}
 use Rattle.world.specs.World.{World, IsWorld, count, version_limit}
-use Rattle.world.proofs.Orders.{text_self, text_same}
+use Rattle.world.proofs.Orders.{places_total, places_exact, text_self, text_same}
+use Rattle.statements.specs.Counted.{versions_in}
 use Rattle.statements.specs.Lookup.{passes}
 use Rattle.statements.proofs.LookupLemmas.{Picks}
 use Rattle.tables.specs.Means.{Means, IsAt}
 use Rattle.tables.specs.Fit.{is_on}
 use Rattle.tables.proofs.ValueLemmas.{equals_text, equals_itself}
 use Rattle.tables.proofs.Ascending.{has_permuted}
-use Rattle.tables.proofs.CountedRows.{all_counted}
+use Rattle.tables.proofs.CountedRows.{all_counted, rows_counted, same_place}
 
 abbrev pub most : ℕ
 most = 9223372036854775807
@@ -140,3 +143,36 @@ module _ (s p : List ℕ) (w : World) (db : Trees) (means : Means db w) where
       let number : n ≡ min (length (filter (passes by_path (path_params s p)) (base.trees 6))) most = cc in
       let many : length (filter (passes by_path (path_params s p)) (base.trees 6)) ≡ count w s p = subst (λ (t : Trees). length (filter (passes by_path (path_params s p)) (t 6)) ≡ count w s p) (sym has_db) (all_counted s p w db means (passes by_path (path_params s p)) passes_own passes_only) in
       number ∙ (ap (λ k. min k most) many ∙ small (count w s p) (is.few s p))
+
+-- ---- all versions
+
+abbrev pub count_all : Query
+count_all = counting 6 []
+
+kept_all : (params : Row) (rows : List Row) → filter (passes [] params) rows ≡ rows
+kept_all params [] = refl
+kept_all params (row ∷ rows) = ap (λ (l : List Row). row ∷ l) (kept_all params rows)
+
+module _ (w : World) (db : Trees) (means : Means db w) where
+  each_at : (row : Row) → Has (db 6) row → (q : Place) × IsAt row q × (map.contains_key w.entries q ≡ true)
+  each_at row there = let it = means.entries.each row there in (it.0.0, it.1.place, ap (λ (g : Option Entry). is_some g) it.2)
+
+  at_each : (q : Place) → map.contains_key w.entries q ≡ true → (row : Row) × Has (db 6) row × IsAt row q
+  at_each q h = go (map.get w.entries q) refl h
+    where
+      go : (g : Option Entry) → map.get w.entries q ≡ g → is_some g ≡ true → (row : Row) × Has (db 6) row × IsAt row q
+      go None is some = absurd (true≢false (sym some))
+      go (Some e) is some = let it = means.entries.found (q, e) is in (it.0, it.1, it.2.place)
+
+  rows_of_all : length (db 6) ≡ map.len w.entries
+  rows_of_all = rows_counted places_total places_exact IsAt same_place (db 6) w.entries each_at at_each means.places
+
+  pub all_read : (base : Database) → base.trees ≡ db → (row : Row) (n : ℕ) → Picks count_all [] base (Some row) → column row 0 ≡ Int (pos n) → n ≡ versions_in w
+  all_read base has_db row n picked shown =
+      let got = picked.1 in
+      let answer = got.1 Null in
+      let counted = row_counted 6 [] (overlay base.trees []) [] row got.0 answer in
+      let value : pos n ≡ pos (min (length (filter (passes [] []) (base.trees 6))) most) = let e = sym shown ∙ counted in cc in
+      let number : n ≡ min (length (filter (passes [] []) (base.trees 6))) most = cc in
+      let many : length (filter (passes [] []) (base.trees 6)) ≡ map.len w.entries = ap length (kept_all [] (base.trees 6)) ∙ subst (λ (t : Trees). length (t 6) ≡ map.len w.entries) (sym has_db) rows_of_all in
+      number ∙ ap (λ k. min k most) many

@@ -10,3 +10,4 @@ pub mod Extract
 pub mod Numbers
 pub mod Shelves
 pub mod Outlines
+pub mod Counted

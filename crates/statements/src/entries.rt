@@ -14,6 +14,7 @@ ghost use Rattle.outline.specs.Seen.{seen_heading};
 ghost use Rattle.tables.specs.Schema.{version_table};
 ghost use Rattle.tables.specs.Means.{StandsFor};
 ghost use Rattle.tables.specs.Inserted.{Inserted};
+ghost use Rattle.statements.specs.Counted.{versions_in};
 ghost use Rattle.statements.specs.Calls.{InEachWorld, IsOpenIfHonest, Spares, ChangesAt};
 ghost use Rattle.tables.specs.Calls.{Honestly};
 ghost use Rattle.statements.specs.Reading.{HasRow};
@@ -198,6 +199,18 @@ pub fn count_entries<S: Alter>(
         "SELECT count(*) FROM version WHERE shelf = ?1 AND path = ?2",
         params![shelf, path],
     )? {
+        Some(row) => read_count(&row),
+        None => Err(Error::SqliteFailure(ErrorCode::DatabaseCorrupt)),
+    }
+}
+
+/// Returns how many versions all shelves have, or 2^63 - 1 if there are more.
+pub fn count_versions<S: Alter>(conn: &mut Connection<S>) -> Result<u64, Error>
+    ensures spares { Spares (state S.Store conn.old) (state S.Store conn.new) }
+    ensures answer { Honestly (state S.Store conn.old) (state S.Store conn.new) (λ old _.
+        (w : _) → StandsFor old w → IfOk result (λ n. n ≡ versions_in w)) }
+{
+    match find_row(conn, "SELECT count(*) FROM version", &[])? {
         Some(row) => read_count(&row),
         None => Err(Error::SqliteFailure(ErrorCode::DatabaseCorrupt)),
     }

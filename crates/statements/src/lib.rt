@@ -18,6 +18,7 @@
 //! | `compare::find_standing` | those of `find_seen`; if it is equal, read rows of `piece` by number, up to the first that differs |
 //! | `visible::find_versions`, `find_paths` | read rows of `version` on each shelf in turn |
 //! | `entries::count_entries` | count the rows of `version` that the path has on the shelf |
+//! | `entries::count_versions` | count the rows of `version` |
 //! | `entries::add_entry` | choose a number (see the module `numbers`), then in one transaction write the rows of the entry |
 //! | `registry::add_team` | those of `find_shelf` for the name and for the group, if one is named, then write a row of `shelf` |
 //! | `registry::add_group` | that of `find_shelf`, then write a row of `shelf` |

@@ -1,5 +1,6 @@
 pub mod Groups
 pub mod Recent
+pub mod Total
 pub mod Lists
 pub mod Zips
 pub mod Headings

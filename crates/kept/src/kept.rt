@@ -16,6 +16,8 @@ use world::counts::Counts;
 #[derive(Drop)]
 pub struct Kept {
     pub counts: Counts,
+    /// How many versions all shelves have, if they were counted.
+    pub total: Option<u64>,
     pub lists: Lists,
     pub groups: Groups,
     pub zips: Zips,
@@ -30,6 +32,7 @@ impl Kept {
     {
         Kept {
             counts: Counts::new(alloc),
+            total: None,
             lists: Lists::no_lists(),
             groups: Groups::new(alloc),
             zips: Zips::no_zips(),

@@ -7,6 +7,7 @@
 //! | `zips` | the zip of the entry at a place | for good: an entry never changes |
 //! | `headings` | what a shelf sees of a version, without its zip | any path gets a version, or a team is added |
 //! | `keys` | what a key holds | a key is revoked |
+//! | `total` | how many versions there are | any path gets a version, which raises it |
 //! | `kept` | all of them, and the counts of `world::counts` | |
 //!
 //! If memory runs out, less is kept.
@@ -18,4 +19,5 @@ pub mod kept;
 pub mod keys;
 pub mod lists;
 pub mod recent;
+pub mod total;
 pub mod zips;

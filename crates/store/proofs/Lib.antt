@@ -6,3 +6,4 @@ pub mod OpenLemmas
 pub mod ExtractedLemmas
 pub mod MigratedLemmas
 pub mod OlderLemmas
+pub mod CountedLemmas

@@ -20,6 +20,7 @@
 //! | `latest` | `versions`, and `heading` of the highest; cached with the versions |
 //! | `paths` | `statements::visible::find_paths`, along the chain |
 //! | `count` | `statements::entries::count_entries`; then cached |
+//! | `versions_kept` | `statements::entries::count_versions`; then cached |
 //! | `insert` | `statements::entries::add_entry` |
 //! | `team_add`, `group_add`, `key_add` | `add_team`, `add_group`, `add_key` of `statements::registry` |
 //! | `key_revoke` | `statements::revoke::revoke_key` |
@@ -34,6 +35,7 @@
 #![tactic(auto)]
 
 mod chain;
+mod counting;
 mod extract;
 pub mod files;
 pub mod laws;

@@ -20,6 +20,7 @@ use kept::headings::Headings;
 use kept::kept::Kept;
 use kept::keys::Keys;
 use kept::lists::Lists;
+use kept::total::raised;
 use modpath::ModulePath;
 use modver::Version;
 use outline::outlines::{Outline, Outlines};
@@ -220,6 +221,7 @@ impl<S: Alter> Shelves for SqlShelves<S> {
         ) {
             Ok(()) => {
                 self.kept.counts.raise(self.alloc, shelf, path.as_str());
+                self.kept.total = raised(self.kept.total);
                 self.kept.lists.forget(self.alloc, path.as_str());
                 self.kept.headings = Headings::no_headings(); // The entry can hide another from its shelf.
                 Ok(())

@@ -1,0 +1,16 @@
+-- The number of all versions that is cached from a count.
+use Rattle.std.proofs.Common.{◌≡◌, ◌<◌, ◌∙◌, ℕ, Option, Some, sym, ap, min, arith}
+use Rattle.std.specs.FinMap as map
+use Rattle.world.specs.World.{World}
+use Rattle.statements.specs.Counted.{most_counted, versions_in}
+use Rattle.kept.specs.Total.{IsTotal}
+
+below : (k n : ℕ) → n ≡ min k most_counted → n < most_counted → n ≡ k
+below k n is few = omega (arith, is, few)
+
+pub total_of_count : (w : World) (count : ℕ) (total : Option ℕ) → ((n : ℕ) → total ≡ Some n → (n ≡ count) × (n < most_counted)) → count ≡ versions_in w
+    → IsTotal w total
+total_of_count w count total exact is n kept = let it = exact n kept in below (map.len w.entries) n (it.0 ∙ is) it.1
+
+pub count_of_total : (w : World) (total : Option ℕ) (n m : ℕ) → total ≡ Some n → m ≡ min n most_counted → IsTotal w total → m ≡ versions_in w
+count_of_total w total n m kept told right = told ∙ ap (λ k. min k most_counted) (right n kept)

@@ -1,0 +1,48 @@
+//! How many versions a store keeps.
+
+ghost use Rattle.std.specs.Prelude.{◌≡◌, ◌<◌, Some};
+ghost use Rattle.sqlite.specs.Held.{state};
+ghost use Rattle.statements.specs.Counted.{most_counted, versions_in};
+ghost use Rattle.world.specs.Store.{HasCause, Reads};
+ghost use Rattle.store.specs.Shown.{shown_with};
+
+use crate::store::{SqlShelves, fault};
+use sqlite::Alter;
+use statements::entries::count_versions;
+use world::registry::StoreFault;
+
+/// The most that a query counts.
+const MOST_COUNTED: u64 = 9_223_372_036_854_775_807;
+
+impl<S: Alter> SqlShelves<S> {
+    /// Returns how many versions all shelves have, or 2^63 - 1 if there are more. Takes the cached number if there is one. Reads each
+    /// row of `version` otherwise, without its zip.
+    /// Fails with `Device` if a disk failed, and with `Memory` if memory ran out.
+    pub fn versions_kept(&mut self) -> Result<u64, StoreFault>
+        ensures reads { Reads (shown_with (state S.Store self.old.conn) self.old.kept)
+            (shown_with (state S.Store self.new.conn) self.new.kept) result versions_in }
+        ensures cause { HasCause self.old.failures self.new.failures result }
+    {
+        if let Some(total) = self.kept.total {
+            return Ok(total.min(MOST_COUNTED));
+        }
+        match count_versions(&mut self.conn) {
+            Ok(count) => {
+                self.kept.total = exact(count);
+                Ok(count)
+            }
+            Err(error) => Err(fault(&mut self.failures, error)),
+        }
+    }
+}
+
+/// Returns the number that a query counted if there can't be more.
+fn exact(count: u64) -> Option<u64>
+    ensures { (n : _) → result ≡ Some n → (n ≡ count) × (n < most_counted) }
+{
+    if count < MOST_COUNTED {
+        Some(count)
+    } else {
+        None
+    }
+}

@@ -2,32 +2,36 @@
 use Rattle.std.proofs.Common.{◌≡◌, ℕ, false, List, [], Option, Result, Ok, Err, sym, subst}
 use Rattle.std.specs.Io.KnownBytes.{Keeps}
 use Rattle.world.specs.Store.{Shown}
+use Rattle.world.specs.declared.registry.StoreFault.{StoreFault}
 use Rattle.engine.specs.Written.{Writes}
 use Rattle.engine.specs.declared.fault.Io.{Io}
 use Rattle.engine.specs.declared.fault.Io.TheVariants as io
-use Rattle.control.specs.Hearing.{Heard, Carried, Copied, Stop, NoOrder, NoMemory, IsHeard, IsHeardIn, Heeds, Hears, Obeys}
+use Rattle.control.specs.Hearing.{Heard, Carried, Copied, Pinged, Stop, NoOrder, NoMemory, IsHeard, IsHeardIn, Heeds, Hears, Obeys}
 use Rattle.control.specs.Line.{ReadsLine}
-use Rattle.control.specs.Outcome.{line_of}
+use Rattle.control.specs.Told.{line_told}
 use Rattle.control.specs.Turns.{GoesThroughTurns}
 use Rattle.control.specs.declared.copies.CopyRefusal.{CopyRefusal}
-use Rattle.control.specs.declared.outcome.Outcome.{Outcome}
+use Rattle.control.specs.declared.health.Health.{Health}
+use Rattle.control.specs.declared.told.Told.{Told}
 
 -- what is returned
-abbrev told_unless : Outcome → Result (Unit {0}) Io → Result Outcome Io
+abbrev told_unless : Told → Result (Unit {0}) Io → Result Told Io
 told_unless told (Ok done) = Ok told
 told_unless told (Err e) = Err e
 
-module _ (copied : List ℕ → Result (Unit {0}) CopyRefusal → Type 0) (old new : Shown) (before now : ℕ) (u u' : Option (List ℕ)) where
+module _ (copied : List ℕ → Result (Unit {0}) CopyRefusal → Type 0) (pinged : Result Health StoreFault → Type 0) (old new : Shown)
+    (before now : ℕ) (u u' : Option (List ℕ)) where
   was_heard : (got : List ℕ) → ReadsLine u u' got → (heard : Heard) → IsHeardIn got heard → IsHeard u u' heard
   was_heard got reads (Carried order told) sent = (got, reads, sent)
   was_heard got reads (Copied path told) sent = (got, reads, sent)
+  was_heard got reads (Pinged told) is = subst (ReadsLine u u') is reads
   was_heard got reads Stop is = subst (ReadsLine u u') is reads
-  was_heard got reads NoOrder none = (got, reads, none.0, none.1, none.2)
+  was_heard got reads NoOrder none = (got, reads, none.0, none.1, none.2, none.3)
   was_heard got reads NoMemory never = absurd never
 
   -- the line that was read
-  pub hears_line : (got : List ℕ) (told : Outcome) → ReadsLine u u' got → Heeds copied old new before now got told
-      → Hears copied old new before now u u' told
+  pub hears_line : (got : List ℕ) (told : Told) → ReadsLine u u' got → Heeds copied pinged old new before now got told
+      → Hears copied pinged old new before now u u' told
   hears_line got told reads heeds = record {
     heard = heeds.heard;
     from = was_heard got reads heeds.heard heeds.from;
@@ -37,12 +41,12 @@ module _ (copied : List ℕ → Result (Unit {0}) CopyRefusal → Type 0) (old n
   }
 
   module _ (w w' : Option (List ℕ)) where
-    pub obeys_told : (told : Outcome) (result : Result (Unit {0}) Io) → Hears copied old new before now u u' told → Writes w w' (line_of told) result
-        → Obeys copied old new before now u u' w w' (told_unless told result)
+    pub obeys_told : (told : Told) (result : Result (Unit {0}) Io) → Hears copied pinged old new before now u u' told → Writes w w' (line_told told) result
+        → Obeys copied pinged old new before now u u' w w' (told_unless told result)
     obeys_told told (Ok done) hears writes = (hears, writes)
     obeys_told told (Err io.Write) hears writes = (told, hears, writes.1)
     obeys_told told (Err io.Read) hears (wrong, part) = cc
 
     pub obeys_unread : (e : Io) → e ≡ io.Read → GoesThroughTurns old new before now [] false → Keeps w w'
-        → Obeys copied old new before now u u' w w' (Err e)
-    obeys_unread e is through keeps = subst (λ x. Obeys copied old new before now u u' w w' (Err x)) (sym is) (through, keeps)
+        → Obeys copied pinged old new before now u u' w w' (Err e)
+    obeys_unread e is through keeps = subst (λ x. Obeys copied pinged old new before now u u' w w' (Err x)) (sym is) (through, keeps)

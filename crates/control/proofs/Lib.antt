@@ -6,6 +6,8 @@ pub mod OutcomeLemmas
 pub mod CrashLemmas
 pub mod TurnLemmas
 pub mod HearingLemmas
+pub mod PingLemmas
 pub mod StepLemmas
+pub mod TallyLemmas
 pub mod ServeLemmas
 pub mod IsolatedLemmas

@@ -1,26 +1,31 @@
 -- What a store goes through on one connection, and on those before it.
-use Rattle.std.proofs.Common.{ℕ, ◌+◌, ◌≤◌, ◌≡◌, refl, sym, ap, ◌∙◌, subst, false, List, [], ◌∷◌, ◌++◌, map, Option, Some, None, Result, Ok, Err, inl, inr, arith, append_assoc, append-nil}
+use Rattle.std.proofs.Common.{ℕ, ◌+◌, ◌<◌, ◌≤◌, ◌≡◌, refl, sym, ap, ◌∙◌, subst, false, List, [], ◌∷◌, ◌++◌, map, Option, Some, None, Result, Ok, Err, inl, inr, arith, append_assoc, append-nil}
 use Rattle.std.proofs.lemmas.List.{map-append}
 use Rattle.std.proofs.lemmas.List.Elements.{All-nil, All-push}
 use Rattle.std.specs.Io.KnownBytes.{Appends}
 use Rattle.world.specs.Store.{Shown}
 use Rattle.world.specs.World.{World}
-use Rattle.engine.specs.First.{First, Answers as Message, Closes}
+use Rattle.world.specs.declared.registry.StoreFault.{StoreFault}
+use Rattle.engine.specs.First.{First, Answers as Message, Closes, ServesFirst}
 use Rattle.engine.specs.Store.{GoesThrough}
 use Rattle.engine.specs.Written.{WritesPart}
 use Rattle.engine.specs.declared.fault.Io.{Io}
 use Rattle.engine.specs.declared.fault.Io.TheVariants as io
-use Rattle.socket.specs.Connections.{Answers, Come, exchanges_of}
-use Rattle.control.specs.Copying.{AllCopied, GoesOnCopied}
-use Rattle.control.specs.Hearing.{Heard, Carried, Copied, Stop, NoOrder, NoMemory, Obeys}
-use Rattle.control.specs.Outcome.{line_of}
+use Rattle.socket.specs.Connections.{Come, exchanges_of}
+use Rattle.control.specs.Copying.{AllRead, GoesOnRead}
+use Rattle.control.specs.Health.{Answered, AreBelow, IsPinged, tally_of, with_one}
+use Rattle.control.specs.Hearing.{Heard, Carried, Copied, Pinged, Stop, NoOrder, NoMemory, Obeys}
+use Rattle.control.specs.Told.{line_told}
 use Rattle.control.specs.Turns.{Asked, messages, world_at, GoesThroughTurns, GoesOn}
-use Rattle.control.specs.Visits.{Call, OfPeer, OfOperator, caller_of, turns_if, turns_of, turns_with, copied_by, copied_with, steps_of, steps_with, peers, ObeysOne, IsCallThere, ServesEach, CopiesEach}
+use Rattle.control.specs.Visits.{Call, OfPeer, OfOperator, answered_with, caller_of, turns_if, turns_of, turns_with, read_by, read_with, steps_of, steps_with, peers, AnswersOne, ObeysOne, ObeysOneBy, IsCallThere, IsTallied, ServesEach, ReadsEach, TellsTally}
 use Rattle.control.specs.declared.callers.Caller.{Caller}
 use Rattle.control.specs.declared.callers.Caller.TheVariants.{Peer, Operator}
 use Rattle.control.specs.declared.copies.CopyRefusal.{CopyRefusal}
-use Rattle.control.specs.declared.outcome.Outcome.{Outcome}
-use Rattle.control.proofs.StepLemmas.{turns_of_steps, copy_of_steps, copied_last, steps_last, copied_then, no_copies, copied_heard}
+use Rattle.control.specs.declared.health.Health.{Health}
+use Rattle.control.specs.declared.tally.Tally.{Tally}
+use Rattle.control.specs.declared.told.Told.{Told}
+use Rattle.control.proofs.StepLemmas.{turns_of_steps, read_of_steps, read_last, steps_last, read_then, no_reads, read_heard}
+use Rattle.control.proofs.TallyLemmas.{answered_last, answered_peers, below_of, tallied_push, tally_push, tells_tally}
 use Rattle.control.proofs.TurnLemmas.{turns_none, turns_asked, turns_more, messages_append}
 
 -- ---- one connection
@@ -41,19 +46,21 @@ no_message : (heard : Option Heard) → messages (turns_if heard) ≡ 0
 no_message None = refl
 no_message (Some (Carried order told)) = refl
 no_message (Some (Copied path told)) = refl
+no_message (Some (Pinged told)) = refl
 no_message (Some Stop) = refl
 no_message (Some NoOrder) = refl
 no_message (Some NoMemory) = refl
 
-module _ {O : Type 0} (heeded told : O → Option (List ℕ)) (copied : List ℕ → Result (Unit {0}) CopyRefusal → Type 0) (old new : Shown) (before now : ℕ) where
+module _ {O : Type 0} (heeded told : O → Option (List ℕ)) (copied : List ℕ → Result (Unit {0}) CopyRefusal → Type 0)
+    (pinged : Result Health StoreFault → Type 0) (old new : Shown) (before now : ℕ) where
   -- an operator was obeyed
-  pub obeyed_one : (operator after : O) (result : Result Outcome Io)
-      → Obeys copied old new before now (heeded operator) (heeded after) (told operator) (told after) result
-      → ObeysOne heeded told copied operator old new before now
+  pub obeyed_one : (operator after : O) (result : Result Told Io)
+      → Obeys copied pinged old new before now (heeded operator) (heeded after) (told operator) (told after) result
+      → ObeysOne heeded told copied pinged operator old new before now
   obeyed_one operator after (Ok outcome) obeys = record {
     audience = record { before = operator; after = after; heard = Some obeys.0.heard };
     begins = refl;
-    there = (obeys.0.from, inr (subst (λ (o : Outcome). Appends (told operator) (told after) (line_of o)) obeys.0.tells obeys.1));
+    there = (obeys.0.from, inr (subst (λ (o : Told). Appends (told operator) (told after) (line_told o)) obeys.0.tells obeys.1));
     through = obeys.0.through;
     came = obeys.0.came;
   }
@@ -67,10 +74,42 @@ module _ {O : Type 0} (heeded told : O → Option (List ℕ)) (copied : List ℕ
   obeyed_one operator after (Err io.Write) obeys = record {
     audience = record { before = operator; after = after; heard = Some obeys.1.heard };
     begins = refl;
-    there = (obeys.1.from, inl (subst (λ (o : Outcome). WritesPart (told operator) (told after) (line_of o)) obeys.1.tells obeys.2));
+    there = (obeys.1.from, inl (subst (λ (o : Told). WritesPart (told operator) (told after) (line_told o)) obeys.1.tells obeys.2));
     through = obeys.1.through;
     came = obeys.1.came;
   }
+
+-- a peer was answered
+pub answered_one : {P : Type 0} (unread written : P → Option (List ℕ)) (old new : Shown) (before now : ℕ) (peer after : P) (told : Answered)
+    → ServesFirst old new before now (unread peer) (unread after) (written peer) (written after) told
+    → AnswersOne unread written peer old new before now told
+answered_one unread written old new before now peer after (Ok status) (first, takes, through, is, ended) = record {
+  answers = record {
+    visit = record { before = peer; after = after; first = Some first };
+    begins = refl;
+    there = (takes, inr ended);
+    through = through;
+  };
+  counts = is;
+}
+answered_one unread written old new before now peer after (Err io.Read) (got, consumed, unfinished, through, kept) = record {
+  answers = record {
+    visit = record { before = peer; after = after; first = None };
+    begins = refl;
+    there = kept;
+    through = through;
+  };
+  counts = refl;
+}
+answered_one unread written old new before now peer after (Err io.Write) (first, takes, through, ended) = record {
+  answers = record {
+    visit = record { before = peer; after = after; first = Some first };
+    begins = refl;
+    there = (takes, ended);
+    through = through;
+  };
+  counts = refl;
+}
 
 -- ---- those who come
 
@@ -102,13 +141,13 @@ module _ {P O : Type 0} where
 
   peers_last : (calls : List (Call P O)) (last : Call P O) → peers (calls ++ last ∷ []) ≡ peers calls + peers (last ∷ [])
   peers_last [] last = omega arith
-  peers_last (OfPeer visit ∷ calls) last = let e = peers_last calls last in omega (arith, e)
+  peers_last (OfPeer visit answered ∷ calls) last = let e = peers_last calls last in omega (arith, e)
   peers_last (OfOperator audience ∷ calls) last = peers_last calls last
 
   -- there are at most as many messages as peers
   one_each : (calls : List (Call P O)) → messages (turns_with calls) ≤ peers calls
   one_each [] = omega arith
-  one_each (OfPeer visit ∷ calls) = omega (
+  one_each (OfPeer visit answered ∷ calls) = omega (
     arith,
     messages_append (map Asked (exchanges_of visit.first)) (turns_with calls),
     first_message visit.first,
@@ -126,7 +165,7 @@ module _ {P O : Type 0} where
         (first : ServesEach heeded told unread written waiting left old mid before between n) where
       -- serving one more caller after others serves each of them
       each_push : (call : Call P O) → Come left rest (caller_of call ∷ []) → IsCallThere heeded told unread written call
-          → GoesThroughTurns mid new between now (turns_of call) (copied_by call) → n + peers (call ∷ []) ≤ m
+          → GoesThroughTurns mid new between now (turns_of call) (read_by call) → n + peers (call ∷ []) ≤ m
           → ServesEach heeded told unread written waiting rest old new before now m
       each_push call comes there through few = record {
         calls = first.calls ++ call ∷ [];
@@ -134,8 +173,8 @@ module _ {P O : Type 0} where
         came = subst (Come waiting rest) (sym (map-append caller_of first.calls (call ∷ [])))
             (then_come waiting left rest (map caller_of first.calls) (caller_of call ∷ []) first.came comes);
         there = All-push (IsCallThere heeded told unread written) first.calls call first.there there;
-        through = rw (with_last first.calls call, copied_last first.calls call)
-            (turns_more old mid new before between now (turns_with first.calls) (copied_with first.calls) first.through (turns_of call) (copied_by call) through);
+        through = rw (with_last first.calls call, read_last first.calls call)
+            (turns_more old mid new before between now (turns_with first.calls) (read_with first.calls) first.through (turns_of call) (read_by call) through);
       }
 
     -- if nobody came, and more connections count, those who came before were served
@@ -150,95 +189,142 @@ module _ {P O : Type 0} where
       through = first.through;
     }
 
-    module _ {S : Type 0} (shown : S → Shown) (failures : S → ℕ) (copied : S → S → List ℕ → Result (Unit {0}) CopyRefusal → Type 0) where
+    module _ {S : Type 0} (shown : S → Shown) (failures : S → ℕ) (copied : S → S → List ℕ → Result (Unit {0}) CopyRefusal → Type 0)
+        (counted : S → S → ℕ → Type 0) (since : List ℕ) where
       abbrev Each : Option (List (Caller P O)) → Option (List (Caller P O)) → S → S → ℕ → Type 0
-      Each = CopiesEach heeded told unread written shown failures copied
+      Each waiting left old new n = ReadsEach heeded told unread written shown failures copied counted waiting left old new since n
 
-      pub each_zero : (waiting : Option (List (Caller P O))) (store : S) (n : ℕ) → 0 ≤ n → Each waiting waiting store store n
-      each_zero waiting store n some = record {
-        each = record {
-          calls = [];
-          few = omega arith;
-          came = none_come waiting;
-          there = All-nil (IsCallThere heeded told unread written);
-          through = turns_none (shown store) (failures store);
+      -- the callers up to a moment, with the counts of their connections
+      pub record UpTo (waiting left : Option (List (Caller P O))) (old new : S) (n : ℕ) (tally : Tally) : Type 0 where
+        pub reads : Each waiting left old new n
+        pub is : tally ≡ tally_of since (answered_with reads.each.calls)
+
+      -- the counts leave room for another connection
+      pub each_below : (waiting left : Option (List (Caller P O))) (old new : S) (n : ℕ) (tally : Tally) → UpTo waiting left old new n tally
+          → (most : ℕ) → n < most → AreBelow most tally
+      each_below waiting left old new n tally first most few =
+          let calls = first.reads.each.calls in
+          subst (AreBelow most) (sym first.is)
+          (below_of since (answered_with calls) most (omega (arith, few, answered_peers calls, first.reads.each.few)))
+
+      pub each_zero : (waiting : Option (List (Caller P O))) (store : S) (n : ℕ) (tally : Tally) → 0 ≤ n → tally ≡ tally_of since []
+          → UpTo waiting waiting store store n tally
+      each_zero waiting store n tally some is = record {
+        reads = record {
+          each = record {
+            calls = [];
+            few = omega arith;
+            came = none_come waiting;
+            there = All-nil (IsCallThere heeded told unread written);
+            through = turns_none (shown store) (failures store);
+          };
+          reads = λ h w stands. tt;
+          tallies = tt;
         };
-        copies = λ h w stands. tt;
+        is = is;
       }
 
-      module _ (waiting left rest : Option (List (Caller P O))) (old mid new : S) (n m : ℕ) (first : Each waiting left old mid n) where
-        copies_push : (call : Call P O) → Come left rest (caller_of call ∷ []) → IsCallThere heeded told unread written call
-            → GoesThroughTurns (shown mid) (shown new) (failures mid) (failures new) (turns_of call) (copied_by call)
-            → ((shown new).is_honest → (w : World) → (shown mid).stands w → AllCopied shown copied w (steps_of call))
+      module _ (waiting left rest : Option (List (Caller P O))) (old mid new : S) (n m : ℕ) (tally : Tally) (first : UpTo waiting left old mid n tally) where
+        reads_push : (call : Call P O) → Come left rest (caller_of call ∷ []) → IsCallThere heeded told unread written call
+            → GoesThroughTurns (shown mid) (shown new) (failures mid) (failures new) (turns_of call) (read_by call)
+            → ((shown new).is_honest → (w : World) → (shown mid).stands w → AllRead shown failures copied counted w (steps_of call))
+            → IsTallied since first.reads.each.calls call
             → n + peers (call ∷ []) ≤ m → Each waiting rest old new m
         unfolding each_push
-        copies_push call comes there through copies few = record {
-          each = each_push waiting left rest (shown old) (shown mid) (shown new) (failures old) (failures mid) (failures new) n m first.each
+        reads_push call comes there through reads tallied few = record {
+          each = each_push waiting left rest (shown old) (shown mid) (shown new) (failures old) (failures mid) (failures new) n m first.reads.each
               call comes there through few;
-          copies = λ h w stands.
+          reads = λ h w stands.
               let honest = through.runs.honest h in
-              let calls = first.each.calls in
-              let more = copies h _ (first.each.through.runs.at honest w stands).ends in
-              subst (AllCopied shown copied w) (sym (steps_last calls call))
-              (copied_then shown copied w (steps_with calls) (steps_of call) (first.copies honest w stands)
-              (subst (λ ts. AllCopied shown copied (world_at w ts) (steps_of call)) (sym (turns_of_steps calls)) more));
+              let calls = first.reads.each.calls in
+              let more = reads h _ (first.reads.each.through.runs.at honest w stands).ends in
+              subst (AllRead shown failures copied counted w) (sym (steps_last calls call))
+              (read_then shown failures copied counted w (steps_with calls) (steps_of call) (first.reads.reads honest w stands)
+              (subst (λ ts. AllRead shown failures copied counted (world_at w ts) (steps_of call)) (sym (turns_of_steps calls)) more));
+          tallies = tallied_push since [] first.reads.each.calls call first.reads.tallies tallied;
         }
 
         -- a peer more
-        pub each_peer : (peer : P) → Come left rest (Peer peer ∷ [])
-            → Answers unread written peer (shown mid) (shown new) (failures mid) (failures new) → n + 1 ≤ m → Each waiting rest old new m
-        each_peer peer comes next few = copies_push
-            (OfPeer next.visit) (subst (λ p. Come left rest (Peer p ∷ [])) (sym next.begins) comes)
-            next.there (turns_first (shown mid) (shown new) (failures mid) (failures new) next.visit.first next.through)
-            (λ h w stands. no_copies shown copied w (exchanges_of next.visit.first)) (omega (arith, few))
+        pub each_peer : (peer : P) (answered : Answered) → Come left rest (Peer peer ∷ [])
+            → AnswersOne unread written peer (shown mid) (shown new) (failures mid) (failures new) answered → n + 1 ≤ m
+            → UpTo waiting rest old new m (with_one tally answered)
+        unfolding each_push reads_push
+        each_peer peer answered comes next few =
+            let visit = next.answers.visit in
+            let call : Call P O = OfPeer visit answered in
+            let calls = first.reads.each.calls in
+            record {
+              reads = reads_push call
+                  (subst (λ p. Come left rest (Peer p ∷ [])) (sym next.answers.begins) comes)
+                  (next.answers.there, next.counts)
+                  (turns_first (shown mid) (shown new) (failures mid) (failures new) visit.first next.answers.through)
+                  (λ h w stands. no_reads shown failures copied counted w (exchanges_of visit.first)) tt (omega (arith, few));
+              is = ap (λ t. with_one t answered) first.is ∙ tally_push since (answered_with calls) answered
+                  ∙ ap (tally_of since) (sym (answered_last calls call));
+            }
 
         -- one more operator is served
         pub each_operator : (operator : O) → Come left rest (Operator operator ∷ [])
-            → ObeysOne heeded told (copied mid new) operator (shown mid) (shown new) (failures mid) (failures new)
-            → n ≤ m → Each waiting rest old new m
-        each_operator operator comes next few = copies_push
-            (OfOperator next.audience) (subst (λ o. Come left rest (Operator o ∷ [])) (sym next.begins) comes)
-            next.there next.through (λ h w stands. copied_heard shown copied mid new h w stands next.audience.heard next.came)
-            (omega (arith, few))
+            → ObeysOneBy heeded told shown failures copied counted tally operator mid new
+            → n ≤ m → UpTo waiting rest old new m tally
+        unfolding each_push reads_push
+        each_operator operator comes next few =
+            let call : Call P O = OfOperator next.audience in
+            let calls = first.reads.each.calls in
+            record {
+              reads = reads_push call
+                  (subst (λ o. Come left rest (Operator o ∷ [])) (sym next.begins) comes)
+                  next.there next.through
+                  (λ h w stands. read_heard shown failures copied counted tally mid new h w stands next.audience.heard next.came)
+                  (subst (λ t. TellsTally t next.audience.heard) first.is
+                  (tells_tally (copied mid new) tally (failures mid) (failures new) (counted mid new) next.audience.heard next.came))
+                  (omega (arith, few));
+              is = first.is ∙ ap (tally_of since) (sym (answered_last calls call ∙ append-nil (answered_with calls)));
+            }
 
       -- nobody came
-      pub each_same : (waiting left rest : Option (List (Caller P O))) (old new : S) (n m : ℕ) → Come left rest []
-          → Each waiting left old new n → n ≤ m → Each waiting rest old new m
+      pub each_same : (waiting left rest : Option (List (Caller P O))) (old new : S) (n m : ℕ) (tally : Tally) → Come left rest []
+          → UpTo waiting left old new n tally → n ≤ m → UpTo waiting rest old new m tally
       unfolding each_wider
-      each_same waiting left rest old new n m comes first few = record {
-        each = each_wider waiting left rest (shown old) (shown new) (failures old) (failures new) n m comes first.each few;
-        copies = first.copies;
+      each_same waiting left rest old new n m tally comes first few = record {
+        reads = record {
+          each = each_wider waiting left rest (shown old) (shown new) (failures old) (failures new) n m comes first.reads.each few;
+          reads = first.reads.reads;
+          tallies = first.reads.tallies;
+        };
+        is = first.is;
       }
 
-      pub each_most : (waiting left : Option (List (Caller P O))) (old new : S) (n m : ℕ) → Each waiting left old new n → n ≤ m
-          → Each waiting left old new m
-      each_most waiting left old new n m first few = record {
+      pub each_most : (waiting left : Option (List (Caller P O))) (old new : S) (n m : ℕ) (tally : Tally) → UpTo waiting left old new n tally
+          → n ≤ m → Each waiting left old new m
+      each_most waiting left old new n m tally first few = record {
         each = record {
-          calls = first.each.calls;
-          few = omega (arith, first.each.few, few);
-          came = first.each.came;
-          there = first.each.there;
-          through = first.each.through;
+          calls = first.reads.each.calls;
+          few = omega (arith, first.reads.each.few, few);
+          came = first.reads.each.came;
+          there = first.reads.each.there;
+          through = first.reads.each.through;
         };
-        copies = first.copies;
+        reads = first.reads.reads;
+        tallies = first.reads.tallies;
       }
 
       -- one run of the machine
-      pub each_goes : (waiting left : Option (List (Caller P O))) (old new : S) (n m : ℕ) → Each waiting left old new n → n ≤ m
+      pub each_goes : (waiting left : Option (List (Caller P O))) (old new : S) (n m : ℕ) (tally : Tally) → UpTo waiting left old new n tally → n ≤ m
           → GoesOn (shown old) (shown new) (failures old) (failures new) m
-      each_goes waiting left old new n m all few = record {
-        turns = turns_with all.each.calls;
-        copied = copied_with all.each.calls;
-        few = omega (arith, one_each all.each.calls, all.each.few, few);
-        through = all.each.through;
+      each_goes waiting left old new n m tally all few = record {
+        turns = turns_with all.reads.each.calls;
+        read = read_with all.reads.each.calls;
+        few = omega (arith, one_each all.reads.each.calls, all.reads.each.few, few);
+        through = all.reads.each.through;
       }
 
-      -- one run with the copies that were made in it
-      pub each_copied : (waiting left : Option (List (Caller P O))) (old new : S) (n : ℕ) → Each waiting left old new n
-          → GoesOnCopied shown copied failures old new n
-      each_copied waiting left old new n all = record {
+      -- one run with the copies and the pings that were answered in it
+      pub each_read : (waiting left : Option (List (Caller P O))) (old new : S) (n : ℕ) → Each waiting left old new n
+          → GoesOnRead shown failures copied counted old new n
+      each_read waiting left old new n all = record {
         steps = steps_with all.each.calls;
         few = subst (λ ts. messages ts ≤ n) (sym (turns_of_steps all.each.calls)) (omega (arith, one_each all.each.calls, all.each.few));
-        through = rw (turns_of_steps all.each.calls, copy_of_steps all.each.calls) all.each.through;
-        copies = all.copies;
+        through = rw (turns_of_steps all.each.calls, read_of_steps all.each.calls) all.each.through;
+        reads = all.reads;
       }

@@ -2,13 +2,17 @@
 use Rattle.std.specs.Prelude.{ℕ, ◌≡◌, ◌⊎◌, List, Option, Result, Ok, Err}
 use Rattle.std.specs.Io.KnownBytes.{Consumes, Appends, Keeps}
 use Rattle.engine.specs.Written.{WritesPart}
-use Rattle.control.specs.Line.{IsSaid, IsSent, IsCopyTo, stop_line}
+use Rattle.control.specs.Health.{IsHealthLine}
+use Rattle.control.specs.Line.{IsSaid, IsSent, IsCopyTo, ping_line, stop_line}
 use Rattle.control.specs.Outcome.{line_of}
+use Rattle.control.specs.Told.{line_told}
 use Rattle.control.specs.Words.{Said}
 use Rattle.control.specs.declared.client.Untold.{Untold}
 use Rattle.control.specs.declared.client.Untold.TheVariants.{Words, Memory, Io}
 use Rattle.control.specs.declared.order.Order.{Order}
 use Rattle.control.specs.declared.outcome.Outcome.{Outcome}
+use Rattle.control.specs.declared.told.Told.{Told}
+use Rattle.control.specs.declared.told.Told.TheVariants as spoken
 
 -- no bytes are a line of this order
 abbrev pub IsUnsayable : Order → Type 0
@@ -64,3 +68,21 @@ AsksToStop unread unread_new written written_new (Ok told) =
     Appends written written_new stop_line × Consumes unread unread_new (line_of told)
 AsksToStop unread unread_new written written_new (Err why) =
     (why ≡ Io) × (WritesPart written written_new stop_line ⊎ Appends written written_new stop_line)
+
+-- an outcome, or the line of a health and nothing else
+abbrev pub IsTold : Told → Type 0
+IsTold (spoken.Outcome outcome) = Unit {0}
+IsTold (spoken.Health line) = IsHealthLine line
+
+-- the line of a health was read, or that of an outcome
+abbrev pub TellsHealth : Option (List ℕ) → Option (List ℕ) → Result Told Untold → Type 0
+TellsHealth unread unread_new (Ok told) = IsTold told × Consumes unread unread_new (line_told told)
+TellsHealth unread unread_new (Err e) = e ≡ Io
+
+-- So it was with the line that asks for the health of the server.
+abbrev pub AsksForHealth :
+    Option (List ℕ) → Option (List ℕ) → Option (List ℕ) → Option (List ℕ) → Result Told Untold → Type 0
+AsksForHealth unread unread_new written written_new (Ok told) =
+    IsTold told × Appends written written_new ping_line × Consumes unread unread_new (line_told told)
+AsksForHealth unread unread_new written written_new (Err why) =
+    (why ≡ Io) × (WritesPart written written_new ping_line ⊎ Appends written written_new ping_line)

@@ -35,7 +35,7 @@ abbrev pub kept_for : World → List ℕ → List Turn → List Bool
 kept_for w s turns = kept w (chain (world_at w turns) s) (map turn_event (told turns))
 
 -- Two stores, each on an honest disk, went through turns, from worlds that agreed on what the shelf sees at the end of the first. Each was
--- copied in between, or not.
+-- read in between, for a copy or a ping, or not.
 pub record AreTwoRuns (old new old_too new_too : Shown) (w x : World) (s : List ℕ) (full purged : List Turn) : Type 0 where
   pub stands : old.stands w
   pub stands_too : old_too.stands x
@@ -46,10 +46,10 @@ pub record AreTwoRuns (old new old_too new_too : Shown) (w x : World) (s : List 
   pub now : ℕ
   pub before_too : ℕ
   pub now_too : ℕ
-  pub copied : Bool
-  pub copied_too : Bool
-  pub through : GoesThroughTurns old new before now full copied
-  pub through_too : GoesThroughTurns old_too new_too before_too now_too purged copied_too
+  pub read : Bool
+  pub read_too : Bool
+  pub through : GoesThroughTurns old new before now full read
+  pub through_too : GoesThroughTurns old_too new_too before_too now_too purged read_too
 
 -- The texts written for the kept turns are equal, and the stores stand for worlds that agree again.
 pub record AreToldAlike (new new_too : Shown) (w x : World) (s : List ℕ) (full purged : List Turn) : Type 0 where

@@ -1,11 +1,14 @@
 pub mod Asking
 pub mod Copying
+pub mod Health
 pub mod Hearing
 pub mod Isolated
 pub mod Laws
 pub mod Line
 pub mod Order
 pub mod Outcome
+pub mod Pinging
+pub mod Told
 pub mod Turns
 pub mod Visits
 pub mod Words

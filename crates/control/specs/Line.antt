@@ -63,22 +63,30 @@ SaysNoCopy s = (path : List ℕ) → s ≢ copy_words path
 abbrev pub stop_line : List ℕ
 stop_line = codes "stop" ++ line_end ∷ []
 
--- a line ends in the bytes, or would be too long
-abbrev pub HasEnough : List ℕ → Type 0
-HasEnough got = Contains got line_end ⊎ (longest_copy < length got)
+-- the line that asks for the health of the server
+abbrev pub ping_line : List ℕ
+ping_line = codes "ping" ++ line_end ∷ []
+
+-- a line ends in the bytes, or would be longer than the most bytes that it may have
+abbrev pub HasEnough : ℕ → List ℕ → Type 0
+HasEnough most got = Contains got line_end ⊎ (most < length got)
 
 -- No more has to be read, or nothing comes.
-abbrev pub IsEnough : List ℕ → Option (List ℕ) → Type 0
-IsEnough got unread = HasEnough got ⊎ IsAtEnd unread
+abbrev pub IsEnough : ℕ → List ℕ → Option (List ℕ) → Type 0
+IsEnough most got unread = HasEnough most got ⊎ IsAtEnd unread
 
 -- these bytes were read, behind others, and whether no more has to be
-pub record ReadsOn (unread unread_new : Option (List ℕ)) (got got_new : List ℕ) (done : Bool) : Type 0 where
+pub record ReadsOn (most : ℕ) (unread unread_new : Option (List ℕ)) (got got_new : List ℕ) (done : Bool) : Type 0 where
   pub bytes : List ℕ
   pub consumed : Consumes unread unread_new bytes
   pub behind : got_new ≡ got ++ bytes
-  pub enough : IsTrue done → IsEnough got_new unread_new
+  pub enough : IsTrue done → IsEnough most got_new unread_new
 
--- These bytes were read, and no more has to be.
-pub record ReadsLine (unread unread_new : Option (List ℕ)) (got : List ℕ) : Type 0 where
+-- These bytes were read, and no more has to be for a line of so many bytes at most.
+pub record ReadsTo (most : ℕ) (unread unread_new : Option (List ℕ)) (got : List ℕ) : Type 0 where
   pub consumed : Consumes unread unread_new got
-  pub enough : IsEnough got unread_new
+  pub enough : IsEnough most got unread_new
+
+-- so it is of the line of an operator
+abbrev pub ReadsLine : Option (List ℕ) → Option (List ℕ) → List ℕ → Type 0
+ReadsLine = ReadsTo longest_copy

@@ -1,19 +1,25 @@
 -- Peers and operators, one after another.
-use Rattle.std.specs.Prelude.{ℕ, ◌≡◌, ◌≤◌, ◌+◌, ◌⊎◌, ◌||◌, Bool, false, List, [], ◌∷◌, ◌++◌, map, All, Option, Some, None, Result}
+use Rattle.std.specs.Prelude.{ℕ, ◌≡◌, ◌≤◌, ◌+◌, ◌⊎◌, ◌||◌, Bool, false, List, [], ◌∷◌, ◌++◌, map, All, Option, Some, None, Result, Ok, Err}
 use Rattle.std.specs.Io.KnownBytes.{Appends, Keeps}
 use Rattle.world.specs.Store.{Shown}
 use Rattle.world.specs.World.{World}
+use Rattle.world.specs.declared.registry.StoreFault.{StoreFault}
+use Rattle.engine.specs.First.{First, first_status}
 use Rattle.engine.specs.Written.{WritesPart}
+use Rattle.engine.specs.declared.fault.Io.TheVariants as io
 use Rattle.socket.specs.Connections.{Visit, Come, exchanges_of}
 use Rattle.socket.specs.Connections as socket
-use Rattle.control.specs.Copying.{Step, Turned, Copied, AllCopied}
-use Rattle.control.specs.Hearing.{Heard, CameOf, IsHeard, is_copied, outcome_heard, turns_heard}
+use Rattle.control.specs.Copying.{Step, Turned, Copied, Counted, AllRead}
+use Rattle.control.specs.Health.{Answered, IsPinged, tally_of}
+use Rattle.control.specs.Hearing.{Heard, CameOf, IsHeard, is_read, told_heard, turns_heard}
 use Rattle.control.specs.Hearing as hearing
-use Rattle.control.specs.Outcome.{line_of}
+use Rattle.control.specs.Told.{line_told}
 use Rattle.control.specs.Turns.{Turn, Asked, Ordered, GoesThroughTurns}
 use Rattle.control.specs.declared.callers.Caller.{Caller}
 use Rattle.control.specs.declared.copies.CopyRefusal.{CopyRefusal}
 use Rattle.control.specs.declared.callers.Caller.TheVariants.{Peer, Operator}
+use Rattle.control.specs.declared.health.Health.{Health}
+use Rattle.control.specs.declared.tally.Tally.{Tally}
 
 -- An operator before and after it was obeyed, and what its line ordered, unless a read failed before that was whole.
 pub record Audience (O : Type 0) : Type 0 where
@@ -21,13 +27,13 @@ pub record Audience (O : Type 0) : Type 0 where
   pub after : O
   pub heard : Option Heard
 
--- one who came, and what came of it
+-- one who came, and what came of it; a peer with what its connection counts as
 pub data Call (P O : Type 0) : Type 0 where
-  OfPeer : Visit P → Call P O
+  OfPeer : Visit P → Answered → Call P O
   OfOperator : Audience O → Call P O
 
 abbrev pub caller_of : {P O : Type 0} → Call P O → Caller P O
-caller_of (OfPeer visit) = Peer visit.before
+caller_of (OfPeer visit answered) = Peer visit.before
 caller_of (OfOperator audience) = Operator audience.before
 
 -- the turns of what an operator ordered: one for an order, and otherwise none
@@ -37,7 +43,7 @@ turns_if (Some heard) = turns_heard heard
 
 -- the turns of one caller: at most one
 abbrev pub turns_of : {P O : Type 0} → Call P O → List Turn
-turns_of (OfPeer visit) = map Asked (exchanges_of visit.first)
+turns_of (OfPeer visit answered) = map Asked (exchanges_of visit.first)
 turns_of (OfOperator audience) = turns_if audience.heard
 
 -- the messages of the peers and the orders of the operators, as they came
@@ -45,34 +51,35 @@ abbrev pub turns_with : {P O : Type 0} → List (Call P O) → List Turn
 turns_with [] = []
 turns_with (call ∷ calls) = turns_of call ++ turns_with calls
 
--- whether the order was a copy
-abbrev pub copied_if : Option Heard → Bool
-copied_if None = false
-copied_if (Some heard) = is_copied heard
+-- whether the store was read for the order
+abbrev pub read_if : Option Heard → Bool
+read_if None = false
+read_if (Some heard) = is_read heard
 
-abbrev pub copied_by : {P O : Type 0} → Call P O → Bool
-copied_by (OfPeer visit) = false
-copied_by (OfOperator audience) = copied_if audience.heard
+abbrev pub read_by : {P O : Type 0} → Call P O → Bool
+read_by (OfPeer visit answered) = false
+read_by (OfOperator audience) = read_if audience.heard
 
--- whether one of the orders was
-abbrev pub copied_with : {P O : Type 0} → List (Call P O) → Bool
-copied_with [] = false
-copied_with (call ∷ calls) = copied_by call || copied_with calls
+-- whether it was for one of the orders
+abbrev pub read_with : {P O : Type 0} → List (Call P O) → Bool
+read_with [] = false
+read_with (call ∷ calls) = read_by call || read_with calls
 
--- the turn or the copy that it was
+-- the turn, the copy or the ping that it was
 abbrev pub steps_if : Option Heard → List Step
 steps_if None = []
 steps_if (Some (hearing.Carried order told)) = Turned (Ordered order told) ∷ []
 steps_if (Some (hearing.Copied path told)) = Copied path told ∷ []
+steps_if (Some (hearing.Pinged told)) = Counted told ∷ []
 steps_if (Some hearing.Stop) = []
 steps_if (Some hearing.NoOrder) = []
 steps_if (Some hearing.NoMemory) = []
 
 abbrev pub steps_of : {P O : Type 0} → Call P O → List Step
-steps_of (OfPeer visit) = map (λ x. Turned (Asked x)) (exchanges_of visit.first)
+steps_of (OfPeer visit answered) = map (λ x. Turned (Asked x)) (exchanges_of visit.first)
 steps_of (OfOperator audience) = steps_if audience.heard
 
--- the messages, the orders and the copies, as they came
+-- the messages, the orders, the copies and the pings, as they came
 abbrev pub steps_with : {P O : Type 0} → List (Call P O) → List Step
 steps_with [] = []
 steps_with (call ∷ calls) = steps_of call ++ steps_with calls
@@ -80,35 +87,78 @@ steps_with (call ∷ calls) = steps_of call ++ steps_with calls
 -- how many of the callers are peers
 abbrev pub peers : {P O : Type 0} → List (Call P O) → ℕ
 peers [] = 0
-peers (OfPeer visit ∷ calls) = peers calls + 1
+peers (OfPeer visit answered ∷ calls) = peers calls + 1
 peers (OfOperator audience ∷ calls) = peers calls
 
--- what came of a copy that was ordered
-abbrev pub CameIf : (List ℕ → Result (Unit {0}) CopyRefusal → Type 0) → Option Heard → Type 0
-CameIf copied None = Unit {0}
-CameIf copied (Some heard) = CameOf copied heard
+-- what became of the connections of peers
+abbrev pub answered_with : {P O : Type 0} → List (Call P O) → List Answered
+answered_with [] = []
+answered_with (OfPeer visit answered ∷ calls) = answered ∷ answered_with calls
+answered_with (OfOperator audience ∷ calls) = answered_with calls
+
+-- what came of a copy that was ordered, or of a ping
+abbrev pub CameIf : (List ℕ → Result (Unit {0}) CopyRefusal → Type 0) → (Result Health StoreFault → Type 0) → Option Heard → Type 0
+CameIf copied pinged None = Unit {0}
+CameIf copied pinged (Some heard) = CameOf copied pinged heard
+
+-- The connection counts as what became of it: by the status that was written for what came first, or as one that failed.
+abbrev pub CountsAs : Option First → Answered → Type 0
+CountsAs None (Ok status) = ⊥
+CountsAs None (Err e) = e ≡ io.Read
+CountsAs (Some first) (Ok status) = status ≡ first_status first
+CountsAs (Some first) (Err e) = e ≡ io.Write
+
+-- a ping was told these counts
+abbrev pub TellsTally : Tally → Option Heard → Type 0
+TellsTally tally (Some (hearing.Pinged (Ok health))) = health.tally ≡ tally
+TellsTally tally other = Unit {0}
+
+-- where the call is a ping, it was told the counts of the connections before it
+abbrev pub IsTallied : {P O : Type 0} → List ℕ → List (Call P O) → Call P O → Type 0
+IsTallied since before (OfPeer visit answered) = Unit {0}
+IsTallied since before (OfOperator audience) = TellsTally (tally_of since (answered_with before)) audience.heard
+
+-- so it is of each, behind those before them all
+abbrev pub AllTallied : {P O : Type 0} → List ℕ → List (Call P O) → List (Call P O) → Type 0
+AllTallied since before [] = Unit {0}
+AllTallied since before (call ∷ calls) = IsTallied since before call × AllTallied since (before ++ call ∷ []) calls
+
+-- A peer was answered, and its connection counts as what became of it.
+pub record AnswersOne {P : Type 0} (unread written : P → Option (List ℕ)) (peer : P) (old new : Shown) (before now : ℕ)
+    (answered : Answered) : Type 0 where
+  pub answers : socket.Answers unread written peer old new before now
+  pub counts : CountsAs answers.visit.first answered
 
 module _ {O : Type 0} (heeded told : O → Option (List ℕ)) where
-  -- What was read came from this operator, and its outcome went to this operator: the whole line, or a beginning where a write
+  -- What was read came from this operator, and what came of it went to this operator: the whole line, or a beginning where a write
   -- failed. Where a read failed, nothing was written.
   abbrev pub IsToldThere : O → O → Option Heard → Type 0
   IsToldThere before after None = Keeps (told before) (told after)
   IsToldThere before after (Some heard) =
       IsHeard (heeded before) (heeded after) heard
-      × (WritesPart (told before) (told after) (line_of (outcome_heard heard)) ⊎ Appends (told before) (told after) (line_of (outcome_heard heard)))
+      × (WritesPart (told before) (told after) (line_told (told_heard heard))
+      ⊎ Appends (told before) (told after) (line_told (told_heard heard)))
 
   -- this operator was obeyed, and the store went through its order
-  pub record ObeysOne
-      (copied : List ℕ → Result (Unit {0}) CopyRefusal → Type 0) (operator : O) (old new : Shown) (before now : ℕ) : Type 0 where
+  pub record ObeysOne (copied : List ℕ → Result (Unit {0}) CopyRefusal → Type 0) (pinged : Result Health StoreFault → Type 0)
+      (operator : O) (old new : Shown) (before now : ℕ) : Type 0 where
     pub audience : Audience O
     pub begins : audience.before ≡ operator
     pub there : IsToldThere audience.before audience.after audience.heard
-    pub through : GoesThroughTurns old new before now (turns_if audience.heard) (copied_if audience.heard)
-    pub came : CameIf copied audience.heard
+    pub through : GoesThroughTurns old new before now (turns_if audience.heard) (read_if audience.heard)
+    pub came : CameIf copied pinged audience.heard
+
+  -- so it was between two stores, by what is known of copies and counts, with the tally of the moment
+  abbrev pub ObeysOneBy : {S : Type 0} (shown : S → Shown) (failures : S → ℕ)
+      (copied : S → S → List ℕ → Result (Unit {0}) CopyRefusal → Type 0) (counted : S → S → ℕ → Type 0) (tally : Tally)
+      (operator : O) (old new : S) → Type 0
+  ObeysOneBy shown failures copied counted tally operator old new =
+      ObeysOne (copied old new) (IsPinged tally (failures old) (failures new) (counted old new)) operator
+      (shown old) (shown new) (failures old) (failures new)
 
   module _ {P : Type 0} (unread written : P → Option (List ℕ)) where
     abbrev pub IsCallThere : Call P O → Type 0
-    IsCallThere (OfPeer visit) = socket.IsAnsweredThere unread written visit
+    IsCallThere (OfPeer visit answered) = socket.IsAnsweredThere unread written visit × CountsAs visit.first answered
     IsCallThere (OfOperator audience) = IsToldThere audience.before audience.after audience.heard
 
     -- The callers were served one after another, each once, and at most as many peers as there are connections. What a peer sent
@@ -118,11 +168,15 @@ module _ {O : Type 0} (heeded told : O → Option (List ℕ)) where
       pub few : peers calls ≤ connections
       pub came : Come waiting left (map caller_of calls)
       pub there : All IsCallThere calls
-      pub through : GoesThroughTurns old new before now (turns_with calls) (copied_with calls)
+      pub through : GoesThroughTurns old new before now (turns_with calls) (read_with calls)
 
-    -- So it was, and each copy that was ordered was made of the machine's world at its moment.
-    pub record CopiesEach
+    -- So it was. Each copy that was ordered was made of the machine's world at its moment, and each ping was told what was counted in it,
+    -- and how the connections before it were answered.
+    pub record ReadsEach
         {S : Type 0} (shown : S → Shown) (failures : S → ℕ) (copied : S → S → List ℕ → Result (Unit {0}) CopyRefusal → Type 0)
-        (waiting left : Option (List (Caller P O))) (old new : S) (connections : ℕ) : Type 0 where
+        (counted : S → S → ℕ → Type 0)
+        (waiting left : Option (List (Caller P O))) (old new : S) (since : List ℕ) (connections : ℕ) : Type 0 where
       pub each : ServesEach waiting left (shown old) (shown new) (failures old) (failures new) connections
-      pub copies : (shown new).is_honest → (w : World) → (shown old).stands w → AllCopied shown copied w (steps_with each.calls)
+      pub reads : (shown new).is_honest → (w : World) → (shown old).stands w
+          → AllRead shown failures copied counted w (steps_with each.calls)
+      pub tallies : AllTallied since [] each.calls

@@ -1,8 +1,9 @@
 //! Callers: peers, who send requests, and operators, who send orders.
 use crate::copies::Copies;
 use crate::obeying::obey;
-use crate::outcome::Outcome;
 use crate::patience::Timed;
+use crate::tally::Tally;
+use crate::told::Told;
 use engine::Io;
 use mio::unix::SourceFd;
 use mio::{Events, Interest, Poll, Token};
@@ -27,7 +28,7 @@ pub enum Caller<P, O> {
 /// An operator who has connected.
 pub trait Operator {
     ghost use Rattle.std.specs.Prelude.{ℕ, List, Option};
-    ghost use Rattle.control.specs.Hearing.{Obeys};
+    ghost use Rattle.control.specs.Hearing.{ObeysBy};
 
     /// The bytes that it sends from here on, where they are known.
     ghost unread: { Self → Option (List ℕ) };
@@ -35,16 +36,16 @@ pub trait Operator {
     /// The bytes that were sent to it, where they are known.
     ghost written: { Self → Option (List ℕ) };
 
-    /// Carries out its order, as `obey` does.
+    /// Carries out its order, as `obey` does. A ping is told this tally.
     fn obeyed<C: Clock, S: Shelves, K: Copies<S>>(
         &mut self,
         alloc: Global,
         clock: &C,
+        tally: &Tally,
         shelves: &mut S,
         copies: &mut K,
-    ) -> Result<Outcome, Io>
-        ensures { Obeys (K.copied shelves.old shelves.new)
-            (S.shown shelves.old) (S.shown shelves.new) (S.failure_count shelves.old) (S.failure_count shelves.new)
+    ) -> Result<Told, Io>
+        ensures { ObeysBy S.shown S.failure_count K.copied K.counted tally.now shelves.old shelves.new
             (unread self.old) (unread self.new) (written self.old) (written self.new) result };
 }
 
@@ -61,13 +62,14 @@ impl Operator for UnixStream {
         &mut self,
         alloc: Global,
         clock: &C,
+        tally: &Tally,
         shelves: &mut S,
         copies: &mut K,
-    ) -> Result<Outcome, Io> {
+    ) -> Result<Told, Io> {
         let stream: &UnixStream = self;
         let mut reader = Timed::new(stream, clock);
         let mut writer = Timed::new(stream, clock);
-        obey(alloc, &mut reader, &mut writer, shelves, copies)
+        obey(alloc, &mut reader, &mut writer, tally, shelves, copies)
     }
 }
 

@@ -1,21 +1,27 @@
 //! The operator's side.
 ghost use Rattle.std.specs.Prelude.{◌≡◌, ◌++◌, ◌∷◌, [], IfOk, IfErr, IfSome, OnOk, option_copied};
-ghost use Rattle.control.specs.Asking.{Asks, AsksToCopy, AsksToStop, IsUnsent, IsUnwritten, TellsOutcome};
+ghost use Rattle.control.specs.Asking.{Asks, AsksForHealth, AsksToCopy, AsksToStop, IsUnsent, IsUnwritten, TellsOutcome, TellsHealth, IsTold};
 ghost use Rattle.control.specs.Line.{IsCopyTo, IsSaid, IsSent, copy_words, longest_copy};
 ghost use Rattle.control.specs.Order as spec;
 ghost use Rattle.control.specs.Order.{said_in};
 ghost use Rattle.control.specs.Outcome.{line_of};
+ghost use Rattle.control.specs.Told.{line_told};
 ghost use Rattle.control.specs.Words.{said, text_of, behind, line_end};
 
 use crate::copy_line::words_to_copy;
-use crate::line::{LONGEST, LONGEST_COPY, line_in, read_line};
+use crate::health::health_line_in;
+use crate::line::{LONGEST, LONGEST_COPY, line_in, read_line, read_to};
 use crate::order::Order;
 use crate::outcome::Outcome;
+use crate::told::Told;
 use crate::words::{Words, are_words};
 use engine::write::write_bytes;
 use std::alloc::{AllocError, Global};
 use std::io::{Read, Write};
 use world::entry::Right;
+
+/// The most bytes of a health's line without its end. Where each count has the most digits that it can have there are 232.
+const LONGEST_HEALTH: usize = 255;
 
 /// Why an operator was told nothing.
 #[derive(Clone, Copy, Debug, Drop, PartialEq, Eq)]
@@ -82,6 +88,22 @@ pub fn ask_to_stop<R: Read, W: Write>(
 {
     match write_bytes(writer, b"stop\n") {
         Ok(()) => hear_outcome(alloc, reader),
+        Err(_) => Err(Untold::Io),
+    }
+}
+
+/// Asks for the health of the server, and returns what it tells: the line of a health, or an outcome if it tells none. It fails with
+/// `Untold::Io` alone, also where what came is neither.
+pub fn ask_for_health<R: Read, W: Write>(
+    alloc: Global,
+    reader: &mut R,
+    writer: &mut W,
+) -> Result<Told, Untold>
+    ensures { AsksForHealth (R.remaining reader.old) (R.remaining reader.new)
+        (W.contents writer.old) (W.contents writer.new) result }
+{
+    match write_bytes(writer, b"ping\n") {
+        Ok(()) => hear_health(alloc, reader),
         Err(_) => Err(Untold::Io),
     }
 }
@@ -190,6 +212,33 @@ fn hear_outcome<R: Read>(alloc: Global, reader: &mut R) -> Result<Outcome, Untol
     match outcome_in(&got) {
         Some(told) => Ok(told),
         None => Err(Untold::Io),
+    }
+}
+
+/// Reads the line of a health, or of an outcome.
+fn hear_health<R: Read>(alloc: Global, reader: &mut R) -> Result<Told, Untold>
+    ensures { TellsHealth (R.remaining reader.old) (R.remaining reader.new) result }
+{
+    let Ok(got) = read_to(alloc, reader, LONGEST_HEALTH) else {
+        return Err(Untold::Io);
+    };
+    match told_in(alloc, &got) {
+        Some(line) => Ok(line),
+        None => Err(Untold::Io),
+    }
+}
+
+/// What the bytes tell, if they are the line of an outcome or of a health.
+fn told_in(alloc: Global, got: &[u8]) -> Option<Told>
+    ensures line { IfSome result (λ told. got.now ≡ line_told told) }
+    ensures told { IfSome result IsTold }
+{
+    if let Some(outcome) = outcome_in(got) {
+        return Some(Told::Outcome(outcome));
+    }
+    match health_line_in(alloc, got) {
+        Some(line) => Some(Told::Health(line)),
+        None => None,
     }
 }
 

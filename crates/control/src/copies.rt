@@ -1,4 +1,5 @@
-//! What copies a store that is served.
+//! What reads a store that is served: copies of it, and how much it keeps.
+use world::registry::StoreFault;
 use world::shelves::Shelves;
 
 /// Why a copy was not made.
@@ -12,14 +13,18 @@ pub enum CopyRefusal {
     Memory,
 }
 
-/// What copies a store between two requests.
+/// What copies a store between two requests, and counts what it keeps.
 pub trait Copies<S: Shelves> {
-    ghost use Rattle.std.specs.Prelude.{ℕ, List, Result};
+    ghost use Rattle.std.specs.Prelude.{ℕ, List, Result, IfOk};
     ghost use Rattle.control.specs.Copying.{IsOnlyRead};
     ghost use Rattle.control.specs.declared.copies.CopyRefusal.{CopyRefusal};
+    ghost use Rattle.world.specs.Store.{HasCause};
 
     /// What a copy does: relates the served store before and after it, the path, and the result.
     ghost copied: { S → S → List ℕ → Result (Unit {0}) CopyRefusal → Type 0 };
+
+    /// What a count says, by the served store before and after it, and the number.
+    ghost counted: { S → S → ℕ → Type 0 };
 
     /// Makes the store of a file, with this path, one of the served store as it is at this moment. The served store is only read.
     ///
@@ -29,4 +34,12 @@ pub trait Copies<S: Shelves> {
         ensures reads { IsOnlyRead (S.shown shelves.old) (S.shown shelves.new)
             (S.failure_count shelves.old) (S.failure_count shelves.new) }
         ensures came { copied shelves.old shelves.new path.now result };
+
+    /// Returns how many versions the served store keeps at this moment. The served store is only read. Fails with `Device` if a disk
+    /// failed, and with `Memory` if memory ran out.
+    fn versions(&mut self, shelves: &mut S) -> Result<u64, StoreFault>
+        ensures reads { IsOnlyRead (S.shown shelves.old) (S.shown shelves.new)
+            (S.failure_count shelves.old) (S.failure_count shelves.new) }
+        ensures cause { HasCause (S.failure_count shelves.old) (S.failure_count shelves.new) result }
+        ensures counted { IfOk result (λ n. counted shelves.old shelves.new n) };
 }

@@ -4,10 +4,12 @@
 //! |---|---|
 //! | the orders, and the line of each | [`Order`], [`order_of`] |
 //! | the order to copy the store, and what carries it out | [`copy_path_of`], [`Copies`] |
-//! | what came of an order, and the line that tells it | [`Outcome`] |
+//! | what a ping is told: how connections were answered, and more that an operator watches | [`Tally`], [`Health`] |
+//! | what came of an order, and the line that tells it | [`Outcome`], [`Told`] |
 //! | carrying an operator's order out | [`obey`] |
 //! | peers of a port and operators of a socket, one after another | [`serve_both`], [`Callers`], [`Doors`] |
-//! | the socket, and the operator's side | [`operators_at`], [`leave_place`], [`server_at`], [`ask`], [`ask_to_copy`], [`ask_to_stop`] |
+//! | the socket | [`operators_at`], [`leave_place`] |
+//! | the operator's side | [`server_at`], [`ask`], [`ask_to_copy`], [`ask_for_health`], [`ask_to_stop`] |
 #![tactic(auto)]
 
 mod callers;
@@ -15,22 +17,29 @@ mod carry;
 mod client;
 mod copies;
 mod copy_line;
+mod health;
 pub mod laws;
 mod line;
 mod obeying;
 mod order;
 mod outcome;
 mod patience;
+mod pinging;
 mod place;
 mod serve;
+mod tally;
+mod told;
 mod words;
 
 pub use callers::{Caller, Callers, Doors, Operator};
-pub use client::{Untold, ask, ask_to_copy, ask_to_stop};
+pub use client::{Untold, ask, ask_for_health, ask_to_copy, ask_to_stop};
 pub use copies::{Copies, CopyRefusal};
 pub use copy_line::copy_path_of;
+pub use health::Health;
 pub use obeying::obey;
 pub use order::{Order, order_of};
 pub use outcome::Outcome;
 pub use place::{leave_place, operators_at, server_at};
 pub use serve::serve_both;
+pub use tally::Tally;
+pub use told::Told;

@@ -31,13 +31,24 @@ impl From<AllocError> for Unread {
 }
 
 /// Reads to the end of a line, and no further than what comes with it in one read: fewer bytes only if nothing more comes, or the
-/// line is too long.
+/// line is too long for an order's.
 pub(crate) fn read_line<R: Read>(alloc: Global, reader: &mut R) -> Result<Vec<u8>, Unread>
     ensures { IfOk result (λ got. spec.ReadsLine (R.remaining reader.old) (R.remaining reader.new) got.items) }
 {
-    let mut got = Vec::with_capacity(alloc, LONGEST + 1)?;
+    read_to(alloc, reader, LONGEST_COPY)
+}
+
+/// Reads so to the end of a line of so many bytes at most.
+pub(crate) fn read_to<R: Read>(
+    alloc: Global,
+    reader: &mut R,
+    most: usize,
+) -> Result<Vec<u8>, Unread>
+    ensures { IfOk result (λ got. spec.ReadsTo most (R.remaining reader.old) (R.remaining reader.new) got.items) }
+{
+    let mut got = Vec::with_capacity(alloc, most.saturating_add(1))?;
     for _ in 0..TRIES {
-        if read_on(reader, &mut got)? {
+        if read_on(reader, &mut got, most)? {
             return Ok(got);
         }
     }
@@ -45,15 +56,16 @@ pub(crate) fn read_line<R: Read>(alloc: Global, reader: &mut R) -> Result<Vec<u8
 }
 
 /// Reads once, behind what was read, and returns whether no more has to be read. A read that is interrupted reads nothing.
-fn read_on<R: Read>(reader: &mut R, got: &mut Vec<u8>) -> Result<bool, Unread>
-    ensures { IfOk result (λ done. spec.ReadsOn (R.remaining reader.old) (R.remaining reader.new) got.old.items got.new.items done) }
+fn read_on<R: Read>(reader: &mut R, got: &mut Vec<u8>, most: usize) -> Result<bool, Unread>
+    ensures { IfOk result (λ done.
+        spec.ReadsOn most (R.remaining reader.old) (R.remaining reader.new) got.old.items got.new.items done) }
 {
     let mut chunk = [0; LONGEST_COPY + 1];
     match reader.read(&mut chunk) {
         Ok(0) => Ok(true),
         Ok(n) => {
             got.extend_from_slice(&chunk[..n])?;
-            Ok(is_enough(got))
+            Ok(is_enough(got, most))
         }
         Err(e) if e.kind() == ErrorKind::Interrupted => Ok(false),
         Err(_) => Err(Unread::Io),
@@ -61,10 +73,10 @@ fn read_on<R: Read>(reader: &mut R, got: &mut Vec<u8>) -> Result<bool, Unread>
 }
 
 /// Whether a line ends in these bytes, or would be too long.
-fn is_enough(bytes: &[u8]) -> bool
-    ensures { IsTrue result → spec.HasEnough bytes.now }
+fn is_enough(bytes: &[u8], most: usize) -> bool
+    ensures { IsTrue result → spec.HasEnough most bytes.now }
 {
-    bytes.len() > LONGEST_COPY || bytes.contains(&b'\n')
+    bytes.len() > most || bytes.contains(&b'\n')
 }
 
 /// Returns the line that the bytes are, without its end, or None if they have no end, are too many, or are not UTF-8.
@@ -86,6 +98,13 @@ pub(crate) fn is_stop(got: &[u8]) -> bool
     ensures { IsTrue result ↔ (got.now ≡ spec.stop_line) }
 {
     got == b"stop\n".as_slice()
+}
+
+/// Whether the bytes are the line that asks for the health of the server.
+pub(crate) fn is_ping(got: &[u8]) -> bool
+    ensures { IsTrue result ↔ (got.now ≡ spec.ping_line) }
+{
+    got == b"ping\n".as_slice()
 }
 
 /// The order whose line the bytes are, or None if they are no order's.

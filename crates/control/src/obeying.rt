@@ -1,12 +1,15 @@
 //! One order.
 ghost use Rattle.std.specs.Prelude.{◌≡◌};
-ghost use Rattle.control.specs.Hearing.{Heeds, HearsOrFails, Obeys};
+ghost use Rattle.control.specs.Hearing.{HeedsBy, HearsBy, ObeysBy};
 
 use crate::carry::carry_out;
 use crate::copies::Copies;
 use crate::copy_line::copy_in;
-use crate::line::{Unread, is_stop, order_in, read_line};
+use crate::line::{Unread, is_ping, is_stop, order_in, read_line};
 use crate::outcome::{Outcome, outcome_of, outcome_of_copy};
+use crate::pinging::ping;
+use crate::tally::Tally;
+use crate::told::Told;
 use engine::Io;
 use engine::write::write_bytes;
 use std::alloc::Global;
@@ -14,8 +17,9 @@ use std::io::{Read, Write};
 use world::registry::StoreFault;
 use world::shelves::Shelves;
 
-/// Reads an operator's line, carries out the order that it is, and writes and returns the outcome. A copy is made by `copies`.
-/// `Outcome::Stopping`: the operator wants the server to end.
+/// Reads an operator's line, carries out the order that it is, and writes and returns what came of it. A copy is made by `copies`.
+/// `Outcome::Stopping`: the operator wants the server to end. `Told::Health`: the line is a ping, and is told the tally, the failures
+/// of the store and the versions that `copies` counts.
 ///
 /// `Io::Read`: nothing was done, and nothing written. `Io::Write`: a beginning of the line was written, and not all; the shelves are
 /// as after the order.
@@ -23,14 +27,14 @@ pub fn obey<R: Read, W: Write, S: Shelves, K: Copies<S>>(
     alloc: Global,
     reader: &mut R,
     writer: &mut W,
+    tally: &Tally,
     shelves: &mut S,
     copies: &mut K,
-) -> Result<Outcome, Io>
-    ensures { Obeys (K.copied shelves.old shelves.new)
-        (S.shown shelves.old) (S.shown shelves.new) (S.failure_count shelves.old) (S.failure_count shelves.new)
+) -> Result<Told, Io>
+    ensures { ObeysBy S.shown S.failure_count K.copied K.counted tally.now shelves.old shelves.new
         (R.remaining reader.old) (R.remaining reader.new) (W.contents writer.old) (W.contents writer.new) result }
 {
-    match hear(alloc, reader, shelves, copies) {
+    match hear(alloc, reader, tally, shelves, copies) {
         Ok(told) => match write_bytes(writer, told.line().as_bytes()) {
             Ok(()) => Ok(told),
             Err(why) => Err(why),
@@ -43,34 +47,41 @@ pub fn obey<R: Read, W: Write, S: Shelves, K: Copies<S>>(
 fn hear<R: Read, S: Shelves, K: Copies<S>>(
     alloc: Global,
     reader: &mut R,
+    tally: &Tally,
     shelves: &mut S,
     copies: &mut K,
-) -> Result<Outcome, Io>
-    ensures { HearsOrFails (K.copied shelves.old shelves.new)
-        (S.shown shelves.old) (S.shown shelves.new) (S.failure_count shelves.old) (S.failure_count shelves.new)
+) -> Result<Told, Io>
+    ensures { HearsBy S.shown S.failure_count K.copied K.counted tally.now shelves.old shelves.new
         (R.remaining reader.old) (R.remaining reader.new) result }
 {
     match read_line(alloc, reader) {
-        Ok(got) => Ok(heed(&got, shelves, copies)),
+        Ok(got) => Ok(heed(alloc, &got, tally, shelves, copies)),
         Err(Unread::Io) => Err(Io::Read),
-        Err(Unread::Memory) => Ok(Outcome::Failed(StoreFault::Memory)),
+        Err(Unread::Memory) => Ok(Told::Outcome(Outcome::Failed(StoreFault::Memory))),
     }
 }
 
 /// Carries out the order that the bytes are, if they are one's.
-fn heed<S: Shelves, K: Copies<S>>(got: &[u8], shelves: &mut S, copies: &mut K) -> Outcome
-    ensures { Heeds (K.copied shelves.old shelves.new)
-        (S.shown shelves.old) (S.shown shelves.new) (S.failure_count shelves.old) (S.failure_count shelves.new)
-        got.now result }
+fn heed<S: Shelves, K: Copies<S>>(
+    alloc: Global,
+    got: &[u8],
+    tally: &Tally,
+    shelves: &mut S,
+    copies: &mut K,
+) -> Told
+    ensures { HeedsBy S.shown S.failure_count K.copied K.counted tally.now shelves.old shelves.new got.now result }
 {
     if is_stop(got) {
-        return Outcome::Stopping;
+        return Told::Outcome(Outcome::Stopping);
+    }
+    if is_ping(got) {
+        return ping(alloc, tally, shelves, copies);
     }
     if let Some(path) = copy_in(got) {
-        return outcome_of_copy(copies.copy(shelves, path));
+        return Told::Outcome(outcome_of_copy(copies.copy(shelves, path)));
     }
     match order_in(got) {
-        Some(order) => outcome_of(carry_out(shelves, &order)),
-        None => Outcome::Bad,
+        Some(order) => Told::Outcome(outcome_of(carry_out(shelves, &order))),
+        None => Told::Outcome(Outcome::Bad),
     }
 }

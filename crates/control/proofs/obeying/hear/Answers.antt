@@ -5,7 +5,7 @@ use Rattle.control.proofs.TurnLemmas.{turns_none}
 use Rattle.control.proofs.obeying.hear.Goals as goal
 
 pub returns-in-Ok : goal.returns-in-Ok
-returns-in-Ok g c = hears_line _ _ _ _ _ _ _ _ _ c.in-Ok.ensures (rw c.deref.ensures.value at c.heed.ensures)
+returns-in-Ok g c = hears_line _ _ _ _ _ _ _ _ _ _ c.in-Ok.ensures (rw c.deref.ensures.value at c.heed.ensures)
 
 pub returns-in-Err-Io : goal.returns-in-Err-Io
 returns-in-Err-Io g c = (refl, turns_none _ _)

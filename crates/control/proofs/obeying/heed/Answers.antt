@@ -1,6 +1,7 @@
-use Rattle.std.proofs.Common.{refl, sym, ◌∙◌}
+use Rattle.std.proofs.Common.{refl, sym, ap, ◌∙◌}
 use Rattle.std.proofs.lemmas.Bool.{false≢true}
-use Rattle.control.specs.Hearing.{Carried, Copied, Stop, NoOrder}
+use Rattle.control.specs.Hearing.{Carried, Copied, Pinged, Stop, NoOrder}
+use Rattle.control.specs.declared.told.Told.TheVariants as spoken
 use Rattle.control.proofs.TurnLemmas.{turns_none, turns_read, turns_ordered}
 use Rattle.control.proofs.obeying.heed.Goals as goal
 
@@ -13,11 +14,20 @@ returns-then-is_stop g c = record {
   came = tt;
 }
 
+pub returns-then-is_ping : goal.returns-then-is_ping
+returns-then-is_ping g c = record {
+  heard = Pinged c.ping.ensures.heard;
+  from = c.is_ping.ensures.0 c.if-is_ping.true;
+  tells = c.ping.ensures.tells;
+  through = turns_read _ _ _ _ c.ping.ensures.reads;
+  came = c.ping.ensures.came;
+}
+
 pub returns-in-Some : goal.returns-in-Some
 returns-in-Some g c = record {
   heard = Copied c.in-Some.path.now c.copy.result;
   from = c.in-Some.ensures;
-  tells = c.outcome_of_copy.ensures;
+  tells = ap spoken.Outcome c.outcome_of_copy.ensures;
   through = turns_read _ _ _ _ c.copy.ensures.reads;
   came = c.copy.ensures.came;
 }
@@ -26,7 +36,7 @@ pub returns-in-Some-order_in : goal.returns-in-Some-order_in
 returns-in-Some-order_in g c = record {
   heard = Carried c.in-Some-order_in.order c.carry_out.result;
   from = c.in-Some-order_in.ensures;
-  tells = c.outcome_of.ensures;
+  tells = ap spoken.Outcome c.outcome_of.ensures;
   through = turns_ordered _ _ _ _ _ _ c.carry_out.ensures.does c.carry_out.ensures.cause;
   came = tt;
 }
@@ -34,7 +44,12 @@ returns-in-Some-order_in g c = record {
 pub returns-in-None : goal.returns-in-None
 returns-in-None g c = record {
   heard = NoOrder;
-  from = (c.in-None.ensures, λ is. false≢true (sym c.if-is_stop.false ∙ c.is_stop.ensures.1 is), rw c.in_default.is at c.copy_in.ensures);
+  from = (
+    c.in-None.ensures,
+    λ is. false≢true (sym c.if-is_stop.false ∙ c.is_stop.ensures.1 is),
+    λ is. false≢true (sym c.if-is_ping.false ∙ c.is_ping.ensures.1 is),
+    rw c.in_default.is at c.copy_in.ensures,
+  );
   tells = refl;
   through = turns_none _ _;
   came = tt;

@@ -1,5 +1,5 @@
 use Rattle.std.proofs.Common.{◌≤◌, ◌-◌}
-use Rattle.control.specs.Visits.{CopiesEach}
+use Rattle.control.proofs.ServeLemmas.{UpTo}
 use Rattle.control.proofs.serve.serve_both.Given as goal
 
 -- the callers so far were served, and the connections that are left count no more than at first
@@ -9,6 +9,7 @@ invariant-loop g l =
     let waiting = g.L.Callers.waiting in
     record {
       some : l.left ≤ l.fn.connections;
-      all : CopiesEach g.O.Operator.unread g.O.Operator.written g.P.Peer.unread g.P.Peer.written s.shown s.failure_count g.K.Copies.copied
-          (waiting l.fn.callers) (waiting l.callers) l.fn.shelves l.shelves (l.fn.connections - l.left);
+      all : UpTo g.O.Operator.unread g.O.Operator.written g.P.Peer.unread g.P.Peer.written s.shown s.failure_count
+          g.K.Copies.copied g.K.Copies.counted l.fn.since
+          (waiting l.fn.callers) (waiting l.callers) l.fn.shelves l.shelves (l.fn.connections - l.left) l.tally;
     }

@@ -1,5 +1,5 @@
 use Rattle.std.specs.Io.KnownBytes.{Consumes}
-use Rattle.control.proofs.line.read_line.Given as goal
+use Rattle.control.proofs.line.read_to.Given as goal
 
 -- the bytes so far are what was read
 abbrev pub invariant-loop : goal.invariant-loop

@@ -1,0 +1,5 @@
+use Rattle.std.proofs.Common.{append_assoc, rules}
+use Rattle.control.proofs.tally.Tally.counts.Goals as goal
+
+pub returns : goal.returns
+returns c = rw (c.in_ok-text.ensures.ok) (simp append_assoc)

@@ -1,0 +1,89 @@
+-- What was answered since a server began, and the line that tells it.
+use Rattle.std.specs.Prelude.{ℕ, ◌≡◌, ◌+◌, ◌/◌, ◌<◌, ◌++◌, nat_eq, cond, Bool, true, false, List, length, codes, decimal, count_by, Option, Some, None, Result, Ok, Err}
+use Rattle.world.specs.Store.{GrewOrFull}
+use Rattle.world.specs.declared.registry.StoreFault.{StoreFault}
+use Rattle.world.specs.declared.registry.StoreFault.TheVariants.{Device}
+use Rattle.engine.specs.declared.fault.Io.{Io}
+use Rattle.control.specs.declared.health.Health.{Health}
+use Rattle.control.specs.declared.tally.Tally.{Tally}
+
+-- what became of one connection: the status that was written, none where the peer sent nothing, or that it failed
+abbrev pub Answered : Type 0
+Answered = Result (Option ℕ) Io
+
+-- whether its status begins with this digit
+abbrev pub is_of_class : ℕ → Answered → Bool
+is_of_class class (Ok (Some status)) = nat_eq (status / 100) class
+is_of_class class (Ok None) = false
+is_of_class class (Err e) = false
+
+-- whether no status was written whole
+abbrev pub is_unanswered : Answered → Bool
+is_unanswered (Ok (Some status)) = false
+is_unanswered (Ok None) = true
+is_unanswered (Err e) = true
+
+-- the counts of these connections
+abbrev pub tally_of : List ℕ → List Answered → Tally
+tally_of since all = record {
+  since = since;
+  connections = length all;
+  succeeded = count_by (is_of_class 2) all;
+  refused = count_by (is_of_class 4) all;
+  failed = count_by (is_of_class 5) all;
+  unanswered = count_by is_unanswered all;
+}
+
+abbrev pub one_if : Bool → ℕ
+one_if holds = cond holds 1 0
+
+-- one connection more
+abbrev pub with_one : Tally → Answered → Tally
+with_one t answered = record {
+  since = t.since;
+  connections = t.connections + 1;
+  succeeded = t.succeeded + one_if (is_of_class 2 answered);
+  refused = t.refused + one_if (is_of_class 4 answered);
+  failed = t.failed + one_if (is_of_class 5 answered);
+  unanswered = t.unanswered + one_if (is_unanswered answered);
+}
+
+-- each count is below this number
+pub record AreBelow (most : ℕ) (t : Tally) : Type 0 where
+  pub connections : t.connections < most
+  pub succeeded : t.succeeded < most
+  pub refused : t.refused < most
+  pub failed : t.failed < most
+  pub unanswered : t.unanswered < most
+
+-- the counts as text
+abbrev pub counts_text : Tally → List ℕ
+counts_text t =
+    codes "connections=" ++ decimal t.connections
+    ++ codes " 2xx=" ++ decimal t.succeeded
+    ++ codes " 4xx=" ++ decimal t.refused
+    ++ codes " 5xx=" ++ decimal t.failed
+    ++ codes " unanswered=" ++ decimal t.unanswered
+
+-- the line of a health behind a text of its counts, with its end
+abbrev pub line_behind : List ℕ → Health → List ℕ
+line_behind counts h =
+    counts
+    ++ codes " store-failures=" ++ decimal h.store_failures
+    ++ codes " since=" ++ h.tally.since
+    ++ codes " versions=" ++ decimal h.versions
+    ++ codes "\n"
+
+-- the line of a health, with its end
+abbrev pub line_of : Health → List ℕ
+line_of h = line_behind (counts_text h.tally) h
+
+-- a line is a health's
+abbrev pub IsHealthLine : List ℕ → Type 0
+IsHealthLine line = (h : Health) × (line ≡ line_of h)
+
+-- What a ping comes to: these counts, the failures of the store up to now, and versions that were counted. Or the store met a fault, or
+-- there was no memory.
+abbrev pub IsPinged : Tally → ℕ → ℕ → (ℕ → Type 0) → Result Health StoreFault → Type 0
+IsPinged tally before now counted (Ok h) = (h.tally ≡ tally) × (h.store_failures ≡ now) × counted h.versions
+IsPinged tally before now counted (Err fault) = fault ≡ Device → GrewOrFull before now

@@ -1,0 +1,9 @@
+-- What is written to an operator.
+use Rattle.std.specs.Prelude.{ℕ, List}
+use Rattle.control.specs.Outcome.{line_of}
+use Rattle.control.specs.declared.told.Told.{Told}
+use Rattle.control.specs.declared.told.Told.TheVariants as told
+
+abbrev pub line_told : Told → List ℕ
+line_told (told.Outcome outcome) = line_of outcome
+line_told (told.Health line) = line

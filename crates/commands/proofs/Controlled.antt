@@ -12,13 +12,18 @@ use Rattle.shelf.specs.Machine.{after, reply_to}
 use Rattle.shelf.specs.declared.reply.Reply.{Reply}
 use Rattle.shelf.specs.declared.reply.Reply.TheVariants.{Registry}
 use Rattle.control.specs.Asking.{Asks}
-use Rattle.control.specs.Hearing.{Heard, Carried, Copied, Stop, NoOrder, NoMemory, IsHeardIn, is_copied, outcome_heard, turns_heard}
-use Rattle.control.specs.Line.{IsSent, IsCopyTo, copy_words, stop_line}
+use Rattle.control.specs.Hearing.{Heard, Carried, Copied, Pinged, Stop, NoOrder, NoMemory, IsHeardIn, is_read, told_heard, turns_heard}
+use Rattle.control.specs.Line.{IsSent, IsCopyTo, copy_words}
 use Rattle.control.specs.Order.{Orders, said_in, event_of, outcome_in}
 use Rattle.control.specs.Outcome.{outcome_of}
 use Rattle.control.specs.Turns.{GoesThroughTurns}
-use Rattle.control.specs.Words.{Said, IsTextOf, space, is_word, is_word_byte, behind}
+use Rattle.control.specs.Words.{Said, IsTextOf, space, is_word, is_word_byte, behind, line_end}
 use Rattle.control.specs.declared.copies.CopyRefusal.{CopyRefusal}
+use Rattle.control.specs.declared.health.Health.{Health}
+use Rattle.control.specs.declared.outcome.Outcome.{Outcome}
+use Rattle.control.specs.declared.outcome.Outcome.TheVariants as outcome
+use Rattle.control.specs.declared.told.Told.{Told}
+use Rattle.control.specs.declared.told.Told.TheVariants as spoken
 use Rattle.control.specs.declared.order.Order.{Order}
 use Rattle.control.specs.declared.order.Order.TheVariants.{TeamAdd, GroupAdd, KeyAdd, KeyRevoke}
 use Rattle.control.proofs.LineLemmas.{one_line}
@@ -28,17 +33,17 @@ use Rattle.commands.specs.Controlled.{EndsAt, EndsAsOnTheStore}
 use Rattle.commands.specs.Order.{ComeToTheSame, told_ending}
 use Rattle.commands.specs.declared.refusal.Refusal.{Refusal}
 
--- ---- the line of an order is not that which ends a server
+-- ---- the line of an order is not one word, as that which ends a server, or asks for its health
 
 never : (b : Bool) → (b && false) ≡ true → ⊥
 never true both = true≢false (sym both)
 never false both = true≢false (sym both)
 
-no_stop : (order : Order) → ¬ IsSent stop_line order
-no_stop order sent =
+no_word : (word : List ℕ) → is_word word ≡ true → (order : Order) → ¬ IsSent (word ++ line_end ∷ []) order
+no_word word passes order sent =
     let said = said_in order in
-    let line = one_line stop_line (codes "stop") sent.line refl sent.ends in
-    let words : is_word (said.verb ++ space ∷ (said.first ++ behind said.second)) ≡ true = ap is_word (sym sent.orders.is ∙ line) in
+    let line = one_line (word ++ line_end ∷ []) word sent.line refl sent.ends in
+    let words : is_word (said.verb ++ space ∷ (said.first ++ behind said.second)) ≡ true = ap is_word (sym sent.orders.is ∙ line) ∙ passes in
     never (is_word said.verb) (sym (list_all-append is_word_byte said.verb (space ∷ (said.first ++ behind said.second))) ∙ words)
 
 -- ---- nor one that orders a copy
@@ -76,6 +81,10 @@ replied w (GroupAdd name) = refl
 replied w (KeyAdd shelf key right) = refl
 replied w (KeyRevoke key) = refl
 
+abbrev outcome_in_told : Told → Outcome
+outcome_in_told (spoken.Outcome outcome) = outcome
+outcome_in_told (spoken.Health line) = outcome.Bad
+
 module _ (old new : Shown) (before now : ℕ) (sent : List ℕ) (order asked : Order) (result : Result (Unit {0}) Refusal) (w : World) where
   carried : new.is_honest → old.stands w → IsWorld w → ComeToTheSame asked order → IsSent sent asked → (other : Order) → IsSent sent other
       → (told : Result Registered StoreFault) → result ≡ told_ending asked (Ok (outcome_of told))
@@ -88,19 +97,24 @@ module _ (old new : Shown) (before now : ℕ) (sent : List ℕ) (order asked : O
   carried honest stands is same asks other heard (Err fault) ends through = inr (fault, ends, (through.runs.at honest w stands).ends)
 
   heard_so : new.is_honest → old.stands w → IsWorld w → ComeToTheSame asked order → IsSent sent asked → (heard : Heard) → IsHeardIn sent heard
-      → result ≡ told_ending asked (Ok (outcome_heard heard)) → GoesThroughTurns old new before now (turns_heard heard) (is_copied heard)
+      → (outcome : Outcome) → spoken.Outcome outcome ≡ told_heard heard → result ≡ told_ending asked (Ok outcome)
+      → GoesThroughTurns old new before now (turns_heard heard) (is_read heard)
       → EndsAt new w order result
-  heard_so honest stands is same asks (Carried other told) from ends through = carried honest stands is same asks other from told ends through
-  heard_so honest stands is same asks (Copied path told) from ends through = absurd (no_copy sent path asked asks from)
-  heard_so honest stands is same asks Stop from ends through = absurd (no_stop asked (subst (λ got. IsSent got asked) from asks))
-  heard_so honest stands is same asks NoOrder from ends through = absurd (from.0 asked asks)
-  heard_so honest stands is same asks NoMemory from ends through = absurd from
+  heard_so honest stands is same asks (Carried other told) from outcome tells ends through =
+      carried honest stands is same asks other from told (ends ∙ ap (λ o. told_ending asked (Ok o)) (ap outcome_in_told tells)) through
+  heard_so honest stands is same asks (Copied path told) from outcome tells ends through = absurd (no_copy sent path asked asks from)
+  heard_so honest stands is same asks (Pinged told) from outcome tells ends through =
+      absurd (no_word (codes "ping") refl asked (subst (λ got. IsSent got asked) from asks))
+  heard_so honest stands is same asks Stop from outcome tells ends through =
+      absurd (no_word (codes "stop") refl asked (subst (λ got. IsSent got asked) from asks))
+  heard_so honest stands is same asks NoOrder from outcome tells ends through = absurd (from.0 asked asks)
+  heard_so honest stands is same asks NoMemory from outcome tells ends through = absurd from
 
-pub ends_as_on_the_store : (copied : List ℕ → Result (Unit {0}) CopyRefusal → Type 0) (old new : Shown) → ((w : World) → old.stands w → IsWorld w)
-    → EndsAsOnTheStore copied old new
-ends_as_on_the_store copied old new sound order result w two honest stands =
+pub ends_as_on_the_store : (copied : List ℕ → Result (Unit {0}) CopyRefusal → Type 0) (pinged : Result Health StoreFault → Type 0) (old new : Shown)
+    → ((w : World) → old.stands w → IsWorld w) → EndsAsOnTheStore copied pinged old new
+ends_as_on_the_store copied pinged old new sound order result w two honest stands =
     let asked = two.command.asked in
     let asks = subst (λ told. Asks two.unread two.unread_new (Some []) (Some two.sent) asked told) two.heard two.command.asks in
     let sends : IsSent two.sent asked = subst (λ got. IsSent got asked) (sym asks.2) asks.1 in
     heard_so old new two.before two.now two.sent order asked result w honest stands (sound w stands) two.command.same sends two.server.heard two.server.from
-    (two.command.ends ∙ ap (told_ending asked) (two.heard ∙ ap Ok two.server.tells)) two.server.through
+    two.told two.server.tells (two.command.ends ∙ ap (told_ending asked) two.heard) two.server.through

@@ -7,16 +7,17 @@ use Rattle.shelf.specs.Machine.{after}
 use Rattle.control.specs.Hearing.{Heeds}
 use Rattle.control.specs.Order.{event_of, outcome_in}
 use Rattle.control.specs.declared.copies.CopyRefusal.{CopyRefusal}
+use Rattle.control.specs.declared.health.Health.{Health}
 use Rattle.control.specs.declared.order.Order.{Order}
 use Rattle.control.specs.declared.outcome.Outcome.{Outcome}
+use Rattle.control.specs.declared.told.Told.TheVariants as spoken
 use Rattle.commands.specs.Ending.{ending}
 use Rattle.commands.specs.Order.{OrdersOver}
 use Rattle.commands.specs.declared.refusal.Refusal.{Refusal}
 
 -- The command wrote these bytes, the server did what they order, and the command got its outcome.
-pub record AreConnected (copied : List ℕ → Result (Unit {0}) CopyRefusal → Type 0) (old new : Shown) (order : Order)
-    (result : Result (Unit {0}) Refusal)
-    : Type 0 where
+pub record AreConnected (copied : List ℕ → Result (Unit {0}) CopyRefusal → Type 0) (pinged : Result Health StoreFault → Type 0)
+    (old new : Shown) (order : Order) (result : Result (Unit {0}) Refusal) : Type 0 where
   pub unread : Option (List ℕ)
   pub unread_new : Option (List ℕ)
   pub sent : List ℕ
@@ -25,7 +26,7 @@ pub record AreConnected (copied : List ℕ → Result (Unit {0}) CopyRefusal →
   pub now : ℕ
   pub command : OrdersOver unread unread_new (Some []) (Some sent) order result
   pub heard : command.told ≡ Ok told
-  pub server : Heeds copied old new before now sent told
+  pub server : Heeds copied pinged old new before now sent (spoken.Outcome told)
 
 -- The command ends by the machine's reply to the order in this world, and the store stands for the world after it. Or it ends by a
 -- fault of the store, which still stands for this world.
@@ -35,8 +36,8 @@ EndsAt new w order result =
     ⊎ ((fault : StoreFault) × (result ≡ ending (Err fault)) × new.stands w)
 
 -- On an honest disk, the command ends so in each world that the store stood for.
-abbrev pub EndsAsOnTheStore : (List ℕ → Result (Unit {0}) CopyRefusal → Type 0) → Shown → Shown → Type 0
-EndsAsOnTheStore copied old new =
+abbrev pub EndsAsOnTheStore :
+    (List ℕ → Result (Unit {0}) CopyRefusal → Type 0) → (Result Health StoreFault → Type 0) → Shown → Shown → Type 0
+EndsAsOnTheStore copied pinged old new =
     (order : Order) (result : Result (Unit {0}) Refusal) (w : World)
-    → AreConnected copied old new order result → new.is_honest → old.stands w
-    → EndsAt new w order result
+    → AreConnected copied pinged old new order result → new.is_honest → old.stands w → EndsAt new w order result

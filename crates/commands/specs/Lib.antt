@@ -12,6 +12,7 @@ pub mod Rows
 pub mod Lines
 pub mod Opening
 pub mod Order
+pub mod Ping
 pub mod Publish
 pub mod Reading
 pub mod Repetition

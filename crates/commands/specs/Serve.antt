@@ -3,7 +3,7 @@ use Rattle.std.specs.Prelude.{ℕ, ◌≡◌, ◌≢◌, ◌++◌, List, codes, 
 use Rattle.std.specs.Io.KnownBytes.{Appends}
 use Rattle.world.specs.Store.{Shown}
 use Rattle.socket.specs.Connections.{GoesThroughMost}
-use Rattle.control.specs.Copying.{GoesOnCopied}
+use Rattle.control.specs.Copying.{GoesOnRead}
 use Rattle.control.specs.Turns.{GoesOn}
 use Rattle.control.specs.declared.copies.CopyRefusal.{CopyRefusal}
 use Rattle.commands.specs.declared.refusal.Refusal.{Refusal}
@@ -44,24 +44,28 @@ Listens shown failures old new entrance connections written written_new result =
 abbrev pub Copied : Type 0 → Type 1
 Copied S = S → S → List ℕ → Result (Unit {0}) CopyRefusal → Type 0
 
+-- what a count says, by the store before and after it, and the number
+abbrev pub Counted : Type 0 → Type 1
+Counted S = S → S → ℕ → Type 0
+
 -- The entrance was printed, and the store went through at most as many requests as there are connections, with orders between them,
--- and copies of the machine's world at that moment. Or the entrance or the socket can't be had, or the output failed, and the store
--- stays as it was.
+-- and copies of the machine's world at that moment, and versions counted in it. Or the entrance or the socket can't be had, or the
+-- time of the begin, or the output failed, and the store stays as it was.
 abbrev pub ListensToBoth :
-    {S : Type 0} → (S → Shown) → (S → ℕ) → Copied S → S → S → Entrance → ℕ
+    {S : Type 0} → (S → Shown) → (S → ℕ) → Copied S → Counted S → S → S → Entrance → ℕ
     → Option (List ℕ) → Option (List ℕ) → Result (Unit {0}) Refusal → Type 0
-ListensToBoth shown failures copied old new entrance connections written written_new result =
+ListensToBoth shown failures copied counted old new entrance connections written written_new result =
     MatchResult result
     (λ _. Announces entrance written written_new
     × GoesOn (shown old) (shown new) (failures old) (failures new) connections
-    × GoesOnCopied shown copied failures old new connections)
+    × GoesOnRead shown failures copied counted old new connections)
     (λ e. (e ≡ Io) × (new ≡ old))
 
 -- serving without a socket of operators, or with one
 abbrev pub ListensAs :
-    {S : Type 0} → (S → Shown) → (S → ℕ) → Copied S → S → S → Entrance → ℕ
+    {S : Type 0} → (S → Shown) → (S → ℕ) → Copied S → Counted S → S → S → Entrance → ℕ
     → Option (List ℕ) → Option (List ℕ) → Option (List ℕ) → Result (Unit {0}) Refusal → Type 0
-ListensAs shown failures copied old new entrance connections None written written_new result =
+ListensAs shown failures copied counted old new entrance connections None written written_new result =
     Listens shown failures old new entrance connections written written_new result
-ListensAs shown failures copied old new entrance connections (Some path) written written_new result =
-    ListensToBoth shown failures copied old new entrance connections written written_new result
+ListensAs shown failures copied counted old new entrance connections (Some path) written written_new result =
+    ListensToBoth shown failures copied counted old new entrance connections written written_new result

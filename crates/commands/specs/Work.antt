@@ -10,7 +10,7 @@ use Rattle.commands.specs.ImportFile.{ImportsFile}
 use Rattle.commands.specs.Opening.{AnswersAll}
 use Rattle.commands.specs.Publish.{asked_by, PublishesFiles}
 use Rattle.commands.specs.Report.{PrintsInventory, PrintsRequirements}
-use Rattle.commands.specs.Serve.{Copied, ListensAs}
+use Rattle.commands.specs.Serve.{Copied, Counted, ListensAs}
 use Rattle.commands.specs.declared.refusal.Refusal.{Refusal}
 use Rattle.commands.specs.declared.serve.Entrance.{Entrance}
 use Rattle.commands.specs.declared.work.Work.{Work}
@@ -32,7 +32,7 @@ abbrev pub acceptance : Result (Unit {0}) Refusal → Result Bool Refusal
 acceptance (Ok u) = Ok true
 acceptance (Err refusal) = Err refusal
 
-module _ {S : Type 0} (shown : S → Shown) (failures : S → ℕ) (copied : Copied S) (old new : Moment S) where
+module _ {S : Type 0} (shown : S → Shown) (failures : S → ℕ) (copied : Copied S) (counted : Counted S) (old new : Moment S) where
   -- the store did a command of the registry, with this outcome and this next world, and nothing was read or written
   pub record RegistersAlone (outcome : World → Registered) (next : World → World) (result : Result Bool Refusal) : Type 0 where
     pub ended : Result (Unit {0}) Refusal
@@ -50,13 +50,13 @@ module _ {S : Type 0} (shown : S → Shown) (failures : S → ℕ) (copied : Cop
   -- connections were served from the store, and nothing was read from the input
   pub record ServesConnections (entrance : Entrance) (connections : ℕ) (control : Option (List ℕ)) (result : Result Bool Refusal) : Type 0 where
     pub ended : Result (Unit {0}) Refusal
-    pub serves : ListensAs shown failures copied old.store new.store entrance connections control old.written new.written ended
+    pub serves : ListensAs shown failures copied counted old.store new.store entrance connections control old.written new.written ended
     pub told : result ≡ acceptance ended
     pub unread : new.unread ≡ old.unread
 
   -- What is done by the kind of work: nothing, one command of the registry, one publish, those of a list, an inventory or the
   -- requirements of a version are printed, all requests of the input are answered, or no more requests than there are connections,
-  -- and orders and copies between them.
+  -- and orders, copies and pings between them.
   abbrev pub Works : Result Bool Refusal → Work → Type 0
   Works result work.Open = (new ≡ old) × (result ≡ Ok true)
   Works result (work.TeamAdd team group) =

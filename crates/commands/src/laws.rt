@@ -1,4 +1,6 @@
 //! What holds of every inventory, of every import, and of every order that is sent.
+ghost use Rattle.control.specs.Health.{IsPinged};
+ghost use Rattle.control.specs.declared.tally.Tally.{Tally};
 ghost use Rattle.commands.specs.Controlled.{EndsAsOnTheStore};
 ghost use Rattle.commands.specs.Rows.{RowsAreWhole};
 ghost use Rattle.commands.specs.Repetition.{RepeatedImportChangesNothing};
@@ -22,5 +24,6 @@ pub fn rows_are_whole()
 /// the store of a file: by the machine's reply to its order in the world that the store stood for, and the store stands for
 /// the world after it; or by a fault of the store, which changes nothing.
 pub fn orders_end_as_on_the_store<S: Shelves, K: Copies<S>>()
-    ensures { (old new : S) → EndsAsOnTheStore (K.copied old new) (S.shown old) (S.shown new) }
+    ensures { (old new : S) (tally : Tally) → EndsAsOnTheStore (K.copied old new)
+        (IsPinged tally (S.failure_count old) (S.failure_count new) (K.counted old new)) (S.shown old) (S.shown new) }
 {}

@@ -9,6 +9,7 @@
 //! | `answer` | answers the requests of a reader from a store, or from shelves in memory | [`answer`], [`memory`] |
 //! | `serve` | prints its port, answers one request on each of some connections, and carries out orders between them | [`serve`] |
 //! | the commands of the registry with `--control` | send an order to a running `serve`, and end by what it tells | [`order`] |
+//! | `ping` | asks a running `serve` for its health, and prints the line | [`ping`] |
 //!
 //! [`laws`] has what holds of every import. [`work`] does what is asked of a store; [`refusal`] has the words that tell why a command was refused, and [`exit`] how a run
 //! ends: its exit status, and the line of that word. Nothing here opens a store or reads the words of a command line.
@@ -25,7 +26,9 @@ pub mod inventory;
 mod inventory_text;
 pub mod laws;
 pub mod memory;
+mod moment;
 pub mod order;
+pub mod ping;
 pub mod publish;
 pub mod refusal;
 pub mod registry;

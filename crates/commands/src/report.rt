@@ -1,5 +1,5 @@
 //! What is read of a store, printed.
-ghost use Rattle.std.specs.Prelude.{◌≡◌, OnOk};
+ghost use Rattle.std.specs.Prelude.{◌≡◌, OnOk, Ok};
 ghost use Rattle.std.specs.Io.KnownBytes.{Appends};
 ghost use Rattle.commands.specs.Report as spec;
 
@@ -84,7 +84,14 @@ fn print<O: Write>(told: Result<Bytes, Refusal>, output: &mut O) -> Result<bool,
         Ok(text) => text,
         Err(refusal) => return Err(refusal),
     };
-    match write_text(text.as_slice(), output) {
+    print_text(text.as_slice(), output)
+}
+
+/// Prints a text.
+pub(crate) fn print_text<O: Write>(text: &[u8], output: &mut O) -> Result<bool, Refusal>
+    ensures { spec.Prints (O.contents output.old) (O.contents output.new) result (Ok text.now) }
+{
+    match write_text(text, output) {
         Ok(()) => Ok(true),
         Err(_) => Err(Refusal::Io),
     }

@@ -3,6 +3,7 @@ ghost use Rattle.std.specs.Prelude.{◌≡◌, ◌≢◌, ◌++◌, codes, decim
 ghost use Rattle.std.specs.Io.KnownBytes.{Appends};
 ghost use Rattle.commands.specs.Serve.{Announces, Listens, ListensToBoth, ListensAs, Prints, input_line, port_line, port_text};
 
+use crate::moment::time_now;
 use crate::refusal::Refusal;
 use control::{Copies, Doors, leave_place, operators_at, serve_both};
 use itoa::Buffer;
@@ -25,7 +26,8 @@ pub enum Entrance {
 
 /// Prints the line of the entrance, and serves the connections that come in: the store goes through at most as many requests as there
 /// are connections. If a socket `control` is named, the orders of operators who connect to it are carried out between them, copies by
-/// `copies`, and do not count. `Io` if the port or the socket can't be had or the output fails; a connection that fails only counts.
+/// `copies`, and do not count; a ping is told the versions that `copies` counts. `Io` if the port or the socket can't be had, the clock
+/// can't be read for the time of the begin, or the output fails; a connection that fails only counts.
 pub fn serve<S: Shelves, K: Copies<S>, O: Write>(
     rt: &HostRuntime,
     shelves: &mut S,
@@ -35,7 +37,7 @@ pub fn serve<S: Shelves, K: Copies<S>, O: Write>(
     control: Option<&str>,
     output: &mut O,
 ) -> Result<(), Refusal>
-    ensures { ListensAs S.shown S.failure_count K.copied shelves.old shelves.new entrance connections
+    ensures { ListensAs S.shown S.failure_count K.copied K.counted shelves.old shelves.new entrance connections
         (option_copied control.entry) (O.contents output.old) (O.contents output.new) result }
 {
     match control {
@@ -71,15 +73,26 @@ fn serve_operators<S: Shelves, K: Copies<S>, O: Write>(
     path: &str,
     output: &mut O,
 ) -> Result<(), Refusal>
-    ensures { ListensToBoth S.shown S.failure_count K.copied shelves.old shelves.new entrance connections
+    ensures { ListensToBoth S.shown S.failure_count K.copied K.counted shelves.old shelves.new entrance connections
         (O.contents output.old) (O.contents output.new) result }
 {
+    let Some(since) = time_now(rt) else {
+        return Err(Refusal::Io);
+    };
     let Ok(operators) = operators_at(rt, path) else {
         return Err(Refusal::Io);
     };
     match open_doors(rt, entrance, operators, output) {
         Ok(mut doors) => {
-            serve_both(rt.alloc(), rt, &mut doors, shelves, copies, connections);
+            serve_both(
+                rt.alloc(),
+                rt,
+                &mut doors,
+                shelves,
+                copies,
+                since,
+                connections,
+            );
             leave_place(rt, path);
             Ok(())
         }

@@ -68,7 +68,7 @@ pub enum Work<'a> {
 }
 
 /// Does one work on a store and returns whether it was accepted; only a publish and an import can be done and not accepted.
-/// `copies` makes the copies that are ordered while the store is served.
+/// `copies` makes the copies that are ordered while the store is served, and counts its versions for a ping.
 pub fn work_on<S: Outlines, K: Copies<S>, I: Read, O: Write>(
     rt: &HostRuntime,
     shelves: &mut S,
@@ -77,7 +77,7 @@ pub fn work_on<S: Outlines, K: Copies<S>, I: Read, O: Write>(
     input: &mut I,
     output: &mut O,
 ) -> Result<bool, Refusal>
-    ensures { spec.Works S.shown S.failure_count K.copied
+    ensures { spec.Works S.shown S.failure_count K.copied K.counted
         (record { store = shelves.old; unread = I.remaining input.old; written = O.contents output.old })
         (record { store = shelves.new; unread = I.remaining input.new; written = O.contents output.new }) result work.now }
 {

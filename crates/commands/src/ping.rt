@@ -1,0 +1,71 @@
+//! The health of a running `serve`, asked for and printed.
+ghost use Rattle.std.specs.Prelude.{◌≡◌};
+ghost use Rattle.commands.specs.Ping as spec;
+
+use crate::refusal::Refusal;
+use crate::report::print_text;
+use control::{Outcome, Told, Untold, ask_for_health, server_at};
+use std::alloc::Global;
+use std::io::{Read, Write};
+use std::rt::HostRuntime;
+use text::Text;
+use world::registry::StoreFault;
+
+/// Asks the `serve` that listens at a socket for its health, and prints the line. `Device` if nobody listens there, or the store of
+/// that server met a fault; `Memory` if the server had no memory for it. `Io` if no such line came, or the output failed.
+pub fn ping_at<O: Write>(rt: &HostRuntime, path: &str, output: &mut O) -> Result<bool, Refusal>
+    ensures { spec.PingsThere (O.contents output.old) (O.contents output.new) result }
+{
+    match server_at(rt, path) {
+        Ok(server) => ping_over(rt.alloc(), &mut &server, &mut &server, output),
+        Err(_) => Err(Refusal::Device),
+    }
+}
+
+/// Writes the line of a ping, reads the line of the health, and prints it. What is no line of a health is not printed.
+pub fn ping_over<R: Read, W: Write, O: Write>(
+    alloc: Global,
+    reader: &mut R,
+    writer: &mut W,
+    output: &mut O,
+) -> Result<bool, Refusal>
+    ensures { spec.PingsOver (R.remaining reader.old) (R.remaining reader.new)
+        (W.contents writer.old) (W.contents writer.new) (O.contents output.old) (O.contents output.new) result }
+{
+    let told = ask_for_health(alloc, reader, writer);
+    print_health(health_told(told), output)
+}
+
+/// The line of the health that was told, or why there is none.
+fn health_told(told: Result<Told, Untold>) -> Result<Text, Refusal>
+    ensures { result ≡ spec.health_told told }
+{
+    match told {
+        Ok(Told::Health(line)) => Ok(line),
+        Ok(Told::Outcome(outcome)) => Err(refusal_of(outcome)),
+        Err(_) => Err(Refusal::Io),
+    }
+}
+
+/// Why an outcome came in the place of a health: the store of the server met a fault, or the server knows no ping.
+fn refusal_of(outcome: Outcome) -> Refusal
+    ensures { result ≡ spec.refusal_of outcome }
+{
+    match outcome {
+        Outcome::Failed(StoreFault::Device) => Refusal::Device,
+        Outcome::Failed(StoreFault::Memory) => Refusal::Memory,
+        Outcome::Registered(_) | Outcome::NotEmpty | Outcome::Stopping | Outcome::Bad => {
+            Refusal::Io
+        }
+    }
+}
+
+/// Prints the line of a health, if there is one.
+fn print_health<O: Write>(told: Result<Text, Refusal>, output: &mut O) -> Result<bool, Refusal>
+    ensures { spec.Prints (O.contents output.old) (O.contents output.new) result told }
+{
+    match told {
+        Ok(line) => print_text(line.as_str().as_bytes(), output),
+        Err(refusal) => Err(refusal),
+    }
+}

@@ -1,6 +1,9 @@
--- A served store is only read by a copy.
-use Rattle.std.proofs.Common.{ℕ, ◌≤◌}
-use Rattle.world.specs.Store.{Shown}
+-- A served store is only read, by a copy or a count.
+use Rattle.std.proofs.Common.{ℕ, ◌≡◌, ◌≤◌, Result, Ok, Err, IfOk}
+use Rattle.world.specs.Store.{Shown, Reads}
+use Rattle.world.specs.World.{World}
+use Rattle.world.specs.declared.registry.StoreFault.{StoreFault}
+use Rattle.statements.specs.Counted.{versions_in}
 use Rattle.store.specs.Extracted.{IsRead}
 use Rattle.control.specs.Copying.{IsOnlyRead}
 
@@ -11,3 +14,17 @@ only_read old new before now read no_fewer = record {
   left = read.left;
   no_fewer = no_fewer;
 }
+
+pub count_reads : (old new : Shown) (before now : ℕ) (told : Result ℕ StoreFault) (value : World → ℕ) → Reads old new told value → before ≤ now
+    → IsOnlyRead old new before now
+count_reads old new before now told value reads no_fewer = record {
+  honest = reads.honest;
+  stays = λ h w stands. (reads.at h w stands).stays;
+  left = λ h w x y stands was. (reads.at h w stands).left x y was;
+  no_fewer = no_fewer;
+}
+
+pub count_tells : (old new : Shown) (told : Result ℕ StoreFault) → Reads old new told versions_in
+    → IfOk told (λ n. new.is_honest → (w : World) → old.stands w → n ≡ versions_in w)
+count_tells old new (Ok n) reads = λ h w stands. (reads.at h w stands).answer
+count_tells old new (Err fault) reads = tt

@@ -1,7 +1,9 @@
--- What a copy of the store of a served file into that of another file does.
+-- What a copy of the store of a served file into that of another file does, and what a count of its versions tells.
 use Rattle.std.specs.Prelude.{ℕ, List, ◌≡◌, ◌⊎◌, Result, Ok, Err}
 use Rattle.sqlite_wal.specs.Recovery.{Image}
 use Rattle.world.specs.Store.{Shown}
+use Rattle.world.specs.World.{World}
+use Rattle.statements.specs.Counted.{versions_in}
 use Rattle.store.specs.Extracted.{HasCauseInEither}
 use Rattle.store.specs.Parts.{CopiesAll}
 use Rattle.store.specs.declared.refusal.Refusal.{Refusal as Unopened}
@@ -22,6 +24,10 @@ uncopied store.NoTeam = copy.Device
 abbrev pub copied : Result (Unit {0}) Unopened → Result (Unit {0}) CopyRefusal
 copied (Ok u) = Ok tt
 copied (Err why) = Err (uncopied why)
+
+-- a count tells how many versions there are in each world that the served store stood for, on an honest disk
+abbrev pub CountsIn : {S : Type 0} → (S → Shown) → S → S → ℕ → Type 0
+CountsIn shown old new count = (shown new).is_honest → (w : World) → (shown old).stands w → count ≡ versions_in w
 
 module _ {S F : Type 0} (shown : S → Shown) (failures : S → ℕ) (shown_too : F → Shown) (failures_too : F → ℕ) where
   -- an open store was made a copy of the served one, or it was not, and the result says why

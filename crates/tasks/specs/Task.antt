@@ -7,13 +7,14 @@ use Rattle.setup.specs.declared.refusal.Refusal.{Refusal as Unopened}
 use Rattle.control.specs.declared.order.Order.{Order}
 use Rattle.commands.specs.Opening.{AnsweredFor}
 use Rattle.commands.specs.Order.{CopiesThere, OrdersThere, StopsThere}
+use Rattle.commands.specs.Ping.{PingsThere}
 use Rattle.commands.specs.Serve.{Copied}
 use Rattle.commands.specs.Work.{Works, acceptance}
 use Rattle.commands.specs.declared.refusal.Refusal.{Refusal}
 use Rattle.commands.specs.declared.refusal.Refusal.TheVariants.{NotEmpty}
 use Rattle.commands.specs.declared.work.Work.{Work}
 use Rattle.commands.specs.declared.work.Work.TheVariants.{Open}
-use Rattle.tasks.specs.Copies.{CopiesFile}
+use Rattle.tasks.specs.Copies.{CopiesFile, CountsIn}
 use Rattle.tasks.specs.Extract.{ExtractsFile}
 use Rattle.tasks.specs.Migrate.{MigratesFile}
 use Rattle.tasks.specs.Opened.{unopened, unmade, HasBegun}
@@ -50,6 +51,11 @@ module _ (unread unread_new written written_new : Option (List ℕ)) (result : R
     pub copies : CopiesThere path ended
     pub tells : TellsAlone (acceptance ended)
 
+  -- a running `serve` was asked for its health, which was printed, no store was opened, and nothing was read
+  pub record PingsAlone : Type 0 where
+    pub pings : PingsThere written written_new result
+    pub input : unread_new ≡ unread
+
   -- a running `serve` was to end, no store was opened, and nothing was read or written
   pub record StopsAlone : Type 0 where
     pub ended : Result (Unit {0}) Refusal
@@ -63,7 +69,7 @@ module _ {S : Type 0} (shown : S → Shown) (failures : S → ℕ) (copied : Cop
     pub begun : S
     pub ended : S
     pub begins : HasBegun shown failures held begun
-    pub works : Works shown failures copied
+    pub works : Works shown failures copied (CountsIn shown)
         (record { store = begun; unread = unread; written = written })
         (record { store = ended; unread = unread_new; written = written_new }) result work
 
@@ -107,4 +113,5 @@ module _ {C S F : Type 0} (state_of : C → State) (shown : S → Shown) (failur
   Performs (task.Migrate from to) = MigratesAlone
   Performs (task.Order control order) = OrdersAlone unread unread_new written written_new result order
   Performs (task.Copy control to) = CopiesAlone unread unread_new written written_new result to.now
+  Performs (task.Ping control) = PingsAlone unread unread_new written written_new result
   Performs (task.Stop control) = StopsAlone unread unread_new written written_new result

@@ -1,11 +1,12 @@
-//! Copies of the store of a file while it is served.
+//! Copies of the store of a file while it is served, and counts of its versions.
 
-ghost use Rattle.std.specs.Prelude.{◌≡◌};
+ghost use Rattle.std.specs.Prelude.{◌≡◌, IfOk};
 ghost use Rattle.commands.specs.Work.{Works};
 ghost use Rattle.control.specs.Copying.{IsOnlyRead};
 ghost use Rattle.sqlite_wal.specs.Files.{image_at};
 ghost use Rattle.tasks.specs.Copies as spec;
-ghost use Rattle.tasks.specs.Copies.{CopiesFile, CopiesInto};
+ghost use Rattle.tasks.specs.Copies.{CopiesFile, CopiesInto, CountsIn};
+ghost use Rattle.world.specs.Store.{HasCause};
 
 use commands::files::is_same_file;
 use commands::refusal::Refusal;
@@ -18,6 +19,7 @@ use std::rt::HostRuntime;
 use store::open::FileShelves;
 use store::refusal::Refusal as Unopened;
 use store::store::SqlShelves;
+use world::registry::StoreFault;
 use world::shelves::Shelves;
 
 /// Copies the served store of a file into other files. `U` stands for what such a file holds before its copy. What is proved holds for
@@ -32,13 +34,19 @@ struct FileCopies<'a, U: Start + Copy> {
 
 impl<'a, S: Alter, U: Start + Copy> Copies<SqlShelves<S>> for FileCopies<'a, U> {
     ghost use Rattle.sqlite_wal.specs.Files.{image_at};
-    ghost use Rattle.tasks.specs.Copies.{CopiesFile};
+    ghost use Rattle.tasks.specs.Copies.{CopiesFile, CountsIn};
 
     ghost copied = { CopiesFile ⟦<SqlShelves<S> as Shelves>⟧.shown ⟦<SqlShelves<S> as Shelves>⟧.failure_count
         ⟦<FileShelves<U> as Shelves>⟧.shown ⟦<FileShelves<U> as Shelves>⟧.failure_count (image_at U.Start) };
 
+    ghost counted = { CountsIn ⟦<SqlShelves<S> as Shelves>⟧.shown };
+
     fn copy(&mut self, shelves: &mut SqlShelves<S>, path: &str) -> Result<(), CopyRefusal> {
         copy_to(self.rt, self.db, shelves, path, self.target)
+    }
+
+    fn versions(&mut self, shelves: &mut SqlShelves<S>) -> Result<u64, StoreFault> {
+        count_in(shelves)
     }
 }
 
@@ -57,6 +65,7 @@ pub(crate) fn work_with_copies<S: Alter, U: Start + Copy, I: Read, O: Write>(
     ensures { Works ⟦<SqlShelves<S> as Shelves>⟧.shown ⟦<SqlShelves<S> as Shelves>⟧.failure_count
         (CopiesFile ⟦<SqlShelves<S> as Shelves>⟧.shown ⟦<SqlShelves<S> as Shelves>⟧.failure_count
         ⟦<FileShelves<U> as Shelves>⟧.shown ⟦<FileShelves<U> as Shelves>⟧.failure_count (image_at U.Start))
+        (CountsIn ⟦<SqlShelves<S> as Shelves>⟧.shown)
         (record { store = shelves.old; unread = I.remaining input.old; written = O.contents output.old })
         (record { store = shelves.new; unread = I.remaining input.new; written = O.contents output.new })
         result work.now }
@@ -138,4 +147,15 @@ fn uncopied(refusal: Unopened) -> CopyRefusal
         Unopened::NotEmpty => CopyRefusal::NotEmpty,
         Unopened::NoTeam => CopyRefusal::Device,
     }
+}
+
+/// Counts the versions of the served store.
+fn count_in<S: Alter>(served: &mut SqlShelves<S>) -> Result<u64, StoreFault>
+    ensures reads { IsOnlyRead (⟦<SqlShelves<S> as Shelves>⟧.shown served.old) (⟦<SqlShelves<S> as Shelves>⟧.shown served.new)
+        (⟦<SqlShelves<S> as Shelves>⟧.failure_count served.old) (⟦<SqlShelves<S> as Shelves>⟧.failure_count served.new) }
+    ensures cause { HasCause (⟦<SqlShelves<S> as Shelves>⟧.failure_count served.old)
+        (⟦<SqlShelves<S> as Shelves>⟧.failure_count served.new) result }
+    ensures counted { IfOk result (λ n. CountsIn ⟦<SqlShelves<S> as Shelves>⟧.shown served.old served.new n) }
+{
+    served.versions_kept()
 }

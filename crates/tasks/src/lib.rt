@@ -9,6 +9,7 @@
 //! | [`Task::Migrate`] | opens a file of an older schema and the store of another file, and puts what the first has into the second |
 //! | [`Task::Order`] | opens no store, and sends an order to the `serve` that has one open |
 //! | [`Task::Copy`] | opens no store, and has the `serve` that has one open copy it into another file |
+//! | [`Task::Ping`] | opens no store, asks the `serve` that has one open for its health, and prints it |
 //! | [`Task::Stop`] | opens no store, and has the `serve` end that has one open |
 //!
 //! A store of a file is held by one function for each kind of task: that of a work, that of what is extracted or migrated from, that
@@ -35,6 +36,7 @@ use crate::migrate::migrate_file;
 use commands::files::holds_bytes;
 use commands::memory::answer_in_memory;
 use commands::order::{copy_at, order_at, stop_at};
+use commands::ping::ping_at;
 use commands::refusal::Refusal;
 use commands::work::Work;
 use control::Order;
@@ -85,6 +87,10 @@ pub enum Task<'a> {
         control: &'a str,
         to: &'a str,
     },
+    /// `ping --control S`: asks the `serve` that listens at the socket S for its health, and prints the line.
+    Ping {
+        control: &'a str,
+    },
     /// `stop --control S`: has the `serve` that listens at the socket S end.
     Stop {
         control: &'a str,
@@ -124,6 +130,7 @@ pub fn perform<T: Start, U: Start + Copy, I: Read, O: Write>(
         Task::Migrate { from, to } => acceptance(migrate_file(rt, from, start, to, target)),
         Task::Order { control, order } => acceptance(order_at(rt, control, order)),
         Task::Copy { control, to } => acceptance(copy_at(rt, control, to)),
+        Task::Ping { control } => ping_at(rt, control, output),
         Task::Stop { control } => acceptance(stop_at(rt, control)),
     }
 }

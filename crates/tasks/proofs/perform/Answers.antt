@@ -39,3 +39,6 @@ returns-in-Stop g c = performed _ _ _ _ _ _ _ _ _ _ _ _ _ _ c.in-Stop.is (record
   stops = c.stop_at.ensures;
   tells = record { tells = c.acceptance-in-Stop.ensures; input = refl; output = refl };
 })
+
+pub returns-in-Ping : goal.returns-in-Ping
+returns-in-Ping g c = performed _ _ _ _ _ _ _ _ _ _ _ _ _ _ c.in-Ping.is (record { pings = c.ping_at.ensures; input = refl })

@@ -1,7 +1,7 @@
 //! The command line: its commands, their help, and the parser.
 use crate::options::{
     ANSWER, COPY, EXTRACT, GROUP_ADD, IMPORT, INIT, INVENTORY, KEY_ADD, KEY_REVOKE, MIGRATE,
-    Needed, OptionRow, PUBLISH, REQUIRES, SERVE, STOP, TEAM_ADD, Value,
+    Needed, OptionRow, PING, PUBLISH, REQUIRES, SERVE, STOP, TEAM_ADD, Value,
 };
 use crate::version::VERSION;
 use clap::builder::ValueParser;
@@ -88,7 +88,7 @@ static STORE_COMMANDS: [CommandRow; 9] = [
 ];
 
 /// The commands behind them, which make one store of another, or serve one.
-static SERVER_COMMANDS: [CommandRow; 6] = [
+static SERVER_COMMANDS: [CommandRow; 7] = [
     CommandRow {
         name: "extract",
         about: "Makes a store of the part of one team or more: their shelves, their groups' and common, with their versions and keys",
@@ -121,6 +121,13 @@ static SERVER_COMMANDS: [CommandRow; 6] = [
         name: "copy",
         about: "Has a running serve copy its store into another file, between two requests",
         options: &COPY,
+        forms: None,
+        example: "",
+    },
+    CommandRow {
+        name: "ping",
+        about: "Prints what a running serve counts: connections by status, failures of the store, versions",
+        options: &PING,
         forms: None,
         example: "",
     },

@@ -29,6 +29,9 @@ pub fn task_of<'m, 'a>(matches: &'m ArgMatches<'a>) -> Option<Task<'m>> {
             control: text(matches, "control"),
             to: text(matches, "to"),
         }),
+        "ping" => Some(Task::Ping {
+            control: text(matches, "control"),
+        }),
         "stop" => Some(Task::Stop {
             control: text(matches, "control"),
         }),

@@ -305,6 +305,12 @@ pub(crate) const COPY: [OptionRow; 2] = [
     },
 ];
 
+pub(crate) const PING: [OptionRow; 1] = [OptionRow {
+    needed: Needed::Always,
+    help: "The socket of the serve that is asked",
+    ..CONTROL
+}];
+
 pub(crate) const STOP: [OptionRow; 1] = [OptionRow {
     needed: Needed::Always,
     help: "The socket of the serve that is to end",

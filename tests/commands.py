@@ -78,6 +78,9 @@ key-revoke --control none
 key-revoke --control none --db none.db --key A
 publish --control none --key A --module example.com/lib --version v1.0.0 --mod go.mod --zip zip
 extract --control none --team alpha --to other.db
+ping
+ping --db none.db
+ping --control none --key A
 stop
 stop --db none.db"""
 
@@ -112,6 +115,7 @@ extract --db --team --to
 migrate --from --to
 answer --db --mem --team --key
 serve --db --port --stdin --connections --control
+ping --control
 stop --control
 """
 

@@ -1,6 +1,7 @@
 //! An operator and a peer who come at once.
 use crate::copier::Copier;
 use control::{Doors, serve_both};
+use modver::{TimeText, read_time};
 use std::fs;
 use std::io::{self, Write};
 use std::net::{Shutdown, TcpListener, TcpStream};
@@ -13,8 +14,16 @@ use world::shelves::Shelves;
 const GET: &[u8] = b"GET /k/alphakey00000001/example.com/lib/@v/list HTTP/1.1\r\n\r\n";
 
 /// Serves one peer, and before it the operators.
-fn serve<S: Shelves + Drop>(rt: &HostRuntime, doors: &mut Doors, mut shelves: S) {
-    serve_both(rt.alloc(), rt, doors, &mut shelves, &mut Copier, 1);
+fn serve<S: Shelves + Drop>(rt: &HostRuntime, doors: &mut Doors, mut shelves: S, since: TimeText) {
+    serve_both(
+        rt.alloc(),
+        rt,
+        doors,
+        &mut shelves,
+        &mut Copier { versions: 0 },
+        since,
+        1,
+    );
 }
 
 #[test]
@@ -33,7 +42,10 @@ fn obeys_operators_before_peers(rt: HostRuntime) -> Result<(), Fail> {
         return Err(Fail::from("no memory"));
     };
     let mut doors = Doors::new(&rt, peers, operators)?;
-    serve(&rt, &mut doors, shelves);
+    let Ok(since) = read_time("2026-11-26T18:40:00Z") else {
+        return Err(Fail::from("no time"));
+    };
+    serve(&rt, &mut doors, shelves, since);
     let told = io::read_to_string(rt.alloc(), operator)?;
     assert!(rt; told.as_str() == "done\n");
     let reply = io::read_to_string(rt.alloc(), peer)?;

@@ -1,8 +1,10 @@
 //! Lines and their outcomes.
 use crate::copier::Copier;
 use commands::order::{copy_over, order_over};
+use commands::ping::ping_over;
 use commands::refusal::Refusal;
-use control::{Order, obey};
+use control::{Order, Tally, obey};
+use modver::read_time;
 use std::alloc::Global;
 use std::test::Fail;
 use world::entry::Right;
@@ -39,7 +41,11 @@ copy small|memory
 copy |device
 copy|bad
 copy one two|bad
-Copy one|bad";
+Copy one|bad
+ping|connections=1006 2xx=1000 4xx=3 5xx=2 unanswered=1 store-failures=0 since=2026-11-26T18:40:00Z versions=12345
+ping |bad
+ping now|bad
+Ping|bad";
 
 /// In each row: the number of an order, the outcome that comes, what is sent, and how the command ends.
 const SENT: &str = "\
@@ -71,6 +77,20 @@ one.db|stopping|copy one.db|Io
 one.db|bad|copy one.db|Io
 one.db||copy one.db|Io
 a path|done||Name";
+
+/// What a server tells of its health, what is printed, and how the command ends.
+const HEALTHS: &str = "\
+connections=124 2xx=100 4xx=20 5xx=3 unanswered=1 store-failures=0 since=2026-11-26T18:40:00Z versions=12345|\
+connections=124 2xx=100 4xx=20 5xx=3 unanswered=1 store-failures=0 since=2026-11-26T18:40:00Z versions=12345|done
+connections=0124 2xx=100 4xx=20 5xx=3 unanswered=1 store-failures=0 since=2026-11-26T18:40:00Z versions=12345||Io
+connections=124 2xx=100 4xx=20 5xx=3 unanswered=1 store-failures=0 since=2026-11-26T24:40:00Z versions=12345||Io
+connections=124 2xx=100 4xx=20 5xx=3 unanswered=1 store-failures=0 since=2026-11-26T18:40:00Z versions=12345 ||Io
+connections=124||Io
+device||Device
+memory||Memory
+done||Io
+bad||Io
+||Io";
 
 /// A column of a row.
 fn column(row: &str, place: usize) -> &str {
@@ -109,8 +129,27 @@ fn order_at(number: &str) -> Order<'static> {
     }
 }
 
+/// A tally whose counts all differ.
+fn some_tally() -> Result<Tally, Fail> {
+    let Ok(since) = read_time("2026-11-26T18:40:00Z") else {
+        return Err(Fail::from("no time"));
+    };
+    Ok(Tally {
+        since,
+        connections: 1_006,
+        succeeded: 1_000,
+        refused: 3,
+        failed: 2,
+        unanswered: 1,
+    })
+}
+
 /// Returns the first row whose line has another outcome, or the empty text if each has its own.
-fn wrong_row<S: Shelves + Drop>(alloc: Global, mut shelves: S) -> Result<&'static str, Fail> {
+fn wrong_row<S: Shelves + Drop>(
+    alloc: Global,
+    tally: &Tally,
+    mut shelves: S,
+) -> Result<&'static str, Fail> {
     for row in ROWS.lines() {
         let sent = format!(in alloc; "{}\n", column(row, 0))?;
         let mut told = Vec::new(alloc);
@@ -118,8 +157,9 @@ fn wrong_row<S: Shelves + Drop>(alloc: Global, mut shelves: S) -> Result<&'stati
             alloc,
             &mut sent.as_bytes(),
             &mut told,
+            tally,
             &mut shelves,
-            &mut Copier,
+            &mut Copier { versions: 12_345 },
         )
         .is_err()
         {
@@ -171,12 +211,33 @@ fn is_sent(alloc: Global, row: &str) -> Result<bool, Fail> {
     is_row(alloc, row, &sent, told)
 }
 
+/// Whether a ping is sent, and the command prints and ends as its row says.
+fn is_pinged(alloc: Global, row: &str) -> Result<bool, Fail> {
+    let reply = format!(in alloc; "{}\n", column(row, 0))?;
+    let mut sent = Vec::new(alloc);
+    let mut printed = Vec::new(alloc);
+    let told = ping_over(alloc, &mut reply.as_bytes(), &mut sent, &mut printed);
+    let wanted = match column(row, 1) {
+        "" => String::new(alloc),
+        line => format!(in alloc; "{line}\n")?,
+    };
+    let done = match told {
+        Ok(_) => Ok(()),
+        Err(refusal) => Err(refusal),
+    };
+    Ok(
+        sent.as_slice() == b"ping\n"
+            && printed.as_slice() == wanted.as_bytes()
+            && ended(alloc, done)?.as_str() == column(row, 2),
+    )
+}
+
 #[test]
 fn answers_each_line(rt: HostRuntime) -> Result<(), Fail> {
     let Ok(shelves) = MapShelves::new(rt.alloc()) else {
         return Err(Fail::from("no memory"));
     };
-    assert!(rt; wrong_row(rt.alloc(), shelves)? == "");
+    assert!(rt; wrong_row(rt.alloc(), &some_tally()?, shelves)? == "");
     Ok(())
 }
 
@@ -192,6 +253,14 @@ fn sends_the_line_of_an_order_and_ends_by_its_outcome(rt: HostRuntime) -> Result
 fn sends_the_line_of_a_copy_and_ends_by_its_outcome(rt: HostRuntime) -> Result<(), Fail> {
     for row in COPIES.lines() {
         assert!(rt; is_copied(rt.alloc(), row)?);
+    }
+    Ok(())
+}
+
+#[test]
+fn prints_the_line_of_a_health_alone(rt: HostRuntime) -> Result<(), Fail> {
+    for row in HEALTHS.lines() {
+        assert!(rt; is_pinged(rt.alloc(), row)?);
     }
     Ok(())
 }

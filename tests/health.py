@@ -1,0 +1,192 @@
+#!/usr/bin/env python3
+"""`ping --control S`: the counts after known requests, and after each kind of connection that gets no answer; what a ping leaves as it is;
+pings under load, behind a publish and of servers that lie.
+
+What goshelf counts is compared with what the peers here were told.
+"""
+
+import re
+import socket
+import struct
+import subprocess
+import sys
+import threading
+import time
+
+from control import CONTROL, GOMOD, LIST, Load, Server, by_false_server, rest
+from harness import KEY, KEYS, PROGRAM, Suite, get, in_new_folders, new_store, put, read, run
+
+FORM = re.compile(
+    rb"connections=(\d+) 2xx=(\d+) 4xx=(\d+) 5xx=(\d+) unanswered=(\d+) store-failures=(\d+) "
+    rb"since=(\d{4}-\d\d-\d\dT\d\d:\d\d:\d\dZ) versions=(\d+)\n"
+)
+PING = ["ping", "--control", CONTROL]
+LINE = b"connections=124 2xx=100 4xx=20 5xx=3 unanswered=1 store-failures=0 since=2026-11-26T18:40:00Z versions=12345\n"
+MOST = 2**64 - 1
+LONGEST = f"connections={MOST} 2xx={MOST} 4xx={MOST} 5xx={MOST} unanswered={MOST} store-failures={MOST} ".encode()
+LONGEST += f"since=9999-12-31T23:59:59Z versions={MOST}\n".encode()
+# replies that are no health's: nothing of them is printed
+FALSE = [
+    b"", b"done\n", b"bad\n", b"stopping\n", b"ok\n", LINE[:-1], LINE + b"\n", LINE + LINE, b" " + LINE, LINE[:-1] + b" \n", LINE[:-1] + b"\r\n",
+    LINE.replace(b"\n", b" keys=1\n"), LINE.replace(b" 5xx=3", b""), LINE.replace(b"2xx=100 4xx=20", b"4xx=20 2xx=100"),
+    LINE.replace(b" 2xx", b"  2xx"), LINE.replace(b"=124", b"=0124"), LINE.replace(b"=124", b"=+124"), LINE.replace(b"=124", b"=-124"),
+    LINE.replace(b"=124", b"="), LINE.replace(b"=124", b"=18446744073709551616"), LINE.replace(b"=124", b"=1e3"), LINE.replace(b"=124", b"=\xd9\xa1"),
+    LINE.replace(b"=124", b"=124\x1b[2J"), LINE.replace(b"Z", b"+00:00"), LINE.replace(b"18:40", b"24:40"), LINE.replace(b"11-26", b"02-30"),
+    LINE.replace(b"2026", b"12026"), LINE.replace(b"conn", b"Conn"), b"\x1b[2J" + LINE, b"\xff" + LINE, LINE.replace(b" ", b"\t"),
+    LINE.replace(b" ", b"\0"), b"a" * 300 + b"\n", LINE.replace(b"=124", b"=" + b"0" * 300),
+]  # fmt: skip
+# the place of each class of statuses among the counts
+CLASSES = [None, 2, 4, 5]
+NO_LINGER = struct.pack("ii", 1, 0)
+
+
+def refusal(word):
+    return 1, b"", f"goshelf: {word}\n"
+
+
+def health():
+    """What a ping prints: five counts, the failures, the time and the versions."""
+    status, printed, errors = run(PING)
+    found = FORM.fullmatch(printed)
+    assert (status, errors) == (0, "") and found, (status, printed, errors)
+    return [int(it) for it in found.groups()[:6]] + [found[7].decode(), int(found[8])]
+
+
+def counts():
+    """The five counts of connections."""
+    return health()[:5]
+
+
+def utc():
+    return time.strftime("%Y-%m-%dT%H:%M:%SZ", time.gmtime())
+
+
+def known(suite):
+    """The counts after requests whose statuses are known."""
+    new_store("served.db", ("alpha", KEY), ("beta", KEYS["B"]))
+    suite.equal("ping where nobody listens", run(PING), refusal("device"))
+    begun = utc()
+    server = Server("served.db")
+    first = health()
+    suite.holds("the time of the begin", begun <= first[6] <= utc(), (begun, first[6]))
+    suite.equal("all else of a server that begins", first[:6] + first[7:], [0, 0, 0, 0, 0, 0, 0])
+    wanted, versions = [0, 0, 0, 0, 0], 0
+    requests = [
+        (put("example.com/lib", "v1.0.0", GOMOD), 201), (put("example.com/lib", "v1.0.0", GOMOD), 200), (put("example.com/lib", "v1.1.0", GOMOD), 201),
+        (put("example.com/lib", "v1.0.0", GOMOD, key=KEYS["B"]), 201), (put("example.com/lib", "v1.0.0", GOMOD, b"zip"), 409), (get(LIST), 200),
+        (get("example.com/lib/@v/v1.0.0.info"), 200), (get(LIST, KEYS["N"]), 404), (get("example.com/lib/@v/v9.0.0.info"), 404), (b"GET /\r\n\r\n", 400),
+        (b"half a requ", 400), (b"PUT / HTTP/1.1\r\nContent-Length: 17825793\r\n\r\n", 413), (put("example.com/lib", "v2.0.0", GOMOD), 422),
+    ]  # fmt: skip
+    for request, status in requests:
+        got = server.status(request)
+        wanted[0] += 1
+        wanted[CLASSES.index(status // 100)] += 1
+        versions += status == 201
+        suite.equal(f"{request[:40]} gets {status}, and is counted", (got, counts(), health()[7]), (status, wanted, versions))
+    suite.equal("the time of the begin stays", health()[6], first[6])
+    server.kill()
+
+
+def unanswered(suite):
+    """Connections that get no status count, and as unanswered; one that closes at once holds nobody."""
+    new_store("served.db", ("alpha", KEY))
+    server = Server("served.db")
+    for _ in range(50):
+        server.connected().close()
+    suite.equal("50 peers that close at once", counts(), [50, 0, 0, 0, 50])
+    for _ in range(10):
+        held = server.connected()
+        held.setsockopt(socket.SOL_SOCKET, socket.SO_LINGER, NO_LINGER)
+        held.close()
+    suite.equal("10 peers that reset the connection", counts(), [60, 0, 0, 0, 60])
+    begun = time.monotonic()
+    for _ in range(1_000):
+        server.connected().close()
+    status = server.status(get(LIST))
+    spent = time.monotonic() - begun
+    suite.holds(f"1,000 that close at once, and a request, take {spent:.2f} s", status == 404 and spent < 5, status)
+    suite.equal("and are counted", counts(), [1_061, 0, 1, 0, 1_060])
+    with server.connected() as held:
+        held.sendall(b"GET /k")
+        told = counts()
+        suite.equal("a ping behind a peer that stays silent in mid-request", told, [1_062, 0, 1, 0, 1_061])
+    server.kill()
+
+
+def beside(suite):
+    """What a ping leaves as it is, and what is not counted."""
+    new_store("served.db", ("alpha", KEY))
+    server = Server("served.db")
+    server.status(put("example.com/lib", "v1.0.0", GOMOD))
+    before = read("served.db-wal"), read("served.db"), health()
+    for _ in range(100):
+        server.order(b"ping\n")
+    suite.equal("100 pings change nothing, and are not counted", (read("served.db-wal"), read("served.db"), health()), before)
+    orders = [b"team-add beta\n", b"team-add beta\n", b"nonsense\n", b"ping now\n", b"ping", b"key-revoke nosuchkey0000001\n"]
+    told = [server.order(order) for order in orders]
+    suite.equal("what orders are told", told, [b"done\n", b"taken\n", b"bad\n", b"bad\n", b"bad\n", b"no-key\n"])
+    server.operator().close()
+    suite.equal("orders are not counted", health(), before[2])
+    with server.operator() as held:
+        told = [held.sendall(bytes([byte])) or time.sleep(0.01) for byte in b"ping\n"] and rest(held)
+        suite.holds("a ping that comes byte by byte", FORM.fullmatch(told), told)
+    suite.equal("no key and no path is told", [it for it in (KEY, "example.com", "alpha") if it.encode() in server.order(b"ping\n")], [])
+    server.kill()
+    last = Server("served.db", CONTROL, "--connections", "1")
+    suite.equal("the next server begins anew, with the versions of the store", health()[:6] + health()[7:], [0, 0, 0, 0, 0, 0, 1])
+    last.status(get(LIST))
+    suite.equal("a server whose connections are used up", (last.child.wait(60), run(PING)), (0, refusal("device")))
+
+
+def loaded(suite):
+    """Pings among requests: each sums up, none falls behind the one before, and the last one counts what the peers saw."""
+    new_store("served.db", ("alpha", KEY))
+    server = Server("served.db")
+    load, told, begun = Load(server, KEY, 4), [], time.monotonic()
+    while time.monotonic() - begun < 3:
+        told.append(counts())
+    load.stop()
+    suite.equal(f"{len(told)} pings under load: each connection has one class", [it for it in told if it[0] != sum(it[1:])], [])
+    suite.equal("and no count falls", [it for it in zip(told, told[1:]) if any(b < a for a, b in zip(*it))], [])
+    suite.equal(f"{len(load.seen)} requests are counted", counts(), [len(load.seen), 0, len(load.seen), 0, 0])
+    server.kill()
+
+
+def behind(suite):
+    """A ping behind a publish waits for its answer, and counts it."""
+    new_store("served.db", ("alpha", KEY))
+    server = Server("served.db")
+    request = put("example.com/lib", "v1.0.0", GOMOD, b"z" * 100_000)
+    with server.connected() as held:
+        held.sendall(request[:-5])
+        time.sleep(0.2)
+        results = []
+        thread = threading.Thread(target=lambda: results.append(health()))
+        thread.start()
+        time.sleep(0.5)
+        suite.equal("a ping waits while a publish comes", results, [])
+        held.sendall(request[-5:])
+        suite.equal("which is answered", rest(held).split()[1], b"201")
+        thread.join()
+    suite.equal("and is counted then", [it[:5] + it[7:] for it in results], [[1, 1, 0, 0, 0, 1]])
+    server.kill()
+
+
+def false(suite):
+    """What the command prints of a server that lies: nothing but the line of a health."""
+    for line in (LINE, LONGEST):
+        suite.equal(f"a health of {len(line)} bytes", by_false_server(PING[:-1], line), ((0, line, ""), b"ping\n"))
+    for told in FALSE:
+        suite.equal(f"a server that tells {told[:60]!r}", by_false_server(PING[:-1], told), (refusal("io"), b"ping\n"))
+    for word in ("device", "memory"):
+        suite.equal(f"one whose store tells {word}", by_false_server(PING[:-1], f"{word}\n".encode()), (refusal(word), b"ping\n"))
+    with open("/dev/full", "wb") as full:
+        new_store("served.db")
+        server = Server("served.db")
+        ran = subprocess.run([PROGRAM, *PING], stdout=full, stderr=subprocess.PIPE, timeout=60)
+        suite.equal("an output that is full", (ran.returncode, ran.stderr), (1, b"goshelf: io\n"))
+        server.kill()
+
+
+if __name__ == "__main__":
+    sys.exit(in_new_folders(Suite(), known, unanswered, beside, loaded, behind, false))

@@ -2,13 +2,14 @@
 """What `serve --control` costs its peers and its operators: GETs with the socket and without, orders under load, a key revoked, a copy.
 
 Build the program first (`./goshelf --version`); cc is on the path. With --program FILE it measures that program. It prints a table for
-bench/RESULTS.md, of four parts, or of those that --only names:
+bench/RESULTS.md, of five parts, or of those that --only names:
 
   gets      GETs a second of one `.mod` with `--control` beside those without, in turn, by a client in C, each on a connection of its own, and
             the server's processor time of one, which other processes on the machine hardly change
   orders    how long orders take while eight clients ask on and on: keys that are added and revoked, each on the disk before it is told
   revoke    on a store of a million versions, made by sqlite3: how long a key's revocation takes while eight clients ask with it, and how
             many requests that began after `done` were answered 200, of which there may be none
+  pings     on a store of 100,000 versions: the server's processor time of the first ping, which counts them, and of later ones
   copy      `copy --control` of a store of 1 GiB beside `extract` of the same, in turn, and how long a peer waited meanwhile. It is skipped
             where the program has no such command
 
@@ -30,7 +31,7 @@ import store
 from serve import ROOT, client_in, fetched, started, stopped
 from store import KEY, PROGRAM
 
-PARTS = ("gets", "orders", "revoke", "copy")
+PARTS = ("gets", "orders", "revoke", "pings", "copy")
 # seconds of load around a revocation
 BEFORE, AFTER = 0.5, 1.5
 MIB = 1_048_576
@@ -43,17 +44,29 @@ class Server:
         self.control = control
         self.child, self.port = started(program, file, "--control", control)
 
-    def order(self, line):
-        """Gives an order, which has to be done. Returns when it was sent and when the reply had come."""
-        begun = time.monotonic()
+    def told(self, line):
+        """Sends a line. Returns the reply."""
         with socket.socket(socket.AF_UNIX) as held:
             held.connect(self.control)
             held.sendall(f"{line}\n".encode())
-            told = b"".join(iter(lambda: held.recv(100), b""))
+            return b"".join(iter(lambda: held.recv(1_000), b""))
+
+    def order(self, line):
+        """Gives an order, which has to be done. Returns when it was sent and when the reply had come."""
+        begun = time.monotonic()
+        told = self.told(line)
         ended = time.monotonic()
         if told != b"done\n":
             sys.exit(f"{line} is told {told}")
         return begun, ended
+
+    def pinged(self, versions):
+        """The microseconds of processor time that a ping takes, which has to tell so many versions."""
+        before = used(self.child)
+        told = self.told("ping")
+        if not told.endswith(f" versions={versions}\n".encode()):
+            sys.exit(f"ping is told {told}")
+        return used(self.child) - before
 
     def stop(self):
         stopped(self.child)
@@ -185,6 +198,19 @@ def revoke(words, folder, client):
     return [(name, text)]
 
 
+def pings(words, folder, client):
+    """What pings of a large store take: the first, and those behind it."""
+    file = os.path.join(folder, "pinged.db")
+    store.filled(file, words.pinged)
+    server = Server(words.program, file, f"{folder}/control")
+    first = server.pinged(words.pinged)
+    later = [server.pinged(words.pinged) for _ in range(words.rounds)]
+    server.stop()
+    remove(file)
+    text = f"{first / 1000:.1f} ms of the server's processor; each later one {middle(later, '.0f', ' µs')}"
+    return [(f"the first ping of {words.pinged:,} versions", text)]
+
+
 def copy(words, folder, client):
     """How long a copy takes beside an extract of the same store, and how long a peer waits meanwhile."""
     if subprocess.run([words.program, "copy", "--help"], capture_output=True, check=False).returncode:
@@ -267,6 +293,7 @@ def options():
     parser.add_argument("--only", help=f"parts, of {','.join(PARTS)}", default=",".join(PARTS))
     for name, default, text in (("rounds", 9, "turns of gets, and revocations"), ("gets", 20_000, "GETs of a turn"), ("orders", 200, "orders under load"),
                                 ("clients", 8, "clients at once"), ("versions", 1_000_000, "versions of the store where keys are revoked"),
+                                ("pinged", 100_000, "versions of the store that is pinged"),
                                 ("mib", 1_024, "zips of 1 MiB in the store that is copied"), ("copies", 5, "turns of the copy")):
         parser.add_argument(f"--{name}", type=int, default=default, help=f"{text} ({default:,})")
     return parser.parse_args()
@@ -282,7 +309,7 @@ def main():
         client = client_in(folder)
         for name in words.only.split(","):
             begun = time.monotonic()
-            rows += {"gets": gets, "orders": orders, "revoke": revoke, "copy": copy}[name](words, folder, client)
+            rows += {"gets": gets, "orders": orders, "revoke": revoke, "pings": pings, "copy": copy}[name](words, folder, client)
             print(f"{name}: {time.monotonic() - begun:.0f} s", file=sys.stderr, flush=True)
     print(table(rows))
 

@@ -414,7 +414,7 @@ def helped(suite):
         suite.equal(f"{command} --help names its options", sorted(named - {"--help"}), sorted(options.split()))
     listed = shown("--help", ["--help"])
     suite.equal("--help lists each command", [it for it in commands if not re.search(rf"^  {it} ", listed, re.M)], [])
-    with open(os.path.join(ROOT, "crates", "command_line", "src", "version.rt"), encoding="utf-8") as file:
+    with open(os.path.join(ROOT, "crates", "cli", "src", "version.rt"), encoding="utf-8") as file:
         version = re.search(r'"(.*)"', file.read())[1]
     suite.equal("--version names the version", shown("--version", ["--version"]), f"goshelf {version}\n")
 

@@ -19,7 +19,7 @@ from harness import KEY, PROGRAM, ROOT, Suite, read, write
 
 NEEDS = ["adduser", "cc", "curl", "dpkg-deb", "git", "ldd", "nsenter", "sqlite3", "systemd-analyze", "unshare"]
 RELEASE = os.path.join(ROOT, "tools", "release")
-VERSION = os.path.join(ROOT, "crates", "command_line", "src", "version.rt")
+VERSION = os.path.join(ROOT, "crates", "cli", "src", "version.rt")
 UNIT = os.path.join(ROOT, "deploy", "systemd", "goshelf.service")
 # files that a release has among others
 WANTED = {"README.md", "copyright", "docs/OPERATING.md", "docs/REFERENCE.md", "bench/RESULTS.md", "deploy/systemd/goshelf.service", "deploy/warm/goshelf-warm"}
@@ -182,7 +182,7 @@ def needs(suite, about):
 # Stands in for `rt`: its `ci` makes a program that prints VERSION, and otherwise the version of the tree.
 GATE = """#!/bin/sh
 [ "$1" = ci ] || exec echo a kit
-version=${VERSION:-$(sed -n 's/.*"\\(.*\\)".*/\\1/p' crates/command_line/src/version.rt)}
+version=${VERSION:-$(sed -n 's/.*"\\(.*\\)".*/\\1/p' crates/cli/src/version.rt)}
 mkdir -p crates/goshelf/out
 printf '#include <stdio.h>\\nint main(void) { puts("goshelf %s"); }\\n' "$version" | cc -x c -o crates/goshelf/out/goshelf -
 echo $GATE

@@ -31,7 +31,7 @@ use Rattle.control.proofs.OrderLemmas.{one_event}
 use Rattle.control.proofs.WordLemmas.{one_saying}
 use Rattle.commands.specs.Controlled.{EndsAt, EndsAsOnTheStore}
 use Rattle.commands.specs.Order.{ComeToTheSame, told_ending}
-use Rattle.commands.specs.declared.refusal.Refusal.{Refusal}
+use Rattle.commands.specs.declared.refusal.CommandRefusal.{CommandRefusal}
 
 -- ---- the line of an order is not one word, as that which ends a server, or asks for its health
 
@@ -85,7 +85,7 @@ abbrev outcome_in_told : Told → Outcome
 outcome_in_told (spoken.Outcome outcome) = outcome
 outcome_in_told (spoken.Health line) = outcome.Bad
 
-module _ (old new : Shown) (before now : ℕ) (sent : List ℕ) (order asked : Order) (result : Result (Unit {0}) Refusal) (w : World) where
+module _ (old new : Shown) (before now : ℕ) (sent : List ℕ) (order asked : Order) (result : Result (Unit {0}) CommandRefusal) (w : World) where
   carried : new.is_honest → old.stands w → IsWorld w → ComeToTheSame asked order → IsSent sent asked → (other : Order) → IsSent sent other
       → (told : Result Registered StoreFault) → result ≡ told_ending asked (Ok (outcome_of told))
       → GoesThroughTurns old new before now (turns_heard (Carried other told)) false → EndsAt new w order result

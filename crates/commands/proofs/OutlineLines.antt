@@ -9,7 +9,7 @@ use Rattle.world.specs.World.{view}
 use Rattle.commands.specs.Inventory.{row_of, line, fields}
 use Rattle.commands.specs.InventoryLines.{outlined, lines_of, lines_at}
 use Rattle.commands.specs.Reading.{Adds}
-use Rattle.commands.specs.declared.inventory.Row.{Row}
+use Rattle.commands.specs.declared.inventory.InventoryRow.{InventoryRow}
 
 -- the row of what is seen is the row of its outline
 same_row : (p : List ℕ) (v : SemanticVersion) (seen : Option Seen) → outlined p v (in_outline seen) ≡ row_of p v seen
@@ -37,6 +37,6 @@ module _ (old new : Shown) (s p : List ℕ) (v : SemanticVersion) (found : Optio
   adds_none is same = adds_lines None is (same ∙ sym (append-nil before))
 
   -- with an outline, adding the line of its row adds those of the version
-  pub adds_one : (it : Outline) (row : Row) → found ≡ Some it → row ∷ [] ≡ outlined p v (Some it) → after ≡ before ++ line (fields row) → Adds old new before after (Ok tt) (λ w. lines_at w s p v)
+  pub adds_one : (it : Outline) (row : InventoryRow) → found ≡ Some it → row ∷ [] ≡ outlined p v (Some it) → after ≡ before ++ line (fields row) → Adds old new before after (Ok tt) (λ w. lines_at w s p v)
   adds_one it row is rows told =
       adds_lines (Some it) is (told ∙ (ap (λ l. before ++ l) (sym (append-nil (line (fields row)))) ∙ ap (λ rs. before ++ lines_of rs) rows))

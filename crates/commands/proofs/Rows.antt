@@ -31,7 +31,7 @@ use Rattle.world.proofs.SeenVersions.{seen_members}
 use Rattle.world.proofs.VersionOrder.{versions_exact}
 use Rattle.commands.specs.Inventory.{row_of, row_at, rows_of_path, rows_at, rows_of_text, rows_seen, inventory_of, inventory_of_shelf}
 use Rattle.commands.specs.Rows.{is_of, HasOneRow, RowsAreWhole, TellsAll}
-use Rattle.commands.specs.declared.inventory.Row.{Row}
+use Rattle.commands.specs.declared.inventory.InventoryRow.{InventoryRow}
 
 -- ---- what is gathered from one member of a set
 
@@ -162,20 +162,20 @@ module _ (w : World) (is : IsWorld w) (s p t : List ℕ) (seen : Seen) (found : 
 
 -- ---- each row is of a version that is seen
 
-row_is_seen : (w : World) (s p : List ℕ) (v : SemanticVersion) (r : Row) (o : Option Seen) → view w s p (version_text v) ≡ o → Contains (row_of p v o) r → IsSeen w s r.path (version_text r.version)
+row_is_seen : (w : World) (s p : List ℕ) (v : SemanticVersion) (r : InventoryRow) (o : Option Seen) → view w s p (version_text v) ≡ o → Contains (row_of p v o) r → IsSeen w s r.path (version_text r.version)
 row_is_seen w s p v r None none at = absurd (no_member r at)
 row_is_seen w s p v r (Some e) seen at = elim (member_cases _ r [] at) [
-  | inl same ↦ subst (λ (x : Row). IsSeen w s x.path (version_text x.version)) same (e, seen)
+  | inl same ↦ subst (λ (x : InventoryRow). IsSeen w s x.path (version_text x.version)) same (e, seen)
   | inr never ↦ absurd (no_member r never)
 ]
 
-text_is_seen : (w : World) (s : List ℕ) (r : Row) (o : Option (List ℕ)) → Contains (rows_at w s o) r → IsSeen w s r.path (version_text r.version)
+text_is_seen : (w : World) (s : List ℕ) (r : InventoryRow) (o : Option (List ℕ)) → Contains (rows_at w s o) r → IsSeen w s r.path (version_text r.version)
 text_is_seen w s r None at = absurd (no_member r at)
 text_is_seen w s r (Some p) at =
     let of = member_of_one (row_at w s p) (versions_of w s p) r at in
     row_is_seen w s p of.0 r (view w s p (version_text of.0)) refl of.1
 
-rows_are_seen : (w : World) (s : List ℕ) (r : Row) → Contains (rows_seen w s) r → IsSeen w s r.path (version_text r.version)
+rows_are_seen : (w : World) (s : List ℕ) (r : InventoryRow) → Contains (rows_seen w s) r → IsSeen w s r.path (version_text r.version)
 rows_are_seen w s r at = let of = member_of_one (rows_of_text w s) (in_order (paths_seen w s)) r at in text_is_seen w s r (path_of of.0) of.1
 
 pub rows_are_whole : RowsAreWhole

@@ -30,8 +30,8 @@ use Rattle.control.specs.declared.order.Order.TheVariants.{TeamAdd, GroupAdd, Ke
 use Rattle.control.specs.declared.outcome.Outcome.{Outcome}
 use Rattle.commands.specs.Ending.{ending}
 use Rattle.commands.specs.Order.{group_sent, IsSentFor, ComeToTheSame, refusal_by, unsayable, told_ending, OrdersOver}
-use Rattle.commands.specs.declared.refusal.Refusal.{Refusal}
-use Rattle.commands.specs.declared.refusal.Refusal.TheVariants.{NoTeam}
+use Rattle.commands.specs.declared.refusal.CommandRefusal.{CommandRefusal}
+use Rattle.commands.specs.declared.refusal.CommandRefusal.TheVariants.{NoTeam}
 
 -- ---- words that a line can carry
 
@@ -237,7 +237,7 @@ group_unsaid name unsaid w = go (is_team_name name.now) refl
 abbrev key_told : Bool → Bool → Bool → Registered
 key_told named there taken = if not named then registered.Name else if not there then registered.NoTeam else if taken then registered.Taken else registered.Done
 
-abbrev key_word : Bool → Result (Unit {0}) Refusal
+abbrev key_word : Bool → Result (Unit {0}) CommandRefusal
 key_word named = Err (refusal_by named NoTeam)
 
 -- adding a key that no line carries is refused in each world as the command says
@@ -280,7 +280,7 @@ unsent_ends (KeyRevoke key) sent is unsaid w world = ap (λ o. Err (unsayable o)
 -- ---- the command
 
 -- a command that sends the order for its own, and ends by the result, does as `OrdersOver` says
-pub orders_over : (unread unread_new written written_new : Option (List ℕ)) (order asked : Order) (told : Result Outcome Untold) (result : Result (Unit {0}) Refusal)
+pub orders_over : (unread unread_new written written_new : Option (List ℕ)) (order asked : Order) (told : Result Outcome Untold) (result : Result (Unit {0}) CommandRefusal)
     → IsSentFor order asked → Asks unread unread_new written written_new asked told → result ≡ told_ending asked told
     → OrdersOver unread unread_new written written_new order result
 orders_over unread unread_new written written_new order asked told result sends asks ends = record {

@@ -13,11 +13,11 @@ use Rattle.control.specs.declared.outcome.Outcome.{Outcome}
 use Rattle.control.specs.declared.told.Told.TheVariants as spoken
 use Rattle.commands.specs.Ending.{ending}
 use Rattle.commands.specs.Order.{OrdersOver}
-use Rattle.commands.specs.declared.refusal.Refusal.{Refusal}
+use Rattle.commands.specs.declared.refusal.CommandRefusal.{CommandRefusal}
 
 -- The command wrote these bytes, the server did what they order, and the command got its outcome.
 pub record AreConnected (copied : List ℕ → Result (Unit {0}) CopyRefusal → Type 0) (pinged : Result Health StoreFault → Type 0)
-    (old new : Shown) (order : Order) (result : Result (Unit {0}) Refusal) : Type 0 where
+    (old new : Shown) (order : Order) (result : Result (Unit {0}) CommandRefusal) : Type 0 where
   pub unread : Option (List ℕ)
   pub unread_new : Option (List ℕ)
   pub sent : List ℕ
@@ -30,7 +30,7 @@ pub record AreConnected (copied : List ℕ → Result (Unit {0}) CopyRefusal →
 
 -- The command ends by the machine's reply to the order in this world, and the store stands for the world after it. Or it ends by a
 -- fault of the store, which still stands for this world.
-abbrev pub EndsAt : Shown → World → Order → Result (Unit {0}) Refusal → Type 0
+abbrev pub EndsAt : Shown → World → Order → Result (Unit {0}) CommandRefusal → Type 0
 EndsAt new w order result =
     ((result ≡ ending (Ok (outcome_in w order))) × new.stands (after w (event_of order)))
     ⊎ ((fault : StoreFault) × (result ≡ ending (Err fault)) × new.stands w)
@@ -39,5 +39,5 @@ EndsAt new w order result =
 abbrev pub EndsAsOnTheStore :
     (List ℕ → Result (Unit {0}) CopyRefusal → Type 0) → (Result Health StoreFault → Type 0) → Shown → Shown → Type 0
 EndsAsOnTheStore copied pinged old new =
-    (order : Order) (result : Result (Unit {0}) Refusal) (w : World)
+    (order : Order) (result : Result (Unit {0}) CommandRefusal) (w : World)
     → AreConnected copied pinged old new order result → new.is_honest → old.stands w → EndsAt new w order result

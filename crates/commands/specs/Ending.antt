@@ -6,11 +6,11 @@ use Rattle.world.specs.declared.registry.Registered.{Registered}
 use Rattle.world.specs.declared.registry.Registered.TheVariants as registered
 use Rattle.world.specs.declared.registry.StoreFault.{StoreFault}
 use Rattle.world.specs.declared.registry.StoreFault.TheVariants as fault
-use Rattle.commands.specs.declared.refusal.Refusal.{Refusal}
-use Rattle.commands.specs.declared.refusal.Refusal.TheVariants as refusal
+use Rattle.commands.specs.declared.refusal.CommandRefusal.{CommandRefusal}
+use Rattle.commands.specs.declared.refusal.CommandRefusal.TheVariants as refusal
 
 -- the word that says why a command was refused
-abbrev pub word : Refusal → List ℕ
+abbrev pub word : CommandRefusal → List ℕ
 word refusal.Name = codes "name"
 word refusal.Taken = codes "taken"
 word refusal.NoTeam = codes "no-team"
@@ -25,7 +25,7 @@ word refusal.BadRow = codes "bad-row"
 word refusal.Io = codes "io"
 
 -- how a registry command ends
-abbrev pub ending : Result Registered StoreFault → Result (Unit {0}) Refusal
+abbrev pub ending : Result Registered StoreFault → Result (Unit {0}) CommandRefusal
 ending (Ok registered.Done) = Ok tt
 ending (Ok registered.Name) = Err refusal.Name
 ending (Ok registered.Taken) = Err refusal.Taken
@@ -39,7 +39,7 @@ ending (Err fault.Memory) = Err refusal.Memory
 -- met a fault and changed nothing; and the command ends by that.
 pub record Registers
     (old new : Shown) (before now : ℕ) (outcome : World → Registered) (next : World → World)
-    (result : Result (Unit {0}) Refusal) : Type 0 where
+    (result : Result (Unit {0}) CommandRefusal) : Type 0 where
   pub told : Result Registered StoreFault
   pub does : Does old new told outcome next
   pub cause : HasCause before now told

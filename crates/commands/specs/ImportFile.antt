@@ -5,11 +5,11 @@ use Rattle.world.specs.Store.{Shown}
 use Rattle.commands.specs.Import.{Imports}
 use Rattle.commands.specs.declared.import.Ending.{Ending}
 use Rattle.commands.specs.declared.import.Ending.TheVariants.{AllIn, SomeOut, BadRow as ABadRow}
-use Rattle.commands.specs.declared.refusal.Refusal.{Refusal}
-use Rattle.commands.specs.declared.refusal.Refusal.TheVariants.{BadRow, Io}
+use Rattle.commands.specs.declared.refusal.CommandRefusal.{CommandRefusal}
+use Rattle.commands.specs.declared.refusal.CommandRefusal.TheVariants.{BadRow, Io}
 
 -- the result of the command, by how the import ended
-abbrev pub told : Result Ending Failure → Result Bool Refusal
+abbrev pub told : Result Ending Failure → Result Bool CommandRefusal
 told (Ok AllIn) = Ok true
 told (Ok SomeOut) = Ok false
 told (Ok ABadRow) = Err BadRow
@@ -17,13 +17,13 @@ told (Err failure) = Err Io
 
 module _ {S : Type 0} (shown : S → Shown) (failures : S → ℕ) (old new : S) (key : List ℕ) where
   -- a list was imported whose bytes and files are not known
-  pub record ImportsList (written written_new : Option (List ℕ)) (result : Result Bool Refusal) : Type 0 where
+  pub record ImportsList (written written_new : Option (List ℕ)) (result : Result Bool CommandRefusal) : Type 0 where
     pub list : Option (List ℕ)
     pub ended : Result Ending Failure
     pub imports : Imports (shown old) (shown new) (failures old) (failures new) (λ name. None) key list written written_new ended
     pub tells : result ≡ told ended
 
   -- a list was imported, or it could not be opened and nothing was done
-  abbrev pub ImportsFile : Option (List ℕ) → Option (List ℕ) → Result Bool Refusal → Type 0
+  abbrev pub ImportsFile : Option (List ℕ) → Option (List ℕ) → Result Bool CommandRefusal → Type 0
   ImportsFile written written_new result =
       ImportsList written written_new result ⊎ ((new ≡ old) × (written_new ≡ written) × (result ≡ Err Io))

@@ -9,9 +9,9 @@ use Rattle.csv.specs.declared.parser.State.{State}
 use Rattle.csv.specs.declared.parser.State.TheVariants as st
 use Rattle.csv.specs.declared.reader.Reader.{Reader}
 use Rattle.csv.specs.declared.reader.Trim.TheVariants as trim
-use Rattle.commands.specs.declared.import_list.Next.{Next}
-use Rattle.commands.specs.declared.import_list.Next.TheVariants as next
-use Rattle.commands.specs.declared.import_list.Row.{Row}
+use Rattle.commands.specs.declared.import_list.NextRow.{NextRow}
+use Rattle.commands.specs.declared.import_list.NextRow.TheVariants as next
+use Rattle.commands.specs.declared.import_list.ImportRow.{ImportRow}
 
 -- ---- rows
 
@@ -26,17 +26,17 @@ pub record Line : Type 0 where
 abbrev pub fields_of_line : Line → List (List ℕ)
 fields_of_line l = l.path ∷ l.version ∷ l.time ∷ l.gomod ∷ l.zip ∷ []
 
-abbrev pub line_of_row : Row → Line
+abbrev pub line_of_row : ImportRow → Line
 line_of_row r = record { path = r.path.now; version = r.version.now; time = r.time.now; gomod = r.gomod.now; zip = r.zip.now }
 
-abbrev pub fields_of_row : Row → List (List ℕ)
+abbrev pub fields_of_row : ImportRow → List (List ℕ)
 fields_of_row r = fields_of_line (line_of_row r)
 
 abbrev pub header : List (List ℕ)
 header = codes "path" ∷ codes "version" ∷ codes "time" ∷ codes "mod" ∷ codes "zip" ∷ []
 
 -- the row of these fields, or none if they are not five
-abbrev pub IsRowOf : List (List ℕ) → Option Row → Type 0
+abbrev pub IsRowOf : List (List ℕ) → Option ImportRow → Type 0
 IsRowOf fields None = length fields ≢ 5
 IsRowOf fields (Some row) = fields ≡ fields_of_row row
 
@@ -64,7 +64,7 @@ abbrev pub IsNoText : Option Read → Type 0
 IsNoText next = (record_next : Read) × (next ≡ Some record_next) × (¬ AllText record_next.0)
 
 -- what comes if a read failed with this error
-abbrev pub next_of : ErrorKind → Next
+abbrev pub next_of : ErrorKind → NextRow
 next_of (kind.Io e) = next.Unread
 next_of kind.OutOfMemory = next.Unread
 next_of other = next.NoText
@@ -79,7 +79,7 @@ module _ {R : Type 0} (remaining : R → Option (List ℕ)) (list : Option (List
     pub at : IsAt list rows (reader_state reader) (source_of remaining reader)
 
   -- this comes after these rows
-  abbrev pub Comes : List (List (List ℕ)) → Reader R → List (List ℕ) → Next → Type 0
+  abbrev pub Comes : List (List (List ℕ)) → Reader R → List (List ℕ) → NextRow → Type 0
   Comes rows reader fields next.Fields = HasRead (rows ++ fields ∷ []) reader
   Comes rows reader fields next.End = Meets list rows IsNone
   Comes rows reader fields next.NoText = Meets list rows IsNoText

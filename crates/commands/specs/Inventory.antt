@@ -19,12 +19,12 @@ use Rattle.world.specs.declared.registry.StoreFault.{StoreFault}
 use Rattle.world.specs.declared.registry.StoreFault.TheVariants as fault
 use Rattle.commands.specs.declared.inventory.InventoryFault.{InventoryFault}
 use Rattle.commands.specs.declared.inventory.InventoryFault.TheVariants as why
-use Rattle.commands.specs.declared.inventory.Row.{Row}
+use Rattle.commands.specs.declared.inventory.InventoryRow.{InventoryRow}
 
 -- ---- the rows
 
 -- the row of a version, by what is seen of it; none if nothing is
-abbrev pub row_of : List ℕ → SemanticVersion → Option Seen → List Row
+abbrev pub row_of : List ℕ → SemanticVersion → Option Seen → List InventoryRow
 row_of p v None = []
 row_of p v (Some seen) =
     record {
@@ -38,23 +38,23 @@ row_of p v (Some seen) =
     ∷ []
 
 -- the row of a version that the shelf sees, or none if it does not
-abbrev pub row_at : World → List ℕ → List ℕ → SemanticVersion → List Row
+abbrev pub row_at : World → List ℕ → List ℕ → SemanticVersion → List InventoryRow
 row_at w s p v = row_of p v (view w s p (version_text v))
 
 -- the rows of the versions of a path that the shelf sees, by precedence
-abbrev pub rows_of_path : World → List ℕ → List ℕ → List Row
+abbrev pub rows_of_path : World → List ℕ → List ℕ → List InventoryRow
 rows_of_path w s p = flat_map (row_at w s p) (versions_of w s p)
 
 -- the rows of the path that a text is, or none if it is no path
-abbrev pub rows_at : World → List ℕ → Option (List ℕ) → List Row
+abbrev pub rows_at : World → List ℕ → Option (List ℕ) → List InventoryRow
 rows_at w s None = []
 rows_at w s (Some p) = rows_of_path w s p
 
-abbrev pub rows_of_text : World → List ℕ → List ℕ → List Row
+abbrev pub rows_of_text : World → List ℕ → List ℕ → List InventoryRow
 rows_of_text w s t = rows_at w s (path_of t)
 
 -- the rows of all versions that the shelf sees: the paths by their bytes, the versions of each by precedence
-abbrev pub rows_seen : World → List ℕ → List Row
+abbrev pub rows_seen : World → List ℕ → List InventoryRow
 rows_seen w s = flat_map (rows_of_text w s) (in_order (paths_seen w s))
 
 -- ---- the text of rows
@@ -72,7 +72,7 @@ time_field (Some time) = time
 abbrev pub header : List (List ℕ)
 header = codes "path" ∷ codes "version" ∷ codes "shelf" ∷ codes "class" ∷ codes "time" ∷ codes "mod_bytes" ∷ codes "zip_bytes" ∷ []
 
-abbrev pub fields : Row → List (List ℕ)
+abbrev pub fields : InventoryRow → List (List ℕ)
 fields r =
     r.path ∷ version_text r.version ∷ r.shelf ∷ class_word (class_of r.version) ∷ time_field r.time
     ∷ decimal r.gomod_bytes ∷ decimal r.zip_bytes ∷ []
@@ -82,7 +82,7 @@ unfoldable pub line : List (List ℕ) → List ℕ
 line fs = row_text default_writer fs
 
 -- the header, and a line for each row
-abbrev pub text_of : List Row → List ℕ
+abbrev pub text_of : List InventoryRow → List ℕ
 text_of rows = line header ++ flat_map (λ r. line (fields r)) rows
 
 -- ---- the inventory

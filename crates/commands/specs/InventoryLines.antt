@@ -8,15 +8,15 @@ use Rattle.world.specs.Lines.{in_order}
 use Rattle.world.specs.Visible.{paths_seen}
 use Rattle.world.specs.World.{World}
 use Rattle.outline.specs.declared.outlines.Outline.{Outline}
-use Rattle.commands.specs.declared.inventory.Row.{Row}
+use Rattle.commands.specs.declared.inventory.InventoryRow.{InventoryRow}
 use Rattle.commands.specs.Inventory.{row_at, line, fields}
 
 -- the lines of these rows
-abbrev pub lines_of : List Row → List ℕ
+abbrev pub lines_of : List InventoryRow → List ℕ
 lines_of rows = flat_map (λ r. line (fields r)) rows
 
 -- the row of a version, by the outline of what is seen of it
-abbrev pub outlined : List ℕ → SemanticVersion → Option Outline → List Row
+abbrev pub outlined : List ℕ → SemanticVersion → Option Outline → List InventoryRow
 outlined p v None = []
 outlined p v (Some it) =
     record { path = p; version = v; shelf = it.shelf; time = it.time; gomod_bytes = it.gomod_bytes; zip_bytes = it.zip_bytes } ∷ []

@@ -20,4 +20,4 @@ pub mod Report
 pub mod Requirements
 pub mod Serve
 pub mod Sources
-pub mod Work
+pub mod Action

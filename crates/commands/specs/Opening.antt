@@ -6,8 +6,8 @@ use Rattle.world.specs.InMemory.{in_memory}
 use Rattle.world.specs.Store.{Shown}
 use Rattle.world.specs.World.{World, only_common, with_team, with_key, is_team_name, is_key}
 use Rattle.world.specs.declared.entry.Right.TheVariants.{Publishes}
-use Rattle.commands.specs.declared.refusal.Refusal.{Refusal}
-use Rattle.commands.specs.declared.refusal.Refusal.TheVariants.{Name, Memory, Io}
+use Rattle.commands.specs.declared.refusal.CommandRefusal.{CommandRefusal}
+use Rattle.commands.specs.declared.refusal.CommandRefusal.TheVariants.{Name, Memory, Io}
 
 -- `common`, one team, and the team's publishing key
 abbrev pub opening : List ℕ → List ℕ → World
@@ -26,7 +26,7 @@ ServedFrom start unread unread_new written written_new result =
 -- If the team and the key keep their rules, the requests are answered, or memory ran out before that. Otherwise nothing is read or
 -- written.
 abbrev pub AnsweredFor :
-    List ℕ → List ℕ → Option (List ℕ) → Option (List ℕ) → Option (List ℕ) → Option (List ℕ) → Result (Unit {0}) Refusal → Type 0
+    List ℕ → List ℕ → Option (List ℕ) → Option (List ℕ) → Option (List ℕ) → Option (List ℕ) → Result (Unit {0}) CommandRefusal → Type 0
 AnsweredFor team key unread unread_new written written_new (Ok u) =
     AreNames team key × ServedFrom (opening team key) unread unread_new written written_new (Ok tt)
 AnsweredFor team key unread unread_new written written_new (Err Io) =
@@ -39,7 +39,7 @@ AnsweredFor team key unread unread_new written written_new (Err other) = ⊥
 
 -- The requests were answered from shelves that went from old to new, with this result.
 abbrev pub AnswersAll :
-    Shown → Shown → ℕ → ℕ → Option (List ℕ) → Option (List ℕ) → Option (List ℕ) → Option (List ℕ) → Result (Unit {0}) Refusal → Type 0
+    Shown → Shown → ℕ → ℕ → Option (List ℕ) → Option (List ℕ) → Option (List ℕ) → Option (List ℕ) → Result (Unit {0}) CommandRefusal → Type 0
 AnswersAll old new before now unread unread_new written written_new (Ok u) = Serves old new before now unread unread_new written written_new (Ok tt)
 AnswersAll old new before now unread unread_new written written_new (Err Io) =
     (failure : Failure) × Serves old new before now unread unread_new written written_new (Err failure)

@@ -12,8 +12,8 @@ use Rattle.control.specs.Order.{event_of, outcome_in}
 use Rattle.control.specs.declared.outcome.Outcome.{Outcome}
 use Rattle.control.specs.declared.outcome.Outcome.TheVariants as outcome
 use Rattle.commands.specs.Ending.{ending}
-use Rattle.commands.specs.declared.refusal.Refusal.{Refusal}
-use Rattle.commands.specs.declared.refusal.Refusal.TheVariants.{Name, NoTeam, NoKey, NotEmpty, Device, Memory, Io}
+use Rattle.commands.specs.declared.refusal.CommandRefusal.{CommandRefusal}
+use Rattle.commands.specs.declared.refusal.CommandRefusal.TheVariants.{Name, NoTeam, NoKey, NotEmpty, Device, Memory, Io}
 
 -- ---- what is sent
 
@@ -36,18 +36,18 @@ ComeToTheSame one two = (w : World) → IsWorld w → (outcome_in w one ≡ outc
 -- ---- how a command ends
 
 -- this refusal if the name keeps its rule, and otherwise `Name`
-abbrev pub refusal_by : Bool → Refusal → Refusal
+abbrev pub refusal_by : Bool → CommandRefusal → CommandRefusal
 refusal_by keeps refusal = if keeps then refusal else Name
 
 -- why an order is refused that no line can carry
-abbrev pub unsayable : Order → Refusal
+abbrev pub unsayable : Order → CommandRefusal
 unsayable (TeamAdd name group) = Name
 unsayable (GroupAdd name) = Name
 unsayable (KeyAdd shelf key right) = refusal_by (is_key key.now) NoTeam
 unsayable (KeyRevoke key) = NoKey
 
 -- how a command ends, by the result of sending its order
-abbrev pub told_ending : Order → Result Outcome Untold → Result (Unit {0}) Refusal
+abbrev pub told_ending : Order → Result Outcome Untold → Result (Unit {0}) CommandRefusal
 told_ending order (Ok (outcome.Registered registered)) = ending (Ok registered)
 told_ending order (Ok (outcome.Failed fault)) = ending (Err fault)
 told_ending order (Ok outcome.NotEmpty) = Err Io
@@ -58,12 +58,12 @@ told_ending order (Err untold.Memory) = Err Memory
 told_ending order (Err untold.Io) = Err Io
 
 -- in each world, the command ends as the order does there
-abbrev pub EndsInEach : Order → Result (Unit {0}) Refusal → Type 0
+abbrev pub EndsInEach : Order → Result (Unit {0}) CommandRefusal → Type 0
 EndsInEach order result = (w : World) → IsWorld w → result ≡ ending (Ok (outcome_in w order))
 
 -- The line of an order with the same effect was sent as `Asks` says, and the command ends by the result. If that order has no line,
 -- the command ends as the order does in each world.
-pub record OrdersOver (unread unread_new written written_new : Option (List ℕ)) (order : Order) (result : Result (Unit {0}) Refusal) : Type 0 where
+pub record OrdersOver (unread unread_new written written_new : Option (List ℕ)) (order : Order) (result : Result (Unit {0}) CommandRefusal) : Type 0 where
   pub asked : Order
   pub same : ComeToTheSame asked order
   pub told : Result Outcome Untold
@@ -72,13 +72,13 @@ pub record OrdersOver (unread unread_new written written_new : Option (List ℕ)
   pub unsent : told ≡ Err untold.Words → EndsInEach order result
 
 -- so it was over a connection, or nobody listens
-abbrev pub OrdersThere : Order → Result (Unit {0}) Refusal → Type 0
+abbrev pub OrdersThere : Order → Result (Unit {0}) CommandRefusal → Type 0
 OrdersThere order result =
     ((unread unread_new written written_new : Option (List ℕ)) × OrdersOver unread unread_new written written_new order result)
     ⊎ (result ≡ Err Device)
 
 -- how `copy` ends, by the result of sending its order; a path that no line can carry counts as a name that breaks its rule
-abbrev pub copy_ending : Result Outcome Untold → Result (Unit {0}) Refusal
+abbrev pub copy_ending : Result Outcome Untold → Result (Unit {0}) CommandRefusal
 copy_ending (Ok (outcome.Registered registered)) = ending (Ok registered)
 copy_ending (Ok (outcome.Failed fault)) = ending (Err fault)
 copy_ending (Ok outcome.NotEmpty) = Err NotEmpty
@@ -90,19 +90,19 @@ copy_ending (Err untold.Io) = Err Io
 
 -- the line that orders a copy to the path was sent as `AsksToCopy` says, and the command ends by the result
 pub record CopiesOver (unread unread_new written written_new : Option (List ℕ)) (path : List ℕ)
-    (result : Result (Unit {0}) Refusal) : Type 0 where
+    (result : Result (Unit {0}) CommandRefusal) : Type 0 where
   pub told : Result Outcome Untold
   pub asks : AsksToCopy unread unread_new written written_new path told
   pub ends : result ≡ copy_ending told
 
 -- so it was over a connection, or nobody listens
-abbrev pub CopiesThere : List ℕ → Result (Unit {0}) Refusal → Type 0
+abbrev pub CopiesThere : List ℕ → Result (Unit {0}) CommandRefusal → Type 0
 CopiesThere path result =
     ((unread unread_new written written_new : Option (List ℕ)) × CopiesOver unread unread_new written written_new path result)
     ⊎ (result ≡ Err Device)
 
 -- how `stop` ends, by the result of sending its order
-abbrev pub stop_ending : Result Outcome Untold → Result (Unit {0}) Refusal
+abbrev pub stop_ending : Result Outcome Untold → Result (Unit {0}) CommandRefusal
 stop_ending (Ok outcome.Stopping) = Ok tt
 stop_ending (Ok (outcome.Failed fault)) = ending (Err fault)
 stop_ending (Ok (outcome.Registered registered)) = Err Io
@@ -111,13 +111,13 @@ stop_ending (Ok outcome.Bad) = Err Io
 stop_ending (Err why) = Err Io
 
 -- the line that ends a server was sent as `AsksToStop` says, and the command ends by the result
-pub record StopsOver (unread unread_new written written_new : Option (List ℕ)) (result : Result (Unit {0}) Refusal) : Type 0 where
+pub record StopsOver (unread unread_new written written_new : Option (List ℕ)) (result : Result (Unit {0}) CommandRefusal) : Type 0 where
   pub told : Result Outcome Untold
   pub asks : AsksToStop unread unread_new written written_new told
   pub ends : result ≡ stop_ending told
 
 -- so it was over a connection, or nobody listens
-abbrev pub StopsThere : Result (Unit {0}) Refusal → Type 0
+abbrev pub StopsThere : Result (Unit {0}) CommandRefusal → Type 0
 StopsThere result =
     ((unread unread_new written written_new : Option (List ℕ)) × StopsOver unread unread_new written written_new result)
     ⊎ (result ≡ Err Device)

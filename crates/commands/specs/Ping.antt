@@ -9,14 +9,14 @@ use Rattle.control.specs.declared.outcome.Outcome.TheVariants as outcome
 use Rattle.control.specs.declared.told.Told.{Told}
 use Rattle.control.specs.declared.told.Told.TheVariants as spoken
 use Rattle.commands.specs.Report as report
-use Rattle.commands.specs.declared.refusal.Refusal.{Refusal}
-use Rattle.commands.specs.declared.refusal.Refusal.TheVariants.{Device, Memory, Io}
+use Rattle.commands.specs.declared.refusal.CommandRefusal.{CommandRefusal}
+use Rattle.commands.specs.declared.refusal.CommandRefusal.TheVariants.{Device, Memory, Io}
 
-abbrev pub Prints : Option (List ℕ) → Option (List ℕ) → Result Bool Refusal → Result (List ℕ) Refusal → Type 0
+abbrev pub Prints : Option (List ℕ) → Option (List ℕ) → Result Bool CommandRefusal → Result (List ℕ) CommandRefusal → Type 0
 Prints = report.Prints
 
 -- why an outcome came in the place of a health
-abbrev pub refusal_of : Outcome → Refusal
+abbrev pub refusal_of : Outcome → CommandRefusal
 refusal_of (outcome.Failed fault.Device) = Device
 refusal_of (outcome.Failed fault.Memory) = Memory
 refusal_of (outcome.Registered registered) = Io
@@ -25,20 +25,20 @@ refusal_of outcome.Stopping = Io
 refusal_of outcome.Bad = Io
 
 -- the line of a health that was told, or why there is none
-abbrev pub health_told : Result Told Untold → Result (List ℕ) Refusal
+abbrev pub health_told : Result Told Untold → Result (List ℕ) CommandRefusal
 health_told (Ok (spoken.Health line)) = Ok line
 health_told (Ok (spoken.Outcome outcome)) = Err (refusal_of outcome)
 health_told (Err why) = Err Io
 
 -- the line that asks for the health was written, a line was read, and that of a health was printed
-pub record PingsOver (unread unread_new written written_new printed printed_new : Option (List ℕ)) (result : Result Bool Refusal)
+pub record PingsOver (unread unread_new written written_new printed printed_new : Option (List ℕ)) (result : Result Bool CommandRefusal)
     : Type 0 where
   pub told : Result Told Untold
   pub asks : AsksForHealth unread unread_new written written_new told
   pub prints : Prints printed printed_new result (health_told told)
 
 -- so it was over a connection, or nobody listens
-abbrev pub PingsThere : Option (List ℕ) → Option (List ℕ) → Result Bool Refusal → Type 0
+abbrev pub PingsThere : Option (List ℕ) → Option (List ℕ) → Result Bool CommandRefusal → Type 0
 PingsThere printed printed_new result =
     ((unread unread_new written written_new : Option (List ℕ)) × PingsOver unread unread_new written written_new printed printed_new result)
     ⊎ ((result ≡ Err Device) × (printed_new ≡ printed))

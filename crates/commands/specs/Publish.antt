@@ -23,8 +23,8 @@ use Rattle.wire.specs.declared.reply.Fixed.TheVariants as fixed
 use Rattle.commands.specs.declared.files.FileFault.{FileFault}
 use Rattle.commands.specs.declared.files.FileFault.TheVariants as file
 use Rattle.commands.specs.declared.publish.Words.{Words}
-use Rattle.commands.specs.declared.refusal.Refusal.{Refusal}
-use Rattle.commands.specs.declared.refusal.Refusal.TheVariants.{Io}
+use Rattle.commands.specs.declared.refusal.CommandRefusal.{CommandRefusal}
+use Rattle.commands.specs.declared.refusal.CommandRefusal.TheVariants.{Io}
 
 -- the time that the text writes, malformed if it writes none, or absent without a text
 abbrev pub given_time : Option (List ℕ) → GivenTime
@@ -55,7 +55,7 @@ abbrev pub accepts : ℕ → Bool
 accepts status = (status == 200) || (status == 201)
 
 -- the line of the answer was printed, and the result is whether it accepts; or the output failed
-abbrev pub Tells : Fixed → Option (List ℕ) → Option (List ℕ) → Result Bool Refusal → Type 0
+abbrev pub Tells : Fixed → Option (List ℕ) → Option (List ℕ) → Result Bool CommandRefusal → Type 0
 Tells answer written written_new result =
     MatchResult result
     (λ accepted. (accepted ≡ accepts (fixed_status answer)) × Appends written written_new (line_bytes answer ++ codes "\n"))
@@ -65,7 +65,7 @@ Tells answer written written_new result =
 -- out before that) and changed nothing; and the line of the answer was printed.
 pub record PublishesAndTells
     (old new : Shown) (before now : ℕ) (ask : Ask) (written written_new : Option (List ℕ))
-    (result : Result Bool Refusal) : Type 0 where
+    (result : Result Bool CommandRefusal) : Type 0 where
   pub told : Result Reply StoreFault
   pub does : Does old new told (λ w. ask_reply w ask) (λ w. after_ask w ask)
   pub cause : HasCause before now told
@@ -74,13 +74,13 @@ pub record PublishesAndTells
 module _ {S : Type 0} (shown : S → Shown) (failures : S → ℕ) (old new : S) (ask : Body → Ask) where
   -- How a publish ends, by how its two files were read. If they were, they are published, and the outcome is printed. If memory ran
   -- out, the 503 is printed; if one can't be read, nothing is; and the store stays as it was.
-  abbrev pub EndsBy : Option (List ℕ) → Option (List ℕ) → Result Bool Refusal → Result Body FileFault → Type 0
+  abbrev pub EndsBy : Option (List ℕ) → Option (List ℕ) → Result Bool CommandRefusal → Result Body FileFault → Type 0
   EndsBy written written_new result (Ok body) =
       PublishesAndTells (shown old) (shown new) (failures old) (failures new) (ask body) written written_new result
   EndsBy written written_new result (Err file.Memory) = (new ≡ old) × Tells fixed.Unavailable written written_new result
   EndsBy written written_new result (Err file.Io) = (new ≡ old) × (written_new ≡ written) × (result ≡ Err Io)
 
   -- two files were read or not, and the publish ended by that
-  pub record PublishesFiles (written written_new : Option (List ℕ)) (result : Result Bool Refusal) : Type 0 where
+  pub record PublishesFiles (written written_new : Option (List ℕ)) (result : Result Bool CommandRefusal) : Type 0 where
     pub files : Result Body FileFault
     pub ends : EndsBy written written_new result files

@@ -11,26 +11,26 @@ use Rattle.commands.specs.Inventory.{Inventories}
 use Rattle.commands.specs.Requirements.{required_by}
 use Rattle.commands.specs.declared.inventory.InventoryFault.{InventoryFault}
 use Rattle.commands.specs.declared.inventory.InventoryFault.TheVariants as why
-use Rattle.commands.specs.declared.refusal.Refusal.{Refusal}
-use Rattle.commands.specs.declared.refusal.Refusal.TheVariants.{NoKey, Device, Memory, NotFound, Io}
+use Rattle.commands.specs.declared.refusal.CommandRefusal.{CommandRefusal}
+use Rattle.commands.specs.declared.refusal.CommandRefusal.TheVariants.{NoKey, Device, Memory, NotFound, Io}
 use Rattle.commands.specs.declared.report.Named.{Named}
 
 -- the inventory, or the refusal if there is none
-abbrev pub inventory_told : Result (List ℕ) InventoryFault → Result (List ℕ) Refusal
+abbrev pub inventory_told : Result (List ℕ) InventoryFault → Result (List ℕ) CommandRefusal
 inventory_told (Ok text) = Ok text
 inventory_told (Err why.NoKey) = Err NoKey
 inventory_told (Err why.Device) = Err Device
 inventory_told (Err why.Memory) = Err Memory
 
 -- the lines of what a version requires, or the refusal if there are none
-abbrev pub requirements_told : Result (Option (List ℕ)) StoreFault → Result (List ℕ) Refusal
+abbrev pub requirements_told : Result (Option (List ℕ)) StoreFault → Result (List ℕ) CommandRefusal
 requirements_told (Ok (Some lines)) = Ok lines
 requirements_told (Ok None) = Err NotFound
 requirements_told (Err fault.Device) = Err Device
 requirements_told (Err fault.Memory) = Err Memory
 
 -- the text was printed, or the output failed; if there is no text, the result is the refusal, and nothing is printed
-abbrev pub Prints : Option (List ℕ) → Option (List ℕ) → Result Bool Refusal → Result (List ℕ) Refusal → Type 0
+abbrev pub Prints : Option (List ℕ) → Option (List ℕ) → Result Bool CommandRefusal → Result (List ℕ) CommandRefusal → Type 0
 Prints written written_new result (Ok text) =
     MatchResult result (λ accepted. (accepted ≡ true) × Appends written written_new text) (λ e. e ≡ Io)
 Prints written written_new result (Err refusal) = (result ≡ Err refusal) × (written_new ≡ written)
@@ -38,7 +38,7 @@ Prints written written_new result (Err refusal) = (result ≡ Err refusal) × (w
 -- the inventory of a key was read, which changes nothing, and printed
 pub record PrintsInventory
     (old new : Shown) (before now : ℕ) (key : List ℕ) (written written_new : Option (List ℕ))
-    (result : Result Bool Refusal) : Type 0 where
+    (result : Result Bool CommandRefusal) : Type 0 where
   pub told : Result (List ℕ) InventoryFault
   pub inventories : Inventories old new before now key told
   pub prints : Prints written written_new result (inventory_told told)
@@ -46,7 +46,7 @@ pub record PrintsInventory
 -- what a version requires was read, which changes nothing, and printed
 pub record PrintsRequirements
     (old new : Shown) (before now : ℕ) (version : Named) (written written_new : Option (List ℕ))
-    (result : Result Bool Refusal) : Type 0 where
+    (result : Result Bool CommandRefusal) : Type 0 where
   pub told : Result (Option (List ℕ)) StoreFault
   pub reads : Reads old new told
       (λ w. required_by w (map.get w.keys version.key.now) (path_of version.path.now) (version_of version.version.now))

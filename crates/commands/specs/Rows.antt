@@ -8,22 +8,22 @@ use Rattle.world.specs.World.{World, IsWorld, view}
 use Rattle.world.specs.declared.entry.Holder.{Holder}
 use Rattle.world.specs.declared.entry.Seen.{Seen}
 use Rattle.commands.specs.Inventory.{row_of, rows_seen, text_of}
-use Rattle.commands.specs.declared.inventory.Row.{Row}
+use Rattle.commands.specs.declared.inventory.InventoryRow.{InventoryRow}
 
 -- a row is of this path and version
-abbrev pub is_of : List ℕ → List ℕ → Row → Bool
+abbrev pub is_of : List ℕ → List ℕ → InventoryRow → Bool
 is_of p t r = bytes_eq r.path p && bytes_eq (version_text r.version) t
 
 -- exactly one of these rows is of the path and the version, and it has what is seen of it
-pub record HasOneRow (rows : List Row) (p t : List ℕ) (seen : Seen) : Type 0 where
+pub record HasOneRow (rows : List InventoryRow) (p t : List ℕ) (seen : Seen) : Type 0 where
   pub version : SemanticVersion
   pub text : version_text version ≡ t
   pub one : filter (is_of p t) rows ≡ row_of p version (Some seen)
 
 -- each path and version that the shelf sees has exactly one row, and each row is of one that it sees
-pub record AreRowsOf (w : World) (s : List ℕ) (rows : List Row) : Type 0 where
+pub record AreRowsOf (w : World) (s : List ℕ) (rows : List InventoryRow) : Type 0 where
   pub each : (p t : List ℕ) (seen : Seen) → view w s p t ≡ Some seen → HasOneRow rows p t seen
-  pub no_other : (r : Row) → Contains rows r → IsSeen w s r.path (version_text r.version)
+  pub no_other : (r : InventoryRow) → Contains rows r → IsSeen w s r.path (version_text r.version)
 
 -- In each world, the rows of an inventory are those of the shelf.
 abbrev pub RowsAreWhole : Type 0
@@ -33,7 +33,7 @@ RowsAreWhole = (w : World) (s : List ℕ) → IsWorld w → AreRowsOf w s (rows_
 pub record TellsAll (w : World) (key text : List ℕ) : Type 0 where
   pub holder : Holder
   pub has_key : map.get w.keys key ≡ Some holder
-  pub rows : List Row
+  pub rows : List InventoryRow
   pub told : text ≡ text_of rows
   pub whole : AreRowsOf w holder.shelf rows
 

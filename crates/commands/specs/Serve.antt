@@ -6,8 +6,8 @@ use Rattle.socket.specs.Connections.{GoesThroughMost}
 use Rattle.control.specs.Copying.{GoesOnRead}
 use Rattle.control.specs.Turns.{GoesOn}
 use Rattle.control.specs.declared.copies.CopyRefusal.{CopyRefusal}
-use Rattle.commands.specs.declared.refusal.Refusal.{Refusal}
-use Rattle.commands.specs.declared.refusal.Refusal.TheVariants.{Io}
+use Rattle.commands.specs.declared.refusal.CommandRefusal.{CommandRefusal}
+use Rattle.commands.specs.declared.refusal.CommandRefusal.TheVariants.{Io}
 use Rattle.commands.specs.declared.serve.Entrance.{Entrance}
 use Rattle.commands.specs.declared.serve.Entrance.TheVariants.{Port, Input}
 
@@ -34,7 +34,7 @@ Announces Input written written_new = Appends written written_new input_line
 
 -- The entrance was printed, and the store went through at most as many requests as there are connections. Or the entrance can't be
 -- had, or the output failed, and the store stays as it was.
-abbrev pub Listens : {S : Type 0} → (S → Shown) → (S → ℕ) → S → S → Entrance → ℕ → Option (List ℕ) → Option (List ℕ) → Result (Unit {0}) Refusal → Type 0
+abbrev pub Listens : {S : Type 0} → (S → Shown) → (S → ℕ) → S → S → Entrance → ℕ → Option (List ℕ) → Option (List ℕ) → Result (Unit {0}) CommandRefusal → Type 0
 Listens shown failures old new entrance connections written written_new result =
     MatchResult result
     (λ _. Announces entrance written written_new × GoesThroughMost (shown old) (shown new) (failures old) (failures new) connections)
@@ -53,7 +53,7 @@ Counted S = S → S → ℕ → Type 0
 -- time of the begin, or the output failed, and the store stays as it was.
 abbrev pub ListensToBoth :
     {S : Type 0} → (S → Shown) → (S → ℕ) → Copied S → Counted S → S → S → Entrance → ℕ
-    → Option (List ℕ) → Option (List ℕ) → Result (Unit {0}) Refusal → Type 0
+    → Option (List ℕ) → Option (List ℕ) → Result (Unit {0}) CommandRefusal → Type 0
 ListensToBoth shown failures copied counted old new entrance connections written written_new result =
     MatchResult result
     (λ _. Announces entrance written written_new
@@ -64,7 +64,7 @@ ListensToBoth shown failures copied counted old new entrance connections written
 -- serving without a socket of operators, or with one
 abbrev pub ListensAs :
     {S : Type 0} → (S → Shown) → (S → ℕ) → Copied S → Counted S → S → S → Entrance → ℕ
-    → Option (List ℕ) → Option (List ℕ) → Option (List ℕ) → Result (Unit {0}) Refusal → Type 0
+    → Option (List ℕ) → Option (List ℕ) → Option (List ℕ) → Result (Unit {0}) CommandRefusal → Type 0
 ListensAs shown failures copied counted old new entrance connections None written written_new result =
     Listens shown failures old new entrance connections written written_new result
 ListensAs shown failures copied counted old new entrance connections (Some path) written written_new result =

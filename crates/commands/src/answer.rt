@@ -1,7 +1,7 @@
 //! `answer`: the requests on the input, answered on the output.
 ghost use Rattle.commands.specs.Opening.{AnswersAll};
 
-use crate::refusal::Refusal;
+use crate::refusal::CommandRefusal;
 use engine::answer_all;
 use std::alloc::Global;
 use std::io::{Read, Write};
@@ -13,12 +13,12 @@ pub fn answer_from<S: Shelves, I: Read, O: Write>(
     shelves: &mut S,
     input: &mut I,
     output: &mut O,
-) -> Result<(), Refusal>
+) -> Result<(), CommandRefusal>
     ensures { AnswersAll (S.shown shelves.old) (S.shown shelves.new) (S.failure_count shelves.old) (S.failure_count shelves.new)
         (I.remaining input.old) (I.remaining input.new) (O.contents output.old) (O.contents output.new) result }
 {
     match answer_all(alloc, input, output, shelves) {
         Ok(()) => Ok(()),
-        Err(_) => Err(Refusal::Io),
+        Err(_) => Err(CommandRefusal::Io),
     }
 }

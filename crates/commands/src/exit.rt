@@ -3,33 +3,33 @@ ghost use Rattle.std.specs.Prelude.{◌≡◌};
 ghost use Rattle.engine.specs.Written.{Writes};
 ghost use Rattle.commands.specs.Exit as spec;
 
-use crate::refusal::Refusal;
+use crate::refusal::CommandRefusal;
 use engine::Io;
 use engine::write::{write_both, write_bytes};
 use std::io::Write;
 
 /// How a run ended.
 #[derive(Clone, Copy, Debug, Drop, PartialEq, Eq)]
-pub enum Ending {
+pub enum Exit {
     /// The command is done.
     Done,
     /// A publish or a row of an import was not accepted. The output says why.
     NotAccepted,
     /// The command was refused.
-    Refused(Refusal),
+    Refused(CommandRefusal),
     /// The words of the command line are no command that the program has.
     BadUsage,
 }
 
-impl Ending {
-    /// Returns the ending for the result of a task.
-    pub fn of_task(told: Result<bool, Refusal>) -> Ending
-        ensures { result ≡ spec.ending_of told }
+impl Exit {
+    /// Returns how a run ends by the result of its command.
+    pub fn of_command(told: Result<bool, CommandRefusal>) -> Exit
+        ensures { result ≡ spec.exit_of told }
     {
         match told {
-            Ok(true) => Ending::Done,
-            Ok(false) => Ending::NotAccepted,
-            Err(refusal) => Ending::Refused(refusal),
+            Ok(true) => Exit::Done,
+            Ok(false) => Exit::NotAccepted,
+            Err(refusal) => Exit::Refused(refusal),
         }
     }
 
@@ -38,9 +38,9 @@ impl Ending {
         ensures { result ≡ spec.status_of self }
     {
         match self {
-            Ending::Done => 0,
-            Ending::NotAccepted | Ending::Refused(_) => 1,
-            Ending::BadUsage => 2,
+            Exit::Done => 0,
+            Exit::NotAccepted | Exit::Refused(_) => 1,
+            Exit::BadUsage => 2,
         }
     }
 
@@ -49,14 +49,14 @@ impl Ending {
     pub fn tell<E: Write>(self, errors: &mut E)
         ensures { spec.Says (E.contents errors.old) (E.contents errors.new) self }
     {
-        if let Ending::Refused(refusal) = self {
+        if let Exit::Refused(refusal) = self {
             let _ = write_line(refusal, errors);
         }
     }
 }
 
 /// Writes the line `goshelf: <word>`. `Io::Write` if a write fails: then a beginning of it is written, and not all.
-fn write_line<E: Write>(refusal: Refusal, errors: &mut E) -> Result<(), Io>
+fn write_line<E: Write>(refusal: CommandRefusal, errors: &mut E) -> Result<(), Io>
     ensures { Writes (E.contents errors.old) (E.contents errors.new) (spec.line_of refusal) result }
 {
     write_bytes(errors, b"goshelf: ")?;

@@ -6,7 +6,7 @@ ghost use Rattle.commands.specs.ImportFiles.{IsBodyOf};
 ghost use Rattle.commands.specs.ImportList.{HasRead, header, line_of_row};
 
 use crate::import_line::{Outcome, print_bad_row, print_outcome};
-use crate::import_list::{Next, Row, is_header, open, read_next, row_of};
+use crate::import_list::{ImportRow, NextRow, is_header, open, read_next, row_of};
 use crate::publish::{Words, answer_of, publish_by};
 use crate::sources::{SourceFault, Sources};
 use csv::{Reader, StringRecord};
@@ -109,16 +109,16 @@ fn read_header<R: Read>(reader: &mut Reader<R>, fields: &mut StringRecord) -> Op
     ensures { (list : Option (List ℕ)) → HasRead R.remaining list [] reader.old → spec.HeaderRead R.remaining list reader.new result }
 {
     match read_next(reader, fields) {
-        Next::Fields => {
+        NextRow::Fields => {
             if is_header(fields) {
                 None
             } else {
                 Some(Closing::BadRow)
             }
         }
-        Next::End => Some(Closing::BadRow),
-        Next::NoText => Some(Closing::BadRow),
-        Next::Unread => Some(Closing::Unread),
+        NextRow::End => Some(Closing::BadRow),
+        NextRow::NoText => Some(Closing::BadRow),
+        NextRow::Unread => Some(Closing::Unread),
     }
 }
 
@@ -156,10 +156,10 @@ fn read_row<R: Read>(reader: &mut Reader<R>, fields: &mut StringRecord) -> Optio
         → spec.FieldsRead R.remaining list rows reader.new (fields_of fields.new) result }
 {
     match read_next(reader, fields) {
-        Next::Fields => None,
-        Next::End => Some(Closing::End),
-        Next::NoText => Some(Closing::BadRow),
-        Next::Unread => Some(Closing::Unread),
+        NextRow::Fields => None,
+        NextRow::End => Some(Closing::End),
+        NextRow::NoText => Some(Closing::BadRow),
+        NextRow::Unread => Some(Closing::Unread),
     }
 }
 
@@ -168,7 +168,7 @@ fn import_row<S: Shelves, F: Sources>(
     alloc: Global,
     shelves: &mut S,
     key: &str,
-    row: &Row,
+    row: &ImportRow,
     sources: &F,
 ) -> Outcome
     ensures { spec.DoesRow (S.shown shelves.old) (S.shown shelves.new) (S.failure_count shelves.old) (S.failure_count shelves.new)
@@ -186,7 +186,7 @@ fn publish_row<S: Shelves>(
     alloc: Global,
     shelves: &mut S,
     key: &str,
-    row: &Row,
+    row: &ImportRow,
     body: Body,
 ) -> Fixed
     ensures { spec.Publishes (S.shown shelves.old) (S.shown shelves.new) (S.failure_count shelves.old) (S.failure_count shelves.new)
@@ -213,7 +213,7 @@ fn time_of(time: &str) -> Option<&str>
 
 /// Returns the files of a row. If its path or its version is invalid, they are not read, because the row is answered 404 anyway.
 /// `NoFile` if a file can't be read, and `Memory` if memory runs out.
-fn body_of<F: Sources>(alloc: Global, row: &Row, sources: &F) -> Result<Body, SourceFault>
+fn body_of<F: Sources>(alloc: Global, row: &ImportRow, sources: &F) -> Result<Body, SourceFault>
     ensures { IsBodyOf (F.told sources.now) (line_of_row row.now) result }
 {
     if path_of(alloc, row.path)?.is_none() || version_of(alloc, row.version)?.is_none() {

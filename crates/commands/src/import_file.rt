@@ -3,7 +3,7 @@ ghost use Rattle.std.specs.Prelude.{◌≡◌};
 ghost use Rattle.commands.specs.ImportFile as spec;
 
 use crate::import::{Ending, import};
-use crate::refusal::Refusal;
+use crate::refusal::CommandRefusal;
 use crate::sources::SystemFiles;
 use engine::Io;
 use std::fs::File;
@@ -19,24 +19,24 @@ pub fn import_file<S: Shelves, O: Write>(
     key: &str,
     list: &str,
     output: &mut O,
-) -> Result<bool, Refusal>
+) -> Result<bool, CommandRefusal>
     ensures { spec.ImportsFile S.shown S.failure_count shelves.old shelves.new key.now (O.contents output.old) (O.contents output.new) result }
 {
     let Ok(list) = File::open(rt, list) else {
-        return Err(Refusal::Io);
+        return Err(CommandRefusal::Io);
     };
     let files = SystemFiles { rt };
     told(import(rt.alloc(), shelves, key, list, &files, output))
 }
 
 /// Returns the result of the command for how the import ended.
-fn told(ended: Result<Ending, Io>) -> Result<bool, Refusal>
+fn told(ended: Result<Ending, Io>) -> Result<bool, CommandRefusal>
     ensures { result ≡ spec.told ended }
 {
     match ended {
         Ok(Ending::AllIn) => Ok(true),
         Ok(Ending::SomeOut) => Ok(false),
-        Ok(Ending::BadRow) => Err(Refusal::BadRow),
-        Err(_) => Err(Refusal::Io),
+        Ok(Ending::BadRow) => Err(CommandRefusal::BadRow),
+        Err(_) => Err(CommandRefusal::Io),
     }
 }

@@ -9,7 +9,7 @@ use std::io::Read;
 
 /// What comes next in a list.
 #[derive(Clone, Copy, Debug, Drop, PartialEq, Eq)]
-pub enum Next {
+pub enum NextRow {
     /// Fields of UTF-8.
     Fields,
     /// Nothing.
@@ -22,7 +22,7 @@ pub enum Next {
 
 /// A row of a list.
 #[derive(Clone, Copy, Drop)]
-pub struct Row<'a> {
+pub struct ImportRow<'a> {
     pub path: &'a str,
     pub version: &'a str,
     /// Empty if the row gives no time.
@@ -45,35 +45,35 @@ pub fn open<R: Read>(alloc: Global, list: R) -> Reader<R>
 }
 
 /// Reads the next fields, and returns what came.
-pub fn read_next<R: Read>(reader: &mut Reader<R>, fields: &mut StringRecord) -> Next
+pub fn read_next<R: Read>(reader: &mut Reader<R>, fields: &mut StringRecord) -> NextRow
     ensures { (list : Option (List ℕ)) (rows : List (List (List ℕ))) → spec.HasRead R.remaining list rows reader.old
         → spec.Comes R.remaining list rows reader.new (fields_of fields.new) result }
 {
     match reader.read_record(fields) {
-        Ok(true) => Next::Fields,
-        Ok(false) => Next::End,
+        Ok(true) => NextRow::Fields,
+        Ok(false) => NextRow::End,
         Err(error) => next_of(error.kind()),
     }
 }
 
 /// Returns what comes next if the read failed with this error.
-fn next_of(kind: &ErrorKind) -> Next
+fn next_of(kind: &ErrorKind) -> NextRow
     ensures { result ≡ spec.next_of kind.now }
 {
     match kind {
-        ErrorKind::Io(_) | ErrorKind::OutOfMemory => Next::Unread,
-        _ => Next::NoText,
+        ErrorKind::Io(_) | ErrorKind::OutOfMemory => NextRow::Unread,
+        _ => NextRow::NoText,
     }
 }
 
 /// Returns the row of these fields, or None if they are not five.
-pub fn row_of(fields: &StringRecord) -> Option<Row<'_>>
+pub fn row_of(fields: &StringRecord) -> Option<ImportRow<'_>>
     ensures { spec.IsRowOf (fields_of fields.now) result }
 {
     if fields.len() != 5 {
         return None;
     }
-    Some(Row {
+    Some(ImportRow {
         path: field(fields, 0),
         version: field(fields, 1),
         time: field(fields, 2),
@@ -104,7 +104,7 @@ pub fn is_header(fields: &StringRecord) -> bool
 }
 
 /// Whether a row has the names of the fields.
-fn names_fields(row: &Row) -> bool
+fn names_fields(row: &ImportRow) -> bool
     ensures { IsTrue result ↔ (spec.fields_of_row row.now ≡ spec.header) }
 {
     row.path == "path"

@@ -21,7 +21,7 @@ use world::registry::StoreFault;
 
 /// A version that a shelf sees, with the shelf that has it.
 #[derive(Drop)]
-pub struct Row {
+pub struct InventoryRow {
     pub path: Text,
     pub version: Version,
     pub shelf: Text,
@@ -177,12 +177,12 @@ fn row_of(
     path: &ModulePath,
     version: &Version,
     outline: Outline,
-) -> Result<Row, AllocError>
+) -> Result<InventoryRow, AllocError>
     ensures { IfOk result (λ row. row ∷ [] ≡ outlined path.now version.now (Some outline)) }
 {
     let path = Text::copy_of(alloc, path.as_str())?;
     let version = version.copy(alloc)?;
-    Ok(Row {
+    Ok(InventoryRow {
         path,
         version,
         shelf: outline.shelf,

@@ -4,7 +4,7 @@ ghost use Rattle.csv.specs.Records.{fields_of, partial_of};
 ghost use Rattle.commands.specs.Inventory as spec;
 ghost use Rattle.commands.specs.Lines.{IsBetweenLines, text_in};
 
-use crate::inventory::Row;
+use crate::inventory::InventoryRow;
 use csv::{ByteRecord, Writer};
 use itoa::Buffer;
 use modver::{Class, TimeText, class};
@@ -26,7 +26,7 @@ pub(crate) fn headed(alloc: Global) -> Result<Writer<Vec<u8>>, AllocError>
 pub(crate) fn write_row(
     alloc: Global,
     lines: &mut Writer<Vec<u8>>,
-    row: &Row,
+    row: &InventoryRow,
 ) -> Result<(), AllocError>
     requires between { IsBetweenLines lines.old }
     ensures between { OnOk result (IsBetweenLines lines.new) }
@@ -75,7 +75,7 @@ fn header(alloc: Global) -> Result<ByteRecord, AllocError>
 }
 
 /// Returns the fields of a row.
-fn fields_of_row(alloc: Global, row: &Row) -> Result<ByteRecord, AllocError>
+fn fields_of_row(alloc: Global, row: &InventoryRow) -> Result<ByteRecord, AllocError>
     ensures { IfOk result (λ fields. fields_of fields ≡ spec.fields row.now) }
 {
     let mut fields = ByteRecord::new(alloc);

@@ -3,7 +3,7 @@ ghost use Rattle.std.specs.Prelude.{◌≡◌, ◌⊎◌, true, None, OnOk, OnEr
 ghost use Rattle.world.specs.World.{only_common, with_team, is_team_name, is_key};
 ghost use Rattle.commands.specs.Opening.{AnsweredFor, AreNames, opening};
 
-use crate::refusal::Refusal;
+use crate::refusal::CommandRefusal;
 use engine::answer_all;
 use std::alloc::Global;
 use std::io::{Read, Write};
@@ -13,43 +13,43 @@ use world::names::{is_key, is_team_name};
 use world::shelves::Shelves;
 
 /// Adds the first team. `Memory` if memory runs out.
-fn add_first_team(shelves: &mut MapShelves, team: &str) -> Result<(), Refusal>
+fn add_first_team(shelves: &mut MapShelves, team: &str) -> Result<(), CommandRefusal>
     requires begins { shelves.old ≡ only_common }
     requires named { is_team_name team.now ≡ true }
     ensures ok { OnOk result (shelves.new ≡ with_team only_common team.now None) }
-    ensures err { IfErr result (λ e. e ≡ Refusal.Memory) }
+    ensures err { IfErr result (λ e. e ≡ CommandRefusal.Memory) }
 {
     match shelves.team_add(team, None) {
         Ok(_) => Ok(()),
-        Err(_) => Err(Refusal::Memory),
+        Err(_) => Err(CommandRefusal::Memory),
     }
 }
 
 /// Adds the publishing key of the first team. `Memory` if memory runs out.
-fn add_first_key(shelves: &mut MapShelves, team: &str, key: &str) -> Result<(), Refusal>
+fn add_first_key(shelves: &mut MapShelves, team: &str, key: &str) -> Result<(), CommandRefusal>
     requires begins { shelves.old ≡ with_team only_common team.now None }
     requires team_named { is_team_name team.now ≡ true }
     requires named { is_key key.now ≡ true }
     ensures ok { OnOk result (shelves.new ≡ opening team.now key.now) }
-    ensures err { IfErr result (λ e. e ≡ Refusal.Memory) }
+    ensures err { IfErr result (λ e. e ≡ CommandRefusal.Memory) }
 {
     match shelves.key_add(team, key, Right::Publishes) {
         Ok(_) => Ok(()),
-        Err(_) => Err(Refusal::Memory),
+        Err(_) => Err(CommandRefusal::Memory),
     }
 }
 
 /// Returns shelves in memory that have `common`, the team and its publishing key. `Name` if the team or the key breaks its
 /// rule, and otherwise `Memory` if memory runs out.
-pub fn shelves_with(alloc: Global, team: &str, key: &str) -> Result<MapShelves, Refusal>
+pub fn shelves_with(alloc: Global, team: &str, key: &str) -> Result<MapShelves, CommandRefusal>
     ensures ok { IfOk result (λ shelves. (shelves ≡ opening team.now key.now) × AreNames team.now key.now) }
-    ensures err { IfErr result (λ e. ((e ≡ Refusal.Memory) × AreNames team.now key.now) ⊎ ((e ≡ Refusal.Name) × (¬ AreNames team.now key.now))) }
+    ensures err { IfErr result (λ e. ((e ≡ CommandRefusal.Memory) × AreNames team.now key.now) ⊎ ((e ≡ CommandRefusal.Name) × (¬ AreNames team.now key.now))) }
 {
     if !is_team_name(team) || !is_key(key) {
-        return Err(Refusal::Name);
+        return Err(CommandRefusal::Name);
     }
     let Ok(mut shelves) = MapShelves::new(alloc) else {
-        return Err(Refusal::Memory);
+        return Err(CommandRefusal::Memory);
     };
     add_first_team(&mut shelves, team)?;
     add_first_key(&mut shelves, team, key)?;
@@ -65,7 +65,7 @@ pub fn answer_in_memory<I: Read, O: Write>(
     key: &str,
     input: &mut I,
     output: &mut O,
-) -> Result<(), Refusal>
+) -> Result<(), CommandRefusal>
     ensures { AnsweredFor team.now key.now (I.remaining input.old) (I.remaining input.new) (O.contents output.old) (O.contents output.new) result }
 {
     let mut shelves = match shelves_with(alloc, team, key) {
@@ -74,6 +74,6 @@ pub fn answer_in_memory<I: Read, O: Write>(
     };
     match answer_all(alloc, input, output, &mut shelves) {
         Ok(()) => Ok(()),
-        Err(_) => Err(Refusal::Io),
+        Err(_) => Err(CommandRefusal::Io),
     }
 }

@@ -2,7 +2,7 @@
 ghost use Rattle.std.specs.Prelude.{◌≡◌, option_copied};
 ghost use Rattle.commands.specs.Order as spec;
 
-use crate::refusal::{Refusal, ending};
+use crate::refusal::{CommandRefusal, ending};
 use control::{Order, Outcome, Untold, ask, ask_to_copy, ask_to_stop, server_at};
 use std::alloc::Global;
 use std::io::{self, Read, Write};
@@ -12,12 +12,12 @@ use world::names::{COMMON, is_key, is_team_name};
 
 /// Sends an order to the `serve` that listens at a socket, and ends as the same command does on the store of a file.
 /// `Device` if nobody listens there. `Io` if no outcome came: whether the order was carried out is not known then.
-pub fn order_at(rt: &HostRuntime, path: &str, order: &Order) -> Result<(), Refusal>
+pub fn order_at(rt: &HostRuntime, path: &str, order: &Order) -> Result<(), CommandRefusal>
     ensures { spec.OrdersThere order.now result }
 {
     match server_at(rt, path) {
         Ok(server) => order_over(rt.alloc(), &mut &server, &mut &server, order),
-        Err(_) => Err(Refusal::Device),
+        Err(_) => Err(CommandRefusal::Device),
     }
 }
 
@@ -28,7 +28,7 @@ pub fn order_over<R: Read, W: Write>(
     reader: &mut R,
     writer: &mut W,
     order: &Order,
-) -> Result<(), Refusal>
+) -> Result<(), CommandRefusal>
     ensures { spec.OrdersOver (R.remaining reader.old) (R.remaining reader.new) (W.contents writer.old) (W.contents writer.new)
         order.now result }
 {
@@ -61,47 +61,47 @@ fn group_to_send<'a>(group: Option<&'a str>) -> Option<&'a str>
 }
 
 /// How a command ends, by what was told of its order.
-fn told_ending(told: Result<Outcome, Untold>, order: &Order) -> Result<(), Refusal>
+fn told_ending(told: Result<Outcome, Untold>, order: &Order) -> Result<(), CommandRefusal>
     ensures { result ≡ spec.told_ending order.now told }
 {
     match told {
         Ok(Outcome::Registered(registered)) => ending(Ok(registered)),
         Ok(Outcome::Failed(fault)) => ending(Err(fault)),
-        Ok(Outcome::NotEmpty | Outcome::Stopping | Outcome::Bad) => Err(Refusal::Io),
+        Ok(Outcome::NotEmpty | Outcome::Stopping | Outcome::Bad) => Err(CommandRefusal::Io),
         Err(Untold::Words) => Err(unsayable(order)),
-        Err(Untold::Memory) => Err(Refusal::Memory),
-        Err(Untold::Io) => Err(Refusal::Io),
+        Err(Untold::Memory) => Err(CommandRefusal::Memory),
+        Err(Untold::Io) => Err(CommandRefusal::Io),
     }
 }
 
 /// Why an order is refused that no line can carry: a name or the key in it breaks its rule, so no shelf has that name, and none the key.
 /// A team's group is never the reason, since the one that is sent can stand in a line.
-fn unsayable(order: &Order) -> Refusal
+fn unsayable(order: &Order) -> CommandRefusal
     ensures { result ≡ spec.unsayable order.now }
 {
     match order {
-        Order::TeamAdd { .. } | Order::GroupAdd { .. } => Refusal::Name,
-        Order::KeyAdd { key, .. } => refusal_by(is_key(key), Refusal::NoTeam),
-        Order::KeyRevoke { .. } => Refusal::NoKey,
+        Order::TeamAdd { .. } | Order::GroupAdd { .. } => CommandRefusal::Name,
+        Order::KeyAdd { key, .. } => refusal_by(is_key(key), CommandRefusal::NoTeam),
+        Order::KeyRevoke { .. } => CommandRefusal::NoKey,
     }
 }
 
 /// Why a command is refused whose name keeps its rule or does not.
-fn refusal_by(keeps: bool, refusal: Refusal) -> Refusal
+fn refusal_by(keeps: bool, refusal: CommandRefusal) -> CommandRefusal
     ensures { result ≡ spec.refusal_by keeps refusal }
 {
-    if keeps { refusal } else { Refusal::Name }
+    if keeps { refusal } else { CommandRefusal::Name }
 }
 
 /// Has the `serve` that listens at a socket copy its store into the file of a path, as that server sees it, and waits for that as long
 /// as it takes. `NotEmpty` if the file has more than an empty store or belongs to the served store. `Device` if nobody listens there,
 /// the file can't be opened or a disk failed. `Name` if no line can carry the path: nothing was sent. `Io` if no outcome came.
-pub fn copy_at(rt: &HostRuntime, control: &str, path: &str) -> Result<(), Refusal>
+pub fn copy_at(rt: &HostRuntime, control: &str, path: &str) -> Result<(), CommandRefusal>
     ensures { spec.CopiesThere path.now result }
 {
     match patient_server_at(rt, control) {
         Ok(server) => copy_over(rt.alloc(), &mut &server, &mut &server, path),
-        Err(_) => Err(Refusal::Device),
+        Err(_) => Err(CommandRefusal::Device),
     }
 }
 
@@ -118,7 +118,7 @@ pub fn copy_over<R: Read, W: Write>(
     reader: &mut R,
     writer: &mut W,
     path: &str,
-) -> Result<(), Refusal>
+) -> Result<(), CommandRefusal>
     ensures { spec.CopiesOver (R.remaining reader.old) (R.remaining reader.new)
         (W.contents writer.old) (W.contents writer.new) path.now result }
 {
@@ -127,27 +127,27 @@ pub fn copy_over<R: Read, W: Write>(
 }
 
 /// How `copy` ends, by what was told.
-fn copy_ending(told: Result<Outcome, Untold>) -> Result<(), Refusal>
+fn copy_ending(told: Result<Outcome, Untold>) -> Result<(), CommandRefusal>
     ensures { result ≡ spec.copy_ending told }
 {
     match told {
         Ok(Outcome::Registered(registered)) => ending(Ok(registered)),
         Ok(Outcome::Failed(fault)) => ending(Err(fault)),
-        Ok(Outcome::NotEmpty) => Err(Refusal::NotEmpty),
-        Ok(Outcome::Stopping | Outcome::Bad) | Err(Untold::Io) => Err(Refusal::Io),
-        Err(Untold::Words) => Err(Refusal::Name),
-        Err(Untold::Memory) => Err(Refusal::Memory),
+        Ok(Outcome::NotEmpty) => Err(CommandRefusal::NotEmpty),
+        Ok(Outcome::Stopping | Outcome::Bad) | Err(Untold::Io) => Err(CommandRefusal::Io),
+        Err(Untold::Words) => Err(CommandRefusal::Name),
+        Err(Untold::Memory) => Err(CommandRefusal::Memory),
     }
 }
 
 /// Has the `serve` that listens at a socket end, after the request in hand. `Device` if nobody listens there, `Io` if it was not told that
 /// it ends.
-pub fn stop_at(rt: &HostRuntime, path: &str) -> Result<(), Refusal>
+pub fn stop_at(rt: &HostRuntime, path: &str) -> Result<(), CommandRefusal>
     ensures { spec.StopsThere result }
 {
     match server_at(rt, path) {
         Ok(server) => stop_over(rt.alloc(), &mut &server, &mut &server),
-        Err(_) => Err(Refusal::Device),
+        Err(_) => Err(CommandRefusal::Device),
     }
 }
 
@@ -156,7 +156,7 @@ pub fn stop_over<R: Read, W: Write>(
     alloc: Global,
     reader: &mut R,
     writer: &mut W,
-) -> Result<(), Refusal>
+) -> Result<(), CommandRefusal>
     ensures { spec.StopsOver (R.remaining reader.old) (R.remaining reader.new) (W.contents writer.old) (W.contents writer.new) result }
 {
     let told = ask_to_stop(alloc, reader, writer);
@@ -164,15 +164,15 @@ pub fn stop_over<R: Read, W: Write>(
 }
 
 /// How the command ends, by what was told.
-fn stop_ending(told: Result<Outcome, Untold>) -> Result<(), Refusal>
+fn stop_ending(told: Result<Outcome, Untold>) -> Result<(), CommandRefusal>
     ensures { result ≡ spec.stop_ending told }
 {
     match told {
         Ok(Outcome::Stopping) => Ok(()),
         Ok(Outcome::Failed(fault)) => ending(Err(fault)),
-        Ok(Outcome::Registered(_)) => Err(Refusal::Io),
-        Ok(Outcome::NotEmpty) => Err(Refusal::Io),
-        Ok(Outcome::Bad) => Err(Refusal::Io),
-        Err(_) => Err(Refusal::Io),
+        Ok(Outcome::Registered(_)) => Err(CommandRefusal::Io),
+        Ok(Outcome::NotEmpty) => Err(CommandRefusal::Io),
+        Ok(Outcome::Bad) => Err(CommandRefusal::Io),
+        Err(_) => Err(CommandRefusal::Io),
     }
 }

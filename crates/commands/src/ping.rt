@@ -2,7 +2,7 @@
 ghost use Rattle.std.specs.Prelude.{◌≡◌};
 ghost use Rattle.commands.specs.Ping as spec;
 
-use crate::refusal::Refusal;
+use crate::refusal::CommandRefusal;
 use crate::report::print_text;
 use control::{Outcome, Told, Untold, ask_for_health, server_at};
 use std::alloc::Global;
@@ -13,12 +13,16 @@ use world::registry::StoreFault;
 
 /// Asks the `serve` that listens at a socket for its health, and prints the line. `Device` if nobody listens there, or the store of
 /// that server met a fault; `Memory` if the server had no memory for it. `Io` if no such line came, or the output failed.
-pub fn ping_at<O: Write>(rt: &HostRuntime, path: &str, output: &mut O) -> Result<bool, Refusal>
+pub fn ping_at<O: Write>(
+    rt: &HostRuntime,
+    path: &str,
+    output: &mut O,
+) -> Result<bool, CommandRefusal>
     ensures { spec.PingsThere (O.contents output.old) (O.contents output.new) result }
 {
     match server_at(rt, path) {
         Ok(server) => ping_over(rt.alloc(), &mut &server, &mut &server, output),
-        Err(_) => Err(Refusal::Device),
+        Err(_) => Err(CommandRefusal::Device),
     }
 }
 
@@ -28,7 +32,7 @@ pub fn ping_over<R: Read, W: Write, O: Write>(
     reader: &mut R,
     writer: &mut W,
     output: &mut O,
-) -> Result<bool, Refusal>
+) -> Result<bool, CommandRefusal>
     ensures { spec.PingsOver (R.remaining reader.old) (R.remaining reader.new)
         (W.contents writer.old) (W.contents writer.new) (O.contents output.old) (O.contents output.new) result }
 {
@@ -37,31 +41,34 @@ pub fn ping_over<R: Read, W: Write, O: Write>(
 }
 
 /// The line of the health that was told, or why there is none.
-fn health_told(told: Result<Told, Untold>) -> Result<Text, Refusal>
+fn health_told(told: Result<Told, Untold>) -> Result<Text, CommandRefusal>
     ensures { result ≡ spec.health_told told }
 {
     match told {
         Ok(Told::Health(line)) => Ok(line),
         Ok(Told::Outcome(outcome)) => Err(refusal_of(outcome)),
-        Err(_) => Err(Refusal::Io),
+        Err(_) => Err(CommandRefusal::Io),
     }
 }
 
 /// Why an outcome came in the place of a health: the store of the server met a fault, or the server knows no ping.
-fn refusal_of(outcome: Outcome) -> Refusal
+fn refusal_of(outcome: Outcome) -> CommandRefusal
     ensures { result ≡ spec.refusal_of outcome }
 {
     match outcome {
-        Outcome::Failed(StoreFault::Device) => Refusal::Device,
-        Outcome::Failed(StoreFault::Memory) => Refusal::Memory,
+        Outcome::Failed(StoreFault::Device) => CommandRefusal::Device,
+        Outcome::Failed(StoreFault::Memory) => CommandRefusal::Memory,
         Outcome::Registered(_) | Outcome::NotEmpty | Outcome::Stopping | Outcome::Bad => {
-            Refusal::Io
+            CommandRefusal::Io
         }
     }
 }
 
 /// Prints the line of a health, if there is one.
-fn print_health<O: Write>(told: Result<Text, Refusal>, output: &mut O) -> Result<bool, Refusal>
+fn print_health<O: Write>(
+    told: Result<Text, CommandRefusal>,
+    output: &mut O,
+) -> Result<bool, CommandRefusal>
     ensures { spec.Prints (O.contents output.old) (O.contents output.new) result told }
 {
     match told {

@@ -7,7 +7,7 @@ ghost use Rattle.wire.specs.Reply.{line_bytes};
 ghost use Rattle.commands.specs.Publish as spec;
 
 use crate::files::{FileFault, read_file};
-use crate::refusal::Refusal;
+use crate::refusal::CommandRefusal;
 use engine::page::fixed_of;
 use modver::read_time;
 use shelf::ask::{Ask, Body, GivenTime, Publish};
@@ -49,7 +49,7 @@ pub fn publish<S: Shelves, O: Write>(
     words: &Words,
     files: &Files,
     output: &mut O,
-) -> Result<bool, Refusal>
+) -> Result<bool, CommandRefusal>
     ensures { spec.PublishesFiles S.shown S.failure_count shelves.old shelves.new (spec.asked_by words.now)
         (O.contents output.old) (O.contents output.new) result }
 {
@@ -65,14 +65,14 @@ fn publish_had<S: Shelves, O: Write>(
     words: &Words,
     had: Result<Body, FileFault>,
     output: &mut O,
-) -> Result<bool, Refusal>
+) -> Result<bool, CommandRefusal>
     ensures { spec.EndsBy S.shown S.failure_count shelves.old shelves.new (spec.asked_by words.now)
         (O.contents output.old) (O.contents output.new) result had }
 {
     match had {
         Ok(body) => publish_files(alloc, shelves, words, body, output),
         Err(FileFault::Memory) => tell(Fixed::Unavailable, output),
-        Err(FileFault::Io) => Err(Refusal::Io),
+        Err(FileFault::Io) => Err(CommandRefusal::Io),
     }
 }
 
@@ -92,7 +92,7 @@ pub fn publish_files<S: Shelves, O: Write>(
     words: &Words,
     body: Body,
     output: &mut O,
-) -> Result<bool, Refusal>
+) -> Result<bool, CommandRefusal>
     ensures { spec.PublishesAndTells (S.shown shelves.old) (S.shown shelves.new) (S.failure_count shelves.old) (S.failure_count shelves.new)
         (spec.asked_by words.now body) (O.contents output.old) (O.contents output.new) result }
 {
@@ -161,12 +161,12 @@ pub(crate) fn answer_of(told: Result<Reply, StoreFault>) -> Fixed
 }
 
 /// Prints an answer as a line, and returns whether it accepts the publish. `Io` if the output fails.
-fn tell<O: Write>(answer: Fixed, output: &mut O) -> Result<bool, Refusal>
+fn tell<O: Write>(answer: Fixed, output: &mut O) -> Result<bool, CommandRefusal>
     ensures { spec.Tells answer (O.contents output.old) (O.contents output.new) result }
 {
     match print_line(answer, output) {
         Ok(()) => Ok(is_accepted(answer.status().as_u16())),
-        Err(_) => Err(Refusal::Io),
+        Err(_) => Err(CommandRefusal::Io),
     }
 }
 

@@ -7,7 +7,7 @@ use world::registry::{Registered, StoreFault};
 
 /// Why a command was refused, with exit status 1.
 #[derive(Clone, Copy, Debug, Drop, PartialEq, Eq)]
-pub enum Refusal {
+pub enum CommandRefusal {
     /// The name of a team or a group, or a key, breaks its rule; for `copy`, the path has a space, or more than 4,090 bytes.
     Name,
     /// A shelf of that name, or the key, exists already.
@@ -35,46 +35,46 @@ pub enum Refusal {
     Io,
 }
 
-impl Refusal {
+impl CommandRefusal {
     /// Returns the word of the refusal on standard error.
     pub fn word(self) -> &'static str
         ensures { result.now ≡ spec.word self }
     {
         match self {
-            Refusal::Name => "name",
-            Refusal::Taken => "taken",
-            Refusal::NoTeam => "no-team",
-            Refusal::NoKey => "no-key",
-            Refusal::NoGroup => "no-group",
-            Refusal::Device => "device",
-            Refusal::Memory => "memory",
-            Refusal::BadSchema => "bad-schema",
-            Refusal::NotEmpty => "not-empty",
-            Refusal::NotFound => "not-found",
-            Refusal::BadRow => "bad-row",
-            Refusal::Io => "io",
+            CommandRefusal::Name => "name",
+            CommandRefusal::Taken => "taken",
+            CommandRefusal::NoTeam => "no-team",
+            CommandRefusal::NoKey => "no-key",
+            CommandRefusal::NoGroup => "no-group",
+            CommandRefusal::Device => "device",
+            CommandRefusal::Memory => "memory",
+            CommandRefusal::BadSchema => "bad-schema",
+            CommandRefusal::NotEmpty => "not-empty",
+            CommandRefusal::NotFound => "not-found",
+            CommandRefusal::BadRow => "bad-row",
+            CommandRefusal::Io => "io",
         }
     }
 }
 
-impl From<AllocError> for Refusal {
-    fn from(_: AllocError) -> Refusal {
-        Refusal::Memory
+impl From<AllocError> for CommandRefusal {
+    fn from(_: AllocError) -> CommandRefusal {
+        CommandRefusal::Memory
     }
 }
 
 /// Returns how a registry command ends with this answer of the store.
-pub fn ending(told: Result<Registered, StoreFault>) -> Result<(), Refusal>
+pub fn ending(told: Result<Registered, StoreFault>) -> Result<(), CommandRefusal>
     ensures { result ≡ spec.ending told }
 {
     match told {
         Ok(Registered::Done) => Ok(()),
-        Ok(Registered::Name) => Err(Refusal::Name),
-        Ok(Registered::Taken) => Err(Refusal::Taken),
-        Ok(Registered::NoTeam) => Err(Refusal::NoTeam),
-        Ok(Registered::NoKey) => Err(Refusal::NoKey),
-        Ok(Registered::NoGroup) => Err(Refusal::NoGroup),
-        Err(StoreFault::Device) => Err(Refusal::Device),
-        Err(StoreFault::Memory) => Err(Refusal::Memory),
+        Ok(Registered::Name) => Err(CommandRefusal::Name),
+        Ok(Registered::Taken) => Err(CommandRefusal::Taken),
+        Ok(Registered::NoTeam) => Err(CommandRefusal::NoTeam),
+        Ok(Registered::NoKey) => Err(CommandRefusal::NoKey),
+        Ok(Registered::NoGroup) => Err(CommandRefusal::NoGroup),
+        Err(StoreFault::Device) => Err(CommandRefusal::Device),
+        Err(StoreFault::Memory) => Err(CommandRefusal::Memory),
     }
 }

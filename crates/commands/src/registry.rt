@@ -3,13 +3,17 @@ ghost use Rattle.std.specs.Prelude.{◌≡◌, true, if◌then◌else◌, option
 ghost use Rattle.world.specs.Registry.{team_added, after_team_add, group_added, after_group_add, key_added, after_key_add, key_revoked, after_key_revoke};
 ghost use Rattle.commands.specs.Ending.{Registers};
 
-use crate::refusal::{Refusal, ending};
+use crate::refusal::{CommandRefusal, ending};
 use world::entry::Right;
 use world::shelves::Shelves;
 
 /// Adds a team, as a member of a group or of none, as the machine does.
 /// Fails with `Name`, `Taken`, `NoGroup`, or a fault of the store, and then changes nothing.
-pub fn add_team<S: Shelves>(shelves: &mut S, name: &str, group: Option<&str>) -> Result<(), Refusal>
+pub fn add_team<S: Shelves>(
+    shelves: &mut S,
+    name: &str,
+    group: Option<&str>,
+) -> Result<(), CommandRefusal>
     ensures { Registers (S.shown shelves.old) (S.shown shelves.new) (S.failure_count shelves.old) (S.failure_count shelves.new)
         (λ w. team_added w name.now (option_copied group.entry))
         (λ w. after_team_add w name.now (option_copied group.entry) (team_added w name.now (option_copied group.entry))) result }
@@ -19,7 +23,7 @@ pub fn add_team<S: Shelves>(shelves: &mut S, name: &str, group: Option<&str>) ->
 }
 
 /// Adds a group, as the machine does. Fails with `Name`, `Taken`, or a fault of the store, and then changes nothing.
-pub fn add_group<S: Shelves>(shelves: &mut S, name: &str) -> Result<(), Refusal>
+pub fn add_group<S: Shelves>(shelves: &mut S, name: &str) -> Result<(), CommandRefusal>
     ensures { Registers (S.shown shelves.old) (S.shown shelves.new) (S.failure_count shelves.old) (S.failure_count shelves.new)
         (λ w. group_added w name.now) (λ w. after_group_add w name.now (group_added w name.now)) result }
 {
@@ -34,7 +38,7 @@ pub fn add_key<S: Shelves>(
     shelf: &str,
     key: &str,
     read_only: bool,
-) -> Result<(), Refusal>
+) -> Result<(), CommandRefusal>
     ensures { Registers (S.shown shelves.old) (S.shown shelves.new) (S.failure_count shelves.old) (S.failure_count shelves.new)
         (λ w. key_added w shelf.now key.now)
         (λ w. after_key_add w shelf.now key.now (if read_only then Right.Reads else Right.Publishes) (key_added w shelf.now key.now)) result }
@@ -56,7 +60,7 @@ fn right_of(read_only: bool) -> Right
 }
 
 /// Revokes a key, as the machine does. Fails with `NoKey`, or a fault of the store, and then changes nothing.
-pub fn revoke_key<S: Shelves>(shelves: &mut S, key: &str) -> Result<(), Refusal>
+pub fn revoke_key<S: Shelves>(shelves: &mut S, key: &str) -> Result<(), CommandRefusal>
     ensures { Registers (S.shown shelves.old) (S.shown shelves.new) (S.failure_count shelves.old) (S.failure_count shelves.new)
         (λ w. key_revoked w key.now) (λ w. after_key_revoke w key.now (key_revoked w key.now)) result }
 {

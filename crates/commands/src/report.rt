@@ -4,7 +4,7 @@ ghost use Rattle.std.specs.Io.KnownBytes.{Appends};
 ghost use Rattle.commands.specs.Report as spec;
 
 use crate::inventory::{InventoryFault, inventory};
-use crate::refusal::Refusal;
+use crate::refusal::CommandRefusal;
 use crate::requirements::requirements;
 use outline::outlines::Outlines;
 use std::alloc::Global;
@@ -20,7 +20,7 @@ pub fn print_inventory<S: Outlines, O: Write>(
     shelves: &mut S,
     key: &str,
     output: &mut O,
-) -> Result<bool, Refusal>
+) -> Result<bool, CommandRefusal>
     ensures { spec.PrintsInventory (S.shown shelves.old) (S.shown shelves.new) (S.failure_count shelves.old) (S.failure_count shelves.new)
         key.now (O.contents output.old) (O.contents output.new) result }
 {
@@ -36,7 +36,7 @@ pub fn print_requirements<S: Shelves, O: Write>(
     shelves: &mut S,
     version: &Named,
     output: &mut O,
-) -> Result<bool, Refusal>
+) -> Result<bool, CommandRefusal>
     ensures { spec.PrintsRequirements (S.shown shelves.old) (S.shown shelves.new) (S.failure_count shelves.old) (S.failure_count shelves.new)
         version.now (O.contents output.old) (O.contents output.new) result }
 {
@@ -53,31 +53,34 @@ pub struct Named<'a> {
 }
 
 /// Returns the inventory, or the refusal if there is none.
-fn inventory_told(told: Result<Bytes, InventoryFault>) -> Result<Bytes, Refusal>
+fn inventory_told(told: Result<Bytes, InventoryFault>) -> Result<Bytes, CommandRefusal>
     ensures { result ≡ spec.inventory_told told }
 {
     match told {
         Ok(text) => Ok(text),
-        Err(InventoryFault::NoKey) => Err(Refusal::NoKey),
-        Err(InventoryFault::Device) => Err(Refusal::Device),
-        Err(InventoryFault::Memory) => Err(Refusal::Memory),
+        Err(InventoryFault::NoKey) => Err(CommandRefusal::NoKey),
+        Err(InventoryFault::Device) => Err(CommandRefusal::Device),
+        Err(InventoryFault::Memory) => Err(CommandRefusal::Memory),
     }
 }
 
 /// Returns the lines of what a version requires, or the refusal if there are none.
-fn requirements_told(told: Result<Option<Bytes>, StoreFault>) -> Result<Bytes, Refusal>
+fn requirements_told(told: Result<Option<Bytes>, StoreFault>) -> Result<Bytes, CommandRefusal>
     ensures { result ≡ spec.requirements_told told }
 {
     match told {
         Ok(Some(lines)) => Ok(lines),
-        Ok(None) => Err(Refusal::NotFound),
-        Err(StoreFault::Device) => Err(Refusal::Device),
-        Err(StoreFault::Memory) => Err(Refusal::Memory),
+        Ok(None) => Err(CommandRefusal::NotFound),
+        Err(StoreFault::Device) => Err(CommandRefusal::Device),
+        Err(StoreFault::Memory) => Err(CommandRefusal::Memory),
     }
 }
 
 /// Prints a text and returns true, or fails with the refusal if there is none. `Io` if the output fails.
-fn print<O: Write>(told: Result<Bytes, Refusal>, output: &mut O) -> Result<bool, Refusal>
+fn print<O: Write>(
+    told: Result<Bytes, CommandRefusal>,
+    output: &mut O,
+) -> Result<bool, CommandRefusal>
     ensures { spec.Prints (O.contents output.old) (O.contents output.new) result told }
 {
     let text = match told {
@@ -88,12 +91,12 @@ fn print<O: Write>(told: Result<Bytes, Refusal>, output: &mut O) -> Result<bool,
 }
 
 /// Prints a text.
-pub(crate) fn print_text<O: Write>(text: &[u8], output: &mut O) -> Result<bool, Refusal>
+pub(crate) fn print_text<O: Write>(text: &[u8], output: &mut O) -> Result<bool, CommandRefusal>
     ensures { spec.Prints (O.contents output.old) (O.contents output.new) result (Ok text.now) }
 {
     match write_text(text, output) {
         Ok(()) => Ok(true),
-        Err(_) => Err(Refusal::Io),
+        Err(_) => Err(CommandRefusal::Io),
     }
 }
 

@@ -4,7 +4,7 @@ ghost use Rattle.std.specs.Io.KnownBytes.{Appends};
 ghost use Rattle.commands.specs.Serve.{Announces, Listens, ListensToBoth, ListensAs, Prints, input_line, port_line, port_text};
 
 use crate::moment::time_now;
-use crate::refusal::Refusal;
+use crate::refusal::CommandRefusal;
 use control::{Copies, Doors, leave_place, operators_at, serve_both};
 use itoa::Buffer;
 use socket::serve_on;
@@ -36,7 +36,7 @@ pub fn serve<S: Shelves, K: Copies<S>, O: Write>(
     connections: u32,
     control: Option<&str>,
     output: &mut O,
-) -> Result<(), Refusal>
+) -> Result<(), CommandRefusal>
     ensures { ListensAs S.shown S.failure_count K.copied K.counted shelves.old shelves.new entrance connections
         (option_copied control.entry) (O.contents output.old) (O.contents output.new) result }
 {
@@ -53,11 +53,11 @@ fn serve_peers<S: Shelves, O: Write>(
     entrance: Entrance,
     connections: u32,
     output: &mut O,
-) -> Result<(), Refusal>
+) -> Result<(), CommandRefusal>
     ensures { Listens S.shown S.failure_count shelves.old shelves.new entrance connections (O.contents output.old) (O.contents output.new) result }
 {
     let Ok(listener) = listen(rt, entrance, output) else {
-        return Err(Refusal::Io);
+        return Err(CommandRefusal::Io);
     };
     serve_on(rt.alloc(), rt, &mut &listener, shelves, connections);
     Ok(())
@@ -72,15 +72,15 @@ fn serve_operators<S: Shelves, K: Copies<S>, O: Write>(
     connections: u32,
     path: &str,
     output: &mut O,
-) -> Result<(), Refusal>
+) -> Result<(), CommandRefusal>
     ensures { ListensToBoth S.shown S.failure_count K.copied K.counted shelves.old shelves.new entrance connections
         (O.contents output.old) (O.contents output.new) result }
 {
     let Some(since) = time_now(rt) else {
-        return Err(Refusal::Io);
+        return Err(CommandRefusal::Io);
     };
     let Ok(operators) = operators_at(rt, path) else {
-        return Err(Refusal::Io);
+        return Err(CommandRefusal::Io);
     };
     match open_doors(rt, entrance, operators, output) {
         Ok(mut doors) => {
@@ -98,7 +98,7 @@ fn serve_operators<S: Shelves, K: Copies<S>, O: Write>(
         }
         Err(_) => {
             leave_place(rt, path);
-            Err(Refusal::Io)
+            Err(CommandRefusal::Io)
         }
     }
 }

@@ -1,10 +1,10 @@
 //! `goshelf`: a private Go module proxy with team shelves.
 //!
-//! One run of the program is the call [`command::command`] of `command_line`; `main` hands it the words, the streams and the runtime of
+//! One run of the program is the call [`command::command`] of `cli`; `main` hands it the words, the streams and the runtime of
 //! the system.
 #![tactic(auto)]
 
-use command_line::command::{command, words_refused};
+use cli::command::{command, words_refused};
 use std::env;
 use std::process::ExitCode;
 

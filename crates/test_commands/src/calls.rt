@@ -3,7 +3,7 @@ use crate::doubles::Sink;
 use crate::rows::{column, with_lines};
 use commands::import::{Ending, import};
 use commands::inventory::inventory;
-use commands::refusal::Refusal;
+use commands::refusal::CommandRefusal;
 use commands::registry::{add_group, add_key, add_team};
 use commands::requirements::requirements;
 use commands::sources::Sources;
@@ -65,7 +65,7 @@ fn answered<S: Outlines, F: Sources>(
 }
 
 /// Returns how a command of the registry ended, as a word.
-fn ended(alloc: Global, told: Result<(), Refusal>) -> Result<String, Fail> {
+fn ended(alloc: Global, told: Result<(), CommandRefusal>) -> Result<String, Fail> {
     match told {
         Ok(()) => Ok(String::from_str(alloc, "done")?),
         Err(refusal) => Ok(String::from_str(alloc, refusal.word())?),

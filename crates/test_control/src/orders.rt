@@ -2,7 +2,7 @@
 use crate::copier::Copier;
 use commands::order::{copy_over, order_over};
 use commands::ping::ping_over;
-use commands::refusal::Refusal;
+use commands::refusal::CommandRefusal;
 use control::{Order, Tally, obey};
 use modver::read_time;
 use std::alloc::Global;
@@ -174,7 +174,7 @@ fn wrong_row<S: Shelves + Drop>(
 }
 
 /// Returns how a command ended, as a word.
-fn ended(alloc: Global, told: Result<(), Refusal>) -> Result<String, Fail> {
+fn ended(alloc: Global, told: Result<(), CommandRefusal>) -> Result<String, Fail> {
     match told {
         Ok(()) => Ok(String::from_str(alloc, "done")?),
         Err(refusal) => Ok(format!(in alloc; "{refusal:?}")?),
@@ -182,7 +182,12 @@ fn ended(alloc: Global, told: Result<(), Refusal>) -> Result<String, Fail> {
 }
 
 /// Whether what was sent is the line of a row, and the command ended as its row says.
-fn is_row(alloc: Global, row: &str, sent: &[u8], told: Result<(), Refusal>) -> Result<bool, Fail> {
+fn is_row(
+    alloc: Global,
+    row: &str,
+    sent: &[u8],
+    told: Result<(), CommandRefusal>,
+) -> Result<bool, Fail> {
     let line = match column(row, 2) {
         "" => String::new(alloc),
         line => format!(in alloc; "{line}\n")?,

@@ -1,0 +1,158 @@
+//! One whole run of the program.
+ghost use Rattle.std.specs.Prelude.{◌≡◌};
+ghost use Rattle.clap.specs.Values.{kind_of};
+ghost use Rattle.commands.specs.Exit.{IsSilent};
+ghost use Rattle.commands.specs.ImportLine.{PrintsFront};
+ghost use Rattle.cli.specs.Run.{EndsShown, Exits, RefusesWords, RunsOrShows, Tells, new_store_line};
+
+use crate::arguments::parser;
+use crate::asked::command_of;
+use crate::system::{Runner, SystemStores};
+use clap::ArgMatches;
+use clap::error::ErrorKind;
+use commands::action::Action;
+use commands::exit::Exit;
+use commands::refusal::CommandRefusal;
+use engine::write::write_bytes;
+use runner::Command;
+use std::alloc::Global;
+use std::io::{self, Read, Write};
+use std::rt::HostRuntime;
+
+/// Runs the program by the words after its name and returns the exit status: 0 done, 1 refused, 2 bad usage.
+///
+/// A refusal prints one line `goshelf: <word>` on `errors`; `publish` prints its outcome on `output` instead, and `import` a line
+/// for each row. Bad usage prints the parser's text on `errors`, and `serve` a line if its store is new. The texts of the parser are
+/// tested and not proved.
+pub fn command<'a, I: Read, O: Write, E: Write>(
+    rt: &'a HostRuntime,
+    words: &[String],
+    input: &mut I,
+    output: &mut O,
+    errors: &mut E,
+) -> u8
+    ensures { (stores stores_new : SystemStores) × Exits ⟦<SystemStores<'a> as Runner>⟧.ran stores stores_new
+        (I.remaining input.old) (I.remaining input.new) (O.contents output.old) (O.contents output.new)
+        (E.contents errors.old) (E.contents errors.new) result }
+{
+    let mut stores = SystemStores { rt };
+    command_by(rt.alloc(), &mut stores, words, input, output, errors)
+}
+
+/// Runs the program with anything that runs commands, and returns the exit status. It runs one command, or none
+/// if it shows the parser's text, for example for `--help`.
+pub fn command_by<P: Runner, I: Read, O: Write, E: Write>(
+    alloc: Global,
+    runner: &mut P,
+    words: &[String],
+    input: &mut I,
+    output: &mut O,
+    errors: &mut E,
+) -> u8
+    ensures { Exits P.ran runner.old runner.new
+        (I.remaining input.old) (I.remaining input.new) (O.contents output.old) (O.contents output.new)
+        (E.contents errors.old) (E.contents errors.new) result }
+{
+    let ending = run_words(alloc, runner, words, input, output, errors);
+    ending.tell(errors);
+    ending.status()
+}
+
+/// Runs the command that the words ask for, or shows the parser's text, and returns how the run ended.
+fn run_words<P: Runner, I: Read, O: Write, E: Write>(
+    alloc: Global,
+    runner: &mut P,
+    words: &[String],
+    input: &mut I,
+    output: &mut O,
+    errors: &mut E,
+) -> Exit
+    ensures { RunsOrShows P.ran runner.old runner.new
+        (I.remaining input.old) (I.remaining input.new) (O.contents output.old) (O.contents output.new)
+        (E.contents errors.old) (E.contents errors.new) result }
+{
+    let Ok(parser) = parser(alloc) else {
+        return Exit::Refused(CommandRefusal::Memory);
+    };
+    match parser.try_get_matches_from(words) {
+        Ok(matches) => run_matched(runner, &matches, input, output, errors),
+        Err(error) => show(error, output, errors),
+    }
+}
+
+/// Runs the command that the words ask for, and returns how the run ended. The parser refuses words without a command.
+fn run_matched<P: Runner, I: Read, O: Write, E: Write>(
+    runner: &mut P,
+    matches: &ArgMatches<'_>,
+    input: &mut I,
+    output: &mut O,
+    errors: &mut E,
+) -> Exit
+    ensures { RunsOrShows P.ran runner.old runner.new
+        (I.remaining input.old) (I.remaining input.new) (O.contents output.old) (O.contents output.new)
+        (E.contents errors.old) (E.contents errors.new) result }
+{
+    let Some(command) = command_of(matches) else {
+        return Exit::BadUsage;
+    };
+    tell_new_store(runner, &command, errors);
+    Exit::of_command(runner.run(&command, input, output))
+}
+
+/// Writes a line on `errors` if the command serves a store that is new, because a mistyped name answers 404 to everybody.
+fn tell_new_store<P: Runner, E: Write>(runner: &P, command: &Command, errors: &mut E)
+    ensures { Tells (E.contents errors.old) (E.contents errors.new) command.now }
+{
+    match command {
+        Command::OnStore {
+            db,
+            action: Action::Serve { .. },
+        } if runner.is_new(db) => write_new_store(errors),
+        _ => {}
+    }
+}
+
+/// Writes that line, or a beginning of it if a write fails.
+fn write_new_store<E: Write>(errors: &mut E)
+    ensures { PrintsFront (E.contents errors.old) (E.contents errors.new) new_store_line }
+{
+    let _ = write_bytes(
+        errors,
+        b"new store: the file of --db is missing or empty; without a key, each request gets a 404\n",
+    );
+}
+
+/// Shows the parser's text, and returns how the run ended: help and the version on the output, and what is wrong with the words on
+/// `errors`. If the output fails, the run ends with `goshelf: io`.
+fn show<O: Write, E: Write>(error: clap::Error, output: &mut O, errors: &mut E) -> Exit
+    ensures ends { EndsShown (kind_of error) result }
+    ensures silent { IsSilent (E.contents errors.old) (E.contents errors.new) result }
+{
+    match error.kind() {
+        ErrorKind::OutOfMemory => Exit::Refused(CommandRefusal::Memory),
+        ErrorKind::DisplayHelp | ErrorKind::DisplayVersion => match write!(output, "{error}") {
+            Ok(()) => Exit::Done,
+            Err(_) => Exit::Refused(CommandRefusal::Io),
+        },
+        _ => {
+            let _ = write!(errors, "{error}");
+            Exit::BadUsage
+        }
+    }
+}
+
+/// Reports that the words could not be read, and returns the exit status. Words that are not UTF-8 are bad usage; if memory ran
+/// out, the run ends with `goshelf: memory`.
+pub fn words_refused<E: Write>(error: io::Error, errors: &mut E) -> u8
+    ensures { RefusesWords (E.contents errors.old) (E.contents errors.new) result }
+{
+    let ended = match error.kind() {
+        io::ErrorKind::OutOfMemory => Exit::Refused(CommandRefusal::Memory),
+        _ => {
+            let _ = writeln!(errors, "error: an argument is not text");
+            Exit::BadUsage
+        }
+    };
+    ended.tell(errors);
+    ended.status()
+}

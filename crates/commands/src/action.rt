@@ -1,0 +1,121 @@
+//! The actions of commands on a store, whichever store it is.
+ghost use Rattle.std.specs.Prelude.{◌≡◌};
+ghost use Rattle.commands.specs.Action as spec;
+
+use crate::answer::answer_from;
+use crate::import_file::import_file;
+use crate::publish::{Files, Words, publish};
+use crate::refusal::CommandRefusal;
+use crate::registry::{add_group, add_key, add_team, revoke_key};
+use crate::report::{Named, print_inventory, print_requirements};
+use crate::serve::{Entrance, serve};
+use control::Copies;
+use outline::outlines::Outlines;
+use std::io::{Read, Write};
+use std::rt::HostRuntime;
+
+/// What a command does on an open store.
+#[derive(Clone, Copy, Drop)]
+pub enum Action<'a> {
+    /// Nothing: opening the store makes it.
+    Open,
+    /// `team-add`: adds a team, as a member of a group or of none.
+    TeamAdd {
+        team: &'a str,
+        group: Option<&'a str>,
+    },
+    /// `group-add`: adds a group.
+    GroupAdd {
+        group: &'a str,
+    },
+    /// `key-add`: adds a key to a shelf.
+    KeyAdd {
+        shelf: &'a str,
+        key: &'a str,
+        read_only: bool,
+    },
+    /// `key-revoke`: revokes a key.
+    KeyRevoke {
+        key: &'a str,
+    },
+    /// `publish`: publishes a version from files.
+    Publish {
+        words: Words<'a>,
+        files: Files<'a>,
+    },
+    /// `import`: publishes each row of a list in a file.
+    Import {
+        key: &'a str,
+        list: &'a str,
+    },
+    /// `inventory`: prints what the shelf of a key sees.
+    Inventory {
+        key: &'a str,
+    },
+    /// `requires`: prints what the go.mod of a version requires.
+    Requires {
+        version: Named<'a>,
+    },
+    /// `answer --db F`: answers the requests on the input.
+    Answer,
+    /// `serve`: answers one request on each of this many connections, and between them carries out the orders that come over a
+    /// socket, if one is named, copies among them.
+    Serve {
+        entrance: Entrance,
+        connections: u32,
+        control: Option<&'a str>,
+    },
+}
+
+/// Does one action on a store and returns whether it was accepted; only a publish and an import can be done and not accepted.
+/// `copies` makes the copies that are ordered while the store is served, and counts its versions for a ping.
+pub fn act_on<S: Outlines, K: Copies<S>, I: Read, O: Write>(
+    rt: &HostRuntime,
+    shelves: &mut S,
+    copies: &mut K,
+    action: &Action,
+    input: &mut I,
+    output: &mut O,
+) -> Result<bool, CommandRefusal>
+    ensures { spec.Acts S.shown S.failure_count K.copied K.counted
+        (record { store = shelves.old; unread = I.remaining input.old; written = O.contents output.old })
+        (record { store = shelves.new; unread = I.remaining input.new; written = O.contents output.new }) result action.now }
+{
+    match action {
+        Action::Open => Ok(true),
+        Action::TeamAdd { team, group } => acceptance(add_team(shelves, team, *group)),
+        Action::GroupAdd { group } => acceptance(add_group(shelves, group)),
+        Action::KeyAdd {
+            shelf,
+            key,
+            read_only,
+        } => acceptance(add_key(shelves, shelf, key, *read_only)),
+        Action::KeyRevoke { key } => acceptance(revoke_key(shelves, key)),
+        Action::Publish { words, files } => publish(rt, shelves, words, files, output),
+        Action::Import { key, list } => import_file(rt, shelves, key, list, output),
+        Action::Inventory { key } => print_inventory(rt.alloc(), shelves, key, output),
+        Action::Requires { version } => print_requirements(rt.alloc(), shelves, version, output),
+        Action::Answer => acceptance(answer_from(rt.alloc(), shelves, input, output)),
+        Action::Serve {
+            entrance,
+            connections,
+            control,
+        } => acceptance(serve(
+            rt,
+            shelves,
+            copies,
+            *entrance,
+            *connections,
+            *control,
+            output,
+        )),
+    }
+}
+
+/// Returns true for a command that is accepted once it is done, or its refusal.
+pub fn acceptance(ended: Result<(), CommandRefusal>) -> Result<bool, CommandRefusal>
+    ensures { result ≡ spec.acceptance ended }
+{
+    ended?;
+    Ok(true)
+}

@@ -1,0 +1,5 @@
+pub mod Ran
+pub mod MigrateLemmas
+pub mod CopyLemmas
+pub mod Parts
+pub mod Written

@@ -1,0 +1,16 @@
+-- What running a command did, running an equal one did.
+use Rattle.std.proofs.Common.{◌≡◌, ℕ, List, Bool, Option, Result, sym, subst}
+use Rattle.sqlite_wal.specs.Recovery.{Image}
+use Rattle.sqlite.specs.State.{State}
+use Rattle.world.specs.Store.{Shown}
+use Rattle.commands.specs.declared.refusal.CommandRefusal.{CommandRefusal}
+use Rattle.runner.specs.Command.{Runs}
+use Rattle.runner.specs.declared.Command.{Command}
+
+-- what running a command did, running an equal one did (the stores are parameters, so that neither of them is unfolded)
+pub ran : {C S F : Type 0} (state_of : C → State) (shown : S → Shown) (failures : S → ℕ) (held : Image) (shown_too : F → Shown) (failures_too : F → ℕ) (held_too : Image)
+    (unread unread_new written written_new : Option (List ℕ)) (result : Result Bool CommandRefusal) (t u : Command) → t ≡ u
+    → Runs state_of shown failures held shown_too failures_too held_too unread unread_new written written_new result u
+    → Runs state_of shown failures held shown_too failures_too held_too unread unread_new written written_new result t
+ran state_of shown failures held shown_too failures_too held_too unread unread_new written written_new result t u is done =
+    subst (Runs state_of shown failures held shown_too failures_too held_too unread unread_new written written_new result) (sym is) done

@@ -1,0 +1,117 @@
+-- What running a command does.
+use Rattle.std.specs.Prelude.{ℕ, map as each, List, ◌≡◌, ◌⊎◌, Bool, Option, Result, Ok, Err}
+use Rattle.sqlite_wal.specs.Recovery.{Image}
+use Rattle.sqlite.specs.State.{State}
+use Rattle.world.specs.Store.{Shown}
+use Rattle.setup.specs.declared.refusal.Refusal.{Refusal as Unopened}
+use Rattle.control.specs.declared.order.Order.{Order}
+use Rattle.commands.specs.Opening.{AnsweredFor}
+use Rattle.commands.specs.Order.{CopiesThere, OrdersThere, StopsThere}
+use Rattle.commands.specs.Ping.{PingsThere}
+use Rattle.commands.specs.Serve.{Copied}
+use Rattle.commands.specs.Action.{Acts, acceptance}
+use Rattle.commands.specs.declared.refusal.CommandRefusal.{CommandRefusal}
+use Rattle.commands.specs.declared.refusal.CommandRefusal.TheVariants.{NotEmpty}
+use Rattle.commands.specs.declared.action.Action.{Action}
+use Rattle.commands.specs.declared.action.Action.TheVariants.{Open}
+use Rattle.runner.specs.Copies.{CopiesFile, CountsIn}
+use Rattle.runner.specs.Extract.{ExtractsFile}
+use Rattle.runner.specs.Migrate.{MigratesFile}
+use Rattle.runner.specs.Opened.{unopened, unmade, HasBegun}
+use Rattle.runner.specs.declared.Command.{Command}
+use Rattle.runner.specs.declared.Command.TheVariants as command
+
+-- the result of `init`, by that of the action on its store
+abbrev pub made : Result Bool CommandRefusal → Result Bool CommandRefusal
+made (Ok accepted) = Ok accepted
+made (Err refusal) = Err (unmade refusal)
+
+module _ (unread unread_new written written_new : Option (List ℕ)) (result : Result Bool CommandRefusal) where
+  -- this is the result, and nothing was read or written
+  pub record TellsAlone (told : Result Bool CommandRefusal) : Type 0 where
+    pub tells : result ≡ told
+    pub input : unread_new ≡ unread
+    pub output : written_new ≡ written
+
+  -- the requests of the input were answered from shelves in memory
+  pub record AnswersInMemory (team key : List ℕ) : Type 0 where
+    pub ended : Result (Unit {0}) CommandRefusal
+    pub answers : AnsweredFor team key unread unread_new written written_new ended
+    pub tells : result ≡ acceptance ended
+
+  -- an order was sent to a running `serve`, or could not be, no store was opened, and nothing was read or written
+  pub record OrdersAlone (order : Order) : Type 0 where
+    pub ended : Result (Unit {0}) CommandRefusal
+    pub orders : OrdersThere order ended
+    pub tells : TellsAlone (acceptance ended)
+
+  -- a running `serve` was ordered to copy its store, or could not be, no store was opened, and nothing was read or written
+  pub record CopiesAlone (path : List ℕ) : Type 0 where
+    pub ended : Result (Unit {0}) CommandRefusal
+    pub copies : CopiesThere path ended
+    pub tells : TellsAlone (acceptance ended)
+
+  -- a running `serve` was asked for its health, which was printed, no store was opened, and nothing was read
+  pub record PingsAlone : Type 0 where
+    pub pings : PingsThere written written_new result
+    pub input : unread_new ≡ unread
+
+  -- a running `serve` was to end, no store was opened, and nothing was read or written
+  pub record StopsAlone : Type 0 where
+    pub ended : Result (Unit {0}) CommandRefusal
+    pub stops : StopsThere ended
+    pub tells : TellsAlone (acceptance ended)
+
+module _ {S : Type 0} (shown : S → Shown) (failures : S → ℕ) (copied : Copied S) (held : Image) where
+  -- the store of files that held this was opened, and the action was done on it
+  pub record ActsOpened
+      (unread unread_new written written_new : Option (List ℕ)) (action : Action) (result : Result Bool CommandRefusal) : Type 0 where
+    pub begun : S
+    pub ended : S
+    pub begins : HasBegun shown failures held begun
+    pub acts : Acts shown failures copied (CountsIn shown)
+        (record { store = begun; unread = unread; written = written })
+        (record { store = ended; unread = unread_new; written = written_new }) result action
+
+  -- the store of a file was opened and the action was done on it, or it was not opened, and the result says why
+  abbrev pub ActsOnFile : Option (List ℕ) → Option (List ℕ) → Option (List ℕ) → Option (List ℕ) → Action → Result Bool CommandRefusal → Type 0
+  ActsOnFile unread unread_new written written_new action result =
+      ActsOpened unread unread_new written written_new action result
+      ⊎ ((why : Unopened) × TellsAlone unread unread_new written written_new result (Err (unopened why)))
+
+  -- the file has bytes, and the result says so; or its store was opened or not, and nothing else was done
+  abbrev pub Inits : Option (List ℕ) → Option (List ℕ) → Option (List ℕ) → Option (List ℕ) → Result Bool CommandRefusal → Type 0
+  Inits unread unread_new written written_new result =
+      TellsAlone unread unread_new written written_new result (Err NotEmpty)
+      ⊎ ((opened : Result Bool CommandRefusal) × ActsOnFile unread unread_new written written_new Open opened × (result ≡ made opened))
+
+module _ {C S F : Type 0} (state_of : C → State) (shown : S → Shown) (failures : S → ℕ) (held : Image)
+    (shown_too : F → Shown) (failures_too : F → ℕ) (held_too : Image)
+    (unread unread_new written written_new : Option (List ℕ)) (result : Result Bool CommandRefusal) where
+  -- some teams' part of the store of a file was put into that of another, or was not, and nothing was read or written
+  pub record ExtractsAlone (teams : List (List ℕ)) : Type 0 where
+    pub ended : Result (Unit {0}) CommandRefusal
+    pub extracts : ExtractsFile shown failures held shown_too failures_too held_too teams ended
+    pub tells : TellsAlone unread unread_new written written_new result (acceptance ended)
+
+  -- what an older file has was put into the store of another, or was not, and nothing was read or written
+  pub record MigratesAlone : Type 0 where
+    pub ended : Result (Unit {0}) CommandRefusal
+    pub migrates : MigratesFile state_of held shown_too failures_too held_too ended
+    pub tells : TellsAlone unread unread_new written written_new result (acceptance ended)
+
+  -- what a copy does that is ordered while the store is served, into a file that held what the second file of the command holds
+  abbrev pub copies : Copied S
+  copies = CopiesFile shown failures shown_too failures_too held_too
+
+  -- What each kind of command does, if its first file and the log held this, and its second file that.
+  abbrev pub Runs : Command → Type 0
+  Runs (command.Init db) = Inits shown failures copies held unread unread_new written written_new result
+  Runs (command.AnswerInMemory team key) = AnswersInMemory unread unread_new written written_new result team.now key.now
+  Runs (command.OnStore db action) = ActsOnFile shown failures copies held unread unread_new written written_new action result
+  Runs (command.Extract db teams to) = ExtractsAlone (each (λ team. team.now) teams.now)
+  Runs (command.Migrate from to) = MigratesAlone
+  Runs (command.Order control order) = OrdersAlone unread unread_new written written_new result order
+  Runs (command.Copy control to) = CopiesAlone unread unread_new written written_new result to.now
+  Runs (command.Ping control) = PingsAlone unread unread_new written written_new result
+  Runs (command.Stop control) = StopsAlone unread unread_new written written_new result

@@ -1,0 +1,55 @@
+-- What a copy of the store of a served file into that of another file does, and what a count of its versions tells.
+use Rattle.std.specs.Prelude.{ℕ, List, ◌≡◌, ◌⊎◌, Result, Ok, Err}
+use Rattle.sqlite_wal.specs.Recovery.{Image}
+use Rattle.world.specs.Store.{Shown}
+use Rattle.world.specs.World.{World}
+use Rattle.statements.specs.Counted.{versions_in}
+use Rattle.store.specs.Extracted.{HasCauseInEither}
+use Rattle.store.specs.Parts.{CopiesAll}
+use Rattle.store.specs.declared.refusal.Refusal.{Refusal as Unopened}
+use Rattle.store.specs.declared.refusal.Refusal.TheVariants as store
+use Rattle.control.specs.declared.copies.CopyRefusal.{CopyRefusal}
+use Rattle.control.specs.declared.copies.CopyRefusal.TheVariants as copy
+use Rattle.runner.specs.Opened.{HasBegun}
+
+-- why no copy was made, by why the store was not opened or copied; other tables than a store's are bytes too, and `NoTeam` never comes
+abbrev pub uncopied : Unopened → CopyRefusal
+uncopied store.Device = copy.Device
+uncopied store.Memory = copy.Memory
+uncopied store.BadSchema = copy.NotEmpty
+uncopied store.NotEmpty = copy.NotEmpty
+uncopied store.NoTeam = copy.Device
+
+-- the result of a copy, by that of the store
+abbrev pub copied : Result (Unit {0}) Unopened → Result (Unit {0}) CopyRefusal
+copied (Ok u) = Ok tt
+copied (Err why) = Err (uncopied why)
+
+-- a count tells how many versions there are in each world that the served store stood for, on an honest disk
+abbrev pub CountsIn : {S : Type 0} → (S → Shown) → S → S → ℕ → Type 0
+CountsIn shown old new count = (shown new).is_honest → (w : World) → (shown old).stands w → count ≡ versions_in w
+
+module _ {S F : Type 0} (shown : S → Shown) (failures : S → ℕ) (shown_too : F → Shown) (failures_too : F → ℕ) where
+  -- an open store was made a copy of the served one, or it was not, and the result says why
+  pub record CopiesInto (source source_new : S) (fresh fresh_new : F) (result : Result (Unit {0}) CopyRefusal) : Type 0 where
+    pub told : Result (Unit {0}) Unopened
+    pub copies : CopiesAll (shown source) (shown source_new) (shown_too fresh) (shown_too fresh_new) told
+    pub cause : HasCauseInEither (failures source) (failures source_new) (failures_too fresh) (failures_too fresh_new) told
+    pub ends : result ≡ copied told
+
+  module _ (held : Image) where
+    -- the store of files that held this was opened, and made a copy or not
+    pub record CopiesOpened (source source_new : S) (result : Result (Unit {0}) CopyRefusal) : Type 0 where
+      pub fresh : F
+      pub fresh_new : F
+      pub begins : HasBegun shown_too failures_too held fresh
+      pub copies : CopiesInto source source_new fresh fresh_new result
+
+    -- nothing was done with the served store: the file is its own, or its store was not opened, and the result says why
+    pub record CopiesNone (source source_new : S) (result : Result (Unit {0}) CopyRefusal) : Type 0 where
+      pub same : source_new ≡ source
+      pub tells : (result ≡ Err copy.NotEmpty) ⊎ ((why : Unopened) × (result ≡ Err (uncopied why)))
+
+    -- a store was opened or not, whatever the path is, because no clause ties a path to the bytes of a file
+    abbrev pub CopiesFile : S → S → List ℕ → Result (Unit {0}) CopyRefusal → Type 0
+    CopiesFile source source_new path result = CopiesOpened source source_new result ⊎ CopiesNone source source_new result

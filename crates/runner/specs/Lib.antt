@@ -1,0 +1,7 @@
+pub mod Copies
+pub mod Extract
+pub mod Migrate
+pub mod Opened
+pub mod Command
+pub mod Parts
+pub mod Written

@@ -1,0 +1,31 @@
+-- Opening a store, and why a command is refused whose store is not opened.
+use Rattle.std.specs.Prelude.{ℕ, ◌≡◌}
+use Rattle.sqlite_wal.specs.Recovery.{Image}
+use Rattle.world.specs.Store.{Shown}
+use Rattle.world.specs.World.{World}
+use Rattle.store.specs.Shown.{BeginsAt}
+use Rattle.store.specs.Restart.{HoldsStore}
+use Rattle.setup.specs.declared.refusal.Refusal.{Refusal as Unopened}
+use Rattle.setup.specs.declared.refusal.Refusal.TheVariants as store
+use Rattle.commands.specs.declared.refusal.CommandRefusal.{CommandRefusal}
+use Rattle.commands.specs.declared.refusal.CommandRefusal.TheVariants as refusal
+
+-- the refusal of the command, by that of the store
+abbrev pub unopened : Unopened → CommandRefusal
+unopened store.Device = refusal.Device
+unopened store.Memory = refusal.Memory
+unopened store.BadSchema = refusal.BadSchema
+unopened store.NotEmpty = refusal.NotEmpty
+unopened store.NoTeam = refusal.NoTeam
+
+-- the refusal of a file that a new store is made in, whose tables are not judged: a file that has any has bytes
+abbrev pub unmade : CommandRefusal → CommandRefusal
+unmade refusal.BadSchema = refusal.NotEmpty
+unmade other = other
+
+-- A store that was just opened over files that held this. If its disk was honest, it stands for a world, and a crash leaves only that
+-- world. If the files held a store's world, or no database yet, it is the world that they held.
+pub record HasBegun {S : Type 0} (shown : S → Shown) (failures : S → ℕ) (held : Image) (store : S) : Type 0 where
+  pub world : (shown store).is_honest → (w : World) × BeginsAt (shown store) w
+  pub found : (shown store).is_honest → (w : World) → HoldsStore held w → BeginsAt (shown store) w
+  pub none_failed : failures store ≡ 0

@@ -1,0 +1,161 @@
+//! Copies of the store of a file while it is served, and counts of its versions.
+
+ghost use Rattle.std.specs.Prelude.{◌≡◌, IfOk};
+ghost use Rattle.commands.specs.Action.{Acts};
+ghost use Rattle.control.specs.Copying.{IsOnlyRead};
+ghost use Rattle.sqlite_wal.specs.Files.{image_at};
+ghost use Rattle.runner.specs.Copies as spec;
+ghost use Rattle.runner.specs.Copies.{CopiesFile, CopiesInto, CountsIn};
+ghost use Rattle.world.specs.Store.{HasCause};
+
+use commands::action::{Action, act_on};
+use commands::files::is_same_file;
+use commands::refusal::CommandRefusal;
+use control::{Copies, CopyRefusal};
+use sqlite::{Alter, Start};
+use std::fs;
+use std::io::{Read, Write};
+use std::rt::HostRuntime;
+use store::open::FileShelves;
+use store::refusal::Refusal as Unopened;
+use store::store::SqlShelves;
+use world::registry::StoreFault;
+use world::shelves::Shelves;
+
+/// Copies the served store of a file into other files. `U` stands for what such a file holds before its copy. What is proved holds for
+/// all contents, so for each of several copies it holds with those of its own file.
+#[derive(Drop)]
+struct FileCopies<'a, U: Start + Copy> {
+    rt: &'a HostRuntime,
+    /// The file of the served store.
+    db: &'a str,
+    target: U,
+}
+
+impl<'a, S: Alter, U: Start + Copy> Copies<SqlShelves<S>> for FileCopies<'a, U> {
+    ghost use Rattle.sqlite_wal.specs.Files.{image_at};
+    ghost use Rattle.runner.specs.Copies.{CopiesFile, CountsIn};
+
+    ghost copied = { CopiesFile ⟦<SqlShelves<S> as Shelves>⟧.shown ⟦<SqlShelves<S> as Shelves>⟧.failure_count
+        ⟦<FileShelves<U> as Shelves>⟧.shown ⟦<FileShelves<U> as Shelves>⟧.failure_count (image_at U.Start) };
+
+    ghost counted = { CountsIn ⟦<SqlShelves<S> as Shelves>⟧.shown };
+
+    fn copy(&mut self, shelves: &mut SqlShelves<S>, path: &str) -> Result<(), CopyRefusal> {
+        copy_to(self.rt, self.db, shelves, path, self.target)
+    }
+
+    fn versions(&mut self, shelves: &mut SqlShelves<S>) -> Result<u64, StoreFault> {
+        count_in(shelves)
+    }
+}
+
+/// Does an action on an open store, whose file is at `db`, and returns whether it was accepted. The copies that are ordered while it is
+/// served are made from this store. Fails as the function of the action does.
+/// It is generic over the store, because a contract of one function names one store of files alone.
+pub(crate) fn act_with_copies<S: Alter, U: Start + Copy, I: Read, O: Write>(
+    rt: &HostRuntime,
+    db: &str,
+    shelves: &mut SqlShelves<S>,
+    target: U,
+    action: &Action,
+    input: &mut I,
+    output: &mut O,
+) -> Result<bool, CommandRefusal>
+    ensures { Acts ⟦<SqlShelves<S> as Shelves>⟧.shown ⟦<SqlShelves<S> as Shelves>⟧.failure_count
+        (CopiesFile ⟦<SqlShelves<S> as Shelves>⟧.shown ⟦<SqlShelves<S> as Shelves>⟧.failure_count
+        ⟦<FileShelves<U> as Shelves>⟧.shown ⟦<FileShelves<U> as Shelves>⟧.failure_count (image_at U.Start))
+        (CountsIn ⟦<SqlShelves<S> as Shelves>⟧.shown)
+        (record { store = shelves.old; unread = I.remaining input.old; written = O.contents output.old })
+        (record { store = shelves.new; unread = I.remaining input.new; written = O.contents output.new })
+        result action.now }
+{
+    let mut copies = FileCopies { rt, db, target };
+    act_on(rt, shelves, &mut copies, action, input, output)
+}
+
+/// Opens the store of a file and makes it a copy of a served store, whose file is at `db`. It does not open the file and the log of the
+/// served store again: for them, and for hard links to them, it fails with `NotEmpty`. Otherwise it fails as `Copies::copy` does.
+fn copy_to<S: Alter, U: Start>(
+    rt: &HostRuntime,
+    db: &str,
+    source: &mut SqlShelves<S>,
+    to: &str,
+    target: U,
+) -> Result<(), CopyRefusal>
+    ensures reads { IsOnlyRead
+        (⟦<SqlShelves<S> as Shelves>⟧.shown source.old) (⟦<SqlShelves<S> as Shelves>⟧.shown source.new)
+        (⟦<SqlShelves<S> as Shelves>⟧.failure_count source.old)
+        (⟦<SqlShelves<S> as Shelves>⟧.failure_count source.new) }
+    ensures came { CopiesFile ⟦<SqlShelves<S> as Shelves>⟧.shown ⟦<SqlShelves<S> as Shelves>⟧.failure_count
+        ⟦<FileShelves<U> as Shelves>⟧.shown ⟦<FileShelves<U> as Shelves>⟧.failure_count (image_at U.Start)
+        source.old source.new to.now result }
+{
+    if is_served(rt, db, to) {
+        return Err(CopyRefusal::NotEmpty);
+    }
+    let mut fresh = match FileShelves::open_from(rt, to, target) {
+        Ok(shelves) => shelves,
+        Err((unopened, _)) => return Err(uncopied(unopened)),
+    };
+    let told = copy_into(source, &mut fresh);
+    drop(fresh.close());
+    told
+}
+
+/// Whether a path leads to a file of the served store, whose file is at `db`.
+fn is_served(rt: &HostRuntime, db: &str, path: &str) -> bool {
+    is_same_file(rt, db, path) || is_log_of(rt, db, path)
+}
+
+/// Whether a path leads to the log of a database file, which is beside the file that a link leads to. If it can't find that out, it
+/// returns false, and the lock of the log refuses it.
+fn is_log_of(rt: &HostRuntime, db: &str, path: &str) -> bool {
+    let Ok(real) = fs::canonicalize(rt, db) else {
+        return false;
+    };
+    match format!(in rt.alloc(); "{}-wal", real.as_str()) {
+        Ok(log) => is_same_file(rt, log.as_str(), path),
+        Err(_) => false,
+    }
+}
+
+/// Makes an open store a copy of the served one. Fails with `NotEmpty` if it has more than an empty store, `Device` if a disk fails,
+/// and `Memory` if memory runs out.
+fn copy_into<S: Alter, F: Alter>(
+    source: &mut SqlShelves<S>,
+    fresh: &mut SqlShelves<F>,
+) -> Result<(), CopyRefusal>
+    ensures { CopiesInto ⟦<SqlShelves<S> as Shelves>⟧.shown ⟦<SqlShelves<S> as Shelves>⟧.failure_count
+        ⟦<SqlShelves<F> as Shelves>⟧.shown ⟦<SqlShelves<F> as Shelves>⟧.failure_count
+        source.old source.new fresh.old fresh.new result }
+{
+    match source.copy(fresh) {
+        Ok(()) => Ok(()),
+        Err(refusal) => Err(uncopied(refusal)),
+    }
+}
+
+/// Returns why no copy was made, by why the store was not opened or copied.
+fn uncopied(refusal: Unopened) -> CopyRefusal
+    ensures { result ≡ spec.uncopied refusal }
+{
+    match refusal {
+        Unopened::Device => CopyRefusal::Device,
+        Unopened::Memory => CopyRefusal::Memory,
+        Unopened::BadSchema => CopyRefusal::NotEmpty,
+        Unopened::NotEmpty => CopyRefusal::NotEmpty,
+        Unopened::NoTeam => CopyRefusal::Device,
+    }
+}
+
+/// Counts the versions of the served store.
+fn count_in<S: Alter>(served: &mut SqlShelves<S>) -> Result<u64, StoreFault>
+    ensures reads { IsOnlyRead (⟦<SqlShelves<S> as Shelves>⟧.shown served.old) (⟦<SqlShelves<S> as Shelves>⟧.shown served.new)
+        (⟦<SqlShelves<S> as Shelves>⟧.failure_count served.old) (⟦<SqlShelves<S> as Shelves>⟧.failure_count served.new) }
+    ensures cause { HasCause (⟦<SqlShelves<S> as Shelves>⟧.failure_count served.old)
+        (⟦<SqlShelves<S> as Shelves>⟧.failure_count served.new) result }
+    ensures counted { IfOk result (λ n. CountsIn ⟦<SqlShelves<S> as Shelves>⟧.shown served.old served.new n) }
+{
+    served.versions_kept()
+}

@@ -1,0 +1,86 @@
+//! Extracting the part of some teams from the store of one file into that of another.
+
+ghost use Rattle.std.specs.Prelude.{◌≡◌, map as each};
+ghost use Rattle.sqlite_wal.specs.Files.{image_at};
+ghost use Rattle.runner.specs.Extract.{ExtractsFile, ExtractsPart, Fills};
+
+use crate::{open_refusal, unmade};
+use commands::files::{is_empty_file, is_same_file};
+use commands::refusal::CommandRefusal;
+use sqlite::{Alter, Start};
+use std::rt::HostRuntime;
+use store::open::FileShelves;
+use store::store::SqlShelves;
+use world::shelves::Shelves;
+
+/// Puts some teams' part of the store of one file into the store of another. Fails with the refusals of the store, and with
+/// `NotEmpty` if both paths lead to one file; if that is empty, it stays so.
+/// It compares the files before it opens the first if that is empty, and otherwise after it and before it opens the second, whose
+/// lock would be `Device`. A hard link to the first file is `Device`, because sqlite refuses the first one itself.
+pub(crate) fn extract_file<T: Start, U: Start>(
+    rt: &HostRuntime,
+    db: &str,
+    start: T,
+    teams: &[&str],
+    to: &str,
+    target: U,
+) -> Result<(), CommandRefusal>
+    ensures { ExtractsFile
+        ⟦<FileShelves<T> as Shelves>⟧.shown ⟦<FileShelves<T> as Shelves>⟧.failure_count (image_at T.Start)
+        ⟦<FileShelves<U> as Shelves>⟧.shown ⟦<FileShelves<U> as Shelves>⟧.failure_count (image_at U.Start)
+        (each (λ team. team.now) teams.now) result }
+{
+    if is_empty_file(rt, db) && is_same_file(rt, db, to) {
+        return Err(CommandRefusal::NotEmpty);
+    }
+    let mut source = match FileShelves::open_from(rt, db, start) {
+        Ok(shelves) => shelves,
+        Err((unopened, _)) => return Err(open_refusal(unopened)),
+    };
+    let told = extract_to(rt, db, &mut source, teams, to, target);
+    drop(source.close());
+    told
+}
+
+/// Opens the store of a file and puts some teams' part of an open store into it. It does not open the file of the open store again,
+/// which is at `db`: it fails with `NotEmpty`.
+/// It is generic over the first store, because the checker runs out of steps with two file stores in one function.
+fn extract_to<S: Alter, U: Start>(
+    rt: &HostRuntime,
+    db: &str,
+    source: &mut SqlShelves<S>,
+    teams: &[&str],
+    to: &str,
+    target: U,
+) -> Result<(), CommandRefusal>
+    ensures { Fills ⟦<SqlShelves<S> as Shelves>⟧.shown ⟦<SqlShelves<S> as Shelves>⟧.failure_count
+        ⟦<FileShelves<U> as Shelves>⟧.shown ⟦<FileShelves<U> as Shelves>⟧.failure_count
+        source.old source.new (image_at U.Start) (each (λ team. team.now) teams.now) result }
+{
+    if is_same_file(rt, db, to) {
+        return Err(CommandRefusal::NotEmpty);
+    }
+    let mut fresh = match FileShelves::open_from(rt, to, target) {
+        Ok(shelves) => shelves,
+        Err((unopened, _)) => return Err(unmade(open_refusal(unopened))),
+    };
+    let told = extract_part(source, teams, &mut fresh);
+    drop(fresh.close());
+    told
+}
+
+/// Puts some teams' part of one open store into another. Fails with the refusals of the store.
+fn extract_part<S: Alter, F: Alter>(
+    source: &mut SqlShelves<S>,
+    teams: &[&str],
+    fresh: &mut SqlShelves<F>,
+) -> Result<(), CommandRefusal>
+    ensures { ExtractsPart ⟦<SqlShelves<S> as Shelves>⟧.shown ⟦<SqlShelves<S> as Shelves>⟧.failure_count
+        ⟦<SqlShelves<F> as Shelves>⟧.shown ⟦<SqlShelves<F> as Shelves>⟧.failure_count
+        source.old source.new fresh.old fresh.new (each (λ team. team.now) teams.now) result }
+{
+    match source.extract_teams(teams, fresh) {
+        Ok(()) => Ok(()),
+        Err(refusal) => Err(open_refusal(refusal)),
+    }
+}

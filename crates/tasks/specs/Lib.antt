@@ -1,7 +1,0 @@
-pub mod Copies
-pub mod Extract
-pub mod Migrate
-pub mod Opened
-pub mod Task
-pub mod Parts
-pub mod Written

@@ -8,7 +8,7 @@ use Rattle.modver.specs.Time.{has_time_form, is_moment}
 use Rattle.modver.proofs.Forms.{fits_form-ascii}
 use Rattle.wire.specs.Framing.{texts}
 use Rattle.wire.specs.Message.{Request}
-use Rattle.wire.specs.declared.request.Query.TheVariants as wanted
+use Rattle.wire.specs.declared.request.Resource.TheVariants as resource
 use Rattle.wire.specs.declared.request.Target.{Target}
 use Rattle.wire.specs.declared.request.Target.TheVariants as target
 use Rattle.shelf.specs.declared.ask.GivenTime.TheVariants.{Malformed}
@@ -33,13 +33,13 @@ no_text text never = time_or_not text (has_time_form text) (is_moment text) refl
 sum_at_target : (m : Request) (t : Target) → sum_by (record { ask = ask_at m t; is_summed = is_summed t }) ≡ sum_at t
 sum_at_target m target.Unreadable = refl
 sum_at_target m (target.Put key path version) = refl
-sum_at_target m (target.Get key (wanted.Info path version)) = refl
-sum_at_target m (target.Get key (wanted.GoMod path version)) = refl
-sum_at_target m (target.Get key (wanted.Zip path version)) = refl
-sum_at_target m (target.Get key (wanted.List path)) = refl
-sum_at_target m (target.Get key (wanted.Latest path)) = refl
-sum_at_target m (target.Get key wanted.Modules) = refl
-sum_at_target m (target.Get key (wanted.GoSum path version)) = refl
+sum_at_target m (target.Get key (resource.Info path version)) = refl
+sum_at_target m (target.Get key (resource.GoMod path version)) = refl
+sum_at_target m (target.Get key (resource.Zip path version)) = refl
+sum_at_target m (target.Get key (resource.List path)) = refl
+sum_at_target m (target.Get key (resource.Latest path)) = refl
+sum_at_target m (target.Get key resource.Modules) = refl
+sum_at_target m (target.Get key (resource.GoSum path version)) = refl
 
 pub sum_asked : (m : Request) → sum_by (asking_of m) ≡ sum_of m
 sum_asked m = sum_at_target m (target_in m)

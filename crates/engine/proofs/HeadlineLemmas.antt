@@ -101,11 +101,11 @@ failed_text m (Failed fault) failed = refl
 
 -- a GET after one that was answered 200 gets the same text or the 503
 pub bytes_stay_served : BytesStayServed
-bytes_stay_served old mid new s k later wanted first last events answers is own one targets ok run later_own targets_again again =
+bytes_stay_served old mid new s k later resource first last events answers is own one targets ok run later_own targets_again again =
     by_answer (answer_of first) refl
   where
     q : Query
-    q = spec.query_of wanted
+    q = spec.query_of resource
 
     asks : spec.ask_of first.message ≡ Get k q
     asks = ap (spec.ask_at first.message) targets

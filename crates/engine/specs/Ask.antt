@@ -4,8 +4,8 @@ use Rattle.modver.specs.SemanticVersion.{SemanticVersion}
 use Rattle.wire.specs.Length.{length_value}
 use Rattle.wire.specs.Message.{Request}
 use Rattle.wire.specs.Target.{target_of}
-use Rattle.wire.specs.declared.request.Query.{Query as Wanted}
-use Rattle.wire.specs.declared.request.Query.TheVariants as wanted
+use Rattle.wire.specs.declared.request.Resource.{Resource}
+use Rattle.wire.specs.declared.request.Resource.TheVariants as resource
 use Rattle.wire.specs.declared.request.Target.{Target}
 use Rattle.wire.specs.declared.request.Target.TheVariants as target
 use Rattle.shelf.specs.declared.ask.Query.{Query}
@@ -51,19 +51,19 @@ given_time (text ∷ []) = time_in text
 given_time (text ∷ other ∷ more) = Malformed
 
 -- the machine's query: for a go.sum line it asks for the go.mod
-abbrev pub query_of : Wanted → Query
-query_of (wanted.Info path version) = query.Info path version
-query_of (wanted.GoMod path version) = query.GoMod path version
-query_of (wanted.Zip path version) = query.Zip path version
-query_of (wanted.List path) = query.List path
-query_of (wanted.Latest path) = query.Latest path
-query_of wanted.Modules = query.Modules
-query_of (wanted.GoSum path version) = query.GoMod path version
+abbrev pub query_of : Resource → Query
+query_of (resource.Info path version) = query.Info path version
+query_of (resource.GoMod path version) = query.GoMod path version
+query_of (resource.Zip path version) = query.Zip path version
+query_of (resource.List path) = query.List path
+query_of (resource.Latest path) = query.Latest path
+query_of resource.Modules = query.Modules
+query_of (resource.GoSum path version) = query.GoMod path version
 
 -- what a message with this target asks
 abbrev pub ask_at : Request → Target → Ask
 ask_at m target.Unreadable = ask.Unreadable
-ask_at m (target.Get key wanted) = ask.Get key (query_of wanted)
+ask_at m (target.Get key resource) = ask.Get key (query_of resource)
 ask_at m (target.Put key path version) =
     ask.Put key (record { path = path; version = version; body = body_of m; time = given_time m.version_times })
 
@@ -81,14 +81,14 @@ event_of m = Asked (ask_of m)
 
 -- ---- go.sum lines
 
--- the version whose go.sum line the query asks for, if it asks for one
-abbrev pub sum_in : Wanted → Option (List ℕ × SemanticVersion)
-sum_in (wanted.GoSum path version) = Some (path, version)
+-- the version whose go.sum line this is, if it is one
+abbrev pub sum_in : Resource → Option (List ℕ × SemanticVersion)
+sum_in (resource.GoSum path version) = Some (path, version)
 sum_in other = None
 
 -- the version whose go.sum line the target asks for, if it asks for one
 abbrev pub sum_at : Target → Option (List ℕ × SemanticVersion)
-sum_at (target.Get key wanted) = sum_in wanted
+sum_at (target.Get key resource) = sum_in resource
 sum_at other = None
 
 -- the version whose go.sum line a message asks for, if it asks for one
@@ -97,14 +97,14 @@ sum_of m = sum_at (target_in m)
 
 -- ---- go.sum lines, by what the machine is asked
 
--- whether the query asks for a go.sum line
-abbrev pub is_sum : Wanted → Bool
-is_sum (wanted.GoSum path version) = true
+-- whether this is a go.sum line
+abbrev pub is_sum : Resource → Bool
+is_sum (resource.GoSum path version) = true
 is_sum other = false
 
 -- whether the target asks for a go.sum line
 abbrev pub is_summed : Target → Bool
-is_summed (target.Get key wanted) = is_sum wanted
+is_summed (target.Get key resource) = is_sum resource
 is_summed other = false
 
 -- what a message asks, with whether it asks for a go.sum line

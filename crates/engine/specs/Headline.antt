@@ -3,7 +3,7 @@ use Rattle.std.specs.Prelude.{ℕ, ◌≡◌, ◌⊎◌, List, [], ◌∷◌, Bo
 use Rattle.latest.specs.Latest.{IsTop}
 use Rattle.modver.specs.SemanticVersion.{SemanticVersion}
 use Rattle.wire.specs.Reply.{reply_bytes, fixed_bytes, info_bytes}
-use Rattle.wire.specs.declared.request.Query.{Query as Wanted}
+use Rattle.wire.specs.declared.request.Resource.{Resource}
 use Rattle.wire.specs.declared.request.Target.TheVariants as target
 use Rattle.wire.specs.declared.reply.Fixed.TheVariants.{NotFound, Unavailable}
 use Rattle.wire.specs.declared.reply.Kind.TheVariants.{Json}
@@ -44,7 +44,7 @@ CallersAreToldAlike =
 -- events a GET of the same by any key that then belongs to s gets the same text or the 503.
 abbrev pub BytesStayServed : Type 0
 BytesStayServed =
-    (old mid new : World) (s k later : List ℕ) (q : Wanted) (first last : Exchange) (events : List Event) (answers : List Answer)
+    (old mid new : World) (s k later : List ℕ) (q : Resource) (first last : Exchange) (events : List Event) (answers : List Answer)
     → IsWorld old → belongs old k s → IsOfVersion (query_of q) → target_in first.message ≡ target.Get k q → status_of first ≡ 200
     → Run old (event_of first ∷ events) (answer_of first ∷ answers) mid
     → belongs mid later s → target_in last.message ≡ target.Get later q → Run mid (event_of last ∷ []) (answer_of last ∷ []) new

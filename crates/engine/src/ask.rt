@@ -6,7 +6,7 @@ ghost use Rattle.engine.specs.Ask as spec;
 use modver::read_time;
 use shelf::ask::{Ask, Body, GivenTime, Publish, Query};
 use std::alloc::AllocError;
-use wire::{Memory, Message, Query as Wanted, RouteTable, Target, length_value, target};
+use wire::{Memory, Message, Resource, RouteTable, Target, length_value, target};
 use world::bytes::Bytes;
 
 /// What a message asks of the machine.
@@ -35,16 +35,16 @@ fn is_summed(target: &Target) -> bool
     ensures { result ≡ spec.is_summed target.now }
 {
     match target {
-        Target::Get { query, .. } => is_sum(query),
+        Target::Get { resource, .. } => is_sum(resource),
         _ => false,
     }
 }
 
-fn is_sum(wanted: &Wanted) -> bool
-    ensures { result ≡ spec.is_sum wanted.now }
+fn is_sum(resource: &Resource) -> bool
+    ensures { result ≡ spec.is_sum resource.now }
 {
-    match wanted {
-        Wanted::GoSum { .. } => true,
+    match resource {
+        Resource::GoSum { .. } => true,
         _ => false,
     }
 }
@@ -55,9 +55,9 @@ fn ask_at(message: Message, target: Target) -> Result<Ask, AllocError>
 {
     match target {
         Target::Unreadable => Ok(Ask::Unreadable),
-        Target::Get { key, query } => Ok(Ask::Get {
+        Target::Get { key, resource } => Ok(Ask::Get {
             key,
-            query: query_of(query),
+            query: query_of(resource),
         }),
         Target::Put { key, path, version } => {
             let time = given_time(&message.version_times);
@@ -76,17 +76,17 @@ fn ask_at(message: Message, target: Target) -> Result<Ask, AllocError>
 }
 
 /// Returns the machine's query. For a go.sum line it asks for the go.mod.
-fn query_of(wanted: Wanted) -> Query
-    ensures { result ≡ spec.query_of wanted }
+fn query_of(resource: Resource) -> Query
+    ensures { result ≡ spec.query_of resource }
 {
-    match wanted {
-        Wanted::Info { path, version } => Query::Info { path, version },
-        Wanted::GoMod { path, version } => Query::GoMod { path, version },
-        Wanted::Zip { path, version } => Query::Zip { path, version },
-        Wanted::List { path } => Query::List { path },
-        Wanted::Latest { path } => Query::Latest { path },
-        Wanted::Modules => Query::Modules,
-        Wanted::GoSum { path, version } => Query::GoMod { path, version },
+    match resource {
+        Resource::Info { path, version } => Query::Info { path, version },
+        Resource::GoMod { path, version } => Query::GoMod { path, version },
+        Resource::Zip { path, version } => Query::Zip { path, version },
+        Resource::List { path } => Query::List { path },
+        Resource::Latest { path } => Query::Latest { path },
+        Resource::Modules => Query::Modules,
+        Resource::GoSum { path, version } => Query::GoMod { path, version },
     }
 }
 

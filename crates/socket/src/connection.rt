@@ -3,7 +3,7 @@ ghost use Rattle.std.specs.Prelude.{◌≡◌, None, IfOk, IfErr};
 ghost use Rattle.engine.specs.First.{ServesFirst};
 ghost use Rattle.engine.specs.Isolated.{AnswersByItsShelf};
 
-use crate::pace::{Paced, Part};
+use crate::pace::{Paced, Phase};
 use crate::rest::drop_rest;
 use crate::wait::{BoundRead, BoundWrite};
 use engine::{Io, Session, end_turn};
@@ -51,8 +51,8 @@ pub fn answer_in_time<C: Clock, R: BoundRead + Drop, W: BoundWrite + Drop, S: Sh
     ensures isolated { AnswersByItsShelf (S.shown shelves.old) (S.shown shelves.new)
         (R.remaining reader) (W.contents writer) (W.contents result.writer) result.told }
 {
-    let mut request = Paced::new(reader, clock, Part::Message);
-    let mut reply = Paced::new(writer, clock, Part::Message);
+    let mut request = Paced::new(reader, clock, Phase::Message);
+    let mut reply = Paced::new(writer, clock, Phase::Message);
     let mut session = Session::new(alloc);
     let turned = session.turn(routes, &mut request, &mut reply, shelves);
     let told = end_turn(&mut reply, turned);

@@ -9,7 +9,7 @@ use std::time::{Clock, Duration, Instant};
 
 /// What a peer gets time for.
 #[derive(Clone, Copy)]
-pub(crate) enum Part {
+pub(crate) enum Phase {
     /// The request, or the reply.
     Message,
     /// What comes behind the request.
@@ -23,20 +23,20 @@ pub(crate) struct Paced<'a, C: Clock, T> {
     inner: T,
     clock: &'a C,
     begun: Option<Instant>,
-    part: Part,
+    phase: Phase,
     moved: u64,
 }
 
 impl<'a, C: Clock, T: Drop> Paced<'a, C, T> {
     /// Returns the stream with a time that has not begun.
-    pub(crate) fn new(inner: T, clock: &'a C, part: Part) -> Paced<'a, C, T>
+    pub(crate) fn new(inner: T, clock: &'a C, phase: Phase) -> Paced<'a, C, T>
         ensures { result.inner ≡ inner }
     {
         Paced {
             inner,
             clock,
             begun: None,
-            part,
+            phase,
             moved: 0,
         }
     }
@@ -52,13 +52,13 @@ impl<'a, C: Clock, T: Drop> Paced<'a, C, T> {
     fn left(&mut self) -> io::Result<Duration>
         ensures same { self.new.inner ≡ self.old.inner }
         ensures some { IfOk result (λ left. 0 < as_nanos left) }
-        ensures message { self.old.part ≡ Part.Message →
+        ensures message { self.old.phase ≡ Phase.Message →
             IfOk result (λ left. as_nanos left ≤ (5 + self.old.moved / 1_048_576) * 1_000_000_000) }
-        ensures rest { self.old.part ≡ Part.Rest → IfOk result (λ left. as_nanos left ≤ 2_000_000_000) }
+        ensures rest { self.old.phase ≡ Phase.Rest → IfOk result (λ left. as_nanos left ≤ 2_000_000_000) }
     {
         let now = Instant::now(self.clock)?;
         let begun = *self.begun.get_or_insert(now);
-        let time = time_for(self.part, self.moved);
+        let time = time_for(self.phase, self.moved);
         time_left(time, now.duration_since(begun)).ok_or(io::Error::from(ErrorKind::TimedOut))
     }
 
@@ -71,13 +71,13 @@ impl<'a, C: Clock, T: Drop> Paced<'a, C, T> {
 }
 
 /// Returns the whole time of a peer that has moved this many bytes.
-fn time_for(part: Part, moved: u64) -> Duration
-    ensures message { part ≡ Part.Message → as_nanos result ≡ (5 + moved / 1_048_576) * 1_000_000_000 }
-    ensures rest { part ≡ Part.Rest → as_nanos result ≡ 2_000_000_000 }
+fn time_for(phase: Phase, moved: u64) -> Duration
+    ensures message { phase ≡ Phase.Message → as_nanos result ≡ (5 + moved / 1_048_576) * 1_000_000_000 }
+    ensures rest { phase ≡ Phase.Rest → as_nanos result ≡ 2_000_000_000 }
 {
-    match part {
-        Part::Message => Duration::from_secs(PATIENCE + moved / BYTES_A_SECOND),
-        Part::Rest => Duration::from_secs(REST_PATIENCE),
+    match phase {
+        Phase::Message => Duration::from_secs(PATIENCE + moved / BYTES_A_SECOND),
+        Phase::Rest => Duration::from_secs(REST_PATIENCE),
     }
 }
 

@@ -2,7 +2,7 @@
 ghost use Rattle.std.specs.Prelude.{◌≡◌, ◌==◌, ◌||◌};
 
 use crate::bounds::MOST_DROPPED;
-use crate::pace::{Paced, Part};
+use crate::pace::{Paced, Phase};
 use crate::wait::BoundRead;
 use std::io::{self, Read};
 use std::net::{Shutdown, TcpStream};
@@ -52,7 +52,7 @@ pub(crate) fn drop_rest<C: Clock>(clock: &C, stream: &TcpStream, status: u16) ->
     if !waits {
         stream.set_nonblocking(true)?;
     }
-    skip(Paced::new(Rest { stream, waits }, clock, Part::Rest))
+    skip(Paced::new(Rest { stream, waits }, clock, Phase::Rest))
 }
 
 /// Reads and drops the bytes of a reader, at most `MOST_DROPPED`. Fails if a read fails.

@@ -2,7 +2,7 @@
 use crate::rows::bytes;
 use std::alloc::{AllocError, Global};
 use std::test::Fail;
-use wire::{Memory, Query, RouteTable, Target, target};
+use wire::{Memory, Resource, RouteTable, Target, target};
 
 /// A method and a target, and what they ask for: the word, the key, the path and the version; `-` for an unreadable target.
 pub const ROWS: &str = "\
@@ -91,40 +91,40 @@ HEAD /k/key/example.com/lib/@v/v1.0.0.mod|-
 GET /k/kÿ/example.com/lib/@v/v1.0.0.mod|-
 ";
 
-/// Returns what a query asks for, as a word.
-fn word(query: &Query) -> &'static str {
-    match query {
-        Query::Info { .. } => "info",
-        Query::GoMod { .. } => "mod",
-        Query::Zip { .. } => "zip",
-        Query::List { .. } => "list",
-        Query::Latest { .. } => "latest",
-        Query::Modules => "modules",
-        Query::GoSum { .. } => "sum",
+/// Returns what a resource asks for, as a word.
+fn word(resource: &Resource) -> &'static str {
+    match resource {
+        Resource::Info { .. } => "info",
+        Resource::GoMod { .. } => "mod",
+        Resource::Zip { .. } => "zip",
+        Resource::List { .. } => "list",
+        Resource::Latest { .. } => "latest",
+        Resource::Modules => "modules",
+        Resource::GoSum { .. } => "sum",
     }
 }
 
-/// Returns the path of a query, empty if it names none.
-fn path(query: &Query) -> &str {
-    match query {
-        Query::Info { path, .. }
-        | Query::GoMod { path, .. }
-        | Query::Zip { path, .. }
-        | Query::List { path }
-        | Query::Latest { path }
-        | Query::GoSum { path, .. } => path.as_str(),
-        Query::Modules => "",
+/// Returns the path of a resource, empty if it names none.
+fn path(resource: &Resource) -> &str {
+    match resource {
+        Resource::Info { path, .. }
+        | Resource::GoMod { path, .. }
+        | Resource::Zip { path, .. }
+        | Resource::List { path }
+        | Resource::Latest { path }
+        | Resource::GoSum { path, .. } => path.as_str(),
+        Resource::Modules => "",
     }
 }
 
-/// Returns the version of a query, empty if it names none.
-fn version(query: &Query) -> &str {
-    match query {
-        Query::Info { version, .. }
-        | Query::GoMod { version, .. }
-        | Query::Zip { version, .. }
-        | Query::GoSum { version, .. } => version.as_str(),
-        Query::List { .. } | Query::Latest { .. } | Query::Modules => "",
+/// Returns the version of a resource, empty if it names none.
+fn version(resource: &Resource) -> &str {
+    match resource {
+        Resource::Info { version, .. }
+        | Resource::GoMod { version, .. }
+        | Resource::Zip { version, .. }
+        | Resource::GoSum { version, .. } => version.as_str(),
+        Resource::List { .. } | Resource::Latest { .. } | Resource::Modules => "",
     }
 }
 
@@ -140,13 +140,13 @@ fn shown(alloc: Global, target: &Target) -> Result<String, AllocError> {
                 version.as_str()
             )
         }
-        Target::Get { key, query } => {
+        Target::Get { key, resource } => {
             format!(in alloc;
                 "{} {} {} {}",
-                word(query),
+                word(resource),
                 key.as_str(),
-                path(query),
-                version(query)
+                path(resource),
+                version(resource)
             )
         }
     }

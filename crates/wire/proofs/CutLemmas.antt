@@ -2,7 +2,7 @@
 use Rattle.std.proofs.Common.{◌≡◌, ◌==◌, ℕ, ◌+◌, ◌-◌, List, length, take, drop, Option, Some, None, nat_lt, refl, sym, ap, ◌∙◌, inl, inr}
 use Rattle.std.proofs.lemmas.Bool.{cases_Bool}
 use Rattle.std.specs.List.{position, position_or_len}
-use Rattle.wire.specs.Place.{around}
+use Rattle.wire.specs.ModuleVersion.{around}
 use Rattle.wire.proofs.BegunLemmas.{slice_to_end}
 
 -- a text around what a search found

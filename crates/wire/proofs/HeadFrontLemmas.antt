@@ -13,8 +13,8 @@ use Rattle.httparse.proofs.OpenLemmas.{BlankLines_after, Newline_after_cr, some_
 use Rattle.wire.specs.Framing.{MayBeginHead}
 use Rattle.wire.specs.HeadFront.{HasLines, EndsIn, Stands, WasLookedAt, HasLooked, EndsLine}
 use Rattle.wire.specs.declared.head_front.Looked.{Looked}
-use Rattle.wire.specs.declared.head_front.Place.{Place}
-use Rattle.wire.specs.declared.head_front.Place.TheVariants as place
+use Rattle.wire.specs.declared.head_front.HeadState.{HeadState}
+use Rattle.wire.specs.declared.head_front.HeadState.TheVariants as state
 use Rattle.wire.proofs.HeadLemmas.{front_begins}
 use Rattle.wire.proofs.StreamLemmas.{same_front}
 
@@ -28,22 +28,22 @@ lines_more bytes rest more ((s, fs), (middle, start, lines)) =
 token_more : (word : List ℕ) (b : ℕ) → AllPass is_token_byte word → is_token_byte b ≡ true → IsToken (word ++ b ∷ [])
 token_more word b all token = (omega (arith, length_push word b), All-push (λ v. is_token_byte v ≡ true) word b all token)
 
-pub blank_feed : (bytes : List ℕ) → EndsIn place.Blank bytes → EndsIn place.Blank (bytes ++ 10 ∷ [])
+pub blank_feed : (bytes : List ℕ) → EndsIn state.Blank bytes → EndsIn state.Blank (bytes ++ 10 ∷ [])
 blank_feed bytes (ends, e) = (ends ++ lf ∷ [], ap (λ (t : List ℕ). t ++ 10 ∷ []) e ∙ sym (flat_map-append print_end ends (lf ∷ [])))
 
-pub blank_return : (bytes : List ℕ) → EndsIn place.Blank bytes → EndsIn place.BlankReturn (bytes ++ 13 ∷ [])
+pub blank_return : (bytes : List ℕ) → EndsIn state.Blank bytes → EndsIn state.BlankReturn (bytes ++ 13 ∷ [])
 blank_return bytes (ends, e) = (ends, ap (λ (t : List ℕ). t ++ 13 ∷ []) e)
 
-pub return_feed : (bytes : List ℕ) → EndsIn place.BlankReturn bytes → EndsIn place.Blank (bytes ++ 10 ∷ [])
+pub return_feed : (bytes : List ℕ) → EndsIn state.BlankReturn bytes → EndsIn state.Blank (bytes ++ 10 ∷ [])
 return_feed bytes (ends, e) = (
   ends ++ crlf ∷ [],
   ap (λ (t : List ℕ). t ++ 10 ∷ []) e ∙ append_assoc (print_blank ends) (13 ∷ []) (10 ∷ []) ∙ sym (flat_map-append print_end ends (crlf ∷ [])),
 )
 
-pub blank_token : (bytes : List ℕ) (b : ℕ) → is_token_byte b ≡ true → EndsIn place.Blank bytes → EndsIn place.Method (bytes ++ b ∷ [])
+pub blank_token : (bytes : List ℕ) (b : ℕ) → is_token_byte b ≡ true → EndsIn state.Blank bytes → EndsIn state.Method (bytes ++ b ∷ [])
 blank_token bytes b token (ends, e) = (ends, b ∷ [], token_more [] b (All-nil _) token, ap (λ (t : List ℕ). t ++ b ∷ []) e)
 
-pub method_token : (bytes : List ℕ) (b : ℕ) → is_token_byte b ≡ true → EndsIn place.Method bytes → EndsIn place.Method (bytes ++ b ∷ [])
+pub method_token : (bytes : List ℕ) (b : ℕ) → is_token_byte b ≡ true → EndsIn state.Method bytes → EndsIn state.Method (bytes ++ b ∷ [])
 method_token bytes b token (ends, m, word, e) = (
   ends,
   m ++ b ∷ [],
@@ -51,11 +51,11 @@ method_token bytes b token (ends, m, word, e) = (
   ap (λ (t : List ℕ). t ++ b ∷ []) e ∙ append_assoc (print_blank ends) m (b ∷ []),
 )
 
-pub method_space : (bytes : List ℕ) → EndsIn place.Method bytes → EndsIn place.Target (bytes ++ 32 ∷ [])
+pub method_space : (bytes : List ℕ) → EndsIn state.Method bytes → EndsIn state.Target (bytes ++ 32 ∷ [])
 method_space bytes (ends, m, word, e) = (ends, m, [], word, All-nil _, ap (λ (t : List ℕ). t ++ 32 ∷ []) e)
 
 -- bytes that end in a target still do after one more byte of a target
-pub target_more : (bytes : List ℕ) (b : ℕ) → is_uri_byte b ≡ true → EndsIn place.Target bytes → EndsIn place.Target (bytes ++ b ∷ [])
+pub target_more : (bytes : List ℕ) (b : ℕ) → is_uri_byte b ≡ true → EndsIn state.Target bytes → EndsIn state.Target (bytes ++ b ∷ [])
 target_more bytes b uri (ends, m, t, word, all, e) = (
   ends,
   m,
@@ -68,19 +68,19 @@ target_more bytes b uri (ends, m, t, word, all, e) = (
     regroup : (x m t y : List ℕ) → (x ++ m ++ 32 ∷ t) ++ y ≡ x ++ m ++ 32 ∷ (t ++ y)
     regroup x m t y = simp (append_assoc, cons-append)
 
-pub line_token : (bytes : List ℕ) (b : ℕ) → is_token_byte b ≡ true → EndsIn place.Line bytes → EndsIn place.HeaderName (bytes ++ b ∷ [])
+pub line_token : (bytes : List ℕ) (b : ℕ) → is_token_byte b ≡ true → EndsIn state.Line bytes → EndsIn state.HeaderName (bytes ++ b ∷ [])
 line_token bytes b token lines = (b ∷ [], token_more [] b (All-nil _) token, lines_more bytes [] (b ∷ []) lines)
 
-pub name_token : (bytes : List ℕ) (b : ℕ) → is_token_byte b ≡ true → EndsIn place.HeaderName bytes → EndsIn place.HeaderName (bytes ++ b ∷ [])
+pub name_token : (bytes : List ℕ) (b : ℕ) → is_token_byte b ≡ true → EndsIn state.HeaderName bytes → EndsIn state.HeaderName (bytes ++ b ∷ [])
 name_token bytes b token (name, word, lines) = (name ++ b ∷ [], token_more name b word.1 token, lines_more bytes name (b ∷ []) lines)
 
-pub name_colon : (bytes : List ℕ) → EndsIn place.HeaderName bytes → EndsIn place.HeaderValue (bytes ++ 58 ∷ [])
+pub name_colon : (bytes : List ℕ) → EndsIn state.HeaderName bytes → EndsIn state.HeaderValue (bytes ++ 58 ∷ [])
 name_colon bytes (name, word, lines) = (name, [], word, All-nil _, lines_more bytes name (58 ∷ []) lines)
 
 value_behind : (name raw : List ℕ) (b : ℕ) → (name ++ 58 ∷ raw) ++ b ∷ [] ≡ name ++ 58 ∷ (raw ++ b ∷ [])
 value_behind name raw b = append_assoc name (58 ∷ raw) (b ∷ [])
 
-pub value_more : (bytes : List ℕ) (b : ℕ) → is_value_byte b ≡ true → EndsIn place.HeaderValue bytes → EndsIn place.HeaderValue (bytes ++ b ∷ [])
+pub value_more : (bytes : List ℕ) (b : ℕ) → is_value_byte b ≡ true → EndsIn state.HeaderValue bytes → EndsIn state.HeaderValue (bytes ++ b ∷ [])
 value_more bytes b value (name, raw, word, all, lines) = (
   name,
   raw ++ b ∷ [],
@@ -89,7 +89,7 @@ value_more bytes b value (name, raw, word, all, lines) = (
   subst (HasLines (bytes ++ b ∷ [])) (value_behind name raw b) (lines_more bytes _ (b ∷ []) lines),
 )
 
-pub value_return : (bytes : List ℕ) → EndsIn place.HeaderValue bytes → EndsIn place.Return (bytes ++ 13 ∷ [])
+pub value_return : (bytes : List ℕ) → EndsIn state.HeaderValue bytes → EndsIn state.Return (bytes ++ 13 ∷ [])
 value_return bytes (name, raw, word, all, lines) =
     (name, raw, word, all, lines_more bytes (name ++ 58 ∷ raw) (13 ∷ []) lines)
 
@@ -140,7 +140,7 @@ no_blank (x ∷ es) [] q stops e = newline_not_stopped x (print_blank es) q e st
 no_blank (x ∷ es) (y ∷ bs) q stops e =
     no_blank es bs q stops (print_end_unique x y (print_blank es) (print_blank bs ++ q) (e ∙ append_assoc (print_end y) (print_blank bs) q)).1
 
-pub blank_none : (bytes : List ℕ) → EndsIn place.Blank bytes → HasNoRequest bytes
+pub blank_none : (bytes : List ℕ) → EndsIn state.Blank bytes → HasNoRequest bytes
 blank_none bytes (ends, e) h rest reads =
     no_blank ends h.blank _ (Stops_token h.method _ reads.0.method.0 reads.0.method.1) (sym e ∙ reads.1 ∙ print_request-append h rest)
 
@@ -168,18 +168,18 @@ pub value_other : (b : ℕ) → true ≡ is_value_byte b → b ≢ 10
 value_other b value e = cc (value ∙ ap is_value_byte e)
 
 -- a byte that is no line feed
-pub step : (self p q : Place) (bytes : List ℕ) (b v : ℕ) → self ≡ p → b ≡ v → v ≢ 10
+pub step : (self p q : HeadState) (bytes : List ℕ) (b v : ℕ) → self ≡ p → b ≡ v → v ≢ 10
     → (EndsIn p bytes → EndsIn q (bytes ++ v ∷ [])) → Stands self bytes → Stands q (bytes ++ b ∷ [])
 step self p q bytes b v is same other f stands =
     subst (λ (x : ℕ). Stands q (bytes ++ x ∷ [])) (sym same)
-    (f (subst (λ (s : Place). EndsIn s bytes) is stands.0), none_more bytes v other stands.1)
+    (f (subst (λ (s : HeadState). EndsIn s bytes) is stands.0), none_more bytes v other stands.1)
 
 -- the line feed of an empty line
-pub step_feed : (self p : Place) (bytes : List ℕ) (b : ℕ) → self ≡ p → b ≡ 10
-    → (EndsIn p bytes → EndsIn place.Blank (bytes ++ 10 ∷ [])) → Stands self bytes → Stands place.Blank (bytes ++ b ∷ [])
+pub step_feed : (self p : HeadState) (bytes : List ℕ) (b : ℕ) → self ≡ p → b ≡ 10
+    → (EndsIn p bytes → EndsIn state.Blank (bytes ++ 10 ∷ [])) → Stands self bytes → Stands state.Blank (bytes ++ b ∷ [])
 step_feed self p bytes b is same f stands =
-    let ends = f (subst (λ (s : Place). EndsIn s bytes) is stands.0) in
-    subst (λ (x : ℕ). Stands place.Blank (bytes ++ x ∷ [])) (sym same) (ends, blank_none (bytes ++ 10 ∷ []) ends)
+    let ends = f (subst (λ (s : HeadState). EndsIn s bytes) is stands.0) in
+    subst (λ (x : ℕ). Stands state.Blank (bytes ++ x ∷ [])) (sym same) (ends, blank_none (bytes ++ 10 ∷ []) ends)
 
 -- ---- a head may begin so
 
@@ -209,35 +209,35 @@ lines_may bytes rest ((s, fs), (middle, start, lines)) line =
     request_may (Completes_next RequestStart_deterministic {a = s} start (Section_after_lines fs lines (Section_of_line (inr line))))
 
 -- bytes that end in a part of a head may become a head
-pub place_may : (p : Place) (bytes : List ℕ) → EndsIn p bytes → MayBecomeRequest bytes
-place_may place.Blank bytes (ends, e) =
+pub state_may : (p : HeadState) (bytes : List ℕ) → EndsIn p bytes → MayBecomeRequest bytes
+state_may state.Blank bytes (ends, e) =
     request_may_from_line (inl (line_blank (BlankLines_after ends (e ∙ sym (append-nil (print_blank ends))) some_newline)))
-place_may place.BlankReturn bytes (ends, e) = request_may_from_line (inl (line_blank (BlankLines_after ends e (Newline_after_cr refl))))
-place_may place.Method bytes (ends, m, word, e) =
+state_may state.BlankReturn bytes (ends, e) = request_may_from_line (inl (line_blank (BlankLines_after ends e (Newline_after_cr refl))))
+state_may state.Method bytes (ends, m, word, e) =
     let stops = subst (Stops is_newline) (append-nil m) (Stops_token m [] word.0 word.1) in
     request_may_from_line (inl (line_method ends (e, stops) (Word_cut is_token_byte 32 65 letter_is_token word.1)))
-place_may place.Target bytes target = inr target
-place_may place.Line bytes ((s, fs), (middle, start, lines)) =
+state_may state.Target bytes target = inr target
+state_may state.Line bytes ((s, fs), (middle, start, lines)) =
     request_may (Completes_next RequestStart_deterministic {a = s} start (Section_after_lines fs lines some_section))
-place_may place.HeaderName bytes (name, word, lines) =
+state_may state.HeaderName bytes (name, word, lines) =
     lines_may bytes name lines (FieldLine_of_row (Completes_first (Word_cut is_token_byte 58 65 letter_is_token word.1) some_text))
-place_may place.HeaderValue bytes (name, raw, word, all, lines) = lines_may bytes _ lines (field_line name raw word all)
-place_may place.Return bytes (name, raw, word, all, lines) = lines_may bytes _ lines (field_return name raw word all)
+state_may state.HeaderValue bytes (name, raw, word, all, lines) = lines_may bytes _ lines (field_line name raw word all)
+state_may state.Return bytes (name, raw, word, all, lines) = lines_may bytes _ lines (field_return name raw word all)
 
 -- ---- what was looked at
 
 -- all of the bytes, where they end in that part
-all_looked_at : (p : Place) (bytes : List ℕ) → Stands p bytes → WasLookedAt bytes (record { place = p; len = length bytes })
+all_looked_at : (p : HeadState) (bytes : List ℕ) → Stands p bytes → WasLookedAt bytes (record { state = p; len = length bytes })
 all_looked_at p bytes at = record { fits = omega arith; stands = subst (Stands p) (sym (take_all (length bytes) bytes (omega arith))) at }
 
 -- the bytes that have come since lead to that part
-pub looked_on : (bytes more : List ℕ) (looked : Looked) (p : Place) → WasLookedAt bytes looked → more ≡ drop looked.len bytes
-    → ((front : List ℕ) → Stands looked.place front → Stands p (front ++ more)) → length bytes < 16384
-    → WasLookedAt bytes (record { place = p; len = length bytes }) × MayBeginHead bytes
+pub looked_on : (bytes more : List ℕ) (looked : Looked) (p : HeadState) → WasLookedAt bytes looked → more ≡ drop looked.len bytes
+    → ((front : List ℕ) → Stands looked.state front → Stands p (front ++ more)) → length bytes < 16384
+    → WasLookedAt bytes (record { state = p; len = length bytes }) × MayBeginHead bytes
 looked_on bytes more looked p was is leads short =
     let whole = ap (λ (t : List ℕ). take looked.len bytes ++ t) is ∙ take-append-drop looked.len bytes in
     let at = subst (Stands p) whole (leads (take looked.len bytes) was.stands) in
-    (all_looked_at p bytes at, (at.1, place_may p bytes at.0, short))
+    (all_looked_at p bytes at, (at.1, state_may p bytes at.0, short))
 
 -- what is looked at still is where more bytes come
 pub looked_more : (bytes more : List ℕ) (looked : Looked) → WasLookedAt bytes looked → WasLookedAt (bytes ++ more) looked
@@ -245,7 +245,7 @@ looked_more bytes more looked was =
     let fits = was.fits in
     record {
       fits = omega (arith, fits, length-append bytes more);
-      stands = subst (Stands looked.place) (sym (take-append-le looked.len bytes more fits)) was.stands;
+      stands = subst (Stands looked.state) (sym (take-append-le looked.len bytes more fits)) was.stands;
     }
 
 pub has_looked_more : (bytes more : List ℕ) (looked : Option Looked) → HasLooked bytes looked → HasLooked (bytes ++ more) looked
@@ -266,8 +266,8 @@ has_looked bytes None was = has_not_looked bytes
 has_looked bytes (Some looked) was = has_looked_at bytes looked was
 
 -- the part that the lines at the front end in, and the part behind the last line
-pub looked_behind : (bytes front tail : List ℕ) (q p : Place) → MayBeginHead bytes → front ++ tail ≡ bytes → EndsLine front
+pub looked_behind : (bytes front tail : List ℕ) (q p : HeadState) → MayBeginHead bytes → front ++ tail ≡ bytes → EndsLine front
     → ((rest : List ℕ) → EndsLine front → MayBeginHead (front ++ rest) → Stands q front)
-    → ((bs : List ℕ) → Stands q bs → Stands p (bs ++ tail)) → WasLookedAt bytes (record { place = p; len = length bytes })
+    → ((bs : List ℕ) → Stands q bs → Stands p (bs ++ tail)) → WasLookedAt bytes (record { state = p; len = length bytes })
 looked_behind bytes front tail q p may whole ends first leads =
     all_looked_at p bytes (subst (Stands p) whole (leads front (first tail ends (subst MayBeginHead (sym whole) may))))

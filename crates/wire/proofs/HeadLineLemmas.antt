@@ -12,7 +12,7 @@ use Rattle.httparse.proofs.GrammarLemmas.{print_request-append, cons-append, Rea
 use Rattle.httparse.proofs.PieceLemmas.{Stops_token, front-append}
 use Rattle.wire.specs.Framing.{MayBeginHead}
 use Rattle.wire.specs.HeadFront.{EndsIn, EndsLine, Stands}
-use Rattle.wire.specs.declared.head_front.Place.TheVariants as place
+use Rattle.wire.specs.declared.head_front.HeadState.TheVariants as state
 
 -- ---- lines
 
@@ -191,7 +191,7 @@ cut_headers (f ∷ fs) last front rest after all ends e =
 -- ---- what may become a head
 
 abbrev BlankOrLines : List ℕ → Type 0
-BlankOrLines front = EndsIn place.Blank front ⊎ EndsIn place.Line front
+BlankOrLines front = EndsIn state.Blank front ⊎ EndsIn state.Line front
 
 -- the bytes of a head that may come, cut behind its empty lines
 start_regroup : (m t v e s : List ℕ) → m ++ 32 ∷ (t ++ 32 ∷ (v ++ (e ++ s))) ≡ ((m ++ 32 ∷ (t ++ 32 ∷ v)) ++ e) ++ s
@@ -269,12 +269,12 @@ stops_not : (q : List ℕ) → Stops is_newline q → list_all is_newline q ≡ 
 stops_not [] stops all = stops
 stops_not (b ∷ q) stops all = cc (stops, (and_parts (is_newline b) (list_all is_newline q) all).0)
 
-pub newlines_blank : (front : List ℕ) → list_all is_newline front ≡ true → BlankOrLines front → EndsIn place.Blank front
+pub newlines_blank : (front : List ℕ) → list_all is_newline front ≡ true → BlankOrLines front → EndsIn state.Blank front
 newlines_blank front all (inl blank) = blank
 newlines_blank front all (inr ((s, fs), (middle, (q, (e, stops), start), lines))) =
     absurd (stops_not q stops (and_parts (list_all is_newline (print_blank s.0)) (list_all is_newline q) (sym (list_all-append is_newline (print_blank s.0) q) ∙ ap (list_all is_newline) (sym e) ∙ all)).1)
 
-pub others_lines : (front : List ℕ) → list_all is_newline front ≡ false → BlankOrLines front → EndsIn place.Line front
+pub others_lines : (front : List ℕ) → list_all is_newline front ≡ false → BlankOrLines front → EndsIn state.Line front
 others_lines front some (inl (ends, e)) = absurd (cc (ap (list_all is_newline) e ∙ blank_newlines ends, some))
 others_lines front some (inr lines) = lines
 
@@ -282,10 +282,10 @@ front_none : (front tail : List ℕ) → HasNoRequest (front ++ tail) → HasNoR
 front_none front tail none h rest reads = none h (rest ++ tail) (ReadsRequest-append front h rest tail reads)
 
 -- the front of what may become a head stands behind empty lines, or behind others
-pub first_blank : (front tail : List ℕ) → true ≡ list_all is_newline front → EndsLine front → MayBeginHead (front ++ tail) → Stands place.Blank front
+pub first_blank : (front tail : List ℕ) → true ≡ list_all is_newline front → EndsLine front → MayBeginHead (front ++ tail) → Stands state.Blank front
 first_blank front tail all ends may = (newlines_blank front (sym all) (lines_of front tail ends may.0 may.1), front_none front tail may.0)
 
-pub first_line : (front tail : List ℕ) → false ≡ list_all is_newline front → EndsLine front → MayBeginHead (front ++ tail) → Stands place.Line front
+pub first_line : (front tail : List ℕ) → false ≡ list_all is_newline front → EndsLine front → MayBeginHead (front ++ tail) → Stands state.Line front
 first_line front tail some ends may = (others_lines front (sym some) (lines_of front tail ends may.0 may.1), front_none front tail may.0)
 
 -- ---- where the last line begins

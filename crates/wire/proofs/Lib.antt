@@ -17,7 +17,7 @@ pub mod RouteLemmas
 pub mod WalkLemmas
 pub mod TargetLemmas
 pub mod RouteReadings
-pub mod PlaceReadings
-pub mod QueryReadings
+pub mod ModuleVersionReadings
+pub mod ResourceReadings
 pub mod TargetReadings
 pub mod TextTargets

@@ -10,7 +10,7 @@ use Rattle.modpath.specs.declared.escaping.EscapeFault.{EscapeFault}
 use Rattle.modpath.specs.declared.escaping.EscapeFault.TheVariants as refused
 use Rattle.modpath.specs.Escape.{IsUnescaped, escape_fault, escaped, has_bang}
 use Rattle.modpath.proofs.EscapeLaw.{faults_are_exact}
-use Rattle.wire.specs.Place.{plain_of, stands_for_itself, unescaped}
+use Rattle.wire.specs.ModuleVersion.{plain_of, stands_for_itself, unescaped}
 
 -- the escaped form undone
 pub unescaped-escaped : (plain : List ℕ) → has_bang plain ≡ false → unescaped (escaped plain) ≡ plain

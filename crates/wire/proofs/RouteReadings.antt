@@ -11,7 +11,7 @@ use Rattle.std.specs.Str.{IsUtf8}
 use Rattle.matchit.specs.Params.{Shows, walk}
 use Rattle.matchit.specs.Router.{RouteOf}
 use Rattle.matchit.specs.Seek.{first}
-use Rattle.wire.specs.Place.{around, without_start}
+use Rattle.wire.specs.ModuleVersion.{around, without_start}
 use Rattle.wire.specs.Route.{area_of, is_own, path_route, routed_of, routes, shelf_route, split_of, with_key}
 use Rattle.wire.specs.declared.routes.Area.{Area}
 use Rattle.wire.specs.declared.routes.Area.TheVariants as area

@@ -8,7 +8,7 @@ use Rattle.std.proofs.lemmas.List.Sums.{passes_at_first, split_at_first}
 use Rattle.std.specs.Cmp.Lexicographic.{pointwise, pointwise_decides}
 use Rattle.std.specs.List.{after_first, before_first, list_any, position_or_len}
 use Rattle.std.specs.Option.{option_and_then, option_map}
-use Rattle.wire.specs.Place.{around, cut_of, without_end, without_slash, without_start}
+use Rattle.wire.specs.ModuleVersion.{around, cut_of, without_end, without_slash, without_start}
 
 -- ---- options
 
@@ -39,12 +39,12 @@ start-is start text rest h =
     let same : take (length start) text ≡ start = (pointwise_decides Decides-eqb _ start).0 found.0 in
     sym (take-append-drop (length start) text) ∙ ap (λ (l : List ℕ). l ++ drop (length start) text) same ∙ ap (λ (l : List ℕ). start ++ l) found.1
 
-end-place : (front ending : List ℕ) → length (front ++ ending) - length ending ≡ length front
-end-place front ending = omega (arith, length-append front ending)
+end-length : (front ending : List ℕ) → length (front ++ ending) - length ending ≡ length front
+end-length front ending = omega (arith, length-append front ending)
 
 pub end-taken : (ending front : List ℕ) → without_end ending (front ++ ending) ≡ Some front
 end-taken ending front =
-    rw (end-place front ending, drop_at front ending (length front) refl, same-pointwise ending, take_at front ending (length front) refl) refl
+    rw (end-length front ending, drop_at front ending (length front) refl, same-pointwise ending, take_at front ending (length front) refl) refl
 
 pub end-is : (ending text front : List ℕ) → without_end ending text ≡ Some front → text ≡ front ++ ending
 end-is ending text front h =

@@ -7,19 +7,19 @@ use Rattle.std.specs.Str.{IsUtf8, is_utf8}
 use Rattle.percent_encoding.specs.Percent.{percent_decode}
 use Rattle.modpath.specs.Escape.{escaped}
 use Rattle.modver.specs.SemanticVersion.{version_text}
-use Rattle.wire.specs.Place.{place_of}
-use Rattle.wire.specs.Query.{query_in}
+use Rattle.wire.specs.ModuleVersion.{module_version_of}
+use Rattle.wire.specs.Resource.{resource_in}
 use Rattle.wire.specs.Route.{area_of, routed_of}
-use Rattle.wire.specs.Target.{Asks, IsKeyed, ReadsTarget, asked_or, get_of, place_in, put_of, target_of}
+use Rattle.wire.specs.Target.{Asks, IsKeyed, ReadsTarget, asked_or, get_of, module_version_in, put_of, target_of}
 use Rattle.wire.specs.declared.routes.Area.{Area}
 use Rattle.wire.specs.declared.routes.Area.TheVariants as area
 use Rattle.wire.specs.declared.message.Memory.{Memory}
-use Rattle.wire.specs.declared.places.Place.{Place}
-use Rattle.wire.specs.declared.request.Query.{Query}
+use Rattle.wire.specs.declared.module_version.ModuleVersion.{ModuleVersion}
+use Rattle.wire.specs.declared.request.Resource.{Resource}
 use Rattle.wire.specs.declared.request.Target.{Target}
 use Rattle.wire.specs.declared.request.Target.TheVariants as target
-use Rattle.wire.proofs.PlaceReadings.{place-is, place-taken}
-use Rattle.wire.proofs.QueryReadings.{path-area, query-is, query-taken, same-text}
+use Rattle.wire.proofs.ModuleVersionReadings.{module-version-is, module-version-taken}
+use Rattle.wire.proofs.ResourceReadings.{path-area, resource-is, resource-taken, same-text}
 use Rattle.wire.proofs.RouteReadings.{area-is, routed-is, routed-taken, split-utf8}
 use Rattle.wire.proofs.TextTargets.{keyed-split, readable-text}
 
@@ -30,17 +30,17 @@ AsksAny method text (target.Get key asked) = Asks method text (target.Get key as
 AsksAny method text (target.Put key path version) = Asks method text (target.Put key path version)
 
 get-asks : (method text key behind rest : List ℕ) (a : Area) → method ≡ codes "GET" → IsKeyed text key behind → area_of behind ≡ Some (a, rest)
-    → (found : Option Query) → query_in a rest ≡ found → AsksAny method text (get_of key found)
+    → (found : Option Resource) → resource_in a rest ≡ found → AsksAny method text (get_of key found)
 get-asks method text key behind rest a m keyed in_area None e = tt
-get-asks method text key behind rest a m keyed in_area (Some asked) e = (m, (behind, keyed, query-is behind rest a asked in_area e))
+get-asks method text key behind rest a m keyed in_area (Some asked) e = (m, (behind, keyed, resource-is behind rest a asked in_area e))
 
 put-asks : (method text key behind rest : List ℕ) (a : Area) → method ≡ codes "PUT" → IsKeyed text key behind → area_of behind ≡ Some (a, rest)
-    → (found : Option Place) → place_in a rest ≡ found → AsksAny method text (put_of key found)
+    → (found : Option ModuleVersion) → module_version_in a rest ≡ found → AsksAny method text (put_of key found)
 put-asks method text key behind rest a m keyed in_area None e = tt
-put-asks method text key behind rest area.Shelf m keyed in_area (Some place) e = cc e
-put-asks method text key behind rest area.Path m keyed in_area (Some place) e =
+put-asks method text key behind rest area.Shelf m keyed in_area (Some found) e = cc e
+put-asks method text key behind rest area.Path m keyed in_area (Some found) e =
     let same = area-is behind rest area.Path in_area in
-    (m, (behind, keyed, place-is (percent_decode behind) place (subst (λ (l : List ℕ). place_of (percent_decode l) ≡ Some place) (sym same) e)))
+    (m, (behind, keyed, module-version-is (percent_decode behind) found (subst (λ (l : List ℕ). module_version_of (percent_decode l) ≡ Some found) (sym same) e)))
 
 -- what is computed by the route of a target is what the request asks for, unless it is unreadable
 route-asks : (method text : List ℕ) → IsUtf8 text → (found : Option (Area × List ℕ × List ℕ)) → routed_of text ≡ found → AsksAny method text (asked_or method found)
@@ -50,9 +50,9 @@ route-asks method text utf8 (Some (a, key, rest)) e =
     let split = is.1 in
     let keyed : IsKeyed text key is.0 = record { whole = split.whole; some = split.some; no_slash = split.no_slash; is_text = (split-utf8 text key is.0 split utf8).0 } in
     elim (cases_Bool (pointwise nat_eq method (codes "GET"))) [
-      | inl get ↦ rw get (get-asks method text key is.0 rest a (same-text method (codes "GET") get) keyed is.2 (query_in a rest) refl)
+      | inl get ↦ rw get (get-asks method text key is.0 rest a (same-text method (codes "GET") get) keyed is.2 (resource_in a rest) refl)
       | inr other ↦ elim (cases_Bool (pointwise nat_eq method (codes "PUT"))) [
-        | inl put ↦ rw (other, put) (put-asks method text key is.0 rest a (same-text method (codes "PUT") put) keyed is.2 (place_in a rest) refl)
+        | inl put ↦ rw (other, put) (put-asks method text key is.0 rest a (same-text method (codes "PUT") put) keyed is.2 (module_version_in a rest) refl)
         | inr neither ↦ rw (other, neither) tt
       ]
     ]
@@ -70,16 +70,16 @@ unfolding target_of
 target-taken method text target.Unreadable a = absurd a
 target-taken method text (target.Get key asked) a =
     let utf8 = is_utf8-from_IsUtf8 text (readable-text method text (target.Get key asked) a).0 in
-    let taken = query-taken a.1.0 asked a.1.2 in
+    let taken = resource-taken a.1.0 asked a.1.2 in
     let routed = routed-taken text key a.1.0 (taken.where_is, taken.behind) (keyed-split text key a.1.0 a.1.1) taken.found in
     rw (a.0, utf8, routed, taken.taken) refl
 target-taken method text (target.Put key path version) a =
     let utf8 = is_utf8-from_IsUtf8 text (readable-text method text (target.Put key path version) a).0 in
     let rest = a.1.0 in
-    let place = a.1.2 in
-    let in_area = path-area rest path (64 ∷ (codes "v/" ++ (escaped (version_text version) ++ []))) place.whole place.path_is in
+    let named = a.1.2 in
+    let in_area = path-area rest path (64 ∷ (codes "v/" ++ (escaped (version_text version) ++ []))) named.whole named.path_is in
     let routed = routed-taken text key rest (area.Path, rest) (keyed-split text key rest a.1.1) in_area in
-    rw (a.0, utf8, routed, place-taken (percent_decode rest) path version place) refl
+    rw (a.0, utf8, routed, module-version-taken (percent_decode rest) path version named) refl
 
 unreadable : (method text : List ℕ) (asked : Target) → target_of method text ≡ target.Unreadable → ¬ (Asks method text asked)
 unreadable method text asked e a = subst (Asks method text) (sym (target-taken method text asked a) ∙ e) a

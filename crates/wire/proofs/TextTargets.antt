@@ -9,14 +9,14 @@ use Rattle.std.specs.Str.{IsAscii, IsUtf8}
 use Rattle.percent_encoding.specs.Percent.{is_escape, percent_decode}
 use Rattle.modpath.specs.Escape.{escaped}
 use Rattle.modver.specs.SemanticVersion.{SemanticVersion, version_text}
-use Rattle.wire.specs.Place.{IsPathWith, IsPlace}
-use Rattle.wire.specs.Query.{IsOwn, IsQuery}
+use Rattle.wire.specs.ModuleVersion.{IsPathWith, IsModuleVersion}
+use Rattle.wire.specs.Resource.{IsOwn, IsResource}
 use Rattle.wire.specs.Target.{Asks, IsKeyed, IsTextThroughout}
-use Rattle.wire.specs.declared.request.Query.{Query}
-use Rattle.wire.specs.declared.request.Query.TheVariants as query
+use Rattle.wire.specs.declared.request.Resource.{Resource}
+use Rattle.wire.specs.declared.request.Resource.TheVariants as resource
 use Rattle.wire.specs.declared.request.Target.{Target}
 use Rattle.wire.specs.declared.request.Target.TheVariants as target
-use Rattle.wire.proofs.QueryReadings.{dash-decoded}
+use Rattle.wire.proofs.ResourceReadings.{dash-decoded}
 use Rattle.wire.proofs.PlainBytes.{ascii-from, escaped-ascii, path-plain, version-plain}
 use Rattle.wire.proofs.RouteReadings.{IsSplit, split-taken}
 
@@ -54,8 +54,8 @@ decoded-from (b ∷ high ∷ low ∷ rest) h = elim (cases_Bool (is_escape b hig
       IsAscii-cons b (high ∷ low ∷ rest) (decoded 0) (decoded-from (high ∷ low ∷ rest) (λ i. decoded (suc i)))
 ]
 
-place-ascii : (text path : List ℕ) (version : SemanticVersion) (ending : List ℕ) → IsAscii ending → IsPlace text path version ending → IsAscii text
-place-ascii text path version ending plain is =
+module-version-ascii : (text path : List ℕ) (version : SemanticVersion) (ending : List ℕ) → IsAscii ending → IsModuleVersion text path version ending → IsAscii text
+module-version-ascii text path version ending plain is =
     let name = IsAscii-append (escaped (version_text version)) ending (escaped-ascii (version_text version) (version-plain version is.version_is.valid)) plain in
     let behind = IsAscii-append (codes "/@v/") (escaped (version_text version) ++ ending) (ascii-from (codes "/@v/") refl) name in
     subst IsAscii (sym is.whole) (IsAscii-append (escaped path) (codes "/@v/" ++ (escaped (version_text version) ++ ending)) (escaped-ascii path (path-plain path is.path_is)) behind)
@@ -84,20 +84,20 @@ own-ascii rest text plain is =
     let decoded : percent_decode rest ≡ codes "-/" ++ text = ap percent_decode is.whole ∙ dash-decoded is.behind ∙ (λ i. codes "-/" ++ is.decodes i) in
     subst IsAscii (sym decoded) (IsAscii-append (codes "-/") text (ascii-from (codes "-/") refl) plain)
 
--- a rest that is a query decodes to ASCII
-query-ascii : (rest : List ℕ) (asked : Query) → IsQuery rest asked → IsAscii (percent_decode rest)
-query-ascii rest (query.Info path version) is = place-ascii (percent_decode rest) path version (codes ".info") (ascii-from (codes ".info") refl) is
-query-ascii rest (query.GoMod path version) is = place-ascii (percent_decode rest) path version (codes ".mod") (ascii-from (codes ".mod") refl) is
-query-ascii rest (query.Zip path version) is = place-ascii (percent_decode rest) path version (codes ".zip") (ascii-from (codes ".zip") refl) is
-query-ascii rest (query.List path) is = path-ascii (percent_decode rest) path (codes "/@v/list") (ascii-from (codes "/@v/list") refl) is
-query-ascii rest (query.Latest path) is = path-ascii (percent_decode rest) path (codes "/@latest") (ascii-from (codes "/@latest") refl) is
-query-ascii rest query.Modules is = own-ascii rest (codes "modules") (ascii-from (codes "modules") refl) is
-query-ascii rest (query.GoSum path version) is =
-    let plain = IsAscii-append (codes "gosum/") is.text (ascii-from (codes "gosum/") refl) (place-ascii is.text path version [] IsAscii-nil is.place) in
+-- a rest that asks for something decodes to ASCII
+resource-ascii : (rest : List ℕ) (asked : Resource) → IsResource rest asked → IsAscii (percent_decode rest)
+resource-ascii rest (resource.Info path version) is = module-version-ascii (percent_decode rest) path version (codes ".info") (ascii-from (codes ".info") refl) is
+resource-ascii rest (resource.GoMod path version) is = module-version-ascii (percent_decode rest) path version (codes ".mod") (ascii-from (codes ".mod") refl) is
+resource-ascii rest (resource.Zip path version) is = module-version-ascii (percent_decode rest) path version (codes ".zip") (ascii-from (codes ".zip") refl) is
+resource-ascii rest (resource.List path) is = path-ascii (percent_decode rest) path (codes "/@v/list") (ascii-from (codes "/@v/list") refl) is
+resource-ascii rest (resource.Latest path) is = path-ascii (percent_decode rest) path (codes "/@latest") (ascii-from (codes "/@latest") refl) is
+resource-ascii rest resource.Modules is = own-ascii rest (codes "modules") (ascii-from (codes "modules") refl) is
+resource-ascii rest (resource.GoSum path version) is =
+    let plain = IsAscii-append (codes "gosum/") is.text (ascii-from (codes "gosum/") refl) (module-version-ascii is.text path version [] IsAscii-nil is.named) in
     own-ascii rest (codes "gosum/" ++ is.text) plain is.own
 
 pub readable-text : (method text : List ℕ) (asked : Target) → Asks method text asked → IsTextThroughout text
 readable-text method text target.Unreadable a = absurd a
-readable-text method text (target.Get key asked) a = throughout text key a.1.0 a.1.1 (query-ascii a.1.0 asked a.1.2)
+readable-text method text (target.Get key asked) a = throughout text key a.1.0 a.1.1 (resource-ascii a.1.0 asked a.1.2)
 readable-text method text (target.Put key path version) a =
-    throughout text key a.1.0 a.1.1 (place-ascii (percent_decode a.1.0) path version [] IsAscii-nil a.1.2)
+    throughout text key a.1.0 a.1.1 (module-version-ascii (percent_decode a.1.0) path version [] IsAscii-nil a.1.2)

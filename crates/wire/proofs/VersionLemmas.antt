@@ -5,7 +5,7 @@ use Rattle.modver.specs.Reading.{IsCanonical, IsFault, IsHeld, version_of}
 use Rattle.modver.specs.SemanticVersion.{SemanticVersion}
 use Rattle.modver.specs.declared.version.VersionFault.{VersionFault}
 use Rattle.modver.specs.declared.version.VersionFault.TheVariants as refused
-use Rattle.wire.specs.Place.{plain_of, version_from}
+use Rattle.wire.specs.ModuleVersion.{plain_of, version_from}
 
 pub version-some : (text plain : List ℕ) (v : SemanticVersion) → plain_of text ≡ Some plain → IsCanonical plain v → version_from text ≡ Some v
 version-some text plain v is canonical = rw is ((version-of plain v).1 canonical)

@@ -7,7 +7,7 @@ pub mod Reply
 pub mod Info
 pub mod Values
 pub mod HeadFront
-pub mod Place
+pub mod ModuleVersion
 pub mod Route
-pub mod Query
+pub mod Resource
 pub mod Target

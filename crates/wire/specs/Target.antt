@@ -4,13 +4,13 @@ use Rattle.std.specs.Cmp.Lexicographic.{pointwise}
 use Rattle.std.specs.List.{list_any}
 use Rattle.std.specs.Str.{IsUtf8, is_utf8}
 use Rattle.percent_encoding.specs.Percent.{percent_decode}
-use Rattle.wire.specs.Place.{IsPlace, place_of}
-use Rattle.wire.specs.Query.{IsQuery, query_in}
+use Rattle.wire.specs.ModuleVersion.{IsModuleVersion, module_version_of}
+use Rattle.wire.specs.Resource.{IsResource, resource_in}
 use Rattle.wire.specs.Route.{routed_of}
-use Rattle.wire.specs.declared.places.Place.{Place}
+use Rattle.wire.specs.declared.module_version.ModuleVersion.{ModuleVersion}
 use Rattle.wire.specs.declared.routes.Area.{Area}
 use Rattle.wire.specs.declared.routes.Area.TheVariants as area
-use Rattle.wire.specs.declared.request.Query.{Query}
+use Rattle.wire.specs.declared.request.Resource.{Resource}
 use Rattle.wire.specs.declared.request.Target.{Target}
 use Rattle.wire.specs.declared.request.Target.TheVariants as target
 
@@ -24,9 +24,9 @@ pub record IsKeyed (text key rest : List ℕ) : Type 0 where
 -- what a request asks for
 abbrev pub Asks : List ℕ → List ℕ → Target → Type 0
 Asks method text target.Unreadable = ⊥
-Asks method text (target.Get key asked) = (method ≡ codes "GET") × ((rest : List ℕ) × IsKeyed text key rest × IsQuery rest asked)
+Asks method text (target.Get key asked) = (method ≡ codes "GET") × ((rest : List ℕ) × IsKeyed text key rest × IsResource rest asked)
 Asks method text (target.Put key path version) =
-    (method ≡ codes "PUT") × ((rest : List ℕ) × IsKeyed text key rest × IsPlace (percent_decode rest) path version [])
+    (method ≡ codes "PUT") × ((rest : List ℕ) × IsKeyed text key rest × IsModuleVersion (percent_decode rest) path version [])
 
 -- what a request reads as: what it asks for, or unreadable if it asks for nothing
 abbrev pub ReadsTarget : List ℕ → List ℕ → Target → Type 0
@@ -40,24 +40,24 @@ IsTextThroughout text = IsUtf8 text × ((key rest : List ℕ) → IsKeyed text k
 
 -- ---- computed forms of the readings above
 
-abbrev pub get_of : List ℕ → Option Query → Target
+abbrev pub get_of : List ℕ → Option Resource → Target
 get_of key (Some asked) = target.Get key asked
 get_of key None = target.Unreadable
 
-abbrev pub put_of : List ℕ → Option Place → Target
-put_of key (Some place) = target.Put key place.path place.version
+abbrev pub put_of : List ℕ → Option ModuleVersion → Target
+put_of key (Some found) = target.Put key found.path found.version
 put_of key None = target.Unreadable
 
 -- the publish that a PUT asks for in an area
-abbrev pub place_in : Area → List ℕ → Option Place
-place_in area.Shelf rest = None
-place_in area.Path rest = place_of (percent_decode rest)
+abbrev pub module_version_in : Area → List ℕ → Option ModuleVersion
+module_version_in area.Shelf rest = None
+module_version_in area.Path rest = module_version_of (percent_decode rest)
 
 -- what a request with that method asks for by its route
 abbrev pub asked_at : List ℕ → Area × List ℕ × List ℕ → Target
 asked_at method route =
-    if pointwise nat_eq method (codes "GET") then get_of route.1 (query_in route.0 route.2)
-    else if pointwise nat_eq method (codes "PUT") then put_of route.1 (place_in route.0 route.2)
+    if pointwise nat_eq method (codes "GET") then get_of route.1 (resource_in route.0 route.2)
+    else if pointwise nat_eq method (codes "PUT") then put_of route.1 (module_version_in route.0 route.2)
     else target.Unreadable
 
 abbrev pub asked_or : List ℕ → Option (Area × List ℕ × List ℕ) → Target

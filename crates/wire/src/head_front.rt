@@ -1,4 +1,4 @@
-//! Heads that are not whole: new bytes are scanned one by one, as long as their place in a head is plain.
+//! Heads that are not whole: new bytes are scanned one by one, as long as it is plain where in a head they are.
 ghost use Rattle.std.specs.Prelude.{◌≡◌, ℕ, ◌≤◌, List, [], ◌∷◌, ◌++◌, length, take, IfSome, IsTrue, IsFalse};
 ghost use Rattle.std.specs.List.{list_all};
 ghost use Rattle.httparse.specs.Grammar.{is_token_byte, is_uri_byte, is_value_byte};
@@ -8,9 +8,9 @@ ghost use Rattle.wire.specs.HeadFront.{Stands, WasLookedAt, EndsLine};
 
 use crate::head::HEAD_LIMIT;
 
-/// The part of a head in which the bytes end, and in which more bytes may follow (RFC 9112, sections 2 to 5).
+/// The state of a scan: where in a head the bytes end (RFC 9112, sections 2 to 5).
 #[derive(Clone, Copy, Drop)]
-pub(crate) enum Place {
+pub(crate) enum HeadState {
     /// After any empty lines before the request line.
     Blank,
     /// After the carriage return of such an empty line.
@@ -53,44 +53,44 @@ fn are_newlines(bytes: &[u8]) -> bool
     bytes.iter().all(|byte| *byte == b'\r' || *byte == b'\n')
 }
 
-impl Place {
-    /// Returns the place after one more byte, or `None` if it is not plain that a head may go on with this byte.
-    fn behind(self, byte: u8) -> Option<Place>
-        ensures { IfSome result (λ place. (bytes : List ℕ) → Stands self bytes → Stands place (bytes ++ byte ∷ [])) }
+impl HeadState {
+    /// Returns the state after one more byte, or `None` if it is not plain that a head may go on with this byte.
+    fn behind(self, byte: u8) -> Option<HeadState>
+        ensures { IfSome result (λ state. (bytes : List ℕ) → Stands self bytes → Stands state (bytes ++ byte ∷ [])) }
     {
         match self {
-            Place::Blank if byte == b'\n' => Some(Place::Blank),
-            Place::Blank if byte == b'\r' => Some(Place::BlankReturn),
-            Place::Blank if is_token(byte) => Some(Place::Method),
-            Place::BlankReturn if byte == b'\n' => Some(Place::Blank),
-            Place::Method if is_token(byte) => Some(Place::Method),
-            Place::Method if byte == b' ' => Some(Place::Target),
-            Place::Target if is_uri(byte) => Some(Place::Target),
-            Place::Line if is_token(byte) => Some(Place::HeaderName),
-            Place::HeaderName if is_token(byte) => Some(Place::HeaderName),
-            Place::HeaderName if byte == b':' => Some(Place::HeaderValue),
-            Place::HeaderValue if is_value(byte) => Some(Place::HeaderValue),
-            Place::HeaderValue if byte == b'\r' => Some(Place::Return),
+            HeadState::Blank if byte == b'\n' => Some(HeadState::Blank),
+            HeadState::Blank if byte == b'\r' => Some(HeadState::BlankReturn),
+            HeadState::Blank if is_token(byte) => Some(HeadState::Method),
+            HeadState::BlankReturn if byte == b'\n' => Some(HeadState::Blank),
+            HeadState::Method if is_token(byte) => Some(HeadState::Method),
+            HeadState::Method if byte == b' ' => Some(HeadState::Target),
+            HeadState::Target if is_uri(byte) => Some(HeadState::Target),
+            HeadState::Line if is_token(byte) => Some(HeadState::HeaderName),
+            HeadState::HeaderName if is_token(byte) => Some(HeadState::HeaderName),
+            HeadState::HeaderName if byte == b':' => Some(HeadState::HeaderValue),
+            HeadState::HeaderValue if is_value(byte) => Some(HeadState::HeaderValue),
+            HeadState::HeaderValue if byte == b'\r' => Some(HeadState::Return),
             _ => None,
         }
     }
 
-    /// Returns the place after more bytes, or `None` if it is not plain that a head may go on with each.
-    fn behind_all(self, more: &[u8]) -> Option<Place>
-        ensures { IfSome result (λ place. (bytes : List ℕ) → Stands self bytes → Stands place (bytes ++ more.now)) }
+    /// Returns the state after more bytes, or `None` if it is not plain that a head may go on with each.
+    fn behind_all(self, more: &[u8]) -> Option<HeadState>
+        ensures { IfSome result (λ state. (bytes : List ℕ) → Stands self bytes → Stands state (bytes ++ more.now)) }
     {
-        let mut place = self;
+        let mut state = self;
         for byte in more {
-            place = place.behind(*byte)?;
+            state = state.behind(*byte)?;
         }
-        Some(place)
+        Some(state)
     }
 }
 
-/// A scan: how many of the bytes held were scanned, and the part of a head in which they end.
+/// A scan: how many of the bytes held were scanned, and where in a head they end.
 #[derive(Clone, Copy, Drop)]
 pub(crate) struct Looked {
-    pub(crate) place: Place,
+    pub(crate) state: HeadState,
     pub(crate) len: usize,
 }
 
@@ -104,9 +104,9 @@ impl Looked {
         if bytes.len() >= HEAD_LIMIT {
             return None;
         }
-        let place = self.place.behind_all(&bytes[self.len..])?;
+        let state = self.state.behind_all(&bytes[self.len..])?;
         Some(Looked {
-            place,
+            state,
             len: bytes.len(),
         })
     }
@@ -124,25 +124,25 @@ fn last_line(bytes: &[u8]) -> usize
     at
 }
 
-/// Returns the part of a head in which its first lines end.
-fn first_place(lines: &[u8]) -> Place
+/// Returns where in a head its first lines end.
+fn first_state(lines: &[u8]) -> HeadState
     ensures { (more : List ℕ) → EndsLine lines.now → MayBeginHead (lines.now ++ more) → Stands result lines.now }
 {
     if are_newlines(lines) {
-        return Place::Blank;
+        return HeadState::Blank;
     }
-    Place::Line
+    HeadState::Line
 }
 
-/// Scans the beginning of a head. It returns `None` if the last line does not plainly show the part in which it ends.
+/// Scans the beginning of a head. It returns `None` if the last line does not plainly show where it ends.
 pub(crate) fn look(bytes: &[u8]) -> Option<Looked>
     requires { MayBeginHead bytes.now }
     ensures { IfSome result (WasLookedAt bytes.now) }
 {
     let at = last_line(bytes);
-    let place = first_place(&bytes[..at]).behind_all(&bytes[at..])?;
+    let state = first_state(&bytes[..at]).behind_all(&bytes[at..])?;
     Some(Looked {
-        place,
+        state,
         len: bytes.len(),
     })
 }

@@ -3,11 +3,10 @@ use modpath::ModulePath;
 use modver::Version;
 use text::Text;
 
-/// What the target of a GET names. The `Query` of the crate `shelf` is another type, which the machine answers: `wire`
-/// knows no machine, and a go.sum line is a case of this type alone, since it is the go.mod that the machine returns.
-/// `engine` converts this type into that one.
+/// What the target of a GET names. `engine` makes a query of it, which the machine answers; for a go.sum line it asks
+/// for the go.mod.
 #[derive(Drop)]
-pub enum Query {
+pub enum Resource {
     /// A version with its time.
     Info { path: ModulePath, version: Version },
     /// The go.mod of a version.
@@ -32,7 +31,7 @@ pub enum Target {
     /// A GET with a key, which is text without a slash, and what it asks for.
     Get {
         key: Text,
-        query: Query,
+        resource: Resource,
     },
     /// A PUT with a key: the publish of a version.
     Put {

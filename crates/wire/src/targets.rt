@@ -1,13 +1,13 @@
 //! Reads targets.
 ghost use Rattle.std.specs.Prelude.{◌≡◌, IfOk};
-ghost use Rattle.wire.specs.Query.{query_in};
+ghost use Rattle.wire.specs.Resource.{resource_in};
 ghost use Rattle.wire.specs.Route.{routed_of};
-ghost use Rattle.wire.specs.Target.{asked_or, get_of, place_in, put_of, target_of, ReadsTarget};
+ghost use Rattle.wire.specs.Target.{asked_or, get_of, module_version_in, put_of, target_of, ReadsTarget};
 
 use crate::message::Memory;
-use crate::places::{Place, read_place};
-use crate::queries::{decoded, read_query};
+use crate::module_version::{ModuleVersion, read_module_version};
 use crate::request::Target;
+use crate::resources::{decoded, read_resource};
 use crate::routes::{Area, RouteTable, Routed};
 use std::alloc::Global;
 use text::Text;
@@ -50,12 +50,13 @@ fn read_text(table: &mut RouteTable, method: &[u8], text: &str) -> Result<Target
 
 /// Returns what a GET asks for by its route. It fails only if memory runs out.
 fn get(alloc: Global, route: Routed<'_>) -> Result<Target, Memory>
-    ensures { IfOk result (λ asked. asked ≡ get_of route.entry.key.now (query_in route.entry.area route.entry.rest.now)) }
+    ensures { IfOk result (λ asked.
+        asked ≡ get_of route.entry.key.now (resource_in route.entry.area route.entry.rest.now)) }
 {
-    match read_query(alloc, route.area, route.rest)? {
-        Some(query) => Ok(Target::Get {
+    match read_resource(alloc, route.area, route.rest)? {
+        Some(resource) => Ok(Target::Get {
             key: Text::new(String::from_str(alloc, route.key)?),
-            query,
+            resource,
         }),
         None => Ok(Target::Unreadable),
     }
@@ -63,13 +64,14 @@ fn get(alloc: Global, route: Routed<'_>) -> Result<Target, Memory>
 
 /// Returns what a PUT asks for by its route: a publish to a module path. It fails only if memory runs out.
 fn put(alloc: Global, route: Routed<'_>) -> Result<Target, Memory>
-    ensures { IfOk result (λ asked. asked ≡ put_of route.entry.key.now (place_in route.entry.area route.entry.rest.now)) }
+    ensures { IfOk result (λ asked.
+        asked ≡ put_of route.entry.key.now (module_version_in route.entry.area route.entry.rest.now)) }
 {
     let Area::Path = route.area else {
         return Ok(Target::Unreadable);
     };
-    match read_place(alloc, decoded(alloc, route.rest)?.as_slice())? {
-        Some(Place { path, version }) => Ok(Target::Put {
+    match read_module_version(alloc, decoded(alloc, route.rest)?.as_slice())? {
+        Some(ModuleVersion { path, version }) => Ok(Target::Put {
             key: Text::new(String::from_str(alloc, route.key)?),
             path,
             version,

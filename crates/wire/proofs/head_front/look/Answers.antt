@@ -9,4 +9,4 @@ returns c =
     let at = c.last_line-at.result in
     let bytes = c.args.bytes.now in
     let whole = ap (λ (t : List ℕ). take at bytes ++ t) (slice_to_end at bytes) ∙ take-append-drop at bytes in
-    looked_behind bytes _ _ _ c.in_ok-place.place c.requires whole c.last_line-at.ensures.ends c.first_place.ensures c.in_ok-place.ensures
+    looked_behind bytes _ _ _ c.in_ok-state.state c.requires whole c.last_line-at.ensures.ends c.first_state.ensures c.in_ok-state.ensures

@@ -4,5 +4,5 @@ use Rattle.wire.proofs.head_front.Looked.on.Goals as goal
 
 pub returns : goal.returns
 returns c =
-    looked_on c.args.bytes.now _ c.args.self c.in_ok-place.place c.requires (slice_to_end c.args.self.len c.args.bytes.now) c.in_ok-place.ensures
+    looked_on c.args.bytes.now _ c.args.self c.in_ok-state.state c.requires (slice_to_end c.args.self.len c.args.bytes.now) c.in_ok-state.ensures
     c.if-bytes-ge-HEAD_LIMIT.false

@@ -1,8 +1,8 @@
 use Rattle.std.proofs.Common.{◌≡◌, sym, true}
 use Rattle.std.specs.List.{list_all}
 use Rattle.wire.proofs.PlainLemmas.{plain-itself, plain-no_text, plain-some, plain-refused}
-use Rattle.wire.specs.Place.{stands_for_itself}
-use Rattle.wire.proofs.places.read_plain.Goals as goal
+use Rattle.wire.specs.ModuleVersion.{stands_for_itself}
+use Rattle.wire.proofs.module_version.read_plain.Goals as goal
 
 pub returns-in_default : goal.returns-in_default
 returns-in_default c = sym (plain-no_text c.args.bytes.now c.in_default.ensures.cases.0)

@@ -7,8 +7,8 @@ use Rattle.modpath.specs.Path.{Check, IsPath, is_path, path_check}
 use Rattle.modver.proofs.Readings.{version-of}
 use Rattle.modver.specs.Reading.{IsCanonical, version_of}
 use Rattle.modver.specs.SemanticVersion.{SemanticVersion, version_text}
-use Rattle.wire.specs.Place.{IsPlace, cut_of, pair, path_of, place_of, plain_of, version_from, without_start}
-use Rattle.wire.specs.declared.places.Place.{Place}
+use Rattle.wire.specs.ModuleVersion.{IsModuleVersion, cut_of, pair, path_of, module_version_of, plain_of, version_from, without_start}
+use Rattle.wire.specs.declared.module_version.ModuleVersion.{ModuleVersion}
 use Rattle.wire.proofs.PlainBytes.{escaped-no_at, escaped-utf8, path-plain, plain-no_bang, version-plain}
 use Rattle.wire.proofs.PlainLemmas.{plain-is, plain-some}
 use Rattle.wire.proofs.TargetLemmas.{cut-is, cut-taken, if-some, map-some, start-is, then-some}
@@ -52,37 +52,37 @@ version-taken v is =
 
 -- ---- a path and a version
 
-pair-is : (path : Option (List ℕ)) (version : Option SemanticVersion) (place : Place) → pair path version ≡ Some place
-    → (path ≡ Some place.path) × (version ≡ Some place.version)
-pair-is path version place h =
-    let outer = then-some (λ (p : List ℕ). option_map (λ (v : SemanticVersion). record { path = p; version = v }) version) path place h in
-    let inner = map-some (λ (v : SemanticVersion). record { path = outer.0; version = v }) version place outer.2 in (
-      outer.1 ∙ ap (λ (p : Place). Some p.path) inner.2,
-      inner.1 ∙ ap (λ (p : Place). Some p.version) inner.2,
+pair-is : (path : Option (List ℕ)) (version : Option SemanticVersion) (found : ModuleVersion) → pair path version ≡ Some found
+    → (path ≡ Some found.path) × (version ≡ Some found.version)
+pair-is path version found h =
+    let outer = then-some (λ (p : List ℕ). option_map (λ (v : SemanticVersion). record { path = p; version = v }) version) path found h in
+    let inner = map-some (λ (v : SemanticVersion). record { path = outer.0; version = v }) version found outer.2 in (
+      outer.1 ∙ ap (λ (p : ModuleVersion). Some p.path) inner.2,
+      inner.1 ∙ ap (λ (p : ModuleVersion). Some p.version) inner.2,
     )
 
 -- the path and the version computed of a text are those that the text names
-pub place-is : (text : List ℕ) (place : Place) → place_of text ≡ Some place → IsPlace text place.path place.version []
-unfolding place_of
-place-is text place h =
-    let named : List ℕ × List ℕ → Option Place = λ parts. option_and_then (λ name. pair (path_of parts.0) (version_from name)) (without_start (codes "v/") parts.1) in
-    let outer = then-some named (cut_of text) place h in
-    let inner = then-some (λ name. pair (path_of (outer.0).0) (version_from name)) (without_start (codes "v/") (outer.0).1) place outer.2 in
-    let both = pair-is (path_of (outer.0).0) (version_from inner.0) place inner.2 in
+pub module-version-is : (text : List ℕ) (found : ModuleVersion) → module_version_of text ≡ Some found → IsModuleVersion text found.path found.version []
+unfolding module_version_of
+module-version-is text found h =
+    let named : List ℕ × List ℕ → Option ModuleVersion = λ parts. option_and_then (λ name. pair (path_of parts.0) (version_from name)) (without_start (codes "v/") parts.1) in
+    let outer = then-some named (cut_of text) found h in
+    let inner = then-some (λ name. pair (path_of (outer.0).0) (version_from name)) (without_start (codes "v/") (outer.0).1) found outer.2 in
+    let both = pair-is (path_of (outer.0).0) (version_from inner.0) found inner.2 in
     let cut = cut-is text (outer.0).0 (outer.0).1 outer.1 in
     let name = start-is (codes "v/") (outer.0).1 inner.0 inner.1 in
-    let path = path-is (outer.0).0 place.path both.0 in
-    let version = version-is inner.0 place.version both.1 in
+    let path = path-is (outer.0).0 found.path both.0 in
+    let version = version-is inner.0 found.version both.1 in
     let whole = cut ∙ (λ i. path.0 i ++ (codes "/@" ++ (name ∙ ap (λ (l : List ℕ). codes "v/" ++ l) (version.0 ∙ sym (append-nil _))) i)) in
     record { whole = whole; path_is = path.1; version_is = version.1 }
 
 pub path-cut : (path behind : List ℕ) → IsPath path → cut_of (escaped path ++ (codes "/@" ++ behind)) ≡ Some (escaped path, behind)
 path-cut path behind is = cut-taken (escaped path) behind (escaped-no_at path (path-plain path is))
 
-pub place-taken : (text path : List ℕ) (version : SemanticVersion) → IsPlace text path version []
-    → place_of text ≡ Some (record { path = path; version = version })
-unfolding place_of
-place-taken text path version is =
+pub module-version-taken : (text path : List ℕ) (version : SemanticVersion) → IsModuleVersion text path version []
+    → module_version_of text ≡ Some (record { path = path; version = version })
+unfolding module_version_of
+module-version-taken text path version is =
     let name = escaped (version_text version) in
     let whole : text ≡ escaped path ++ (codes "/@" ++ (codes "v/" ++ name)) = is.whole ∙ ap (λ (l : List ℕ). escaped path ++ (codes "/@v/" ++ l)) (append-nil name) in
     rw (whole, path-cut path (codes "v/" ++ name) is.path_is, path-taken path is.path_is, version-taken version is.version_is) refl

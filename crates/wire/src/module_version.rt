@@ -2,7 +2,7 @@
 ghost use Rattle.std.specs.Prelude.{◌≡◌, None, Some, IfOk, MatchOption, option_map};
 ghost use Rattle.std.specs.Cow.{cow_str_bytes};
 ghost use Rattle.std.specs.List.{list_all};
-ghost use Rattle.wire.specs.Place.{around, cut_of, plain_of, path_of, stands_for_itself, version_from, place_of};
+ghost use Rattle.wire.specs.ModuleVersion.{around, cut_of, module_version_of, path_of, plain_of, stands_for_itself, version_from};
 
 use crate::message::Memory;
 use modpath::{EscapeFault, ModulePath, PathError, unescape};
@@ -12,13 +12,13 @@ use std::borrow::CowStr;
 
 /// A module path and a version of it.
 #[derive(Drop)]
-pub(crate) struct Place {
+pub(crate) struct ModuleVersion {
     pub(crate) path: ModulePath,
     pub(crate) version: Version,
 }
 
 /// Returns the texts before and after the first `byte` in a text, or `None` if there is none.
-#[tactic(auto, unfolding(crate::specs::Place::around))]
+#[tactic(auto, unfolding(crate::specs::ModuleVersion::around))]
 fn split_at_byte(text: &[u8], byte: u8) -> Option<(&[u8], &[u8])>
     ensures { MatchOption result (around byte text.now ≡ None) (λ parts. around byte text.now ≡ Some (parts.0.now, parts.1.now)) }
 {
@@ -28,7 +28,7 @@ fn split_at_byte(text: &[u8], byte: u8) -> Option<(&[u8], &[u8])>
 
 /// Returns the texts before and after `/@`, or `None` if the text has no `@` or no slash directly before the first one.
 /// It cuts at the first `@`, because no module path contains one.
-#[tactic(auto, unfolding(crate::specs::Place::cut_of))]
+#[tactic(auto, unfolding(crate::specs::ModuleVersion::cut_of))]
 pub(crate) fn cut(text: &[u8]) -> Option<(&[u8], &[u8])>
     ensures { MatchOption result (cut_of text.now ≡ None) (λ parts. cut_of text.now ≡ Some (parts.0.now, parts.1.now)) }
 {
@@ -39,9 +39,12 @@ pub(crate) fn cut(text: &[u8]) -> Option<(&[u8], &[u8])>
 
 /// Returns the module path before `/@v/` and the version after it, or `None` if the text does not have this form. It
 /// fails only if memory runs out.
-#[tactic(auto, unfolding(crate::specs::Place::place_of))]
-pub(crate) fn read_place(alloc: Global, text: &[u8]) -> Result<Option<Place>, Memory>
-    ensures { IfOk result (λ found. found ≡ place_of text.now) }
+#[tactic(auto, unfolding(crate::specs::ModuleVersion::module_version_of))]
+pub(crate) fn read_module_version(
+    alloc: Global,
+    text: &[u8],
+) -> Result<Option<ModuleVersion>, Memory>
+    ensures { IfOk result (λ found. found ≡ module_version_of text.now) }
 {
     let Some((path, asked)) = cut(text) else {
         return Ok(None);
@@ -55,7 +58,7 @@ pub(crate) fn read_place(alloc: Global, text: &[u8]) -> Result<Option<Place>, Me
     let Some(version) = read_version(alloc, version)? else {
         return Ok(None);
     };
-    Ok(Some(Place { path, version }))
+    Ok(Some(ModuleVersion { path, version }))
 }
 
 /// Returns the module path whose escaped form the bytes are, or `None` if there is none. It fails only if memory runs

@@ -14,16 +14,16 @@ use Rattle.modpath.specs.Escape.{escaped}
 use Rattle.modpath.specs.ModulePath.{BeginsWith}
 use Rattle.modpath.specs.Path.{IsPath, check_of, first_element}
 use Rattle.modver.specs.SemanticVersion.{SemanticVersion, version_text}
-use Rattle.wire.specs.Place.{IsPlace, cut_of, path_of, place_of, version_from, without_end, without_start}
-use Rattle.wire.specs.Query.{IsQuery, asked_by, asked_of, ending_of, first_some, of_path, own_of, part_of, query_for, query_in, split_part, sum_at, summed_of, text_eq, without_ending}
+use Rattle.wire.specs.ModuleVersion.{IsModuleVersion, cut_of, path_of, module_version_of, version_from, without_end, without_start}
+use Rattle.wire.specs.Resource.{IsResource, asked_by, asked_of, ending_of, first_some, of_path, own_of, of_version, resource_for, resource_in, split_file, sum_at, summed_of, text_eq, without_ending}
 use Rattle.wire.specs.Route.{area_of, is_own}
 use Rattle.wire.specs.declared.routes.Area.{Area}
 use Rattle.wire.specs.declared.routes.Area.TheVariants as area
-use Rattle.wire.specs.declared.queries.Part.{Part}
-use Rattle.wire.specs.declared.queries.Part.TheVariants as part
-use Rattle.wire.specs.declared.request.Query.{Query}
-use Rattle.wire.specs.declared.request.Query.TheVariants as query
-use Rattle.wire.proofs.PlaceReadings.{path-cut, path-is, path-taken, place-is, place-taken as whole-taken, version-is, version-taken}
+use Rattle.wire.specs.declared.resources.VersionFile.{VersionFile}
+use Rattle.wire.specs.declared.resources.VersionFile.TheVariants as file
+use Rattle.wire.specs.declared.request.Resource.{Resource}
+use Rattle.wire.specs.declared.request.Resource.TheVariants as resource
+use Rattle.wire.proofs.ModuleVersionReadings.{path-cut, path-is, path-taken, module-version-is, module-version-taken, version-is, version-taken}
 use Rattle.wire.proofs.RouteReadings.{StandsIn, area-is, area-path, own-is}
 use Rattle.wire.proofs.TargetLemmas.{cut-is, end-is, end-taken, map-some, start-is, then-some}
 
@@ -76,28 +76,28 @@ path-area rest path behind whole is = area-path rest (false_from_ne_true (is_own
     some [] e = absurd (omega (arith, ap length (sym percent_decode-nil ∙ e), length-append (escaped path) (47 ∷ behind)))
     some (b ∷ r) e = omega arith
 
--- ---- parts of a version
+-- ---- files of a version
 
-asked-by-is : (p q : Part) (name version : List ℕ) → asked_by p name ≡ Some (version, q) → (name ≡ version ++ ending_of q)
+asked-by-is : (p q : VersionFile) (name version : List ℕ) → asked_by p name ≡ Some (version, q) → (name ≡ version ++ ending_of q)
 asked-by-is p q name version h =
     let found = map-some (λ (v : List ℕ). (v, p)) (without_end (ending_of p) name) (version, q) h in
-    let versions : found.0 ≡ version = ap (λ (x : List ℕ × Part). x.0) found.2 in
-    let parts : p ≡ q = ap (λ (x : List ℕ × Part). x.1) found.2 in
+    let versions : found.0 ≡ version = ap (λ (x : List ℕ × VersionFile). x.0) found.2 in
+    let parts : p ≡ q = ap (λ (x : List ℕ × VersionFile). x.1) found.2 in
     end-is (ending_of p) name found.0 found.1 ∙ (λ i. versions i ++ ending_of (parts i))
 
 either-is : (A : Type 0) (P : A → Type 0) (a b : Option A) (x : A) → first_some a b ≡ Some x → (a ≡ Some x → P x) → (b ≡ Some x → P x) → P x
 either-is A P (Some y) b x h left right = left h
 either-is A P None b x h left right = right h
 
-without-ending-is : (name version : List ℕ) (p : Part) → without_ending name ≡ Some (version, p) → name ≡ version ++ ending_of p
+without-ending-is : (name version : List ℕ) (p : VersionFile) → without_ending name ≡ Some (version, p) → name ≡ version ++ ending_of p
 without-ending-is name version p h =
-    let Named : List ℕ × Part → Type 0 = λ found. name ≡ found.0 ++ ending_of found.1 in
-    either-is (List ℕ × Part) Named (asked_by part.Info name) (first_some (asked_by part.GoMod name) (asked_by part.Zip name)) (version, p) h
-    (asked-by-is part.Info p name version)
-    (λ later. either-is (List ℕ × Part) Named (asked_by part.GoMod name) (asked_by part.Zip name) (version, p) later
-    (asked-by-is part.GoMod p name version) (asked-by-is part.Zip p name version))
+    let Named : List ℕ × VersionFile → Type 0 = λ found. name ≡ found.0 ++ ending_of found.1 in
+    either-is (List ℕ × VersionFile) Named (asked_by file.Info name) (first_some (asked_by file.GoMod name) (asked_by file.Zip name)) (version, p) h
+    (asked-by-is file.Info p name version)
+    (λ later. either-is (List ℕ × VersionFile) Named (asked_by file.GoMod name) (asked_by file.Zip name) (version, p) later
+    (asked-by-is file.GoMod p name version) (asked-by-is file.Zip p name version))
 
-split-is : (asked version : List ℕ) (p : Part) → split_part asked ≡ Some (version, p) → asked ≡ codes "v/" ++ (version ++ ending_of p)
+split-is : (asked version : List ℕ) (p : VersionFile) → split_file asked ≡ Some (version, p) → asked ≡ codes "v/" ++ (version ++ ending_of p)
 split-is asked version p h =
     let outer = then-some without_ending (without_start (codes "v/") asked) (version, p) h in
     start-is (codes "v/") asked outer.0 outer.1 ∙ ap (λ (l : List ℕ). codes "v/" ++ l) (without-ending-is outer.0 version p outer.2)
@@ -122,41 +122,41 @@ no-end ending name never (Some front) e = absurd (never front (end-is ending nam
 no-info : (front x : List ℕ) (b : ℕ) → b ≢ 111 → without_end (codes ".info") (front ++ (x ++ b ∷ [])) ≡ None
 no-info front x b other = no-end (codes ".info") (front ++ (x ++ b ∷ [])) (λ f e. other (same-last front f x (codes ".inf") b 111 e)) _ refl
 
-without-ending-taken : (version : List ℕ) (p : Part) → without_ending (version ++ ending_of p) ≡ Some (version, p)
-without-ending-taken version part.Info = rw (end-taken (codes ".info") version) refl
-without-ending-taken version part.GoMod = rw (no-info version (codes ".mo") 100 (omega arith), end-taken (codes ".mod") version) refl
-without-ending-taken version part.Zip =
+without-ending-taken : (version : List ℕ) (p : VersionFile) → without_ending (version ++ ending_of p) ≡ Some (version, p)
+without-ending-taken version file.Info = rw (end-taken (codes ".info") version) refl
+without-ending-taken version file.GoMod = rw (no-info version (codes ".mo") 100 (omega arith), end-taken (codes ".mod") version) refl
+without-ending-taken version file.Zip =
     let other : 112 ≢ 100 = omega arith in
     let no-mod = no-end (codes ".mod") (version ++ codes ".zip") (λ f e. other (same-last version f (codes ".zi") (codes ".mo") 112 100 e)) _ refl in
     rw (no-info version (codes ".zi") 112 (omega arith), no-mod, end-taken (codes ".zip") version) refl
 
 -- such a name is no list
-no-list : (version : List ℕ) (p : Part) → text_eq (version ++ ending_of p) (codes "list") ≡ false
+no-list : (version : List ℕ) (p : VersionFile) → text_eq (version ++ ending_of p) (codes "list") ≡ false
 no-list version p = elim (cases_Bool (text_eq (version ++ ending_of p) (codes "list"))) [
   | inl same ↦ absurd (apart p (same-text (version ++ ending_of p) (codes "list") same))
   | inr other ↦ other
 ]
   where
-    apart : (q : Part) → version ++ ending_of q ≡ codes "list" → ⊥
-    apart part.Info e = omega (arith, same-last version [] (codes ".inf") (codes "lis") 111 116 e)
-    apart part.GoMod e = omega (arith, same-last version [] (codes ".mo") (codes "lis") 100 116 e)
-    apart part.Zip e = omega (arith, same-last version [] (codes ".zi") (codes "lis") 112 116 e)
+    apart : (q : VersionFile) → version ++ ending_of q ≡ codes "list" → ⊥
+    apart file.Info e = omega (arith, same-last version [] (codes ".inf") (codes "lis") 111 116 e)
+    apart file.GoMod e = omega (arith, same-last version [] (codes ".mo") (codes "lis") 100 116 e)
+    apart file.Zip e = omega (arith, same-last version [] (codes ".zi") (codes "lis") 112 116 e)
 
--- a version and the ending of a part after `v/` are read as a query for that part of the version
-part-taken : (path name : List ℕ) (v : SemanticVersion) (p : Part) → version_from name ≡ Some v
-    → of_path path (codes "v/" ++ (name ++ ending_of p)) ≡ Some (query_for p path v)
-part-taken path name v p is = rw (no-list name p, without-ending-taken name p, is) refl
+-- a version and the ending of a file after `v/` are read as that file of the version
+of-version-taken : (path name : List ℕ) (v : SemanticVersion) (p : VersionFile) → version_from name ≡ Some v
+    → of_path path (codes "v/" ++ (name ++ ending_of p)) ≡ Some (resource_for p path v)
+of-version-taken path name v p is = rw (no-list name p, without-ending-taken name p, is) refl
 
 -- ---- what is asked of a path
 
--- the area and what is asked there give the query
-pub record IsTaken (rest : List ℕ) (asked : Query) : Type 0 where
+-- the area and what is asked there give the resource
+pub record IsTaken (rest : List ℕ) (asked : Resource) : Type 0 where
   pub where_is : Area
   pub behind : List ℕ
   pub found : area_of rest ≡ Some (where_is, behind)
-  pub taken : query_in where_is behind ≡ Some asked
+  pub taken : resource_in where_is behind ≡ Some asked
 
-of-path-taken : (rest path behind : List ℕ) (asked : Query) → percent_decode rest ≡ escaped path ++ (codes "/@" ++ behind) → IsPath path
+of-path-taken : (rest path behind : List ℕ) (asked : Resource) → percent_decode rest ≡ escaped path ++ (codes "/@" ++ behind) → IsPath path
     → of_path path behind ≡ Some asked → IsTaken rest asked
 unfolding asked_of
 of-path-taken rest path behind asked whole is h = record {
@@ -166,13 +166,13 @@ of-path-taken rest path behind asked whole is h = record {
   taken = rw (whole, path-cut path behind is, path-taken path is) h;
 }
 
-place-taken : (rest path : List ℕ) (v : SemanticVersion) (p : Part) → IsPlace (percent_decode rest) path v (ending_of p)
-    → IsTaken rest (query_for p path v)
-place-taken rest path v p is =
-    of-path-taken rest path (codes "v/" ++ (escaped (version_text v) ++ ending_of p)) (query_for p path v) is.whole is.path_is
-    (part-taken path (escaped (version_text v)) v p (version-taken v is.version_is))
+file-taken : (rest path : List ℕ) (v : SemanticVersion) (p : VersionFile) → IsModuleVersion (percent_decode rest) path v (ending_of p)
+    → IsTaken rest (resource_for p path v)
+file-taken rest path v p is =
+    of-path-taken rest path (codes "v/" ++ (escaped (version_text v) ++ ending_of p)) (resource_for p path v) is.whole is.path_is
+    (of-version-taken path (escaped (version_text v)) v p (version-taken v is.version_is))
 
-own-taken : (rest behind text : List ℕ) (asked : Query) → rest ≡ codes "-/" ++ behind → percent_decode behind ≡ text → own_of text ≡ Some asked
+own-taken : (rest behind text : List ℕ) (asked : Resource) → rest ≡ codes "-/" ++ behind → percent_decode behind ≡ text → own_of text ≡ Some asked
     → IsTaken rest asked
 own-taken rest [] text asked whole decodes taken =
     let none : own_of [] ≡ Some asked = subst (λ (l : List ℕ). own_of l ≡ Some asked) (sym decodes ∙ percent_decode-nil) taken in cc none
@@ -180,61 +180,61 @@ own-taken rest (b ∷ behind) text asked whole decodes taken =
     let long : nat_lt 2 (length (codes "-/" ++ (b ∷ behind))) ≡ true = lt-ltb 2 _ (omega arith) in
     record { where_is = area.Shelf; behind = b ∷ behind; found = rw (whole, long) refl; taken = rw decodes taken }
 
-summed-taken : (text path : List ℕ) (v : SemanticVersion) → IsPlace text path v [] → own_of (codes "gosum/" ++ text) ≡ Some (query.GoSum path v)
-summed-taken text path v is = rw (whole-taken text path v is) refl
+summed-taken : (text path : List ℕ) (v : SemanticVersion) → IsModuleVersion text path v [] → own_of (codes "gosum/" ++ text) ≡ Some (resource.GoSum path v)
+summed-taken text path v is = rw (module-version-taken text path v is) refl
 
-pub query-taken : (rest : List ℕ) (asked : Query) → IsQuery rest asked → IsTaken rest asked
-query-taken rest (query.Info path v) is = place-taken rest path v part.Info is
-query-taken rest (query.GoMod path v) is = place-taken rest path v part.GoMod is
-query-taken rest (query.Zip path v) is = place-taken rest path v part.Zip is
-query-taken rest (query.List path) is = of-path-taken rest path (codes "v/list") (query.List path) is.whole is.path_is refl
-query-taken rest (query.Latest path) is = of-path-taken rest path (codes "latest") (query.Latest path) is.whole is.path_is refl
-query-taken rest query.Modules is = own-taken rest is.behind (codes "modules") query.Modules is.whole is.decodes refl
-query-taken rest (query.GoSum path v) is =
-    own-taken rest is.own.behind (codes "gosum/" ++ is.text) (query.GoSum path v) is.own.whole is.own.decodes (summed-taken is.text path v is.place)
+pub resource-taken : (rest : List ℕ) (asked : Resource) → IsResource rest asked → IsTaken rest asked
+resource-taken rest (resource.Info path v) is = file-taken rest path v file.Info is
+resource-taken rest (resource.GoMod path v) is = file-taken rest path v file.GoMod is
+resource-taken rest (resource.Zip path v) is = file-taken rest path v file.Zip is
+resource-taken rest (resource.List path) is = of-path-taken rest path (codes "v/list") (resource.List path) is.whole is.path_is refl
+resource-taken rest (resource.Latest path) is = of-path-taken rest path (codes "latest") (resource.Latest path) is.whole is.path_is refl
+resource-taken rest resource.Modules is = own-taken rest is.behind (codes "modules") resource.Modules is.whole is.decodes refl
+resource-taken rest (resource.GoSum path v) is =
+    own-taken rest is.own.behind (codes "gosum/" ++ is.text) (resource.GoSum path v) is.own.whole is.own.decodes (summed-taken is.text path v is.named)
 
 -- ---- and back
 
-part-query : (rest path : List ℕ) (v : SemanticVersion) (p : Part) → IsPlace (percent_decode rest) path v (ending_of p) → IsQuery rest (query_for p path v)
-part-query rest path v part.Info is = is
-part-query rest path v part.GoMod is = is
-part-query rest path v part.Zip is = is
+file-resource : (rest path : List ℕ) (v : SemanticVersion) (p : VersionFile) → IsModuleVersion (percent_decode rest) path v (ending_of p) → IsResource rest (resource_for p path v)
+file-resource rest path v file.Info is = is
+file-resource rest path v file.GoMod is = is
+file-resource rest path v file.Zip is = is
 
--- what is computed for the part of a version is a query of the rest
-part-is : (rest path behind : List ℕ) (asked : Query) → percent_decode rest ≡ escaped path ++ (codes "/@" ++ behind) → IsPath path
-    → part_of path behind ≡ Some asked → IsQuery rest asked
-part-is rest path behind asked whole is h =
-    let outer = then-some (λ (found : List ℕ × Part). option_map (λ (v : SemanticVersion). query_for found.1 path v) (version_from found.0)) (split_part behind) asked h in
+-- what is computed for a file of a version is what the rest asks for
+of-version-is : (rest path behind : List ℕ) (asked : Resource) → percent_decode rest ≡ escaped path ++ (codes "/@" ++ behind) → IsPath path
+    → of_version path behind ≡ Some asked → IsResource rest asked
+of-version-is rest path behind asked whole is h =
+    let outer = then-some (λ (found : List ℕ × VersionFile). option_map (λ (v : SemanticVersion). resource_for found.1 path v) (version_from found.0)) (split_file behind) asked h in
     let name = (outer.0).0 in
     let p = (outer.0).1 in
-    let inner = map-some (λ (v : SemanticVersion). query_for p path v) (version_from name) asked outer.2 in
+    let inner = map-some (λ (v : SemanticVersion). resource_for p path v) (version_from name) asked outer.2 in
     let version = version-is name inner.0 inner.1 in
     let named = split-is behind name p outer.1 in
-    let place : IsPlace (percent_decode rest) path inner.0 (ending_of p) = record {
+    let named-so : IsModuleVersion (percent_decode rest) path inner.0 (ending_of p) = record {
       whole = whole ∙ (λ i. escaped path ++ (codes "/@" ++ named i)) ∙ (λ i. escaped path ++ (codes "/@v/" ++ (version.0 i ++ ending_of p)));
       path_is = is;
       version_is = version.1;
     } in
-    subst (IsQuery rest) inner.2 (part-query rest path inner.0 p place)
+    subst (IsResource rest) inner.2 (file-resource rest path inner.0 p named-so)
 
--- what is computed for a path and the text after `/@` is a query of the rest
-of-path-is : (rest path behind : List ℕ) (asked : Query) → percent_decode rest ≡ escaped path ++ (codes "/@" ++ behind) → IsPath path
-    → of_path path behind ≡ Some asked → IsQuery rest asked
+-- what is computed for a path and the text after `/@` is what the rest asks for
+of-path-is : (rest path behind : List ℕ) (asked : Resource) → percent_decode rest ≡ escaped path ++ (codes "/@" ++ behind) → IsPath path
+    → of_path path behind ≡ Some asked → IsResource rest asked
 of-path-is rest path behind asked whole is h = elim (cases_Bool (text_eq behind (codes "latest"))) [
   | inl latest ↦
-      let same : query.Latest path ≡ asked = cc (rw latest at h) in
+      let same : resource.Latest path ≡ asked = cc (rw latest at h) in
       let behinds = same-text behind (codes "latest") latest in
-      subst (IsQuery rest) same (record { whole = whole ∙ (λ i. escaped path ++ (codes "/@" ++ behinds i)); path_is = is })
+      subst (IsResource rest) same (record { whole = whole ∙ (λ i. escaped path ++ (codes "/@" ++ behinds i)); path_is = is })
   | inr other ↦ elim (cases_Bool (text_eq behind (codes "v/list"))) [
     | inl list ↦
-        let same : query.List path ≡ asked = cc (rw (other, list) at h) in
+        let same : resource.List path ≡ asked = cc (rw (other, list) at h) in
         let behinds = same-text behind (codes "v/list") list in
-        subst (IsQuery rest) same (record { whole = whole ∙ (λ i. escaped path ++ (codes "/@" ++ behinds i)); path_is = is })
-    | inr part ↦ part-is rest path behind asked whole is (rw (other, part) at h)
+        subst (IsResource rest) same (record { whole = whole ∙ (λ i. escaped path ++ (codes "/@" ++ behinds i)); path_is = is })
+    | inr more ↦ of-version-is rest path behind asked whole is (rw (other, more) at h)
   ]
 ]
 
-asked-is : (rest : List ℕ) (asked : Query) → asked_of (percent_decode rest) ≡ Some asked → IsQuery rest asked
+asked-is : (rest : List ℕ) (asked : Resource) → asked_of (percent_decode rest) ≡ Some asked → IsResource rest asked
 unfolding asked_of
 asked-is rest asked h =
     let text = percent_decode rest in
@@ -244,28 +244,28 @@ asked-is rest asked h =
     let whole = cut-is text (outer.0).0 (outer.0).1 outer.1 ∙ (λ i. path.0 i ++ (codes "/@" ++ (outer.0).1)) in
     of-path-is rest inner.0 (outer.0).1 asked whole path.1 inner.2
 
--- what is computed for the text after a plain `-/` is a query of the rest
-own-query : (rest behind : List ℕ) (asked : Query) → rest ≡ codes "-/" ++ behind → own_of (percent_decode behind) ≡ Some asked → IsQuery rest asked
-own-query rest behind asked whole h = elim (cases_Bool (text_eq (percent_decode behind) (codes "modules"))) [
+-- what is computed for the text after a plain `-/` is what the rest asks for
+own-resource : (rest behind : List ℕ) (asked : Resource) → rest ≡ codes "-/" ++ behind → own_of (percent_decode behind) ≡ Some asked → IsResource rest asked
+own-resource rest behind asked whole h = elim (cases_Bool (text_eq (percent_decode behind) (codes "modules"))) [
   | inl modules ↦
-      let same : query.Modules ≡ asked = cc (rw modules at h) in
-      subst (IsQuery rest) same (record { behind = behind; whole = whole; decodes = same-text (percent_decode behind) (codes "modules") modules })
+      let same : resource.Modules ≡ asked = cc (rw modules at h) in
+      subst (IsResource rest) same (record { behind = behind; whole = whole; decodes = same-text (percent_decode behind) (codes "modules") modules })
   | inr other ↦
       let text = percent_decode behind in
       let outer = then-some summed_of (without_start (codes "gosum/") text) asked (rw other at h) in
-      let inner = map-some sum_at (place_of outer.0) asked outer.2 in
-      let place = inner.0 in
-      let is : IsQuery rest (query.GoSum place.path place.version) = record {
+      let inner = map-some sum_at (module_version_of outer.0) asked outer.2 in
+      let found = inner.0 in
+      let is : IsResource rest (resource.GoSum found.path found.version) = record {
         text = outer.0;
         own = record { behind = behind; whole = whole; decodes = start-is (codes "gosum/") text outer.0 outer.1 };
-        place = place-is outer.0 place inner.1;
+        named = module-version-is outer.0 found inner.1;
       } in
-      subst (IsQuery rest) inner.2 is
+      subst (IsResource rest) inner.2 is
 ]
 
-query-by : (rest behind : List ℕ) (a : Area) (asked : Query) → StandsIn a rest behind → query_in a behind ≡ Some asked → IsQuery rest asked
-query-by rest behind area.Shelf asked stands h = own-query rest behind asked stands h
-query-by rest behind area.Path asked stands h = asked-is rest asked (subst (λ (l : List ℕ). asked_of (percent_decode l) ≡ Some asked) (sym stands) h)
+resource-by : (rest behind : List ℕ) (a : Area) (asked : Resource) → StandsIn a rest behind → resource_in a behind ≡ Some asked → IsResource rest asked
+resource-by rest behind area.Shelf asked stands h = own-resource rest behind asked stands h
+resource-by rest behind area.Path asked stands h = asked-is rest asked (subst (λ (l : List ℕ). asked_of (percent_decode l) ≡ Some asked) (sym stands) h)
 
-pub query-is : (rest behind : List ℕ) (a : Area) (asked : Query) → area_of rest ≡ Some (a, behind) → query_in a behind ≡ Some asked → IsQuery rest asked
-query-is rest behind a asked found h = query-by rest behind a asked (area-is rest behind a found) h
+pub resource-is : (rest behind : List ℕ) (a : Area) (asked : Resource) → area_of rest ≡ Some (a, behind) → resource_in a behind ≡ Some asked → IsResource rest asked
+resource-is rest behind a asked found h = resource-by rest behind a asked (area-is rest behind a found) h

@@ -2,7 +2,7 @@ use Rattle.std.proofs.Common.{◌==◌, rules, tests}
 use Rattle.std.proofs.lemmas.Iterator.{YieldsList-from_slice}
 use Rattle.std.proofs.lemmas.Iterator.Search.{position_from_yields_List}
 use Rattle.wire.proofs.CutLemmas.{around-none, around-some}
-use Rattle.wire.proofs.places.split_at_byte.Goals as goal
+use Rattle.wire.proofs.module_version.split_at_byte.Goals as goal
 
 pub returns-in_err-at : goal.returns-in_err-at
 returns-in_err-at c =

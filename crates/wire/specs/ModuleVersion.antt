@@ -9,7 +9,7 @@ use Rattle.modpath.specs.Escape.{escape_fault, escaped}
 use Rattle.modpath.specs.Path.{IsPath, is_path}
 use Rattle.modver.specs.Reading.{IsCanonical, version_of}
 use Rattle.modver.specs.SemanticVersion.{SemanticVersion, version_text}
-use Rattle.wire.specs.declared.places.Place.{Place}
+use Rattle.wire.specs.declared.module_version.ModuleVersion.{ModuleVersion}
 
 -- the text is a path in its escaped form and this ending
 pub record IsPathWith (text path ending : List ℕ) : Type 0 where
@@ -17,7 +17,7 @@ pub record IsPathWith (text path ending : List ℕ) : Type 0 where
   pub path_is : IsPath path
 
 -- the text is a path, `/@v/`, a version and an ending, the path and the version in their escaped forms
-pub record IsPlace (text path : List ℕ) (version : SemanticVersion) (ending : List ℕ) : Type 0 where
+pub record IsModuleVersion (text path : List ℕ) (version : SemanticVersion) (ending : List ℕ) : Type 0 where
   pub whole : text ≡ escaped path ++ (codes "/@v/" ++ (escaped (version_text version) ++ ending))
   pub path_is : IsPath path
   pub version_is : IsCanonical (version_text version) version
@@ -71,10 +71,10 @@ abbrev pub version_from : List ℕ → Option SemanticVersion
 version_from text = option_and_then version_of (plain_of text)
 
 -- a path and a version, if both are there
-abbrev pub pair : Option (List ℕ) → Option SemanticVersion → Option Place
+abbrev pub pair : Option (List ℕ) → Option SemanticVersion → Option ModuleVersion
 pair path version = option_and_then (λ p. option_map (λ v. record { path = p; version = v }) version) path
 
 -- the path before `/@v/` and the version after it, if the text has this form
-unfoldable pub place_of : List ℕ → Option Place
-place_of text =
+unfoldable pub module_version_of : List ℕ → Option ModuleVersion
+module_version_of text =
     option_and_then (λ (parts : List ℕ × List ℕ). option_and_then (λ name. pair (path_of parts.0) (version_from name)) (without_start (codes "v/") parts.1)) (cut_of text)

@@ -1,6 +1,6 @@
 use Rattle.std.proofs.Common.{sym, rules}
 use Rattle.wire.proofs.VersionLemmas.{version-some, version-refused}
-use Rattle.wire.proofs.places.read_version.Goals as goal
+use Rattle.wire.proofs.module_version.read_version.Goals as goal
 
 pub returns-in-Ok : goal.returns-in-Ok
 returns-in-Ok c = sym (version-some c.args.bytes.now c.as_str.result.now c.in-Ok.version (search (c, rules)) c.in-Ok.ensures.ok)

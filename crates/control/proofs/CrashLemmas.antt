@@ -2,7 +2,7 @@
 use Rattle.std.proofs.Common.{◌≡◌, List, [], ◌∷◌, ◌++◌, refl, sym, subst, Ok, Err}
 use Rattle.world.specs.World.{World}
 use Rattle.world.specs.Store.{Shown}
-use Rattle.wire.specs.Message.{Request}
+use Rattle.framing.specs.Message.{Request}
 use Rattle.engine.specs.Exchange.{Outcome, Unserved, Met, Told}
 use Rattle.control.specs.Turns.{Turn, Asked, Ordered, LeavesTwo, AllCalm, world_at}
 

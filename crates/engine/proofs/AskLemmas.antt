@@ -6,8 +6,8 @@ use Rattle.std.specs.Str.{IsUtf8}
 use Rattle.std.proofs.lemmas.Str.{IsUtf8-from_ascii}
 use Rattle.modver.specs.Time.{has_time_form, is_moment}
 use Rattle.modver.proofs.Forms.{fits_form-ascii}
-use Rattle.wire.specs.Framing.{texts}
-use Rattle.wire.specs.Message.{Request}
+use Rattle.framing.specs.Framing.{texts}
+use Rattle.framing.specs.Message.{Request}
 use Rattle.wire.specs.declared.request.Resource.TheVariants as resource
 use Rattle.wire.specs.declared.request.Target.{Target}
 use Rattle.wire.specs.declared.request.Target.TheVariants as target

@@ -2,12 +2,12 @@
 use Rattle.std.proofs.Common.{◌≡◌, ◌≢◌, ◌⊎◌, ℕ, List, [], ◌∷◌, ◌++◌, Bool, true, false, Option, Some, None, Result, Ok, Err, refl, ◌∙◌, sym, ap, subst, inl, inr, append-nil}
 use Rattle.std.specs.Prelude.{map}
 use Rattle.std.specs.List.{concat}
-use Rattle.wire.specs.Message.{Request, ReadsMessages, End, clean, too_large, bad, Ends, IsStream}
-use Rattle.wire.specs.Pieces.{AreMessages}
+use Rattle.framing.specs.Message.{Request, ReadsMessages, End, clean, too_large, bad, Ends, IsStream}
+use Rattle.framing.specs.Pieces.{AreMessages}
 use Rattle.wire.specs.declared.reply.Fixed.{Fixed}
 use Rattle.wire.specs.declared.reply.Fixed.TheVariants.{TooLarge, BadRequest, Unavailable}
-use Rattle.wire.proofs.PieceLemmas.{ReadsMessages-append, messages_make_a_stream, stream_begins}
-use Rattle.wire.proofs.StreamLemmas.{stream_unique}
+use Rattle.framing.proofs.PieceLemmas.{ReadsMessages-append, messages_make_a_stream, stream_begins}
+use Rattle.framing.proofs.StreamLemmas.{stream_unique}
 use Rattle.world.specs.Store.{Shown}
 use Rattle.world.specs.World.{World, IsWorld, chain}
 use Rattle.shelf.specs.Machine.{Run}

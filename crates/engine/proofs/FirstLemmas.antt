@@ -2,9 +2,9 @@
 use Rattle.std.proofs.Common.{◌≡◌, ℕ, List, [], ◌++◌, Option, Some, None, Result, Ok, Err, inl, inr, refl, sym, ap, ◌∙◌, subst, IfOk, IfErr}
 use Rattle.std.specs.Io.KnownBytes.{Consumes, Keeps, Appends}
 use Rattle.std.proofs.KnownBytes.{Appends-kept, Keeps-trans}
-use Rattle.wire.specs.Message.{ReadsMessage}
-use Rattle.wire.specs.Framing.{Framing, IsUnfinished}
-use Rattle.wire.proofs.StreamLemmas.{ReadsMessage-append, unfinished_nothing}
+use Rattle.framing.specs.Message.{ReadsMessage}
+use Rattle.framing.specs.Framing.{Framing, IsUnfinished}
+use Rattle.framing.proofs.StreamLemmas.{ReadsMessage-append, unfinished_nothing}
 use Rattle.world.specs.Store.{Shown}
 use Rattle.engine.specs.First.{First, Answers, Closes, IsFirst, TakesFirst, ServesFirst, first_bytes, first_status}
 use Rattle.engine.specs.Served.{IsClosing, Tells}

@@ -1,7 +1,7 @@
 -- The front of a run, and the front of what is kept of it.
 use Rattle.std.proofs.Common.{◌≡◌, ◌⊎◌, ℕ, List, [], ◌∷◌, ◌++◌, Bool, true, false, refl, ◌∙◌, sym, ap, inl, inr}
 use Rattle.std.specs.Prelude.{map}
-use Rattle.wire.specs.Message.{Request}
+use Rattle.framing.specs.Message.{Request}
 use Rattle.world.specs.World.{World}
 use Rattle.shelf.specs.declared.reply.Answer.TheVariants.{Replied, Failed}
 use Rattle.shelf.specs.Machine.{Run, after}

@@ -3,7 +3,7 @@ use Rattle.std.proofs.Common.{◌≡◌, ◌⊎◌, ℕ, List, [], ◌∷◌, Bo
 use Rattle.std.specs.Prelude.{map}
 use Rattle.std.specs.FinMap as fin
 use Rattle.modver.specs.SemanticVersion.{SemanticVersion, version_text}
-use Rattle.wire.specs.Message.{Request}
+use Rattle.framing.specs.Message.{Request}
 use Rattle.world.specs.declared.entry.Heading.{Heading}
 use Rattle.world.specs.declared.entry.Seen.{Seen}
 use Rattle.world.specs.World.{World, IsWorld, chain, view, without_zip, heading}

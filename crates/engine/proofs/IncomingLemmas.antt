@@ -2,9 +2,9 @@
 use Rattle.std.proofs.Common.{◌≡◌, ℕ, ◌<◌, ◌≤◌, ◌+◌, List, [], ◌++◌, Option, Some, None, Ok, Err, length, refl, sym, ap, ◌∙◌, subst, arith, append_assoc, append-nil}
 use Rattle.std.specs.Io.KnownBytes.{Consumes}
 use Rattle.std.proofs.KnownBytes.{Consumes-nil, Consumes-trans, Consumes-kept}
-use Rattle.wire.specs.Message.{ReadsMessage}
-use Rattle.wire.specs.Framing.{Framing, IsUnfinished, view}
-use Rattle.wire.specs.declared.message.Message.{Message}
+use Rattle.framing.specs.Message.{ReadsMessage}
+use Rattle.framing.specs.Framing.{Framing, IsUnfinished, view}
+use Rattle.framing.specs.declared.message.Message.{Message}
 use Rattle.wire.specs.declared.reply.Fixed.{Fixed}
 use Rattle.engine.specs.First.{Answers, Closes}
 use Rattle.engine.specs.Served.{IsClosing}

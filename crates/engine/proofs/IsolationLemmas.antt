@@ -1,10 +1,10 @@
 -- A caller gets what it would get in every world that is the same to it.
 use Rattle.std.proofs.Common.{◌≡◌, ◌≢◌, ℕ, List, Option, Some, None, Result, Ok, refl, sym, ap, ◌∙◌, subst}
 use Rattle.std.specs.Io.KnownBytes.{Appends}
-use Rattle.wire.specs.Message.{Request, ReadsMessage, clean, too_large, bad}
+use Rattle.framing.specs.Message.{Request, ReadsMessage, clean, too_large, bad}
 use Rattle.wire.specs.declared.reply.Fixed.{Fixed}
 use Rattle.wire.specs.declared.reply.Fixed.TheVariants.{TooLarge, BadRequest, Unavailable}
-use Rattle.wire.proofs.StreamLemmas.{message_unique, no_message_at_end}
+use Rattle.framing.proofs.StreamLemmas.{message_unique, no_message_at_end}
 use Rattle.shelf.specs.declared.reply.Answer.TheVariants.{Replied}
 use Rattle.world.specs.World.{World, IsWorld}
 use Rattle.world.specs.Store.{Shown}

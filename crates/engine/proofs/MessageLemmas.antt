@@ -1,7 +1,7 @@
 -- A message at the front of bytes.
 use Rattle.std.proofs.Common.{◌≡◌, ℕ, ◌<◌, List, [], ◌∷◌, ◌++◌, length, refl, ap, arith, length-append}
-use Rattle.wire.specs.Message.{Request, ReadsMessage}
-use Rattle.wire.proofs.StreamLemmas.{nothing_reads}
+use Rattle.framing.specs.Message.{Request, ReadsMessage}
+use Rattle.framing.proofs.StreamLemmas.{nothing_reads}
 
 shorter : (front body rest bytes : List ℕ) → bytes ≡ front ++ (body ++ rest) → ([] ≡ front ++ [] → ⊥) → length rest < length bytes
 shorter [] body rest bytes e some = absurd (some refl)

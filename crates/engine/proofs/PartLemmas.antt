@@ -1,7 +1,7 @@
 -- What two stores write for the requests of a team, if the second stands for the team's part of the first one's world.
 use Rattle.std.proofs.Common.{◌≡◌, ◌⊎◌, List, [], ◌∷◌, inl, inr, refl, sym, ap, subst, ◌∙◌}
 use Rattle.std.specs.Prelude.{map}
-use Rattle.wire.specs.Message.{Request}
+use Rattle.framing.specs.Message.{Request}
 use Rattle.wire.specs.Reply.{fixed_bytes}
 use Rattle.wire.specs.declared.reply.Fixed.TheVariants.{NotFound}
 use Rattle.shelf.specs.declared.reply.Reply.{Reply}

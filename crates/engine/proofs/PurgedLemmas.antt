@@ -1,7 +1,7 @@
 -- The exchanges of a run, and those that are kept of them, if none of the kept ones was answered by the 503.
 use Rattle.std.proofs.Common.{◌≡◌, ◌≢◌, ℕ, List, [], ◌∷◌, Bool, true, false, refl, ◌∙◌, sym, ap, subst}
 use Rattle.std.specs.Prelude.{map}
-use Rattle.wire.specs.Message.{Request}
+use Rattle.framing.specs.Message.{Request}
 use Rattle.world.specs.World.{World, IsWorld, chain}
 use Rattle.shelf.specs.declared.reply.Answer.{Answer}
 use Rattle.shelf.specs.declared.reply.Answer.TheVariants.{Replied, Failed}

@@ -2,9 +2,9 @@
 use Rattle.std.proofs.Common.{◌≡◌, ◌≢◌, ℕ, ◌<◌, ◌≤◌, ◌+◌, ◌-◌, List, [], ◌++◌, Option, Some, None, length, take, drop, refl, sym, ap, ◌∙◌, subst, arith, append-nil, length-append, length-drop, take-append-drop}
 use Rattle.std.proofs.lemmas.List.{length-take-le}
 use Rattle.std.specs.Io.KnownBytes.{Consumes, IsAtEnd}
-use Rattle.wire.specs.Message.{Ends, clean, bad}
-use Rattle.wire.specs.Framing.{Framing, HasMessage, IsUnfinished}
-use Rattle.wire.proofs.StreamLemmas.{ReadsMessage-append, no_message_at_end}
+use Rattle.framing.specs.Message.{Ends, clean, bad}
+use Rattle.framing.specs.Framing.{Framing, HasMessage, IsUnfinished}
+use Rattle.framing.proofs.StreamLemmas.{ReadsMessage-append, no_message_at_end}
 use Rattle.engine.specs.Served.{read_limit, Tells}
 use Rattle.engine.specs.Turn.{StaysNear}
 

@@ -2,7 +2,7 @@
 use Rattle.std.proofs.Common.{◌≡◌, ℕ, inl, inr, List, [], ◌∷◌, ◌++◌, Option, Some, None, Result, Ok, Err, refl, sym, ap, ◌∙◌, subst, IfErr}
 use Rattle.std.specs.Io.KnownBytes.{Consumes, Appends, Keeps}
 use Rattle.std.proofs.KnownBytes.{Appends-trans, Appends-kept, Consumes-trans, Consumes-nil}
-use Rattle.wire.specs.Framing.{Framing}
+use Rattle.framing.specs.Framing.{Framing}
 use Rattle.wire.specs.declared.reply.Fixed.{Fixed}
 use Rattle.world.specs.Store.{Shown}
 use Rattle.engine.specs.First.{Answers, Closes}

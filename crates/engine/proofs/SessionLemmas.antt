@@ -1,9 +1,9 @@
 -- What a turn does, from what came.
 use Rattle.std.proofs.Common.{◌≡◌, ℕ, ◌<◌, List, [], ◌∷◌, ◌++◌, Option, Result, Ok, Err, IfOk, IfErr, refl, sym, subst}
 use Rattle.std.proofs.KnownBytes.{Keeps-refl}
-use Rattle.wire.specs.Message.{Request}
-use Rattle.wire.specs.Framing.{Framing, view}
-use Rattle.wire.specs.declared.message.Message.{Message}
+use Rattle.framing.specs.Message.{Request}
+use Rattle.framing.specs.Framing.{Framing, view}
+use Rattle.framing.specs.declared.message.Message.{Message}
 use Rattle.wire.specs.declared.reply.Fixed.{Fixed}
 use Rattle.world.specs.Store.{Shown}
 use Rattle.engine.specs.Exchange.{Exchange}

@@ -2,7 +2,7 @@
 use Rattle.std.proofs.Common.{◌≡◌, ℕ, ◌≤◌, List, [], ◌∷◌, ◌++◌, map, Option, refl, sym, subst, ap, ◌∙◌, inl, inr, Result, Ok, Err, arith, append-nil}
 use Rattle.std.proofs.lemmas.List.{map-append}
 use Rattle.modver.specs.SemanticVersion.{SemanticVersion}
-use Rattle.wire.specs.Message.{Request}
+use Rattle.framing.specs.Message.{Request}
 use Rattle.shelf.specs.declared.ask.Ask.{Ask}
 use Rattle.shelf.specs.declared.reply.Reply.{Reply}
 use Rattle.shelf.specs.declared.reply.Reply.TheVariants.{GoMod, Info, Versions, Paths}

@@ -4,7 +4,7 @@ use Rattle.std.specs.Io.KnownBytes.{Appends}
 use Rattle.std.proofs.KnownBytes.{Appends-trans, Appends-nil}
 use Rattle.std.proofs.lemmas.List.{map-append}
 use Rattle.std.proofs.lemmas.Grind.{flat_map-append}
-use Rattle.wire.specs.Message.{ReadsMessage, ReadsMessages}
+use Rattle.framing.specs.Message.{ReadsMessage, ReadsMessages}
 use Rattle.world.specs.Store.{Shown}
 use Rattle.engine.specs.Exchange.{Exchange, message_of}
 use Rattle.engine.specs.Reply.{text_of}
@@ -12,7 +12,7 @@ use Rattle.engine.specs.Served.{texts_of}
 use Rattle.engine.specs.Store.{GoesThrough}
 use Rattle.engine.specs.Turn.{Answered, CutShort}
 use Rattle.engine.specs.Written.{WritesPart}
-use Rattle.wire.proofs.PieceLemmas.{ReadsMessages-append, ReadsMessages-join}
+use Rattle.framing.proofs.PieceLemmas.{ReadsMessages-append, ReadsMessages-join}
 use Rattle.engine.proofs.StoreLemmas.{through_none, through_more}
 
 -- at first nothing was answered

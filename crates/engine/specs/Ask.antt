@@ -1,8 +1,8 @@
 -- What a message asks of the machine.
 use Rattle.std.specs.Prelude.{ℕ, List, [], ◌∷◌, Bool, true, false, if◌then◌else◌, Option, Some, None, nat_le, length, take, drop}
 use Rattle.modver.specs.SemanticVersion.{SemanticVersion}
-use Rattle.wire.specs.Length.{length_value}
-use Rattle.wire.specs.Message.{Request}
+use Rattle.framing.specs.Length.{length_value}
+use Rattle.framing.specs.Message.{Request}
 use Rattle.wire.specs.Target.{target_of}
 use Rattle.wire.specs.declared.request.Resource.{Resource}
 use Rattle.wire.specs.declared.request.Resource.TheVariants as resource

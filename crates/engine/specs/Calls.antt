@@ -1,8 +1,8 @@
 -- Two calls that answer one stream, the second without the bytes of others' messages.
 use Rattle.std.specs.Prelude.{◌≡◌, ◌≢◌, ◌⊎◌, ℕ, List, [], ◌++◌, Bool, Option, Some, map, Result, Ok}
 use Rattle.std.specs.List.{concat, AllByRecursion}
-use Rattle.wire.specs.Message.{Request, End, clean, too_large, bad, Ends}
-use Rattle.wire.specs.Pieces.{AreMessages}
+use Rattle.framing.specs.Message.{Request, End, clean, too_large, bad, Ends}
+use Rattle.framing.specs.Pieces.{AreMessages}
 use Rattle.wire.specs.Reply.{fixed_bytes}
 use Rattle.wire.specs.declared.reply.Fixed.TheVariants.{TooLarge, BadRequest, Unavailable}
 use Rattle.world.specs.Store.{Shown}

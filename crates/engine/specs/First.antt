@@ -1,8 +1,8 @@
 -- What `answer_one` does with the first message of a stream.
 use Rattle.std.specs.Prelude.{◌≡◌, ℕ, ◌≤◌, ◌⊎◌, List, [], ◌∷◌, ◌++◌, length, Option, Some, Result, Ok, Err}
 use Rattle.std.specs.Io.KnownBytes.{Consumes, Appends, Keeps}
-use Rattle.wire.specs.Message.{ReadsMessage}
-use Rattle.wire.specs.Framing.{IsUnfinished}
+use Rattle.framing.specs.Message.{ReadsMessage}
+use Rattle.framing.specs.Framing.{IsUnfinished}
 use Rattle.wire.specs.declared.reply.Fixed.{Fixed}
 use Rattle.world.specs.Store.{Shown}
 use Rattle.engine.specs.Exchange.{Exchange}

@@ -1,7 +1,7 @@
 -- The answer to a request does not depend on the shelves that its key does not see.
 use Rattle.std.specs.Prelude.{◌≡◌, ◌≢◌, ℕ, List, Option, Some, true, Result, Ok}
 use Rattle.std.specs.Io.KnownBytes.{Appends}
-use Rattle.wire.specs.Message.{Request, ReadsMessage}
+use Rattle.framing.specs.Message.{Request, ReadsMessage}
 use Rattle.shelf.specs.declared.reply.Answer.TheVariants.{Replied}
 use Rattle.world.specs.World.{World, IsWorld}
 use Rattle.shelf.specs.Machine.{ask_reply, after_ask}

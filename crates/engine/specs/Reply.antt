@@ -2,7 +2,7 @@
 use Rattle.std.specs.Prelude.{◌≡◌, ℕ, List, ◌++◌, codes, Option, Some, None, map, Result, Ok, Err}
 use Rattle.gosum.specs.Sum.{line_of}
 use Rattle.modver.specs.SemanticVersion.{SemanticVersion, version_text}
-use Rattle.wire.specs.Message.{Request}
+use Rattle.framing.specs.Message.{Request}
 use Rattle.wire.specs.Reply.{reply_bytes, fixed_bytes, fixed_status, info_bytes}
 use Rattle.wire.specs.declared.reply.Fixed.{Fixed}
 use Rattle.wire.specs.declared.reply.Fixed.TheVariants as fixed

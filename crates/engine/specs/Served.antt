@@ -2,8 +2,8 @@
 use Rattle.std.specs.Prelude.{◌≡◌, ◌≢◌, ℕ, ◌⊎◌, List, [], ◌∷◌, ◌++◌, Option, Some, None, map, ⊤, Result, Ok, Err}
 use Rattle.std.specs.List.{flat_map}
 use Rattle.std.specs.Io.KnownBytes.{Consumes, Appends}
-use Rattle.wire.specs.Message.{ReadsMessages, Ends, clean, too_large, bad}
-use Rattle.wire.specs.Framing.{IsUnfinished}
+use Rattle.framing.specs.Message.{ReadsMessages, Ends, clean, too_large, bad}
+use Rattle.framing.specs.Framing.{IsUnfinished}
 use Rattle.wire.specs.Reply.{fixed_bytes, fixed_status}
 use Rattle.wire.specs.declared.reply.Fixed.{Fixed}
 use Rattle.wire.specs.declared.reply.Fixed.TheVariants.{TooLarge, BadRequest, Unavailable}

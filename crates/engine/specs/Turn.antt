@@ -1,8 +1,8 @@
 -- What one turn of reading or answering does.
 use Rattle.std.specs.Prelude.{◌≡◌, ◌≢◌, ℕ, ◌≤◌, ◌<◌, ◌+◌, ◌*◌, ◌⊎◌, List, [], ◌∷◌, ◌++◌, Option, Some, None, length, map, Result, Ok, Err, MatchResult}
 use Rattle.std.specs.Io.KnownBytes.{Consumes, Appends, Keeps}
-use Rattle.wire.specs.Message.{ReadsMessage, ReadsMessages}
-use Rattle.wire.specs.Framing.{Framing, IsUnfinished, HasMessage, view}
+use Rattle.framing.specs.Message.{ReadsMessage, ReadsMessages}
+use Rattle.framing.specs.Framing.{Framing, IsUnfinished, HasMessage, view}
 use Rattle.wire.specs.declared.reply.Fixed.TheVariants as fixed
 use Rattle.world.specs.Store.{Shown}
 use Rattle.engine.specs.Exchange.{Exchange, message_of}

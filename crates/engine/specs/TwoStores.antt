@@ -1,7 +1,7 @@
 -- One request to two stores whose worlds are the same to a shelf that sees the shelf of its key.
 use Rattle.std.specs.Prelude.{◌≡◌, ◌≢◌, ℕ, List, Option, Some, true, Ok}
 use Rattle.std.specs.Io.KnownBytes.{Appends}
-use Rattle.wire.specs.Message.{Request, ReadsMessage}
+use Rattle.framing.specs.Message.{Request, ReadsMessage}
 use Rattle.world.specs.World.{World}
 use Rattle.world.specs.Store.{Shown}
 use Rattle.shelf.specs.Machine.{after_ask}

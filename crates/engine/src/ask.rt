@@ -1,6 +1,6 @@
 //! What a message asks of the machine.
 ghost use Rattle.std.specs.Prelude.{◌≡◌, ◌≤◌, take, drop, vec_len, IfOk};
-ghost use Rattle.wire.specs.Framing.{view, texts};
+ghost use Rattle.framing.specs.Framing.{view, texts};
 ghost use Rattle.engine.specs.Ask as spec;
 
 use modver::read_time;

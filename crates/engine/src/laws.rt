@@ -1,6 +1,6 @@
 //! What the callers of a stream get, in bytes; and how long a body may be.
 ghost use Rattle.std.specs.Prelude.{◌≡◌, ◌+◌};
-ghost use Rattle.wire.specs.Message.{body_limit};
+ghost use Rattle.framing.specs.Message.{body_limit};
 ghost use Rattle.world.specs.World.{gomod_limit, zip_limit};
 ghost use Rattle.engine.specs.Accepted.{AcceptedIsWritten};
 ghost use Rattle.engine.specs.Calls.{CallsTellAlike, CallsTellAlikeAsFar};

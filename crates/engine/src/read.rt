@@ -1,7 +1,7 @@
 //! Reading into the framer.
 ghost use Rattle.std.specs.Prelude.{◌≡◌, ℕ, ◌<◌, ◌≤◌, List, ◌++◌, ◌+◌, None, length, take, IfOk, IfErr, OnErr};
 ghost use Rattle.std.specs.Io.KnownBytes.{Consumes, IsAtEnd, Keeps};
-ghost use Rattle.wire.specs.Framing.{IsUnfinished};
+ghost use Rattle.framing.specs.Framing.{IsUnfinished};
 ghost use Rattle.engine.specs.Served.{read_limit};
 ghost use Rattle.engine.specs.Turn.{ReadsOn, StaysNear};
 

@@ -3,7 +3,7 @@ use Rattle.std.proofs.Common.{◌≡◌, ◌==◌, ℕ, ◌+◌, ◌-◌, List, 
 use Rattle.std.proofs.lemmas.Bool.{cases_Bool}
 use Rattle.std.specs.List.{position, position_or_len}
 use Rattle.wire.specs.ModuleVersion.{around}
-use Rattle.wire.proofs.BegunLemmas.{slice_to_end}
+use Rattle.framing.proofs.BegunLemmas.{slice_to_end}
 
 -- a text around what a search found
 pub around-none : (byte : ℕ) (text : List ℕ) (found : Option ℕ) → found ≡ position (λ b. b == byte) text → found ≡ None → around byte text ≡ None

@@ -13,7 +13,7 @@ use Rattle.wire.specs.Route.{area_of, routed_of}
 use Rattle.wire.specs.Target.{Asks, IsKeyed, ReadsTarget, asked_or, get_of, module_version_in, put_of, target_of}
 use Rattle.wire.specs.declared.routes.Area.{Area}
 use Rattle.wire.specs.declared.routes.Area.TheVariants as area
-use Rattle.wire.specs.declared.message.Memory.{Memory}
+use Rattle.framing.specs.declared.message.Memory.{Memory}
 use Rattle.wire.specs.declared.module_version.ModuleVersion.{ModuleVersion}
 use Rattle.wire.specs.declared.request.Resource.{Resource}
 use Rattle.wire.specs.declared.request.Target.{Target}

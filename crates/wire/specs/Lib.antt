@@ -1,12 +1,5 @@
-pub mod Framing
-pub mod Message
-pub mod Length
-pub mod Never
-pub mod Pieces
 pub mod Reply
 pub mod Info
-pub mod Values
-pub mod HeadFront
 pub mod ModuleVersion
 pub mod Route
 pub mod Resource

@@ -6,7 +6,7 @@ ghost use Rattle.serde_json.specs.View.{view};
 ghost use Rattle.wire.specs.Info.{info_object};
 ghost use Rattle.wire.specs.Reply.{info_bytes};
 
-use crate::message::Memory;
+use framing::Memory;
 use modver::{TimeText, Version};
 use serde_json::{Value, json};
 use std::alloc::{AllocError, Global};

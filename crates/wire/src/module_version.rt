@@ -4,7 +4,7 @@ ghost use Rattle.std.specs.Cow.{cow_str_bytes};
 ghost use Rattle.std.specs.List.{list_all};
 ghost use Rattle.wire.specs.ModuleVersion.{around, cut_of, module_version_of, path_of, plain_of, stands_for_itself, version_from};
 
-use crate::message::Memory;
+use framing::Memory;
 use modpath::{EscapeFault, ModulePath, PathError, unescape};
 use modver::{Version, VersionFault};
 use std::alloc::Global;

@@ -2,8 +2,8 @@
 ghost use Rattle.std.specs.Prelude.{◌≡◌, ◌+◌, ◌≤◌, ◌++◌, length, take, IfOk};
 ghost use Rattle.wire.specs.Reply.{phrase, head_with, head_bytes, fixed_text, fixed_bytes, line_bytes};
 
-use crate::message::Memory;
 use crate::reply::{Fixed, Kind, phrase_of};
+use framing::Memory;
 use http::StatusCode;
 use itoa::Buffer;
 use std::alloc::Global;

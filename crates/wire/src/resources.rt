@@ -4,10 +4,10 @@ ghost use Rattle.std.specs.Cow.{cow_slice_items};
 ghost use Rattle.percent_encoding.specs.Percent.{percent_decode as percent_decoded};
 ghost use Rattle.wire.specs.Resource as spec;
 
-use crate::message::Memory;
 use crate::module_version::{ModuleVersion, cut, read_module_version, read_path, read_version};
 use crate::request::Resource;
 use crate::routes::Area;
+use framing::Memory;
 use modpath::ModulePath;
 use modver::Version;
 use percent_encoding::percent_decode;

@@ -3,7 +3,7 @@ ghost use Rattle.std.specs.Prelude.{◌≡◌, None, Some, IfOk, IfErr, MatchOpt
 ghost use Rattle.std.specs.Option.{ForSome};
 ghost use Rattle.wire.specs.Route as spec;
 
-use crate::message::Memory;
+use framing::Memory;
 use matchit::{InsertError, Router};
 use std::alloc::Global;
 

@@ -4,11 +4,11 @@ ghost use Rattle.wire.specs.Resource.{resource_in};
 ghost use Rattle.wire.specs.Route.{routed_of};
 ghost use Rattle.wire.specs.Target.{asked_or, get_of, module_version_in, put_of, target_of, ReadsTarget};
 
-use crate::message::Memory;
 use crate::module_version::{ModuleVersion, read_module_version};
 use crate::request::Target;
 use crate::resources::{decoded, read_resource};
 use crate::routes::{Area, RouteTable, Routed};
+use framing::Memory;
 use std::alloc::Global;
 use text::Text;
 

@@ -1,5 +1,5 @@
 use Rattle.std.proofs.Common.{refl}
-use Rattle.wire.proofs.StreamLemmas.{unfinished_nothing}
+use Rattle.framing.proofs.StreamLemmas.{unfinished_nothing}
 use Rattle.engine.proofs.ReadLemmas.{message_some}
 use Rattle.engine.proofs.incoming.take.Goals as goal
 

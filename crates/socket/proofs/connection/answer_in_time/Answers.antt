@@ -1,5 +1,5 @@
 use Rattle.std.proofs.Common.{ap}
-use Rattle.wire.specs.Framing.{Framing}
+use Rattle.framing.specs.Framing.{Framing}
 use Rattle.engine.proofs.FirstLemmas.{first_turned}
 use Rattle.engine.proofs.IsolationLemmas.{alike}
 use Rattle.socket.proofs.connection.answer_in_time.Goals as goal

@@ -1,6 +1,6 @@
 use Rattle.std.proofs.Common.{◌≡◌, refl, ap, ◌∙◌, subst}
 use Rattle.std.proofs.lemmas.Result.{err_from_is_err_and}
-use Rattle.wire.specs.Framing.{view}
+use Rattle.framing.specs.Framing.{view}
 use Rattle.engine.specs.Ask.{ask_of, sum_of, sum_by}
 use Rattle.engine.specs.Exchange.{Exchange, Unserved, answer_to}
 use Rattle.engine.specs.Reply.{answer_page, IsOutcome}

@@ -1,0 +1,9 @@
+pub mod BegunLemmas
+pub mod HeadFrontLemmas
+pub mod HeadLineLemmas
+pub mod FramingLemmas
+pub mod HeadLemmas
+pub mod StreamLemmas
+pub mod PieceLemmas
+pub mod ValuesLemmas
+pub mod LengthLemmas

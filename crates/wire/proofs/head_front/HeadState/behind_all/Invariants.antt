@@ -1,7 +1,0 @@
-use Rattle.std.proofs.Common.{ℕ, List, ◌++◌, take}
-use Rattle.wire.specs.HeadFront.{Stands}
-use Rattle.wire.proofs.head_front.HeadState.behind_all.Given as goal
-
--- the state of what was passed
-abbrev pub invariant-loop-byte : goal.invariant-loop-byte
-invariant-loop-byte l = (bytes : List ℕ) → Stands l.fn.self bytes → Stands l.state (bytes ++ take l.byte-index l.more)

@@ -1,5 +1,0 @@
-use Rattle.wire.proofs.PieceLemmas as piece
-use Rattle.wire.proofs.laws.messages_make_a_stream.Goals as goal
-
-pub returns : goal.returns
-returns c = piece.messages_make_a_stream

@@ -2,7 +2,7 @@
 use Rattle.std.proofs.Common.{◌≢◌, ◌++◌, List, ℕ, Option, [], ◌∷◌, Ok, Err, Result, refl, sym, ap, ◌∙◌, append_assoc, append-nil}
 use Rattle.std.proofs.KnownBytes.{Appends-trans}
 use Rattle.std.specs.Io.KnownBytes.{Appends}
-use Rattle.engine.specs.Written.{Writes, WritesPart}
+use Rattle.engine.specs.Written.{Writes, WritesBeginning}
 use Rattle.engine.specs.declared.fault.Io.{Io}
 use Rattle.commands.specs.ImportLine.{PrintsFront}
 
@@ -25,7 +25,7 @@ longer [] last some = absurd (some refl)
 longer (x ∷ rest) last some = λ none. cc
 
 -- a beginning of the first of two texts is a beginning of both
-pub part_first : (a b : Option (List ℕ)) (first last : List ℕ) → WritesPart a b first → WritesPart a b (first ++ last)
+pub part_first : (a b : Option (List ℕ)) (first last : List ℕ) → WritesBeginning a b first → WritesBeginning a b (first ++ last)
 part_first a b first last (front, (rest, some, cut), did) =
     (front, (rest ++ last, longer rest last some, ap (λ l. l ++ last) cut ∙ append_assoc front rest last), did)
 

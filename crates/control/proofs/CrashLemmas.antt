@@ -3,7 +3,7 @@ use Rattle.std.proofs.Common.{◌≡◌, List, [], ◌∷◌, ◌++◌, refl, sy
 use Rattle.world.specs.World.{World}
 use Rattle.world.specs.Store.{Shown}
 use Rattle.framing.specs.Message.{Request}
-use Rattle.engine.specs.Exchange.{Outcome, Unserved, Met, Told}
+use Rattle.engine.specs.Exchange.{Outcome, Unserved, Met, Served}
 use Rattle.control.specs.Turns.{Turn, Asked, Ordered, LeavesTwo, AllCalm, world_at}
 
 -- if each crash that may leave a world before may also leave it now, `LeavesTwo` still holds
@@ -17,7 +17,7 @@ step_asked : (w : World) (m : Request) (o : Outcome) (ts : List Turn)
     → world_at (world_at w (Asked (record { message = m; outcome = o }) ∷ [])) ts ≡ world_at w (Asked (record { message = m; outcome = o }) ∷ ts)
 step_asked w m Unserved ts = refl
 step_asked w m (Met fault) ts = refl
-step_asked w m (Told reply) ts = refl
+step_asked w m (Served reply) ts = refl
 
 pub world_step : (w : World) (t : Turn) (ts : List Turn) → world_at (world_at w (t ∷ [])) ts ≡ world_at w (t ∷ ts)
 world_step w (Asked x) ts = step_asked w x.message x.outcome ts

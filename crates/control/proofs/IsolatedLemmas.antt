@@ -13,9 +13,9 @@ use Rattle.shelf.specs.Machine.{Run}
 use Rattle.engine.specs.Happening as happened
 use Rattle.engine.specs.Happening.{Coming, Message, Command, Happening, coming_of, event_at, answer_at}
 use Rattle.engine.specs.Reply.{bytes_of}
-use Rattle.engine.proofs.HeadlineLemmas.{told_alike_by}
-use Rattle.engine.proofs.ToldLemmas.{text_to}
-use Rattle.control.specs.Isolated.{coming_at, text_at, if_told, told, TurnsAreToldAlike}
+use Rattle.engine.proofs.HeadlineLemmas.{alike_by}
+use Rattle.engine.proofs.FaultlessLemmas.{text_to}
+use Rattle.control.specs.Isolated.{coming_at, text_at, if_faultless, faultless, TurnsAreAnsweredAlike}
 use Rattle.control.specs.Outcome.{outcome_of, line_of}
 use Rattle.control.specs.Turns.{Turn, Asked, Ordered, happening_of, turn_event, turn_answer, world_at}
 
@@ -41,19 +41,19 @@ fused : {X : Type 0} (f : Happening → X) (g : Turn → X) → ((t : Turn) → 
 fused f g same [] = refl
 fused f g same (t ∷ ts) = let one = same t in let rest = fused f g same ts in λ i. one i ∷ rest i
 
-told_step : (t : Turn) (a : Answer) (hs : List Happening) (ts : List Turn) → hs ≡ map happening_of ts
-    → happened.if_told (happening_of t) a hs ≡ map happening_of (if_told t a ts)
-told_step t (Failed fault) hs ts same = same
-told_step t (Replied r) hs ts same = ap (λ rest. happening_of t ∷ rest) same
+faultless_step : (t : Turn) (a : Answer) (hs : List Happening) (ts : List Turn) → hs ≡ map happening_of ts
+    → happened.if_faultless (happening_of t) a hs ≡ map happening_of (if_faultless t a ts)
+faultless_step t (Failed fault) hs ts same = same
+faultless_step t (Replied r) hs ts same = ap (λ rest. happening_of t ∷ rest) same
 
-told_is : (ts : List Turn) → happened.told (map happening_of ts) ≡ map happening_of (told ts)
-told_is [] = refl
-told_is (t ∷ ts) = told_step t (turn_answer t) (happened.told (map happening_of ts)) (told ts) (told_is ts)
+faultless_is : (ts : List Turn) → happened.faultless (map happening_of ts) ≡ map happening_of (faultless ts)
+faultless_is [] = refl
+faultless_is (t ∷ ts) = faultless_step t (turn_answer t) (happened.faultless (map happening_of ts)) (faultless ts) (faultless_is ts)
 
 -- what holds of each happening that met no fault holds of each turn that met none
 said_of : {X : Type 0} (f : Happening → X) (g : Turn → X) → ((t : Turn) → f (happening_of t) ≡ g t) → (ts : List Turn)
-    → map f (happened.told (map happening_of ts)) ≡ map g (told ts)
-said_of f g same ts = ap (map f) (told_is ts) ∙ fused f g same (told ts)
+    → map f (happened.faultless (map happening_of ts)) ≡ map g (faultless ts)
+said_of f g same ts = ap (map f) (faultless_is ts) ∙ fused f g same (faultless ts)
 
 ran : (w new : World) (ts : List Turn) → Run w (map turn_event ts) (map turn_answer ts) new
     → Run w (map event_at (map happening_of ts)) (map answer_at (map happening_of ts)) new
@@ -64,8 +64,8 @@ ran w new ts run =
 -- ---- two runs
 
 -- two runs whose turns without faults are all, and the kept ones, write alike
-pub turns_are_told_alike : (old new old_too new_too : Shown) → ((w : World) → old.stands w → IsWorld w) → TurnsAreToldAlike old new old_too new_too
-turns_are_told_alike old new old_too new_too sound w x s full purged two same =
+pub turns_are_answered_alike : (old new old_too new_too : Shown) → ((w : World) → old.stands w → IsWorld w) → TurnsAreAnsweredAlike old new old_too new_too
+turns_are_answered_alike old new old_too new_too sound w x s full purged two same =
     let ss : List (List ℕ) = chain (world_at w full) s in
     let first : List Happening = map happening_of full in
     let second : List Happening = map happening_of purged in
@@ -75,14 +75,14 @@ turns_are_told_alike old new old_too new_too sound w x s full purged two same =
     let text = text_to text_for in
     let came = said_of coming_of coming_at (λ t. refl) in
     let left = came purged ∙ same
-    ∙ sym (ap (marked (kept w ss (map turn_event (told full)))) (came full))
-    ∙ sym (ap (λ es. marked (kept w ss es) (map coming_of (happened.told first))) events) in
-    let alike = told_alike_by text_for w x (world_at w full) (world_at x purged) s first second (sound w two.stands) two.agree
+    ∙ sym (ap (marked (kept w ss (map turn_event (faultless full)))) (came full))
+    ∙ sym (ap (λ es. marked (kept w ss es) (map coming_of (happened.faultless first))) events) in
+    let alike = alike_by text_for w x (world_at w full) (world_at x purged) s first second (sound w two.stands) two.agree
     (ran w (world_at w full) full run.run) (ran x (world_at x purged) purged again.run) left in
     record {
       texts = sym (said_of text text_at text_is purged) ∙ alike.0
-          ∙ ap (λ es. marked (kept w ss es) (map text (happened.told first))) events
-          ∙ ap (marked (kept w ss (map turn_event (told full)))) (said_of text text_at text_is full);
+          ∙ ap (λ es. marked (kept w ss es) (map text (happened.faultless first))) events
+          ∙ ap (marked (kept w ss (map turn_event (faultless full)))) (said_of text text_at text_is full);
       stands = run.ends;
       stands_too = again.ends;
       agree = alike.1;

@@ -8,7 +8,7 @@ use Rattle.world.specs.World.{World}
 use Rattle.world.specs.declared.registry.StoreFault.{StoreFault}
 use Rattle.engine.specs.First.{First, Answers as Message, Closes, ServesFirst}
 use Rattle.engine.specs.Store.{GoesThrough}
-use Rattle.engine.specs.Written.{WritesPart}
+use Rattle.engine.specs.Written.{WritesBeginning}
 use Rattle.engine.specs.declared.fault.Io.{Io}
 use Rattle.engine.specs.declared.fault.Io.TheVariants as io
 use Rattle.socket.specs.Connections.{Come, exchanges_of}
@@ -74,7 +74,7 @@ module _ {O : Type 0} (heeded told : O → Option (List ℕ)) (copied : List ℕ
   obeyed_one operator after (Err io.Write) obeys = record {
     audience = record { before = operator; after = after; heard = Some obeys.1.heard };
     begins = refl;
-    there = (obeys.1.from, inl (subst (λ (o : Told). WritesPart (told operator) (told after) (line_told o)) obeys.1.tells obeys.2));
+    there = (obeys.1.from, inl (subst (λ (o : Told). WritesBeginning (told operator) (told after) (line_told o)) obeys.1.tells obeys.2));
     through = obeys.1.through;
     came = obeys.1.came;
   }

@@ -1,7 +1,7 @@
 -- What an operator sends, and what it gets.
 use Rattle.std.specs.Prelude.{ℕ, ◌≡◌, ◌⊎◌, List, Option, Result, Ok, Err}
 use Rattle.std.specs.Io.KnownBytes.{Consumes, Appends, Keeps}
-use Rattle.engine.specs.Written.{WritesPart}
+use Rattle.engine.specs.Written.{WritesBeginning}
 use Rattle.control.specs.Health.{IsHealthLine}
 use Rattle.control.specs.Line.{IsSaid, IsSent, IsCopyTo, ping_line, stop_line}
 use Rattle.control.specs.Outcome.{line_of}
@@ -48,7 +48,7 @@ Asks unread unread_new written written_new order (Ok told) =
 Asks unread unread_new written written_new order (Err Words) = IsUnsayable order × Keeps written written_new
 Asks unread unread_new written written_new order (Err Memory) = Keeps written written_new
 Asks unread unread_new written written_new order (Err Io) =
-    (sent : List ℕ) × IsSent sent order × (WritesPart written written_new sent ⊎ Appends written written_new sent)
+    (sent : List ℕ) × IsSent sent order × (WritesBeginning written written_new sent ⊎ Appends written written_new sent)
 
 -- `Asks`, with the line that orders a copy to a path in place of an order's.
 abbrev pub AsksToCopy :
@@ -59,7 +59,7 @@ AsksToCopy unread unread_new written written_new path (Err Words) =
     ((sent : List ℕ) → ¬ IsCopyTo sent path) × Keeps written written_new
 AsksToCopy unread unread_new written written_new path (Err Memory) = Keeps written written_new
 AsksToCopy unread unread_new written written_new path (Err Io) =
-    (sent : List ℕ) × IsCopyTo sent path × (WritesPart written written_new sent ⊎ Appends written written_new sent)
+    (sent : List ℕ) × IsCopyTo sent path × (WritesBeginning written written_new sent ⊎ Appends written written_new sent)
 
 -- The line that ends the server was sent, and the line of the outcome came. Or it was sent, or a beginning of it, and none came.
 abbrev pub AsksToStop :
@@ -67,7 +67,7 @@ abbrev pub AsksToStop :
 AsksToStop unread unread_new written written_new (Ok told) =
     Appends written written_new stop_line × Consumes unread unread_new (line_of told)
 AsksToStop unread unread_new written written_new (Err why) =
-    (why ≡ Io) × (WritesPart written written_new stop_line ⊎ Appends written written_new stop_line)
+    (why ≡ Io) × (WritesBeginning written written_new stop_line ⊎ Appends written written_new stop_line)
 
 -- an outcome, or the line of a health and nothing else
 abbrev pub IsTold : Told → Type 0
@@ -85,4 +85,4 @@ abbrev pub AsksForHealth :
 AsksForHealth unread unread_new written written_new (Ok told) =
     IsTold told × Appends written written_new ping_line × Consumes unread unread_new (line_told told)
 AsksForHealth unread unread_new written written_new (Err why) =
-    (why ≡ Io) × (WritesPart written written_new ping_line ⊎ Appends written written_new ping_line)
+    (why ≡ Io) × (WritesBeginning written written_new ping_line ⊎ Appends written written_new ping_line)

@@ -5,7 +5,7 @@ use Rattle.world.specs.Store.{Shown}
 use Rattle.world.specs.declared.registry.Registered.{Registered}
 use Rattle.world.specs.declared.registry.StoreFault.{StoreFault}
 use Rattle.world.specs.declared.registry.StoreFault.TheVariants.{Memory}
-use Rattle.engine.specs.Written.{WritesPart}
+use Rattle.engine.specs.Written.{WritesBeginning}
 use Rattle.engine.specs.declared.fault.Io.{Io}
 use Rattle.engine.specs.declared.fault.Io.TheVariants as io
 use Rattle.control.specs.Health.{IsPinged, line_of}
@@ -126,7 +126,7 @@ module _ (copied : List ℕ → Result (Unit {0}) CopyRefusal → Type 0) (pinge
   Obeys old new before now unread unread_new written written_new (Err io.Read) =
       GoesThroughTurns old new before now [] false × Keeps written written_new
   Obeys old new before now unread unread_new written written_new (Err io.Write) =
-      (told : Told) × Hears old new before now unread unread_new told × WritesPart written written_new (line_told told)
+      (told : Told) × Hears old new before now unread unread_new told × WritesBeginning written written_new (line_told told)
 
 -- So it was between two stores, by what is known of copies and counts, with the tally of the moment.
 module _ {S : Type 0} (shown : S → Shown) (failures : S → ℕ) (copied : S → S → List ℕ → Result (Unit {0}) CopyRefusal → Type 0)

@@ -20,19 +20,19 @@ text_at (Asked x) = text_of x
 text_at (Ordered order told) = line_of (outcome_of told)
 
 -- puts a turn before others if this answer is a reply
-abbrev pub if_told : Turn → Answer → List Turn → List Turn
-if_told t (Replied r) ts = t ∷ ts
-if_told t (Failed fault) ts = ts
+abbrev pub if_faultless : Turn → Answer → List Turn → List Turn
+if_faultless t (Replied r) ts = t ∷ ts
+if_faultless t (Failed fault) ts = ts
 
 -- the turns that met no fault: messages that were not answered 503, and orders that were done or refused
-abbrev pub told : List Turn → List Turn
-told [] = []
-told (t ∷ ts) = if_told t (turn_answer t) (told ts)
+abbrev pub faultless : List Turn → List Turn
+faultless [] = []
+faultless (t ∷ ts) = if_faultless t (turn_answer t) (faultless ts)
 
 -- which of these are kept for a shelf: all but the messages whose key belongs, at that moment, to a shelf that it does not see at
 -- the end
 abbrev pub kept_for : World → List ℕ → List Turn → List Bool
-kept_for w s turns = kept w (chain (world_at w turns) s) (map turn_event (told turns))
+kept_for w s turns = kept w (chain (world_at w turns) s) (map turn_event (faultless turns))
 
 -- Two stores, each on an honest disk, went through turns, from worlds that agreed on what the shelf sees at the end of the first. Each was
 -- read in between, for a copy or a ping, or not.
@@ -52,15 +52,15 @@ pub record AreTwoRuns (old new old_too new_too : Shown) (w x : World) (s : List 
   pub through_too : GoesThroughTurns old_too new_too before_too now_too purged read_too
 
 -- The texts written for the kept turns are equal, and the stores stand for worlds that agree again.
-pub record AreToldAlike (new new_too : Shown) (w x : World) (s : List ℕ) (full purged : List Turn) : Type 0 where
-  pub texts : map text_at (told purged) ≡ marked (kept_for w s full) (map text_at (told full))
+pub record AreAnsweredAlike (new new_too : Shown) (w x : World) (s : List ℕ) (full purged : List Turn) : Type 0 where
+  pub texts : map text_at (faultless purged) ≡ marked (kept_for w s full) (map text_at (faultless full))
   pub stands : new.stands (world_at w full)
   pub stands_too : new_too.stands (world_at x purged)
   pub agree : Agree (world_at w full) (world_at x purged) (chain (world_at w full) s)
 
 -- Two such runs write alike if the turns of the second that met no fault are those of the first that are kept.
-abbrev pub TurnsAreToldAlike : Shown → Shown → Shown → Shown → Type 0
-TurnsAreToldAlike old new old_too new_too =
+abbrev pub TurnsAreAnsweredAlike : Shown → Shown → Shown → Shown → Type 0
+TurnsAreAnsweredAlike old new old_too new_too =
     (w x : World) (s : List ℕ) (full purged : List Turn) → AreTwoRuns old new old_too new_too w x s full purged
-    → map coming_at (told purged) ≡ marked (kept_for w s full) (map coming_at (told full))
-    → AreToldAlike new new_too w x s full purged
+    → map coming_at (faultless purged) ≡ marked (kept_for w s full) (map coming_at (faultless full))
+    → AreAnsweredAlike new new_too w x s full purged

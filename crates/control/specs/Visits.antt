@@ -5,7 +5,7 @@ use Rattle.world.specs.Store.{Shown}
 use Rattle.world.specs.World.{World}
 use Rattle.world.specs.declared.registry.StoreFault.{StoreFault}
 use Rattle.engine.specs.First.{First, first_status}
-use Rattle.engine.specs.Written.{WritesPart}
+use Rattle.engine.specs.Written.{WritesBeginning}
 use Rattle.engine.specs.declared.fault.Io.TheVariants as io
 use Rattle.socket.specs.Connections.{Visit, Come, exchanges_of}
 use Rattle.socket.specs.Connections as socket
@@ -136,7 +136,7 @@ module _ {O : Type 0} (heeded told : O → Option (List ℕ)) where
   IsToldThere before after None = Keeps (told before) (told after)
   IsToldThere before after (Some heard) =
       IsHeard (heeded before) (heeded after) heard
-      × (WritesPart (told before) (told after) (line_told (told_heard heard))
+      × (WritesBeginning (told before) (told after) (line_told (told_heard heard))
       ⊎ Appends (told before) (told after) (line_told (told_heard heard)))
 
   -- this operator was obeyed, and the store went through its order

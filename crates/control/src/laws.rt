@@ -1,5 +1,5 @@
 //! What lines mean, and what the callers of one run learn about each other.
-ghost use Rattle.control.specs.Isolated.{TurnsAreToldAlike};
+ghost use Rattle.control.specs.Isolated.{TurnsAreAnsweredAlike};
 ghost use Rattle.control.specs.Laws.{OneEventALine, OneOutcomeALine};
 
 use world::shelves::Shelves;
@@ -20,5 +20,5 @@ pub fn outcome_has_a_line_of_its_own()
 /// that a call answered 503 and the orders that met a fault are left out of it. The worlds after both agree again.
 pub fn isolation_of_turns<S: Shelves, T: Shelves>()
     ensures { (old new : S) (old_too new_too : T)
-        → TurnsAreToldAlike (S.shown old) (S.shown new) (T.shown old_too) (T.shown new_too) }
+        → TurnsAreAnsweredAlike (S.shown old) (S.shown new) (T.shown old_too) (T.shown new_too) }
 {}

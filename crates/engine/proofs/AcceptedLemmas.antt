@@ -56,14 +56,14 @@ accepted_is_written old mid new s k later p b resource r put get events answers 
 
     -- the PUT was not answered by a fault, because a 503 is neither 201 nor 200, so its status is that of its decision
     by_answer : (a : Answer) → answer_of put ≡ a → (text_of get ≡ bytes_of get.message (Replied r)) ⊎ (text_of get ≡ unavailable)
-    by_answer (Failed fault) told =
-        absurd (above 503 (omega arith) (subst IsGood (ap (λ a. page_status (page_for put.message a)) told) good))
-    by_answer (Replied heard) told =
+    by_answer (Failed fault) came =
+        absurd (above 503 (omega arith) (subst IsGood (ap (λ a. page_status (page_for put.message a)) came) good))
+    by_answer (Replied heard) came =
         let before : Run old (Asked (Put k p) ∷ events) (Replied heard ∷ answers) mid =
         subst (λ e. Run old (e ∷ events) (Replied heard ∷ answers) mid) (ap Asked asks)
-        (subst (λ a. Run old (event_of put ∷ events) (a ∷ answers) mid) told run) in
+        (subst (λ a. Run old (event_of put ∷ events) (a ∷ answers) mid) came run) in
         let d : Decision = put_decision old k p in
-        let status : IsGood (fixed_status (fixed_of d)) = subst IsGood (ap (λ a. page_status (page_for put.message a)) (told ∙ ap Replied before.0)) good in
+        let status : IsGood (fixed_status (fixed_of d)) = subst IsGood (ap (λ a. page_status (page_for put.message a)) (came ∙ ap Replied before.0)) good in
         let decided : Run old (Asked (Put k p) ∷ events) (Replied (reply.Decided d) ∷ answers) mid =
         subst (λ x. Run old (Asked (Put k p) ∷ events) (Replied x ∷ answers) mid) before.0 before in
         elim (accepted_is_served old mid new s k later p b d (spec.query_of resource) r events answers (answer_of get) is own body (accepted d status) decided later_own back after) [

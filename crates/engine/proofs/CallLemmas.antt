@@ -90,11 +90,11 @@ all_asked (x ∷ xs) = all_asked xs
 
 -- two calls wrote the same texts for the kept messages, and their worlds agree, by what s sees in a later world than the first;
 -- a stream has no registry command, so what s sees does not change within it
-told_alike : (w x one two later : World) (s : List ℕ) (full purged : List Exchange) → IsWorld w → Later w later → Agree w x (chain later s)
+calls_alike : (w x one two later : World) (s : List ℕ) (full purged : List Exchange) → IsWorld w → Later w later → Agree w x (chain later s)
     → Run w (map event_of full) (map answer_of full) one → Run x (map event_of purged) (map answer_of purged) two
     → map message_of purged ≡ kept_messages w (chain later s) full → NoneUnavailable (kept_texts w (chain later s) full) → NoneUnavailable (map text_of purged)
     → (map text_of purged ≡ kept_texts w (chain later s) full) × Agree one two (chain later s)
-told_alike w x one two later s full purged is then agree run again same others none =
+calls_alike w x one two later s full purged is then agree run again same others none =
     exchanges_alike w x one two later s full purged is (later_than_asked w one later (map event_of full) (map answer_of full) (all_asked full) run then) agree run again same others none
 
 -- two calls that both came to the end of their streams wrote alike
@@ -112,7 +112,7 @@ calls_tell_alike old new old_too new_too sound w x later s events answers messag
     let run = full.through.runs.at calls.honest w calls.stands in
     let again = purged.through.runs.at calls.honest_too x calls.stands_too in
     let is = sound w calls.stands in
-    let alike = told_alike w x _ _ later s full.exchanges purged.exchanges is (ends_later w later events answers is leads) calls.agree run.run again.run
+    let alike = calls_alike w x _ _ later s full.exchanges purged.exchanges is (ends_later w later events answers is leads) calls.agree run.run again.run
     (second.all ∙ messages_kept w ss messages full.exchanges first.all) (subst NoneUnavailable kept_alike others) none in
     let same = alike.0 ∙ sym kept_alike in
     record {
@@ -133,10 +133,10 @@ calls_tell_alike old new old_too new_too sound w x later s events answers messag
 -- the stream of a call begins with the input that it answered
 input_begins : (bytes : List ℕ) (unread : Option (List ℕ)) (xs : List Exchange) (input rest out : List ℕ) (result : Result (Unit {0}) Io)
     → Ended (Some bytes) unread xs input rest out result → (more : List ℕ) × (bytes ≡ input ++ more)
-input_begins bytes unread xs input rest out (Ok u) (told, closing) = ([], sym told ∙ sym (append-nil input))
+input_begins bytes unread xs input rest out (Ok u) (tells, closing) = ([], sym tells ∙ sym (append-nil input))
 input_begins bytes None xs input rest out (Err io.Read) (consumed, waits, is) = absurd consumed
 input_begins bytes (Some left) xs input rest out (Err io.Read) (consumed, waits, is) = (left, consumed)
-input_begins bytes unread xs input rest out (Err io.Write) (told, broken) = ([], sym told ∙ sym (append-nil input))
+input_begins bytes unread xs input rest out (Err io.Write) (tells, broken) = ([], sym tells ∙ sym (append-nil input))
 
 -- the messages that a call answered are the first of its stream
 first_messages : (old new : Shown) (before now : ℕ) (bytes : List ℕ) (unread written written_new : Option (List ℕ)) (result : Result (Unit {0}) Io)
@@ -157,14 +157,14 @@ as_far : (w x one two later : World) (s : List ℕ) → IsWorld w → Later w la
 as_far w x one two later s is then agree full purged run again others none (inl (front, more, cut, same)) =
     let all = ap (map text_of) cut ∙ texts_front front more in
     let short = run_front x two front more (subst (λ xs. Run x (map event_of xs) (map answer_of xs) two) cut again) in
-    let alike = told_alike w x one short.0 later s full front is then agree run short.1 same others (none_front (map text_of front) (map text_of more) (subst NoneUnavailable all none)) in
+    let alike = calls_alike w x one short.0 later s full front is then agree run short.1 same others (none_front (map text_of front) (map text_of more) (subst NoneUnavailable all none)) in
     (map text_of more, inr (all ∙ ap (λ texts. texts ++ map text_of more) alike.0))
 as_far w x one two later s is then agree full purged run again others none (inr (front, more, cut, same)) =
     let ss : List (List ℕ) = chain later s in
     let kept_so = kept_front w ss front more in
     let all = ap (kept_texts w ss) cut ∙ kept_so.1 in
     let short = run_front w one front more (subst (λ xs. Run w (map event_of xs) (map answer_of xs) one) cut run) in
-    let alike = told_alike w x short.0 two later s front purged is then agree short.1 again same (none_front (kept_texts w ss front) kept_so.0 (subst NoneUnavailable all others)) none in
+    let alike = calls_alike w x short.0 two later s front purged is then agree short.1 again same (none_front (kept_texts w ss front) kept_so.0 (subst NoneUnavailable all others)) none in
     (kept_so.0, inl (all ∙ ap (λ texts. texts ++ kept_so.0) (sym alike.0)))
 
 -- however two calls ended, they wrote the same texts for the kept messages as far as both went

@@ -2,7 +2,7 @@
 use Rattle.std.proofs.Common.{◌≡◌, List, [], ◌∷◌, ◌++◌, refl, sym, subst}
 use Rattle.world.specs.World.{World}
 use Rattle.world.specs.Store.{Shown}
-use Rattle.engine.specs.Exchange.{Exchange, Outcome, Unserved, Met, Told}
+use Rattle.engine.specs.Exchange.{Exchange, Outcome, Unserved, Met, Served}
 use Rattle.engine.specs.Store.{LeavesTwo, AllCalm, world_at}
 
 -- if each crash that may leave a world before may also leave it now, `LeavesTwo` still holds
@@ -19,7 +19,7 @@ world_step w x xs = by_outcome x.outcome
         → world_at (world_at w (record { message = x.message; outcome = o } ∷ [])) xs ≡ world_at w (record { message = x.message; outcome = o } ∷ xs)
     by_outcome Unserved = refl
     by_outcome (Met fault) = refl
-    by_outcome (Told reply) = refl
+    by_outcome (Served reply) = refl
 
 -- if `LeavesTwo` holds of more messages once the first ones were calm, it holds of all of them
 pub leaves_more : (new : Shown) (w : World) (xs : List Exchange) (y : Exchange) (ys : List Exchange)

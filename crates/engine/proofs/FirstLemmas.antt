@@ -9,7 +9,7 @@ use Rattle.world.specs.Store.{Shown}
 use Rattle.engine.specs.First.{First, Answers, Closes, IsFirst, TakesFirst, ServesFirst, first_bytes, first_status}
 use Rattle.engine.specs.Served.{IsClosing, Tells}
 use Rattle.engine.specs.Turn.{IsNext, TakesNext, Turns, EndsBy, IsClosed, turn_of, turn_status}
-use Rattle.engine.specs.Written.{WritesPart}
+use Rattle.engine.specs.Written.{WritesBeginning}
 use Rattle.engine.specs.declared.fault.Io.{Io}
 use Rattle.engine.specs.declared.fault.Io.TheVariants as io
 use Rattle.engine.specs.declared.session.Turn.{Turn}
@@ -20,10 +20,10 @@ use Rattle.engine.proofs.ServedLemmas.{left_of, Tells_left, Tells_after}
 pub first_next : (old new : Framing) (u u' : Option (List ℕ)) (first : First) → old.held ≡ [] → TakesNext old new u u' first → TakesFirst u u' first
 first_next old new u u' first none next =
     let near = next.near (unfinished_nothing old.held none) in
-    let (input, (told, stands)) = by_first first next.stands in
+    let (input, (tells, stands)) = by_first first next.stands in
     record {
       input = input;
-      told = told;
+      tells = tells;
       stands = stands;
       early = near.early;
       last = near.late;
@@ -45,7 +45,7 @@ first_next old new u u' first none next =
         ),
       ),
     )
-    by_first (Closes closing) (all, told, closes) = (all, (told, subst (λ (held : List ℕ). IsClosing (held ++ all) closing) none closes))
+    by_first (Closes closing) (all, tells, closes) = (all, (tells, subst (λ (held : List ℕ). IsClosing (held ++ all) closing) none closes))
 
 status_of_turn : (first : First) → turn_status (turn_of first) ≡ first_status first
 status_of_turn (Answers x) = refl
@@ -63,22 +63,22 @@ first_turned old new before now u u' w w' w'' held held_new (Ok turned) (Err io.
 first_turned old new before now u u' w w' w'' held held_new (Err io.Read) result none (bytes, consumed, waits, through, unwritten) keeps ends =
     subst (ServesFirst old new before now u u' w w'') (sym ends)
     (bytes, consumed, subst (λ (held : List ℕ). IsUnfinished (held ++ bytes)) none waits, through, Keeps-trans w w' w'' unwritten keeps)
-first_turned old new before now u u' w w' w'' held held_new (Err io.Write) result none (first, next, through, (part, begins, appends)) keeps ends =
+first_turned old new before now u u' w w' w'' held held_new (Err io.Write) result none (first, next, through, (begun, begins, appends)) keeps ends =
     subst (ServesFirst old new before now u u' w w'') (sym ends)
-    (first, first_next held held_new u u' first none next, through, inl (part, begins, Appends-kept w w' w'' part appends keeps))
+    (first, first_next held held_new u u' first none next, through, inl (begun, begins, Appends-kept w w' w'' begun appends keeps))
 
 -- what holds of a turn that closed the stream holds of a result without a status
-pub none_told : (turned : Result Turn Io) (result : Result (Option ℕ) Io) (P : Type 0) → IfOk turned (λ t. IsClosed t → P) → EndsBy turned result
+pub none_is_closed : (turned : Result Turn Io) (result : Result (Option ℕ) Io) (P : Type 0) → IfOk turned (λ t. IsClosed t → P) → EndsBy turned result
     → IfOk result (λ status. status ≡ None → P)
-none_told (Ok (turn.Answered n)) (Ok status) P closed ends = λ none. cc
-none_told (Ok (turn.Closed closing)) (Ok status) P closed ends = λ none. closed tt
-none_told (Ok turned) (Err e) P closed ends = tt
-none_told (Err before) (Ok status) P closed ends = λ none. cc
-none_told (Err before) (Err e) P closed ends = tt
+none_is_closed (Ok (turn.Answered n)) (Ok status) P closed ends = λ none. cc
+none_is_closed (Ok (turn.Closed closing)) (Ok status) P closed ends = λ none. closed tt
+none_is_closed (Ok turned) (Err e) P closed ends = tt
+none_is_closed (Err before) (Ok status) P closed ends = λ none. cc
+none_is_closed (Err before) (Err e) P closed ends = tt
 
 -- what holds of a turn with a failed read holds of a result with one, because `end_turn` reads nothing
-pub unread_told : (turned : Result Turn Io) (result : Result (Option ℕ) Io) (P : Type 0) → IfErr turned (λ e. e ≡ io.Read → P) → EndsBy turned result
+pub read_fault_is_unread : (turned : Result Turn Io) (result : Result (Option ℕ) Io) (P : Type 0) → IfErr turned (λ e. e ≡ io.Read → P) → EndsBy turned result
     → IfErr result (λ e. e ≡ io.Read → P)
-unread_told turned (Ok status) P unread ends = tt
-unread_told (Ok turned) (Err e) P unread ends = λ is. cc
-unread_told (Err before) (Err e) P unread ends = λ is. let same : before ≡ io.Read = cc in unread same
+read_fault_is_unread turned (Ok status) P unread ends = tt
+read_fault_is_unread (Ok turned) (Err e) P unread ends = λ is. cc
+read_fault_is_unread (Err before) (Err e) P unread ends = λ is. let same : before ≡ io.Read = cc in unread same

@@ -24,44 +24,44 @@ use Rattle.shelf.proofs.Latest.{latest_is_the_top, none_is_latest}
 use Rattle.shelf.proofs.Served.{stays_served}
 use Rattle.engine.specs.Ask as spec
 use Rattle.engine.specs.Exchange.{event_of, answer_of}
-use Rattle.engine.specs.Happening.{Coming, Happening, event_in, text_in, coming_of, event_at, answer_at, told}
+use Rattle.engine.specs.Happening.{Coming, Happening, event_in, text_in, coming_of, event_at, answer_at, faultless}
 use Rattle.engine.specs.Reply.{reply_page, page_of, page_for, page_bytes, page_status, bytes_of, text_of}
-use Rattle.engine.specs.Headline.{unavailable, CallersAreToldAlike, BytesStayServed, TellsLatest, LatestIsWritten}
-use Rattle.engine.proofs.ToldLemmas.{text_to, texts, events_are, told_events, told_texts, marked_events, marked_texts, IsExact, exact}
+use Rattle.engine.specs.Headline.{unavailable, CallersAreAnsweredAlike, BytesStayServed, TellsLatest, LatestIsWritten}
+use Rattle.engine.proofs.FaultlessLemmas.{text_to, texts, events_are, faultless_events, faultless_texts, marked_events, marked_texts, IsExact, exact}
 
 -- ---- nothing about others
 
 -- two runs write the same texts for what is kept, whatever text is written for what came and its answer
-pub told_alike_by : (text_for : Coming → Answer → List ℕ) (old old_too new new_too : World) (s : List ℕ) (full purged : List Happening) → IsWorld old
+pub alike_by : (text_for : Coming → Answer → List ℕ) (old old_too new new_too : World) (s : List ℕ) (full purged : List Happening) → IsWorld old
     → Agree old old_too (chain new s)
     → Run old (map event_at full) (map answer_at full) new → Run old_too (map event_at purged) (map answer_at purged) new_too
-    → let marks : List Bool = kept old (chain new s) (map event_at (told full)) in
-    map coming_of (told purged) ≡ marked marks (map coming_of (told full))
-    → (map (text_to text_for) (told purged) ≡ marked marks (map (text_to text_for) (told full))) × Agree new new_too (chain new s)
-told_alike_by text_for old old_too new new_too s full purged is agree run again same =
+    → let marks : List Bool = kept old (chain new s) (map event_at (faultless full)) in
+    map coming_of (faultless purged) ≡ marked marks (map coming_of (faultless full))
+    → (map (text_to text_for) (faultless purged) ≡ marked marks (map (text_to text_for) (faultless full))) × Agree new new_too (chain new s)
+alike_by text_for old old_too new new_too s full purged is agree run again same =
     let ss : List (List ℕ) = chain new s in
-    let marks : List Bool = kept old ss (map event_at (told full)) in
-    let cs : List Coming = map coming_of (told full) in
+    let marks : List Bool = kept old ss (map event_at (faultless full)) in
+    let cs : List Coming = map coming_of (faultless full) in
     let rs : List Reply = replies_of (map answer_at full) in
     let heard : List Reply = replies_of (map answer_at purged) in
-    let first : (marked marks rs ≡ replies old_too (marked marks (map event_at (told full)))) × Agree new (after_all old_too (marked marks (map event_at (told full)))) ss =
-    subst (λ es. (marked (kept old ss es) rs ≡ replies old_too (marked (kept old ss es) es)) × Agree new (after_all old_too (marked (kept old ss es) es)) ss) (told_events full)
+    let first : (marked marks rs ≡ replies old_too (marked marks (map event_at (faultless full)))) × Agree new (after_all old_too (marked marks (map event_at (faultless full)))) ss =
+    subst (λ es. (marked (kept old ss es) rs ≡ replies old_too (marked (kept old ss es) es)) × Agree new (after_all old_too (marked (kept old ss es) es)) ss) (faultless_events full)
     (isolated old old_too new s (map event_at full) (map answer_at full) is agree run) in
-    let second : IsExact old_too new_too (map event_at (told purged)) heard =
-    subst (λ es. IsExact old_too new_too es heard) (told_events purged) (exact old_too new_too (map event_at purged) (map answer_at purged) again) in
-    let events : map event_at (told purged) ≡ marked marks (map event_at (told full)) =
-    events_are (told purged) ∙ ap (λ c. map event_in c) same ∙ sym (marked_events marks cs) ∙ ap (marked marks) (sym (events_are (told full))) in
-    let alike : heard ≡ marked marks rs = second.told ∙ ap (replies old_too) events ∙ sym first.0 in (
-      told_texts text_for purged
+    let second : IsExact old_too new_too (map event_at (faultless purged)) heard =
+    subst (λ es. IsExact old_too new_too es heard) (faultless_events purged) (exact old_too new_too (map event_at purged) (map answer_at purged) again) in
+    let events : map event_at (faultless purged) ≡ marked marks (map event_at (faultless full)) =
+    events_are (faultless purged) ∙ ap (λ c. map event_in c) same ∙ sym (marked_events marks cs) ∙ ap (marked marks) (sym (events_are (faultless full))) in
+    let alike : heard ≡ marked marks rs = second.replies_are ∙ ap (replies old_too) events ∙ sym first.0 in (
+      faultless_texts text_for purged
           ∙ ap (λ c. texts text_for c heard) same
           ∙ ap (texts text_for (marked marks cs)) alike
           ∙ sym (marked_texts text_for marks cs rs)
-          ∙ ap (marked marks) (sym (told_texts text_for full)),
+          ∙ ap (marked marks) (sym (faultless_texts text_for full)),
       subst (λ w. Agree new w ss) (sym (second.ends ∙ ap (after_all old_too) events)) first.1,
     )
 
-pub callers_are_told_alike : CallersAreToldAlike
-callers_are_told_alike = told_alike_by text_in
+pub callers_are_answered_alike : CallersAreAnsweredAlike
+callers_are_answered_alike = alike_by text_in
 
 -- ---- a query of one version or of the latest
 
@@ -118,18 +118,18 @@ bytes_stay_served old mid new s k later resource first last events answers is ow
 
     -- the first GET was not answered by a fault, because a 503 is not 200
     by_answer : (a : Answer) → answer_of first ≡ a → (text_of last ≡ text_of first) ⊎ (text_of last ≡ unavailable)
-    by_answer (Failed fault) told =
-        let wrong : ◌≡◌ {A = ℕ} 503 200 = sym (ap (λ a. page_status (page_for first.message a)) told) ∙ ok in absurd (omega arith)
-    by_answer (Replied r) told =
+    by_answer (Failed fault) came =
+        let wrong : ◌≡◌ {A = ℕ} 503 200 = sym (ap (λ a. page_status (page_for first.message a)) came) ∙ ok in absurd (omega arith)
+    by_answer (Replied r) came =
         let before : Run old (Asked (Get k q) ∷ events) (Replied r ∷ answers) mid =
         subst (λ e. Run old (e ∷ events) (Replied r ∷ answers) mid) (ap Asked asks)
-        (subst (λ a. Run old (event_of first ∷ events) (a ∷ answers) mid) told run) in
+        (subst (λ a. Run old (event_of first ∷ events) (a ∷ answers) mid) came run) in
         let after : Run mid (Asked (Get later q) ∷ []) (answer_of last ∷ []) new = subst (λ e. Run mid (e ∷ []) (answer_of last ∷ []) new) (ap Asked asks_again) again in
         let reply : r ≡ query_reply old s q = keyed old s k q r own before.0 in
-        let status = sym (ap (λ a. page_status (page_for first.message a)) (told ∙ ap Replied reply)) ∙ ok in
+        let status = sym (ap (λ a. page_status (page_for first.message a)) (came ∙ ap Replied reply)) ∙ ok in
         let found : IsFound r = subst IsFound (sym reply) (found_reply first.message old s q one status) in
         elim (stays_served old mid new s k later q r events answers (answer_of last) is own one found before later_own after) [
-          | inl same ↦ inl (ap (bytes_of last.message) same ∙ found_bytes last.message first.message r sums found ∙ ap (bytes_of first.message) (sym told))
+          | inl same ↦ inl (ap (bytes_of last.message) same ∙ found_bytes last.message first.message r sums found ∙ ap (bytes_of first.message) (sym came))
           | inr failed ↦ inr (failed_text last.message (answer_of last) failed)
         ]
 
@@ -143,8 +143,8 @@ latest_text w is s path m =
       | Some v ↦ λ some.
           let top = (latest_is_the_top w s path v is).0 some in
           let seen = top.member.2.1 in
-          let told = ap (λ o. bytes_of m (Replied (latest_reply w s path o))) some ∙ ap (λ o. bytes_of m (Replied (info_reply v (without_zip o)))) seen.1 in
-          inl (v, seen.0.entry.time, top, (seen.0, seen.1, refl), told)
+          let came = ap (λ o. bytes_of m (Replied (latest_reply w s path o))) some ∙ ap (λ o. bytes_of m (Replied (info_reply v (without_zip o)))) seen.1 in
+          inl (v, seen.0.entry.time, top, (seen.0, seen.1, refl), came)
     ] refl
 
 -- a GET of the latest version gets the text for it or the 503
@@ -152,9 +152,9 @@ pub latest_is_written : LatestIsWritten
 latest_is_written old new s k path x is own asks run = by_answer (answer_of x) refl
   where
     by_answer : (a : Answer) → answer_of x ≡ a → TellsLatest old s path (text_of x) ⊎ (text_of x ≡ unavailable)
-    by_answer (Failed fault) told = inr (ap (bytes_of x.message) told)
-    by_answer (Replied r) told =
+    by_answer (Failed fault) came = inr (ap (bytes_of x.message) came)
+    by_answer (Replied r) came =
         let at : Run old (Asked (Get k (query.Latest path)) ∷ []) (Replied r ∷ []) new =
-        subst (λ e. Run old (e ∷ []) (Replied r ∷ []) new) (ap Asked asks) (subst (λ a. Run old (event_of x ∷ []) (a ∷ []) new) told run) in
+        subst (λ e. Run old (e ∷ []) (Replied r ∷ []) new) (ap Asked asks) (subst (λ a. Run old (event_of x ∷ []) (a ∷ []) new) came run) in
         let reply : r ≡ query_reply old s (query.Latest path) = keyed old s k (query.Latest path) r own at.0 in
-        inl (subst (TellsLatest old s path) (sym (ap (bytes_of x.message) (told ∙ ap Replied reply))) (latest_text old is s path x.message))
+        inl (subst (TellsLatest old s path) (sym (ap (bytes_of x.message) (came ∙ ap Replied reply))) (latest_text old is s path x.message))

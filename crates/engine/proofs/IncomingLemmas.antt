@@ -75,11 +75,11 @@ module _
     -- if the read ended the stream, the end comes next
     pub end_comes : (closing : Option Fixed) (left : ℕ) → ReadsOn now next u₁ u₂ (Ok (reading.Ends closing))
         → Comes old next reads left u₀ u₂ (Ok (incoming.End closing))
-    end_comes closing left (bytes, consumes, near, (all, told, closes), some) = record {
+    end_comes closing left (bytes, consumes, near, (all, tells, closes), some) = record {
       bytes = far.bytes ++ bytes;
       consumed = Consumes-trans u₀ u₁ u₂ far.bytes bytes far.consumed consumes;
       near = near_now bytes near;
-      stands = (far.bytes ++ all, Tells_after u₀ u₁ far.bytes all far.consumed told, subst (λ (bytes : List ℕ). IsClosing bytes closing) (behind all) closes);
+      stands = (far.bytes ++ all, Tells_after u₀ u₁ far.bytes all far.consumed tells, subst (λ (bytes : List ℕ). IsClosing bytes closing) (behind all) closes);
     }
 
     -- if the read gave more bytes, these were read too

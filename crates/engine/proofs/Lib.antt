@@ -15,5 +15,5 @@ pub mod RunLemmas
 pub mod ServedLemmas
 pub mod SessionLemmas
 pub mod StoreLemmas
-pub mod ToldLemmas
+pub mod FaultlessLemmas
 pub mod TurnLemmas

@@ -15,28 +15,28 @@ use Rattle.shelf.specs.Machine.{answered, replies_of, after_all, ask_reply, Run}
 use Rattle.shelf.specs.Parts.{AllOwn, AllAsked, IsNotFound}
 use Rattle.shelf.proofs.Parts.{part_tells_the_same, others_are_not_found, run_leads}
 use Rattle.engine.specs.Ask as spec
-use Rattle.engine.specs.Exchange.{Exchange, Outcome, Unserved, Met, Told, event_of, answer_of}
-use Rattle.engine.specs.Happening.{Happening, event_in, text_in, coming_of, event_at, answer_at, text_at, told}
+use Rattle.engine.specs.Exchange.{Exchange, Outcome, Unserved, Met, Served, event_of, answer_of}
+use Rattle.engine.specs.Happening.{Happening, event_in, text_in, coming_of, event_at, answer_at, text_at, faultless}
 use Rattle.engine.specs.Headline.{unavailable}
 use Rattle.engine.specs.Reply.{bytes_of, text_of}
 use Rattle.engine.specs.Parts.{PartWritesTheSame, OthersAreWrittenNotFound}
-use Rattle.engine.proofs.ToldLemmas.{texts, events_are, told_events, told_texts}
+use Rattle.engine.proofs.FaultlessLemmas.{texts, events_are, faultless_events, faultless_texts}
 
 -- ---- two runs that answered alike
 
 -- two runs that answered the same messages and commands answered the same events
-pub answered_alike : (xs ys : List Happening) → map coming_of (told xs) ≡ map coming_of (told ys)
+pub answered_alike : (xs ys : List Happening) → map coming_of (faultless xs) ≡ map coming_of (faultless ys)
     → answered (map event_at xs) (map answer_at xs) ≡ answered (map event_at ys) (map answer_at ys)
-answered_alike xs ys same = told_events xs ∙ (events_are (told xs) ∙ ap (map event_in) same ∙ sym (events_are (told ys))) ∙ sym (told_events ys)
+answered_alike xs ys same = faultless_events xs ∙ (events_are (faultless xs) ∙ ap (map event_in) same ∙ sym (events_are (faultless ys))) ∙ sym (faultless_events ys)
 
 -- two runs that answered the same messages and commands with the same replies wrote the same texts
-pub written_alike : (xs ys : List Happening) → map coming_of (told xs) ≡ map coming_of (told ys)
-    → replies_of (map answer_at xs) ≡ replies_of (map answer_at ys) → map text_at (told xs) ≡ map text_at (told ys)
+pub written_alike : (xs ys : List Happening) → map coming_of (faultless xs) ≡ map coming_of (faultless ys)
+    → replies_of (map answer_at xs) ≡ replies_of (map answer_at ys) → map text_at (faultless xs) ≡ map text_at (faultless ys)
 written_alike xs ys same replies =
-    told_texts text_in xs
+    faultless_texts text_in xs
     ∙ ap (λ cs. texts text_in cs (replies_of (map answer_at xs))) same
-    ∙ ap (texts text_in (map coming_of (told ys))) replies
-    ∙ sym (told_texts text_in ys)
+    ∙ ap (texts text_in (map coming_of (faultless ys))) replies
+    ∙ sym (faultless_texts text_in ys)
 
 -- ---- requests of the team
 
@@ -44,7 +44,7 @@ pub part_writes_the_same : PartWritesTheSame
 part_writes_the_same w new other s xs ys is run again same own =
     written_alike xs ys same
     (part_tells_the_same w new other s (map event_at xs) (map event_at ys) (map answer_at xs) (map answer_at ys) is run again (answered_alike xs ys same)
-    (subst (AllOwn w s) (sym (told_events xs)) own))
+    (subst (AllOwn w s) (sym (faultless_events xs)) own))
 
 -- ---- requests of others
 
@@ -55,7 +55,7 @@ all_asked (x ∷ xs) = go x.outcome refl (all_asked xs)
     go : (o : Outcome) → x.outcome ≡ o → AllAsked (answered (map event_of xs) (map answer_of xs)) → AllAsked (answered (map event_of (x ∷ xs)) (map answer_of (x ∷ xs)))
     go Unserved is rest = rw is rest
     go (Met fault) is rest = rw is rest
-    go (Told reply) is rest = rw is rest
+    go (Served reply) is rest = rw is rest
 
 not_found_written : (m : Request) (r : Reply) → IsNotFound r → bytes_of m (Replied r) ≡ fixed_bytes NotFound
 not_found_written m reply.NotFound is = refl

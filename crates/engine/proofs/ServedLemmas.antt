@@ -33,7 +33,7 @@ module _ (old new : Shown) (before now : ℕ) (u u' w₀ w₁ w₂ : Option (Lis
   -- a call that answered the messages at the front and wrote what closes the stream, or failed at it, does as `Serves` says
   pub served : (closing : Option Fixed) (result : Result (Unit {0}) Io) → Answered old new before now w₀ w₁ input rest → Tells u input
       → IsClosing rest closing → Delivers w₁ w₂ (closing_bytes closing) result → Serves old new before now u u' w₀ w₂ result
-  served closing (Ok tt) far told closes delivers = record {
+  served closing (Ok tt) far tells closes delivers = record {
     exchanges = far.exchanges;
     input = input;
     rest = rest;
@@ -41,20 +41,20 @@ module _ (old new : Shown) (before now : ℕ) (u u' w₀ w₁ w₂ : Option (Lis
     reads = far.reads;
     through = far.through;
     appended = Appends-trans w₀ w₁ w₂ _ _ far.appended delivers;
-    ends = (told, (closing, closes, refl));
+    ends = (tells, (closing, closes, refl));
   }
-  served closing (Err io.Read) far told closes (wrong, delivers) = cc
-  served closing (Err io.Write) far told closes (_, inl (part, begins, appends)) = record {
+  served closing (Err io.Read) far tells closes (wrong, delivers) = cc
+  served closing (Err io.Write) far tells closes (_, inl (begun, begins, appends)) = record {
     exchanges = far.exchanges;
     input = input;
     rest = rest;
-    out = texts_of far.exchanges ++ part;
+    out = texts_of far.exchanges ++ begun;
     reads = far.reads;
     through = far.through;
     appended = Appends-trans w₀ w₁ w₂ _ _ far.appended appends;
-    ends = (told, inr (inl (closing, part, closes, begins, refl)));
+    ends = (tells, inr (inl (closing, begun, closes, begins, refl)));
   }
-  served closing (Err io.Write) far told closes (_, inr appends) = record {
+  served closing (Err io.Write) far tells closes (_, inr appends) = record {
     exchanges = far.exchanges;
     input = input;
     rest = rest;
@@ -62,20 +62,20 @@ module _ (old new : Shown) (before now : ℕ) (u u' w₀ w₁ w₂ : Option (Lis
     reads = far.reads;
     through = far.through;
     appended = Appends-trans w₀ w₁ w₂ _ _ far.appended appends;
-    ends = (told, inr (inr (closing, closes, refl)));
+    ends = (tells, inr (inr (closing, closes, refl)));
   }
 
   -- a call whose last answer was cut short does as `Serves` says
   pub served_cut : CutShort old new before now w₀ w₁ input rest → Tells u input → Serves old new before now u u' w₀ w₁ (Err io.Write)
-  served_cut far told = record {
+  served_cut far tells = record {
     exchanges = far.first ++ far.last ∷ [];
     input = input;
     rest = rest;
-    out = texts_of far.first ++ far.part;
+    out = texts_of far.first ++ far.front;
     reads = far.reads;
     through = far.through;
     appended = far.appended;
-    ends = (told, inl (far.first, far.last, far.part, refl, far.begins, refl));
+    ends = (tells, inl (far.first, far.last, far.front, refl, far.begins, refl));
   }
 
 pub so_far_none : (shown : Shown) (count : ℕ) (u w : Option (List ℕ)) → SoFar shown shown count count u u w w (record { held = []; failure = None })
@@ -121,9 +121,9 @@ module _
   closed_by : (closing : Option Fixed) (w₃ : Option (List ℕ)) (result : Result (Unit {0}) Io) → TakesNext framing next u₁ u₂ (Closes closing)
       → GoesThrough mid new between now [] → Delivers w₁ w₃ (closing_bytes closing) result → Serves old new before now u₀ u₂ w₀ w₃ result
   closed_by closing w₃ result takes through delivers =
-      let (all, told, closes) = takes.stands in
+      let (all, tells, closes) = takes.stands in
       served old new before now u₀ u₂ w₀ w₁ w₃ (far.got ++ all) (framing.held ++ all) closing result (with_nothing all through)
-      (Tells_after u₀ u₁ far.got all far.consumed told) closes delivers
+      (Tells_after u₀ u₁ far.got all far.consumed tells) closes delivers
 
   -- a call does as `Serves` says if its last turn closed the stream and it flushed, or failed at it
   pub closed : (closing : Option Fixed) (w₃ : Option (List ℕ)) (result : Result (Unit {0}) Io)
@@ -147,12 +147,12 @@ module _
         appended = Appends-kept w₀ w₁ w₂ (texts_of all.exchanges) all.appended keeps;
         ends = (Consumes-trans u₀ u₁ u₂ far.got bytes far.consumed consumed, waits, refl);
       }
-  failed io.Write (Closes by, takes, through, part) = closed_by by w₂ (Err io.Write) takes through (refl, inl part)
-  failed io.Write (Answers x, takes, through, part) =
+  failed io.Write (Closes by, takes, through, begun) = closed_by by w₂ (Err io.Write) takes through (refl, inl begun)
+  failed io.Write (Answers x, takes, through, begun) =
       let bytes = takes.bytes in
       let more = left_of u₂ in
       served_cut old new before now u₀ u₂ w₀ w₂ w₂ ((far.got ++ bytes) ++ more) (next.held ++ more)
       (cut_before old new before now w₀ w₂ (far.got ++ bytes) next.held more
       (cut_more old mid new before between now w₀ w₁ w₂ (far.got ++ bytes) (framing.held ++ bytes) next.held (with_more bytes)
-      (cut_one mid new between now w₁ w₂ (framing.held ++ bytes) next.held x takes.stands.0 through part)))
+      (cut_one mid new between now w₁ w₂ (framing.held ++ bytes) next.held x takes.stands.0 through begun)))
       (Tells_after u₀ u₂ (far.got ++ bytes) more (Consumes-trans u₀ u₁ u₂ far.got bytes far.consumed takes.consumed) (Tells_left u₂))

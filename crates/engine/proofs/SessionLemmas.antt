@@ -30,9 +30,9 @@ module _ (u u' w w' : Option (List ℕ)) (held held_new : Framing) (reads left :
       → Turns old new before now u u' w w' held held_new result
   turned_message old new before now message x (Ok t) same comes through writes is =
       (Answers x, message_next held held_new reads left u u' message x same comes, through, is, writes)
-  turned_message old new before now message x (Err io.Read) same comes through (wrong, part) is = cc
-  turned_message old new before now message x (Err io.Write) same comes through (_, part) is =
-      (Answers x, message_next held held_new reads left u u' message x same comes, through, part)
+  turned_message old new before now message x (Err io.Read) same comes through (wrong, begun) is = cc
+  turned_message old new before now message x (Err io.Write) same comes through (_, begun) is =
+      (Answers x, message_next held held_new reads left u u' message x same comes, through, begun)
 
   -- a turn that took a message and wrote the page for it, or failed at it, does as `Turns` says
   pub turned_page : (old new : Shown) (before now : ℕ) (message : Message) (x : Exchange) (page : Page) (result : Result Turn Io)
@@ -48,8 +48,8 @@ module _ (u u' w w' : Option (List ℕ)) (held held_new : Framing) (reads left :
       → Comes held held_new reads left u u' (Ok (incoming.End closing)) → Writes w w' (closing_bytes closing) result
       → IfOk result (λ t. t ≡ turn.Closed closing) → Turns shown shown count count u u' w w' held held_new result
   turned_end shown count closing (Ok t) comes writes is = (Closes closing, comes, through_none shown count, is, writes)
-  turned_end shown count closing (Err io.Read) comes (wrong, part) is = cc
-  turned_end shown count closing (Err io.Write) comes (_, part) is = (Closes closing, comes, through_none shown count, part)
+  turned_end shown count closing (Err io.Read) comes (wrong, begun) is = cc
+  turned_end shown count closing (Err io.Write) comes (_, begun) is = (Closes closing, comes, through_none shown count, begun)
 
 -- a turn whose read failed does as `Turns` says
 pub turned_unread : (shown : Shown) (count : ℕ) (u u' w : Option (List ℕ)) (held held_new : Framing) (reads left : ℕ) (e : Io) (result : Result Turn Io)

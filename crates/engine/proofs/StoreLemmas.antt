@@ -13,7 +13,7 @@ use Rattle.world.specs.Store.{Shown, Does, DoesAt, HasCause, GrewOrFull}
 use Rattle.shelf.proofs.Changes.{bodies_change_nothing}
 use Rattle.engine.specs.Ask.{ask_of, sum_of}
 use Rattle.engine.specs.Ask.{event_of as event_of_message}
-use Rattle.engine.specs.Exchange.{Exchange, Outcome, Unserved, Met, Told, event_of, answer_of}
+use Rattle.engine.specs.Exchange.{Exchange, Outcome, Unserved, Met, Served, event_of, answer_of}
 use Rattle.engine.specs.Reply.{IsComposed, IsOutcome}
 use Rattle.engine.specs.Store.{GoesThrough, LeavesTwo, AllCalm, world_at}
 use Rattle.engine.proofs.CrashLemmas.{leaves_kept, leaves_more, world_step}
@@ -77,10 +77,10 @@ through_unasked shown count m wider = record {
 
 module _ (old new : Shown) (before now : ℕ) (m : Request) (ask : Ask) (is : ask ≡ ask_of m) where
   -- the step does in each world what it does for the event of the message
-  asked : new.is_honest → (w : World) → old.stands w → (told : Result Reply StoreFault)
-      → Does {T = Reply} old new told (λ w. ask_reply w ask) (λ w. after_ask w ask)
-      → DoesAt {T = Reply} old new w told (reply_to w (event_of_message m)) (after w (event_of_message m))
-  asked h w stands told does = subst (λ a. DoesAt {T = Reply} old new w told (ask_reply w a) (after_ask w a)) is (does.at h w stands tt)
+  asked : new.is_honest → (w : World) → old.stands w → (answer : Result Reply StoreFault)
+      → Does {T = Reply} old new answer (λ w. ask_reply w ask) (λ w. after_ask w ask)
+      → DoesAt {T = Reply} old new w answer (reply_to w (event_of_message m)) (after w (event_of_message m))
+  asked h w stands answer does = subst (λ a. DoesAt {T = Reply} old new w answer (ask_reply w a) (after_ask w a)) is (does.at h w stands tt)
 
   -- the store goes through a message at which it met a fault
   pub through_met : (fault : StoreFault) → Does {T = Reply} old new (Err fault) (λ w. ask_reply w ask) (λ w. after_ask w ask)
@@ -101,9 +101,9 @@ module _ (old new : Shown) (before now : ℕ) (m : Request) (ask : Ask) (is : as
   }
 
   -- the store goes through a message that got a reply
-  pub through_told : (reply : Reply) → Does {T = Reply} old new (Ok reply) (λ w. ask_reply w ask) (λ w. after_ask w ask)
-      → HasCause {T = Reply} before now (Ok reply) → GoesThrough old new before now (record { message = m; outcome = Told reply } ∷ [])
-  through_told reply does cause = record {
+  pub through_reply : (reply : Reply) → Does {T = Reply} old new (Ok reply) (λ w. ask_reply w ask) (λ w. after_ask w ask)
+      → HasCause {T = Reply} before now (Ok reply) → GoesThrough old new before now (record { message = m; outcome = Served reply } ∷ [])
+  through_reply reply does cause = record {
     runs = record {
       honest = λ h. does.honest h;
       at = λ h w stands. runs_replied old new w _ reply (asked h w stands (Ok reply) does);
@@ -140,15 +140,15 @@ module _ (old new : Shown) (before now : ℕ) (m : Request) (ask : Ask) (is : as
       kept h w stands was = subst (λ x. new.leaves x x) (same h w stands) ((does.at h w stands tt).kept was)
 
   -- the store goes through a message with the outcome that fits the machine's answer
-  pub through_asked : (told : Result Reply StoreFault) (outcome : Outcome) → IsOutcome (sum_of m) told outcome
-      → Does {T = Reply} old new told (λ w. ask_reply w ask) (λ w. after_ask w ask) → HasCause {T = Reply} before now told
+  pub through_asked : (answer : Result Reply StoreFault) (outcome : Outcome) → IsOutcome (sum_of m) answer outcome
+      → Does {T = Reply} old new answer (λ w. ask_reply w ask) (λ w. after_ask w ask) → HasCause {T = Reply} before now answer
       → GoesThrough old new before now (record { message = m; outcome = outcome } ∷ [])
-  through_asked (Ok reply) (Told r) same does cause = rw same (through_told reply does cause)
+  through_asked (Ok reply) (Served r) same does cause = rw same (through_reply reply does cause)
   through_asked (Ok reply) Unserved composed does cause = through_unshown reply (composed_body (sum_of m) reply composed) does cause
   through_asked (Ok reply) (Met f) wrong does cause = absurd wrong
   through_asked (Err fault) (Met f) same does cause = rw same (through_met fault does cause)
   through_asked (Err fault) Unserved wrong does cause = absurd wrong
-  through_asked (Err fault) (Told r) wrong does cause = absurd wrong
+  through_asked (Err fault) (Served r) wrong does cause = absurd wrong
 
 -- ---- more after others
 

@@ -11,7 +11,7 @@ use Rattle.engine.specs.Reply.{text_of}
 use Rattle.engine.specs.Served.{texts_of}
 use Rattle.engine.specs.Store.{GoesThrough}
 use Rattle.engine.specs.Turn.{Answered, CutShort}
-use Rattle.engine.specs.Written.{WritesPart}
+use Rattle.engine.specs.Written.{WritesBeginning}
 use Rattle.framing.proofs.PieceLemmas.{ReadsMessages-append, ReadsMessages-join}
 use Rattle.engine.proofs.StoreLemmas.{through_none, through_more}
 
@@ -50,7 +50,7 @@ pub cut_before : (old new : Shown) (before now : ℕ) (w w' : Option (List ℕ))
 cut_before old new before now w w' input rest more far = record {
   first = far.first;
   last = far.last;
-  part = far.part;
+  front = far.front;
   reads = ReadsMessages-append input _ rest more far.reads;
   through = far.through;
   begins = far.begins;
@@ -70,12 +70,12 @@ answered_one old new before now w w' input rest x reads through appends = record
 
 -- a message with only a beginning of its answer written was cut short
 pub cut_one : (old new : Shown) (before now : ℕ) (w w' : Option (List ℕ)) (input rest : List ℕ) (x : Exchange)
-    → ReadsMessage input x.message rest → GoesThrough old new before now (x ∷ []) → WritesPart w w' (text_of x)
+    → ReadsMessage input x.message rest → GoesThrough old new before now (x ∷ []) → WritesBeginning w w' (text_of x)
     → CutShort old new before now w w' input rest
-cut_one old new before now w w' input rest x reads through (part, begins, appends) = record {
+cut_one old new before now w w' input rest x reads through (begun, begins, appends) = record {
   first = [];
   last = x;
-  part = part;
+  front = begun;
   reads = (rest, reads, refl);
   through = through;
   begins = begins;
@@ -103,7 +103,7 @@ module _
       record {
         first = far.exchanges ++ next.first;
         last = next.last;
-        part = next.part;
+        front = next.front;
         reads = subst (λ (xs : List Exchange). ReadsMessages input (map message_of xs) after) same
             (rw (map-append message_of far.exchanges (next.first ++ next.last ∷ []))
             (ReadsMessages-join input _ _ rest after far.reads next.reads));
@@ -111,6 +111,6 @@ module _
             (through_more old mid new before between now _ far.through _ next.through);
         begins = next.begins;
         appended = subst (Appends w₀ w₂)
-            (sym (append_assoc (texts_of far.exchanges) (texts_of next.first) next.part) ∙ ap (λ bytes. bytes ++ next.part) (sym (flat_map-append text_of far.exchanges next.first)))
+            (sym (append_assoc (texts_of far.exchanges) (texts_of next.first) next.front) ∙ ap (λ bytes. bytes ++ next.front) (sym (flat_map-append text_of far.exchanges next.first)))
             (Appends-trans w₀ w₁ w₂ _ _ far.appended next.appended);
       }

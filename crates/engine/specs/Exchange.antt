@@ -15,13 +15,13 @@ pub data Outcome : Type 0 where
   -- the store met a fault
   Met : StoreFault → Outcome
   -- the machine replied
-  Told : Reply → Outcome
+  Served : Reply → Outcome
 
 -- the machine's answer: running out of memory outside the store counts as a fault that changes nothing
 abbrev pub answer_to : Outcome → Answer
 answer_to Unserved = Failed Memory
 answer_to (Met fault) = Failed fault
-answer_to (Told reply) = Replied reply
+answer_to (Served reply) = Replied reply
 
 -- a message and its outcome
 pub record Exchange : Type 0 where
@@ -41,4 +41,4 @@ answer_of x = answer_to x.outcome
 abbrev pub IsUnmet : Outcome → Type 0
 IsUnmet Unserved = Unit {0}
 IsUnmet (Met fault) = ⊥
-IsUnmet (Told reply) = Unit {0}
+IsUnmet (Served reply) = Unit {0}

@@ -8,7 +8,7 @@ use Rattle.world.specs.Store.{Shown}
 use Rattle.engine.specs.Exchange.{Exchange}
 use Rattle.engine.specs.Reply.{text_of, status_of}
 use Rattle.engine.specs.Store.{GoesThrough}
-use Rattle.engine.specs.Written.{WritesPart}
+use Rattle.engine.specs.Written.{WritesBeginning}
 use Rattle.engine.specs.Served.{read_limit, Tells, IsClosing, closing_bytes, closing_status}
 use Rattle.engine.specs.declared.fault.Io.{Io}
 use Rattle.engine.specs.declared.fault.Io.TheVariants as io
@@ -41,7 +41,7 @@ first_exchanges (Closes closing) = []
 -- the last `read_limit`, begin with no whole message, and the stream could go on from them.
 pub record TakesFirst (unread unread_new : Option (List ℕ)) (first : First) : Type 0 where
   pub input : List ℕ
-  pub told : Tells unread input
+  pub tells : Tells unread input
   pub stands : IsFirst first input
   pub early : List ℕ
   pub last : List ℕ
@@ -61,4 +61,4 @@ ServesFirst old new before now unread unread_new written written_new (Err io.Rea
     (got : List ℕ) × Consumes unread unread_new got × IsUnfinished got × GoesThrough old new before now [] × Keeps written written_new
 ServesFirst old new before now unread unread_new written written_new (Err io.Write) =
     (first : First) × TakesFirst unread unread_new first × GoesThrough old new before now (first_exchanges first)
-    × (WritesPart written written_new (first_bytes first) ⊎ Appends written written_new (first_bytes first))
+    × (WritesBeginning written written_new (first_bytes first) ⊎ Appends written written_new (first_bytes first))

@@ -39,11 +39,11 @@ abbrev pub text_at : Happening → List ℕ
 text_at h = text_in h.coming h.answer
 
 -- puts a happening before others if this answer is a reply
-abbrev pub if_told : Happening → Answer → List Happening → List Happening
-if_told h (Replied r) hs = h ∷ hs
-if_told h (Failed fault) hs = hs
+abbrev pub if_faultless : Happening → Answer → List Happening → List Happening
+if_faultless h (Replied r) hs = h ∷ hs
+if_faultless h (Failed fault) hs = hs
 
 -- the happenings that met no fault: messages that were not answered 503, and commands that were done or refused
-abbrev pub told : List Happening → List Happening
-told [] = []
-told (h ∷ hs) = if_told h h.answer (told hs)
+abbrev pub faultless : List Happening → List Happening
+faultless [] = []
+faultless (h ∷ hs) = if_faultless h h.answer (faultless hs)

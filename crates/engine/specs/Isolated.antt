@@ -20,8 +20,8 @@ pub record IsAnsweredAlike
 
 -- If the key of the message belongs to a shelf that s sees, the message is answered alike from each world that the store may
 -- stand for and each world x that is the same to s.
-abbrev pub IsToldByItsShelf : Shown → Shown → Option (List ℕ) → Option (List ℕ) → Request → Type 0
-IsToldByItsShelf old new written written_new m =
+abbrev pub IsAnsweredByItsShelf : Shown → Shown → Option (List ℕ) → Option (List ℕ) → Request → Type 0
+IsAnsweredByItsShelf old new written written_new m =
     new.is_honest → (w x : World) (s t k : List ℕ) → old.stands w → IsWorld x → Low w x s
     → sees w s t ≡ true → belongs w k t → key_of (ask_of m) ≡ Some k
     → IsAnsweredAlike new written written_new m w x s
@@ -32,4 +32,4 @@ abbrev pub AnswersByItsShelf :
 AnswersByItsShelf old new unread written written_new result =
     (input : List ℕ) (m : Request) (rest : List ℕ) (status : ℕ)
     → unread ≡ Some input → ReadsMessage input m rest → result ≡ Ok (Some status) → status ≢ 503
-    → IsToldByItsShelf old new written written_new m
+    → IsAnsweredByItsShelf old new written written_new m

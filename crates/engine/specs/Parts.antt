@@ -10,7 +10,7 @@ use Rattle.shelf.specs.Isolation.{key_of}
 use Rattle.shelf.specs.Parts.{AllOwn}
 use Rattle.engine.specs.Ask.{ask_of}
 use Rattle.engine.specs.Exchange.{Exchange, event_of, answer_of}
-use Rattle.engine.specs.Happening.{Happening, coming_of, event_at, answer_at, text_at, told}
+use Rattle.engine.specs.Happening.{Happening, coming_of, event_at, answer_at, text_at, faultless}
 use Rattle.engine.specs.Headline.{unavailable}
 use Rattle.engine.specs.Reply.{text_of}
 
@@ -20,8 +20,8 @@ abbrev pub PartWritesTheSame : Type 0
 PartWritesTheSame =
     (w new other : World) (s : List ℕ) (xs ys : List Happening) → IsWorld w
     → Run w (map event_at xs) (map answer_at xs) new → Run (part w s) (map event_at ys) (map answer_at ys) other
-    → map coming_of (told xs) ≡ map coming_of (told ys) → AllOwn w s (map event_at (told xs))
-    → map text_at (told xs) ≡ map text_at (told ys)
+    → map coming_of (faultless xs) ≡ map coming_of (faultless ys) → AllOwn w s (map event_at (faultless xs))
+    → map text_at (faultless xs) ≡ map text_at (faultless ys)
 
 -- From the part, after any messages, a message whose key belongs to no shelf that the team sees gets the 404 or the 503.
 abbrev pub OthersAreWrittenNotFound : Type 0

@@ -18,7 +18,7 @@ use Rattle.shelf.specs.declared.reply.Reply.{Reply}
 use Rattle.shelf.specs.declared.reply.Reply.TheVariants as reply
 use Rattle.world.specs.declared.registry.StoreFault.{StoreFault}
 use Rattle.engine.specs.Ask.{sum_of}
-use Rattle.engine.specs.Exchange.{Exchange, Outcome, Unserved, Met, Told, answer_of}
+use Rattle.engine.specs.Exchange.{Exchange, Outcome, Unserved, Met, Served, answer_of}
 use Rattle.engine.specs.declared.page.Page.{Page}
 use Rattle.engine.specs.declared.page.Page.TheVariants as page
 
@@ -80,7 +80,7 @@ IsComposed sum other = ⊥
 -- The outcome of a message for this answer of the machine: its reply, unless memory runs out for a body that is composed; or
 -- the fault that the store met.
 abbrev pub IsOutcome : Option (List ℕ × SemanticVersion) → Result Reply StoreFault → Outcome → Type 0
-IsOutcome sum (Ok reply) (Told told) = told ≡ reply
+IsOutcome sum (Ok reply) (Served served) = served ≡ reply
 IsOutcome sum (Ok reply) Unserved = IsComposed sum reply
 IsOutcome sum (Err fault) (Met met) = met ≡ fault
 IsOutcome sum answer outcome = ⊥

@@ -48,10 +48,10 @@ texts_of exchanges = flat_map text_of exchanges
 -- a write failed: in the last answer, in what closes the stream, or only in the flush after it
 abbrev pub IsBrokenOff : List Exchange → List ℕ → List ℕ → Type 0
 IsBrokenOff exchanges rest out =
-    ((first : List Exchange) × (last : Exchange) × (part : List ℕ) × (exchanges ≡ first ++ last ∷ [])
-    × IsBeginning part (text_of last) × (out ≡ texts_of first ++ part))
-    ⊎ ((closing : Option Fixed) × (part : List ℕ) × IsClosing rest closing
-    × IsBeginning part (closing_bytes closing) × (out ≡ texts_of exchanges ++ part))
+    ((first : List Exchange) × (last : Exchange) × (front : List ℕ) × (exchanges ≡ first ++ last ∷ [])
+    × IsBeginning front (text_of last) × (out ≡ texts_of first ++ front))
+    ⊎ ((closing : Option Fixed) × (front : List ℕ) × IsClosing rest closing
+    × IsBeginning front (closing_bytes closing) × (out ≡ texts_of exchanges ++ front))
     ⊎ ((closing : Option Fixed) × IsClosing rest closing × (out ≡ texts_of exchanges ++ closing_bytes closing))
 
 -- How the call ended. A good end: all messages were answered, and the stream was closed. A failed read: each message that was

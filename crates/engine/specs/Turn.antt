@@ -9,7 +9,7 @@ use Rattle.engine.specs.Exchange.{Exchange, message_of}
 use Rattle.engine.specs.First.{First, Answers, Closes, first_bytes, first_exchanges}
 use Rattle.engine.specs.Reply.{text_of, status_of}
 use Rattle.engine.specs.Store.{GoesThrough}
-use Rattle.engine.specs.Written.{IsBeginning, WritesPart}
+use Rattle.engine.specs.Written.{IsBeginning, WritesBeginning}
 use Rattle.engine.specs.Served.{read_limit, Tells, IsClosing, closing_status, texts_of}
 use Rattle.engine.specs.declared.fault.Io.{Io}
 use Rattle.engine.specs.declared.fault.Io.TheVariants as io
@@ -113,7 +113,7 @@ Turns old new before now unread unread_new written written_new held held_new (Er
     × Keeps written written_new
 Turns old new before now unread unread_new written written_new held held_new (Err io.Write) =
     (first : First) × TakesNext held held_new unread unread_new first × GoesThrough old new before now (first_exchanges first)
-    × WritesPart written written_new (first_bytes first)
+    × WritesBeginning written written_new (first_bytes first)
 
 -- the result of `end_turn`: the status of the turn, `Io::Write` if the flush failed, or the error of the turn
 abbrev pub EndsBy : Result Turn Io → Result (Option ℕ) Io → Type 0
@@ -134,11 +134,11 @@ pub record CutShort
     (old new : Shown) (before now : ℕ) (written written_new : Option (List ℕ)) (input rest : List ℕ) : Type 0 where
   pub first : List Exchange
   pub last : Exchange
-  pub part : List ℕ
+  pub front : List ℕ
   pub reads : ReadsMessages input (map message_of (first ++ last ∷ [])) rest
   pub through : GoesThrough old new before now (first ++ last ∷ [])
-  pub begins : IsBeginning part (text_of last)
-  pub appended : Appends written written_new (texts_of first ++ part)
+  pub begins : IsBeginning front (text_of last)
+  pub appended : Appends written written_new (texts_of first ++ front)
 
 -- what was read so far is the answered messages and what the framer holds
 pub record SoFar
@@ -151,4 +151,4 @@ pub record SoFar
 -- the writer got the whole text and was flushed, or a write or the flush failed
 abbrev pub Delivers : {T : Type 0} → Option (List ℕ) → Option (List ℕ) → List ℕ → Result T Io → Type 0
 Delivers old new text result =
-    MatchResult result (λ _. Appends old new text) (λ e. (e ≡ io.Write) × (WritesPart old new text ⊎ Appends old new text))
+    MatchResult result (λ _. Appends old new text) (λ e. (e ≡ io.Write) × (WritesBeginning old new text ⊎ Appends old new text))

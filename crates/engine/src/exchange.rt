@@ -13,11 +13,15 @@ use world::registry::StoreFault;
 
 /// Returns what is written for the machine's answer: its reply, or the 503 if the store met a fault or memory runs out for
 /// the body of the reply.
-pub(crate) fn page_told(alloc: Global, asking: &Asking, told: Result<Reply, StoreFault>) -> Page
-    ensures { (outcome : Outcome) × IsOutcome (sum_by asking.now) told outcome
+pub(crate) fn page_of_answer(
+    alloc: Global,
+    asking: &Asking,
+    answer: Result<Reply, StoreFault>,
+) -> Page
+    ensures { (outcome : Outcome) × IsOutcome (sum_by asking.now) answer outcome
         × (result ≡ answer_page (sum_by asking.now) (answer_to outcome)) }
 {
-    let Ok(reply) = told else {
+    let Ok(reply) = answer else {
         return Page::Fixed(Fixed::Unavailable);
     };
     match page_of(alloc, asking, reply) {

@@ -4,7 +4,7 @@ ghost use Rattle.framing.specs.Message.{body_limit};
 ghost use Rattle.world.specs.World.{gomod_limit, zip_limit};
 ghost use Rattle.engine.specs.Accepted.{AcceptedIsWritten};
 ghost use Rattle.engine.specs.Calls.{CallsTellAlike, CallsTellAlikeAsFar};
-ghost use Rattle.engine.specs.Headline.{CallersAreToldAlike, BytesStayServed, LatestIsWritten};
+ghost use Rattle.engine.specs.Headline.{CallersAreAnsweredAlike, BytesStayServed, LatestIsWritten};
 ghost use Rattle.engine.specs.Parts.{PartWritesTheSame, OthersAreWrittenNotFound};
 ghost use Rattle.engine.specs.TwoStores.{TwoAnswersAreAlike};
 
@@ -15,7 +15,7 @@ use world::shelves::Shelves;
 /// go. The messages that a run answered 503 and the commands that met a fault are left out of it. The runs begin in one
 /// world, or in two that agree on the registry and on what the caller's shelf sees, and they end in worlds that agree again.
 pub fn isolation()
-    ensures { CallersAreToldAlike }
+    ensures { CallersAreAnsweredAlike }
 {}
 
 /// Once a GET of a version's `.mod`, `.zip`, `.info` or `-/gosum` by a key of a shelf is answered 200, every later GET of it by

@@ -7,7 +7,7 @@ ghost use Rattle.engine.specs.Turn.{EndsBy, IsAnswered, IsClosed, Turns, turn_st
 ghost use Rattle.engine.specs.Written.{Writes};
 
 use crate::ask::asking_of;
-use crate::exchange::page_told;
+use crate::exchange::page_of_answer;
 use crate::fault::Io;
 use crate::incoming::{Incoming, next_message};
 use crate::page::Page;
@@ -65,7 +65,7 @@ fn close_by<W: Write>(writer: &mut W, closing: Option<Fixed>) -> Result<Turn, Io
 /// failed, it returns the turn's error and does not flush.
 pub fn end_turn<W: Write>(writer: &mut W, turned: Result<Turn, Io>) -> Result<Option<u16>, Io>
     ensures bytes { Keeps (W.contents writer.old) (W.contents writer.new) }
-    ensures told { EndsBy turned result }
+    ensures ends { EndsBy turned result }
 {
     let turn = turned?;
     flush(writer)?;
@@ -121,8 +121,8 @@ impl Session {
                 let Ok(asking) = asking_of(routes, message) else {
                     return answer_with(self.alloc, writer, Page::Fixed(Fixed::Unavailable));
                 };
-                let told = step(self.alloc, shelves, &asking.ask);
-                let page = page_told(self.alloc, &asking, told);
+                let answer = step(self.alloc, shelves, &asking.ask);
+                let page = page_of_answer(self.alloc, &asking, answer);
                 answer_with(self.alloc, writer, page)
             }
             Incoming::End(closing) => close_by(writer, closing),

@@ -9,7 +9,7 @@ use Rattle.engine.specs.Ask.{ask_of}
 use Rattle.engine.specs.Exchange.{event_of, answer_of}
 use Rattle.engine.specs.Happening.{event_at, answer_at}
 use Rattle.engine.proofs.PartLemmas.{answered_alike, written_alike, all_asked, not_found_or_unavailable}
-use Rattle.engine.proofs.ToldLemmas.{told_events}
+use Rattle.engine.proofs.FaultlessLemmas.{faultless_events}
 use Rattle.store.specs.Parts.{part_of, chains}
 use Rattle.runner.specs.Parts.{AllOf}
 use Rattle.runner.specs.Written.{TeamsAreWrittenTheSame, OthersOfTeamsAreWrittenNotFound}
@@ -19,7 +19,7 @@ pub teams_are_written_the_same : TeamsAreWrittenTheSame
 teams_are_written_the_same w new other ts xs ys is are run again same of =
     written_alike xs ys same
     (teams_are_told_the_same w new other ts (map event_at xs) (map event_at ys) (map answer_at xs) (map answer_at ys) is are run again (answered_alike xs ys same)
-    (subst (AllOf w (chains w ts)) (sym (told_events xs)) of))
+    (subst (AllOf w (chains w ts)) (sym (faultless_events xs)) of))
 
 pub others_of_teams_are_written_not_found : OthersOfTeamsAreWrittenNotFound
 others_of_teams_are_written_not_found w mid new ts k before x far by run last =

@@ -9,7 +9,7 @@ use Rattle.shelf.specs.Machine.{Run}
 use Rattle.shelf.specs.Isolation.{key_of}
 use Rattle.engine.specs.Ask.{ask_of}
 use Rattle.engine.specs.Exchange.{Exchange, event_of, answer_of}
-use Rattle.engine.specs.Happening.{Happening, coming_of, event_at, answer_at, text_at, told}
+use Rattle.engine.specs.Happening.{Happening, coming_of, event_at, answer_at, text_at, faultless}
 use Rattle.engine.specs.Headline.{unavailable}
 use Rattle.engine.specs.Reply.{text_of}
 use Rattle.store.specs.Parts.{part_of, chains, AreTeams}
@@ -21,8 +21,8 @@ abbrev pub TeamsAreWrittenTheSame : Type 0
 TeamsAreWrittenTheSame =
     (w new other : World) (ts : List (List ℕ)) (xs ys : List Happening) → IsWorld w → AreTeams w ts
     → Run w (map event_at xs) (map answer_at xs) new → Run (part_of w (chains w ts)) (map event_at ys) (map answer_at ys) other
-    → map coming_of (told xs) ≡ map coming_of (told ys) → AllOf w (chains w ts) (map event_at (told xs))
-    → map text_at (told xs) ≡ map text_at (told ys)
+    → map coming_of (faultless xs) ≡ map coming_of (faultless ys) → AllOf w (chains w ts) (map event_at (faultless xs))
+    → map text_at (faultless xs) ≡ map text_at (faultless ys)
 
 -- From the part, after any messages, a message whose key belongs to no shelf that one of the teams sees gets the 404 or the 503.
 abbrev pub OthersOfTeamsAreWrittenNotFound : Type 0

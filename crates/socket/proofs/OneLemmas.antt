@@ -51,8 +51,8 @@ same_come waiting left rest first one two = subst (Come waiting rest) (append-ni
 
 module _ {P : Type 0} (unread written : P → Option (List ℕ)) where
   -- a peer whose first message was served as `ServesFirst` says was answered
-  pub answered : (old new : Shown) (before now : ℕ) (peer after : P) (told : Result (Option ℕ) Io)
-      → ServesFirst old new before now (unread peer) (unread after) (written peer) (written after) told
+  pub answered : (old new : Shown) (before now : ℕ) (peer after : P) (status : Result (Option ℕ) Io)
+      → ServesFirst old new before now (unread peer) (unread after) (written peer) (written after) status
       → Answers unread written peer old new before now
   answered old new before now peer after (Ok status) (first, takes, through, is, ended) = record {
     visit = record { before = peer; after = after; first = Some first };

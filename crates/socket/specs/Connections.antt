@@ -5,7 +5,7 @@ use Rattle.world.specs.Store.{Shown}
 use Rattle.engine.specs.Exchange.{Exchange}
 use Rattle.engine.specs.First.{First, TakesFirst, first_bytes, first_exchanges}
 use Rattle.engine.specs.Store.{GoesThrough}
-use Rattle.engine.specs.Written.{WritesPart}
+use Rattle.engine.specs.Written.{WritesBeginning}
 
 -- The store went through a run of messages, at most as many as there are connections.
 pub record GoesThroughMost (old new : Shown) (before now connections : ℕ) : Type 0 where
@@ -50,7 +50,7 @@ module _ {P : Type 0} (unread written : P → Option (List ℕ)) where
   IsBetween before after None = Keeps (written before) (written after)
   IsBetween before after (Some first) =
       TakesFirst (unread before) (unread after) first
-      × (WritesPart (written before) (written after) (first_bytes first) ⊎ Appends (written before) (written after) (first_bytes first))
+      × (WritesBeginning (written before) (written after) (first_bytes first) ⊎ Appends (written before) (written after) (first_bytes first))
 
   -- the visit is one between its peer before and after it
   abbrev pub IsAnsweredThere : Visit P → Type 0

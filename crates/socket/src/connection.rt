@@ -23,7 +23,7 @@ pub struct Answered<R, W> {
     pub writer: W,
     /// The status that was written, or `None` if the peer sent nothing; `Io::Read` or `Io::Write` if a read or a write failed or
     /// its time was over.
-    pub told: Result<Option<u16>, Io>,
+    pub status: Result<Option<u16>, Io>,
 }
 
 /// Answers the first request of a peer (RFC 9112, in the profile of the crate `wire`) as `engine::answer_one` does, and returns
@@ -43,23 +43,23 @@ pub fn answer_in_time<C: Clock, R: BoundRead + Drop, W: BoundWrite + Drop, S: Sh
     shelves: &mut S,
 ) -> Answered<R, W>
     ensures serves { ServesFirst (S.shown shelves.old) (S.shown shelves.new) (S.failure_count shelves.old) (S.failure_count shelves.new)
-        (R.remaining reader) (R.remaining result.reader) (W.contents writer) (W.contents result.writer) result.told }
+        (R.remaining reader) (R.remaining result.reader) (W.contents writer) (W.contents result.writer) result.status }
     // An empty input and a failed read leave the shelves untouched.
-    ensures empty { IfOk result.told (λ status. status ≡ None → shelves.new ≡ shelves.old) }
-    ensures unread { IfErr result.told (λ e. e ≡ Io.Read → shelves.new ≡ shelves.old) }
+    ensures empty { IfOk result.status (λ status. status ≡ None → shelves.new ≡ shelves.old) }
+    ensures unread { IfErr result.status (λ e. e ≡ Io.Read → shelves.new ≡ shelves.old) }
     // The answer does not depend on the shelves that the caller does not see.
     ensures isolated { AnswersByItsShelf (S.shown shelves.old) (S.shown shelves.new)
-        (R.remaining reader) (W.contents writer) (W.contents result.writer) result.told }
+        (R.remaining reader) (W.contents writer) (W.contents result.writer) result.status }
 {
     let mut request = Paced::new(reader, clock, Phase::Message);
     let mut reply = Paced::new(writer, clock, Phase::Message);
     let mut session = Session::new(alloc);
     let turned = session.turn(routes, &mut request, &mut reply, shelves);
-    let told = end_turn(&mut reply, turned);
+    let status = end_turn(&mut reply, turned);
     Answered {
         reader: request.into_inner(),
         writer: reply.into_inner(),
-        told,
+        status,
     }
 }
 
@@ -106,7 +106,7 @@ impl Peer for TcpStream {
         shelves: &mut S,
     ) -> Result<Option<u16>, Io> {
         let stream: &TcpStream = self;
-        answer_in_time(alloc, clock, routes, stream, stream, shelves).told
+        answer_in_time(alloc, clock, routes, stream, stream, shelves).status
     }
 
     /// Shuts the writing side, and drops what the peer sent behind its message. Errors are ignored: the reply is written.

@@ -88,16 +88,16 @@ impl<T: Write> BoundWrite for Bounded<T> {
 }
 
 /// How a message was answered, with its reader, which gives its bytes in two reads or more, and its writer.
-type Told<'a, W> = Answered<Bounded<Chain<&'a [u8], &'a [u8]>>, Bounded<W>>;
+type Timed<'a, W> = Answered<Bounded<Chain<&'a [u8], &'a [u8]>>, Bounded<W>>;
 
 /// Answers the message in these bytes, measured by a clock with this step.
-fn told<'a, W: Write + Drop>(
+fn timed<'a, W: Write + Drop>(
     alloc: Global,
     step: u64,
     first: &'a [u8],
     last: &'a [u8],
     writer: W,
-) -> Result<Told<'a, W>, Fail> {
+) -> Result<Timed<'a, W>, Fail> {
     let mut shelves = shelves(alloc)?;
     let reader = Bounded::new(first.chain(last));
     Ok(answer_in_time(
@@ -113,8 +113,8 @@ fn told<'a, W: Write + Drop>(
 #[test]
 fn a_request_that_comes_in_time_is_answered(rt: HostRuntime) -> Result<(), Fail> {
     let (first, last) = PUT.split_at(20);
-    let answered = told(rt.alloc(), 4_999, first, last, Vec::new(rt.alloc()))?;
-    assert!(rt; answered.told == Ok(Some(201)));
+    let answered = timed(rt.alloc(), 4_999, first, last, Vec::new(rt.alloc()))?;
+    assert!(rt; answered.status == Ok(Some(201)));
     assert!(rt; answered.writer.inner.as_slice() == PUBLISHED.as_bytes());
     // The second read began a millisecond before the end, and the first write starts a time of its own.
     assert!(rt; answered.reader.millis() == 1);
@@ -125,8 +125,8 @@ fn a_request_that_comes_in_time_is_answered(rt: HostRuntime) -> Result<(), Fail>
 #[test]
 fn a_read_that_begins_too_late_fails(rt: HostRuntime) -> Result<(), Fail> {
     let (first, last) = PUT.split_at(20);
-    let answered = told(rt.alloc(), 5_000, first, last, Vec::new(rt.alloc()))?;
-    assert!(rt; answered.told == Err(Io::Read));
+    let answered = timed(rt.alloc(), 5_000, first, last, Vec::new(rt.alloc()))?;
+    assert!(rt; answered.status == Err(Io::Read));
     assert!(rt; answered.writer.inner.is_empty());
     Ok(())
 }
@@ -135,12 +135,12 @@ fn a_read_that_begins_too_late_fails(rt: HostRuntime) -> Result<(), Fail> {
 fn a_write_that_begins_too_late_fails(rt: HostRuntime) -> Result<(), Fail> {
     // The reply has 114 bytes, and the sink takes 7 of them at each second call: the last of 34 calls begins after 33 steps.
     let sink = Sink::new(rt.alloc(), usize::MAX);
-    let answered = told(rt.alloc(), 151, PUT, b"", sink)?;
-    assert!(rt; answered.told == Ok(Some(201)));
+    let answered = timed(rt.alloc(), 151, PUT, b"", sink)?;
+    assert!(rt; answered.status == Ok(Some(201)));
     assert!(rt; answered.writer.millis() == 17);
     let sink = Sink::new(rt.alloc(), usize::MAX);
-    let answered = told(rt.alloc(), 152, PUT, b"", sink)?;
-    assert!(rt; answered.told == Err(Io::Write));
+    let answered = timed(rt.alloc(), 152, PUT, b"", sink)?;
+    assert!(rt; answered.status == Err(Io::Write));
     assert!(rt; answered.writer.inner.taken.len() == 112);
     Ok(())
 }
@@ -154,9 +154,9 @@ fn bytes_that_are_moved_give_more_time(rt: HostRuntime) -> Result<(), Fail> {
     let zip = vec![in rt.alloc(); b'z'; 1_114_112]?;
     // There is one read for the head and the go.mod, and there are 17 of 65,536 bytes. The last begins after 17 steps, when more
     // than 1,048,576 bytes have come, so 6 s are allowed. For the one before it, 5 s are allowed.
-    let answered = told(rt.alloc(), 312, LARGE, &zip, Vec::new(rt.alloc()))?;
-    assert!(rt; answered.told == Ok(Some(201)));
-    let answered = told(rt.alloc(), 313, LARGE, &zip, Vec::new(rt.alloc()))?;
-    assert!(rt; answered.told == Err(Io::Read));
+    let answered = timed(rt.alloc(), 312, LARGE, &zip, Vec::new(rt.alloc()))?;
+    assert!(rt; answered.status == Ok(Some(201)));
+    let answered = timed(rt.alloc(), 313, LARGE, &zip, Vec::new(rt.alloc()))?;
+    assert!(rt; answered.status == Err(Io::Read));
     Ok(())
 }

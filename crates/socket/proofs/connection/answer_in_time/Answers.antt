@@ -9,7 +9,7 @@ returns-clause-serves g c = rw (c.into_inner.ensures, c.into_inner-2.ensures) (f
     _ _ _ _ _ _ _ _ _ c.new-session.result.framer c.turn-turned.new.self.framer c.turn-turned.result _
     (ap (λ (f : Framing). f.held) c.new-session.ensures)
     (rw (c.new-request.ensures, c.new-reply.ensures) at c.turn-turned.ensures.turns)
-    c.end_turn-told.ensures.bytes c.end_turn-told.ensures.told)
+    c.end_turn-status.ensures.bytes c.end_turn-status.ensures.ends)
 
 pub returns-clause-isolated : goal.returns-clause-isolated
 returns-clause-isolated g c = alike _ _ _ _ _ _ _ _ (g.met.S.Shelves.sound c.args.shelves.now) _ (returns-clause-serves g c)

@@ -26,12 +26,12 @@ returns-in-Ok-clause-turns g c =
     let asking = c.in-Ok.asking in
     let ask : asking.ask ≡ ask_of m = ap (λ a. a.ask) c.in-Ok.ensures in
     let sum : sum_by asking ≡ sum_of m = ap sum_by c.in-Ok.ensures ∙ sum_asked m in
-    let (outcome, is, shown) = c.page_told-page.ensures in
+    let (outcome, is, shown) = c.page_of_answer-page.ensures in
     let x : Exchange = record { message = m; outcome = outcome } in
-    let is_one = subst (λ at. IsOutcome at c.step-told.result outcome) sum is in
-    let step = c.step-told.ensures in
-    turned_page _ _ _ _ _ _ _ _ _ _ _ _ c.in-Message.message x c.page_told-page.result _ refl (rw c.in-Message.is at c.in_ok-message.ensures)
-    (through_asked _ _ _ _ m asking.ask ask c.step-told.result outcome is_one step.does step.cause)
+    let is_one = subst (λ at. IsOutcome at c.step-answer.result outcome) sum is in
+    let step = c.step-answer.ensures in
+    turned_page _ _ _ _ _ _ _ _ _ _ _ _ c.in-Message.message x c.page_of_answer-page.result _ refl (rw c.in-Message.is at c.in_ok-message.ensures)
+    (through_asked _ _ _ _ m asking.ask ask c.step-answer.result outcome is_one step.does step.cause)
     (shown ∙ ap (λ at. answer_page at (answer_to outcome)) sum) c.answer_with-in-Message.ensures.bytes c.answer_with-in-Message.ensures.turn
 
 pub returns-in-End-clause-turns : goal.returns-in-End-clause-turns

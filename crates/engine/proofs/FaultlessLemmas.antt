@@ -8,20 +8,20 @@ use Rattle.shelf.specs.declared.reply.Answer.{Answer}
 use Rattle.shelf.specs.declared.reply.Answer.TheVariants.{Replied, Failed}
 use Rattle.shelf.specs.Machine.{Run, replies, replies_of, answered, after, after_all, reply_to}
 use Rattle.shelf.specs.Isolation.{marked}
-use Rattle.engine.specs.Happening.{Coming, Happening, event_in, coming_of, event_at, answer_at, told}
+use Rattle.engine.specs.Happening.{Coming, Happening, event_in, coming_of, event_at, answer_at, faultless}
 
 pub events_are : (xs : List Happening) → map event_at xs ≡ map event_in (map coming_of xs)
 events_are [] = refl
 events_are (x ∷ xs) = ap (λ es. event_at x ∷ es) (events_are xs)
 
-abbrev EventsTold : List Happening → Type 0
-EventsTold xs = answered (map event_at xs) (map answer_at xs) ≡ map event_at (told xs)
+abbrev EventsAgree : List Happening → Type 0
+EventsAgree xs = answered (map event_at xs) (map answer_at xs) ≡ map event_at (faultless xs)
 
-pub told_events : (xs : List Happening) → EventsTold xs
-told_events [] = refl
-told_events (x ∷ xs) = go x.answer refl (told_events xs)
+pub faultless_events : (xs : List Happening) → EventsAgree xs
+faultless_events [] = refl
+faultless_events (x ∷ xs) = go x.answer refl (faultless_events xs)
   where
-    go : (a : Answer) → x.answer ≡ a → EventsTold xs → EventsTold (x ∷ xs)
+    go : (a : Answer) → x.answer ≡ a → EventsAgree xs → EventsAgree (x ∷ xs)
     go (Failed fault) is rest = rw is rest
     go (Replied r) is rest = rw is (ap (λ es. event_at x ∷ es) rest)
 
@@ -45,14 +45,14 @@ module _ (text_for : Coming → Answer → List ℕ) where
   texts (c ∷ cs) (r ∷ rs) = text_for c (Replied r) ∷ texts cs rs
   texts cs rs = []
 
-  abbrev TextsTold : List Happening → Type 0
-  TextsTold xs = map text_to (told xs) ≡ texts (map coming_of (told xs)) (replies_of (map answer_at xs))
+  abbrev TextsAgree : List Happening → Type 0
+  TextsAgree xs = map text_to (faultless xs) ≡ texts (map coming_of (faultless xs)) (replies_of (map answer_at xs))
 
-  pub told_texts : (xs : List Happening) → TextsTold xs
-  told_texts [] = refl
-  told_texts (x ∷ xs) = go x.answer refl (told_texts xs)
+  pub faultless_texts : (xs : List Happening) → TextsAgree xs
+  faultless_texts [] = refl
+  faultless_texts (x ∷ xs) = go x.answer refl (faultless_texts xs)
     where
-      go : (a : Answer) → x.answer ≡ a → TextsTold xs → TextsTold (x ∷ xs)
+      go : (a : Answer) → x.answer ≡ a → TextsAgree xs → TextsAgree (x ∷ xs)
       go (Failed fault) is rest = rw is rest
       go (Replied r) is rest = rw is (ap (λ ts. text_for x.coming (Replied r) ∷ ts) rest)
 
@@ -73,14 +73,14 @@ module _ (text_for : Coming → Answer → List ℕ) where
 
 -- the replies are those of the machine to these events, and the run ends in the world after them
 pub record IsExact (w new : World) (es : List Event) (rs : List Reply) : Type 0 where
-  pub told : rs ≡ replies w es
+  pub replies_are : rs ≡ replies w es
   pub ends : new ≡ after_all w es
 
 pub exact : (w new : World) (es : List Event) (answers : List Answer) → Run w es answers new → IsExact w new (answered es answers) (replies_of answers)
-exact w new [] [] run = record { told = refl; ends = run }
+exact w new [] [] run = record { replies_are = refl; ends = run }
 exact w new [] (a ∷ answers) run = absurd run
 exact w new (e ∷ es) [] run = absurd run
 exact w new (e ∷ es) (Failed fault ∷ answers) run = exact w new es answers run
 exact w new (e ∷ es) (Replied r ∷ answers) run =
     let rest = exact (after w e) new es answers run.1 in
-    record { told = ap (λ a. a ∷ replies_of answers) run.0 ∙ ap (λ rs. reply_to w e ∷ rs) rest.told; ends = rest.ends }
+    record { replies_are = ap (λ a. a ∷ replies_of answers) run.0 ∙ ap (λ rs. reply_to w e ∷ rs) rest.replies_are; ends = rest.ends }

@@ -5,7 +5,7 @@ ghost use Rattle.commands.specs.Serve.{Announces, Listens, ListensToBoth, Listen
 
 use crate::moment::time_now;
 use crate::refusal::CommandRefusal;
-use control::{Copies, Doors, leave_place, operators_at, serve_both};
+use control::{Copies, Doors, operators_at, remove_socket, serve_both};
 use itoa::Buffer;
 use socket::serve_on;
 use std::io::{self, ErrorKind, Write};
@@ -93,11 +93,11 @@ fn serve_operators<S: Shelves, K: Copies<S>, O: Write>(
                 since,
                 connections,
             );
-            leave_place(rt, path);
+            remove_socket(rt, path);
             Ok(())
         }
         Err(_) => {
-            leave_place(rt, path);
+            remove_socket(rt, path);
             Err(CommandRefusal::Io)
         }
     }

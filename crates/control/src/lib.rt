@@ -8,7 +8,7 @@
 //! | what came of an order, and the line that tells it | [`Outcome`], [`Told`] |
 //! | carrying an operator's order out | [`obey`] |
 //! | peers of a port and operators of a socket, one after another | [`serve_both`], [`Callers`], [`Doors`] |
-//! | the socket | [`operators_at`], [`leave_place`] |
+//! | the socket | [`operators_at`], [`remove_socket`] |
 //! | the operator's side | [`server_at`], [`ask`], [`ask_to_copy`], [`ask_for_health`], [`ask_to_stop`] |
 #![tactic(auto)]
 
@@ -25,8 +25,8 @@ mod order;
 mod outcome;
 mod patience;
 mod pinging;
-mod place;
 mod serve;
+mod socket_file;
 mod tally;
 mod told;
 mod words;
@@ -39,7 +39,7 @@ pub use health::Health;
 pub use obeying::obey;
 pub use order::{Order, order_of};
 pub use outcome::Outcome;
-pub use place::{leave_place, operators_at, server_at};
 pub use serve::serve_both;
+pub use socket_file::{operators_at, remove_socket, server_at};
 pub use tally::Tally;
 pub use told::Told;

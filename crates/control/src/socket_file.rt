@@ -41,7 +41,7 @@ fn remove_left(rt: &HostRuntime, path: &str) -> io::Result<()> {
 }
 
 /// Removes the socket at the end, if the name is still that of a socket. Errors are ignored.
-pub fn leave_place(rt: &HostRuntime, path: &str) {
+pub fn remove_socket(rt: &HostRuntime, path: &str) {
     match fs::symlink_metadata(rt, path) {
         Ok(found) if found.file_type().is_socket() => {
             let _ = fs::remove_file(rt, path);

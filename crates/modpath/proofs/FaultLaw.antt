@@ -6,8 +6,10 @@ use Rattle.std.specs.List.{All}
 use Rattle.modpath.specs.declared.major.Suffix.{Suffix}
 use Rattle.modpath.specs.declared.path.PathFault.{PathFault}
 use Rattle.modpath.specs.declared.path.PathFault.TheVariants as fault
-use Rattle.modpath.specs.ModulePath.{BreaksElement, BreaksLeftmost, BreaksLoose, BreaksPath, HasDotEnd, HasElementBytes, HasPathElements, HasPathLength, HasSuffix, IsElement, IsFirstElement, IsReserved}
-use Rattle.modpath.specs.Path.{Check, ◌>>◌, check_each, check_of, element_check, elements, elements_check, fault_unless, first_element, has_dot_end, is_element_text, is_first_element, is_reserved, has_tilde_number, length_check, passed, stem, suffix_check}
+use Rattle.modpath.specs.ModulePath.{BreaksElement, BreaksLeftmost, BreaksLoose, BreaksPath, HasDotEnd, HasElementBytes}
+use Rattle.modpath.specs.ModulePath.{HasPathElements, HasPathLength, HasSuffix, IsElement, IsFirstElement, IsReserved}
+use Rattle.modpath.specs.Path.{Check, ◌>>◌, check_each, check_of, element_check, elements, elements_check, fault_unless, first_element, has_dot_end}
+use Rattle.modpath.specs.Path.{is_element_text, is_first_element, is_reserved, has_tilde_number, length_check, passed, stem, suffix_check}
 use Rattle.modpath.specs.PathLaws.{FaultsAreExact, LooseFaultsAreExact}
 use Rattle.modpath.proofs.ElementLaw.{dot_ends_are_exact, element_bytes_are_exact, first_elements_are_exact}
 use Rattle.modpath.proofs.PathLaw.{and_then, asked, both, element_passes, elements_pass, fails, holds, length_passes, no_test, suffix_passes, tested}

@@ -1,5 +1,6 @@
 -- The test of tilde numbers passes exactly the names that end with a tilde and digits.
-use Rattle.std.proofs.Common.{◌≡◌, ◌<◌, ◌≤◌, ◌++◌, ◌+◌, ◌-◌, ℕ, suc, List, [], ◌∷◌, length, get_or, take, drop, reverse, true, false, refl, sym, ap, ◌∙◌, inl, inr, arith, length-append, length-drop, get_or-drop, append_assoc}
+use Rattle.std.proofs.Common.{◌≡◌, ◌<◌, ◌≤◌, ◌++◌, ◌+◌, ◌-◌, ℕ, suc, List, [], ◌∷◌, length, get_or, take, drop, reverse, true}
+use Rattle.std.proofs.Common.{false, refl, sym, ap, ◌∙◌, inl, inr, arith, length-append, length-drop, get_or-drop, append_assoc}
 use Rattle.std.proofs.lemmas.Bool.{and_parts, eqb-true, lt-ltb, ltb-true, cases_lt}
 use Rattle.std.proofs.lemmas.List.{drop_more, get_or-append_right, get_or-reverse, get_or_at, length-reverse, take-append-drop}
 use Rattle.std.proofs.lemmas.List.Elements.{All-from_get_or, All-get_or}

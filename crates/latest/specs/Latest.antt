@@ -65,5 +65,6 @@ IsBest vs m n (Some p) = (v : SemanticVersion) × (slice_get vs p ≡ Some v) ×
 
 -- of versions that fit one path, at most one is the top, and at most one is the top of those that a go.mod does not retract
 abbrev pub TopIsOne : Type 0
-TopIsOne = (path : List ℕ) (vs : List SemanticVersion) → ((x : SemanticVersion) → Contains vs x → IsVersionOf path x) → (u v : SemanticVersion)
+TopIsOne = (path : List ℕ) (vs : List SemanticVersion)
+    → ((x : SemanticVersion) → Contains vs x → IsVersionOf path x) → (u v : SemanticVersion)
     → (IsTop (among vs) u → IsTop (among vs) v → u ≡ v) × ((m : GoModule) → IsTop (unretracted vs m) u → IsTop (unretracted vs m) v → u ≡ v)

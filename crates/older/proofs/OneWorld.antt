@@ -22,7 +22,8 @@ use Rattle.older.specs.Means.{Means, IsShelf, IsWithBody, IsEntryIn, parent_of}
 use Rattle.older.specs.Laws.{MeanOne}
 
 -- if a row is of one thing at most, and a table tabulates both P and Q, then Q holds wherever P does
-carried : {X : Type 0} (IsRow : Row → X → Type 0) (rows : List Row) (P Q : X → Type 0) → ((row : Row) (x y : X) → IsRow row x → IsRow row y → y ≡ x) → Tabulates IsRow rows P → Tabulates IsRow rows Q → (x : X) → P x → Q x
+carried : {X : Type 0} (IsRow : Row → X → Type 0) (rows : List Row) (P Q : X → Type 0)
+    → ((row : Row) (x y : X) → IsRow row x → IsRow row y → y ≡ x) → Tabulates IsRow rows P → Tabulates IsRow rows Q → (x : X) → P x → Q x
 carried IsRow rows P Q one p q x holds =
     let from = p.found x holds in
     let to = q.each from.0 from.1 in
@@ -79,11 +80,14 @@ one_entry Two db row x y one two =
 -- tables of an older schema stand for at most one world, because its keys, its shelves and its entries are all determined
 pub mean_one : MeanOne
 mean_one format db w x one two =
-    let keys = map.same_map texts_total texts_exact w.keys x.keys (λ k. same_got w.keys x.keys k (λ h. carried IsAccess (db 4) (λ it. map.get w.keys it.0 ≡ Some it.1) (λ it. map.get x.keys it.0 ≡ Some it.1) one_access one.access two.access (k, h))
+    let keys = map.same_map texts_total texts_exact w.keys x.keys
+    (λ k. same_got w.keys x.keys k (λ h. carried IsAccess (db 4) (λ it. map.get w.keys it.0 ≡ Some it.1) (λ it. map.get x.keys it.0 ≡ Some it.1) one_access one.access two.access (k, h))
     (λ h. carried IsAccess (db 4) (λ it. map.get x.keys it.0 ≡ Some it.1) (λ it. map.get w.keys it.0 ≡ Some it.1) one_access two.access one.access (k, h))) in
-    let shelves = map.same_map texts_total texts_exact w.shelves x.shelves (λ s. same_got w.shelves x.shelves s (λ o. carried IsShelf (db 2) (λ it. map.get w.shelves it.0 ≡ Some it.1) (λ it. map.get x.shelves it.0 ≡ Some it.1) one_shelf one.shelves two.shelves (s, o))
+    let shelves = map.same_map texts_total texts_exact w.shelves x.shelves
+    (λ s. same_got w.shelves x.shelves s (λ o. carried IsShelf (db 2) (λ it. map.get w.shelves it.0 ≡ Some it.1) (λ it. map.get x.shelves it.0 ≡ Some it.1) one_shelf one.shelves two.shelves (s, o))
     (λ o. carried IsShelf (db 2) (λ it. map.get x.shelves it.0 ≡ Some it.1) (λ it. map.get w.shelves it.0 ≡ Some it.1) one_shelf two.shelves one.shelves (s, o))) in
     let entries = map.same_map places_total places_exact w.entries x.entries
-    (λ q. same_got w.entries x.entries q (λ e. carried (IsEntryIn format db) (db 6) (λ it. map.get w.entries it.0 ≡ Some it.1) (λ it. map.get x.entries it.0 ≡ Some it.1) (one_entry format db) one.entries two.entries (q, e))
+    (λ q. same_got w.entries x.entries q
+    (λ e. carried (IsEntryIn format db) (db 6) (λ it. map.get w.entries it.0 ≡ Some it.1) (λ it. map.get x.entries it.0 ≡ Some it.1) (one_entry format db) one.entries two.entries (q, e))
     (λ e. carried (IsEntryIn format db) (db 6) (λ it. map.get x.entries it.0 ≡ Some it.1) (λ it. map.get w.entries it.0 ≡ Some it.1) (one_entry format db) two.entries one.entries (q, e))) in
     λ i. record { keys = keys i; shelves = shelves i; entries = entries i }

@@ -26,7 +26,8 @@ use Rattle.shelf.specs.declared.reply.Decision.TheVariants.{Published, Same, Con
 use Rattle.world.specs.Forms.{fits, suffix_of}
 use Rattle.world.specs.GoMods.{reading_of}
 use Rattle.world.specs.World.{World, IsEntry, group_of, above, seen_at, first_on, view, count, version_limit}
-use Rattle.shelf.specs.Machine.{first_failing, is_readable, may_publish, is_too_large, entry_time, entry_of, gomod_of, is_same, is_other, offered, request_checks, gomod_checks, shelf_checks, decided_by_shelf, decided, own_refusal, standing_if, standing_of, shelf_decision, decision, place_of}
+use Rattle.shelf.specs.Machine.{first_failing, is_readable, may_publish, is_too_large, entry_time, entry_of, gomod_of, is_same, is_other, offered, request_checks}
+use Rattle.shelf.specs.Machine.{gomod_checks, shelf_checks, decided_by_shelf, decided, own_refusal, standing_if, standing_of, shelf_decision, decision, place_of}
 use Rattle.world.specs.Store.{IsRoomFor}
 use Rattle.world.specs.EntryTest.{is_small, is_time_of}
 use Rattle.world.proofs.EntryTests.{gomod_so, small_so, time_so}
@@ -211,7 +212,8 @@ body_of p None e is = cc
 body_of p (Some b) e is = (b, refl, cc)
 
 -- if the decision on a publish to a shelf that exists is `Published`, there is room for its entry
-pub room_for : (w : World) (h : Holder) (p : Publish) (e : Entry) → map.contains_key w.shelves h.shelf ≡ true → decision w (Some h) p ≡ Published → offered p ≡ Some e → IsRoomFor w (place_of h.shelf p) e
+pub room_for : (w : World) (h : Holder) (p : Publish) (e : Entry) → map.contains_key w.shelves h.shelf ≡ true
+    → decision w (Some h) p ≡ Published → offered p ≡ Some e → IsRoomFor w (place_of h.shelf p) e
 room_for w h p e stands is_published is_offered =
     let is = accepted p (Some h.right) (gomod_of p) (standing_of w h.shelf p) (count w h.shelf p.path) is_published in
     let body = body_of p p.body e is_offered in

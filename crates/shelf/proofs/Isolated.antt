@@ -10,7 +10,8 @@ use Rattle.shelf.specs.declared.reply.Answer.{Answer}
 use Rattle.shelf.specs.declared.reply.Answer.TheVariants.{Replied, Failed}
 use Rattle.world.specs.World.{World, IsWorld, chain}
 use Rattle.shelf.specs.Machine.{reply_to, after, after_all, replies, Run, answered, replies_of}
-use Rattle.shelf.specs.Isolation.{is_among, is_near, is_near_key, asking_key, is_kept, kept, marked, purge, IsAnsweredIfKept, KeptAnswered, AllReplied, Agree, IsIsolated, PurgeIsTheSame, PurgedRunsAgree, FaultyRunsAgree, MarksAreAsLong, MarksAreAtTheirMoment, OnlyOthersGo}
+use Rattle.shelf.specs.Isolation.{is_among, is_near, is_near_key, asking_key, is_kept, kept, marked, purge, IsAnsweredIfKept, KeptAnswered, AllReplied}
+use Rattle.shelf.specs.Isolation.{Agree, IsIsolated, PurgeIsTheSame, PurgedRunsAgree, FaultyRunsAgree, MarksAreAsLong, MarksAreAtTheirMoment, OnlyOthersGo}
 use Rattle.shelf.proofs.Sound.{sound, world_through}
 use Rattle.shelf.proofs.Chains.{Later, later_self, later_through, Reaches, reaches}
 use Rattle.shelf.proofs.Apart.{agree_self, agree_back, event_alike, event_far, kept_alike}
@@ -103,7 +104,8 @@ purged_told w x y new other later s (e ∷ es) [] purged is then three run told 
 purged_told w x y new other later s (e ∷ es) (Failed fault ∷ answers) purged is then three run told again all =
     let ss : List (List ℕ) = chain later s in
     let marks : List Bool = kept (after x e) ss es in
-    elim (is_kept x ss e) as (λ b. is_kept x ss e ≡ b → IsAnsweredIfKept b (Failed fault) → Run y (marked (b ∷ marks) (e ∷ es)) purged other → PurgedTold (b ∷ marks) (Failed fault ∷ answers) purged new other ss) [
+    elim (is_kept x ss e)
+    as (λ b. is_kept x ss e ≡ b → IsAnsweredIfKept b (Failed fault) → Run y (marked (b ∷ marks) (e ∷ es)) purged other → PurgedTold (b ∷ marks) (Failed fault ∷ answers) purged new other ss) [
       | true ↦ λ near never _. absurd never
       | false ↦ λ far _ rest. purged_told w (after x e) y new other later s es answers purged is then (three_failed w x y ss e three far) run told.1 rest all
     ] refl told.0 again

@@ -96,12 +96,13 @@ module _ (w : World) (is : IsWorld w) (s p : List ℕ) where
   some_latest : (v : SemanticVersion) → latest_of w s p ≡ Some v → IsTop (unretracted_versions w s p) v
   some_latest v latest = elim (highest vs) as (λ o. highest vs ≡ o → latest_by w s p o ≡ Some v → IsTop (unretracted_versions w s p) v) [
     | None ↦ λ _ e. cc e
-    | Some top ↦ λ is_top by. elim (module_of (heading w s p (version_text top))) as (λ o. module_of (heading w s p (version_text top)) ≡ o → highest_left o vs ≡ Some v → IsTop (unretracted_versions w s p) v) [
-      | None ↦ λ _ e. cc e
-      | Some m ↦ λ says e.
-          let h = highest_says top m is_top says in
-          alike (among (unretracted m vs)) (unretracted_versions w s p) (λ u. (left_of m h u).0) (λ u. (left_of m h u).1) v (highest_top (unretracted m vs) v e)
-    ] refl by
+    | Some top ↦ λ is_top by. elim (module_of (heading w s p (version_text top)))
+        as (λ o. module_of (heading w s p (version_text top)) ≡ o → highest_left o vs ≡ Some v → IsTop (unretracted_versions w s p) v) [
+          | None ↦ λ _ e. cc e
+          | Some m ↦ λ says e.
+              let h = highest_says top m is_top says in
+              alike (among (unretracted m vs)) (unretracted_versions w s p) (λ u. (left_of m h u).0) (λ u. (left_of m h u).1) v (highest_top (unretracted m vs) v e)
+        ] refl by
   ] refl latest
 
   -- in a world the go.mod of a version that is seen reads
@@ -155,7 +156,8 @@ none_is_latest w s p is = (
 -- ---- the reply
 
 -- the reply that tells a latest version
-told_some : (w : World) (is : IsWorld w) (s p : List ℕ) (v : SemanticVersion) → latest_of w s p ≡ Some v → (e : Seen) × (view w s p (version_text v) ≡ Some e) × (query_reply w s (query.Latest p) ≡ reply.Info v e.entry.time)
+told_some : (w : World) (is : IsWorld w) (s p : List ℕ) (v : SemanticVersion) → latest_of w s p ≡ Some v
+    → (e : Seen) × (view w s p (version_text v) ≡ Some e) × (query_reply w s (query.Latest p) ≡ reply.Info v e.entry.time)
 told_some w is s p v e =
     let seen = (some_latest w is s p v e).member.2.1 in
     (seen.0, seen.1, ap (latest_reply w s p) e ∙ ap (λ o. info_reply v (without_zip o)) seen.1)

@@ -80,18 +80,21 @@ all_kept w mid s k (p ∷ ps) (Replied r ∷ answers) is own run all =
     let kept = kept_first w s k p first.0 own (sym first.1 ∙ run.0) first.2 in
     (kept_through (after w e) mid s p (puts k ps) answers stands run.1 kept, all_kept (after w e) mid s k ps answers (sound w e is) (belongs_after w s k k p own) run.1 all.1)
 
-all_through : (w new : World) (s : List ℕ) (ps : List Publish) (es : List Event) (answers : List Answer) → map.contains_key w.shelves s ≡ true → Run w es answers new → AllKept w s ps → AllKept new s ps
+all_through : (w new : World) (s : List ℕ) (ps : List Publish) (es : List Event) (answers : List Answer)
+    → map.contains_key w.shelves s ≡ true → Run w es answers new → AllKept w s ps → AllKept new s ps
 all_through w new s [] es answers stands run kept = tt
 all_through w new s (p ∷ ps) es answers stands run kept = (kept_through w new s p es answers stands run kept.0, all_through w new s ps es answers stands run kept.1)
 
 -- ---- the list again
 
-again_same : (w : World) (s k : List ℕ) (p : Publish) → map.get w.keys k ≡ Some (record { shelf = s; right = Publishes }) → Kept w s p → (decision w (map.get w.keys k) p ≡ Same) × (after w (Asked (Put k p)) ≡ w)
+again_same : (w : World) (s k : List ℕ) (p : Publish) → map.get w.keys k ≡ Some (record { shelf = s; right = Publishes })
+    → Kept w s p → (decision w (map.get w.keys k) p ≡ Same) × (after w (Asked (Put k p)) ≡ w)
 again_same w s k p may kept =
     let same = kept_is_same w s p kept in
     (ap (λ o. decision w o p) may ∙ same, ap (λ o. after_decision w o p (decision w o p)) may ∙ ap (after_decision w (Some (record { shelf = s; right = Publishes })) p) same)
 
-again : (w new : World) (s k : List ℕ) (ps : List Publish) (answers : List Answer) → map.get w.keys k ≡ Some (record { shelf = s; right = Publishes }) → AllKept w s ps → Run w (puts k ps) answers new → AllSameOrFailed answers × (new ≡ w)
+again : (w new : World) (s k : List ℕ) (ps : List Publish) (answers : List Answer) → map.get w.keys k ≡ Some (record { shelf = s; right = Publishes })
+    → AllKept w s ps → Run w (puts k ps) answers new → AllSameOrFailed answers × (new ≡ w)
 again w new s k [] [] may kept run = (tt, run)
 again w new s k [] (a ∷ answers) may kept run = absurd run
 again w new s k (p ∷ ps) [] may kept run = absurd run

@@ -25,7 +25,8 @@ use Rattle.shelf.specs.declared.reply.Answer.TheVariants.{Replied, Failed}
 use Rattle.world.specs.World.{World, IsWorld, group_of, above, seen_at, first_on, view, without_zip, heading}
 use Rattle.world.specs.Standing.{same_time, same_entry, standing_to, entry_seen}
 use Rattle.world.specs.declared.standing.Standing.TheVariants as standing
-use Rattle.shelf.specs.Machine.{decision, gomod_of, offered, entry_of, standing_if, standing_of, gomod_reply, zip_reply, info_reply, query_reply, keyed_reply, after_decision, stored, place_of, after, Run}
+use Rattle.shelf.specs.Machine.{decision, gomod_of, offered, entry_of, standing_if, standing_of, gomod_reply, zip_reply}
+use Rattle.shelf.specs.Machine.{info_reply, query_reply, keyed_reply, after_decision, stored, place_of, after, Run}
 use Rattle.shelf.specs.Isolation.{belongs}
 use Rattle.shelf.specs.Immutability.{IsOfVersion, IsFound, StaysServed, IsAccepted, asks_back, AcceptedIsServed}
 use Rattle.world.proofs.Orders.{places_total, get_put, text_same}
@@ -160,7 +161,8 @@ pub decided_of : (x y : Decision) → reply.Decided x ≡ reply.Decided y → x 
 decided_of x y e = cc
 
 -- what was accepted by a key of s is what s sees after it
-pub kept_first : (w : World) (s k : List ℕ) (p : Publish) (d : Decision) → belongs w k s → reply.Decided d ≡ reply.Decided (decision w (map.get w.keys k) p) → IsAccepted d → Kept (after w (Asked (Put k p))) s p
+pub kept_first : (w : World) (s k : List ℕ) (p : Publish) (d : Decision) → belongs w k s
+    → reply.Decided d ≡ reply.Decided (decision w (map.get w.keys k) p) → IsAccepted d → Kept (after w (Asked (Put k p))) s p
 kept_first w s k p d own told yes_it_is =
     let h = own.0 in
     let is : d ≡ decision w (map.get w.keys k) p = decided_of d _ told in
@@ -184,7 +186,8 @@ answered_with w s p b (query.Zip path version) r kept body back =
     ap (λ x. zip_reply (view w s x (version_text version))) back.0 ∙ ap (λ x. zip_reply (view w s p.path (version_text x))) back.1 ∙ ap zip_reply kept.is_seen
     ∙ ap (λ (e : Entry). reply.Zip e.zip) (same_body p b kept.seen.entry body kept.is_offered) ∙ sym back.2
 answered_with w s p b (query.Info path version) r kept body back =
-    ap (λ x. info_reply version (heading w s x (version_text version))) back.0 ∙ ap (λ x. info_reply version (heading w s p.path (version_text x))) back.1 ∙ ap (λ o. info_reply version (without_zip o)) kept.is_seen
+    ap (λ x. info_reply version (heading w s x (version_text version))) back.0
+    ∙ ap (λ x. info_reply version (heading w s p.path (version_text x))) back.1 ∙ ap (λ o. info_reply version (without_zip o)) kept.is_seen
     ∙ ap (λ (e : Entry). reply.Info version e.time) (same_body p b kept.seen.entry body kept.is_offered) ∙ sym back.2
 answered_with w s p b q r kept body back = absurd back
 

@@ -95,7 +95,8 @@ stays_on w (u ∷ us) t p v e seen nested none found =
           let kept : map.get (map.insert w.entries (place t p v) e) (place u p v) ≡ map.get w.entries (place u p v) =
           get_elsewhere places_total places_exact w.entries (place t p v) e (place u p v) (λ i. text_apart u t other (ap (λ (q : Place). q.shelf) i)) in
           ap (λ o. option_or (seen_at o u) (first_on (with_entry w (place t p v) e) us p v)) kept
-          ∙ elim (map.get w.entries (place u p v)) as (λ o. option_or (seen_at o u) (first_on w us p v) ≡ Some seen → option_or (seen_at o u) (first_on (with_entry w (place t p v) e) us p v) ≡ Some seen) [
+          ∙ elim (map.get w.entries (place u p v))
+          as (λ o. option_or (seen_at o u) (first_on w us p v) ≡ Some seen → option_or (seen_at o u) (first_on (with_entry w (place t p v) e) us p v) ≡ Some seen) [
             | None ↦ λ rest. stays_on w us t p v e seen nested.1 none rest
             | Some x ↦ λ here. here
           ] found
@@ -129,11 +130,13 @@ stays_with w s t p v p2 v2 e seen none found =
 
 -- ---- each event
 
-stays_stored : (w : World) (s t p v : List ℕ) (a : Publish) (o : Option Entry) (seen : Seen) → view w t a.path (version_text a.version) ≡ None → view w s p v ≡ Some seen → view (stored w (place_of t a) o) s p v ≡ Some seen
+stays_stored : (w : World) (s t p v : List ℕ) (a : Publish) (o : Option Entry) (seen : Seen)
+    → view w t a.path (version_text a.version) ≡ None → view w s p v ≡ Some seen → view (stored w (place_of t a) o) s p v ≡ Some seen
 stays_stored w s t p v a None seen none found = found
 stays_stored w s t p v a (Some e) seen none found = stays_with w s t p v a.path (version_text a.version) e seen none found
 
-stays_decided : (w : World) (s p v : List ℕ) (h : Holder) (a : Publish) (d : Decision) (seen : Seen) → decision w (Some h) a ≡ d → view w s p v ≡ Some seen → view (after_decision w (Some h) a d) s p v ≡ Some seen
+stays_decided : (w : World) (s p v : List ℕ) (h : Holder) (a : Publish) (d : Decision) (seen : Seen)
+    → decision w (Some h) a ≡ d → view w s p v ≡ Some seen → view (after_decision w (Some h) a d) s p v ≡ Some seen
 stays_decided w s p v h a Published seen is found = stays_stored w s h.shelf p v a (offered a) seen (unseen w h a is) found
 stays_decided w s p v h a d seen is found = found
 
@@ -169,14 +172,17 @@ stays_seen w s p v (Asked (Put k a)) seen stands found = stays_put w s p v (map.
 stays_seen w s p v (TeamAdd t group) seen stands found =
     stays_registry w (after w (TeamAdd t group)) s p v seen (entries_team w t group (team_added w t group)) (stands_after w s (TeamAdd t group) stands).chains found
 stays_seen w s p v (GroupAdd g) seen stands found = stays_registry w (after w (GroupAdd g)) s p v seen (entries_group w g (group_added w g)) (stands_after w s (GroupAdd g) stands).chains found
-stays_seen w s p v (KeyAdd t k right) seen stands found = stays_registry w (after w (KeyAdd t k right)) s p v seen (entries_key w t k right (key_added w t k)) (stands_after w s (KeyAdd t k right) stands).chains found
+stays_seen w s p v (KeyAdd t k right) seen stands found =
+    stays_registry w (after w (KeyAdd t k right)) s p v seen (entries_key w t k right (key_added w t k)) (stands_after w s (KeyAdd t k right) stands).chains found
 stays_seen w s p v (KeyRevoke k) seen stands found = stays_registry w (after w (KeyRevoke k)) s p v seen (entries_revoke w k (key_revoked w k)) (stands_after w s (KeyRevoke k) stands).chains found
 
 -- ---- a run
 
-pub stays_through : (w new : World) (s p v : List ℕ) (es : List Event) (answers : List Answer) (seen : Seen) → map.contains_key w.shelves s ≡ true → Run w es answers new → view w s p v ≡ Some seen → view new s p v ≡ Some seen
+pub stays_through : (w new : World) (s p v : List ℕ) (es : List Event) (answers : List Answer) (seen : Seen)
+    → map.contains_key w.shelves s ≡ true → Run w es answers new → view w s p v ≡ Some seen → view new s p v ≡ Some seen
 stays_through w new s p v [] [] seen stands run found = subst (λ x. view x s p v ≡ Some seen) (sym run) found
 stays_through w new s p v [] (a ∷ answers) seen stands run found = absurd run
 stays_through w new s p v (e ∷ es) [] seen stands run found = absurd run
-stays_through w new s p v (e ∷ es) (Replied r ∷ answers) seen stands run found = stays_through (after w e) new s p v es answers seen (stands_after w s e stands).stands run.1 (stays_seen w s p v e seen stands found)
+stays_through w new s p v (e ∷ es) (Replied r ∷ answers) seen stands run found =
+    stays_through (after w e) new s p v es answers seen (stands_after w s e stands).stands run.1 (stays_seen w s p v e seen stands found)
 stays_through w new s p v (e ∷ es) (Failed fault ∷ answers) seen stands run found = stays_through w new s p v es answers seen stands run found

@@ -65,7 +65,8 @@ asks_back p b q r = ⊥
 -- its time, or meets a fault.
 abbrev pub AcceptedIsServed : Type 0
 AcceptedIsServed =
-    (old mid new : World) (s k later : List ℕ) (p : Publish) (b : Body) (d : Decision) (q : Query) (r : Reply) (events : List Event) (answers : List Answer) (a : Answer)
+    (old mid new : World) (s k later : List ℕ) (p : Publish) (b : Body) (d : Decision)
+    (q : Query) (r : Reply) (events : List Event) (answers : List Answer) (a : Answer)
     → IsWorld old → belongs old k s → p.body ≡ Some b → IsAccepted d
     → Run old (Asked (Put k p) ∷ events) (Replied (reply.Decided d) ∷ answers) mid
     → belongs mid later s → asks_back p b q r → Run mid (Asked (Get later q) ∷ []) (a ∷ []) new

@@ -121,7 +121,8 @@ FaultyRunsAgree =
     (old one two : World) (s : List ℕ) (first second : List Event) (told heard : List Answer) → IsWorld old
     → Run old first told one → Run old second heard two → chain one s ≡ chain two s
     → purge old (chain one s) (answered first told) ≡ purge old (chain two s) (answered second heard)
-    → marked (kept old (chain one s) (answered first told)) (replies_of told) ≡ marked (kept old (chain two s) (answered second heard)) (replies_of heard)
+    → marked (kept old (chain one s) (answered first told)) (replies_of told)
+    ≡ marked (kept old (chain two s) (answered second heard)) (replies_of heard)
 
 -- ---- what is purged
 

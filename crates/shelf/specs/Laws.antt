@@ -22,7 +22,8 @@ RunsKeepWorlds = (old new : World) (events : List Event) (answers : List Answer)
 -- A shelf that exists still exists after any run, and sees the same shelves.
 abbrev pub ChainsStay : Type 0
 ChainsStay =
-    (old new : World) (s : List ℕ) (events : List Event) (answers : List Answer) → map.contains_key old.shelves s ≡ true → Run old events answers new
+    (old new : World) (s : List ℕ) (events : List Event) (answers : List Answer)
+    → map.contains_key old.shelves s ≡ true → Run old events answers new
     → (map.contains_key new.shelves s ≡ true) × (chain new s ≡ chain old s)
 
 -- A request whose reply has a body of its own leaves the world as it was.

@@ -1,5 +1,6 @@
 -- The machine: the reply to each event and the world after it, alone and in a list.
-use Rattle.std.specs.Prelude.{ℕ, ◌≡◌, ◌⊎◌, List, [], ◌∷◌, ◌++◌, Bool, true, false, not, ◌&&◌, nat_le, Option, Some, None, is_none, option_map, unwrap_or}
+use Rattle.std.specs.Prelude.{ℕ, ◌≡◌, ◌⊎◌, List, [], ◌∷◌, ◌++◌, Bool, true, false, not, ◌&&◌}
+use Rattle.std.specs.Prelude.{nat_le, Option, Some, None, is_none, option_map, unwrap_or}
 use Rattle.std.specs.FinMap as map
 use Rattle.modver.specs.SemanticVersion.{version_text, SemanticVersion}
 use Rattle.world.specs.declared.entry.Place.{Place}
@@ -20,7 +21,8 @@ use Rattle.shelf.specs.declared.ask.Ask.TheVariants.{Unreadable, Get, Put}
 use Rattle.shelf.specs.declared.ask.Event.{Event}
 use Rattle.shelf.specs.declared.ask.Event.TheVariants.{Asked, TeamAdd, GroupAdd, KeyAdd, KeyRevoke}
 use Rattle.shelf.specs.declared.reply.Decision.{Decision}
-use Rattle.shelf.specs.declared.reply.Decision.TheVariants.{Published, Same, NotFound, Forbidden, BadLength, TooLarge, Refused, Conflict, Full}
+use Rattle.shelf.specs.declared.reply.Decision.TheVariants.{Published, Same, NotFound, Forbidden}
+use Rattle.shelf.specs.declared.reply.Decision.TheVariants.{BadLength, TooLarge, Refused, Conflict, Full}
 use Rattle.shelf.specs.declared.reply.Refusal.TheVariants as refusal
 use Rattle.shelf.specs.declared.reply.Reply.TheVariants as reply
 use Rattle.shelf.specs.declared.reply.Reply.{Reply}
@@ -37,7 +39,8 @@ pub use Rattle.world.specs.EntryTest.{first_failing}
 use Rattle.world.specs.EntryTest.{is_small, is_time_of, has_fault, fault_line, names_other, has_more}
 use Rattle.world.specs.Forms.{is_path, has_text, is_time, fits, suffix_of}
 use Rattle.world.specs.GoMods.{reading_of}
-use Rattle.world.specs.Registry.{team_added, group_added, key_added, key_revoked, after_team_add, after_group_add, after_key_add, after_key_revoke}
+use Rattle.world.specs.Registry.{team_added, group_added, key_added, key_revoked, after_team_add}
+use Rattle.world.specs.Registry.{after_group_add, after_key_add, after_key_revoke}
 use Rattle.shelf.specs.Listed.{listed}
 use Rattle.world.specs.declared.standing.Standing.{Standing}
 use Rattle.world.specs.declared.standing.Standing.TheVariants as standing
@@ -171,7 +174,8 @@ decided_by_shelf there n = unwrap_or (first_failing (shelf_checks there n)) Publ
 
 -- the answer of the first check of all that fails, or `Published` if all pass
 abbrev pub decided : Publish → Option Right → Option Reading → Standing → ℕ → Decision
-decided p right reading there n = unwrap_or (first_failing (request_checks p right ++ gomod_checks p reading ++ shelf_checks there n)) Published
+decided p right reading there n =
+    unwrap_or (first_failing (request_checks p right ++ gomod_checks p reading ++ shelf_checks there n)) Published
 
 -- ---- a publish
 

@@ -35,7 +35,8 @@ pub record ArePaths (w : World) (s : List ℕ) (ps : List (List ℕ)) : Type 0 w
 
 -- The reply to the query for modules has the paths of which the shelf sees some version, in the order of their bytes.
 abbrev pub PathsAreTold : Type 0
-PathsAreTold = (w : World) (s : List ℕ) → (ps : set.FinSet text_cmp) × (query_reply w s query.Modules ≡ reply.Paths ps) × ArePaths w s (in_order ps)
+PathsAreTold = (w : World) (s : List ℕ)
+    → (ps : set.FinSet text_cmp) × (query_reply w s query.Modules ≡ reply.Paths ps) × ArePaths w s (in_order ps)
 
 -- ---- the list of a path
 
@@ -56,7 +57,8 @@ ListIsTold =
 
 -- In a world, the list of a path is not found exactly if the shelf sees no version of it.
 abbrev pub ListIsNotFound : Type 0
-ListIsNotFound = (w : World) (s p : List ℕ) → IsWorld w → (query_reply w s (query.List p) ≡ reply.NotFound) ↔ ((v : List ℕ) → ¬ IsSeen w s p v)
+ListIsNotFound = (w : World) (s p : List ℕ) → IsWorld w
+    → (query_reply w s (query.List p) ≡ reply.NotFound) ↔ ((v : List ℕ) → ¬ IsSeen w s p v)
 
 -- ---- the latest version of a path
 
@@ -74,7 +76,8 @@ unretracted_versions w s p v = (m : GoModule) × HighestSays w s p m × seen_ver
 
 -- In a world, a version is the latest exactly if it is the highest of these unretracted versions.
 abbrev pub LatestIsTheTop : Type 0
-LatestIsTheTop = (w : World) (s p : List ℕ) (v : SemanticVersion) → IsWorld w → (latest_of w s p ≡ Some v) ↔ IsTop (unretracted_versions w s p) v
+LatestIsTheTop = (w : World) (s p : List ℕ) (v : SemanticVersion) → IsWorld w
+    → (latest_of w s p ≡ Some v) ↔ IsTop (unretracted_versions w s p) v
 
 -- In a world, there is no latest version exactly if there is no unretracted version.
 abbrev pub NoneIsLatest : Type 0
@@ -93,4 +96,5 @@ LatestIsTold =
 
 -- In a world, the latest version is not found exactly if there is no unretracted version.
 abbrev pub LatestIsNotFound : Type 0
-LatestIsNotFound = (w : World) (s p : List ℕ) → IsWorld w → (query_reply w s (query.Latest p) ≡ reply.NotFound) ↔ ((v : SemanticVersion) → ¬ unretracted_versions w s p v)
+LatestIsNotFound = (w : World) (s p : List ℕ) → IsWorld w
+    → (query_reply w s (query.Latest p) ≡ reply.NotFound) ↔ ((v : SemanticVersion) → ¬ unretracted_versions w s p v)

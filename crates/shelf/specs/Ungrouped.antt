@@ -51,7 +51,8 @@ heading u s p v = without_zip (view u s p v)
 
 -- the versions of a path that a shelf sees, in ascending precedence
 abbrev pub versions_of : Ungrouped → List ℕ → List ℕ → List SemanticVersion
-versions_of u s p = in_order (by_precedence (named (in_order (set.union (versions_among s p (map.entries u.entries)) (versions_among common p (map.entries u.entries))))))
+versions_of u s p = in_order (by_precedence
+    (named (in_order (set.union (versions_among s p (map.entries u.entries)) (versions_among common p (map.entries u.entries))))))
 
 -- the highest version that the go.mod of this version, the highest, does not retract
 abbrev pub latest_by : Ungrouped → List ℕ → List ℕ → Option SemanticVersion → Option SemanticVersion
@@ -110,7 +111,11 @@ abbrev pub team_added : Ungrouped → List ℕ → Registered
 team_added u t = if not (is_team_name t) then Name else if set.contains u.shelves t then Taken else Done
 
 abbrev pub key_added : Ungrouped → List ℕ → List ℕ → Registered
-key_added u s k = if not (is_key k) then Name else if not (set.contains u.shelves s) then NoTeam else if map.contains_key u.keys k then Taken else Done
+key_added u s k =
+    if not (is_key k) then Name
+    else if not (set.contains u.shelves s) then NoTeam
+    else if map.contains_key u.keys k then Taken
+    else Done
 
 abbrev pub key_revoked : Ungrouped → List ℕ → Registered
 key_revoked u k = if map.contains_key u.keys k then Done else NoKey
@@ -120,7 +125,8 @@ after_team_add u t Done = record { keys = u.keys; shelves = set.insert u.shelves
 after_team_add u t r = u
 
 abbrev pub after_key_add : Ungrouped → List ℕ → List ℕ → Right → Registered → Ungrouped
-after_key_add u s k right Done = record { keys = map.insert u.keys k (record { shelf = s; right = right }); shelves = u.shelves; entries = u.entries }
+after_key_add u s k right Done =
+    record { keys = map.insert u.keys k (record { shelf = s; right = right }); shelves = u.shelves; entries = u.entries }
 after_key_add u s k right r = u
 
 abbrev pub after_key_revoke : Ungrouped → List ℕ → Registered → Ungrouped

@@ -83,7 +83,8 @@ fn compare<S: Shelves>(
     shelf: &str,
     publish: &Publish,
 ) -> Result<Standing, StoreFault>
-    ensures reads { Reads (S.shown shelves.old) (S.shown shelves.new) result (λ w. standing_of w shelf.now publish.now) }
+    ensures reads { Reads (S.shown shelves.old) (S.shown shelves.new) result
+        (λ w. standing_of w shelf.now publish.now) }
     ensures cause { HasCause (S.failure_count shelves.old) (S.failure_count shelves.new) result }
 {
     let Some(entry) = publish.entry() else {

@@ -1,8 +1,11 @@
 //! What holds of the machine and of every run of it.
-ghost use Rattle.shelf.specs.Laws.{WorldStays, RunsKeepWorlds, ChainsStay, OnlyChangesChange, BodiesChangeNothing, RunsAreCut, RunsAreJoined};
+ghost use Rattle.shelf.specs.Laws.{WorldStays, RunsKeepWorlds, ChainsStay, OnlyChangesChange};
+ghost use Rattle.shelf.specs.Laws.{BodiesChangeNothing, RunsAreCut, RunsAreJoined};
 ghost use Rattle.shelf.specs.Immutability.{StaysServed, AcceptedIsServed, RepeatedListChangesNothing};
-ghost use Rattle.shelf.specs.PathLaws.{VersionsAreSeen, PathsAreSeen, PathsAreTold, ListIsTold, ListIsNotFound, LatestIsTheTop, NoneIsLatest, LatestIsTold, LatestIsNotFound};
-ghost use Rattle.shelf.specs.Isolation.{IsIsolated, PurgedRunsAgree, FaultyRunsAgree, MarksAreAsLong, MarksAreAtTheirMoment, OnlyOthersGo, PurgeIsTheSame, AgreeIsLow, IsBlind};
+ghost use Rattle.shelf.specs.PathLaws.{VersionsAreSeen, PathsAreSeen, PathsAreTold, ListIsTold, ListIsNotFound};
+ghost use Rattle.shelf.specs.PathLaws.{LatestIsTheTop, NoneIsLatest, LatestIsTold, LatestIsNotFound};
+ghost use Rattle.shelf.specs.Isolation.{IsIsolated, PurgedRunsAgree, FaultyRunsAgree, MarksAreAsLong};
+ghost use Rattle.shelf.specs.Isolation.{MarksAreAtTheirMoment, OnlyOthersGo, PurgeIsTheSame, AgreeIsLow, IsBlind};
 ghost use Rattle.shelf.specs.Profiles.{ProfileInForceIsTheMachine, Profile2KeepsAnswers};
 ghost use Rattle.shelf.specs.Ungrouped.{EachIsOfOne, RepliesWithoutGroups, ListsWithoutGroups};
 ghost use Rattle.shelf.specs.Parts.{PartIsLow, IsBlindThroughout, PartTellsTheSame, OthersAreNotFound};

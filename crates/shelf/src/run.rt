@@ -17,7 +17,8 @@ use world::shelves::Shelves;
 
 /// Carries out one event and returns the reply. Fails with `Device` if a device failed, and with `Memory` if memory ran out.
 pub fn apply<S: Shelves>(alloc: Global, shelves: &mut S, event: &Event) -> Result<Reply, StoreFault>
-    ensures does { Does (S.shown shelves.old) (S.shown shelves.new) result (λ w. reply_to w event.now) (λ w. after w event.now) }
+    ensures does { Does (S.shown shelves.old) (S.shown shelves.new) result
+        (λ w. reply_to w event.now) (λ w. after w event.now) }
     ensures cause { HasCause (S.failure_count shelves.old) (S.failure_count shelves.new) result }
 {
     match event {
@@ -50,7 +51,8 @@ fn named(name: &Option<Text>) -> Option<&str>
 fn answer<S: Shelves>(alloc: Global, shelves: &mut S, event: &Event) -> Answer
     ensures runs { Runs (S.shown shelves.old) (S.shown shelves.new) (event.now ∷ []) (result ∷ []) }
     ensures no_fewer { S.failure_count shelves.old ≤ S.failure_count shelves.new }
-    ensures device { result ≡ Answer.Failed StoreFault.Device → GrewOrFull (S.failure_count shelves.old) (S.failure_count shelves.new) }
+    ensures device { result ≡ Answer.Failed StoreFault.Device
+        → GrewOrFull (S.failure_count shelves.old) (S.failure_count shelves.new) }
 {
     match apply(alloc, shelves, event) {
         Ok(reply) => Answer::Replied(reply),
@@ -68,7 +70,8 @@ pub fn run<S: Shelves>(
     ensures runs { IfOk result (λ answers. Runs (S.shown shelves.old) (S.shown shelves.new) events.now answers.items) }
     // The count of failures never falls. An answer reports a failed device only if the count grew or cannot grow.
     ensures no_fewer { S.failure_count shelves.old ≤ S.failure_count shelves.new }
-    ensures device { IfOk result (λ answers. MetDevice answers.items → GrewOrFull (S.failure_count shelves.old) (S.failure_count shelves.new)) }
+    ensures device { IfOk result
+        (λ answers. MetDevice answers.items → GrewOrFull (S.failure_count shelves.old) (S.failure_count shelves.new)) }
     ensures err { OnErr result (shelves.new ≡ shelves.old) }
 {
     let mut answers = Vec::with_capacity(alloc, events.len())?;

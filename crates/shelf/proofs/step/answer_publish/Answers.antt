@@ -17,7 +17,8 @@ returns-clause-does g c =
           let found : map.get w.keys c.args.key.now ≡ Some c.in-Some.holder = sym key.answer ∙ c.in-Some.is in
           let there = (g.met.S.Shelves.sound _ w stands).keys_stand _ _ found in
           let then =
-          subst (λ o. DoesAt (shown c.key.new.self) (shown c.publish_to.new.shelves) w c.publish_to.result (decision w o c.args.publish.now) (after_decision w o c.args.publish.now (decision w o c.args.publish.now))) (sym found)
+          subst (λ o. DoesAt (shown c.key.new.self) (shown c.publish_to.new.shelves) w c.publish_to.result
+          (decision w o c.args.publish.now) (after_decision w o c.args.publish.now (decision w o c.args.publish.now))) (sym found)
           (does.at h w key.stays there) in
           after_read _ _ _ w c.publish_to.result _ _ key.left then;
     }

@@ -84,4 +84,5 @@ module _ (w : World) (q : Place) (e : Entry) where
 
   pub other_counts : (t : Tally) → get_under t q.shelf q.path ≡ None → AreCounts w t → AreCounts (with_entry w q e) t
   other_counts t none right s p n at =
-      right s p n at ∙ sym (count_elsewhere s p (λ shelf path. let e : ◌≡◌ {A = Option ℕ} None (Some n) = sym none ∙ (ap (λ x. get_under t x q.path) (sym shelf) ∙ (ap (get_under t s) (sym path) ∙ at)) in absurd cc))
+      right s p n at ∙ sym
+      (count_elsewhere s p (λ shelf path. let e : ◌≡◌ {A = Option ℕ} None (Some n) = sym none ∙ (ap (λ x. get_under t x q.path) (sym shelf) ∙ (ap (get_under t s) (sym path) ∙ at)) in absurd cc))

@@ -60,7 +60,8 @@ gomod_so path is_marked bytes (Module m) read sound named bare = record {
 }
 
 -- if the texts name a path and the version v and the test passes, the entry may stand there
-version_so : (s path version : List ℕ) (e : Entry) (v : SemanticVersion) → is_path path ≡ true → version_of version ≡ Some v → goes_with (Some path) (Some v) e ≡ true → IsEntry (place s path version) e
+version_so : (s path version : List ℕ) (e : Entry) (v : SemanticVersion) → is_path path ≡ true
+    → version_of version ≡ Some v → goes_with (Some path) (Some v) e ≡ true → IsEntry (place s path version) e
 version_so s path version e v well named at =
     let all = and_parts (is_none (own_misfit path v e)) (is_none (module_misfit path v.marked (reading_of e.gomod))) at in
     let own = none_fails (not (is_small e)) (not (fits (suffix_of path) v)) (not (is_time_of (class_of v) e.time)) _ _ _ all.0 in

@@ -72,7 +72,8 @@ module _ {K : Type 0} {R : K → K → Ordering} (o : IsTotalOrder R) where
   among_more : (ks : List K) (k q : K) → list_any (eq_by_cmp R q) (insert_key R ks k) ≡ (eq_by_cmp R q k || list_any (eq_by_cmp R q) ks)
   among_more [] k q = refl
   among_more (x ∷ xs) k q =
-      elim (R k x) as (λ r. R k x ≡ r → list_any (eq_by_cmp R q) (match_ordering r (k ∷ x ∷ xs) (x ∷ xs) (x ∷ insert_key R xs k)) ≡ (eq_by_cmp R q k || (eq_by_cmp R q x || list_any (eq_by_cmp R q) xs))) [
+      elim (R k x)
+      as (λ r. R k x ≡ r → list_any (eq_by_cmp R q) (match_ordering r (k ∷ x ∷ xs) (x ∷ xs) (x ∷ insert_key R xs k)) ≡ (eq_by_cmp R q k || (eq_by_cmp R q x || list_any (eq_by_cmp R q) xs))) [
         | Less ↦ λ _. refl
         | Equal ↦ λ tie. twice (eq_by_cmp R q x) _ ∙ ap (λ r. is_eq r || (eq_by_cmp R q x || list_any (eq_by_cmp R q) xs)) (sym (alike_right o k x q tie))
         | Greater ↦ λ _. ap (λ b. eq_by_cmp R q x || b) (among_more xs k q) ∙ turned (eq_by_cmp R q x) (eq_by_cmp R q k) _

@@ -23,11 +23,13 @@ in_order s p x y = ap (λ r. ordering_then r (ordering_then (text_cmp p p) (text
 
 below_in_order : (s p x : List ℕ) (es : List (List ℕ × Entry)) → below_all place_cmp (place s p x) (each (λ v. (place s p v.0, v.1)) es) ≡ below_all text_cmp x es
 below_in_order s p x [] = refl
-below_in_order s p x (e ∷ es) = ap (λ r. is_lt r && below_all place_cmp (place s p x) (each (λ v. (place s p v.0, v.1)) es)) (in_order s p x e.0) ∙ ap (λ b. is_lt (text_cmp x e.0) && b) (below_in_order s p x es)
+below_in_order s p x (e ∷ es) = ap (λ r. is_lt r && below_all place_cmp (place s p x) (each (λ v. (place s p v.0, v.1)) es)) (in_order s p x e.0)
+    ∙ ap (λ b. is_lt (text_cmp x e.0) && b) (below_in_order s p x es)
 
 sorted_in_order : (s p : List ℕ) (es : List (List ℕ × Entry)) → map.is_sorted place_cmp (each (λ v. (place s p v.0, v.1)) es) ≡ map.is_sorted text_cmp es
 sorted_in_order s p [] = refl
-sorted_in_order s p (e ∷ es) = ap (λ b. b && map.is_sorted place_cmp (each (λ v. (place s p v.0, v.1)) es)) (below_in_order s p e.0 es) ∙ ap (λ b. below_all text_cmp e.0 es && b) (sorted_in_order s p es)
+sorted_in_order s p (e ∷ es) = ap (λ b. b && map.is_sorted place_cmp (each (λ v. (place s p v.0, v.1)) es)) (below_in_order s p e.0 es)
+    ∙ ap (λ b. below_all text_cmp e.0 es && b) (sorted_in_order s p es)
 
 length_listed : (s p : List ℕ) (es : List (List ℕ × Entry)) → length (each {B = Place × Entry} (λ v. (place s p v.0, v.1)) es) ≡ length es
 length_listed s p [] = refl

@@ -38,7 +38,9 @@ pub get_put_under : {X : Type 0} (m : map.FinMap text_cmp (map.FinMap text_cmp X
     → get_under (put_under m t u x) t' u' ≡ cond (eq_by_cmp text_cmp t' t) (cond (eq_by_cmp text_cmp u' u) (Some x) (get_under m t' u')) (get_under m t' u')
 get_put_under m t u x t' u' =
     ap (option_and_then (λ i. map.get i u')) (map.get-insert texts_total m t (map.insert (map_at m t) u x) t')
-    ∙ elim (eq_by_cmp text_cmp t' t) as (λ b. eq_by_cmp text_cmp t' t ≡ b → option_and_then (λ i. map.get i u') (cond b (Some (map.insert (map_at m t) u x)) (map.get m t')) ≡ cond b (cond (eq_by_cmp text_cmp u' u) (Some x) (get_under m t' u')) (get_under m t' u')) [
-      | true ↦ λ same. map.get-insert texts_total (map_at m t) u x u' ∙ ap (cond (eq_by_cmp text_cmp u' u) (Some x)) (get_map_at m t u' ∙ ap (λ y. get_under m y u') (sym (tells_apart texts_exact t' t same)))
+    ∙ elim (eq_by_cmp text_cmp t' t) as (λ b. eq_by_cmp text_cmp t' t ≡ b
+    → option_and_then (λ i. map.get i u') (cond b (Some (map.insert (map_at m t) u x)) (map.get m t')) ≡ cond b (cond (eq_by_cmp text_cmp u' u) (Some x) (get_under m t' u')) (get_under m t' u')) [
+      | true ↦ λ same. map.get-insert texts_total (map_at m t) u x u'
+          ∙ ap (cond (eq_by_cmp text_cmp u' u) (Some x)) (get_map_at m t u' ∙ ap (λ y. get_under m y u') (sym (tells_apart texts_exact t' t same)))
       | false ↦ λ _. refl
     ] refl

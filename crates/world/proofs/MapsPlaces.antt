@@ -73,7 +73,8 @@ module _ {A Y K X : Type 0} {R : A → A → Ordering} (o : IsTotalOrder R) (S :
       let rest = find_blocks es (second_of_and _ _ h) in
       find_append S q (block e) (flat_map block es)
       ∙ ap (λ f. option_or f (map.find S q (flat_map block es))) (in_block e)
-      ∙ elim (eq_by_cmp R a e.0) as (λ b. eq_by_cmp R a e.0 ≡ b → option_or (cond b (inner e.1) None) (map.find S q (flat_map block es)) ≡ option_and_then inner (cond b (Some e.1) (map.find R a es))) [
+      ∙ elim (eq_by_cmp R a e.0)
+      as (λ b. eq_by_cmp R a e.0 ≡ b → option_or (cond b (inner e.1) None) (map.find S q (flat_map block es)) ≡ option_and_then inner (cond b (Some e.1) (map.find R a es))) [
         | true ↦ λ same. ap (option_or (inner e.1)) (rest ∙ ap (option_and_then inner) (gone_after o a e.0 (is_tied _ same) es (first_of_and _ _ h))) ∙ or_none (inner e.1)
         | false ↦ λ _. rest
       ] refl
@@ -97,7 +98,8 @@ find_listed s p q (e ∷ es) = by_parts (text_cmp q.shelf s) (text_cmp q.path p)
 -- what stands at a place of a path on a shelf
 pub find_placed : (s p : List ℕ) (versions : map.FinMap text_cmp Entry) (q : Place)
     → map.find place_cmp q (placed s p versions) ≡ cond (eq_by_cmp text_cmp q.shelf s) (cond (eq_by_cmp text_cmp q.path p) (map.get versions q.version) None) None
-find_placed s p versions q = find_listed s p q (map.entries versions) ∙ ap (λ o. cond (eq_by_cmp text_cmp q.shelf s) (cond (eq_by_cmp text_cmp q.path p) o None) None) (sym (map.get-entries versions q.version))
+find_placed s p versions q = find_listed s p q (map.entries versions)
+    ∙ ap (λ o. cond (eq_by_cmp text_cmp q.shelf s) (cond (eq_by_cmp text_cmp q.path p) o None) None) (sym (map.get-entries versions q.version))
 
 swapped : {X : Type 0} (a b : Bool) (o : Option X) → cond a (cond b o None) None ≡ cond b (cond a o None) None
 swapped true true o = refl
@@ -140,7 +142,8 @@ module _ (m : Nested) (s p v : List ℕ) where
   something_at paths e = ap (option_and_then (λ paths. get_under paths p v)) e ∙ sym (get_by_place m (place s p v))
 
 pub by_place-empty : by_place map.empty ≡ map.empty
-by_place-empty = map.same_map places_total places_exact _ _ (λ q. get_by_place map.empty q ∙ ap (option_and_then (λ paths. get_under paths q.path q.version)) (map.get-empty text_cmp q.shelf) ∙ sym (map.get-empty place_cmp q))
+by_place-empty = map.same_map places_total places_exact _ _
+    (λ q. get_by_place map.empty q ∙ ap (option_and_then (λ paths. get_under paths q.path q.version)) (map.get-empty text_cmp q.shelf) ∙ sym (map.get-empty place_cmp q))
 
 -- ---- one more entry
 
@@ -166,7 +169,8 @@ get_put_at m s p v e q =
     let paths = put_under (map_at m s) p v e in
     ap (option_and_then (λ ps. get_under ps q.path q.version)) (map.get-insert texts_total m s paths q.shelf)
     ∙ elim (eq_by_cmp text_cmp q.shelf s) as (λ b. eq_by_cmp text_cmp q.shelf s ≡ b
-    → option_and_then (λ ps. get_under ps q.path q.version) (cond b (Some paths) (map.get m q.shelf)) ≡ cond b (cond (eq_by_cmp text_cmp q.path p) (cond (eq_by_cmp text_cmp q.version v) (Some e) (get_at m q)) (get_at m q)) (get_at m q)) [
+    → option_and_then (λ ps. get_under ps q.path q.version) (cond b (Some paths) (map.get m q.shelf))
+    ≡ cond b (cond (eq_by_cmp text_cmp q.path p) (cond (eq_by_cmp text_cmp q.version v) (Some e) (get_at m q)) (get_at m q)) (get_at m q)) [
       | true ↦ λ same.
           let before : get_under (map_at m s) q.path q.version ≡ get_at m q =
           under_or_empty (map.get m s) q.path q.version ∙ ap (λ t. option_and_then (λ ps. get_under ps q.path q.version) (map.get m t)) (sym (tells_apart texts_exact q.shelf s same)) in

@@ -123,7 +123,8 @@ module _ (m : Nested) (s : List ℕ) (filled : EachHasVersion m) where
   pub no_paths : (old : set.FinSet text_cmp) → None ≡ map.get m s → old ≡ set.union old (paths_among s (map.entries (by_place m)))
   no_paths old none = no_more old _ (λ p. has_path p ∙ ap (λ o. is_some (option_and_then (λ paths. map.get paths p) o)) (sym none))
 
-  pub more_paths : (old : set.FinSet text_cmp) (paths : map.FinMap text_cmp (map.FinMap text_cmp Entry)) → Some paths ≡ map.get m s → with_texts old (map.keys paths) ≡ set.union old (paths_among s (map.entries (by_place m)))
+  pub more_paths : (old : set.FinSet text_cmp) (paths : map.FinMap text_cmp (map.FinMap text_cmp Entry))
+      → Some paths ≡ map.get m s → with_texts old (map.keys paths) ≡ set.union old (paths_among s (map.entries (by_place m)))
   more_paths old paths found = more_keys old _ paths (λ p. has_path p ∙ ap (λ o. is_some (option_and_then (λ paths. map.get paths p) o)) (sym found))
 
 -- ---- no path is without a version

@@ -37,7 +37,8 @@ module _ {Y X : Type 0} where
   get_text m t = map.get-from_entries texts_total _ t ∙ find_text m.entries t
 
   -- one more text
-  pub insert_text : (m n : BTreeMap (String Y) X) (k : List ℕ) (x : X) → UpdatesBy string_cmp (λ t. slice_cmp nat_cmp k (string_bytes t)) m n (Some x) → by_text n.entries ≡ map.insert (by_text m.entries) k x
+  pub insert_text : (m n : BTreeMap (String Y) X) (k : List ℕ) (x : X)
+      → UpdatesBy string_cmp (λ t. slice_cmp nat_cmp k (string_bytes t)) m n (Some x) → by_text n.entries ≡ map.insert (by_text m.entries) k x
   insert_text m n k x updates = map.same_map texts_total texts_exact _ _ (λ t.
       get_text n t ∙ btree_map_updates_text k m n (Some x) updates t ∙ ap (λ b. cond b (Some x) (get_by_text m t)) (same_text k t)
       ∙ sym (map.get-insert texts_total (by_text m.entries) k x t ∙ ap (cond (eq_by_cmp text_cmp t k) (Some x)) (get_text m t)))
@@ -48,7 +49,8 @@ module _ {Y X : Type 0} where
       get_text n t ∙ btree_map_updates_text k m n None updates t ∙ ap (λ b. cond b None (get_by_text m t)) (same_text k t)
       ∙ sym (map.get-remove texts_total (by_text m.entries) k t ∙ ap (cond (eq_by_cmp text_cmp t k) None) (get_text m t)))
 
-  absent : (k : String Y) (es : List (String Y × X)) → AllByRecursion (λ y. eq_by_cmp string_cmp k y ≡ false) (keys_of es) → lookup (is_at (λ t. slice_cmp nat_cmp (string_bytes k) (string_bytes t))) es ≡ None
+  absent : (k : String Y) (es : List (String Y × X)) → AllByRecursion (λ y. eq_by_cmp string_cmp k y ≡ false) (keys_of es)
+      → lookup (is_at (λ t. slice_cmp nat_cmp (string_bytes k) (string_bytes t))) es ≡ None
   absent k [] apart = refl
   absent k (e ∷ es) apart = ap (λ b. cond b (Some e.1) (lookup (is_at (λ t. slice_cmp nat_cmp (string_bytes k) (string_bytes t))) es)) apart.0 ∙ absent k es apart.1
 

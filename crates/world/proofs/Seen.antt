@@ -33,7 +33,8 @@ some_or false e o = refl
 pub contains_among : (s p v : List ℕ) (es : List (Place × Entry)) → set.contains (versions_among s p es) v ≡ is_some (map.find place_cmp (place s p v) es)
 contains_among s p v [] = set.contains-empty text_cmp v
 contains_among s p v (e ∷ es) =
-    elim (bytes_eq e.0.shelf s && bytes_eq e.0.path p) as (λ b. (bytes_eq e.0.shelf s && bytes_eq e.0.path p) ≡ b → set.contains (cond b (set.insert (versions_among s p es) e.0.version) (versions_among s p es)) v ≡ is_some (map.find place_cmp (place s p v) (e ∷ es))) [
+    elim (bytes_eq e.0.shelf s && bytes_eq e.0.path p) as (λ b. (bytes_eq e.0.shelf s && bytes_eq e.0.path p) ≡ b
+    → set.contains (cond b (set.insert (versions_among s p es) e.0.version) (versions_among s p es)) v ≡ is_some (map.find place_cmp (place s p v) (e ∷ es))) [
       | true ↦ λ here.
           let both = and_parts (bytes_eq e.0.shelf s) (bytes_eq e.0.path p) here in
           set.contains-insert texts_total (versions_among s p es) e.0.version v

@@ -135,7 +135,8 @@ module _ (w : World) (is : IsWorld w) (s p : List ℕ) where
         λ seen.
             let entry = entry_at (version_text v) seen.1 in
             let canonical : IsCanonical (version_text v) v = record { valid = seen.0; same = refl; short = entry.version.1.short } in
-            (named_by (in_order vs) v).1 (version_text v, in_order_of texts_total texts_exact vs (version_text v) ((versions_are_seen w s p (version_text v)).1 seen.1), (version-of (version_text v) v).1 canonical),
+            (named_by (in_order vs) v).1
+            (version_text v, in_order_of texts_total texts_exact vs (version_text v) ((versions_are_seen w s p (version_text v)).1 seen.1), (version-of (version_text v) v).1 canonical),
       )
 
   pub seen_members : (v : SemanticVersion) → Contains (versions_of w s p) v ↔ seen_versions w s p v

@@ -27,7 +27,8 @@ put_or_before : {X : Type 0} (b : Bool) (x : X) (old : Option X) (y : X) → con
 put_or_before true x old y e = inl (refl, cc)
 put_or_before false x old y e = inr e
 
-pub at_or_before : {K X : Type 0} {R : K → K → Ordering} (o : IsTotalOrder R) → map.IsAntisymmetric R → (m : map.FinMap R X) (k q : K) (x y : X) → map.get (map.insert m k x) q ≡ Some y → ((k ≡ q) × (x ≡ y)) ⊎ (map.get m q ≡ Some y)
+pub at_or_before : {K X : Type 0} {R : K → K → Ordering} (o : IsTotalOrder R) → map.IsAntisymmetric R
+    → (m : map.FinMap R X) (k q : K) (x y : X) → map.get (map.insert m k x) q ≡ Some y → ((k ≡ q) × (x ≡ y)) ⊎ (map.get m q ≡ Some y)
 at_or_before {R = R} o exact m k q x y e =
     elim (put_or_before (eq_by_cmp R q k) x (map.get m q) y (sym (map.get-insert o m k x q) ∙ e)) [
       | inl here ↦ inl (sym (tells_apart exact q k here.0), here.1)
@@ -100,7 +101,8 @@ count_after w q e s p room few =
     elim (test q) as (λ b. test q ≡ b → count (with_entry w q e) s p ≤ version_limit) [
       | true ↦ λ passes.
           let same = and_parts (bytes_eq q.shelf s) (bytes_eq q.path p) passes in
-          let here : count w s p < version_limit = subst (λ x. count w x p < version_limit) (text_same q.shelf s same.0) (subst (λ x. count w q.shelf x < version_limit) (text_same q.path p same.1) room) in
+          let here : count w s p < version_limit =
+          subst (λ x. count w x p < version_limit) (text_same q.shelf s same.0) (subst (λ x. count w q.shelf x < version_limit) (text_same q.path p same.1) room) in
           let grown : count (with_entry w q e) s p ≡ cond (map.contains_key (map.retain_keys w.entries test) q) (count w s p) (count w s p + 1) =
           ap map.len (stays places_total places_exact test w.entries q e passes) ∙ map.len-insert places_total (map.retain_keys w.entries test) q e in
           let most = at_most_one_more (map.contains_key (map.retain_keys w.entries test) q) (count w s p) in

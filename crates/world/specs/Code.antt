@@ -15,7 +15,8 @@ text_code = coded_list coded_ℕ
 
 abbrev pub version_code : Coded SemanticVersion
 version_code =
-    code_by (ℕ × (ℕ × (ℕ × (List (List ℕ) × Bool)))) (coded× coded_ℕ (coded× coded_ℕ (coded× coded_ℕ (coded× (coded_list text_code) coded_bool))))
+    code_by (ℕ × (ℕ × (ℕ × (List (List ℕ) × Bool))))
+    (coded× coded_ℕ (coded× coded_ℕ (coded× coded_ℕ (coded× (coded_list text_code) coded_bool))))
     (λ v. (v.major, (v.minor, (v.patch, (v.identifiers, v.marked)))))
     (λ p. record { major = p.0; minor = p.1.0; patch = p.1.1.0; identifiers = p.1.1.1.0; marked = p.1.1.1.1 }) (λ _. refl)
 
@@ -35,7 +36,8 @@ abbrev right_code : Coded Right
 right_code = code_by Bool coded_bool may_publish right_of right_back
 
 abbrev pub holder_code : Coded Holder
-holder_code = code_by (List ℕ × Right) (coded× text_code right_code) (λ h. (h.shelf, h.right)) (λ p. record { shelf = p.0; right = p.1 }) (λ _. refl)
+holder_code =
+    code_by (List ℕ × Right) (coded× text_code right_code) (λ h. (h.shelf, h.right)) (λ p. record { shelf = p.0; right = p.1 }) (λ _. refl)
 
 abbrev pub entry_code : Coded Entry
 entry_code =
@@ -43,7 +45,8 @@ entry_code =
     (λ e. (e.gomod, (e.zip, e.time))) (λ p. record { gomod = p.0; zip = p.1.0; time = p.1.1 }) (λ _. refl)
 
 abbrev pub place_code : Coded Place
-place_code = code_by (List ℕ × (List ℕ × List ℕ)) (coded× text_code (coded× text_code text_code)) (λ q. (q.shelf, (q.path, q.version))) (λ p. record { shelf = p.0; path = p.1.0; version = p.1.1 }) (λ _. refl)
+place_code = code_by (List ℕ × (List ℕ × List ℕ)) (coded× text_code (coded× text_code text_code))
+    (λ q. (q.shelf, (q.path, q.version))) (λ p. record { shelf = p.0; path = p.1.0; version = p.1.1 }) (λ _. refl)
 
 abbrev pub world_code : Coded World
 world_code =

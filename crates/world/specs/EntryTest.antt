@@ -1,5 +1,6 @@
 -- Whether an entry may stand at a path and a version: the checks in their order, computed.
-use Rattle.std.specs.Prelude.{ℕ, ◌≡◌, ◌↔◌, Bool, true, false, not, ◌&&◌, nat_le, length, List, [], ◌∷◌, Option, Some, None, is_none, bytes_eq, if◌then◌else◌}
+use Rattle.std.specs.Prelude.{ℕ, ◌≡◌, ◌↔◌, Bool, true, false, not, ◌&&◌, nat_le, length, List}
+use Rattle.std.specs.Prelude.{[], ◌∷◌, Option, Some, None, is_none, bytes_eq, if◌then◌else◌}
 use Rattle.modver.specs.Class.{class_of}
 use Rattle.modver.specs.Reading.{version_of}
 use Rattle.modver.specs.SemanticVersion.{SemanticVersion}

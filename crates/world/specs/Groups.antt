@@ -7,7 +7,8 @@ use Rattle.world.specs.World.{World, IsWorld, common, chain, sees}
 
 -- Each shelf of a world is common, a group or a team.
 abbrev pub EachHasAKind : Type 0
-EachHasAKind = (w : World) (s : List ℕ) → IsWorld w → map.contains_key w.shelves s ≡ true → (s ≡ common) ⊎ ((is_group w s ≡ true) ⊎ IsTeam w s)
+EachHasAKind = (w : World) (s : List ℕ) → IsWorld w → map.contains_key w.shelves s ≡ true
+    → (s ≡ common) ⊎ ((is_group w s ≡ true) ⊎ IsTeam w s)
 
 -- the first shelf is a member of the second, which is a group
 abbrev pub IsMember : World → List ℕ → List ℕ → Type 0

@@ -45,7 +45,8 @@ abbrev pub map_at : {X : Type 0} → map.FinMap text_cmp (map.FinMap text_cmp X)
 map_at m t = unwrap_or (map.get m t) map.empty
 
 -- with a value put at the second text into the map at the first one
-abbrev pub put_under : {X : Type 0} → map.FinMap text_cmp (map.FinMap text_cmp X) → List ℕ → List ℕ → X → map.FinMap text_cmp (map.FinMap text_cmp X)
+abbrev pub put_under : {X : Type 0} → map.FinMap text_cmp (map.FinMap text_cmp X)
+    → List ℕ → List ℕ → X → map.FinMap text_cmp (map.FinMap text_cmp X)
 put_under m t u x = map.insert m t (map.insert (map_at m t) u x)
 
 -- with an entry put at a shelf, a path and a version

@@ -21,7 +21,8 @@ begins_lower (c ∷ cs) = is_lower c
 
 -- whether the text has 1 to 32 bytes of a-z0-9-, begins with a letter, and is not `common`
 abbrev pub is_team_name : List ℕ → Bool
-is_team_name t = nat_le (length t) 32 && begins_lower t && list_all (λ c. is_lower c || is_digit c || nat_eq c 45) t && not (bytes_eq t common)
+is_team_name t =
+    nat_le (length t) 32 && begins_lower t && list_all (λ c. is_lower c || is_digit c || nat_eq c 45) t && not (bytes_eq t common)
 
 -- whether the text has 16 to 64 bytes of a-z0-9
 abbrev pub is_key : List ℕ → Bool

@@ -27,4 +27,5 @@ PartIsWorld = (w : World) (t : List ℕ) → IsWorld w → IsWorld (part w t)
 
 -- If a shelf exists, the world that it sees has exactly the shelves that it sees.
 abbrev pub PartHasTheChain : Type 0
-PartHasTheChain = (w : World) (t s : List ℕ) → IsWorld w → map.contains_key w.shelves t ≡ true → map.contains_key (part w t).shelves s ≡ sees w t s
+PartHasTheChain = (w : World) (t s : List ℕ) → IsWorld w → map.contains_key w.shelves t ≡ true
+    → map.contains_key (part w t).shelves s ≡ sees w t s

@@ -23,7 +23,11 @@ lacks_group w (Some group) = not (is_group w group)
 
 -- the outcome of adding a team, as a member of a group if one is named
 abbrev pub team_added : World → List ℕ → Option (List ℕ) → Registered
-team_added w t group = if not (is_team_name t) then Name else if map.contains_key w.shelves t then Taken else if lacks_group w group then NoGroup else Done
+team_added w t group =
+    if not (is_team_name t) then Name
+    else if map.contains_key w.shelves t then Taken
+    else if lacks_group w group then NoGroup
+    else Done
 
 -- the outcome of adding a group
 abbrev pub group_added : World → List ℕ → Registered
@@ -31,7 +35,11 @@ group_added w g = if not (is_team_name g) then Name else if map.contains_key w.s
 
 -- the outcome of adding a key to a shelf
 abbrev pub key_added : World → List ℕ → List ℕ → Registered
-key_added w s k = if not (is_key k) then Name else if not (map.contains_key w.shelves s) then NoTeam else if map.contains_key w.keys k then Taken else Done
+key_added w s k =
+    if not (is_key k) then Name
+    else if not (map.contains_key w.shelves s) then NoTeam
+    else if map.contains_key w.keys k then Taken
+    else Done
 
 -- the outcome of taking a key away
 abbrev pub key_revoked : World → List ℕ → Registered

@@ -35,7 +35,8 @@ pub record DoesAt {T : Type 0} (old new : Shown) (w : World) (result : Result T 
 
 -- If the disks are honest up to the end of the call, they were honest before it, and the call does this in each world that
 -- the store stood for and that fits.
-pub record DoesWhere {T : Type 0} (fits : World → Type 0) (old new : Shown) (result : Result T StoreFault) (value : World → T) (next : World → World) : Type 0 where
+pub record DoesWhere {T : Type 0} (fits : World → Type 0) (old new : Shown)
+    (result : Result T StoreFault) (value : World → T) (next : World → World) : Type 0 where
   pub honest : new.is_honest → old.is_honest
   pub at : new.is_honest → (w : World) → old.stands w → fits w → DoesAt old new w result (value w) (next w)
 

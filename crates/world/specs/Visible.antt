@@ -24,7 +24,9 @@ seen_versions w s p v = IsVersion v × IsSeen w s p (version_text v)
 -- among these entries, the texts of the versions of a path on one shelf
 abbrev pub versions_among : List ℕ → List ℕ → List (Place × Entry) → set.FinSet text_cmp
 versions_among s p [] = set.empty
-versions_among s p (e ∷ es) = if bytes_eq e.0.shelf s && bytes_eq e.0.path p then set.insert (versions_among s p es) e.0.version else versions_among s p es
+versions_among s p (e ∷ es) =
+    if bytes_eq e.0.shelf s && bytes_eq e.0.path p then set.insert (versions_among s p es) e.0.version
+    else versions_among s p es
 
 -- the texts of the versions of a path on any of these shelves
 abbrev pub versions_on : World → List (List ℕ) → List ℕ → set.FinSet text_cmp

@@ -1,5 +1,6 @@
 -- Worlds: what stands on the shelves, whose the keys are, and what each shelf sees.
-use Rattle.std.specs.Prelude.{ℕ, List, [], ◌∷◌, Bool, true, ◌&&◌, if◌then◌else◌, Option, Some, None, bytes_eq, ◌≡◌, ◌≤◌, ◌⊎◌, length, option_map, unwrap_or}
+use Rattle.std.specs.Prelude.{ℕ, List, [], ◌∷◌, Bool, true, ◌&&◌, if◌then◌else◌, Option, Some}
+use Rattle.std.specs.Prelude.{None, bytes_eq, ◌≡◌, ◌≤◌, ◌⊎◌, length, option_map, unwrap_or}
 use Rattle.std.specs.List.{list_any}
 use Rattle.std.specs.Option.{option_or}
 use Rattle.std.specs.Ordering.{nat_cmp, ordering_then}

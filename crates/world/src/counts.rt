@@ -49,7 +49,8 @@ impl Counts {
     /// Keeps the count of a path on a shelf. If memory runs out, it forgets all counts instead.
     pub fn keep(&mut self, alloc: Global, shelf: &str, path: &str, number: u64)
         ensures kept { (self.new ≡ put_under self.old shelf.now path.now number) ⊎ (self.new ≡ map.empty) }
-        ensures counts { (w : World) → AreCounts w self.old → number ≡ count w shelf.now path.now → AreCounts w self.new }
+        ensures counts { (w : World) → AreCounts w self.old
+            → number ≡ count w shelf.now path.now → AreCounts w self.new }
     {
         if self
             .shelves

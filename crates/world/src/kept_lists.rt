@@ -81,7 +81,8 @@ impl KeptLists {
     /// memory runs out, it forgets all lists. It does not keep a list that is too long for any room, nor an empty one, which is
     /// found quickly.
     pub fn keep(&mut self, alloc: Global, shelf: &str, path: &str, versions: Versions)
-        ensures { (w : World) → AreLists w self.old → versions ≡ versions_of w shelf.now path.now → AreLists w self.new }
+        ensures { (w : World) → AreLists w self.old
+            → versions ≡ versions_of w shelf.now path.now → AreLists w self.new }
     {
         let size = versions.as_slice().len();
         if size == 0 || size > MOST_VERSIONS {
@@ -97,7 +98,8 @@ impl KeptLists {
 
     /// Keeps a copy of the versions of a path that a shelf sees. If memory runs out, it forgets all lists.
     pub fn keep_copy(&mut self, alloc: Global, shelf: &str, path: &str, versions: &[Version])
-        ensures { (w : World) → AreLists w self.old → versions.now ≡ versions_of w shelf.now path.now → AreLists w self.new }
+        ensures { (w : World) → AreLists w self.old
+            → versions.now ≡ versions_of w shelf.now path.now → AreLists w self.new }
     {
         match copied(alloc, versions) {
             Ok(copies) => self.keep(alloc, shelf, path, copies),
@@ -142,7 +144,8 @@ impl KeptLists {
     ) -> Result<(), AllocError>
         requires lists { length self.old + 1 ≤ MOST_LISTS }
         requires room { versions_in self.old + length versions ≤ MOST_VERSIONS }
-        ensures { (w : World) → AreLists w self.old → versions ≡ versions_of w shelf.now path.now → AreLists w self.new }
+        ensures { (w : World) → AreLists w self.old
+            → versions ≡ versions_of w shelf.now path.now → AreLists w self.new }
     {
         let shelf = Text::copy_of(alloc, shelf)?;
         let path = Text::copy_of(alloc, path)?;

@@ -9,7 +9,8 @@ ghost use Rattle.world.specs.Registry.{is_group, lacks_group};
 ghost use Rattle.world.specs.Standing.{standing};
 ghost use Rattle.world.specs.Versions.{by_precedence, named_on, versions_of};
 ghost use Rattle.world.specs.Visible.{paths_on};
-ghost use Rattle.world.specs.World.{IsWorld, common, only_common, place, group_of, above, seen_at, first_on, view, heading, count, with_shelf};
+ghost use Rattle.world.specs.World.{IsWorld, common, only_common, place, group_of, above};
+ghost use Rattle.world.specs.World.{seen_at, first_on, view, heading, count, with_shelf};
 
 use crate::entry::{Entry, EntryRef, Heading, Holder, Right, Seen, SeenRef};
 use crate::kept_lists::KeptLists;
@@ -89,7 +90,8 @@ impl MapShelves {
         path: &ModulePath,
         version: &Version,
     ) -> Option<SeenRef<'a>>
-        ensures { result ≡ seen_at (map.get self.now.entries (place shelf.now path.now (version_text version.now))) shelf.now }
+        ensures { result
+            ≡ seen_at (map.get self.now.entries (place shelf.now path.now (version_text version.now))) shelf.now }
     {
         let entry = self.entries.get(shelf, path.as_str(), version.as_str())?;
         Some(SeenRef { shelf, entry })
@@ -136,7 +138,8 @@ impl MapShelves {
         path: &str,
         versions: &mut Vec<Version>,
     ) -> Result<(), AllocError>
-        ensures { OnOk result (versions.new.items ≡ versions.old.items ++ named_on self.now (above (option_copied group.entry)) path.now) }
+        ensures { OnOk result (versions.new.items
+            ≡ versions.old.items ++ named_on self.now (above (option_copied group.entry)) path.now) }
     {
         let Some(group) = group else {
             return self
@@ -163,7 +166,8 @@ impl MapShelves {
 
     /// Puts the paths on the shelves above a shelf of this group, or of no group, into a set. Fails only if memory runs out.
     fn add_paths_above(&self, group: Option<&str>, paths: &mut TextSet) -> Result<(), AllocError>
-        ensures { OnOk result (paths.new ≡ set.union paths.old (paths_on self.now (above (option_copied group.entry)))) }
+        ensures { OnOk result
+            (paths.new ≡ set.union paths.old (paths_on self.now (above (option_copied group.entry)))) }
     {
         let Some(group) = group else {
             return self.entries.add_paths(self.alloc, COMMON, paths);

@@ -15,7 +15,8 @@ pub trait Shelves {
     ghost use Rattle.std.specs.FinMap as map;
     ghost use Rattle.modver.specs.SemanticVersion.{version_text};
     ghost use Rattle.world.specs.World.{World, IsWorld, place, view, heading, count, with_entry};
-    ghost use Rattle.world.specs.Registry.{team_added, after_team_add, group_added, after_group_add, key_added, after_key_add, key_revoked, after_key_revoke};
+    ghost use Rattle.world.specs.Registry.{team_added, after_team_add, group_added, after_group_add};
+    ghost use Rattle.world.specs.Registry.{key_added, after_key_add, key_revoked, after_key_revoke};
     ghost use Rattle.world.specs.Standing.{standing};
     ghost use Rattle.world.specs.Latest.{latest_of};
     ghost use Rattle.world.specs.Versions.{versions_of};
@@ -44,7 +45,8 @@ pub trait Shelves {
         path: &ModulePath,
         version: &Version,
     ) -> Result<Option<Seen>, StoreFault>
-        ensures reads { Reads (shown self.old) (shown self.new) result (λ w. view w shelf.now path.now (version_text version.now)) }
+        ensures reads { Reads (shown self.old) (shown self.new) result
+            (λ w. view w shelf.now path.now (version_text version.now)) }
         ensures cause { HasCause (failure_count self.old) (failure_count self.new) result };
 
     /// Returns what the shelf sees of the version without its zip, or None if the shelf sees no entry.
@@ -54,7 +56,8 @@ pub trait Shelves {
         path: &ModulePath,
         version: &Version,
     ) -> Result<Option<Heading>, StoreFault>
-        ensures reads { Reads (shown self.old) (shown self.new) result (λ w. heading w shelf.now path.now (version_text version.now)) }
+        ensures reads { Reads (shown self.old) (shown self.new) result
+            (λ w. heading w shelf.now path.now (version_text version.now)) }
         ensures cause { HasCause (failure_count self.old) (failure_count self.new) result };
 
     /// Returns how an entry that is handed in compares with what the shelf sees of the version.
@@ -65,7 +68,8 @@ pub trait Shelves {
         version: &Version,
         entry: &EntryRef,
     ) -> Result<Standing, StoreFault>
-        ensures reads { Reads (shown self.old) (shown self.new) result (λ w. standing w shelf.now path.now (version_text version.now) entry.now) }
+        ensures reads { Reads (shown self.old) (shown self.new) result
+            (λ w. standing w shelf.now path.now (version_text version.now) entry.now) }
         ensures cause { HasCause (failure_count self.old) (failure_count self.new) result };
 
     /// Returns the versions of the path that the shelf sees, each once, in ascending precedence. (SemVer 2.0.0, section 11.)
@@ -98,31 +102,37 @@ pub trait Shelves {
         entry: &EntryRef,
     ) -> Result<(), StoreFault>
         ensures does { DoesWhere (λ w. IsRoomFor w (place shelf.now path.now (version_text version.now)) entry.now)
-            (shown self.old) (shown self.new) result (λ _. tt) (λ w. with_entry w (place shelf.now path.now (version_text version.now)) entry.now) }
+            (shown self.old) (shown self.new) result (λ _. tt)
+            (λ w. with_entry w (place shelf.now path.now (version_text version.now)) entry.now) }
         ensures cause { HasCause (failure_count self.old) (failure_count self.new) result };
 
     /// Adds a team, as a member of a group if one is named. Returns `Done`, or why the team was not added: `Name` if the name is
     /// malformed, otherwise `Taken` if a shelf has it, otherwise `NoGroup` if the group does not exist.
     fn team_add(&mut self, name: &str, group: Option<&str>) -> Result<Registered, StoreFault>
-        ensures does { Does (shown self.old) (shown self.new) result (λ w. team_added w name.now (option_copied group.entry))
-            (λ w. after_team_add w name.now (option_copied group.entry) (team_added w name.now (option_copied group.entry))) }
+        ensures does { Does (shown self.old) (shown self.new) result
+            (λ w. team_added w name.now (option_copied group.entry))
+            (λ w. after_team_add w name.now (option_copied group.entry)
+            (team_added w name.now (option_copied group.entry))) }
         ensures cause { HasCause (failure_count self.old) (failure_count self.new) result };
 
     /// Adds a group. Returns `Done`, or why the group was not added: `Name` if the name is malformed, otherwise `Taken` if a shelf
     /// has it.
     fn group_add(&mut self, name: &str) -> Result<Registered, StoreFault>
-        ensures does { Does (shown self.old) (shown self.new) result (λ w. group_added w name.now) (λ w. after_group_add w name.now (group_added w name.now)) }
+        ensures does { Does (shown self.old) (shown self.new) result (λ w. group_added w name.now)
+            (λ w. after_group_add w name.now (group_added w name.now)) }
         ensures cause { HasCause (failure_count self.old) (failure_count self.new) result };
 
     /// Adds a key to a shelf. Returns `Done`, or why the key was not added: `Name` if the key is malformed, otherwise `NoTeam` if
     /// there is no such shelf, otherwise `Taken` if the key exists.
     fn key_add(&mut self, shelf: &str, key: &str, right: Right) -> Result<Registered, StoreFault>
-        ensures does { Does (shown self.old) (shown self.new) result (λ w. key_added w shelf.now key.now) (λ w. after_key_add w shelf.now key.now right (key_added w shelf.now key.now)) }
+        ensures does { Does (shown self.old) (shown self.new) result (λ w. key_added w shelf.now key.now)
+            (λ w. after_key_add w shelf.now key.now right (key_added w shelf.now key.now)) }
         ensures cause { HasCause (failure_count self.old) (failure_count self.new) result };
 
     /// Takes a key away. Returns `Done`, or `NoKey` if there is no such key.
     fn key_revoke(&mut self, key: &str) -> Result<Registered, StoreFault>
-        ensures does { Does (shown self.old) (shown self.new) result (λ w. key_revoked w key.now) (λ w. after_key_revoke w key.now (key_revoked w key.now)) }
+        ensures does { Does (shown self.old) (shown self.new) result (λ w. key_revoked w key.now)
+            (λ w. after_key_revoke w key.now (key_revoked w key.now)) }
         ensures cause { HasCause (failure_count self.old) (failure_count self.new) result };
 
     // Each world that a store stands for is well formed.

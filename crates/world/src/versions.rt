@@ -82,7 +82,8 @@ pub fn highest(versions: &[Version]) -> Option<&Version>
 /// Returns the highest by rank of those versions of one path that the go.mod does not retract, or None if there are none.
 /// Allocates nothing.
 pub fn highest_left<'a>(versions: &'a [Version], gomod: &GoMod) -> Option<&'a Version>
-    ensures { (path : List ℕ) → AllOf path versions.now → option_copied result ≡ spec.highest (spec.unretracted gomod.now versions.now) }
+    ensures { (path : List ℕ) → AllOf path versions.now
+        → option_copied result ≡ spec.highest (spec.unretracted gomod.now versions.now) }
 {
     let place = latest(versions, gomod)?;
     versions.get(place)

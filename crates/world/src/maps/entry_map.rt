@@ -58,7 +58,8 @@ impl EntryMap {
 
     /// Returns how many versions of a path stand on a shelf.
     pub fn count(&self, shelf: &str, path: &str) -> usize
-        ensures { result ≡ map.len (map.retain_keys self.now (λ q. bytes_eq q.shelf shelf.now && bytes_eq q.path path.now)) }
+        ensures { result
+            ≡ map.len (map.retain_keys self.now (λ q. bytes_eq q.shelf shelf.now && bytes_eq q.path path.now)) }
     {
         match self.shelves.get_under(shelf, path) {
             None => 0,
@@ -74,7 +75,8 @@ impl EntryMap {
         path: &str,
         versions: &mut Vec<Version>,
     ) -> Result<(), AllocError>
-        ensures { OnOk result (versions.new.items ≡ versions.old.items ++ named (in_order (versions_among shelf.now path.now (map.entries self.now)))) }
+        ensures { OnOk result (versions.new.items
+            ≡ versions.old.items ++ named (in_order (versions_among shelf.now path.now (map.entries self.now)))) }
     {
         match self.shelves.get_under(shelf, path) {
             None => Ok(()),

@@ -43,7 +43,8 @@ returns-clause-ok c =
     let v = c.args.version.now in
     on_ok_weaker c.insert.result
     (λ put. ap by_place (put_on_new c.self.inside.shelves s p v c.args.entry c.in_default.ensures.value
-    (put ∙ ap (λ t. map.insert c.get_mut.follows.lender-at-none t c.insert_under-2.new.self) c.in_ok-from_str.ensures.ok ∙ ap (λ m. map.insert m s c.insert_under-2.new.self) c.get_mut.follows.holds-at-none)
+    (put ∙ ap (λ t. map.insert c.get_mut.follows.lender-at-none t c.insert_under-2.new.self) c.in_ok-from_str.ensures.ok
+    ∙ ap (λ m. map.insert m s c.insert_under-2.new.self) c.get_mut.follows.holds-at-none)
     (c.in_ok-insert_under.ensures.ok ∙ ap (λ paths. put_under paths p v c.args.entry) c.new-paths.ensures))
     ∙ put_at_place c.self.inside.shelves s p v c.args.entry ∙ ap (λ m. map.insert m (place s p v) c.args.entry) c.self.view_is)
     c.insert.ensures.ok
@@ -55,7 +56,8 @@ invariant_of-self-2 c =
     let v = c.args.version.now in
     after_either c.insert.new.self c.insert.result c.insert.ensures.ok c.insert.ensures.err
     (λ put. subst EachHasVersion (sym (put_on_new c.self.inside.shelves s p v c.args.entry c.in_default.ensures.value
-    (put ∙ ap (λ t. map.insert c.get_mut.follows.lender-at-none t c.insert_under-2.new.self) c.in_ok-from_str.ensures.ok ∙ ap (λ m. map.insert m s c.insert_under-2.new.self) c.get_mut.follows.holds-at-none)
+    (put ∙ ap (λ t. map.insert c.get_mut.follows.lender-at-none t c.insert_under-2.new.self) c.in_ok-from_str.ensures.ok
+    ∙ ap (λ m. map.insert m s c.insert_under-2.new.self) c.get_mut.follows.holds-at-none)
     (c.in_ok-insert_under.ensures.ok ∙ ap (λ paths. put_under paths p v c.args.entry) c.new-paths.ensures)))
     (each_after c.self.inside.shelves s p v c.args.entry c.self.invariant))
     (λ kept. subst EachHasVersion (sym (kept ∙ c.get_mut.follows.holds-at-none)) c.self.invariant)

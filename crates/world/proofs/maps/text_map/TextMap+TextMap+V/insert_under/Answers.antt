@@ -8,7 +8,8 @@ pub returns-in-Some-clause-ok : goal.returns-in-Some-clause-ok
 returns-in-Some-clause-ok g c =
     let lent = rw c.in-Some.is at (c.get_mut.follows.holds c.insert.new.self) in
     on_ok_weaker c.insert.result
-    (λ put. put_found c.args.self.now c.args.first.now c.args.second.now c.args.value c.in-Some.ensures.value lent (put ∙ ap (λ k. map.insert c.in-Some.inner.now k c.args.value) c.in_ok-key.ensures.ok))
+    (λ put. put_found c.args.self.now c.args.first.now c.args.second.now c.args.value c.in-Some.ensures.value lent
+    (put ∙ ap (λ k. map.insert c.in-Some.inner.now k c.args.value) c.in_ok-key.ensures.ok))
     c.insert.ensures.ok
 
 pub returns-in-Some-clause-err : goal.returns-in-Some-clause-err

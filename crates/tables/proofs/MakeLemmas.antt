@@ -1,6 +1,7 @@
 -- Each statement that makes the tables, on its own.
-use Rattle.std.proofs.Common.{◌≡◌, ◌≤◌, ◌+◌, length, true, List, [], ◌∷◌, inl, inr, refl, sym, ap, subst, ◌∙◌, codes, lit<, lit≤, arith, true≢false}
+use Rattle.std.proofs.Common.{ℕ, ◌≡◌, ◌≤◌, ◌+◌, length, true, List, [], ◌∷◌, inl, inr, refl, sym, ap, subst, ◌∙◌, codes, lit<, lit≤, arith, true≢false}
 use Rattle.sqlite.specs.Order.{Row}
+use Rattle.sqlite.specs.Table.{Table}
 use Rattle.sqlite.specs.Tree.{Trees}
 use Rattle.sqlite_rules.specs.Edit.{IsRefused, IsOversized}
 use Rattle.sqlite_rules.specs.declared.error.Refusal.{Refusal}
@@ -36,9 +37,13 @@ use Rattle.tables.proofs.CreateLemmas.{first1, first2, first3, first4, first5, f
 use Rattle.tables.proofs.CauseLemmas.{IsAlone, IsMakeable}
 use Rattle.tables.proofs.PutLemmas.{IsPuttable}
 
-fit1 : is_fit (Text (codes "table")) (Text meta_table.name) (Text meta_table.name) (Text meta_text) ≡ true
+-- The listing's row of each table fits.
+fits : AllByRecursion
+    (λ (it : Table × List ℕ). is_fit (Text (codes "table")) (Text it.0.name) (Text it.0.name) (Text it.1) ≡ true)
+    ((meta_table, meta_text) ∷ (shelf_table, shelf_text) ∷ (access_table, access_text)
+    ∷ (version_table, version_text) ∷ (piece_table, piece_text) ∷ [])
 unfolding fits_kind begins same_name is_free_name value_cmp lib.Ieee.is_nan lib.Ieee.lt
-fit1 = refl
+fits = (refl, (refl, (refl, (refl, (refl, tt)))))
 
 pub alone1 : IsAlone first1 (understood schema0 first1) × (statement_of first1 (understood schema0 first1) ≡ meta_text)
 unfolding understood everything
@@ -59,12 +64,8 @@ able1 = record {
   reals = lit< tt;
   key_reals = (lit< tt, tt);
   formed = refl;
-  fit = fit1;
+  fit = fits.0;
 }
-
-fit2 : is_fit (Text (codes "table")) (Text shelf_table.name) (Text shelf_table.name) (Text shelf_text) ≡ true
-unfolding fits_kind begins same_name is_free_name value_cmp lib.Ieee.is_nan lib.Ieee.lt
-fit2 = refl
 
 pub alone2 : IsAlone first2 (understood schema1 first2) × (statement_of first2 (understood schema1 first2) ≡ shelf_text)
 unfolding understood everything
@@ -85,12 +86,8 @@ able2 = record {
   reals = lit< tt;
   key_reals = (lit< tt, tt);
   formed = refl;
-  fit = fit2;
+  fit = fits.1.0;
 }
-
-fit3 : is_fit (Text (codes "table")) (Text access_table.name) (Text access_table.name) (Text access_text) ≡ true
-unfolding fits_kind begins same_name is_free_name value_cmp lib.Ieee.is_nan lib.Ieee.lt
-fit3 = refl
 
 pub alone3 : IsAlone first3 (understood schema2 first3) × (statement_of first3 (understood schema2 first3) ≡ access_text)
 unfolding understood everything
@@ -111,12 +108,8 @@ able3 = record {
   reals = lit< tt;
   key_reals = (lit< tt, tt);
   formed = refl;
-  fit = fit3;
+  fit = fits.1.1.0;
 }
-
-fit4 : is_fit (Text (codes "table")) (Text version_table.name) (Text version_table.name) (Text version_text) ≡ true
-unfolding fits_kind begins same_name is_free_name value_cmp lib.Ieee.is_nan lib.Ieee.lt
-fit4 = refl
 
 pub alone4 : IsAlone first4 (understood schema3 first4) × (statement_of first4 (understood schema3 first4) ≡ version_text)
 unfolding understood everything
@@ -137,12 +130,8 @@ able4 = record {
   reals = lit< tt;
   key_reals = (lit< tt, tt);
   formed = refl;
-  fit = fit4;
+  fit = fits.1.1.1.0;
 }
-
-fit5 : is_fit (Text (codes "table")) (Text piece_table.name) (Text piece_table.name) (Text piece_text) ≡ true
-unfolding fits_kind begins same_name is_free_name value_cmp lib.Ieee.is_nan lib.Ieee.lt
-fit5 = refl
 
 pub alone5 : IsAlone first5 (understood schema4 first5) × (statement_of first5 (understood schema4 first5) ≡ piece_text)
 unfolding understood everything
@@ -163,7 +152,7 @@ able5 = record {
   reals = lit< tt;
   key_reals = (lit< tt, tt);
   formed = refl;
-  fit = fit5;
+  fit = fits.1.1.1.1.0;
 }
 
 -- ---- the first rows
@@ -224,7 +213,8 @@ unfolding names_same key_joined first_key
 common_referred db h = true≢false h
 
 -- no rule refuses the row of `common` in tables with the row of `meta` alone
-common_fine : (db : Trees) → db 0 ≡ meta_row ∷ [] → db 2 ≡ [] → AreEmpty db → (why : Refusal) → IsRefused store_schema Enforced db (record { table = shelf_table; gone = []; news = common_row ∷ [] }) why → ⊥
+common_fine : (db : Trees) → db 0 ≡ meta_row ∷ [] → db 2 ≡ [] → AreEmpty db → (why : Refusal)
+    → IsRefused store_schema Enforced db (record { table = shelf_table; gone = []; news = common_row ∷ [] }) why → ⊥
 common_fine db a b e (Violates Datatype) h = true≢false h
 common_fine db a b e (Violates NotNull) h = true≢false h
 common_fine db a b e (Violates Check) h = true≢false h

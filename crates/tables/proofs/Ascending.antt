@@ -1,5 +1,6 @@
 -- Lists in order: each element with the next one, and with each later one.
-use Rattle.std.proofs.Common.{◌≡◌, ◌<◌, ◌+◌, ◌++◌, ℕ, suc, Bool, true, false, cond, List, [], ◌∷◌, length, map as mapped, filter, get_or, IsPermutation, inl, inr, refl, sym, ap, subst, ◌∙◌, arith, add-one, true≢false, Less, Equal, Greater}
+use Rattle.std.proofs.Common.{◌≡◌, ◌<◌, ◌+◌, ◌++◌, ℕ, suc, Bool, true, false, cond, List, [], ◌∷◌, length, map as mapped, filter, get_or}
+use Rattle.std.proofs.Common.{IsPermutation, inl, inr, refl, sym, ap, subst, ◌∙◌, arith, add-one, true≢false, Less, Equal, Greater}
 use Rattle.std.specs.Prelude.{IsSorted}
 use Rattle.std.specs.List.{AllByRecursion}
 use Rattle.std.specs.Ordering.{is_lt, ordering_reverse}
@@ -120,7 +121,8 @@ filter_push p [] x = go (p x)
     go false = refl
 filter_push {X} p (y ∷ xs) x = go (p y) (filter_push p xs x)
   where
-    go : (b : Bool) → length (filter p (xs ++ x ∷ [])) ≡ length (filter p xs) + cond (p x) 1 0 → length (cond b (y ∷ filter p (xs ++ x ∷ [])) (filter p (xs ++ x ∷ []))) ≡ length (cond b (y ∷ filter p xs) (filter p xs)) + cond (p x) 1 0
+    go : (b : Bool) → length (filter p (xs ++ x ∷ [])) ≡ length (filter p xs) + cond (p x) 1 0
+        → length (cond b (y ∷ filter p (xs ++ x ∷ [])) (filter p (xs ++ x ∷ []))) ≡ length (cond b (y ∷ filter p xs) (filter p xs)) + cond (p x) 1 0
     go true h = omega (arith, h)
     go false h = h
 

@@ -67,7 +67,8 @@ joined_ascii [] h = IsAscii-nil
 joined_ascii (i ∷ []) h = ascii_by is_identifier_byte identifier_byte i (and_parts _ _ (and_parts _ _ (and_parts _ _ h).0).0).1
 joined_ascii (i ∷ j ∷ is) h =
     let parts = and_parts _ _ h in
-    IsAscii-append i (46 ∷ join_with_byte 46 (j ∷ is)) (ascii_by is_identifier_byte identifier_byte i (and_parts _ _ (and_parts _ _ parts.0).0).1) (IsAscii-cons 46 _ (omega arith) (joined_ascii (j ∷ is) parts.1))
+    IsAscii-append i (46 ∷ join_with_byte 46 (j ∷ is)) (ascii_by is_identifier_byte identifier_byte i (and_parts _ _ (and_parts _ _ parts.0).0).1)
+    (IsAscii-cons 46 _ (omega arith) (joined_ascii (j ∷ is) parts.1))
 
 pre_release_ascii : (is : List (List ℕ)) → list_all is_identifier is ≡ true → IsAscii (pre_release_text is)
 pre_release_ascii [] h = IsAscii-nil

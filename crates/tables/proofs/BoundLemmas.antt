@@ -7,7 +7,8 @@ use Rattle.sqlite_value.specs.declared.value.Value.TheVariants.{Null}
 use Rattle.sqlite_sql.specs.Term.{lit}
 use Rattle.tables.specs.Schema.{is_from_zero}
 
-bound_deep : (nodes : List Op) (root : ℕ) (b : Bool) → 1 < length nodes → ((depth : ℕ) → Decides b (term_to nodes (suc (suc depth)) root ≡ is_from_zero)) → Decides b (terms_in nodes (root ∷ []) ≡ is_from_zero ∷ [])
+bound_deep : (nodes : List Op) (root : ℕ) (b : Bool) → 1 < length nodes
+    → ((depth : ℕ) → Decides b (term_to nodes (suc (suc depth)) root ≡ is_from_zero)) → Decides b (terms_in nodes (root ∷ []) ≡ is_from_zero ∷ [])
 bound_deep nodes root b long h =
     let deep : length nodes ≡ suc (suc (length nodes - 2)) = omega arith in
     let it = subst (λ n. Decides b (term_to nodes n root ≡ is_from_zero)) (sym deep) (h (length nodes - 2)) in
@@ -28,7 +29,8 @@ shallow nodes root (suc (suc n)) small e = absurd (omega arith)
 bound_shallow : (nodes : List Op) (root : ℕ) → length nodes ≤ 1 → Decides false (terms_in nodes (root ∷ []) ≡ is_from_zero ∷ [])
 bound_shallow nodes root small = (λ no. absurd (true≢false (sym no)), λ same. absurd (shallow nodes root (length nodes) small (let e : term_to nodes (length nodes) root ≡ is_from_zero = cc in e)))
 
-pub bound_then : (nodes : List Op) (roots : List ℕ) (b : Bool) → 1 < length nodes → 1 ≤ length roots → length roots < 2 → ((depth : ℕ) → Decides b (term_to nodes (suc (suc depth)) (slice_index_or roots 0 0) ≡ is_from_zero))
+pub bound_then : (nodes : List Op) (roots : List ℕ) (b : Bool) → 1 < length nodes → 1 ≤ length roots → length roots < 2
+    → ((depth : ℕ) → Decides b (term_to nodes (suc (suc depth)) (slice_index_or roots 0 0) ≡ is_from_zero))
     → Decides b (terms_in nodes roots ≡ is_from_zero ∷ [])
 bound_then nodes [] b long some few h = absurd (omega arith)
 bound_then nodes (r ∷ []) b long some few h = bound_deep nodes r b long h

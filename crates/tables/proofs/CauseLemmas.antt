@@ -1,5 +1,6 @@
 -- Why a statement that makes the tables fails.
-use Rattle.std.proofs.Common.{◌≡◌, ◌<◌, ◌≤◌, ◌/◌, suc, take, drop, slice_get, ◌⊎◌, ◌||◌, ◌+◌, ◌*◌, ◌^◌, ℕ, Bool, true, false, List, [], ◌∷◌, length, Option, Some, None, Ok, Err, Result, inl, inr, refl, sym, ap, subst, subst₂, ◌∙◌, codes, arith, IsTrue, true≢false, nat_lt, ltb-true}
+use Rattle.std.proofs.Common.{◌≡◌, ◌<◌, ◌≤◌, ◌/◌, suc, take, drop, slice_get, ◌⊎◌, ◌||◌, ◌+◌, ◌*◌, ◌^◌, ℕ, Bool, true, false, List, [], ◌∷◌, length, Option}
+use Rattle.std.proofs.Common.{Some, None, Ok, Err, Result, inl, inr, refl, sym, ap, subst, subst₂, ◌∙◌, codes, arith, IsTrue, true≢false, nat_lt, ltb-true}
 use Rattle.std.specs.Prelude.{IsSome}
 use Rattle.std.specs.List.{list_all, AllByRecursion}
 use Rattle.std.specs.Str.{IsAscii, IsUtf8}
@@ -61,7 +62,8 @@ fail_excused old new big e small h = go h.0 h.1 h.2
     go Broken is c = inr (inl c)
     go Unstorable is c = small c
 
-module _ (sql : List ℕ) (old new : State) (schema : Schema) (has : old.now.schema ≡ schema) (command : Command) (is : command_of (understood schema sql) ≡ command) (plain : IsPlain (understood schema sql)) (alone : IsAlone sql (understood schema sql)) where
+module _ (sql : List ℕ) (old new : State) (schema : Schema) (has : old.now.schema ≡ schema) (command : Command)
+    (is : command_of (understood schema sql) ≡ command) (plain : IsPlain (understood schema sql)) (alone : IsAlone sql (understood schema sql)) where
   -- what is not run is so for want of memory, or was hindered
   pub unrun : (e : Error) → IsNotRun old new sql [] e → IsExcused old new e
   unfolding IsNotRun
@@ -102,7 +104,8 @@ module _ (sql : List ℕ) (old new : State) (schema : Schema) (has : old.now.sch
       or_false false e = e
 
       lighter : (k : Command) (text : List ℕ) (Changes : Type 0)
-          → ((IsMisplaced old k e ⊎ (Changes × Does old.step_limit (mode_of old) [] old.now text None k (Err (Some e)))) × IsUnchanged old new) ⊎ Fails old new (Does old.step_limit (mode_of old) [] old.now text None k (Err None)) e → Stopped k text e
+          → ((IsMisplaced old k e ⊎ (Changes × Does old.step_limit (mode_of old) [] old.now text None k (Err (Some e)))) × IsUnchanged old new)
+          ⊎ Fails old new (Does old.step_limit (mode_of old) [] old.now text None k (Err None)) e → Stopped k text e
       lighter k text Changes (inl (inl misplaced, same)) = inl (inl misplaced)
       lighter k text Changes (inl (inr refused, same)) = inl (inr refused.1)
       lighter k text Changes (inr fails) = inr fails
@@ -153,7 +156,8 @@ module _ (schema : Schema) (text : List ℕ) (table : Table) (it : IsMakeable sc
       let t = same_table h.0 h.1 in
       elim h.2 [
         | inl used ↦ true≢false (sym used ∙ (ap (λ (x : Table). is_used schema x.name) t ∙ it.free))
-        | inr index ↦ true≢false (sym index.2 ∙ all_of (λ (i : Index). is_used schema i.name ≡ false) _ index.0 it.indexes_free (subst (λ (x : Table). Has (automatics x 0 0 x.uniques) index.0) t index.1))
+        | inr index ↦ true≢false
+            (sym index.2 ∙ all_of (λ (i : Index). is_used schema i.name ≡ false) _ index.0 it.indexes_free (subst (λ (x : Table). Has (automatics x 0 0 x.uniques) index.0) t index.1))
       ]
   not_refused why.BadName h =
       let t = same_table h.0 h.1 in
@@ -212,7 +216,8 @@ well_behaved s command work (inl (inr is)) = subst DoesWork is work
 well_behaved s command work (inr (name, inl is, held)) = subst DoesWork is work
 well_behaved s command work (inr (name, inr is, held)) = subst DoesWork is work
 
-module _ (schema : Schema) (sql text : List ℕ) (table : Table) (is : command_of (understood schema sql) ≡ CreateTable) (plain : IsPlain (understood schema sql)) (alone : IsAlone sql (understood schema sql)) (reads : statement_of sql (understood schema sql) ≡ text)
+module _ (schema : Schema) (sql text : List ℕ) (table : Table) (is : command_of (understood schema sql) ≡ CreateTable)
+    (plain : IsPlain (understood schema sql)) (alone : IsAlone sql (understood schema sql)) (reads : statement_of sql (understood schema sql) ≡ text)
     (it : IsMakeable schema text table) (whole : lacks_sequence (created schema table) ≡ false) where
   never_stops : (limit : Option ℕ) (db : Database) → db.schema ≡ schema → (stop : Option Error) → Does limit enforced [] db text None CreateTable (Err stop) → ⊥
   never_stops limit db has stop (inl stopped) = makes_whole schema text table it whole db has stopped.0 stopped.1
@@ -223,18 +228,23 @@ module _ (schema : Schema) (sql text : List ℕ) (table : Table) (is : command_o
     | inl excused ↦ excused
     | inr (inl (inl misplaced)) ↦ absurd (well_placed old CreateTable e tt misplaced)
     | inr (inl (inr refused)) ↦ absurd (never_stops old.step_limit old.now has (Some e) (subst (λ t. Does old.step_limit enforced [] old.now t None CreateTable (Err (Some e))) reads refused))
-    | inr (inr fails) ↦ fail_excused old new _ e (λ big. absurd (never_stops old.step_limit old.now has None (subst (λ t. Does old.step_limit enforced [] old.now t None CreateTable (Err None)) reads big))) fails
+    | inr (inr fails) ↦ fail_excused old new _ e
+        (λ big. absurd (never_stops old.step_limit old.now has None (subst (λ t. Does old.step_limit enforced [] old.now t None CreateTable (Err None)) reads big))) fails
   ]
 
 -- ---- a row is put in
 
-module _ (sql : List ℕ) (at : ℕ) (table : Table) (place : slice_get store_schema.tables at ≡ Some table) (uncounted : table.is_counted ≡ false) (terms : List Term) (width : ℕ) (source : Row) (single : value_rows (stamped table []) width (length terms / width) terms ≡ source ∷ [])
-    (idle : (row : Row) → works store_schema Enforced 0 table.tree [] (row ∷ []) ≡ []) (given : (limit : Option ℕ) (db : Database) (e : Error) → RefusesSource limit db (stamped table []) (Values terms width) e → IsSome limit)
+module _ (sql : List ℕ) (at : ℕ) (table : Table) (place : slice_get store_schema.tables at ≡ Some table) (uncounted : table.is_counted ≡ false)
+    (terms : List Term) (width : ℕ) (source : Row) (single : value_rows (stamped table []) width (length terms / width) terms ≡ source ∷ [])
+    (idle : (row : Row) → works store_schema Enforced 0 table.tree [] (row ∷ []) ≡ [])
+    (given : (limit : Option ℕ) (db : Database) (e : Error) → RefusesSource limit db (stamped table []) (Values terms width) e → IsSome limit)
     (is : command_of (understood store_schema sql) ≡ Insert at (Values terms width)) (plain : IsPlain (understood store_schema sql)) (alone : IsAlone sql (understood store_schema sql)) where
   -- an INSERT of one row that may be put in fails only with an error that is excused
-  pub put_excused : (old new : State) (e : Error) → old.now.schema ≡ store_schema → (row : Row) → with_rowid Chosen (old.now.trees table.tree) (cast_row table (drop 0 source)) ≡ row → IsPuttable table old.now.trees row → ExecutesIn true sql [] old new (Err e) → IsExcused old new e
+  pub put_excused : (old new : State) (e : Error) → old.now.schema ≡ store_schema → (row : Row) → with_rowid Chosen (old.now.trees table.tree) (cast_row table (drop 0 source)) ≡ row
+      → IsPuttable table old.now.trees row → ExecutesIn true sql [] old new (Err e) → IsExcused old new e
   put_excused old new e has row casts it h =
-      let limited = insert_stops old.step_limit table uncounted terms width source single idle (given old.step_limit) at place old.now row casts it has (statement_of sql (understood store_schema sql)) in
+      let limited =
+      insert_stops old.step_limit table uncounted terms width source single idle (given old.step_limit) at place old.now row casts it has (statement_of sql (understood store_schema sql)) in
       elim (stopped_as sql old new store_schema has (Insert at (Values terms width)) is plain alone refl e h) [
         | inl excused ↦ excused
         | inr (inl (inl misplaced)) ↦ absurd (well_placed old (Insert at (Values terms width)) e tt misplaced)
@@ -264,7 +274,8 @@ further start mid next Commits way survives opened = record { is_open = opened; 
 
 -- a statement of a batch within a transaction fails, or is done and others follow
 module _ {S : Type 0} (g : Ghosts S) (old new : Held S) (e : Error) where
-  pub turn_or_stop : (text first rest : List ℕ) → 0 < length text → take (first_len text) text ≡ first → drop (first_len text) text ≡ rest → IsTrue old.in_transaction → (schema : Schema) → (state g old).now.schema ≡ schema → (command : Command)
+  pub turn_or_stop : (text first rest : List ℕ) → 0 < length text → take (first_len text) text ≡ first → drop (first_len text) text ≡ rest
+      → IsTrue old.in_transaction → (schema : Schema) → (state g old).now.schema ≡ schema → (command : Command)
       → command_of (understood schema first) ≡ command → DoesWork command → (most : ℕ) → RunInTurn g (Some 0) (suc most) text old new (Err e)
       → ExecutesIn true first [] (state g old) (state g new) (Err e)
       ⊎ ((mid : Held S) × (count : ℕ) × Step g first old mid (Ok count) × RunInTurn g (Some 0) most rest mid new (Err e) × IsTrue mid.in_transaction)
@@ -282,4 +293,5 @@ module _ {S : Type 0} (g : Ghosts S) (old new : Held S) (e : Error) where
     where
       never_ends : EndsScope 0 first [] (state g old) → ⊥
       never_ends (k, statement, escapes) =
-          let same : k.command ≡ command = ap command_of (sym statement.is ∙ ap (λ s. understood s first) has) ∙ is in well_behaved (state g old) command work (subst (Escapes 0 (state g old)) same escapes)
+          let same : k.command ≡ command = ap command_of (sym statement.is ∙ ap (λ s. understood s first) has) ∙ is in
+          well_behaved (state g old) command work (subst (Escapes 0 (state g old)) same escapes)

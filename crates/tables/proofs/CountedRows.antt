@@ -58,19 +58,22 @@ module _ {K X : Type 0} {R : K → K → Ordering} (o : IsTotalOrder R) (exact :
   one_fewer : (m : map.FinMap R X) (p : K) (g : Option X) → map.get m p ≡ g → is_some g ≡ true → map.len m ≡ suc (map.len (map.remove m p))
   one_fewer m p None is some = absurd (true≢false (sym some))
   one_fewer m p (Some x) is some =
-      let grown : map.len (map.insert (map.remove m p) p x) ≡ map.len (map.remove m p) + 1 = map.len-insert o (map.remove m p) p x ∙ ap (λ (g : Option X). cond (is_some g) (map.len (map.remove m p)) (map.len (map.remove m p) + 1)) (gone m p) in
+      let grown : map.len (map.insert (map.remove m p) p x) ≡ map.len (map.remove m p) + 1 = map.len-insert o (map.remove m p) p x
+      ∙ ap (λ (g : Option X). cond (is_some g) (map.len (map.remove m p)) (map.len (map.remove m p) + 1)) (gone m p) in
       let back : map.len (map.insert (map.remove m p) p x) ≡ map.len m = ap map.len (put_back m p x is) in
       omega (arith, grown, back)
 
   -- a map has as many keys as there are rows, if each row names a key of it, each key has a row, and no two rows name one key
-  pub rows_counted : (rows : List Row) (m : map.FinMap R X) → ((row : Row) → Has rows row → (p : K) × Names row p × has m p) → ((p : K) → has m p → (row : Row) × Has rows row × Names row p) → IsAscending (λ a b. (p : K) → Names a p → Names b p → ⊥) rows → length rows ≡ map.len m
+  pub rows_counted : (rows : List Row) (m : map.FinMap R X) → ((row : Row) → Has rows row → (p : K) × Names row p × has m p)
+      → ((p : K) → has m p → (row : Row) × Has rows row × Names row p) → IsAscending (λ a b. (p : K) → Names a p → Names b p → ⊥) rows → length rows ≡ map.len m
   rows_counted [] m each found once = sym (ap map.len (no_keys m (λ q h. (found q h).1)) ∙ map.len-empty R X)
   rows_counted (r ∷ rows) m each found once =
       let it = each r (inl refl) in
       let p = it.0 in
       let less = map.remove m p in
       let rest : length rows ≡ map.len less = rows_counted rows less
-      (λ row there. let x = each row (inr there) in (x.0, x.1, ap (λ (g : Option X). is_some g) (without m p x.0 (λ tied. all_has (λ b. (q : K) → Names r q → Names b q → ⊥) rows row once.0 there p it.1 (subst (Names row) tied x.1))) ∙ x.2))
+      (λ row there. let x = each row (inr there) in
+      (x.0, x.1, ap (λ (g : Option X). is_some g) (without m p x.0 (λ tied. all_has (λ b. (q : K) → Names r q → Names b q → ⊥) rows row once.0 there p it.1 (subst (Names row) tied x.1))) ∙ x.2))
       (λ q h.
       let apart : q ≡ p → ⊥ = λ tied. true≢false (sym h ∙ (ap (map.contains_key less) tied ∙ ap (λ (g : Option X). is_some g) (gone m p))) in
       let f = found q (sym (ap (λ (g : Option X). is_some g) (without m p q apart)) ∙ h) in

@@ -1,5 +1,6 @@
 -- The tables as one text makes them.
-use Rattle.std.proofs.Common.{◌≡◌, ◌<◌, ◌-◌, ◌++◌, ℕ, suc, ℤ, pos, true, false, List, [], ◌∷◌, length, take, drop, Some, None, Ok, Err, Result, inl, inr, refl, sym, ap, subst, subst₂, ◌∙◌, codes, arith, IsTrue, OnOk, lit<}
+use Rattle.std.proofs.Common.{◌≡◌, ◌<◌, ◌-◌, ◌++◌, ℕ, suc, ℤ, pos, true, false, List, [], ◌∷◌, length, take, drop, Some, None}
+use Rattle.std.proofs.Common.{Ok, Err, Result, inl, inr, refl, sym, ap, subst, subst₂, ◌∙◌, codes, arith, IsTrue, OnOk, lit<}
 use Rattle.std.proofs.lemmas.Bool.{cases_Bool}
 use Rattle.sqlite.specs.declared.types.Value.TheVariants.{Null, Int, Text}
 use Rattle.sqlite_trees.specs.declared.store.Store.{Ghosts}
@@ -36,7 +37,8 @@ use Rattle.tables.specs.Made.{IsMade}
 use Rattle.tables.proofs.InsertLemmas.{went, same_value, inserted, cast_null, cast_int}
 
 -- a statement of a batch, which answers no rows
-module _ (sql : List ℕ) (old new : State) (schema : Schema) (has : old.now.schema ≡ schema) (command : Command) (is : command_of (understood schema sql) ≡ command) (plain : IsPlain (understood schema sql)) where
+module _ (sql : List ℕ) (old new : State) (schema : Schema) (has : old.now.schema ≡ schema) (command : Command)
+    (is : command_of (understood schema sql) ≡ command) (plain : IsPlain (understood schema sql)) where
   pub ran_as : (count : ℕ) → ExecutesIn true sql [] old new (Ok count) → Runs old new None command (statement_of sql (understood schema sql)) [] count
   unfolding ExecutesIn
   ran_as count h =
@@ -54,13 +56,19 @@ module _ {S : Type 0} (g : Ghosts S) (old new : Held S) where
       → (mid : Held S) × (count : ℕ) × ExecutesIn true first [] (state g old) (state g mid) (Ok count) × RunInTurn g (Some 0) most rest mid new (Ok tt) × IsTrue mid.in_transaction
   turn [] first rest long a b most h = absurd (omega arith)
   turn (c ∷ more) first rest long a b most (inl stopped) = absurd (let e = stopped.1 in cc)
-  turn (c ∷ more) first rest long a b most (inr went_on) =
-      (went_on.0, went_on.1, subst (λ t. ExecutesIn true t [] (state g old) (state g went_on.0) (Ok went_on.1)) a went_on.2.runs, subst (λ t. RunInTurn g (Some 0) most t went_on.0 new (Ok tt)) b went_on.3, went_on.4.0)
+  turn (c ∷ more) first rest long a b most (inr went_on) = (
+    went_on.0,
+    went_on.1,
+    subst (λ t. ExecutesIn true t [] (state g old) (state g went_on.0) (Ok went_on.1)) a went_on.2.runs,
+    subst (λ t. RunInTurn g (Some 0) most t went_on.0 new (Ok tt)) b went_on.3,
+    went_on.4.0,
+  )
 
 module _ (schema next : Schema) (sql : List ℕ) (table : Table) (is : command_of (understood schema sql) ≡ CreateTable) (plain : IsPlain (understood schema sql))
     (defined : table_defined_by (statement_of sql (understood schema sql)) ≡ Ok table) (becomes : created schema table ≡ next) (whole : lacks_sequence next ≡ false) where
   -- a statement that makes a table leads to the next schema, with the new table empty and the rows of the others as they were
-  pub makes : (old new : State) (count : ℕ) → old.now.schema ≡ schema → ExecutesIn true sql [] old new (Ok count) → (new.now.schema ≡ next) × (new.now.trees (next_tree schema) ≡ []) × KeepsRows schema.tables old.now.trees new.now.trees
+  pub makes : (old new : State) (count : ℕ) → old.now.schema ≡ schema → ExecutesIn true sql [] old new (Ok count)
+      → (new.now.schema ≡ next) × (new.now.trees (next_tree schema) ≡ []) × KeepsRows schema.tables old.now.trees new.now.trees
   makes old new count has h =
       let w = ran_as sql old new schema has CreateTable is plain count h in
       let all = went w.changed in
@@ -165,23 +173,28 @@ pub cut7 : (take (first_len text7) text7 ≡ first7) × (drop (first_len text7) 
 unfolding everything
 cut7 = (refl, refl)
 
-pub make1 : (command_of (understood schema0 first1) ≡ CreateTable) × IsPlain (understood schema0 first1) × (table_defined_by (statement_of first1 (understood schema0 first1)) ≡ Ok (record meta_table { tree = 0 })) × (created schema0 (record meta_table { tree = 0 }) ≡ schema1)
+pub make1 : (command_of (understood schema0 first1) ≡ CreateTable) × IsPlain (understood schema0 first1)
+    × (table_defined_by (statement_of first1 (understood schema0 first1)) ≡ Ok (record meta_table { tree = 0 })) × (created schema0 (record meta_table { tree = 0 }) ≡ schema1)
 unfolding understood everything
 make1 = (refl, (refl, refl), refl, refl)
 
-pub make2 : (command_of (understood schema1 first2) ≡ CreateTable) × IsPlain (understood schema1 first2) × (table_defined_by (statement_of first2 (understood schema1 first2)) ≡ Ok (record shelf_table { tree = 0 })) × (created schema1 (record shelf_table { tree = 0 }) ≡ schema2)
+pub make2 : (command_of (understood schema1 first2) ≡ CreateTable) × IsPlain (understood schema1 first2)
+    × (table_defined_by (statement_of first2 (understood schema1 first2)) ≡ Ok (record shelf_table { tree = 0 })) × (created schema1 (record shelf_table { tree = 0 }) ≡ schema2)
 unfolding understood everything
 make2 = (refl, (refl, refl), refl, refl)
 
-pub make3 : (command_of (understood schema2 first3) ≡ CreateTable) × IsPlain (understood schema2 first3) × (table_defined_by (statement_of first3 (understood schema2 first3)) ≡ Ok (record access_table { tree = 0 })) × (created schema2 (record access_table { tree = 0 }) ≡ schema3)
+pub make3 : (command_of (understood schema2 first3) ≡ CreateTable) × IsPlain (understood schema2 first3)
+    × (table_defined_by (statement_of first3 (understood schema2 first3)) ≡ Ok (record access_table { tree = 0 })) × (created schema2 (record access_table { tree = 0 }) ≡ schema3)
 unfolding understood everything
 make3 = (refl, (refl, refl), refl, refl)
 
-pub make4 : (command_of (understood schema3 first4) ≡ CreateTable) × IsPlain (understood schema3 first4) × (table_defined_by (statement_of first4 (understood schema3 first4)) ≡ Ok (record version_table { tree = 0 })) × (created schema3 (record version_table { tree = 0 }) ≡ schema4)
+pub make4 : (command_of (understood schema3 first4) ≡ CreateTable) × IsPlain (understood schema3 first4)
+    × (table_defined_by (statement_of first4 (understood schema3 first4)) ≡ Ok (record version_table { tree = 0 })) × (created schema3 (record version_table { tree = 0 }) ≡ schema4)
 unfolding understood everything
 make4 = (refl, (refl, refl), refl, refl)
 
-pub make5 : (command_of (understood schema4 first5) ≡ CreateTable) × IsPlain (understood schema4 first5) × (table_defined_by (statement_of first5 (understood schema4 first5)) ≡ Ok (record piece_table { tree = 0 })) × (created schema4 (record piece_table { tree = 0 }) ≡ schema5)
+pub make5 : (command_of (understood schema4 first5) ≡ CreateTable) × IsPlain (understood schema4 first5)
+    × (table_defined_by (statement_of first5 (understood schema4 first5)) ≡ Ok (record piece_table { tree = 0 })) × (created schema4 (record piece_table { tree = 0 }) ≡ schema5)
 unfolding understood everything
 make5 = (refl, (refl, refl), refl, refl)
 
@@ -221,7 +234,8 @@ means db r = record {
     found = λ it same. (meta_row, inl refl, (ap (λ (x : List ℕ × ℤ). Text x.0) (sym same), ap (λ (x : List ℕ × ℤ). Int x.1) (sym same)));
   });
   shelves = rw r.shelf (record {
-    each = λ row there. elim there [ inl same ↦ ((codes "common", None), (ap (λ (x : Row). column x 1) same, ap (λ (x : Row). column x 2) same), get_put texts_total map.empty common None) | inr none ↦ absurd none ];
+    each = λ row there. elim there
+        [ inl same ↦ ((codes "common", None), (ap (λ (x : Row). column x 1) same, ap (λ (x : Row). column x 2) same), get_put texts_total map.empty common None) | inr none ↦ absurd none ];
     found = λ it holds. let same = only_one common None it.0 it.1 holds in (common_row, inl refl, (ap Text (sym same.0), ap (or_null Text) same.1));
   });
   access = rw r.access (record { each = λ row none. absurd none; found = λ x some. absurd (none_in_empty text_cmp x.0 x.1 some) });
@@ -238,20 +252,36 @@ pub put_meta : (old new : State) (count : ℕ) → old.now.schema ≡ store_sche
     × (new.now.trees 8 ≡ old.now.trees 8)
 put_meta old new count has none h =
     let w = ran_as first6 old new store_schema has _ put6.0 put6.1 count h in
-    let it = inserted old.step_limit meta_table refl [] meta_terms 3 meta_source refl (λ _. refl) 0 refl old.now [] w.tally new.now has w.changed in
-    (it.0, rw none at (rw (cast_null, cast_int schema_named.1) at it.1.rows), it.1.tables.1.0 (λ e. omega (arith, e)), it.1.tables.1.1.0 (λ e. omega (arith, e)), it.1.tables.1.1.1.0 (λ e. omega (arith, e)), it.1.tables.1.1.1.1.0 (λ e. omega (arith, e)))
+    let it = inserted old.step_limit meta_table refl [] meta_terms 3 meta_source refl (λ _. refl) 0 refl old.now [] w.tally new.now has w.changed in (
+      it.0,
+      rw none at (rw (cast_null, cast_int schema_named.1) at it.1.rows),
+      it.1.tables.1.0 (λ e. omega (arith, e)),
+      it.1.tables.1.1.0 (λ e. omega (arith, e)),
+      it.1.tables.1.1.1.0 (λ e. omega (arith, e)),
+      it.1.tables.1.1.1.1.0 (λ e. omega (arith, e)),
+    )
 
 put_common : (old new : State) (count : ℕ) → old.now.schema ≡ store_schema → old.now.trees 2 ≡ [] → ExecutesIn true first7 [] old new (Ok count)
     → (new.now.schema ≡ store_schema) × (new.now.trees 2 ≡ common_row ∷ []) × (new.now.trees 4 ≡ old.now.trees 4) × (new.now.trees 6 ≡ old.now.trees 6)
     × (new.now.trees 0 ≡ old.now.trees 0) × IsDatabase new.now × IsTrue new.is_open × (new.now.trees 8 ≡ old.now.trees 8)
 put_common old new count has none h =
     let w = ran_as first7 old new store_schema has _ put7.0 put7.1 count h in
-    let it = inserted old.step_limit shelf_table refl [] (lit Null ∷ lit (Text (codes "common")) ∷ lit Null ∷ []) 3 (Null ∷ Text (codes "common") ∷ Null ∷ []) refl (λ _. refl) 1 refl old.now [] w.tally new.now has w.changed in
-    (it.0, rw none at (rw cast_null at it.1.rows), it.1.tables.1.1.0 (λ e. omega (arith, e)), it.1.tables.1.1.1.0 (λ e. omega (arith, e)), it.1.tables.0 (λ e. omega (arith, e)), w.sound, w.shown.is_open, it.1.tables.1.1.1.1.0 (λ e. omega (arith, e)))
+    let it = inserted old.step_limit shelf_table refl [] (lit Null ∷ lit (Text (codes "common")) ∷ lit Null ∷ []) 3 (Null ∷ Text (codes "common") ∷ Null ∷ []) refl
+    (λ _. refl) 1 refl old.now [] w.tally new.now has w.changed in (
+      it.0,
+      rw none at (rw cast_null at it.1.rows),
+      it.1.tables.1.1.0 (λ e. omega (arith, e)),
+      it.1.tables.1.1.1.0 (λ e. omega (arith, e)),
+      it.1.tables.0 (λ e. omega (arith, e)),
+      w.sound,
+      w.shown.is_open,
+      it.1.tables.1.1.1.1.0 (λ e. omega (arith, e)),
+    )
 
 module _ {S : Type 0} (g : Ghosts S) (old new : Held S) where
   -- after all statements ran within a transaction on an empty connection, the tables are made
-  pub all_made : KeepsCommit (state g old) (state g new) → IsTrue new.in_transaction → (state g old).now.schema ≡ no_schema → ExecutesAllInside g 0 text1 old new (Ok tt) → IsMade (state g old) (state g new)
+  pub all_made : KeepsCommit (state g old) (state g new) → IsTrue new.in_transaction → (state g old).now.schema ≡ no_schema
+      → ExecutesAllInside g 0 text1 old new (Ok tt) → IsMade (state g old) (state g new)
   unfolding ExecutesAllInside
   all_made kept inside has run =
       let a = turn g old new text1 first1 text2 (lit< tt) cut1.0 cut1.1 (length text1 - 1) run in
@@ -286,7 +316,8 @@ module _ {S : Type 0} (g : Ghosts S) (old new : Held S) where
         inside = inside;
       }
 
-  pub made_if : (r : Result (Unit {0}) Error) → ExecutesAllInside g 0 text1 old new r → KeepsCommit (state g old) (state g new) → OnOk r ((state g new).in_transaction ≡ (state g old).in_transaction) → IsTrue old.in_transaction
+  pub made_if : (r : Result (Unit {0}) Error) → ExecutesAllInside g 0 text1 old new r → KeepsCommit (state g old) (state g new)
+      → OnOk r ((state g new).in_transaction ≡ (state g old).in_transaction) → IsTrue old.in_transaction
       → (state g old).now.schema ≡ no_schema → OnOk r (IsMade (state g old) (state g new))
   made_if (Err e) run kept same inside has = tt
   made_if (Ok u) run kept same inside has = all_made kept (same ∙ inside) has run

@@ -34,6 +34,7 @@ failed_query sql params old new e (inl h) = not_run old new sql params e h
 failed_query sql params old new e (inr h) = failed_show sql old new e h.0 (timed params h.0.formats h.1.now) h.0.returning h.2
 
 -- a commit that failed goes back to what was committed before
-pub undone_now : (begun last exit : State) (e : Error) → KeepsCommit begun last → IsTrue last.in_transaction → FailsToCommit last exit e → IsTrue exit.is_open → IsTrue begun.is_open × (exit.now ≡ begun.committed)
+pub undone_now : (begun last exit : State) (e : Error) → KeepsCommit begun last → IsTrue last.in_transaction
+    → FailsToCommit last exit e → IsTrue exit.is_open → IsTrue begun.is_open × (exit.now ≡ begun.committed)
 undone_now begun last exit e keeps inside (inl fails) shown = (keeps.was_open (fails.3.was_open shown), (fails.3.undone shown).0 ∙ keeps.committed (fails.3.was_open shown))
 undone_now begun last exit e keeps inside (inr late) shown = absurd (true≢false (sym inside ∙ late.1))

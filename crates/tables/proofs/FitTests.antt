@@ -1,5 +1,6 @@
 -- What the walks over the rows of the tables tell.
-use Rattle.std.proofs.Common.{◌≡◌, ◌≤◌, ◌++◌, ◌||◌, ◌⊎◌, ℕ, Bool, true, false, List, [], ◌∷◌, map, Option, Some, None, Ok, Err, Result, OnOk, IfOk, inl, inr, refl, sym, ap, subst, ◌∙◌, arith, Decides, true≢false, append_assoc, Less, Equal, IsPermutation}
+use Rattle.std.proofs.Common.{◌≡◌, ◌≤◌, ◌++◌, ◌||◌, ◌⊎◌, ℕ, Bool, true, false, List, [], ◌∷◌, map, Option, Some, None, Ok, Err, Result, OnOk}
+use Rattle.std.proofs.Common.{IfOk, inl, inr, refl, sym, ap, subst, ◌∙◌, arith, Decides, true≢false, append_assoc, Less, Equal, IsPermutation}
 use Rattle.std.specs.Prelude.{Contains}
 use Rattle.std.specs.List.{list_all}
 use Rattle.std.specs.FinSet as set
@@ -41,12 +42,14 @@ use Rattle.tables.specs.declared.fit.NumberRows.{NumberRows}
 use Rattle.tables.specs.declared.fit.EntryRows.{EntryRows}
 use Rattle.tables.proofs.Texts.{meta_rows_text, shelf_rows_text, key_rows_text, number_rows_text, entry_rows_text}
 use Rattle.tables.proofs.Ascending.{has_permuted, Adjacent, adjacent_both, adjacent_among, ascends, ascends_permuted, across, apart_below, filter_permuted}
-use Rattle.tables.proofs.ListingLemmas.{all_listed, first_listed, meta_rows_is, shelf_rows_is, key_rows_is, number_rows_is, entry_rows_is, meta_listed, shelves_listed, keys_listed, numbers_listed, entries_listed, InOrder, shelves_in_order, keys_in_order, numbers_in_order, entries_in_order, place_columns}
+use Rattle.tables.proofs.ListingLemmas.{all_listed, first_listed, meta_rows_is, shelf_rows_is, key_rows_is, number_rows_is, entry_rows_is, meta_listed, shelves_listed}
+use Rattle.tables.proofs.ListingLemmas.{keys_listed, numbers_listed, entries_listed, InOrder, shelves_in_order, keys_in_order, numbers_in_order, entries_in_order, place_columns}
 use Rattle.tables.proofs.RunLemmas.{adjacent_apart, last_of, many_on, many_more, push_on, run_within, few_in_all}
 
 -- ---- a walk as a test
 
-pub told : (old new : State) (b : Bool) (P : Trees → Type 0) → Looks old new → (HasCleanDisk new → old.now.schema ≡ store_schema → IsUnchanged old new) → (HasCleanDisk new → old.now.schema ≡ store_schema → Decides b (P old.now.trees)) → Tests old new (Ok b) P
+pub told : (old new : State) (b : Bool) (P : Trees → Type 0) → Looks old new → (HasCleanDisk new → old.now.schema ≡ store_schema → IsUnchanged old new)
+    → (HasCleanDisk new → old.now.schema ≡ store_schema → Decides b (P old.now.trees)) → Tests old new (Ok b) P
 told old new b P looks same answer = record { looks = looks; same = same; answer = answer }
 
 pub no_answer : (old new : State) (e : Error) (P : Trees → Type 0) → Looks old new → Tests old new (Err e) P
@@ -66,7 +69,8 @@ walked Fits Keeps sql old new (Ok true) start end P looks same answer yes' no' =
 walked Fits Keeps sql old new (Ok false) start end P looks same answer yes' no' = told old new false P looks same (λ clean has. refused (no' (answer clean has)))
 walked Fits Keeps sql old new (Err e) start end P looks same answer yes' no' = no_answer old new e P looks
 
-pub pass_each : {X : Type 0} (Fits : X → Row → Type 0) (Keeps : X → Row → X → Type 0) (start : X) (rows : List Row) (end : X) → Pass Fits Keeps start rows end → (row : Row) → Has rows row → (x : X) × Fits x row
+pub pass_each : {X : Type 0} (Fits : X → Row → Type 0) (Keeps : X → Row → X → Type 0) (start : X) (rows : List Row) (end : X)
+    → Pass Fits Keeps start rows end → (row : Row) → Has rows row → (x : X) × Fits x row
 pass_each {X} Fits Keeps start [] end p row there = absurd there
 pass_each {X} Fits Keeps start (r ∷ rows) end p row (inl same) = (start, subst (Fits start) (sym same) p.0)
 pass_each {X} Fits Keeps start (r ∷ rows) end p row (inr later) = pass_each Fits Keeps p.1 rows end p.3 row later
@@ -139,7 +143,8 @@ module _ {T K : Type 0} {R : K → K → Ordering} (total : IsTotalOrder R) (exa
       let apart = adjacent_apart OnceFits OnceKeeps last key (λ x row next keeps. keeps) (λ x row fits. fits.1) start rows end p in
       let each = λ (r : Row) (there : Has rows r). (pass_each OnceFits OnceKeeps start rows end p r there).1.0 in
       let upto = adjacent_among _ (λ a b. is_lt (R (key b) (key a)) ≡ false) rows (λ a b here there h. ap is_lt (sym (in_order b a (each b there) (each a here))) ∙ h) sorted in
-      ascends (λ a b. R (key a) (key b) ≡ Less) (λ a b c. total.trans (key a) (key b) (key c)) rows (adjacent_both _ _ _ (λ a b upto apart. apart_below total exact (key a) (key b) upto apart) rows upto apart)
+      ascends (λ a b. R (key a) (key b) ≡ Less)
+      (λ a b c. total.trans (key a) (key b) (key c)) rows (adjacent_both _ _ _ (λ a b upto apart. apart_below total exact (key a) (key b) upto apart) rows upto apart)
 
   once_true : (start end : T) (rows all : List Row) → IsPermutation all rows → InOrder rows → Pass OnceFits OnceKeeps start rows end → Fit.AreOnce IsRow key all
   once_true start end rows all same sorted p =
@@ -150,7 +155,8 @@ module _ {T K : Type 0} {R : K → K → Ordering} (total : IsTotalOrder R) (exa
       }
 
   -- if a row did not pass, the rows are not all of this form with a key of its own each
-  once_false : (start kept : T) → last start ≡ None → (rows : List Row) (row : Row) (tail all : List Row) → IsPermutation all ((rows ++ row ∷ []) ++ tail) → Pass OnceFits OnceKeeps start rows kept → (OnceFits kept row → ⊥) → Fit.AreOnce IsRow key all → ⊥
+  once_false : (start kept : T) → last start ≡ None → (rows : List Row) (row : Row) (tail all : List Row) → IsPermutation all ((rows ++ row ∷ []) ++ tail)
+      → Pass OnceFits OnceKeeps start rows kept → (OnceFits kept row → ⊥) → Fit.AreOnce IsRow key all → ⊥
   once_false start kept new rows row tail all same p unfit fit =
       let once = ascends_permuted KeysApart turned all _ same fit.once in
       unfit (
@@ -194,12 +200,14 @@ module _ (db : Database) where
   pub numbers_true : (start end : NumberRows) → Walks NumberFits NumberKeeps number_rows_text db start end true → Fit.AreNumbersFit (map Fit.number_shown (db.trees 4))
   numbers_true start end w =
       let it = all_listed number_rows_text _ _ _ _ number_rows_is db w.0 w.1 in
-      once_true int_cmp_total int_cmp-IsAntisymmetric Fit.IsNumberRow Fit.number_in (λ (x : NumberRows). x.last) ints_in_order start end w.0 _ (numbers_listed db.trees w.0 it) (numbers_in_order db.trees w.0 it) w.2
+      once_true int_cmp_total int_cmp-IsAntisymmetric Fit.IsNumberRow Fit.number_in
+      (λ (x : NumberRows). x.last) ints_in_order start end w.0 _ (numbers_listed db.trees w.0 it) (numbers_in_order db.trees w.0 it) w.2
 
   pub numbers_false : (start end : NumberRows) → start.last ≡ None → Walks NumberFits NumberKeeps number_rows_text db start end false → Fit.AreNumbersFit (map Fit.number_shown (db.trees 4)) → ⊥
   numbers_false start end new w =
       let first = first_listed number_rows_text _ _ _ _ number_rows_is db (w.0 ++ w.1 ∷ []) w.3 in
-      once_false int_cmp_total int_cmp-IsAntisymmetric Fit.IsNumberRow Fit.number_in (λ (x : NumberRows). x.last) ints_in_order start w.2 new w.0 w.1 first.0 _ (numbers_listed db.trees _ first.1) w.4 w.5
+      once_false int_cmp_total int_cmp-IsAntisymmetric Fit.IsNumberRow Fit.number_in
+      (λ (x : NumberRows). x.last) ints_in_order start w.2 new w.0 w.1 first.0 _ (numbers_listed db.trees _ first.1) w.4 w.5
 
 -- ---- shelf
 
@@ -239,7 +247,8 @@ top_stays (Real x) t u s h = h
 top_stays (Text x) t u s h = h
 top_stays (Blob x) t u s h = h
 
-tops_from : (start : ShelfRows) (rows : List Row) (end : ShelfRows) → Pass ShelfFits ShelfKeeps start rows end → (u : List ℕ) → set.contains end.tops u ≡ true → (set.contains start.tops u ≡ true) ⊎ Fit.HasTop rows u
+tops_from : (start : ShelfRows) (rows : List Row) (end : ShelfRows) → Pass ShelfFits ShelfKeeps start rows end
+    → (u : List ℕ) → set.contains end.tops u ≡ true → (set.contains start.tops u ≡ true) ⊎ Fit.HasTop rows u
 tops_from start [] end p u h = inl (ap (λ (x : ShelfRows). set.contains x.tops u) (sym p) ∙ h)
 tops_from start (r ∷ rows) end p u h = elim (tops_from p.1 rows end p.3 u h) [
   | inl here ↦ elim (top_from (column r 1) (Fit.key_in r) u start.tops (sym (ap (λ s. set.contains s u) p.2.1.0) ∙ here)) [
@@ -253,7 +262,8 @@ tops_stay : (start : ShelfRows) (rows : List Row) (end : ShelfRows) → Pass She
 tops_stay start [] end p u h = ap (λ (x : ShelfRows). set.contains x.tops u) p ∙ h
 tops_stay start (r ∷ rows) end p u h = tops_stay p.1 rows end p.3 u (ap (λ s. set.contains s u) p.2.1.0 ∙ top_stays (column r 1) (Fit.key_in r) u start.tops h)
 
-tops_noted : (start : ShelfRows) (rows : List Row) (end : ShelfRows) → Pass ShelfFits ShelfKeeps start rows end → (u : List ℕ) (r : Row) → Has rows r → column r 0 ≡ Text u → column r 1 ≡ Null → set.contains end.tops u ≡ true
+tops_noted : (start : ShelfRows) (rows : List Row) (end : ShelfRows) → Pass ShelfFits ShelfKeeps start rows end
+    → (u : List ℕ) (r : Row) → Has rows r → column r 0 ≡ Text u → column r 1 ≡ Null → set.contains end.tops u ≡ true
 tops_noted start [] end p u r there named none = absurd there
 tops_noted start (x ∷ rows) end p u r (inl same) named none =
     let name : Fit.key_in x ≡ u = ap (λ y. Fit.key_in y) (sym same) ∙ ap Fit.text_in named in
@@ -281,18 +291,21 @@ put_stays (Real x) u s h = h
 put_stays (Text t) u s h = still s t u h
 put_stays (Blob x) u s h = h
 
-parents_from : (start : ShelfRows) (rows : List Row) (end : ShelfRows) → Pass ShelfFits ShelfKeeps start rows end → (u : List ℕ) → set.contains end.parents u ≡ true → (set.contains start.parents u ≡ true) ⊎ HasParent rows u
+parents_from : (start : ShelfRows) (rows : List Row) (end : ShelfRows) → Pass ShelfFits ShelfKeeps start rows end
+    → (u : List ℕ) → set.contains end.parents u ≡ true → (set.contains start.parents u ≡ true) ⊎ HasParent rows u
 parents_from start [] end p u h = inl (ap (λ (x : ShelfRows). set.contains x.parents u) (sym p) ∙ h)
 parents_from start (r ∷ rows) end p u h = elim (parents_from p.1 rows end p.3 u h) [
   | inl here ↦ elim (put_from (column r 1) u start.parents (sym (ap (λ s. set.contains s u) p.2.1.1) ∙ here)) [ inl it ↦ inr (r, inl refl, it) | inr old ↦ inl old ]
   | inr later ↦ inr (later.0, inr later.1, later.2)
 ]
 
-parents_stay : (start : ShelfRows) (rows : List Row) (end : ShelfRows) → Pass ShelfFits ShelfKeeps start rows end → (u : List ℕ) → set.contains start.parents u ≡ true → set.contains end.parents u ≡ true
+parents_stay : (start : ShelfRows) (rows : List Row) (end : ShelfRows) → Pass ShelfFits ShelfKeeps start rows end
+    → (u : List ℕ) → set.contains start.parents u ≡ true → set.contains end.parents u ≡ true
 parents_stay start [] end p u h = ap (λ (x : ShelfRows). set.contains x.parents u) p ∙ h
 parents_stay start (r ∷ rows) end p u h = parents_stay p.1 rows end p.3 u (ap (λ s. set.contains s u) p.2.1.1 ∙ put_stays (column r 1) u start.parents h)
 
-parents_noted : (start : ShelfRows) (rows : List Row) (end : ShelfRows) → Pass ShelfFits ShelfKeeps start rows end → (u : List ℕ) (r : Row) → Has rows r → column r 1 ≡ Text u → set.contains end.parents u ≡ true
+parents_noted : (start : ShelfRows) (rows : List Row) (end : ShelfRows) → Pass ShelfFits ShelfKeeps start rows end
+    → (u : List ℕ) (r : Row) → Has rows r → column r 1 ≡ Text u → set.contains end.parents u ≡ true
 parents_noted start [] end p u r there is = absurd there
 parents_noted start (x ∷ rows) end p u r (inl same) is =
     let at : column x 1 ≡ Text u = ap (λ y. column y 1) (sym same) ∙ is in
@@ -347,7 +360,8 @@ module _ (db : Database) (start end : ShelfRows) (new : (u : List ℕ) → set.c
   pub shelves_false : start.last ≡ None → Walks ShelfFits ShelfKeeps shelf_rows_text db start end false → Fit.AreShelvesFit (map Fit.shelf_shown (db.trees 2)) → ⊥
   shelves_false fresh w fit =
       let first = first_listed shelf_rows_text _ _ _ _ shelf_rows_is db (w.0 ++ w.1 ∷ []) w.3 in
-      once_false texts_total texts_exact Fit.IsShelfRow Fit.key_in (λ (x : ShelfRows). x.last) shelf_names_in_order start w.2 fresh w.0 w.1 first.0 _ (shelves_listed db.trees _ first.1) (shelf_last start w.0 w.2 w.4) w.5 fit.shelves
+      once_false texts_total texts_exact Fit.IsShelfRow Fit.key_in
+      (λ (x : ShelfRows). x.last) shelf_names_in_order start w.2 fresh w.0 w.1 first.0 _ (shelves_listed db.trees _ first.1) (shelf_last start w.0 w.2 w.4) w.5 fit.shelves
 
 -- ---- version
 
@@ -373,7 +387,8 @@ placed : (row : Row) → Fit.IsEntryRow row → IsPlaced row
 placed row it = (held_text (column row 0) it.0.shelf it.2.shelf, held_text (column row 1) it.0.path it.2.path, held_text (column row 2) it.0.version it.2.version)
 
 -- places in SQL's order are in ours
-places_in_order : (a b : Row) → IsPlaced a → IsPlaced b → key_cmp 0 (ascending Binary ∷ ascending Binary ∷ ascending Binary ∷ []) (place_columns a) (place_columns b) ≡ place_cmp (Fit.place_in a) (Fit.place_in b)
+places_in_order : (a b : Row) → IsPlaced a → IsPlaced b
+    → key_cmp 0 (ascending Binary ∷ ascending Binary ∷ ascending Binary ∷ []) (place_columns a) (place_columns b) ≡ place_cmp (Fit.place_in a) (Fit.place_in b)
 places_in_order a b one two = rw (one.0, one.1, one.2, two.0, two.1, two.2)
     (λ i. ordering_then (value_cmp-Text (Fit.place_in a).shelf (Fit.place_in b).shelf i)
     (ordering_then (value_cmp-Text (Fit.place_in a).path (Fit.place_in b).path i)
@@ -384,12 +399,15 @@ may_differ None many q may is = let e = is in absurd (cc)
 may_differ (Some p) many q may is = may.0 (let e = is in cc)
 
 module _ (db : Database) (start end : EntryRows) where
-  entries_rise : (rows : List Row) → Adjacent (λ a b. is_lt (key_cmp 0 (ascending Binary ∷ ascending Binary ∷ ascending Binary ∷ []) (place_columns b) (place_columns a)) ≡ false) rows → Pass EntryFits EntryKeeps start rows end
+  entries_rise : (rows : List Row) → Adjacent (λ a b. is_lt (key_cmp 0 (ascending Binary ∷ ascending Binary ∷ ascending Binary ∷ []) (place_columns b) (place_columns a)) ≡ false) rows
+      → Pass EntryFits EntryKeeps start rows end
       → IsAscending (λ a b. place_cmp (Fit.place_in a) (Fit.place_in b) ≡ Less) rows
   entries_rise rows sorted p =
-      let apart = adjacent_apart EntryFits EntryKeeps (λ (x : EntryRows). x.last) Fit.place_in (λ x row next keeps. keeps.0) (λ x row fits. may_differ x.last x.many (Fit.place_in row) fits.1) start rows end p in
+      let apart = adjacent_apart EntryFits EntryKeeps (λ (x : EntryRows). x.last) Fit.place_in (λ x row next keeps. keeps.0)
+      (λ x row fits. may_differ x.last x.many (Fit.place_in row) fits.1) start rows end p in
       let each = λ (r : Row) (there : Has rows r). placed r (pass_each EntryFits EntryKeeps start rows end p r there).1.0 in
-      let upto = adjacent_among _ (λ a b. is_lt (place_cmp (Fit.place_in b) (Fit.place_in a)) ≡ false) rows (λ a b here there h. ap is_lt (sym (places_in_order b a (each b there) (each a here))) ∙ h) sorted in
+      let upto =
+      adjacent_among _ (λ a b. is_lt (place_cmp (Fit.place_in b) (Fit.place_in a)) ≡ false) rows (λ a b here there h. ap is_lt (sym (places_in_order b a (each b there) (each a here))) ∙ h) sorted in
       ascends (λ a b. place_cmp (Fit.place_in a) (Fit.place_in b) ≡ Less) (λ a b c. places_total.trans (Fit.place_in a) (Fit.place_in b) (Fit.place_in c)) rows
       (adjacent_both _ _ _ (λ a b upto apart. apart_below places_total places_exact (Fit.place_in a) (Fit.place_in b) upto apart) rows upto apart)
 
@@ -417,7 +435,8 @@ module _ (db : Database) (start end : EntryRows) where
       let few = λ (s p : List ℕ). subst (λ n. n ≤ version_limit) (sym (filter_permuted (λ row. Fit.is_on s p (Fit.place_in row)) _ _ same)) (fit.few s p) in
       w.5 (fit.each w.1 (has_permuted _ _ w.1 same (at_place w.0 first.0 w.1)), follows w first.0 once few w.2.last refl)
     where
-      follows : (w : Walks EntryFits EntryKeeps entry_rows_text db start end false) (tail : List Row) → IsAscending PlacesApart ((w.0 ++ w.1 ∷ []) ++ tail) → ((s p : List ℕ) → many_on s p ((w.0 ++ w.1 ∷ []) ++ tail) ≤ version_limit)
+      follows : (w : Walks EntryFits EntryKeeps entry_rows_text db start end false) (tail : List Row)
+          → IsAscending PlacesApart ((w.0 ++ w.1 ∷ []) ++ tail) → ((s p : List ℕ) → many_on s p ((w.0 ++ w.1 ∷ []) ++ tail) ≤ version_limit)
           → (o : Option Place) → w.2.last ≡ o → MayFollow o w.2.many (Fit.place_in w.1)
       follows w tail once few None is = tt
       follows w tail once few (Some p) is =
@@ -427,7 +446,8 @@ module _ (db : Database) (start end : EntryRows) where
               | inr it ↦ after_all PlacesApart w.0 tail row it.0 once it.1 (it.2 ∙ same)
             ],
             λ on.
-                let run = run_within EntryFits EntryKeeps (λ (x : EntryRows). x.last) (λ (x : EntryRows). x.many) (λ x row next keeps. keeps) [] start w.0 w.2 (λ q old. absurd (let e = sym new ∙ old in cc)) w.4 p is in
+                let run = run_within EntryFits EntryKeeps (λ (x : EntryRows). x.last) (λ (x : EntryRows). x.many)
+                (λ x row next keeps. keeps) [] start w.0 w.2 (λ q old. absurd (let e = sym new ∙ old in cc)) w.4 p is in
                 let more = push_on p.shelf p.path w.0 row on in
                 let all = many_more p.shelf p.path (w.0 ++ row ∷ []) tail in
                 let most = few p.shelf p.path in

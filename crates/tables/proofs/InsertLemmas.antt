@@ -1,5 +1,6 @@
 -- What an INSERT of one row does, in a table that neither counts its rows nor stamps them.
-use Rattle.std.proofs.Common.{◌≡◌, ◌⊎◌, ◌/◌, ℕ, ℤ, Bool, true, false, cond, List, [], ◌∷◌, length, drop, slice_get, Option, Some, None, Ok, Err, Result, inl, inr, refl, sym, ap, subst, ◌∙◌, MatchBool, is_lt, int_cmp}
+use Rattle.std.proofs.Common.{◌≡◌, ◌⊎◌, ◌/◌, ℕ, ℤ, Bool, true, false, cond, List, [], ◌∷◌, length, drop, slice_get, Option}
+use Rattle.std.proofs.Common.{Some, None, Ok, Err, Result, inl, inr, refl, sym, ap, subst, ◌∙◌, MatchBool, is_lt, int_cmp}
 use Rattle.sqlite.specs.Order.{Row}
 use Rattle.sqlite.specs.Term.{Term}
 use Rattle.sqlite.specs.Tree.{Trees, rowid}
@@ -62,13 +63,16 @@ module _ (limit : Option ℕ) (table : Table) (uncounted : table.is_counted ≡ 
         let written = went counter.2 in
         let counted = went written.2 in
         let trees : done.trees ≡ written.0 = ap (λ (it : Written). it.trees) (same_value counted.2) ∙ not_counted written.0 counted.0 counter.0 _ counted.1 in
-        let edit : edit_of db table [] (rowids_for table (count_of counter.0)) 0 given.0 ≡ edit_of db table [] Chosen 0 (source ∷ []) = λ i. edit_of db table [] (numbers (count_of counter.0) i) 0 (rows i) in
-        let applies = one_step store_schema Enforced db written.0 (edit_of db table [] Chosen 0 (source ∷ [])) (idle (new_row db)) (subst (λ e. Writes store_schema Enforced db e (Ok written.0)) edit written.1) in (
+        let edit : edit_of db table [] (rowids_for table (count_of counter.0)) 0 given.0 ≡ edit_of db table [] Chosen 0 (source ∷ []) =
+        λ i. edit_of db table [] (numbers (count_of counter.0) i) 0 (rows i) in
+        let applies = one_step store_schema Enforced db written.0 (edit_of db table [] Chosen 0 (source ∷ []))
+        (idle (new_row db)) (subst (λ e. Writes store_schema Enforced db e (Ok written.0)) edit written.1) in (
           subst (λ t. Inserted db t table (new_row db)) (sym trees) (record { fresh = applies.fresh; rows = applies.rows; tables = applies.tables }),
           ap (λ (it : Written). it.last) (same_value counted.2) ∙ ap (λ (e : Edit). last_id e.news) edit,
         )
 
-    concluded : (at : ℕ) (db : Trees) (tally : Tally) (after : Database) → OnRows task enforced None (Insert at (Values terms width)) db (Ok (tally, after)) → (after.schema ≡ store_schema) × Inserted db after.trees table (new_row db) × (tally.last ≡ Some (id_in (rowid (new_row db))))
+    concluded : (at : ℕ) (db : Trees) (tally : Tally) (after : Database) → OnRows task enforced None (Insert at (Values terms width)) db (Ok (tally, after))
+        → (after.schema ≡ store_schema) × Inserted db after.trees table (new_row db) × (tally.last ≡ Some (id_in (rowid (new_row db))))
     concluded at db tally after h =
         let done = went h in
         let now = ap (λ (p : Tally × Database). p.1) (same_value (went (went done.2).2).2) in
@@ -77,7 +81,8 @@ module _ (limit : Option ℕ) (table : Table) (uncounted : table.is_counted ≡ 
         (ap (λ (d : Database). d.schema) now, subst (λ (d : Database). Inserted db d.trees table (new_row db)) (sym now) put.0, noted ∙ put.1)
 
     pub inserted : (at : ℕ) → slice_get store_schema.tables at ≡ Some table → (db : Database) (text : List ℕ) (tally : Tally) (after : Database) → db.schema ≡ store_schema
-        → Does limit enforced params db text None (Insert at (Values terms width)) (Ok (tally, after)) → (after.schema ≡ store_schema) × Inserted db.trees after.trees table (new_row db.trees) × (tally.last ≡ Some (id_in (rowid (new_row db.trees))))
+        → Does limit enforced params db text None (Insert at (Values terms width)) (Ok (tally, after))
+        → (after.schema ≡ store_schema) × Inserted db.trees after.trees table (new_row db.trees) × (tally.last ≡ Some (id_in (rowid (new_row db.trees))))
     inserted at place db text tally after has h =
         let does = subst (λ s. Does limit enforced params (record db { schema = s }) text None (Insert at (Values terms width)) (Ok (tally, after))) has h in
         concluded at db.trees tally after (rw place at does)

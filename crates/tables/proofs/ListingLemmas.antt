@@ -46,7 +46,8 @@ pub record IsListing (q : Query) (db : Trees) (out : List Row) : Type 0 where
   pub sorted : IsSorted (output_cmp q) ordered
   pub shown : out ≡ map (λ o. o.1) ordered
 
-pub is_listing : (from : Join) (project : List Term) (order : List (Term × Key)) (db : Trees) (out : List Row) → IsAnswer (listing from project order) db [] out → IsListing (listing from project order) db out
+pub is_listing : (from : Join) (project : List Term) (order : List (Term × Key)) (db : Trees) (out : List Row)
+    → IsAnswer (listing from project order) db [] out → IsListing (listing from project order) db out
 is_listing from project order db out answer =
     let q = listing from project order in
     let kept : answer.kept ≡ map (output q) (matches db [] from ([] ∷ [])) = answer.distinct ∙ ap (map (output q)) answer.grouped in
@@ -162,7 +163,8 @@ piece_rows_tables = refl
 -- ---- the rows that are listed
 
 -- the rows as they are shown, in some order
-pub listed_rows : (from : Join) (project : List Term) (order : List (Term × Key)) (db : Trees) (out : List Row) → IsListing (listing from project order) db out → IsPermutation (map (eval_all project) (matches db [] from ([] ∷ []))) out
+pub listed_rows : (from : Join) (project : List Term) (order : List (Term × Key)) (db : Trees) (out : List Row)
+    → IsListing (listing from project order) db out → IsPermutation (map (eval_all project) (matches db [] from ([] ∷ []))) out
 listed_rows from project order db out it =
     let q = listing from project order in
     subst₂ IsPermutation (map-map (λ (o : Output). o.1) (output q) (matches db [] from ([] ∷ []))) (sym it.shown) (IsPermutation-map (λ (o : Output). o.1) _ it.ordered it.same)
@@ -174,13 +176,15 @@ map_singles f g (x ∷ xs) = ap (λ l. f (g x) ∷ l) (map_singles f g xs)
 pub of_table : (tree : ℕ) (project : List Term) (db : Trees) → map (eval_all project) (matches db [] (inner tree end) ([] ∷ [])) ≡ map (λ row. eval_all project ([] ∷ row ∷ [])) (db tree)
 of_table tree project db = map_singles (eval_all project) (λ row. [] ∷ row ∷ []) (db tree)
 
-module _ (sql : List ℕ) (from : Join) (project : List Term) (order : List (Term × Key)) (names : List (List ℕ)) (is : command_of (understood store_schema sql) ≡ Select (record { lets = []; body = listing from project order }) names) (db : Database) where
+module _ (sql : List ℕ) (from : Join) (project : List Term) (order : List (Term × Key)) (names : List (List ℕ))
+    (is : command_of (understood store_schema sql) ≡ Select (record { lets = []; body = listing from project order }) names) (db : Database) where
   pub all_listed : (rows : List Row) → Reads (command_of (understood store_schema sql)) db [] rows → IsListing (listing from project order) (overlay db.trees []) rows
   all_listed rows h =
       let read = subst (λ k. Reads k db [] rows) is h in
       is_listing from project order (overlay db.trees []) rows (read.answer Null)
 
-  pub first_listed : (rows : List Row) → ReadsFirst (command_of (understood store_schema sql)) db [] rows → (tail : List Row) × IsListing (listing from project order) (overlay db.trees []) (rows ++ tail)
+  pub first_listed : (rows : List Row) → ReadsFirst (command_of (understood store_schema sql)) db [] rows
+      → (tail : List Row) × IsListing (listing from project order) (overlay db.trees []) (rows ++ tail)
   first_listed rows h =
       let got = (subst (λ k. ReadsFirst k db [] rows) is h).1 in
       (got.0, is_listing from project order (overlay db.trees []) (rows ++ got.0) (got.1 Null))
@@ -200,7 +204,8 @@ listed_in_order q db out it key told =
     let keyed = λ (o : Output) (there : Has it.ordered o). (let e = listed_with q db out it o there in ap (λ (x : Output). x.0) e.1 ∙ (told e.0 ∙ ap (λ (x : Output). key x.1) (sym e.1))) in
     subst (Adjacent (λ a b. is_lt (key_cmp 0 (map (λ k. k.1) q.order) (key b) (key a)) ≡ false)) (sym it.shown)
     (adjacent_map _ (λ (o : Output). o.1) it.ordered
-    (adjacent_among _ _ it.ordered (λ a b here there h. subst₂ (λ x y. is_lt (key_cmp 0 (map (λ k. k.1) q.order) x y) ≡ false) (keyed b there) (keyed a here) h) (sorted_adjacent (output_cmp q) it.ordered it.sorted)))
+    (adjacent_among _ _ it.ordered
+    (λ a b here there h. subst₂ (λ x y. is_lt (key_cmp 0 (map (λ k. k.1) q.order) x y) ≡ false) (keyed b there) (keyed a here) h) (sorted_adjacent (output_cmp q) it.ordered it.sorted)))
 
 -- ---- the rows of each table
 
@@ -254,11 +259,13 @@ numbers_in_order db out it = listed_in_order (listing (inner 4 end) (col 1 0 ∷
 abbrev pub place_columns : Row → Row
 place_columns row = column row 0 ∷ column row 1 ∷ column row 2 ∷ []
 
-pub entries_in_order : (db : Trees) (out : List Row) → EntriesListed db out → Adjacent (λ a b. is_lt (key_cmp 0 (ascending Binary ∷ ascending Binary ∷ ascending Binary ∷ []) (place_columns b) (place_columns a)) ≡ false) out
+pub entries_in_order : (db : Trees) (out : List Row) → EntriesListed db out
+    → Adjacent (λ a b. is_lt (key_cmp 0 (ascending Binary ∷ ascending Binary ∷ ascending Binary ∷ []) (place_columns b) (place_columns a)) ≡ false) out
 entries_in_order db out it = listed_in_order (listing (inner 6 end) entry_columns by_place) (overlay db []) out it place_columns (λ env. refl)
 
 abbrev pub number_columns : Row → Row
 number_columns row = column row 0 ∷ column row 1 ∷ []
 
-pub pieces_in_order : (db : Trees) (out : List Row) → PiecesListed db out → Adjacent (λ a b. is_lt (key_cmp 0 (ascending Binary ∷ ascending Binary ∷ []) (number_columns b) (number_columns a)) ≡ false) out
+pub pieces_in_order : (db : Trees) (out : List Row) → PiecesListed db out
+    → Adjacent (λ a b. is_lt (key_cmp 0 (ascending Binary ∷ ascending Binary ∷ []) (number_columns b) (number_columns a)) ≡ false) out
 pieces_in_order db out it = listed_in_order (listing (inner 8 end) piece_columns by_piece) (overlay db []) out it number_columns (λ env. refl)

@@ -20,13 +20,15 @@ use Rattle.tables.proofs.RowFits.{time_told}
 use Rattle.tables.proofs.CountedRows.{same_place}
 
 -- where a row is of one thing alone, the things of a table are the same however they are named
-carried : {X : Type 0} (IsRow : Row → X → Type 0) (rows : List Row) (P Q : X → Type 0) → ((row : Row) (x y : X) → IsRow row x → IsRow row y → y ≡ x) → Tabulates IsRow rows P → Tabulates IsRow rows Q → (x : X) → P x → Q x
+carried : {X : Type 0} (IsRow : Row → X → Type 0) (rows : List Row) (P Q : X → Type 0)
+    → ((row : Row) (x y : X) → IsRow row x → IsRow row y → y ≡ x) → Tabulates IsRow rows P → Tabulates IsRow rows Q → (x : X) → P x → Q x
 carried IsRow rows P Q one p q x holds =
     let from = p.found x holds in
     let to = q.each from.0 from.1 in
     subst Q (one from.0 x to.0 from.2 to.1) to.2
 
-pub same_got : {K X : Type 0} {R : K → K → Ordering} (m n : map.FinMap R X) (k : K) → ((x : X) → map.get m k ≡ Some x → map.get n k ≡ Some x) → ((x : X) → map.get n k ≡ Some x → map.get m k ≡ Some x) → map.get m k ≡ map.get n k
+pub same_got : {K X : Type 0} {R : K → K → Ordering} (m n : map.FinMap R X) (k : K) → ((x : X) → map.get m k ≡ Some x → map.get n k ≡ Some x)
+    → ((x : X) → map.get n k ≡ Some x → map.get m k ≡ Some x) → map.get m k ≡ map.get n k
 same_got {K} {X} {R} m n k there back = go (map.get m k) (map.get n k) refl refl
   where
     go : (a b : Option X) → map.get m k ≡ a → map.get n k ≡ b → map.get m k ≡ map.get n k
@@ -95,11 +97,14 @@ one_shelf row x y one two =
 -- tables mean at most one world
 pub stand_for_one : StandForOne
 stand_for_one db w x one two =
-    let keys = map.same_map texts_total texts_exact w.keys x.keys (λ k. same_got w.keys x.keys k (λ h. carried IsAccess (db 4) (λ it. map.get w.keys it.0 ≡ Some it.1) (λ it. map.get x.keys it.0 ≡ Some it.1) one_access one.access two.access (k, h))
+    let keys = map.same_map texts_total texts_exact w.keys x.keys
+    (λ k. same_got w.keys x.keys k (λ h. carried IsAccess (db 4) (λ it. map.get w.keys it.0 ≡ Some it.1) (λ it. map.get x.keys it.0 ≡ Some it.1) one_access one.access two.access (k, h))
     (λ h. carried IsAccess (db 4) (λ it. map.get x.keys it.0 ≡ Some it.1) (λ it. map.get w.keys it.0 ≡ Some it.1) one_access two.access one.access (k, h))) in
-    let shelves = map.same_map texts_total texts_exact w.shelves x.shelves (λ s. same_got w.shelves x.shelves s (λ o. carried IsShelf (db 2) (λ it. map.get w.shelves it.0 ≡ Some it.1) (λ it. map.get x.shelves it.0 ≡ Some it.1) one_shelf one.shelves two.shelves (s, o))
+    let shelves = map.same_map texts_total texts_exact w.shelves x.shelves
+    (λ s. same_got w.shelves x.shelves s (λ o. carried IsShelf (db 2) (λ it. map.get w.shelves it.0 ≡ Some it.1) (λ it. map.get x.shelves it.0 ≡ Some it.1) one_shelf one.shelves two.shelves (s, o))
     (λ o. carried IsShelf (db 2) (λ it. map.get x.shelves it.0 ≡ Some it.1) (λ it. map.get w.shelves it.0 ≡ Some it.1) one_shelf two.shelves one.shelves (s, o))) in
     let entries = map.same_map places_total places_exact w.entries x.entries
-    (λ q. same_got w.entries x.entries q (λ e. carried (IsVersion (db 8)) (db 6) (λ it. map.get w.entries it.0 ≡ Some it.1) (λ it. map.get x.entries it.0 ≡ Some it.1) (one_version (db 8)) one.entries two.entries (q, e))
+    (λ q. same_got w.entries x.entries q
+    (λ e. carried (IsVersion (db 8)) (db 6) (λ it. map.get w.entries it.0 ≡ Some it.1) (λ it. map.get x.entries it.0 ≡ Some it.1) (one_version (db 8)) one.entries two.entries (q, e))
     (λ e. carried (IsVersion (db 8)) (db 6) (λ it. map.get x.entries it.0 ≡ Some it.1) (λ it. map.get w.entries it.0 ≡ Some it.1) (one_version (db 8)) two.entries one.entries (q, e))) in
     λ i. record { keys = keys i; shelves = shelves i; entries = entries i }

@@ -96,10 +96,12 @@ abbrev Rises : Row → Row → Type 0
 Rises a b = piece_cmp (piece_key a) (piece_key b) ≡ Less
 
 -- what comes in SQL's order, no key twice, rises
-rise : (rows : List Row) → ((r : Row) → Has rows r → IsPieceRow r) → Adjacent (λ a b. is_lt (key_cmp 0 (ascending Binary ∷ ascending Binary ∷ []) (number_columns b) (number_columns a)) ≡ false) rows → Adjacent Apart rows → IsAscending Rises rows
+rise : (rows : List Row) → ((r : Row) → Has rows r → IsPieceRow r)
+    → Adjacent (λ a b. is_lt (key_cmp 0 (ascending Binary ∷ ascending Binary ∷ []) (number_columns b) (number_columns a)) ≡ false) rows → Adjacent Apart rows → IsAscending Rises rows
 rise rows each sorted apart =
     let upto = adjacent_among _ (λ a b. is_lt (piece_cmp (piece_key b) (piece_key a)) ≡ false) rows (λ a b here there h. ap is_lt (sym (pieces_ordered b a (each b there) (each a here))) ∙ h) sorted in
-    ascends Rises (λ a b c. pieces_total.trans (piece_key a) (piece_key b) (piece_key c)) rows (adjacent_both _ _ _ (λ a b upto apart. apart_below pieces_total pieces_exact (piece_key a) (piece_key b) upto apart) rows upto apart)
+    ascends Rises (λ a b c. pieces_total.trans (piece_key a) (piece_key b) (piece_key c)) rows
+    (adjacent_both _ _ _ (λ a b upto apart. apart_below pieces_total pieces_exact (piece_key a) (piece_key b) upto apart) rows upto apart)
 
 ascending_adjacent : (P : Row → Row → Type 0) (rows : List Row) → IsAscending P rows → Adjacent P rows
 ascending_adjacent P [] up = tt
@@ -146,7 +148,8 @@ module _ (db : Database) (start end : PieceRows) (new : start.last ≡ None) whe
   all = map piece_shown (db.trees 8)
 
   -- among rows that passed, a piece n + 1 has a full piece n of its version
-  piece_before : (rows : List Row) → Pass PieceFits PieceKeeps start rows end → (row : Row) (n : ℕ) → Has rows row → nat_in (column row 1) ≡ n + 1 → (other : Row) × Has rows other × (piece_in other ≡ full_piece (int_in (column row 0)) n)
+  piece_before : (rows : List Row) → Pass PieceFits PieceKeeps start rows end → (row : Row) (n : ℕ) → Has rows row
+      → nat_in (column row 1) ≡ n + 1 → (other : Row) × Has rows other × (piece_in other ≡ full_piece (int_in (column row 0)) n)
   piece_before rows p row n there is = elim it.2 [
     | inl first ↦ (
         let number : (piece_in row).number ≡ 0 = subst (λ l. MayGoOn l (piece_in row)) (ap (λ (x : PieceRows). x.last) first ∙ new) it.1.1 in
@@ -165,7 +168,8 @@ module _ (db : Database) (start end : PieceRows) (new : start.last ≡ None) whe
       let same = pieces_listed db.trees rows listed in
       let back = IsPermutation-sym _ _ same in
       let each = λ (row : Row) (there : Has rows row). (pass_each PieceFits PieceKeeps start rows end w.2 row there).1.0 in
-      let follow = adjacent_follow PieceFits PieceKeeps (λ (x : PieceRows). x.last) piece_in (λ x row next keeps. keeps) GoesOn (λ x row k fits is. subst (λ l. MayGoOn l (piece_in row)) is fits.1) start rows end w.2 in
+      let follow = adjacent_follow PieceFits PieceKeeps (λ (x : PieceRows). x.last) piece_in (λ x row next keeps. keeps) GoesOn
+      (λ x row k fits is. subst (λ l. MayGoOn l (piece_in row)) is fits.1) start rows end w.2 in
       let apart = adjacent_among _ Apart rows (λ a b here there may. goes_apart a b may) follow in
       let up = rise rows each (pieces_in_order db.trees rows listed) apart in
       record {
@@ -278,9 +282,11 @@ module _ (db : Database) (start end : PieceRows) (new : start.last ≡ None) whe
       let apart = ascending_adjacent Apart long (ascends_permuted Apart turned here long same fit.pieces.once) in
       let up = rise long each (pieces_in_order db.trees long first.1) apart in
       let there = has_permuted here long row same (at_place rows tail row) in
-      let before : (n : ℕ) → nat_in (column row 1) ≡ n + 1 → (other : Row) × Has long other × (piece_in other ≡ full_piece (int_in (column row 0)) n) = λ n is. let it = fit.before row n there is in (it.0, has_permuted long here it.0 back it.1, it.2) in
+      let before : (n : ℕ) → nat_in (column row 1) ≡ n + 1 → (other : Row) × Has long other × (piece_in other ≡ full_piece (int_in (column row 0)) n) = λ n is. let it = fit.before row n there is in
+      (it.0, has_permuted long here it.0 back it.1, it.2) in
       let may : MayGoOn w.2.last (piece_in row) = elim (last_row PieceFits PieceKeeps (λ (x : PieceRows). x.last) piece_in (λ x row next keeps. keeps) start rows w.2 w.4) [
         | inl none ↦ subst (λ l. MayGoOn l (piece_in row)) (sym (ap (λ (x : PieceRows). x.last) none.1 ∙ new)) (comes_first rows row tail up before none.0)
-        | inr some ↦ subst (λ l. MayGoOn l (piece_in row)) (sym some.3) (record { next = comes_next rows row tail up before some.0 some.1 some.2; first = comes_anew rows row tail up before some.0 some.1 some.2 })
+        | inr some ↦ subst
+            (λ l. MayGoOn l (piece_in row)) (sym some.3) (record { next = comes_next rows row tail up before some.0 some.1 some.2; first = comes_anew rows row tail up before some.0 some.1 some.2 })
       ] in
       w.5 (fit.pieces.each row there, may)

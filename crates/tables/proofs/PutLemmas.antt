@@ -1,5 +1,6 @@
 -- Why an INSERT of one row is not done.
-use Rattle.std.proofs.Common.{◌≡◌, ◌/◌, ◌++◌, ℕ, zero, suc, ℤ, false, cond, List, [], ◌∷◌, length, drop, slice_get, Option, Some, None, Ok, Err, Result, inl, inr, ap, subst, ◌∙◌, MatchBool, is_lt, int_cmp}
+use Rattle.std.proofs.Common.{◌≡◌, ◌/◌, ◌++◌, ℕ, zero, suc, ℤ, false, cond, List, [], ◌∷◌, length, drop, slice_get}
+use Rattle.std.proofs.Common.{Option, Some, None, Ok, Err, Result, inl, inr, ap, subst, ◌∙◌, MatchBool, is_lt, int_cmp}
 use Rattle.std.specs.Prelude.{IsSome}
 use Rattle.sqlite.specs.Order.{Row}
 use Rattle.sqlite.specs.Term.{Term}
@@ -33,8 +34,10 @@ no_work : (below : List Work) (w : Work) → ◌≡◌ {A = List Work} [] (below
 no_work [] w e = absurd (cc)
 no_work (b ∷ below) w e = absurd (cc)
 
-module _ (limit : Option ℕ) (table : Table) (uncounted : table.is_counted ≡ false) (terms : List Term) (width : ℕ) (source : Row) (single : value_rows (stamped table []) width (length terms / width) terms ≡ source ∷ [])
-    (idle : (row : Row) → works store_schema Enforced 0 table.tree [] (row ∷ []) ≡ []) (given : (db : Database) (e : Error) → RefusesSource limit db (stamped table []) (Values terms width) e → IsSome limit) where
+module _ (limit : Option ℕ) (table : Table) (uncounted : table.is_counted ≡ false) (terms : List Term) (width : ℕ)
+    (source : Row) (single : value_rows (stamped table []) width (length terms / width) terms ≡ source ∷ [])
+    (idle : (row : Row) → works store_schema Enforced 0 table.tree [] (row ∷ []) ≡ [])
+    (given : (db : Database) (e : Error) → RefusesSource limit db (stamped table []) (Values terms width) e → IsSome limit) where
   abbrev task : Task
   task = record { limit = limit; keys = Enforced; schema = store_schema; table = table; params = [] }
 
@@ -43,11 +46,13 @@ module _ (limit : Option ℕ) (table : Table) (uncounted : table.is_counted ≡ 
   settled next why (suc n, led) = no_work led.0 led.1 led.2
 
   always_counts : (db : Trees) (stop : Option Error) → Counter task db (Err stop) → ⊥
-  always_counts db stop h = let e : ◌≡◌ {A = Result (Option Row) (Option Error)} (Err stop) (Ok None) = subst (λ b. MatchBool b (CounterIn task db (sequence store_schema) (Err stop)) (Gives {A = Option Row} None (Err stop))) uncounted h in absurd (cc)
+  always_counts db stop h = let e : ◌≡◌ {A = Result (Option Row) (Option Error)} (Err stop) (Ok None) =
+      subst (λ b. MatchBool b (CounterIn task db (sequence store_schema) (Err stop)) (Gives {A = Option Row} None (Err stop))) uncounted h in absurd (cc)
 
   never_counted : (mid : Trees) (counter : Option Row) (top : ℤ) (stop : Option Error) → Counts task mid counter top (Err stop) → ⊥
   never_counted mid counter top stop h =
-      let e : ◌≡◌ {A = Result Trees (Option Error)} (Err stop) (Ok mid) = subst (λ b. MatchBool (cond b (is_lt (int_cmp (count_of counter) top)) false) (CountsIn task mid counter top (sequence store_schema) (Err stop)) (Gives {A = Trees} mid (Err stop))) uncounted h in absurd (cc)
+      let e : ◌≡◌ {A = Result Trees (Option Error)} (Err stop) (Ok mid) = subst (λ b. MatchBool (cond b (is_lt (int_cmp (count_of counter) top)) false)
+      (CountsIn task mid counter top (sequence store_schema) (Err stop)) (Gives {A = Trees} mid (Err stop))) uncounted h in absurd (cc)
 
   module _ (db : Trees) (row : Row) (is : with_rowid Chosen (db table.tree) (cast_row table (drop 0 source)) ≡ row) (it : IsPuttable table db row) where
     wrote : (why : Option Refusal) → Writes store_schema Enforced db (record { table = table; gone = []; news = row ∷ [] }) (Err why) → ⊥
@@ -78,7 +83,9 @@ module _ (limit : Option ℕ) (table : Table) (uncounted : table.is_counted ≡ 
     concluded_stops at stop (inr (done, inserted, inr (doubt, tested, inr (rows, shown, e)))) = absurd (cc)
 
   -- only a limit on the steps keeps it from being done
-  pub insert_stops : (at : ℕ) → slice_get store_schema.tables at ≡ Some table → (db : Database) (row : Row) → with_rowid Chosen (db.trees table.tree) (cast_row table (drop 0 source)) ≡ row → IsPuttable table db.trees row → db.schema ≡ store_schema
+  pub insert_stops : (at : ℕ) → slice_get store_schema.tables at ≡ Some table → (db : Database) (row : Row)
+      → with_rowid Chosen (db.trees table.tree) (cast_row table (drop 0 source)) ≡ row → IsPuttable table db.trees row → db.schema ≡ store_schema
       → (text : List ℕ) (stop : Option Error) → Does limit enforced [] db text None (Insert at (Values terms width)) (Err stop) → IsSome limit
   insert_stops at place db row is it has text stop h =
-      let does = subst (λ s. Does limit enforced [] (record db { schema = s }) text None (Insert at (Values terms width)) (Err stop)) has h in concluded_stops db.trees row is it at stop (rw place at does)
+      let does = subst (λ s. Does limit enforced [] (record db { schema = s }) text None (Insert at (Values terms width)) (Err stop)) has h in
+      concluded_stops db.trees row is it at stop (rw place at does)

@@ -44,7 +44,8 @@ no_version row none fits = none fits.0.version fits.2.version (version_utf8 fits
 pub place_shown : (row : Row) (s p v : List ℕ) → column row 0 ≡ Text s → column row 1 ≡ Text p → column row 2 ≡ Text v → place s p v ≡ place_in row
 place_shown row s p v one two three = λ i. record { shelf = text_in (sym one i); path = text_in (sym two i); version = text_in (sym three i) }
 
-pub entry_shown : (row : Row) (s p v : List ℕ) (e : Entry) → column row 0 ≡ Text s → IsUtf8 s → column row 1 ≡ Text p → column row 2 ≡ Text v → ShowsFiles row e → ShowsKeys row v → IsEntry (place s p v) e
+pub entry_shown : (row : Row) (s p v : List ℕ) (e : Entry) → column row 0 ≡ Text s → IsUtf8 s
+    → column row 1 ≡ Text p → column row 2 ≡ Text v → ShowsFiles row e → ShowsKeys row v → IsEntry (place s p v) e
     → IsEntryRow row
 entry_shown row s p v e one utf8 two three files keys may = (place s p v, e, record { shelf = one; path = two; version = three; files = files; keys = keys; utf8 = utf8; may = may })
 
@@ -102,6 +103,7 @@ none_shown row p v b path version is_none told fits =
     let is : IsEntry q e = fits.2.may in
     let one : q.path ≡ p = let f = sym fits.2.path ∙ path in cc in
     let two : q.version ≡ v = let f = sym fits.2.version ∙ version in cc in
-    let anywhere : (s : List ℕ) → IsEntry (place s q.path q.version) e = λ s. record { path = is.path; version = is.version; fits = is.fits; gomod = is.gomod; zip = is.zip; time = is.time; reads = is.reads } in
+    let anywhere : (s : List ℕ)
+    → IsEntry (place s q.path q.version) e = λ s. record { path = is.path; version = is.version; fits = is.fits; gomod = is.gomod; zip = is.zip; time = is.time; reads = is.reads } in
     let at : ShowsAt row q.path q.version = record { entry = e; files = fits.2.files; keys = fits.2.keys; may = anywhere } in
     true≢false (sym (told.1 (subst₂ (ShowsAt row) one two at)) ∙ is_none)

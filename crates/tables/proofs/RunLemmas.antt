@@ -1,5 +1,6 @@
 -- Places one after another, and how many of a path on a shelf come in a run.
-use Rattle.std.proofs.Common.{◌≡◌, ◌≤◌, ◌+◌, ◌++◌, ◌⊎◌, ℕ, Bool, true, false, cond, List, [], ◌∷◌, length, filter, Option, Some, None, inl, inr, refl, sym, ap, subst, subst₂, ◌∙◌, arith, true≢false, append_assoc, append-nil, Less, Equal, Greater}
+use Rattle.std.proofs.Common.{◌≡◌, ◌≤◌, ◌+◌, ◌++◌, ◌⊎◌, ℕ, Bool, true, false, cond, List, [], ◌∷◌, length, filter, Option, Some, None, inl}
+use Rattle.std.proofs.Common.{inr, refl, sym, ap, subst, subst₂, ◌∙◌, arith, true≢false, append_assoc, append-nil, Less, Equal, Greater}
 use Rattle.std.specs.Ordering.{is_lt, is_gt, ordering_then, ordering_reverse}
 use Rattle.std.specs.declared.cmp.Ordering.{Ordering}
 use Rattle.std.specs.Cmp.{IsTotalOrder, tied_itself, alike_right}
@@ -20,7 +21,8 @@ use Rattle.tables.proofs.Ascending.{Adjacent, Steps, across, filter_push}
 -- ---- one after another
 
 -- what is kept of the rows so far is the key of the last one, and no row has that key
-module _ {X K : Type 0} (Fits : X → Row → Type 0) (Keeps : X → Row → X → Type 0) (last : X → Option K) (key : Row → K) (noted : (x : X) (row : Row) (next : X) → Keeps x row next → last next ≡ Some (key row)) where
+module _ {X K : Type 0} (Fits : X → Row → Type 0) (Keeps : X → Row → X → Type 0) (last : X → Option K)
+    (key : Row → K) (noted : (x : X) (row : Row) (next : X) → Keeps x row next → last next ≡ Some (key row)) where
   module _ (P : K → K → Type 0) (follows : (x : X) (row : Row) (k : K) → Fits x row → last x ≡ Some k → P k (key row)) where
     steps_follow : (x : X) (r : Row) (rows : List Row) (end : X) → last x ≡ Some (key r) → Pass Fits Keeps x rows end → Steps (λ a b. P (key a) (key b)) r rows
     steps_follow x r [] end is passed = tt
@@ -34,7 +36,8 @@ module _ {X K : Type 0} (Fits : X → Row → Type 0) (Keeps : X → Row → X �
   adjacent_apart apart = adjacent_follow (λ k l. k ≡ l → ⊥) (λ x row k fits is same. apart x row fits (is ∙ ap Some same))
 
   -- a row fits after the one before it, or it is the first
-  pub pass_at : (x : X) (rows : List Row) (end : X) → Pass Fits Keeps x rows end → (row : Row) → Has rows row → (kept : X) × Fits kept row × ((kept ≡ x) ⊎ ((r : Row) × Has rows r × (last kept ≡ Some (key r))))
+  pub pass_at : (x : X) (rows : List Row) (end : X) → Pass Fits Keeps x rows end → (row : Row) → Has rows row
+      → (kept : X) × Fits kept row × ((kept ≡ x) ⊎ ((r : Row) × Has rows r × (last kept ≡ Some (key r))))
   pass_at x [] end passed row there = absurd there
   pass_at x (r ∷ rows) end passed row (inl same) = (x, subst (Fits x) (sym same) passed.0, inl refl)
   pass_at x (r ∷ rows) end passed row (inr later) =
@@ -89,7 +92,8 @@ pub many_more : (s p : List ℕ) (rows more : List Row) → many_on s p rows ≤
 many_more s p [] more = omega arith
 many_more s p (r ∷ rows) more = go (is_on s p (place_in r)) (many_more s p rows more)
   where
-    go : (b : Bool) → many_on s p rows ≤ many_on s p (rows ++ more) → length (cond b (r ∷ filter (λ row. is_on s p (place_in row)) rows) (filter (λ row. is_on s p (place_in row)) rows)) ≤ length (cond b (r ∷ filter (λ row. is_on s p (place_in row)) (rows ++ more)) (filter (λ row. is_on s p (place_in row)) (rows ++ more)))
+    go : (b : Bool) → many_on s p rows ≤ many_on s p (rows ++ more) → length (cond b (r ∷ filter (λ row. is_on s p (place_in row)) rows) (filter (λ row. is_on s p (place_in row)) rows))
+        ≤ length (cond b (r ∷ filter (λ row. is_on s p (place_in row)) (rows ++ more)) (filter (λ row. is_on s p (place_in row)) (rows ++ more)))
     go true h = omega (arith, h)
     go false h = h
 
@@ -97,7 +101,8 @@ one_at_least : (rows : List Row) (row : Row) → 1 ≤ many_on (place_in row).sh
 one_at_least rows row = let e = push_on (place_in row).shelf (place_in row).path rows row (is_on_itself (place_in row)) in omega (arith, e)
 
 -- how many come with the last one, at most as many as there are
-module _ {X : Type 0} (Fits : X → Row → Type 0) (Keeps : X → Row → X → Type 0) (last : X → Option Place) (many : X → ℕ) (noted : (x : X) (row : Row) (next : X) → Keeps x row next → (last next ≡ Some (place_in row)) × (many next ≡ run_with (last x) (many x) (place_in row))) where
+module _ {X : Type 0} (Fits : X → Row → Type 0) (Keeps : X → Row → X → Type 0) (last : X → Option Place) (many : X → ℕ)
+    (noted : (x : X) (row : Row) (next : X) → Keeps x row next → (last next ≡ Some (place_in row)) × (many next ≡ run_with (last x) (many x) (place_in row))) where
   abbrev IsWithin : List Row → X → Type 0
   IsWithin done x = (p : Place) → last x ≡ Some p → many x ≤ many_on p.shelf p.path done
 
@@ -123,7 +128,8 @@ module _ {X : Type 0} (Fits : X → Row → Type 0) (Keeps : X → Row → X →
 
   pub run_within : (done : List Row) (x : X) (rows : List Row) (end : X) → IsWithin done x → Pass Fits Keeps x rows end → IsWithin (done ++ rows) end
   run_within done x [] end within passed = subst (λ l. IsWithin l end) (sym (append-nil done)) (subst (IsWithin done) (sym passed) within)
-  run_within done x (r ∷ rows) end within passed = subst (λ l. IsWithin l end) (append_assoc done (r ∷ []) rows) (run_within (done ++ r ∷ []) passed.1 rows end (within_more done x r passed.1 within passed.2) passed.3)
+  run_within done x (r ∷ rows) end within passed =
+      subst (λ l. IsWithin l end) (append_assoc done (r ∷ []) rows) (run_within (done ++ r ∷ []) passed.1 rows end (within_more done x r passed.1 within passed.2) passed.3)
 
 -- ---- the order of paths
 
@@ -193,7 +199,8 @@ module _ (done : List Row) (row : Row) (up : (y : Row) → Has done y → place_
   here = place_in row
 
   -- a row of its path stands next to it
-  not_before : (p : Place) (n : ℕ) → IsRun done (Some p) n → is_on p.shelf p.path here ≡ false → (y : Row) → Has done y → (b : Bool) → is_on here.shelf here.path (place_in y) ≡ b → is_on here.shelf here.path (place_in y) ≡ false
+  not_before : (p : Place) (n : ℕ) → IsRun done (Some p) n → is_on p.shelf p.path here ≡ false → (y : Row) → Has done y
+      → (b : Bool) → is_on here.shelf here.path (place_in y) ≡ b → is_on here.shelf here.path (place_in y) ≡ false
   not_before p n is off y there false e = e
   not_before p n is off y there true e =
       let end = is.last p refl in
@@ -238,10 +245,12 @@ module _ (done : List Row) (row : Row) (up : (y : Row) → Has done y → place_
         none = λ e. absurd (cc);
       }
 
-module _ {X : Type 0} (Fits : X → Row → Type 0) (Keeps : X → Row → X → Type 0) (last : X → Option Place) (many : X → ℕ) (noted : (x : X) (row : Row) (next : X) → Keeps x row next → (last next ≡ Some (place_in row)) × (many next ≡ run_with (last x) (many x) (place_in row)))
+module _ {X : Type 0} (Fits : X → Row → Type 0) (Keeps : X → Row → X → Type 0) (last : X → Option Place) (many : X → ℕ)
+    (noted : (x : X) (row : Row) (next : X) → Keeps x row next → (last next ≡ Some (place_in row)) × (many next ≡ run_with (last x) (many x) (place_in row)))
     (may : (x : X) (row : Row) → Fits x row → MayFollow (last x) (many x) (place_in row)) where
   -- rows that rise by place and passed have no more versions of a path on a shelf than the limit, after those that had no more
-  few_from : (done : List Row) (x : X) (rows : List Row) (end : X) → IsRun done (last x) (many x) → IsAscending (λ a b. place_cmp (place_in a) (place_in b) ≡ Less) (done ++ rows) → Pass Fits Keeps x rows end
+  few_from : (done : List Row) (x : X) (rows : List Row) (end : X) → IsRun done (last x) (many x)
+      → IsAscending (λ a b. place_cmp (place_in a) (place_in b) ≡ Less) (done ++ rows) → Pass Fits Keeps x rows end
       → (s p : List ℕ) → many_on s p (done ++ rows) ≤ version_limit
   few_from done x [] end is up passed s p = subst (λ l. many_on s p l ≤ version_limit) (sym (append-nil done)) (is.small s p)
   few_from done x (r ∷ rows) end is up passed s p =
@@ -254,7 +263,8 @@ module _ {X : Type 0} (Fits : X → Row → Type 0) (Keeps : X → Row → X →
       (few_from (done ++ r ∷ []) passed.1 rows end next (subst (IsAscending (λ a b. place_cmp (place_in a) (place_in b) ≡ Less)) (sym (append_assoc done (r ∷ []) rows)) up) passed.3 s p)
 
   -- no path has too many on a shelf
-  pub few_in_all : (start : X) (rows : List Row) (end : X) → last start ≡ None → IsAscending (λ a b. place_cmp (place_in a) (place_in b) ≡ Less) rows → Pass Fits Keeps start rows end → (s p : List ℕ) → many_on s p rows ≤ version_limit
+  pub few_in_all : (start : X) (rows : List Row) (end : X) → last start ≡ None → IsAscending (λ a b. place_cmp (place_in a) (place_in b) ≡ Less) rows
+      → Pass Fits Keeps start rows end → (s p : List ℕ) → many_on s p rows ≤ version_limit
   few_in_all start rows end new up passed = few_from [] start rows end (record {
     small = λ s p. omega arith;
     run = λ p e. absurd (let f = sym new ∙ e in cc);

@@ -5,7 +5,8 @@ use Rattle.sqlite.specs.Change.{created}
 use Rattle.sqlite_tied.specs.Compute.{everything}
 use Rattle.sqlite.specs.Kind.TheVariants.{Integer, Text, Blob}
 use Rattle.sqlite_schema.specs.declared.schema.Column.{Column}
-use Rattle.tables.specs.Schema.{store_schema, no_schema, given, optional, version_columns, meta_text, shelf_text, access_text, version_text, piece_text, meta_table, shelf_table, access_table, version_table, piece_table}
+use Rattle.tables.specs.Schema.{store_schema, no_schema, given, optional, version_columns, meta_text, shelf_text, access_text}
+use Rattle.tables.specs.Schema.{version_text, piece_text, meta_table, shelf_table, access_table, version_table, piece_table}
 
 pub made1 : table_defined_by meta_text ≡ Ok (record meta_table { tree = 0 })
 unfolding everything

@@ -57,7 +57,8 @@ pub ints_equal : (m n : ℤ) → equal Binary (Int m) (Int n) ≡ true → m ≡
 ints_equal m n h = same_int m n (equal_parts (Int m) (Int n) h).2
 
 -- what passes the check is 0 or 1
-zero_or_one : (n : ℤ) → not (is_false (binary Or (binary (Compare Eq Binary) (Int n) (Int (pos 0))) (binary (Compare Eq Binary) (Int n) (Int (pos 1))))) ≡ true → (b : Bool) × (n ≡ cond b (pos 1) (pos 0))
+zero_or_one : (n : ℤ) → not (is_false (binary Or (binary (Compare Eq Binary) (Int n) (Int (pos 0))) (binary (Compare Eq Binary) (Int n) (Int (pos 1))))) ≡ true
+    → (b : Bool) × (n ≡ cond b (pos 1) (pos 0))
 unfolding binary
 zero_or_one n h = elim (one_of (is_eq (value_cmp (Int n) (Int (pos 0)))) (is_eq (value_cmp (Int n) (Int (pos 1)))) h) [
   | inl zero' ↦ (false, same_int n (pos 0) zero')
@@ -100,7 +101,8 @@ access_row db sound row there =
 
 -- ---- shelves
 
-parents : (db : Trees) (row : Row) → is_held db (2 ∷ []) row (parent_key store_schema.tables (refers 2 (codes "shelf") (codes "name"))) ≡ list_any (λ parent. equal Binary (column parent 1) (column row 2) && true) (db 2)
+parents : (db : Trees) (row : Row)
+    → is_held db (2 ∷ []) row (parent_key store_schema.tables (refers 2 (codes "shelf") (codes "name"))) ≡ list_any (λ parent. equal Binary (column parent 1) (column row 2) && true) (db 2)
 unfolding same_name key_joined first_key
 parents db row = refl
 
@@ -108,7 +110,8 @@ held_if : (row : Row) (t : List ℕ) → column row 2 ≡ Text t → (b : Bool) 
 held_if row t is true h = refl
 held_if row t is false h = absurd (true≢false (sym h ∙ ap (λ v. ((is_null v || false) || false) && true) is))
 
-parent_of : (db : Trees) (row : Row) (t : List ℕ) → column row 2 ≡ Text t → list_any (λ parent. equal Binary (column parent 1) (column row 2) && true) (db 2) ≡ true → (shelf : Row) × Has (db 2) shelf × (column shelf 1 ≡ Text t)
+parent_of : (db : Trees) (row : Row) (t : List ℕ) → column row 2 ≡ Text t
+    → list_any (λ parent. equal Binary (column parent 1) (column row 2) && true) (db 2) ≡ true → (shelf : Row) × Has (db 2) shelf × (column shelf 1 ≡ Text t)
 parent_of db row t is h =
     let it = some_has (λ parent. equal Binary (column parent 1) (column row 2) && true) (db 2) h in
     (it.0, it.1, equals_text (column it.0 1) t (subst (λ v. equal Binary (column it.0 1) v ≡ true) is (and_parts _ _ it.2).0))
@@ -143,7 +146,8 @@ piece_number db sound row there =
     let present = names_version db sound row there in
     int_from (column row 1) (typed_piece row (and_parts _ _ (keeps_at Datatype store_schema db piece_table row (sound.obeys.rules Datatype) piece_listed there)).0 present) present
 
-versions : (db : Trees) (row : Row) → is_held db (1 ∷ []) row (parent_key store_schema.tables (refers 1 (codes "version") (codes "id"))) ≡ list_any (λ version. equal Binary (rowid version) (column row 1) && true) (db 6)
+versions : (db : Trees) (row : Row)
+    → is_held db (1 ∷ []) row (parent_key store_schema.tables (refers 1 (codes "version") (codes "id"))) ≡ list_any (λ version. equal Binary (rowid version) (column row 1) && true) (db 6)
 unfolding same_name key_joined first_key
 versions db row = refl
 

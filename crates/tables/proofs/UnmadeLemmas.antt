@@ -11,7 +11,9 @@ use Rattle.tables.specs.Schema.{no_schema, store_schema, meta_table, shelf_table
 use Rattle.tables.specs.Causes.{IsExcused}
 use Rattle.tables.specs.Means.{schema_named}
 use Rattle.tables.proofs.InsertLemmas.{cast_null, cast_int}
-use Rattle.tables.proofs.CreateLemmas.{ran_as, makes, put_meta, meta_terms, meta_source, text1, text2, text3, text4, text5, text6, text7, first1, first2, first3, first4, first5, first6, first7, schema0, schema1, schema2, schema3, schema4, schema5, cut1, cut2, cut3, cut4, cut5, cut6, cut7, make1, make2, make3, make4, make5, put6, put7, meta_row, common_row}
+use Rattle.tables.proofs.CreateLemmas.{ran_as, makes, put_meta, meta_terms, meta_source, text1, text2, text3, text4, text5, text6, text7, first1}
+use Rattle.tables.proofs.CreateLemmas.{first2, first3, first4, first5, first6, first7, schema0, schema1, schema2, schema3, schema4, schema5, cut1}
+use Rattle.tables.proofs.CreateLemmas.{cut2, cut3, cut4, cut5, cut6, cut7, make1, make2, make3, make4, make5, put6, put7, meta_row, common_row}
 use Rattle.tables.proofs.CauseLemmas.{IsOnItsWay, make_excused, put_excused, turn_or_stop, excused_since, on_its_way, further}
 use Rattle.tables.proofs.MakeLemmas.{alone1, alone2, alone3, alone4, alone5, alone6, alone7, able1, able2, able3, able4, able5, AreEmpty, puts_meta, puts_common}
 
@@ -22,17 +24,20 @@ module _ {S : Type 0} (g : Ghosts S) (start new : Held S) (e : Error) where
   abbrev Fault : Type 0
   Fault = IsExcused (state g start) (state g new) e
 
-  last_step : (mid : Held S) (most : ℕ) → Way mid → IsTrue mid.in_transaction → (state g mid).now.schema ≡ store_schema → (state g mid).now.trees 0 ≡ meta_row ∷ [] → (state g mid).now.trees 2 ≡ [] → AreEmpty (state g mid).now.trees
+  last_step : (mid : Held S) (most : ℕ) → Way mid → IsTrue mid.in_transaction → (state g mid).now.schema ≡ store_schema
+      → (state g mid).now.trees 0 ≡ meta_row ∷ [] → (state g mid).now.trees 2 ≡ [] → AreEmpty (state g mid).now.trees
       → RunInTurn g (Some 0) (suc most) text7 mid new (Err e) → Fault
   last_step mid most way inside has a b empty run = elim (turn_or_stop g mid new e text7 first7 [] (lit< tt) cut7.0 cut7.1 inside store_schema has _ put7.0 tt most run) [
     | inl stop ↦ excused_since (state g start) (state g mid) (state g new) e way (
-        put_excused first7 1 shelf_table refl refl (lit Null ∷ lit (Text (codes "common")) ∷ lit Null ∷ []) 3 (Null ∷ Text (codes "common") ∷ Null ∷ []) refl (λ _. refl) (λ limit db x r. elim r [ inl (is, no') ↦ absurd (true≢false no') | inr (is, some) ↦ some ])
+        put_excused first7 1 shelf_table refl refl (lit Null ∷ lit (Text (codes "common")) ∷ lit Null ∷ []) 3 (Null ∷ Text (codes "common") ∷ Null ∷ []) refl
+        (λ _. refl) (λ limit db x r. elim r [ inl (is, no') ↦ absurd (true≢false no') | inr (is, some) ↦ some ])
         put7.0 put7.1 alone7 (state g mid) (state g new) e has common_row (rw (b, cast_null) refl) (puts_common (state g mid).now.trees a b empty) stop)
     | inr (next, count, step, rest, within) ↦ (let d = rest.0 in absurd (cc))
   ]
 
   -- an error at or after the row of `meta` is excused
-  meta_step : (mid : Held S) (most : ℕ) → Way mid → IsTrue mid.in_transaction → (state g mid).now.schema ≡ store_schema → (state g mid).now.trees 0 ≡ [] → (state g mid).now.trees 2 ≡ [] → AreEmpty (state g mid).now.trees
+  meta_step : (mid : Held S) (most : ℕ) → Way mid → IsTrue mid.in_transaction → (state g mid).now.schema ≡ store_schema
+      → (state g mid).now.trees 0 ≡ [] → (state g mid).now.trees 2 ≡ [] → AreEmpty (state g mid).now.trees
       → RunInTurn g (Some 0) (suc (suc most)) text6 mid new (Err e) → Fault
   meta_step mid most way inside has a b empty run = elim (turn_or_stop g mid new e text6 first6 text7 (lit< tt) cut6.0 cut6.1 inside store_schema has _ put6.0 tt (suc most) run) [
     | inl stop ↦ excused_since (state g start) (state g mid) (state g new) e way (
@@ -41,11 +46,13 @@ module _ {S : Type 0} (g : Ghosts S) (start new : Held S) (e : Error) where
     | inr (next, count, step, rest, within) ↦ (
         let it = put_meta (state g mid) (state g next) count has a step.runs in
         let ran = ran_as first6 (state g mid) (state g next) store_schema has _ put6.0 put6.1 count step.runs in
-        last_step next most (further (state g start) (state g mid) (state g next) _ way step.survives ran.shown.is_open) within it.0 it.1 (it.2 ∙ b) (record { access = it.3 ∙ empty.access; version = it.4 ∙ empty.version; piece = it.5 ∙ empty.piece }) rest)
+        last_step next most (further (state g start) (state g mid) (state g next) _ way step.survives ran.shown.is_open) within it.0 it.1
+        (it.2 ∙ b) (record { access = it.3 ∙ empty.access; version = it.4 ∙ empty.version; piece = it.5 ∙ empty.piece }) rest)
   ]
 
   -- an error at or after the statement that makes `piece` is excused
-  piece_step : (mid : Held S) (most : ℕ) → Way mid → IsTrue mid.in_transaction → (state g mid).now.schema ≡ schema4 → (state g mid).now.trees 0 ≡ [] → (state g mid).now.trees 2 ≡ [] → (state g mid).now.trees 4 ≡ [] → (state g mid).now.trees 6 ≡ []
+  piece_step : (mid : Held S) (most : ℕ) → Way mid → IsTrue mid.in_transaction → (state g mid).now.schema ≡ schema4
+      → (state g mid).now.trees 0 ≡ [] → (state g mid).now.trees 2 ≡ [] → (state g mid).now.trees 4 ≡ [] → (state g mid).now.trees 6 ≡ []
       → RunInTurn g (Some 0) (suc (suc (suc most))) text5 mid new (Err e) → Fault
   piece_step mid most way inside has a b c d run = elim (turn_or_stop g mid new e text5 first5 text6 (lit< tt) cut5.0 cut5.1 inside schema4 has CreateTable make5.0 tt (suc (suc most)) run) [
     | inl stop ↦ excused_since (state g start) (state g mid) (state g new) e way (
@@ -53,11 +60,13 @@ module _ {S : Type 0} (g : Ghosts S) (start new : Held S) (e : Error) where
     | inr (next, count, step, rest, within) ↦ (
         let it = makes schema4 schema5 first5 (record piece_table { tree = 0 }) make5.0 make5.1 make5.2 make5.3 refl (state g mid) (state g next) count has step.runs in
         let ran = ran_as first5 (state g mid) (state g next) schema4 has CreateTable make5.0 make5.1 count step.runs in
-        meta_step next most (further (state g start) (state g mid) (state g next) _ way step.survives ran.shown.is_open) within it.0 (it.2.0 ∙ a) (it.2.1.0 ∙ b) (record { access = it.2.1.1.0 ∙ c; version = it.2.1.1.1.0 ∙ d; piece = it.1 }) rest)
+        meta_step next most (further (state g start) (state g mid) (state g next) _ way step.survives ran.shown.is_open) within it.0
+        (it.2.0 ∙ a) (it.2.1.0 ∙ b) (record { access = it.2.1.1.0 ∙ c; version = it.2.1.1.1.0 ∙ d; piece = it.1 }) rest)
   ]
 
   -- an error at or after the statement that makes `version` is excused
-  version_step : (mid : Held S) (most : ℕ) → Way mid → IsTrue mid.in_transaction → (state g mid).now.schema ≡ schema3 → (state g mid).now.trees 0 ≡ [] → (state g mid).now.trees 2 ≡ [] → (state g mid).now.trees 4 ≡ []
+  version_step : (mid : Held S) (most : ℕ) → Way mid → IsTrue mid.in_transaction → (state g mid).now.schema ≡ schema3
+      → (state g mid).now.trees 0 ≡ [] → (state g mid).now.trees 2 ≡ [] → (state g mid).now.trees 4 ≡ []
       → RunInTurn g (Some 0) (suc (suc (suc (suc most)))) text4 mid new (Err e) → Fault
   version_step mid most way inside has a b c run = elim (turn_or_stop g mid new e text4 first4 text5 (lit< tt) cut4.0 cut4.1 inside schema3 has CreateTable make4.0 tt (suc (suc (suc most))) run) [
     | inl stop ↦ excused_since (state g start) (state g mid) (state g new) e way (
@@ -68,7 +77,8 @@ module _ {S : Type 0} (g : Ghosts S) (start new : Held S) (e : Error) where
         piece_step next most (further (state g start) (state g mid) (state g next) _ way step.survives ran.shown.is_open) within it.0 (it.2.0 ∙ a) (it.2.1.0 ∙ b) (it.2.1.1.0 ∙ c) it.1 rest)
   ]
 
-  access_step : (mid : Held S) (most : ℕ) → Way mid → IsTrue mid.in_transaction → (state g mid).now.schema ≡ schema2 → (state g mid).now.trees 0 ≡ [] → (state g mid).now.trees 2 ≡ [] → RunInTurn g (Some 0) (suc (suc (suc (suc (suc most))))) text3 mid new (Err e) → Fault
+  access_step : (mid : Held S) (most : ℕ) → Way mid → IsTrue mid.in_transaction → (state g mid).now.schema ≡ schema2 → (state g mid).now.trees 0 ≡ []
+      → (state g mid).now.trees 2 ≡ [] → RunInTurn g (Some 0) (suc (suc (suc (suc (suc most))))) text3 mid new (Err e) → Fault
   access_step mid most way inside has a b run = elim (turn_or_stop g mid new e text3 first3 text4 (lit< tt) cut3.0 cut3.1 inside schema2 has CreateTable make3.0 tt (suc (suc (suc (suc most)))) run) [
     | inl stop ↦ excused_since (state g start) (state g mid) (state g new) e way (
         make_excused schema2 first3 access_text (record access_table { tree = 0 }) make3.0 make3.1 alone3.0 alone3.1 able3 refl (state g mid) (state g new) e has stop)
@@ -78,15 +88,17 @@ module _ {S : Type 0} (g : Ghosts S) (start new : Held S) (e : Error) where
         version_step next most (further (state g start) (state g mid) (state g next) _ way step.survives ran.shown.is_open) within it.0 (it.2.0 ∙ a) (it.2.1.0 ∙ b) it.1 rest)
   ]
 
-  shelf_step : (mid : Held S) (most : ℕ) → Way mid → IsTrue mid.in_transaction → (state g mid).now.schema ≡ schema1 → (state g mid).now.trees 0 ≡ [] → RunInTurn g (Some 0) (suc (suc (suc (suc (suc (suc most)))))) text2 mid new (Err e) → Fault
-  shelf_step mid most way inside has a run = elim (turn_or_stop g mid new e text2 first2 text3 (lit< tt) cut2.0 cut2.1 inside schema1 has CreateTable make2.0 tt (suc (suc (suc (suc (suc most))))) run) [
-    | inl stop ↦ excused_since (state g start) (state g mid) (state g new) e way (
-        make_excused schema1 first2 shelf_text (record shelf_table { tree = 0 }) make2.0 make2.1 alone2.0 alone2.1 able2 refl (state g mid) (state g new) e has stop)
-    | inr (next, count, step, rest, within) ↦ (
-        let it = makes schema1 schema2 first2 (record shelf_table { tree = 0 }) make2.0 make2.1 make2.2 make2.3 refl (state g mid) (state g next) count has step.runs in
-        let ran = ran_as first2 (state g mid) (state g next) schema1 has CreateTable make2.0 make2.1 count step.runs in
-        access_step next most (further (state g start) (state g mid) (state g next) _ way step.survives ran.shown.is_open) within it.0 (it.2.0 ∙ a) it.1 rest)
-  ]
+  shelf_step : (mid : Held S) (most : ℕ) → Way mid → IsTrue mid.in_transaction → (state g mid).now.schema ≡ schema1
+      → (state g mid).now.trees 0 ≡ [] → RunInTurn g (Some 0) (suc (suc (suc (suc (suc (suc most)))))) text2 mid new (Err e) → Fault
+  shelf_step mid most way inside has a run =
+      elim (turn_or_stop g mid new e text2 first2 text3 (lit< tt) cut2.0 cut2.1 inside schema1 has CreateTable make2.0 tt (suc (suc (suc (suc (suc most))))) run) [
+        | inl stop ↦ excused_since (state g start) (state g mid) (state g new) e way (
+            make_excused schema1 first2 shelf_text (record shelf_table { tree = 0 }) make2.0 make2.1 alone2.0 alone2.1 able2 refl (state g mid) (state g new) e has stop)
+        | inr (next, count, step, rest, within) ↦ (
+            let it = makes schema1 schema2 first2 (record shelf_table { tree = 0 }) make2.0 make2.1 make2.2 make2.3 refl (state g mid) (state g next) count has step.runs in
+            let ran = ran_as first2 (state g mid) (state g next) schema1 has CreateTable make2.0 make2.1 count step.runs in
+            access_step next most (further (state g start) (state g mid) (state g next) _ way step.survives ran.shown.is_open) within it.0 (it.2.0 ∙ a) it.1 rest)
+      ]
 
   pub all_excused : IsTrue start.in_transaction → (state g start).now.schema ≡ no_schema → ExecutesAllInside g 0 text1 start new (Err e) → Fault
   unfolding ExecutesAllInside
@@ -99,6 +111,7 @@ module _ {S : Type 0} (g : Ghosts S) (start new : Held S) (e : Error) where
   ]
 
 module _ {S : Type 0} (g : Ghosts S) (start new : Held S) where
-  pub excused_if : (r : Result (Unit {0}) Error) → IsTrue start.in_transaction → (state g start).now.schema ≡ no_schema → ExecutesAllInside g 0 text1 start new r → IfErr r (IsExcused (state g start) (state g new))
+  pub excused_if : (r : Result (Unit {0}) Error) → IsTrue start.in_transaction → (state g start).now.schema ≡ no_schema
+      → ExecutesAllInside g 0 text1 start new r → IfErr r (IsExcused (state g start) (state g new))
   excused_if (Ok u) inside has run = tt
   excused_if (Err e) inside has run = all_excused g start new e inside has run

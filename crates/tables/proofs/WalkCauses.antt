@@ -1,5 +1,6 @@
 -- Why a walk over the rows of the tables fails.
-use Rattle.std.proofs.Common.{◌≡◌, ◌≤◌, ◌⊎◌, ◌+◌, ◌^◌, ◌++◌, ℕ, Bool, true, false, List, [], ◌∷◌, length, map, Option, None, Ok, Err, Result, inl, inr, refl, sym, ap, subst, ◌∙◌, arith, codes, IfErr, true≢false, length-append, lit≤}
+use Rattle.std.proofs.Common.{◌≡◌, ◌≤◌, ◌⊎◌, ◌+◌, ◌^◌, ◌++◌, ℕ, Bool, true, false, List, [], ◌∷◌, length, map, Option, None, Ok, Err}
+use Rattle.std.proofs.Common.{Result, inl, inr, refl, sym, ap, subst, ◌∙◌, arith, codes, IfErr, true≢false, length-append, lit≤}
 use Rattle.std.specs.Prelude.{IsSome, IsErrAnd}
 use Rattle.std.proofs.lemmas.List.{length-map}
 use Rattle.std.proofs.lemmas.List.Sorted.{length_permutation}
@@ -35,7 +36,8 @@ use Rattle.tables.proofs.Ascending.{has_permuted}
 use Rattle.tables.proofs.FitTests.{at_place}
 use Rattle.tables.proofs.WalkLemmas.{unchanged_schema, some_walked}
 use Rattle.tables.proofs.CauseLemmas.{unrun, IsOnItsWay, excused_since, on_its_way}
-use Rattle.tables.proofs.ListingLemmas.{listing, listed_rows, first_listed, IsListing, of_table, shelf_columns, shelf_names, by_name, entry_columns, entry_names, piece_columns, piece_names, by_token, by_number, by_place, by_piece, meta_rows_is, shelf_rows_is, key_rows_is, number_rows_is, entry_rows_is, piece_rows_is}
+use Rattle.tables.proofs.ListingLemmas.{listing, listed_rows, first_listed, IsListing, of_table, shelf_columns, shelf_names, by_name, entry_columns, entry_names, piece_columns}
+use Rattle.tables.proofs.ListingLemmas.{piece_names, by_token, by_number, by_place, by_piece, meta_rows_is, shelf_rows_is, key_rows_is, number_rows_is, entry_rows_is, piece_rows_is}
 
 -- ---- one query
 
@@ -74,14 +76,18 @@ excused_same g old x y e Q same h = inl (subst (λ z. IsExcused old (state g z) 
 -- ---- a query that lists rows
 
 -- each row has a value for each column
-listed_width : (from : Join) (project : List Term) (order : List (Term × Key)) (db : Trees) (out : List Row) → IsListing (listing from project order) db out → (row : Row) → Has out row → length row ≡ length project
+listed_width : (from : Join) (project : List Term) (order : List (Term × Key)) (db : Trees) (out : List Row)
+    → IsListing (listing from project order) db out → (row : Row) → Has out row → length row ≡ length project
 listed_width from project order db out it row there =
-    let e = has_mapped (eval_all project) (matches db [] from ([] ∷ [])) row (has_permuted (map (eval_all project) (matches db [] from ([] ∷ []))) out row (listed_rows from project order db out it) there) in
+    let e = has_mapped (eval_all project) (matches db [] from ([] ∷ [])) row
+    (has_permuted (map (eval_all project) (matches db [] from ([] ∷ []))) out row (listed_rows from project order db out it) there) in
     ap length e.2 ∙ length-map project (λ t. eval t e.0)
 
-module _ (sql : List ℕ) (from : Join) (project : List Term) (order : List (Term × Key)) (names : List (List ℕ)) (is : command_of (understood store_schema sql) ≡ Select (record { lets = []; body = listing from project order }) names) where
+module _ (sql : List ℕ) (from : Join) (project : List Term) (order : List (Term × Key)) (names : List (List ℕ))
+    (is : command_of (understood store_schema sql) ≡ Select (record { lets = []; body = listing from project order }) names) where
   -- a query for terms of a join with no fold and no type error can be walked over
-  is_walkable : has_no_fold from ≡ true → ((db : Database) → db.schema ≡ store_schema → RefusesQuery None db (record { lets = []; body = listing from project order }) [] (SqliteFailure TypeMismatch) → ⊥) → IsAlone sql (understood store_schema sql) → IsWalkable sql (length project)
+  is_walkable : has_no_fold from ≡ true → ((db : Database) → db.schema ≡ store_schema → RefusesQuery None db (record { lets = []; body = listing from project order }) [] (SqliteFailure TypeMismatch)
+      → ⊥) → IsAlone sql (understood store_schema sql) → IsWalkable sql (length project)
   is_walkable foldless typed alone = record { alone = alone; allowed = allowed; wide = wide }
     where
       allowed : (limit : Option ℕ) (db : Database) (e : Error) → db.schema ≡ store_schema → RefusesToRead limit (command_of (understood store_schema sql)) db [] e → IsSome limit
@@ -101,13 +107,15 @@ module _ (sql : List ℕ) (from : Join) (project : List Term) (order : List (Ter
   many_listed : (db : Database) → ShowsTooMany sql db → 2 ^ 128 ≤ length (map (eval_all project) (matches (overlay db.trees []) [] from ([] ∷ []))) + 1
   many_listed db h =
       let first = first_listed sql from project order names is db h.0 h.1 in
-      let same = length_permutation (map (eval_all project) (matches (overlay db.trees []) [] from ([] ∷ []))) (h.0 ++ first.0) (listed_rows from project order (overlay db.trees []) (h.0 ++ first.0) first.1) in
+      let same = length_permutation (map (eval_all project) (matches (overlay db.trees []) [] from ([] ∷ [])))
+      (h.0 ++ first.0) (listed_rows from project order (overlay db.trees []) (h.0 ++ first.0) first.1) in
       let all = length-append h.0 first.0 in
       let long = h.2 in
       omega (arith, same, all, long)
 
 -- if a query of one table shows more rows than a walk counts, the table has 2^64 rows
-many_rows : (sql : List ℕ) (tree : ℕ) (project : List Term) (order : List (Term × Key)) (names : List (List ℕ)) → command_of (understood store_schema sql) ≡ Select (record { lets = []; body = listing (inner tree end) project order }) names
+many_rows : (sql : List ℕ) (tree : ℕ) (project : List Term) (order : List (Term × Key)) (names : List (List ℕ))
+    → command_of (understood store_schema sql) ≡ Select (record { lets = []; body = listing (inner tree end) project order }) names
     → (db : Database) → overlay db.trees [] tree ≡ db.trees tree → ShowsTooMany sql db → 2 ^ 64 ≤ length (db.trees tree)
 many_rows sql tree project order names is db plain h =
     let long = many_listed sql (inner tree end) project order names is db h in
@@ -130,7 +138,8 @@ pub meta_walkable : IsWalkable meta_rows_text 2
 meta_walkable = is_walkable meta_rows_text (inner 0 end) (col 1 1 ∷ col 1 2 ∷ []) [] (codes "name" ∷ codes "value" ∷ []) meta_rows_is refl meta_typed meta_alone
 
 pub meta_vast : (db : Database) → db.schema ≡ store_schema → ShowsTooMany meta_rows_text db → IsVast db
-meta_vast db has h = record { schema = has; table = meta_table; listed = inl refl; rows = many_rows meta_rows_text 0 (col 1 1 ∷ col 1 2 ∷ []) [] (codes "name" ∷ codes "value" ∷ []) meta_rows_is db refl h }
+meta_vast db has h =
+    record { schema = has; table = meta_table; listed = inl refl; rows = many_rows meta_rows_text 0 (col 1 1 ∷ col 1 2 ∷ []) [] (codes "name" ∷ codes "value" ∷ []) meta_rows_is db refl h }
 
 shelf_typed : (db : Database) → db.schema ≡ store_schema → RefusesQuery None db (record { lets = []; body = listing (inner 2 end) shelf_columns by_name }) [] (SqliteFailure TypeMismatch) → ⊥
 unfolding understood everything
@@ -172,7 +181,8 @@ pub number_walkable : IsWalkable number_rows_text 1
 number_walkable = is_walkable number_rows_text (inner 4 end) (col 1 0 ∷ []) by_number (codes "rowid" ∷ []) number_rows_is refl number_typed number_alone
 
 pub number_vast : (db : Database) → db.schema ≡ store_schema → ShowsTooMany number_rows_text db → IsVast db
-number_vast db has h = record { schema = has; table = access_table; listed = inr (inr (inl refl)); rows = many_rows number_rows_text 4 (col 1 0 ∷ []) by_number (codes "rowid" ∷ []) number_rows_is db refl h }
+number_vast db has h =
+    record { schema = has; table = access_table; listed = inr (inr (inl refl)); rows = many_rows number_rows_text 4 (col 1 0 ∷ []) by_number (codes "rowid" ∷ []) number_rows_is db refl h }
 
 entry_typed : (db : Database) → db.schema ≡ store_schema → RefusesQuery None db (record { lets = []; body = listing (inner 6 end) entry_columns by_place }) [] (SqliteFailure TypeMismatch) → ⊥
 unfolding understood everything
@@ -200,11 +210,13 @@ pub piece_walkable : IsWalkable piece_rows_text piece_width
 piece_walkable = is_walkable piece_rows_text (inner 8 end) piece_columns by_piece piece_names piece_rows_is refl piece_typed piece_alone
 
 pub piece_vast : (db : Database) → db.schema ≡ store_schema → ShowsTooMany piece_rows_text db → IsVast db
-piece_vast db has h = record { schema = has; table = piece_table; listed = inr (inr (inr (inr (inl refl)))); rows = many_rows piece_rows_text 8 piece_columns by_piece piece_names piece_rows_is db refl h }
+piece_vast db has h =
+    record { schema = has; table = piece_table; listed = inr (inr (inr (inr (inl refl)))); rows = many_rows piece_rows_text 8 piece_columns by_piece piece_names piece_rows_is db refl h }
 
 -- ---- one walk after the other
 
-pub walk_reason : (sql : List ℕ) (old new : State) (r : Result Bool Error) → (ShowsTooMany sql old.now → IsVast old.now) → IfErr r (λ e. IsExcused old new e ⊎ ShowsTooMany sql old.now) → IfErr r (HasReason old new)
+pub walk_reason : (sql : List ℕ) (old new : State) (r : Result Bool Error) → (ShowsTooMany sql old.now → IsVast old.now)
+    → IfErr r (λ e. IsExcused old new e ⊎ ShowsTooMany sql old.now) → IfErr r (HasReason old new)
 walk_reason sql old new (Ok b) vast h = tt
 walk_reason sql old new (Err e) vast (inl excused) = inl excused
 walk_reason sql old new (Err e) vast (inr many) = inr (vast many)

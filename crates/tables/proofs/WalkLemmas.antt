@@ -29,7 +29,8 @@ kept_then a b c p (inr q) = inr (record {
 -- ---- rows one at a time
 
 -- a query with no RETURNING commits nothing
-pub commits_nothing : (sql : List _) (old new : State) → IsPlain (understood store_schema sql) → Survives old new (CommitsShowing sql [] old) → old.now.schema ≡ store_schema → Survives old new (λ _. ⊥)
+pub commits_nothing : (sql : List _) (old new : State) → IsPlain (understood store_schema sql)
+    → Survives old new (CommitsShowing sql [] old) → old.now.schema ≡ store_schema → Survives old new (λ _. ⊥)
 commits_nothing sql old new plain survives has =
     survives_weaker old new _ _ (λ _ db. never_commits sql [] old db (subst (λ s. IsPlain (understood s sql)) (sym has) plain)) survives
 
@@ -47,21 +48,28 @@ pub then_survives : (old mid new : State) → (old.now.schema ≡ store_schema �
 then_survives old mid new first next has = survives_then old mid new _ _ (λ _. ⊥) (λ _ db none. none) (λ _ db none. none) (first has) next
 
 -- the rows so far, and one more step
-pub moved_looks : (old mid new : State) → doubt old.is_clean ≤ doubt mid.is_clean → (old.now.schema ≡ store_schema → Survives old mid (λ _. ⊥)) → (HasCleanDisk mid → old.now.schema ≡ store_schema → IsUnchanged old mid)
+pub moved_looks : (old mid new : State) → doubt old.is_clean ≤ doubt mid.is_clean
+    → (old.now.schema ≡ store_schema → Survives old mid (λ _. ⊥)) → (HasCleanDisk mid → old.now.schema ≡ store_schema → IsUnchanged old mid)
     → Survives mid new (λ _. ⊥) → (HasCleanDisk new → IsUnchanged mid new ⊎ IsRolledBack mid new) → Looks old new
 moved_looks old mid new up first same next kept =
-    quiet_looks old new (let e = next.clean in omega (arith, up, e)) (then_survives old mid new first next) (λ clean has. kept_then old mid new (same (was_clean mid new next.clean clean) has) (kept clean))
+    quiet_looks old new (let e = next.clean in omega (arith, up, e)) (then_survives old mid new first next)
+    (λ clean has. kept_then old mid new (same (was_clean mid new next.clean clean) has) (kept clean))
 
 pub failed_or_same : (mid new : State) (e : Error) → Fails mid new ⊥ e ⊎ IsUnchanged mid new → IsUnchanged mid new ⊎ IsRolledBack mid new
 failed_or_same mid new e (inl fails) = inr fails.3
 failed_or_same mid new e (inr same) = inl same
 
-module _ (sql : List _) (plain : IsPlain (understood store_schema sql)) (unlisted : reads_listing store_schema sql ≡ false) (old mid new : State) (has : old.now.schema ≡ store_schema) (same : IsUnchanged old mid) where
+module _ (sql : List _) (plain : IsPlain (understood store_schema sql)) (unlisted : reads_listing store_schema sql ≡ false)
+    (old mid new : State) (has : old.now.schema ≡ store_schema) (same : IsUnchanged old mid) where
   pub all_walked : (rows : List Row) → Shown sql [] mid new rows → Reads (command_of (understood store_schema sql)) old.now [] rows
-  all_walked rows shown = subst (λ db. Reads (command_of (understood store_schema sql)) db [] rows) same.0.now_is (reads_as sql [] mid new store_schema (unchanged_schema old mid same has) _ refl plain unlisted rows shown)
+  all_walked rows shown =
+      subst
+      (λ db. Reads (command_of (understood store_schema sql)) db [] rows) same.0.now_is (reads_as sql [] mid new store_schema (unchanged_schema old mid same has) _ refl plain unlisted rows shown)
 
   pub some_walked : (rows : List Row) → Begins sql [] mid rows → ReadsFirst (command_of (understood store_schema sql)) old.now [] rows
-  some_walked rows begins = subst (λ db. ReadsFirst (command_of (understood store_schema sql)) db [] rows) same.0.now_is (begins_as sql [] mid mid store_schema (unchanged_schema old mid same has) _ refl plain unlisted rows begins)
+  some_walked rows begins = subst
+      (λ db. ReadsFirst (command_of (understood store_schema sql)) db [] rows) same.0.now_is
+      (begins_as sql [] mid mid store_schema (unchanged_schema old mid same has) _ refl plain unlisted rows begins)
 
 module _ {X : Type 0} (Fits : X → Row → Type 0) (Keeps : X → Row → X → Type 0) where
   pub one_more : (start : X) (rows : List Row) (kept : X) (row : Row) (next : X) → Pass Fits Keeps start rows kept → Fits kept row → Keeps kept row next → Pass Fits Keeps start (rows ++ row ∷ []) next

@@ -15,8 +15,10 @@ use Rattle.world.proofs.Orders.{text_self}
 use Rattle.tables.specs.Schema.{store_schema}
 use Rattle.tables.specs.Pieces.{piece_size, piece, HasPiece}
 use Rattle.tables.specs.Means.{Means, IsMeta, IsAt, IsPiece, ArePieces, is_of, schema_named}
-use Rattle.tables.specs.Fit.{text_in, int_in, nat_in, blob_in, key_in, number_in, place_in, piece_in, piece_key, full_piece, is_on, entry_shown, piece_shown, meta_shown, shelf_shown, name_shown, number_shown}
-use Rattle.tables.specs.Fit.{IsSchemaRow, IsNamed, HasTop, IsShelfRow, IsKeyRow, IsNumberRow, IsEntryRow, IsPieceRow, IsMetaFit, AreShelvesFit, AreKeysFit, AreNumbersFit, AreEntriesFit, ArePiecesFit, AreFit}
+use Rattle.tables.specs.Fit.{text_in, int_in, nat_in, blob_in, key_in, number_in, place_in, piece_in, piece_key, full_piece}
+use Rattle.tables.specs.Fit.{is_on, entry_shown, piece_shown, meta_shown, shelf_shown, name_shown, number_shown}
+use Rattle.tables.specs.Fit.{IsSchemaRow, IsNamed, HasTop, IsShelfRow, IsKeyRow, IsNumberRow, IsEntryRow, IsPieceRow}
+use Rattle.tables.specs.Fit.{IsMetaFit, AreShelvesFit, AreKeysFit, AreNumbersFit, AreEntriesFit, ArePiecesFit, AreFit}
 use Rattle.tables.proofs.AsciiLemmas.{shelf_utf8}
 use Rattle.tables.proofs.CountedRows.{all_counted}
 use Rattle.tables.proofs.EntryTests.{with_zip}
@@ -26,7 +28,8 @@ use Rattle.tables.proofs.SoundLemmas.{piece_number, piece_version, one_version}
 use Rattle.tables.proofs.WorldOf.{length_mapped, held_text}
 
 -- a relation of each two, as they are shown
-ascending_shown : {X Y : Type 0} (P : X → X → Type 0) (Q : Y → Y → Type 0) (f : X → Y) (xs : List X) → ((a b : X) → Has xs a → Has xs b → P a b → Q (f a) (f b)) → IsAscending P xs → IsAscending Q (mapped f xs)
+ascending_shown : {X Y : Type 0} (P : X → X → Type 0) (Q : Y → Y → Type 0) (f : X → Y) (xs : List X)
+    → ((a b : X) → Has xs a → Has xs b → P a b → Q (f a) (f b)) → IsAscending P xs → IsAscending Q (mapped f xs)
 ascending_shown P Q f [] gives up = tt
 ascending_shown P Q f (x ∷ xs) gives up = (
   all_from (Q (f x)) (mapped f xs) (λ y there. let it = has_mapped f xs y there in subst (Q (f x)) (sym it.2) (gives x it.0 (inl refl) (inr it.1) (all_has (P x) xs it.0 up.0 it.1))),
@@ -66,7 +69,8 @@ module _ (db : Trees) (w : World) (sound : IsSound store_schema db) (means : Mea
   shelves_fit = record {
     shelves = record {
       each = each_shown IsShelfRow shelf_shown (db 2) (λ row there. let it = means.shelves.each row there in (it.0.0, it.0.1, it.1.0, it.1.1, named it.0.0 it.0.1 it.2));
-      once = ascending_shown _ (λ a b. key_in a ≡ key_in b → ⊥) shelf_shown (db 2) (λ a b here there apart same. apart (key_in (shelf_shown b)) (shelf_key a here ∙ ap Text same) (shelf_key b there)) means.names;
+      once = ascending_shown _ (λ a b. key_in a ≡ key_in b → ⊥) shelf_shown (db 2)
+          (λ a b here there apart same. apart (key_in (shelf_shown b)) (shelf_key a here ∙ ap Text same) (shelf_key b there)) means.names;
     };
     has_common = top_row common is.has_common;
     parents = λ row parent there shown.
@@ -83,7 +87,9 @@ module _ (db : Trees) (w : World) (sound : IsSound store_schema db) (means : Mea
   keys_fit : AreKeysFit (mapped name_shown (db 4))
   keys_fit = record {
     each = each_shown IsKeyRow name_shown (db 4) (λ row there. let it = means.access.each row there in (it.0.0, it.1.0, is.key_names it.0.0 it.0.1 it.2));
-    once = ascending_shown _ (λ a b. key_in a ≡ key_in b → ⊥) name_shown (db 4) (λ a b here there apart same. apart (key_in (name_shown b)) (own_key a here ∙ ap Text same) (own_key b there)) means.tokens;
+    once =
+        ascending_shown _ (λ a b. key_in a ≡ key_in b → ⊥) name_shown (db 4)
+        (λ a b here there apart same. apart (key_in (name_shown b)) (own_key a here ∙ ap Text same) (own_key b there)) means.tokens;
   }
 
   numbers_fit : AreNumbersFit (mapped number_shown (db 4))
@@ -123,10 +129,12 @@ module _ (db : Trees) (w : World) (sound : IsSound store_schema db) (means : Mea
   entries_fit : AreEntriesFit (mapped entry_shown (db 6))
   entries_fit = record {
     each = each_shown IsEntryRow entry_shown (db 6) entry_row;
-    once = ascending_shown _ (λ a b. place_in a ≡ place_in b → ⊥) entry_shown (db 6) (λ a b here there apart same. apart (place_in (entry_shown b)) (subst (IsAt a) same (own_place a here)) (own_place b there)) means.places;
+    once = ascending_shown _ (λ a b. place_in a ≡ place_in b → ⊥) entry_shown (db 6)
+        (λ a b here there apart same. apart (place_in (entry_shown b)) (subst (IsAt a) same (own_place a here)) (own_place b there)) means.places;
     few = λ s p.
         let rows = length_mapped (λ row. is_on s p (place_in row)) entry_shown (db 6) in
-        let counted = all_counted s p w db means (λ row. is_on s p (place_in (entry_shown row))) (λ q row at on. ap (is_on s p) (place_is row q at) ∙ on) (λ q row at on. ap (is_on s p) (sym (place_is row q at)) ∙ on) in
+        let counted = all_counted s p w db means (λ row. is_on s p (place_in (entry_shown row)))
+        (λ q row at on. ap (is_on s p) (place_is row q at) ∙ on) (λ q row at on. ap (is_on s p) (sym (place_is row q at)) ∙ on) in
         omega (arith, rows, counted, is.few s p);
   }
 

@@ -1,5 +1,6 @@
 -- Rows that fit stand for a world.
-use Rattle.std.proofs.Common.{◌≡◌, ◌≤◌, ◌==◌, ◌⊎◌, ℕ, suc, pos, negsuc, Bool, true, false, true≢false, cond, Option, Some, None, is_some, inr, List, [], ◌∷◌, length, map as mapped, filter, refl, sym, ap, subst, subst₂, ◌∙◌, arith}
+use Rattle.std.proofs.Common.{◌≡◌, ◌≤◌, ◌==◌, ◌⊎◌, ℕ, suc, pos, negsuc, Bool, true, false, true≢false, cond, Option, Some, None}
+use Rattle.std.proofs.Common.{is_some, inr, List, [], ◌∷◌, length, map as mapped, filter, refl, sym, ap, subst, subst₂, ◌∙◌, arith}
 use Rattle.std.specs.FinMap as map
 use Rattle.sqlite.specs.declared.types.Value.{Value}
 use Rattle.sqlite.specs.declared.types.Value.TheVariants.{Null, Int, Real, Text, Blob}
@@ -21,7 +22,8 @@ use Rattle.world.proofs.Orders.{texts_total, texts_exact, places_total, places_e
 use Rattle.tables.specs.Schema.{store_schema}
 use Rattle.tables.specs.Means.{may_publish}
 use Rattle.tables.specs.Means.{Means, IsMeta, IsShelf, IsAccess, IsNumbered, IsVersion, HasKeys, schema_named}
-use Rattle.tables.specs.Fit.{text_in, int_in, nat_in, blob_in, place_in, is_on, entry_shown, piece_shown, meta_shown, shelf_shown, name_shown, number_shown, IsShelfName, IsNamed, IsShelfRow, HasTop, ShowsEntry, AreFit}
+use Rattle.tables.specs.Fit.{text_in, int_in, nat_in, blob_in, place_in, is_on, entry_shown, piece_shown, meta_shown}
+use Rattle.tables.specs.Fit.{shelf_shown, name_shown, number_shown, IsShelfName, IsNamed, IsShelfRow, HasTop, ShowsEntry, AreFit}
 use Rattle.tables.proofs.Ascending.{ascending_from_map, one_by_key}
 use Rattle.tables.proofs.EntryTests.{with_zip}
 use Rattle.tables.proofs.ZipOf.{zip_of, zip_pieces, zip_small}
@@ -35,7 +37,8 @@ pub length_mapped : {X Y : Type 0} (p : Y → Bool) (f : X → Y) (xs : List X) 
 length_mapped p f [] = refl
 length_mapped {X} {Y} p f (x ∷ xs) = go (p (f x)) (length_mapped p f xs)
   where
-    go : (b : Bool) → length (filter p (mapped f xs)) ≡ length (filter (λ x. p (f x)) xs) → length (cond b (f x ∷ filter p (mapped f xs)) (filter p (mapped f xs))) ≡ length (cond b (x ∷ filter (λ x. p (f x)) xs) (filter (λ x. p (f x)) xs))
+    go : (b : Bool) → length (filter p (mapped f xs)) ≡ length (filter (λ x. p (f x)) xs)
+        → length (cond b (f x ∷ filter p (mapped f xs)) (filter p (mapped f xs))) ≡ length (cond b (x ∷ filter (λ x. p (f x)) xs) (filter (λ x. p (f x)) xs))
     go true h = ap suc h
     go false h = h
 
@@ -213,7 +216,8 @@ module _ (db : Trees) (sound : IsSound store_schema db) (fit : AreFit db) where
           (it.0, it.1, subst (IsAccess it.0) same (access_is it.0 it.1));
     };
     entries = record {
-      each = λ row there. ((place_of row, entry_of (db 8) row), version_is row there, made_has places_total places_exact place_of (entry_of (db 8)) (db 6) (one_by_key place_of (db 6) places_once) row there);
+      each = λ row there.
+          ((place_of row, entry_of (db 8) row), version_is row there, made_has places_total places_exact place_of (entry_of (db 8)) (db 6) (one_by_key place_of (db 6) places_once) row there);
       found = λ x holds.
           let it = made_from places_total places_exact place_of (entry_of (db 8)) (db 6) x.0 x.1 holds in
           let same : (place_of it.0, entry_of (db 8) it.0) ≡ x = λ i. (sym it.2 i, sym it.3 i) in
@@ -222,7 +226,8 @@ module _ (db : Trees) (sound : IsSound store_schema db) (fit : AreFit db) where
     numbered = numbers_own;
     names = ascending_weaker _ _ (λ a b apart name one two. apart (ap text_in (one ∙ sym two))) (db 2) names_once;
     tokens = ascending_weaker _ _ (λ a b apart token one two. apart (ap text_in (one ∙ sym two))) (db 4) tokens_once;
-    places = ascending_weaker _ _ (λ a b apart p at by. apart (λ i. record { shelf = ap text_in (at.0 ∙ sym by.0) i; path = ap text_in (at.1 ∙ sym by.1) i; version = ap text_in (at.2 ∙ sym by.2) i })) (db 6) places_once;
+    places = ascending_weaker _ _
+        (λ a b apart p at by. apart (λ i. record { shelf = ap text_in (at.0 ∙ sym by.0) i; path = ap text_in (at.1 ∙ sym by.1) i; version = ap text_in (at.2 ∙ sym by.2) i })) (db 6) places_once;
     pieces = ascending_weaker _ _ (λ a b apart version number. apart (λ i. (int_in (version i), nat_in (number i)))) (db 8) (ascending_from_map _ piece_shown (db 8) fit.pieces.pieces.once);
   }
 

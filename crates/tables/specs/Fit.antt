@@ -1,5 +1,6 @@
 -- What the rows of the tables must be for the tables to stand for a world.
-use Rattle.std.specs.Prelude.{◌≡◌, ◌≤◌, ◌<◌, ◌⊎◌, ◌&&◌, ◌==◌, ◌+◌, ℕ, ℤ, pos, negsuc, Bool, true, List, [], ◌∷◌, length, map, filter, bytes_eq, codes, IsUtf8, Option, Some, None}
+use Rattle.std.specs.Prelude.{◌≡◌, ◌≤◌, ◌<◌, ◌⊎◌, ◌&&◌, ◌==◌, ◌+◌, ℕ, ℤ, pos, negsuc, Bool, true, List}
+use Rattle.std.specs.Prelude.{[], ◌∷◌, length, map, filter, bytes_eq, codes, IsUtf8, Option, Some, None}
 use Rattle.std.specs.List.{list_all}
 use Rattle.std.specs.FinSet as set
 use Rattle.sqlite.specs.declared.types.Value.{Value}
@@ -102,7 +103,8 @@ IsNamed name (Some parent) = (is_team_name name ≡ true) × IsShelfName parent
 
 -- the row shows a shelf with a name and a parent that it may have
 abbrev pub IsShelfRow : Row → Type 0
-IsShelfRow row = (name : List ℕ) × (parent : Option (List ℕ)) × (column row 0 ≡ Text name) × (column row 1 ≡ or_null Text parent) × IsNamed name parent
+IsShelfRow row = (name : List ℕ) × (parent : Option (List ℕ)) × (column row 0 ≡ Text name)
+    × (column row 1 ≡ or_null Text parent) × IsNamed name parent
 
 -- the names with this one added, if its row shows no parent
 abbrev pub top_put : Value → List ℕ → set.FinSet text_cmp → set.FinSet text_cmp
@@ -198,7 +200,8 @@ piece_key row = (int_in (column row 0), nat_in (column row 1))
 
 -- what a walk keeps of the piece in a row
 abbrev pub piece_in : Row → LastPiece
-piece_in row = record { version = int_in (column row 0); number = nat_in (column row 1); is_full = length (blob_in (column row 2)) == piece_size }
+piece_in row =
+    record { version = int_in (column row 0); number = nat_in (column row 1); is_full = length (blob_in (column row 2)) == piece_size }
 
 -- what a walk keeps of a full piece
 abbrev pub full_piece : ℤ → ℕ → LastPiece

@@ -1,5 +1,6 @@
 -- Tests of the tables, which read them and write nothing, and walks that test one row after the other.
-use Rattle.std.specs.Prelude.{◌≡◌, ◌≤◌, ◌<◌, ◌⊎◌, ◌+◌, ◌^◌, ℕ, Bool, true, false, if◌then◌else◌, List, [], ◌∷◌, ◌++◌, length, Option, Some, None, IsSome, Result, Ok, Err, IfOk, OnOk, Decides}
+use Rattle.std.specs.Prelude.{◌≡◌, ◌≤◌, ◌<◌, ◌⊎◌, ◌+◌, ◌^◌, ℕ, Bool, true, false, if◌then◌else◌, List, [], ◌∷◌}
+use Rattle.std.specs.Prelude.{◌++◌, length, Option, Some, None, IsSome, Result, Ok, Err, IfOk, OnOk, Decides}
 use Rattle.sqlite_trees.specs.View.{doubt}
 use Rattle.sqlite.specs.Tree.{Trees}
 use Rattle.sqlite.specs.Order.{Row}
@@ -42,7 +43,8 @@ module _ {X : Type 0} (Fits : X → Row → Type 0) (Keeps : X → Row → X →
   abbrev pub Walks : List ℕ → Database → X → X → Bool → Type 0
   Walks sql db start end true = (rows : List Row) × Reads (command_of (understood store_schema sql)) db [] rows × Pass start rows end
   Walks sql db start end false =
-      (rows : List Row) × (row : Row) × (kept : X) × ReadsFirst (command_of (understood store_schema sql)) db [] (rows ++ row ∷ []) × Pass start rows kept × (Fits kept row → ⊥)
+      (rows : List Row) × (row : Row) × (kept : X) × ReadsFirst (command_of (understood store_schema sql)) db [] (rows ++ row ∷ [])
+      × Pass start rows kept × (Fits kept row → ⊥)
 
 -- ---- the queries that a walk can use
 
@@ -54,8 +56,10 @@ IsAlone sql (Err e) = ⊥
 -- only a limit on its steps can refuse the query, and each row that it shows has this many values
 pub record IsWalkable (sql : List ℕ) (width : ℕ) : Type 0 where
   pub alone : IsAlone sql (understood store_schema sql)
-  pub allowed : (limit : Option ℕ) (db : Database) (e : Error) → db.schema ≡ store_schema → RefusesToRead limit (command_of (understood store_schema sql)) db [] e → IsSome limit
-  pub wide : (db : Database) (rows : List Row) (row : Row) → ReadsFirst (command_of (understood store_schema sql)) db [] (rows ++ row ∷ []) → length row ≡ width
+  pub allowed : (limit : Option ℕ) (db : Database) (e : Error) → db.schema ≡ store_schema
+      → RefusesToRead limit (command_of (understood store_schema sql)) db [] e → IsSome limit
+  pub wide : (db : Database) (rows : List Row) (row : Row)
+      → ReadsFirst (command_of (understood store_schema sql)) db [] (rows ++ row ∷ []) → length row ≡ width
 
 -- the query shows more rows than a walk counts
 abbrev pub ShowsTooMany : List ℕ → Database → Type 0

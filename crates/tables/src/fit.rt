@@ -1,6 +1,7 @@
 //! Whether the rows of the tables stand for a world.
 
-ghost use Rattle.std.specs.Prelude.{◌≡◌, ◌≤◌, ◌⊎◌, option_copied, pos, map, length, true, false, IfOk, IfErr, IfSome, OnOk, IsTrue, Decides, MatchOption, IsUtf8, Some};
+ghost use Rattle.std.specs.Prelude.{◌≡◌, ◌≤◌, ◌⊎◌, option_copied, pos, map, length, true, false, IfOk};
+ghost use Rattle.std.specs.Prelude.{IfErr, IfSome, OnOk, IsTrue, Decides, MatchOption, IsUtf8, Some};
 ghost use Rattle.std.specs.List.{list_all};
 ghost use Rattle.std.specs.FinSet as set;
 ghost use Rattle.world.specs.Lines.{in_order};
@@ -16,7 +17,10 @@ ghost use Rattle.tables.specs.Means.{IsSettled, StandsForSome, StandsForNone};
 ghost use Rattle.tables.specs.Calls.{Honestly, FailsWithReason};
 ghost use Rattle.tables.specs.Causes.{HasReason};
 ghost use Rattle.tables.specs.Walks.{Tests, MayFollow, run_with};
-ghost use Rattle.tables.specs.Fit.{IsSchemaRow, IsShelfName, IsNamed, IsShelfRow, top_put, parent_put, are_whole, IsKeyRow, IsNumberRow, IsEntryRow, ShowsAt, entry_width, key_in, number_in, place_in, is_on, IsMetaFit, AreShelvesFit, AreKeysFit, AreNumbersFit, AreEntriesFit, AreFit, meta_shown, shelf_shown, name_shown, number_shown, entry_shown};
+ghost use Rattle.tables.specs.Fit.{IsSchemaRow, IsShelfName, IsNamed, IsShelfRow, top_put, parent_put, are_whole};
+ghost use Rattle.tables.specs.Fit.{IsKeyRow, IsNumberRow, IsEntryRow, ShowsAt, entry_width, key_in, number_in};
+ghost use Rattle.tables.specs.Fit.{place_in, is_on, IsMetaFit, AreShelvesFit, AreKeysFit, AreNumbersFit, AreEntriesFit};
+ghost use Rattle.tables.specs.Fit.{AreFit, meta_shown, shelf_shown, name_shown, number_shown, entry_shown};
 
 use crate::columns::{blob_at, int_at, is_blob_at, text_at};
 use crate::pieces::has_pieces;
@@ -177,7 +181,8 @@ impl RowTest for ShelfRows {
     ghost Fits = { λ rows row. IsShelfRow row × (rows.last ≡ Some (key_in row) → ⊥) };
 
     ghost Keeps = { λ rows row next. (next.last ≡ Some (key_in row))
-        × ((next.tops ≡ top_put (column row 1) (key_in row) rows.tops) × (next.parents ≡ parent_put (column row 1) rows.parents)) };
+        × ((next.tops ≡ top_put (column row 1) (key_in row) rows.tops)
+        × (next.parents ≡ parent_put (column row 1) rows.parents)) };
 
     fn passes(&mut self, row: &Row) -> Result<bool, Error> {
         let Some(name) = text_at(row, 0)? else {
@@ -270,7 +275,8 @@ impl RowTest for EntryRows {
 
     ghost Fits = { λ rows row. IsEntryRow row × MayFollow rows.last rows.many (place_in row) };
 
-    ghost Keeps = { λ rows row next. (next.last ≡ Some (place_in row)) × (next.many ≡ run_with rows.last rows.many (place_in row)) };
+    ghost Keeps = { λ rows row next. (next.last ≡ Some (place_in row))
+        × (next.many ≡ run_with rows.last rows.many (place_in row)) };
 
     fn passes(&mut self, row: &Row) -> Result<bool, Error> {
         let Some(place) = entry_place(self.alloc, row)? else {

@@ -9,7 +9,9 @@ ghost use Rattle.sqlite_sql.specs.declared.ops.BinaryOp.TheVariants.{Compare};
 ghost use Rattle.sqlite_sql.specs.declared.ops.CompareOp.TheVariants.{Eq};
 ghost use Rattle.sqlite_value.specs.declared.keys.Collation.TheVariants.{Binary};
 ghost use Rattle.sqlite_value.specs.declared.value.Value.TheVariants.{Int};
-ghost use Rattle.tables.specs.Schema.{store_schema, no_schema, is_flag, meta_table, shelf_table, access_table, version_table, version_columns, piece_table, is_from_zero, no_stamps, IsBare, column_of, given, optional, refers, unique_index, meta_index, shelf_index, access_index, version_index, piece_index};
+ghost use Rattle.tables.specs.Schema.{store_schema, no_schema, is_flag, meta_table, shelf_table, access_table, version_table};
+ghost use Rattle.tables.specs.Schema.{version_columns, piece_table, is_from_zero, no_stamps, IsBare, column_of, given, optional};
+ghost use Rattle.tables.specs.Schema.{refers, unique_index, meta_index, shelf_index, access_index, version_index, piece_index};
 
 use sqlite_items::Items;
 use sqlite_schema::code::{Op, Terms};
@@ -214,7 +216,8 @@ pub fn is_index(index: &Index, name: &str, tree: u32, table: u32, columns: &[usi
 
 /// Whether the node at this place is `publish = VALUE`.
 fn is_equation(nodes: &[Op], at: usize, value: i64) -> bool
-    ensures { (depth : ℕ) → Decides result (term_to nodes.now (suc (suc depth)) at ≡ op2 (Compare Eq Binary) (col 1 3) (lit (Int value))) }
+    ensures { (depth : ℕ) → Decides result
+        (term_to nodes.now (suc (suc depth)) at ≡ op2 (Compare Eq Binary) (col 1 3) (lit (Int value))) }
 {
     let Some(Op::Binary(BinaryOp::Compare(CompareOp::Eq, Collation::Binary), left, right)) =
         nodes.get(at) else {

@@ -18,7 +18,8 @@ rows_pass-requires-clause-walkable g c = number_walkable
 pub returns-clause-tests : goal.returns-clause-tests
 returns-clause-tests g c =
     let old = state g.S.Store c.args.conn.now in
-    walked NumberFits NumberKeeps number_rows_text old (state g.S.Store c.rows_pass.new.conn) c.rows_pass.result _ c.rows_pass.new.test _ c.rows_pass.ensures.looks c.rows_pass.ensures.same c.rows_pass.ensures.answer
+    walked NumberFits NumberKeeps number_rows_text old
+    (state g.S.Store c.rows_pass.new.conn) c.rows_pass.result _ c.rows_pass.new.test _ c.rows_pass.ensures.looks c.rows_pass.ensures.same c.rows_pass.ensures.answer
     (numbers_true old.now _ c.rows_pass.new.test) (numbers_false old.now _ c.rows_pass.new.test refl)
 
 pub returns-clause-cause : goal.returns-clause-cause

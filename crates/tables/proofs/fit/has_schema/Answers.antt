@@ -34,4 +34,5 @@ returns-clause-tests g c =
 pub returns-in_err-rows_pass-clause-cause : goal.returns-in_err-rows_pass-clause-cause
 returns-in_err-rows_pass-clause-cause g c clean has =
     let old = state g.S.Store c.args.conn.now in
-    told_error _ c.from_residual.result c.in_err-rows_pass.field-0.0 c.from_residual.ensures.1 (walk_reason meta_rows_text old (state g.S.Store c.rows_pass.new.conn) (Err _) (meta_vast old.now has) (c.in_err-rows_pass.ensures.cause clean has))
+    told_error _ c.from_residual.result c.in_err-rows_pass.field-0.0 c.from_residual.ensures.1
+    (walk_reason meta_rows_text old (state g.S.Store c.rows_pass.new.conn) (Err _) (meta_vast old.now has) (c.in_err-rows_pass.ensures.cause clean has))

@@ -26,7 +26,8 @@ pub returns-then-not-branch-clause-tests : goal.returns-then-not-branch-clause-t
 returns-then-not-branch-clause-tests g c =
     let old = state g.S.Store c.args.conn.now in
     told old (state g.S.Store c.rows_pass.new.conn) false _ c.rows_pass.ensures.looks c.in_ok-rows_pass.ensures.same
-    (λ clean has. refused (shelves_false old.now _ c.rows_pass.new.test (none_of _ c.new.ensures) (none_of _ c.new-2.ensures) refl (rw c.if-not-branch.true at (c.in_ok-rows_pass.ensures.answer clean has))))
+    (λ clean has. refused
+    (shelves_false old.now _ c.rows_pass.new.test (none_of _ c.new.ensures) (none_of _ c.new-2.ensures) refl (rw c.if-not-branch.true at (c.in_ok-rows_pass.ensures.answer clean has))))
 
 pub returns-clause-tests : goal.returns-clause-tests
 returns-clause-tests g c =
@@ -38,4 +39,5 @@ returns-clause-tests g c =
 pub returns-in_err-rows_pass-clause-cause : goal.returns-in_err-rows_pass-clause-cause
 returns-in_err-rows_pass-clause-cause g c clean has =
     let old = state g.S.Store c.args.conn.now in
-    told_error _ c.from_residual.result c.in_err-rows_pass.field-0.0 c.from_residual.ensures.1 (walk_reason shelf_rows_text old (state g.S.Store c.rows_pass.new.conn) (Err _) (shelf_vast old.now has) (c.in_err-rows_pass.ensures.cause clean has))
+    told_error _ c.from_residual.result c.in_err-rows_pass.field-0.0 c.from_residual.ensures.1
+    (walk_reason shelf_rows_text old (state g.S.Store c.rows_pass.new.conn) (Err _) (shelf_vast old.now has) (c.in_err-rows_pass.ensures.cause clean has))

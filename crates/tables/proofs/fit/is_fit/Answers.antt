@@ -55,7 +55,8 @@ returns-clause-tests g c =
     let three = then_tests first third fourth (Ok true) TwoFit Keyed two keyed in
     let four = then_tests first fourth fifth (Ok true) ThreeFit Numbered three numbered in
     let five = then_tests first fifth sixth (Ok true) FourFit Filled four filled in
-    tests_same first last c.has_pieces.result (λ db. FiveFit db × Pieced db) AreFit (λ db it. record { named = it.0.0.0.0.0; shelves = it.0.0.0.0.1; access = it.0.0.0.1; numbers = it.0.0.1; entries = it.0.1; pieces = it.1 })
+    tests_same first last c.has_pieces.result (λ db. FiveFit db × Pieced db) AreFit
+    (λ db it. record { named = it.0.0.0.0.0; shelves = it.0.0.0.0.1; access = it.0.0.0.1; numbers = it.0.0.1; entries = it.0.1; pieces = it.1 })
     (λ db fit. (((((fit.named, fit.shelves), fit.access), fit.numbers), fit.entries), fit.pieces)) (then_tests first sixth last c.has_pieces.result FiveFit Pieced five c.has_pieces.ensures.tests)
 
 pub returns-in_err-has_shelves-clause-cause : goal.returns-in_err-has_shelves-clause-cause
@@ -64,7 +65,8 @@ returns-in_err-has_shelves-clause-cause g c clean has =
     let second = state g.S.Store c.has_schema.new.conn in
     let third = state g.S.Store c.has_shelves.new.conn in
     let named : Tests first second (Ok true) Named = rw c.if-not-branch.false at c.in_ok-has_schema.ensures.tests in
-    told_error _ c.from_residual-in_err-has_shelves.result c.in_err-has_shelves.field-0.0 c.from_residual-in_err-has_shelves.ensures.1 (then_reason first second third Named named c.has_shelves.ensures.tests.looks.clean clean has (Err _) c.in_err-has_shelves.ensures.cause)
+    told_error _ c.from_residual-in_err-has_shelves.result c.in_err-has_shelves.field-0.0 c.from_residual-in_err-has_shelves.ensures.1
+    (then_reason first second third Named named c.has_shelves.ensures.tests.looks.clean clean has (Err _) c.in_err-has_shelves.ensures.cause)
 
 pub returns-in_err-has_keys-clause-cause : goal.returns-in_err-has_keys-clause-cause
 returns-in_err-has_keys-clause-cause g c clean has =
@@ -75,7 +77,8 @@ returns-in_err-has_keys-clause-cause g c clean has =
     let named : Tests first second (Ok true) Named = rw c.if-not-branch.false at c.in_ok-has_schema.ensures.tests in
     let shelved : Tests second third (Ok true) Shelved = rw c.if-not-branch-2.false at c.in_ok-has_shelves.ensures.tests in
     let two = then_tests first second third (Ok true) Named Shelved named shelved in
-    told_error _ c.from_residual-in_err-has_keys.result c.in_err-has_keys.field-0.0 c.from_residual-in_err-has_keys.ensures.1 (then_reason first third fourth TwoFit two c.has_keys.ensures.tests.looks.clean clean has (Err _) c.in_err-has_keys.ensures.cause)
+    told_error _ c.from_residual-in_err-has_keys.result c.in_err-has_keys.field-0.0 c.from_residual-in_err-has_keys.ensures.1
+    (then_reason first third fourth TwoFit two c.has_keys.ensures.tests.looks.clean clean has (Err _) c.in_err-has_keys.ensures.cause)
 
 pub returns-in_err-has_numbers-clause-cause : goal.returns-in_err-has_numbers-clause-cause
 returns-in_err-has_numbers-clause-cause g c clean has =
@@ -89,7 +92,8 @@ returns-in_err-has_numbers-clause-cause g c clean has =
     let keyed : Tests third fourth (Ok true) Keyed = rw c.if-not-branch-3.false at c.in_ok-has_keys.ensures.tests in
     let two = then_tests first second third (Ok true) Named Shelved named shelved in
     let three = then_tests first third fourth (Ok true) TwoFit Keyed two keyed in
-    told_error _ c.from_residual-in_err-has_numbers.result c.in_err-has_numbers.field-0.0 c.from_residual-in_err-has_numbers.ensures.1 (then_reason first fourth fifth ThreeFit three c.has_numbers.ensures.tests.looks.clean clean has (Err _) c.in_err-has_numbers.ensures.cause)
+    told_error _ c.from_residual-in_err-has_numbers.result c.in_err-has_numbers.field-0.0 c.from_residual-in_err-has_numbers.ensures.1
+    (then_reason first fourth fifth ThreeFit three c.has_numbers.ensures.tests.looks.clean clean has (Err _) c.in_err-has_numbers.ensures.cause)
 
 pub returns-in_err-has_entries-clause-cause : goal.returns-in_err-has_entries-clause-cause
 returns-in_err-has_entries-clause-cause g c clean has =
@@ -106,7 +110,8 @@ returns-in_err-has_entries-clause-cause g c clean has =
     let two = then_tests first second third (Ok true) Named Shelved named shelved in
     let three = then_tests first third fourth (Ok true) TwoFit Keyed two keyed in
     let four = then_tests first fourth fifth (Ok true) ThreeFit Numbered three numbered in
-    told_error _ c.from_residual-in_err-has_entries.result c.in_err-has_entries.field-0.0 c.from_residual-in_err-has_entries.ensures.1 (then_reason first fifth sixth FourFit four c.has_entries.ensures.tests.looks.clean clean has (Err _) c.in_err-has_entries.ensures.cause)
+    told_error _ c.from_residual-in_err-has_entries.result c.in_err-has_entries.field-0.0 c.from_residual-in_err-has_entries.ensures.1
+    (then_reason first fifth sixth FourFit four c.has_entries.ensures.tests.looks.clean clean has (Err _) c.in_err-has_entries.ensures.cause)
 
 pub returns-clause-cause : goal.returns-clause-cause
 returns-clause-cause g c clean has =

@@ -111,7 +111,8 @@ returns-then-not-branch-clause-answer g c clean has =
       was.0,
       c.in-Some.row.now,
       _,
-      some_walked c.args.sql.now c.requires.plain c.requires.tables (state g.S.Store c.args.conn.now) (state g.S.Store now) (state g.S.Store now) has at (was.0 ++ c.in-Some.row.now ∷ []) (given_begin g.S.Store c.args.sql.now [] now _ given),
+      some_walked c.args.sql.now c.requires.plain c.requires.tables (state g.S.Store c.args.conn.now) (state g.S.Store now) (state g.S.Store now) has
+          at (was.0 ++ c.in-Some.row.now ∷ []) (given_begin g.S.Store c.args.sql.now [] now _ given),
       was.2,
       bad,
     )
@@ -131,8 +132,13 @@ rows-preserved g c =
       λ clean has.
           let was = kept.3 (was_clean mid new moved.survives.clean clean) has in
           let given = (rw (c.in_ok-row.was, c.in-Some.is) at (moved.ok clean)) c.args.sql.now [] was.0 was.1 in
-          let same = rw c.in_ok-row.was at (moved.same clean) in
-          (was.0 ++ c.in-Some.row.now ∷ [], given, one_more g.T.RowTest.Fits g.T.RowTest.Keeps _ was.0 _ c.in-Some.row.now _ was.2 good.0 good.1, unchanged_then old mid new was.3 same, omega (arith, was.4, length-append was.0 (c.in-Some.row.now ∷ []))),
+          let same = rw c.in_ok-row.was at (moved.same clean) in (
+            was.0 ++ c.in-Some.row.now ∷ [],
+            given,
+            one_more g.T.RowTest.Fits g.T.RowTest.Keeps _ was.0 _ c.in-Some.row.now _ was.2 good.0 good.1,
+            unchanged_then old mid new was.3 same,
+            omega (arith, was.4, length-append was.0 (c.in-Some.row.now ∷ [])),
+          ),
     )
 
 pub returns-clause-looks : goal.returns-clause-looks
@@ -140,14 +146,16 @@ returns-clause-looks g c =
     let now = c.rows.rows.conn.now in
     let was = c.rows.invariant in
     let same : now ≡ c.conn-2-1.given.0 = search rules in
-    subst (λ h. Looks (state g.S.Store c.args.conn.now) (state g.S.Store h)) same (quiet_looks (state g.S.Store c.args.conn.now) (state g.S.Store now) was.1 was.2 (λ clean has. inl (was.3 clean has).3))
+    subst
+    (λ h. Looks (state g.S.Store c.args.conn.now) (state g.S.Store h)) same (quiet_looks (state g.S.Store c.args.conn.now) (state g.S.Store now) was.1 was.2 (λ clean has. inl (was.3 clean has).3))
 
 pub returns-in_err-rows-clause-cause : goal.returns-in_err-rows-clause-cause
 returns-in_err-rows-clause-cause g c clean has =
     let old = state g.S.Store c.args.conn.now in
     let new = state g.S.Store c.query.follows.lender-at-none in
     let held = rw c.in_err-rows.was at c.query.follows.holds-at-none in
-    told_error _ c.from_residual.result c.in_err-rows.field-0.0 c.from_residual.ensures.1 (inl (query_excused c.args.sql.now _ c.requires.walkable c.requires.plain c.requires.tables old new _ has (held.err clean)))
+    told_error _ c.from_residual.result c.in_err-rows.field-0.0 c.from_residual.ensures.1
+    (inl (query_excused c.args.sql.now _ c.requires.walkable c.requires.plain c.requires.tables old new _ has (held.err clean)))
 
 pub returns-in_err-row-clause-cause : goal.returns-in_err-row-clause-cause
 returns-in_err-row-clause-cause g c clean has =
@@ -159,7 +167,8 @@ returns-in_err-row-clause-cause g c clean has =
     let failed = (rw c.in_err-row.was at (moved.err late)) c.args.sql.now [] was.0 was.1 in
     told_error _ c.from_residual-in_err-row.result c.in_err-row.field-0.0 c.from_residual-in_err-row.ensures.1
     (excused_same g.S.Store (state g.S.Store c.args.conn.now) now c.conn-in_err-row-1.given.0 _ _ same
-    (next_excused c.args.sql.now _ c.requires.walkable c.requires.plain c.requires.tables (state g.S.Store c.args.conn.now) (state g.S.Store c.rows.rows.conn.now) has was.3 (state g.S.Store now) _ (c.rows.invariant.2 has) failed))
+    (next_excused c.args.sql.now _ c.requires.walkable c.requires.plain c.requires.tables (state g.S.Store c.args.conn.now)
+    (state g.S.Store c.rows.rows.conn.now) has was.3 (state g.S.Store now) _ (c.rows.invariant.2 has) failed))
 
 pub returns-in_err-passes-clause-cause : goal.returns-in_err-passes-clause-cause
 returns-in_err-passes-clause-cause g c clean has =
@@ -169,7 +178,8 @@ returns-in_err-passes-clause-cause g c clean has =
     let was = c.rows.invariant.3 (omega (arith, moved.survives.clean)) has in
     let given = (rw (c.in_ok-row.was, c.in-Some.is) at (moved.ok late)) c.args.sql.now [] was.0 was.1 in
     let at = unchanged_then (state g.S.Store c.args.conn.now) (state g.S.Store c.rows.rows.conn.now) (state g.S.Store now) was.3 (rw c.in_ok-row.was at (moved.same late)) in
-    let wide = given_wide c.args.sql.now _ c.requires.walkable c.requires.plain c.requires.tables (state g.S.Store c.args.conn.now) (state g.S.Store now) has at was.0 c.in-Some.row.now (given_begin g.S.Store c.args.sql.now [] now _ given) in
+    let wide = given_wide c.args.sql.now _ c.requires.walkable c.requires.plain c.requires.tables (state g.S.Store c.args.conn.now) (state g.S.Store now) has
+    at was.0 c.in-Some.row.now (given_begin g.S.Store c.args.sql.now [] now _ given) in
     told_error _ c.from_residual-in_err-passes.result c.in_err-passes.field-0.0 c.from_residual-in_err-passes.ensures.1 (inl (inl (c.in_err-passes.ensures.memory wide)))
 
 pub returns-clause-cause : goal.returns-clause-cause
@@ -178,4 +188,5 @@ returns-clause-cause g c clean has =
     let late : HasCleanDisk (state g.S.Store now) = search rules in
     let was = c.rows.invariant.3 late has in
     let many = was.4 in
-    inr (too_many c.args.sql.now _ c.requires.walkable c.requires.plain c.requires.tables (state g.S.Store c.args.conn.now) (state g.S.Store now) has was.3 was.0 (given_begin g.S.Store c.args.sql.now [] now _ was.1) (omega (arith, many, c.rows-test.false)))
+    inr (too_many c.args.sql.now _ c.requires.walkable c.requires.plain c.requires.tables (state g.S.Store c.args.conn.now)
+    (state g.S.Store now) has was.3 was.0 (given_begin g.S.Store c.args.sql.now [] now _ was.1) (omega (arith, many, c.rows-test.false)))

@@ -50,11 +50,17 @@ def functions_of(path, text):
 
 
 def body_of(lines, at, indent):
-    """Returns the rows that open and close the body of the function that begins at a row: what stands as deep as its head."""
-    opens = None
+    """Returns the rows that open and close the body of the function that begins at a row: what stands as deep as its head.
+
+    A trait's method without a body ends with its contract, which stands deeper.
+    """
+    opens, depth = None, 0
     for row in range(at, len(lines)):
         line = lines[row]
+        depth += line.count("{") - line.count("}")
         if not line.startswith(indent) or line[len(indent) : len(indent) + 1] in ("", " "):
+            if opens is None and depth == 0 and line.endswith("};"):
+                return row, row
             continue
         if line.endswith("{}") or line.endswith(";") or opens is None and line.endswith("}"):
             return row, row

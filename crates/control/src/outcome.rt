@@ -10,7 +10,7 @@ use world::registry::{Registered, StoreFault};
 pub enum Outcome {
     /// The machine's reply to the order; only `Done` changed anything. `Done` also tells of a copy that was made.
     Registered(Registered),
-    /// The store met a fault, and the order changed nothing.
+    /// A disk failed, the file of a copy can't be opened, or memory ran out, for the order or already for its line. Nothing was changed.
     Failed(StoreFault),
     /// No copy was made: the file has more than an empty store, or belongs to the served store.
     NotEmpty,

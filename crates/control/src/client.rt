@@ -26,11 +26,13 @@ const LONGEST_HEALTH: usize = 255;
 /// Why an operator was told nothing.
 #[derive(Clone, Copy, Debug, Drop, PartialEq, Eq)]
 pub enum Untold {
-    /// A name or the key can't stand in a line: it has a space or the end of a line, or it is too long. Nothing was sent.
+    /// A name, the key or the path of a copy can't stand in a line: it has a space or the end of a line, or it makes the line too long.
+    /// Nothing was sent.
     Words,
     /// There was no memory for the line. Nothing was sent.
     Memory,
-    /// The line could not be sent, or no outcome came. Whether the order was carried out is not known.
+    /// The line could not be sent whole, or no outcome was read: none came, what came is the line of none, or memory ran out. Whether the
+    /// order was carried out is not known.
     Io,
 }
 

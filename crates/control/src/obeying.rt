@@ -19,7 +19,8 @@ use world::shelves::Shelves;
 
 /// Reads an operator's line, carries out the order that it is, and writes and returns what came of it. A copy is made by `copies`.
 /// `Outcome::Stopping`: the operator wants the server to end. `Told::Health`: the line is a ping, and is told the tally, the failures
-/// of the store and the versions that `copies` counts.
+/// of the store and the versions that `copies` counts. `Outcome::Failed(StoreFault::Memory)` also means that there was no memory for
+/// the line, and that nothing was done.
 ///
 /// `Io::Read`: nothing was done, and nothing written. `Io::Write`: a beginning of the line was written, and not all; the shelves are
 /// as after the order.

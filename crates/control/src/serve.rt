@@ -21,7 +21,7 @@ use world::shelves::Shelves;
 /// begin were answered, which was at `since`. It returns after the last of the peers, or once an operator who wants it to end was told
 /// so, and waits for each caller as long as it takes.
 ///
-/// A connection of a peer that fails counts, and so does one that can't be taken, so a server without descriptors ends.
+/// A connection of a peer that fails counts. So does one that can't be taken, an operator's too, so a server without descriptors ends.
 pub fn serve_both<
     C: Clock,
     P: Peer + Drop,

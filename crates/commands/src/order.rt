@@ -95,7 +95,8 @@ fn refusal_by(keeps: bool, refusal: CommandRefusal) -> CommandRefusal
 
 /// Has the `serve` that listens at a socket copy its store into the file of a path, as that server sees it, and waits for that as long
 /// as it takes. `NotEmpty` if the file has more than an empty store or belongs to the served store. `Device` if nobody listens there,
-/// the file can't be opened or a disk failed. `Name` if no line can carry the path: nothing was sent. `Io` if no outcome came.
+/// the file can't be opened or a disk failed. `Memory` if memory ran out, here or there. `Name` if no line can carry the path: nothing
+/// was sent. `Io` if no outcome of a copy came.
 pub fn copy_at(rt: &HostRuntime, control: &str, path: &str) -> Result<(), CommandRefusal>
     ensures { spec.CopiesThere path.now result }
 {
@@ -140,8 +141,8 @@ fn copy_ending(told: Result<Outcome, Untold>) -> Result<(), CommandRefusal>
     }
 }
 
-/// Has the `serve` that listens at a socket end, after the request in hand. `Device` if nobody listens there, `Io` if it was not told that
-/// it ends.
+/// Has the `serve` that listens at a socket end, after the request in hand. `Device` if nobody listens there; otherwise it ends as
+/// `stop_over` does.
 pub fn stop_at(rt: &HostRuntime, path: &str) -> Result<(), CommandRefusal>
     ensures { spec.StopsThere result }
 {
@@ -151,7 +152,8 @@ pub fn stop_at(rt: &HostRuntime, path: &str) -> Result<(), CommandRefusal>
     }
 }
 
-/// Writes the line that ends a server, and reads the line of its outcome.
+/// Writes the line that ends a server, and reads the line of its outcome. `Device` or `Memory` if the server tells that failure, and
+/// `Io` if it tells anything else but its end, or nothing.
 pub fn stop_over<R: Read, W: Write>(
     alloc: Global,
     reader: &mut R,

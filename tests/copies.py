@@ -70,6 +70,7 @@ def whole(suite):
     suite.equal("a copy into an empty store", copy("three.db"), DONE)
     longest = path_of(LONGEST)
     suite.equal("a copy to a path of 4,087 bytes", (len(longest), copy(longest)), (LONGEST, DONE))
+    suite.equal("and to one of 4,088", copy(longest + "g"), refusal("device"))
     server.kill()
     suite.equal("the third copy sees what the store sees", inventories("three.db"), inventories("served.db"))
     suite.equal("and answers so", zips_in("three.db", [*range(VERSIONS), 100]), zips_in("served.db", [*range(VERSIONS), 100]))

@@ -73,7 +73,8 @@ LINES = [
     (b"team-add eta\0\n", b"name\n"), (b"key-add alpha alphakey0000009\n", b"name\n"), (b"key-add alpha\n", b"bad\n"),
     (b"key-revoke alphakey0000000", b"bad\n"), (b"key-revoke alphakey00000001 \n", b"bad\n"), (b"reader-add nosuch nosuchkey0000001\n", b"no-team\n"),
     (b"stop", b"bad\n"), (b"stop \n", b"bad\n"), (b"stop now\n", b"bad\n"), (b"Stop\n", b"bad\n"), (b"stop\nstop\n", b"bad\n"),
-    (b"team-add " + b"a" * 118 + b"\n", b"name\n"), (b"team-add " + b"a" * 119 + b"\n", b"bad\n"), (b"a" * 127, b"bad\n"), (b"a" * 128, b"bad\n"),
+    (b"team-add " + b"a" * 118 + b"\n", b"name\n"), *((b"team-add " + b"a" * (it - 9) + b"\n", b"bad\n") for it in (128, 4_095, 4_096)),
+    *((b"a" * it, b"bad\n") for it in (127, 128, 4_095, 4_096, 4_097)), (b"copy \xff\n", b"bad\n"),
 ]  # fmt: skip
 
 
@@ -242,7 +243,7 @@ def refused(suite):
     os.symlink("file", "link")
     live = Server("live.db", "live")
     before = read("served.db-wal"), read("served.db")
-    names = ["file", "folder", "link", "s" * 108, "none/control", "live", ""]
+    names = ["file", "folder", "link", "s" * 108, "none/control", "live", "", "served.db", "served.db-wal"]
     for name in names:
         words = ["serve", "--db", "served.db", "--port", "0", "--connections", "0", "--control", name]
         suite.equal(f"serve refuses a socket {name[:20]!r}", run(words), (1, b"", "goshelf: io\n"))
@@ -287,6 +288,13 @@ def untold(suite):
         server = Server("served.db")
         suite.equal("another user", run([*words, CONTROL], before=NOBODY), (1, b"", "goshelf: device\n"))
         suite.equal("revokes nothing", server.status(put("example.com/lib", "v1.0.0", GOMOD)), 201)
+        os.mkdir("other")
+        os.chown("other", 65534, 65534)
+        suite.equal("its store", run(["init", "--db", "other/own.db"], before=NOBODY)[0], 0)
+        for name in (CONTROL, "new"):
+            words = ["serve", "--db", "other/own.db", "--port", "0", "--connections", "0", "--control", name]
+            suite.equal(f"is not served with the socket {name}", run(words, before=NOBODY), (1, b"", "goshelf: io\n"))
+        suite.equal("nor is a socket made or taken", (os.path.lexists("new"), server.order(b"team-add beta\n")), (False, b"done\n"))
         server.kill()
     else:
         suite.skip("another user", "this needs root to become nobody")

@@ -76,7 +76,7 @@ EndsBefore w ss xs ys = (front more : List Exchange) × (xs ≡ front ++ more) �
 abbrev headed : World → List (List ℕ) → Exchange → List Exchange → Bool → List Request
 headed w ss x xs b = marked (b ∷ kept (after w (event_of x)) ss (map event_of xs)) (message_of x ∷ map message_of xs)
 
--- of the exchanges with a stream and those with the kept part of it, one list ends before the other or both end together
+-- of the exchanges with a stream and those with what is kept of it, one list ends before the other or both end together
 pub either_ends : (w : World) (ss : List (List ℕ)) (xs ys : List Exchange) (left left_too : List Request)
     → marked (kept w ss (map spec.event_of (map message_of xs ++ left))) (map message_of xs ++ left) ≡ map message_of ys ++ left_too
     → GoesAsFar w ss xs ys ⊎ EndsBefore w ss xs ys

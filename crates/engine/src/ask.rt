@@ -131,12 +131,12 @@ fn body_of(message: Message) -> Result<Option<Body>, AllocError>
     }))
 }
 
-/// Returns the first `len` bytes of a text, and the others. It copies the shorter part and returns the longer one in the
+/// Returns the first `len` bytes of a text, and the others. It copies the shorter of the two and returns the other in the
 /// buffer of the text. Fails only if memory runs out.
 fn cut_in_two(mut text: Vec<u8>, len: usize) -> Result<(Vec<u8>, Vec<u8>), AllocError>
     requires { len ≤ vec_len text }
-    ensures front { IfOk result (λ parts. parts.0.items ≡ take len text.items) }
-    ensures back { IfOk result (λ parts. parts.1.items ≡ drop len text.items) }
+    ensures front { IfOk result (λ cut. cut.0.items ≡ take len text.items) }
+    ensures back { IfOk result (λ cut. cut.1.items ≡ drop len text.items) }
 {
     if len > text.len() - len {
         let back = text.split_off(len)?;

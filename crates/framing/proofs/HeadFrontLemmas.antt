@@ -1,4 +1,4 @@
--- The part of a head that bytes end in, with one byte more, and that a head may begin so.
+-- Where in a head bytes end, with one byte more, and that a head may begin so.
 use Rattle.std.proofs.Common.{◌≡◌, ◌≢◌, ℕ, ◌<◌, ◌≤◌, ◌||◌, ◌==◌, Bool, true, false, inl, inr, List, [], ◌∷◌, ◌++◌, length, drop, take, refl, sym, ap, ◌∙◌, subst, arith, append_assoc, append-nil, length-append, codes, Option, Some, None, IfSome}
 use Rattle.std.proofs.lemmas.Grind.{flat_map-append}
 use Rattle.std.proofs.lemmas.List.{length_push, take_all, take-append-drop, take-append-le}
@@ -208,7 +208,7 @@ lines_may : (bytes rest : List ℕ) → HasLines bytes rest → Completes FieldL
 lines_may bytes rest ((s, fs), (middle, start, lines)) line =
     request_may (Completes_next RequestStart_deterministic {a = s} start (Section_after_lines fs lines (Section_of_line (inr line))))
 
--- bytes that end in a part of a head may become a head
+-- bytes that end within a head may become a head
 pub state_may : (p : HeadState) (bytes : List ℕ) → EndsIn p bytes → MayBecomeRequest bytes
 state_may state.Blank bytes (ends, e) =
     request_may_from_line (inl (line_blank (BlankLines_after ends (e ∙ sym (append-nil (print_blank ends))) some_newline)))
@@ -226,11 +226,11 @@ state_may state.Return bytes (name, raw, word, all, lines) = lines_may bytes _ l
 
 -- ---- what was looked at
 
--- all of the bytes, where they end in that part
+-- all of the bytes, where they end in that state
 all_looked_at : (p : HeadState) (bytes : List ℕ) → Stands p bytes → WasLookedAt bytes (record { state = p; len = length bytes })
 all_looked_at p bytes at = record { fits = omega arith; stands = subst (Stands p) (sym (take_all (length bytes) bytes (omega arith))) at }
 
--- the bytes that have come since lead to that part
+-- the bytes that have come since lead to that state
 pub looked_on : (bytes more : List ℕ) (looked : Looked) (p : HeadState) → WasLookedAt bytes looked → more ≡ drop looked.len bytes
     → ((front : List ℕ) → Stands looked.state front → Stands p (front ++ more)) → length bytes < 16384
     → WasLookedAt bytes (record { state = p; len = length bytes }) × MayBeginHead bytes
@@ -265,7 +265,7 @@ pub has_looked : (bytes : List ℕ) (result : Option Looked) → IfSome result (
 has_looked bytes None was = has_not_looked bytes
 has_looked bytes (Some looked) was = has_looked_at bytes looked was
 
--- the part that the lines at the front end in, and the part behind the last line
+-- the state in which the lines at the front end, and the state behind the last line
 pub looked_behind : (bytes front tail : List ℕ) (q p : HeadState) → MayBeginHead bytes → front ++ tail ≡ bytes → EndsLine front
     → ((rest : List ℕ) → EndsLine front → MayBeginHead (front ++ rest) → Stands q front)
     → ((bs : List ℕ) → Stands q bs → Stands p (bs ++ tail)) → WasLookedAt bytes (record { state = p; len = length bytes })

@@ -77,9 +77,9 @@ info-written v None is none =
     ∙ ap (λ (l : List ℕ). codes "{\"Version\":\"" ++ l) (append_assoc version (codes "\"") (codes "}"))
 info-written v (Some time) is valid =
     let version = version_text v in
-    let told = plain-quoted version (version-plain v is) in
+    let name = plain-quoted version (version-plain v is) in
     let when = plain-quoted time (time-plain time valid) in
-    (λ i. codes "{\"Time\":" ++ (when i ++ (codes ",\"Version\":" ++ (told i ++ codes "}"))))
+    (λ i. codes "{\"Time\":" ++ (when i ++ (codes ",\"Version\":" ++ (name i ++ codes "}"))))
     ∙ ap (λ (l : List ℕ). codes "{\"Time\":\"" ++ l) (append_assoc time (codes "\"") (codes ",\"Version\":\"" ++ ((version ++ codes "\"") ++ codes "}")))
     ∙ ap (λ (l : List ℕ). codes "{\"Time\":\"" ++ (time ++ (codes "\",\"Version\":\"" ++ l))) (append_assoc version (codes "\"") (codes "}"))
     ∙ sym (regrouped (codes "{\"Time\":\"") time (codes "\",\"Version\":\"") version (codes "\"}"))

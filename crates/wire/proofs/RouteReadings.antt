@@ -217,10 +217,10 @@ found-params target path route bytes utf8 same found =
       are = ap (λ (p : List ℕ). walk route.pattern route.text p route.names 0 0) same ∙ walked.walked;
     }
 
--- the parameter that `next` gives is the first of those that are left, and its part is shown as it is where that is text
-pub next-given : (pairs left more : List (List ℕ × List ℕ)) (p : List ℕ × List ℕ) (name part shown : List ℕ) → pairs ≡ p ∷ left
-    → pairs ≡ (name, part) ∷ more → IsUtf8 part → Shows p.1 shown → (shown ≡ part) × (left ≡ more)
-next-given pairs left more p name part shown gives is utf8 shows =
-    let same : p ≡ (name, part) = cc (gives, is) in
-    let value : p.1 ≡ part = ap (λ (x : List ℕ × List ℕ). x.1) same in
+-- the parameter that `next` gives is the first of those that are left, and what it took is shown as it is where that is text
+pub next-given : (pairs left more : List (List ℕ × List ℕ)) (p : List ℕ × List ℕ) (name taken shown : List ℕ) → pairs ≡ p ∷ left
+    → pairs ≡ (name, taken) ∷ more → IsUtf8 taken → Shows p.1 shown → (shown ≡ taken) × (left ≡ more)
+next-given pairs left more p name taken shown gives is utf8 shows =
+    let same : p ≡ (name, taken) = cc (gives, is) in
+    let value : p.1 ≡ taken = ap (λ (x : List ℕ × List ℕ). x.1) same in
     let text : shown ≡ p.1 = shows (subst IsUtf8 (sym value) utf8) in (text ∙ value, cc (gives, is))

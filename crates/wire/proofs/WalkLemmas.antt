@@ -7,7 +7,7 @@ use Rattle.matchit.specs.Params.{walk, part_of}
 use Rattle.wire.specs.Route.{path_route, shelf_route}
 use Rattle.wire.proofs.RouteLemmas.{Splits, segment_key}
 
--- a part that stands between two places
+-- the bytes between two indices
 part_at : (bytes : List ℕ) (start end : ℕ) → start ≤ end → end ≤ length bytes → part_of bytes start end ≡ take (end - start) (drop start bytes)
 part_at bytes start end a b = rw (le-leb start end a, le-leb end (length bytes) b) refl
 
@@ -36,11 +36,11 @@ module _ (target key rest : List ℕ) (splits : Splits target key rest) where
       let n : 3 + length key - 3 ≡ length key = omega arith in
       (λ i. take (n i) (after_k i)) ∙ take_at key (47 ∷ rest) (length key) refl
 
-  -- the target from a place in its rest on is the rest without the bytes before that place
-  left : (place n : ℕ) → place ≡ 3 + (length key + 1) + n → take (length target - place) (drop place target) ≡ drop n rest
-  left place n at =
+  -- the target from an index in its rest on is the rest without the bytes before that index
+  left : (index n : ℕ) → index ≡ 3 + (length key + 1) + n → take (length target - index) (drop index target) ≡ drop n rest
+  left index n at =
       let after = ap (λ m. drop m target) at ∙ sym (drop-drop n (3 + (length key + 1)) target) ∙ ap (λ t. drop n t) after_key in
-      ap (λ t. take (length target - place) t) after ∙ take_all (length target - place) (drop n rest) (omega (arith, long, length-drop n rest))
+      ap (λ t. take (length target - index) t) after ∙ take_all (length target - index) (drop n rest) (omega (arith, long, length-drop n rest))
 
   -- the route of paths takes the key and the rest of a target
   pub walk_path : walk path_route.pattern path_route.text target path_route.names 0 0 ≡ (codes "key", key) ∷ (codes "rest", rest) ∷ []

@@ -13,7 +13,7 @@ use std::alloc::{AllocError, Global};
 
 /// Returns the JSON object of a version and its time, if it has one. It fails only if memory runs out.
 fn info(alloc: Global, version: &Version, time: Option<TimeText>) -> Result<Value, AllocError>
-    ensures told { IfOk result (λ value. view value ≡ info_object version.now time) }
+    ensures object { IfOk result (λ value. view value ≡ info_object version.now time) }
     ensures valid { OnOk result (IsVersion version.now × IfSome time IsTime) }
 {
     match time {

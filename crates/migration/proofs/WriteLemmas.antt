@@ -27,7 +27,8 @@ pub record HasWritten (format : Format) (old last : State) (done : Bool) : Type 
   pub writing : IsTrue done → Writing last world
 
 -- after a fill inside a transaction that began with `common` alone, there is such a world
-pub written : (format : Format) (old read start last : State) (done : Bool) → Moves format (Fills format) old read start last done → HasCleanDisk read → HasCleanDisk last → IsReadyAs format old → Writing start only_common → HasWritten format old last done
+pub written : (format : Format) (old read start last : State) (done : Bool) → Moves format (Fills format) old read start last done
+    → HasCleanDisk read → HasCleanDisk last → IsReadyAs format old → Writing start only_common → HasWritten format old last done
 written format old read start last false fills clean late ready begun = record { world = only_common; was = inr (refl, refl); writing = λ done. absurd (true≢false (sym done)) }
 written format old read start last true fills clean late ready begun =
     let it = fills.makes clean late ready (filling_of start only_common begun) (refl) in
@@ -68,11 +69,13 @@ ended_clean : (P : Trees → Type 0) (last exit : State) (done : Bool) → (IsTr
 ended_clean P last exit true whole lost = (whole refl).clean
 ended_clean P last exit false whole lost = (lost refl).clean
 
-module _ {S : Type 0} (g : Ghosts S) (h : Held S) (format : Format) (old read last exit : State) (done : Bool) (fills : Moves format (Fills format) old read (state g (record h { in_transaction = true })) last done)
+module _ {S : Type 0} (g : Ghosts S) (h : Held S) (format : Format) (old read last exit : State) (done : Bool)
+    (fills : Moves format (Fills format) old read (state g (record h { in_transaction = true })) last done)
     (whole : IsTrue done → Survives last exit (λ db. db ≡ last.now.trees)) (lost : done ≡ false → Survives last exit (λ _. ⊥)) where
   -- the call migrates, whichever way its transaction ended
   pub migrates : (end : Bool) → (IsTrue end → IsTrue done) → (IsReadBy old read done → IsReadBy old read end)
-      → ((next : World) → (HasCleanDisk (state g h) → IsTrue (state g h).is_open) → (HasCleanDisk last → Stands (state g h) only_common → IsTrue done → Writing last next) → ChangesAt (state g h) exit end only_common next)
+      → ((next : World) → (HasCleanDisk (state g h) → IsTrue (state g h).is_open)
+      → (HasCleanDisk last → Stands (state g h) only_common → IsTrue done → Writing last next) → ChangesAt (state g h) exit end only_common next)
       → Migrates format old read (state g h) exit end
   migrates end less reads changes =
       let start = state g (record h { in_transaction = true }) in

@@ -23,7 +23,8 @@ returns-in-Ok-clause-migrates g c =
     let ends = rw c.is_whole.ensures.value at c.in-Ok.ensures in
     let all : Migrates c.args.format old read (state g.F.Store h) (state g.F.Store end) done =
     migrates g.F.Store h c.args.format old read last (state g.F.Store end) done fills ends.whole_survives ends.part_is_lost done (λ all. all) (λ r. r)
-    (λ next opened made. ended_by g.F.Store h last (state g.F.Store end) only_common next opened (g.met.F.Store.settled h.store) quiet done ends.undone ends.whole_survives ends.part_is_lost (λ late. fills.goes_on.kept late refl) made
+    (λ next opened made. ended_by g.F.Store h last (state g.F.Store end) only_common next opened (g.met.F.Store.settled h.store) quiet done ends.undone ends.whole_survives ends.part_is_lost
+    (λ late. fills.goes_on.kept late refl) made
     ends.committed (λ db shown may. g.met.F.Store.settled end.store db shown may)) in
     subst (λ x. Migrates c.args.format old read (state g.F.Store h) (state g.F.Store x) done) same all
 
@@ -42,6 +43,7 @@ returns-in-Err-clause-migrates g c =
     let ends = rw c.is_whole.ensures.value at c.in-Err.ensures in
     let all : Migrates c.args.format old read (state g.F.Store h) (state g.F.Store end) false =
     migrates g.F.Store h c.args.format old read last (state g.F.Store end) done fills ends.whole_survives ends.part_is_lost false (λ all. absurd (true≢false (sym all))) (read_part old read done)
-    (λ next opened made. failed_by g.F.Store h last (state g.F.Store end) only_common next opened (g.met.F.Store.settled h.store) quiet done ends.undone ends.whole_survives ends.part_is_lost (λ late. fills.goes_on.kept late refl) made
+    (λ next opened made. failed_by g.F.Store h last (state g.F.Store end) only_common next opened (g.met.F.Store.settled h.store) quiet done ends.undone ends.whole_survives ends.part_is_lost
+    (λ late. fills.goes_on.kept late refl) made
     _ ends.failed) in
     subst (λ x. Migrates c.args.format old read (state g.F.Store h) (state g.F.Store x) false) same all

@@ -1,3 +1,4 @@
+pub mod Bytes
 pub mod MapsLend
 pub mod InMemory
 pub mod Names

@@ -3,7 +3,7 @@ ghost use Rattle.std.specs.Prelude.{◌≡◌};
 ghost use Rattle.clap.specs.Values.{kind_of};
 ghost use Rattle.commands.specs.Exit.{IsSilent};
 ghost use Rattle.commands.specs.ImportLine.{PrintsFront};
-ghost use Rattle.cli.specs.Run.{EndsShown, Exits, RefusesWords, RunsOrShows, Tells, new_store_line};
+ghost use Rattle.cli.specs.Run.{EndsShown, Exits, RefusesWords, Tells, new_store_line};
 
 use crate::arguments::parser;
 use crate::asked::command_of;
@@ -53,50 +53,24 @@ pub fn command_by<P: Runner, I: Read, O: Write, E: Write>(
         (I.remaining input.old) (I.remaining input.new) (O.contents output.old) (O.contents output.new)
         (E.contents errors.old) (E.contents errors.new) result }
 {
-    let ending = run_words(alloc, runner, words, input, output, errors);
-    ending.tell(errors);
-    ending.status()
-}
-
-/// Runs the command that the words ask for, or shows the parser's text, and returns how the run ended.
-fn run_words<P: Runner, I: Read, O: Write, E: Write>(
-    alloc: Global,
-    runner: &mut P,
-    words: &[String],
-    input: &mut I,
-    output: &mut O,
-    errors: &mut E,
-) -> Exit
-    ensures { RunsOrShows P.ran runner.old runner.new
-        (I.remaining input.old) (I.remaining input.new) (O.contents output.old) (O.contents output.new)
-        (E.contents errors.old) (E.contents errors.new) result }
-{
-    let Ok(parser) = parser(alloc) else {
-        return Exit::Refused(CommandRefusal::Memory);
-    };
-    match parser.try_get_matches_from(words) {
-        Ok(matches) => run_matched(runner, &matches, input, output, errors),
+    let exit = match matches_of(alloc, words) {
+        Ok(matches) => match command_of(&matches) {
+            Some(command) => {
+                tell_new_store(runner, &command, errors);
+                Exit::of_command(runner.run(&command, input, output))
+            }
+            // the parser refuses such words
+            None => Exit::BadUsage,
+        },
         Err(error) => show(error, output, errors),
-    }
+    };
+    exit.tell(errors);
+    exit.status()
 }
 
-/// Runs the command that the words ask for, and returns how the run ended. The parser refuses words without a command.
-fn run_matched<P: Runner, I: Read, O: Write, E: Write>(
-    runner: &mut P,
-    matches: &ArgMatches<'_>,
-    input: &mut I,
-    output: &mut O,
-    errors: &mut E,
-) -> Exit
-    ensures { RunsOrShows P.ran runner.old runner.new
-        (I.remaining input.old) (I.remaining input.new) (O.contents output.old) (O.contents output.new)
-        (E.contents errors.old) (E.contents errors.new) result }
-{
-    let Some(command) = command_of(matches) else {
-        return Exit::BadUsage;
-    };
-    tell_new_store(runner, &command, errors);
-    Exit::of_command(runner.run(&command, input, output))
+/// Returns what the parser reads in the words. Fails with the text that is shown in place of a run.
+fn matches_of<'a>(alloc: Global, words: &'a [String]) -> Result<ArgMatches<'a>, clap::Error> {
+    parser(alloc)?.try_get_matches_from(words)
 }
 
 /// Writes a line on `errors` if the command serves a store that is new, because a mistyped name answers 404 to everybody.

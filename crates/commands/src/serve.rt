@@ -1,7 +1,7 @@
 //! `serve`: one request on each of some connections, and the orders of operators between them.
 ghost use Rattle.std.specs.Prelude.{◌≡◌, ◌≢◌, ◌++◌, codes, decimal, option_copied, IfOk, OnOk};
 ghost use Rattle.std.specs.Io.KnownBytes.{Appends};
-ghost use Rattle.commands.specs.Serve.{Announces, Listens, ListensToBoth, ListensAs, Prints, input_line, port_line, port_text};
+ghost use Rattle.commands.specs.Serve.{Announces, ListensToBoth, ListensAs, Prints, input_line, port_line, port_text};
 
 use crate::moment::time_now;
 use crate::refusal::CommandRefusal;
@@ -41,26 +41,15 @@ pub fn serve<S: Shelves, K: Copies<S>, O: Write>(
         (option_copied control.entry) (O.contents output.old) (O.contents output.new) result }
 {
     match control {
-        None => serve_peers(rt, shelves, entrance, connections, output),
+        None => {
+            let Ok(listener) = listen(rt, entrance, output) else {
+                return Err(CommandRefusal::Io);
+            };
+            serve_on(rt.alloc(), rt, &mut &listener, shelves, connections);
+            Ok(())
+        }
         Some(path) => serve_operators(rt, shelves, copies, entrance, connections, path, output),
     }
-}
-
-/// Serves the connections of peers alone.
-fn serve_peers<S: Shelves, O: Write>(
-    rt: &HostRuntime,
-    shelves: &mut S,
-    entrance: Entrance,
-    connections: u32,
-    output: &mut O,
-) -> Result<(), CommandRefusal>
-    ensures { Listens S.shown S.failure_count shelves.old shelves.new entrance connections (O.contents output.old) (O.contents output.new) result }
-{
-    let Ok(listener) = listen(rt, entrance, output) else {
-        return Err(CommandRefusal::Io);
-    };
-    serve_on(rt.alloc(), rt, &mut &listener, shelves, connections);
-    Ok(())
 }
 
 /// Serves the connections of peers, and the operators of a socket, which is made first and taken away at the end.

@@ -1,20 +1,16 @@
 //! Copies of the store of a file while it is served, and counts of its versions.
 
 ghost use Rattle.std.specs.Prelude.{◌≡◌, IfOk};
-ghost use Rattle.commands.specs.Action.{Acts};
 ghost use Rattle.control.specs.Copying.{IsOnlyRead};
 ghost use Rattle.sqlite_wal.specs.Files.{image_at};
 ghost use Rattle.runner.specs.Copies as spec;
 ghost use Rattle.runner.specs.Copies.{CopiesFile, CopiesInto, CountsIn};
 ghost use Rattle.world.specs.Store.{HasCause};
 
-use commands::action::{Action, act_on};
 use commands::files::is_same_file;
-use commands::refusal::CommandRefusal;
 use control::{Copies, CopyRefusal};
 use sqlite::{Alter, Start};
 use std::fs;
-use std::io::{Read, Write};
 use std::rt::HostRuntime;
 use store::open::FileShelves;
 use store::refusal::Refusal as Unopened;
@@ -25,11 +21,11 @@ use world::shelves::Shelves;
 /// Copies the served store of a file into other files. `U` stands for what such a file holds before its copy. What is proved holds for
 /// all contents, so for each of several copies it holds with those of its own file.
 #[derive(Drop)]
-struct FileCopies<'a, U: Start + Copy> {
-    rt: &'a HostRuntime,
+pub(crate) struct FileCopies<'a, U: Start + Copy> {
+    pub rt: &'a HostRuntime,
     /// The file of the served store.
-    db: &'a str,
-    target: U,
+    pub db: &'a str,
+    pub target: U,
 }
 
 impl<'a, S: Alter, U: Start + Copy> Copies<SqlShelves<S>> for FileCopies<'a, U> {
@@ -48,30 +44,6 @@ impl<'a, S: Alter, U: Start + Copy> Copies<SqlShelves<S>> for FileCopies<'a, U> 
     fn versions(&mut self, shelves: &mut SqlShelves<S>) -> Result<u64, StoreFault> {
         count_in(shelves)
     }
-}
-
-/// Does an action on an open store, whose file is at `db`, and returns whether it was accepted. The copies that are ordered while it is
-/// served are made from this store. Fails as the function of the action does.
-/// It is generic over the store, because a contract of one function names one store of files alone.
-pub(crate) fn act_with_copies<S: Alter, U: Start + Copy, I: Read, O: Write>(
-    rt: &HostRuntime,
-    db: &str,
-    shelves: &mut SqlShelves<S>,
-    target: U,
-    action: &Action,
-    input: &mut I,
-    output: &mut O,
-) -> Result<bool, CommandRefusal>
-    ensures { Acts ⟦<SqlShelves<S> as Shelves>⟧.shown ⟦<SqlShelves<S> as Shelves>⟧.failure_count
-        (CopiesFile ⟦<SqlShelves<S> as Shelves>⟧.shown ⟦<SqlShelves<S> as Shelves>⟧.failure_count
-        ⟦<FileShelves<U> as Shelves>⟧.shown ⟦<FileShelves<U> as Shelves>⟧.failure_count (image_at U.Start))
-        (CountsIn ⟦<SqlShelves<S> as Shelves>⟧.shown)
-        (record { store = shelves.old; unread = I.remaining input.old; written = O.contents output.old })
-        (record { store = shelves.new; unread = I.remaining input.new; written = O.contents output.new })
-        result action.now }
-{
-    let mut copies = FileCopies { rt, db, target };
-    act_on(rt, shelves, &mut copies, action, input, output)
 }
 
 /// Opens the store of a file and makes it a copy of a served store, whose file is at `db`. It does not open the file and the log of the

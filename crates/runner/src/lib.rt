@@ -29,10 +29,10 @@ pub mod laws;
 mod migrate;
 mod old_file;
 
-use crate::copies::act_with_copies;
+use crate::copies::FileCopies;
 use crate::extract::extract_file;
 use crate::migrate::migrate_file;
-use commands::action::{Action, acceptance};
+use commands::action::{Action, acceptance, act_on};
 use commands::files::holds_bytes;
 use commands::memory::answer_in_memory;
 use commands::order::{copy_at, order_at, stop_at};
@@ -183,8 +183,9 @@ fn open_refusal(unopened: Unopened) -> CommandRefusal
     }
 }
 
-/// Does an action on the store of a file, and returns whether it was accepted. If the store can't be opened, it fails with that refusal
-/// and reads and writes nothing; otherwise it fails as the function of the action does.
+/// Does an action on the store of a file, and returns whether it was accepted. Copies that are ordered while the store is served are
+/// made from it. If the store can't be opened, it fails with that refusal and reads and writes nothing; otherwise it fails as the
+/// function of the action does.
 fn on_file<T: Start, U: Start + Copy, I: Read, O: Write>(
     rt: &HostRuntime,
     path: &str,
@@ -206,7 +207,12 @@ fn on_file<T: Start, U: Start + Copy, I: Read, O: Write>(
         Ok(shelves) => shelves,
         Err((unopened, _)) => return Err(open_refusal(unopened)),
     };
-    let told = act_with_copies(rt, path, &mut shelves, target, action, input, output);
+    let mut copies = FileCopies {
+        rt,
+        db: path,
+        target,
+    };
+    let told = act_on(rt, &mut shelves, &mut copies, action, input, output);
     drop(shelves.close());
     told
 }

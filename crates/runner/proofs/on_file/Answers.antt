@@ -4,7 +4,7 @@ use Rattle.runner.proofs.on_file.Goals as goal
 pub returns : goal.returns
 returns g c = inl (record {
   begun = c.in-Ok.shelves;
-  ended = c.act_with_copies-told.new.shelves;
+  ended = c.act_on-told.new.shelves;
   begins = record { world = c.in-Ok.ensures.begins; found = c.in-Ok.ensures.found; none_failed = c.in-Ok.ensures.none_failed };
-  acts = c.act_with_copies-told.ensures;
+  acts = c.act_on-told.ensures;
 })

@@ -61,15 +61,18 @@ const CONTROL: OptionRow = OptionRow {
     help: "In place of --db, the socket of the serve that has the store open",
 };
 
+/// A team.
+const TEAM: OptionRow = OptionRow {
+    name: "team",
+    value: Value::Text("T"),
+    needed: Needed::Always,
+    help: "The team: 1 to 32 bytes of a-z, 0-9 and -, the first a letter, not common",
+};
+
 pub(crate) const TEAM_ADD: [OptionRow; 4] = [
     DB_OR_CONTROL,
     CONTROL,
-    OptionRow {
-        name: "team",
-        value: Value::Text("T"),
-        needed: Needed::Always,
-        help: "The team: 1 to 32 bytes of a-z, 0-9 and -, the first a letter, not common",
-    },
+    TEAM,
     OptionRow {
         name: "group",
         value: Value::Text("G"),
@@ -89,6 +92,14 @@ pub(crate) const GROUP_ADD: [OptionRow; 3] = [
     },
 ];
 
+/// A key.
+const KEY: OptionRow = OptionRow {
+    name: "key",
+    value: Value::Text("K"),
+    needed: Needed::Always,
+    help: "A key that may publish",
+};
+
 pub(crate) const KEY_ADD: [OptionRow; 5] = [
     DB_OR_CONTROL,
     CONTROL,
@@ -99,10 +110,8 @@ pub(crate) const KEY_ADD: [OptionRow; 5] = [
         help: "The shelf that the key belongs to: a team, a group, or common",
     },
     OptionRow {
-        name: "key",
-        value: Value::Text("K"),
-        needed: Needed::Always,
         help: "The key: 16 to 64 bytes of a-z and 0-9, which no shelf has",
+        ..KEY
     },
     OptionRow {
         name: "read-only",
@@ -116,33 +125,32 @@ pub(crate) const KEY_REVOKE: [OptionRow; 3] = [
     DB_OR_CONTROL,
     CONTROL,
     OptionRow {
-        name: "key",
-        value: Value::Text("K"),
-        needed: Needed::Always,
         help: "The key to take away; it is free again then",
+        ..KEY
     },
 ];
 
+/// The path of a module.
+const MODULE: OptionRow = OptionRow {
+    name: "module",
+    value: Value::Text("P"),
+    needed: Needed::Always,
+    help: "The module path, as its go.mod names it",
+};
+
+/// A version.
+const VERSION: OptionRow = OptionRow {
+    name: "version",
+    value: Value::Text("V"),
+    needed: Needed::Always,
+    help: "The version, as v1.0.0",
+};
+
 pub(crate) const PUBLISH: [OptionRow; 7] = [
     DB,
-    OptionRow {
-        name: "key",
-        value: Value::Text("K"),
-        needed: Needed::Always,
-        help: "A key that may publish",
-    },
-    OptionRow {
-        name: "module",
-        value: Value::Text("P"),
-        needed: Needed::Always,
-        help: "The module path, as its go.mod names it",
-    },
-    OptionRow {
-        name: "version",
-        value: Value::Text("V"),
-        needed: Needed::Always,
-        help: "The version, as v1.0.0",
-    },
+    KEY,
+    MODULE,
+    VERSION,
     OptionRow {
         name: "mod",
         value: Value::Text("FILE"),
@@ -165,12 +173,7 @@ pub(crate) const PUBLISH: [OptionRow; 7] = [
 
 pub(crate) const IMPORT: [OptionRow; 3] = [
     DB,
-    OptionRow {
-        name: "key",
-        value: Value::Text("K"),
-        needed: Needed::Always,
-        help: "A key that may publish",
-    },
+    KEY,
     OptionRow {
         name: "list",
         value: Value::Text("CSV"),
@@ -182,33 +185,19 @@ pub(crate) const IMPORT: [OptionRow; 3] = [
 pub(crate) const INVENTORY: [OptionRow; 2] = [
     DB,
     OptionRow {
-        name: "key",
-        value: Value::Text("K"),
-        needed: Needed::Always,
         help: "A key of the shelf",
+        ..KEY
     },
 ];
 
 pub(crate) const REQUIRES: [OptionRow; 4] = [
     DB,
     OptionRow {
-        name: "key",
-        value: Value::Text("K"),
-        needed: Needed::Always,
         help: "A key of a shelf that sees the version",
+        ..KEY
     },
-    OptionRow {
-        name: "module",
-        value: Value::Text("P"),
-        needed: Needed::Always,
-        help: "The module path, as its go.mod names it",
-    },
-    OptionRow {
-        name: "version",
-        value: Value::Text("V"),
-        needed: Needed::Always,
-        help: "The version, as v1.0.0",
-    },
+    MODULE,
+    VERSION,
 ];
 
 /// The file of a new store.
@@ -252,16 +241,14 @@ pub(crate) const ANSWER: [OptionRow; 4] = [
         help: "Keep the shelves in memory, beginning with one team and its key",
     },
     OptionRow {
-        name: "team",
-        value: Value::Text("T"),
         needed: Needed::InsteadOf("db"),
         help: "With --mem, the team: 1 to 32 bytes of a-z, 0-9 and -, the first a letter, not common",
+        ..TEAM
     },
     OptionRow {
-        name: "key",
-        value: Value::Text("K"),
         needed: Needed::InsteadOf("db"),
         help: "With --mem, the team's publishing key: 16 to 64 bytes of a-z and 0-9",
+        ..KEY
     },
 ];
 

@@ -1,11 +1,10 @@
 //! What runs a command: the files of the system, or any other `Runner`.
-use commands::files::is_empty_file;
+use commands::files::has_no_bytes;
 use commands::refusal::CommandRefusal;
 use runner::{Command, run};
 use sqlite::{File, FileStore, Start, Unknown};
 use sqlite_trees::store::Store;
-use std::fs;
-use std::io::{ErrorKind, Read, Write};
+use std::io::{Read, Write};
 use std::rt::HostRuntime;
 use store::open::FileShelves;
 use world::shelves::Shelves;
@@ -77,7 +76,7 @@ impl<'a> Runner for SystemStores<'a> {
         (image_at ⟦<UnknownTarget as Start>⟧) };
 
     fn is_new(&self, db: &str) -> bool {
-        is_empty_file(self.rt, db) || is_missing(self.rt, db)
+        has_no_bytes(self.rt, db)
     }
 
     fn run<I: Read, O: Write>(
@@ -87,13 +86,5 @@ impl<'a> Runner for SystemStores<'a> {
         output: &mut O,
     ) -> Result<bool, CommandRefusal> {
         run(self.rt, command, Unknown, UnknownTarget, input, output)
-    }
-}
-
-/// Whether there is no file with this name. False if the system does not say.
-fn is_missing(rt: &HostRuntime, path: &str) -> bool {
-    match fs::metadata(rt, path) {
-        Ok(_) => false,
-        Err(error) => error.kind() == ErrorKind::NotFound,
     }
 }

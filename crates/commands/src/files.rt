@@ -42,6 +42,14 @@ pub fn is_empty_file(rt: &HostRuntime, path: &str) -> bool {
     }
 }
 
+/// Whether there is no such file, or it has no bytes. False for a folder or a device.
+pub fn has_no_bytes(rt: &HostRuntime, path: &str) -> bool {
+    match fs::metadata(rt, path) {
+        Ok(found) => found.is_file() && found.len() == 0,
+        Err(error) => error.kind() == ErrorKind::NotFound,
+    }
+}
+
 /// Whether both names lead to one file. False if one of them leads to none.
 pub fn is_same_file(rt: &HostRuntime, path: &str, other: &str) -> bool {
     let (Ok(one), Ok(two)) = (fs::metadata(rt, path), fs::metadata(rt, other)) else {

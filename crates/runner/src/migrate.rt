@@ -6,9 +6,9 @@ ghost use Rattle.sqlite.specs.Steps.{over_memory};
 ghost use Rattle.sqlite_wal.specs.Files.{image_at};
 ghost use Rattle.runner.specs.Migrate.{MigratesEmpty, MigratesFile, MigratesInto, MigratesTo};
 
-use crate::old_file::{OldFile, has_no_bytes};
+use crate::old_file::OldFile;
 use crate::{open_refusal, unmade};
-use commands::files::is_same_file;
+use commands::files::{has_no_bytes, is_same_file};
 use commands::refusal::CommandRefusal;
 use sqlite::{Alter, Connection, FileFrom, FileStore, Start};
 use sqlite_trees::store::Store;

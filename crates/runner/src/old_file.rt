@@ -61,14 +61,6 @@ impl OldFile {
     }
 }
 
-/// Whether there is no such file, or it has no bytes. False for a folder or a device.
-pub(crate) fn has_no_bytes(rt: &HostRuntime, path: &str) -> bool {
-    match fs::metadata(rt, path) {
-        Ok(found) => found.is_file() && found.len() == 0,
-        Err(error) => error.kind() == ErrorKind::NotFound,
-    }
-}
-
 /// Returns the file at a path, or its copy. Fails as `OldFile::find` does.
 fn find_file(rt: &HostRuntime, path: &str, to: &str) -> io::Result<OldFile> {
     // sqlite puts the log beside the file that a link leads to

@@ -32,7 +32,8 @@ new_store_line = codes "new store: the file of --db is missing or empty; without
 -- Before a command, nothing was written to the errors. If the command serves a store, that line was or nothing, or a beginning of it
 -- if a write failed.
 abbrev pub Tells : Option (List ℕ) → Option (List ℕ) → Command → Type 0
-Tells errors errors_new (OnStore db (Serve entrance connections control)) = (errors_new ≡ errors) ⊎ PrintsFront errors errors_new new_store_line
+Tells errors errors_new (OnStore db (Serve entrance connections control)) =
+    (errors_new ≡ errors) ⊎ PrintsFront errors errors_new new_store_line
 Tells errors errors_new other = errors_new ≡ errors
 
 module _ {P : Type 0} (ran : Ran P) (old new : P) (unread unread_new written written_new : Option (List ℕ)) where

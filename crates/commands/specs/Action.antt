@@ -1,6 +1,7 @@
 -- What an action does on a store.
 use Rattle.std.specs.Prelude.{ℕ, List, ◌≡◌, if◌then◌else◌, true, Bool, Option, option_copied, Result, Ok, Err}
-use Rattle.world.specs.Registry.{team_added, after_team_add, group_added, after_group_add, key_added, after_key_add, key_revoked, after_key_revoke}
+use Rattle.world.specs.Registry.{team_added, after_team_add, group_added, after_group_add}
+use Rattle.world.specs.Registry.{key_added, after_key_add, key_revoked, after_key_revoke}
 use Rattle.world.specs.Store.{Shown}
 use Rattle.world.specs.World.{World}
 use Rattle.world.specs.declared.entry.Right.TheVariants.{Publishes, Reads}
@@ -48,7 +49,8 @@ module _ {S : Type 0} (shown : S → Shown) (failures : S → ℕ) (copied : Cop
     pub told : result ≡ acceptance ended
 
   -- connections were served from the store, and nothing was read from the input
-  pub record ServesConnections (entrance : Entrance) (connections : ℕ) (control : Option (List ℕ)) (result : Result Bool CommandRefusal) : Type 0 where
+  pub record ServesConnections
+      (entrance : Entrance) (connections : ℕ) (control : Option (List ℕ)) (result : Result Bool CommandRefusal) : Type 0 where
     pub ended : Result (Unit {0}) CommandRefusal
     pub serves : ListensAs shown failures copied counted old.store new.store entrance connections control old.written new.written ended
     pub told : result ≡ acceptance ended
@@ -77,7 +79,8 @@ module _ {S : Type 0} (shown : S → Shown) (failures : S → ℕ) (copied : Cop
       PrintsInventory (shown old.store) (shown new.store) (failures old.store) (failures new.store) key.now old.written new.written result
       × (new.unread ≡ old.unread)
   Acts result (action.Requires version) =
-      PrintsRequirements (shown old.store) (shown new.store) (failures old.store) (failures new.store) version old.written new.written result
+      PrintsRequirements (shown old.store) (shown new.store) (failures old.store) (failures new.store) version
+      old.written new.written result
       × (new.unread ≡ old.unread)
   Acts result action.Answer = AnswersFrom result
   Acts result (action.Serve entrance connections control) = ServesConnections entrance connections (option_copied control) result

@@ -1,5 +1,6 @@
 -- What an import does: a run of publishes over the rows of a list.
-use Rattle.std.specs.Prelude.{ℕ, ◌≡◌, ◌≢◌, ◌≤◌, ◌+◌, ◌⊎◌, List, [], ◌∷◌, ◌++◌, codes, length, map, Bool, if◌then◌else◌, Option, Some, None, Result, Ok, Err, MatchResult}
+use Rattle.std.specs.Prelude.{ℕ, ◌≡◌, ◌≢◌, ◌≤◌, ◌+◌, ◌⊎◌, List, [], ◌∷◌, ◌++◌, codes, length, map, Bool, if◌then◌else◌}
+use Rattle.std.specs.Prelude.{Option, Some, None, Result, Ok, Err, MatchResult}
 use Rattle.std.specs.List.{list_all}
 use Rattle.std.specs.Io.KnownBytes.{Appends}
 use Rattle.csv.specs.declared.reader.Reader.{Reader}
@@ -156,7 +157,9 @@ IsHeaderClosing list closing.Unread = Unit {0}
 
 -- no row is done after these, and the next one would have this number: 0 for the header
 abbrev pub IsOver : Option (List ℕ) → List Turn → ℕ → Closing → Type 0
-IsOver list turns n why = ((n ≡ length turns + 1) × IsClosing list (rows_of turns) why) ⊎ ((n ≡ 0) × (turns ≡ []) × IsHeaderClosing list why)
+IsOver list turns n why =
+    ((n ≡ length turns + 1) × IsClosing list (rows_of turns) why)
+    ⊎ ((n ≡ 0) × (turns ≡ []) × IsHeaderClosing list why)
 
 -- ---- the import
 
@@ -206,7 +209,8 @@ pub record Publishes (old new : Shown) (before now : ℕ) (ask : Ask) (answer : 
 
 -- a row was done, with this outcome
 pub record DoesRow
-    (old new : Shown) (before now : ℕ) (told : List ℕ → Option (Option (List ℕ))) (key : List ℕ) (l : Line) (result : Outcome) : Type 0 where
+    (old new : Shown) (before now : ℕ) (told : List ℕ → Option (Option (List ℕ))) (key : List ℕ) (l : Line)
+    (result : Outcome) : Type 0 where
   pub done : Done
   pub through : GoesThrough old new before now told key (record { line = l; done = done } ∷ [])
   pub is : result ≡ outcome_of done

@@ -39,8 +39,10 @@ AnsweredFor team key unread unread_new written written_new (Err other) = ⊥
 
 -- The requests were answered from shelves that went from old to new, with this result.
 abbrev pub AnswersAll :
-    Shown → Shown → ℕ → ℕ → Option (List ℕ) → Option (List ℕ) → Option (List ℕ) → Option (List ℕ) → Result (Unit {0}) CommandRefusal → Type 0
-AnswersAll old new before now unread unread_new written written_new (Ok u) = Serves old new before now unread unread_new written written_new (Ok tt)
+    Shown → Shown → ℕ → ℕ → Option (List ℕ) → Option (List ℕ) → Option (List ℕ) → Option (List ℕ)
+    → Result (Unit {0}) CommandRefusal → Type 0
+AnswersAll old new before now unread unread_new written written_new (Ok u) =
+    Serves old new before now unread unread_new written written_new (Ok tt)
 AnswersAll old new before now unread unread_new written written_new (Err Io) =
     (failure : Failure) × Serves old new before now unread unread_new written written_new (Err failure)
 AnswersAll old new before now unread unread_new written written_new (Err other) = ⊥

@@ -63,7 +63,8 @@ EndsInEach order result = (w : World) → IsWorld w → result ≡ ending (Ok (o
 
 -- The line of an order with the same effect was sent as `Asks` says, and the command ends by the result. If that order has no line,
 -- the command ends as the order does in each world.
-pub record OrdersOver (unread unread_new written written_new : Option (List ℕ)) (order : Order) (result : Result (Unit {0}) CommandRefusal) : Type 0 where
+pub record OrdersOver
+    (unread unread_new written written_new : Option (List ℕ)) (order : Order) (result : Result (Unit {0}) CommandRefusal) : Type 0 where
   pub asked : Order
   pub same : ComeToTheSame asked order
   pub told : Result Outcome Untold

@@ -31,7 +31,8 @@ abbrev pub MayPublish : World → List ℕ → List ℕ → Type 0
 MayPublish w key shelf = map.get w.keys key ≡ Some (record { shelf = shelf; right = Publishes })
 
 -- With this key and these files, an import led from one world to the other, through the first rows of the list.
-pub record ImportRuns (files : List ℕ → Option (Option (List ℕ))) (text key : List ℕ) (old : World) (turns : List Turn) (new : World) : Type 0 where
+pub record ImportRuns
+    (files : List ℕ → Option (Option (List ℕ))) (text key : List ℕ) (old : World) (turns : List Turn) (new : World) : Type 0 where
   pub done : AreDone files key turns
   pub first : AreFirst (Some text) turns
   pub run : Run old (events turns) (answers turns) new

@@ -34,7 +34,9 @@ Announces Input written written_new = Appends written written_new input_line
 
 -- The entrance was printed, and the store went through at most as many requests as there are connections. Or the entrance can't be
 -- had, or the output failed, and the store stays as it was.
-abbrev pub Listens : {S : Type 0} → (S → Shown) → (S → ℕ) → S → S → Entrance → ℕ → Option (List ℕ) → Option (List ℕ) → Result (Unit {0}) CommandRefusal → Type 0
+abbrev pub Listens :
+    {S : Type 0} → (S → Shown) → (S → ℕ) → S → S → Entrance → ℕ
+    → Option (List ℕ) → Option (List ℕ) → Result (Unit {0}) CommandRefusal → Type 0
 Listens shown failures old new entrance connections written written_new result =
     MatchResult result
     (λ _. Announces entrance written written_new × GoesThroughMost (shown old) (shown new) (failures old) (failures new) connections)

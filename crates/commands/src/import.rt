@@ -69,7 +69,8 @@ pub fn import<S: Shelves, L: Read + Drop, F: Sources, O: Write>(
     sources: &F,
     output: &mut O,
 ) -> Result<Ending, Io>
-    ensures { spec.Imports (S.shown shelves.old) (S.shown shelves.new) (S.failure_count shelves.old) (S.failure_count shelves.new)
+    ensures { spec.Imports
+        (S.shown shelves.old) (S.shown shelves.new) (S.failure_count shelves.old) (S.failure_count shelves.new)
         (F.told sources.now) key.now (L.remaining list) (O.contents output.old) (O.contents output.new) result }
 {
     let mut reader = open(alloc, list);
@@ -106,7 +107,8 @@ fn both(first: bool, second: bool) -> bool
 
 /// Reads the header, and returns why the import ends if it is wrong, or None.
 fn read_header<R: Read>(reader: &mut Reader<R>, fields: &mut StringRecord) -> Option<Closing>
-    ensures { (list : Option (List ℕ)) → HasRead R.remaining list [] reader.old → spec.HeaderRead R.remaining list reader.new result }
+    ensures { (list : Option (List ℕ)) → HasRead R.remaining list [] reader.old
+        → spec.HeaderRead R.remaining list reader.new result }
 {
     match read_next(reader, fields) {
         NextRow::Fields => {
@@ -134,8 +136,10 @@ fn import_next<S: Shelves, R: Read, F: Sources, O: Write>(
     output: &mut O,
 ) -> Result<Step, Io>
     ensures { (list : Option (List ℕ)) (rows : List (List (List ℕ))) → HasRead R.remaining list rows reader.old
-        → spec.StepIs R.remaining (S.shown shelves.old) (S.shown shelves.new) (S.failure_count shelves.old) (S.failure_count shelves.new)
-        (F.told sources.now) key.now list rows reader.new number (O.contents output.old) (O.contents output.new) result }
+        → spec.StepIs R.remaining
+        (S.shown shelves.old) (S.shown shelves.new) (S.failure_count shelves.old) (S.failure_count shelves.new)
+        (F.told sources.now) key.now list rows reader.new number
+        (O.contents output.old) (O.contents output.new) result }
 {
     if let Some(closing) = read_row(reader, fields) {
         return Ok(Step::Over(closing));
@@ -171,7 +175,8 @@ fn import_row<S: Shelves, F: Sources>(
     row: &ImportRow,
     sources: &F,
 ) -> Outcome
-    ensures { spec.DoesRow (S.shown shelves.old) (S.shown shelves.new) (S.failure_count shelves.old) (S.failure_count shelves.new)
+    ensures { spec.DoesRow
+        (S.shown shelves.old) (S.shown shelves.new) (S.failure_count shelves.old) (S.failure_count shelves.new)
         (F.told sources.now) key.now (line_of_row row.now) result }
 {
     match body_of(alloc, row, sources) {
@@ -189,7 +194,8 @@ fn publish_row<S: Shelves>(
     row: &ImportRow,
     body: Body,
 ) -> Fixed
-    ensures { spec.Publishes (S.shown shelves.old) (S.shown shelves.new) (S.failure_count shelves.old) (S.failure_count shelves.new)
+    ensures { spec.Publishes
+        (S.shown shelves.old) (S.shown shelves.new) (S.failure_count shelves.old) (S.failure_count shelves.new)
         (spec.ask_of key.now (line_of_row row.now) body) result }
 {
     let words = Words {

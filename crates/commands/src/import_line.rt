@@ -34,7 +34,8 @@ impl Outcome {
 
 /// Prints the line of a row: its number, a space, and the answer or `no file`. `Io::Write` if the output fails.
 pub fn print_outcome<O: Write>(number: u64, outcome: Outcome, output: &mut O) -> Result<(), Io>
-    ensures { spec.Prints (O.contents output.old) (O.contents output.new) (spec.numbered number (spec.outcome_text outcome)) result }
+    ensures { spec.Prints (O.contents output.old) (O.contents output.new)
+        (spec.numbered number (spec.outcome_text outcome)) result }
 {
     match outcome {
         Outcome::NoFile => print_numbered(number, b"no file", output),
@@ -48,7 +49,8 @@ pub fn print_outcome<O: Write>(number: u64, outcome: Outcome, output: &mut O) ->
 
 /// Prints the line of a bad row. `Io::Write` if the output fails.
 pub fn print_bad_row<O: Write>(number: u64, output: &mut O) -> Result<(), Io>
-    ensures { spec.Prints (O.contents output.old) (O.contents output.new) (spec.numbered number (codes "bad row")) result }
+    ensures { spec.Prints (O.contents output.old) (O.contents output.new)
+        (spec.numbered number (codes "bad row")) result }
 {
     print_numbered(number, b"bad row", output)
 }

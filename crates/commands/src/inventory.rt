@@ -52,7 +52,9 @@ pub fn inventory<S: Outlines>(
     shelves: &mut S,
     key: &str,
 ) -> Result<Bytes, InventoryFault>
-    ensures told { spec.Inventories (S.shown shelves.old) (S.shown shelves.new) (S.failure_count shelves.old) (S.failure_count shelves.new) key.now result }
+    ensures told { spec.Inventories
+        (S.shown shelves.old) (S.shown shelves.new) (S.failure_count shelves.old) (S.failure_count shelves.new)
+        key.now result }
     ensures whole { IfOk result (λ text. IsWhole (S.shown shelves.old) (S.shown shelves.new) key.now text) }
 {
     match inventory_of(alloc, shelves, key) {
@@ -69,7 +71,8 @@ fn inventory_of<S: Outlines>(
     shelves: &mut S,
     key: &str,
 ) -> Result<Option<Bytes>, StoreFault>
-    ensures reads { Reads (S.shown shelves.old) (S.shown shelves.new) result (λ w. spec.inventory_of w (map.get w.keys key.now)) }
+    ensures reads { Reads (S.shown shelves.old) (S.shown shelves.new) result
+        (λ w. spec.inventory_of w (map.get w.keys key.now)) }
     ensures cause { HasCause (S.failure_count shelves.old) (S.failure_count shelves.new) result }
 {
     let Some(holder) = shelves.key(key)? else {
@@ -85,7 +88,8 @@ fn inventory_on<S: Outlines>(
     shelves: &mut S,
     shelf: &str,
 ) -> Result<Bytes, StoreFault>
-    ensures reads { Reads (S.shown shelves.old) (S.shown shelves.new) result (λ w. spec.inventory_of_shelf w shelf.now) }
+    ensures reads { Reads (S.shown shelves.old) (S.shown shelves.new) result
+        (λ w. spec.inventory_of_shelf w shelf.now) }
     ensures cause { HasCause (S.failure_count shelves.old) (S.failure_count shelves.new) result }
 {
     let mut lines = headed(alloc)?;
@@ -101,7 +105,8 @@ fn add_paths<S: Outlines>(
     lines: &mut Writer<Vec<u8>>,
 ) -> Result<(), StoreFault>
     requires between { IsBetweenLines lines.old }
-    ensures adds { Adds (S.shown shelves.old) (S.shown shelves.new) (text_in lines.old) (text_in lines.new) result (λ w. lines_seen w shelf.now) }
+    ensures adds { Adds (S.shown shelves.old) (S.shown shelves.new) (text_in lines.old) (text_in lines.new) result
+        (λ w. lines_seen w shelf.now) }
     ensures cause { HasCause (S.failure_count shelves.old) (S.failure_count shelves.new) result }
 {
     let paths = shelves.paths(shelf)?;
@@ -121,7 +126,8 @@ fn add_text<S: Outlines>(
 ) -> Result<(), StoreFault>
     requires between { IsBetweenLines lines.old }
     ensures between { OnOk result (IsBetweenLines lines.new) }
-    ensures adds { Adds (S.shown shelves.old) (S.shown shelves.new) (text_in lines.old) (text_in lines.new) result (λ w. lines_of_text w shelf.now text.now) }
+    ensures adds { Adds (S.shown shelves.old) (S.shown shelves.new) (text_in lines.old) (text_in lines.new) result
+        (λ w. lines_of_text w shelf.now text.now) }
     ensures cause { HasCause (S.failure_count shelves.old) (S.failure_count shelves.new) result }
 {
     let Some(path) = path_of(alloc, text)? else {
@@ -140,7 +146,8 @@ fn add_path<S: Outlines>(
 ) -> Result<(), StoreFault>
     requires between { IsBetweenLines lines.old }
     ensures between { OnOk result (IsBetweenLines lines.new) }
-    ensures adds { Adds (S.shown shelves.old) (S.shown shelves.new) (text_in lines.old) (text_in lines.new) result (λ w. lines_of_path w shelf.now path.now) }
+    ensures adds { Adds (S.shown shelves.old) (S.shown shelves.new) (text_in lines.old) (text_in lines.new) result
+        (λ w. lines_of_path w shelf.now path.now) }
     ensures cause { HasCause (S.failure_count shelves.old) (S.failure_count shelves.new) result }
 {
     let versions = shelves.versions(shelf, path)?;
@@ -161,7 +168,8 @@ fn add_version<S: Outlines>(
 ) -> Result<(), StoreFault>
     requires between { IsBetweenLines lines.old }
     ensures between { OnOk result (IsBetweenLines lines.new) }
-    ensures adds { Adds (S.shown shelves.old) (S.shown shelves.new) (text_in lines.old) (text_in lines.new) result (λ w. lines_at w shelf.now path.now version.now) }
+    ensures adds { Adds (S.shown shelves.old) (S.shown shelves.new) (text_in lines.old) (text_in lines.new) result
+        (λ w. lines_at w shelf.now path.now version.now) }
     ensures cause { HasCause (S.failure_count shelves.old) (S.failure_count shelves.new) result }
 {
     let Some(outline) = shelves.outline(shelf, path, version)? else {

@@ -11,8 +11,9 @@
 //! | the commands of the registry with `--control` | send an order to a running `serve`, and end by what it tells | [`order`] |
 //! | `ping` | asks a running `serve` for its health, and prints the line | [`ping`] |
 //!
-//! [`laws`] has what holds of every import. [`action`] does the action of a command on a store; [`refusal`] has the words that tell why a command was refused, and [`exit`] how a run
-//! ends: its exit status, and the line of that word. Nothing here opens a store or reads the words of a command line.
+//! [`laws`] has what holds of every import. [`action`] does the action of a command on a store; [`refusal`] has the words that tell why
+//! a command was refused, and [`exit`] how a run ends: its exit status, and the line of that word. Nothing here opens a store
+//! or reads the words of a command line.
 #![tactic(auto)]
 
 pub mod action;

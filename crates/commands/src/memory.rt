@@ -43,7 +43,8 @@ fn add_first_key(shelves: &mut MapShelves, team: &str, key: &str) -> Result<(), 
 /// rule, and otherwise `Memory` if memory runs out.
 pub fn shelves_with(alloc: Global, team: &str, key: &str) -> Result<MapShelves, CommandRefusal>
     ensures ok { IfOk result (λ shelves. (shelves ≡ opening team.now key.now) × AreNames team.now key.now) }
-    ensures err { IfErr result (λ e. ((e ≡ CommandRefusal.Memory) × AreNames team.now key.now) ⊎ ((e ≡ CommandRefusal.Name) × (¬ AreNames team.now key.now))) }
+    ensures err { IfErr result (λ e. ((e ≡ CommandRefusal.Memory) × AreNames team.now key.now)
+        ⊎ ((e ≡ CommandRefusal.Name) × (¬ AreNames team.now key.now))) }
 {
     if !is_team_name(team) || !is_key(key) {
         return Err(CommandRefusal::Name);
@@ -66,7 +67,8 @@ pub fn answer_in_memory<I: Read, O: Write>(
     input: &mut I,
     output: &mut O,
 ) -> Result<(), CommandRefusal>
-    ensures { AnsweredFor team.now key.now (I.remaining input.old) (I.remaining input.new) (O.contents output.old) (O.contents output.new) result }
+    ensures { AnsweredFor team.now key.now
+        (I.remaining input.old) (I.remaining input.new) (O.contents output.old) (O.contents output.new) result }
 {
     let mut shelves = match shelves_with(alloc, team, key) {
         Ok(shelves) => shelves,

@@ -29,8 +29,8 @@ pub fn order_over<R: Read, W: Write>(
     writer: &mut W,
     order: &Order,
 ) -> Result<(), CommandRefusal>
-    ensures { spec.OrdersOver (R.remaining reader.old) (R.remaining reader.new) (W.contents writer.old) (W.contents writer.new)
-        order.now result }
+    ensures { spec.OrdersOver (R.remaining reader.old) (R.remaining reader.new)
+        (W.contents writer.old) (W.contents writer.new) order.now result }
 {
     let asked = order_to_send(order);
     let told = ask(alloc, reader, writer, &asked);
@@ -159,7 +159,8 @@ pub fn stop_over<R: Read, W: Write>(
     reader: &mut R,
     writer: &mut W,
 ) -> Result<(), CommandRefusal>
-    ensures { spec.StopsOver (R.remaining reader.old) (R.remaining reader.new) (W.contents writer.old) (W.contents writer.new) result }
+    ensures { spec.StopsOver (R.remaining reader.old) (R.remaining reader.new)
+        (W.contents writer.old) (W.contents writer.new) result }
 {
     let told = ask_to_stop(alloc, reader, writer);
     stop_ending(told)

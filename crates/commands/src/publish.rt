@@ -93,7 +93,8 @@ pub fn publish_files<S: Shelves, O: Write>(
     body: Body,
     output: &mut O,
 ) -> Result<bool, CommandRefusal>
-    ensures { spec.PublishesAndTells (S.shown shelves.old) (S.shown shelves.new) (S.failure_count shelves.old) (S.failure_count shelves.new)
+    ensures { spec.PublishesAndTells
+        (S.shown shelves.old) (S.shown shelves.new) (S.failure_count shelves.old) (S.failure_count shelves.new)
         (spec.asked_by words.now body) (O.contents output.old) (O.contents output.new) result }
 {
     let told = publish_by(alloc, shelves, words, body);

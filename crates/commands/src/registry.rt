@@ -1,6 +1,7 @@
 //! The registry commands: teams, groups and keys.
 ghost use Rattle.std.specs.Prelude.{◌≡◌, true, if◌then◌else◌, option_copied};
-ghost use Rattle.world.specs.Registry.{team_added, after_team_add, group_added, after_group_add, key_added, after_key_add, key_revoked, after_key_revoke};
+ghost use Rattle.world.specs.Registry.{team_added, after_team_add, group_added, after_group_add};
+ghost use Rattle.world.specs.Registry.{key_added, after_key_add, key_revoked, after_key_revoke};
 ghost use Rattle.commands.specs.Ending.{Registers};
 
 use crate::refusal::{CommandRefusal, ending};
@@ -14,9 +15,11 @@ pub fn add_team<S: Shelves>(
     name: &str,
     group: Option<&str>,
 ) -> Result<(), CommandRefusal>
-    ensures { Registers (S.shown shelves.old) (S.shown shelves.new) (S.failure_count shelves.old) (S.failure_count shelves.new)
+    ensures { Registers
+        (S.shown shelves.old) (S.shown shelves.new) (S.failure_count shelves.old) (S.failure_count shelves.new)
         (λ w. team_added w name.now (option_copied group.entry))
-        (λ w. after_team_add w name.now (option_copied group.entry) (team_added w name.now (option_copied group.entry))) result }
+        (λ w. after_team_add w name.now (option_copied group.entry)
+        (team_added w name.now (option_copied group.entry))) result }
 {
     let told = shelves.team_add(name, group);
     ending(told)
@@ -24,7 +27,8 @@ pub fn add_team<S: Shelves>(
 
 /// Adds a group, as the machine does. Fails with `Name`, `Taken`, or a fault of the store, and then changes nothing.
 pub fn add_group<S: Shelves>(shelves: &mut S, name: &str) -> Result<(), CommandRefusal>
-    ensures { Registers (S.shown shelves.old) (S.shown shelves.new) (S.failure_count shelves.old) (S.failure_count shelves.new)
+    ensures { Registers
+        (S.shown shelves.old) (S.shown shelves.new) (S.failure_count shelves.old) (S.failure_count shelves.new)
         (λ w. group_added w name.now) (λ w. after_group_add w name.now (group_added w name.now)) result }
 {
     let told = shelves.group_add(name);
@@ -39,9 +43,11 @@ pub fn add_key<S: Shelves>(
     key: &str,
     read_only: bool,
 ) -> Result<(), CommandRefusal>
-    ensures { Registers (S.shown shelves.old) (S.shown shelves.new) (S.failure_count shelves.old) (S.failure_count shelves.new)
+    ensures { Registers
+        (S.shown shelves.old) (S.shown shelves.new) (S.failure_count shelves.old) (S.failure_count shelves.new)
         (λ w. key_added w shelf.now key.now)
-        (λ w. after_key_add w shelf.now key.now (if read_only then Right.Reads else Right.Publishes) (key_added w shelf.now key.now)) result }
+        (λ w. after_key_add w shelf.now key.now (if read_only then Right.Reads else Right.Publishes)
+        (key_added w shelf.now key.now)) result }
 {
     let right = right_of(read_only);
     let told = shelves.key_add(shelf, key, right);
@@ -61,7 +67,8 @@ fn right_of(read_only: bool) -> Right
 
 /// Revokes a key, as the machine does. Fails with `NoKey`, or a fault of the store, and then changes nothing.
 pub fn revoke_key<S: Shelves>(shelves: &mut S, key: &str) -> Result<(), CommandRefusal>
-    ensures { Registers (S.shown shelves.old) (S.shown shelves.new) (S.failure_count shelves.old) (S.failure_count shelves.new)
+    ensures { Registers
+        (S.shown shelves.old) (S.shown shelves.new) (S.failure_count shelves.old) (S.failure_count shelves.new)
         (λ w. key_revoked w key.now) (λ w. after_key_revoke w key.now (key_revoked w key.now)) result }
 {
     let told = shelves.key_revoke(key);

@@ -74,7 +74,8 @@ module _ {S : Type 0} (shown : S → Shown) (failures : S → ℕ) (copied : Cop
         (record { store = ended; unread = unread_new; written = written_new }) result action
 
   -- the store of a file was opened and the action was done on it, or it was not opened, and the result says why
-  abbrev pub ActsOnFile : Option (List ℕ) → Option (List ℕ) → Option (List ℕ) → Option (List ℕ) → Action → Result Bool CommandRefusal → Type 0
+  abbrev pub ActsOnFile :
+      Option (List ℕ) → Option (List ℕ) → Option (List ℕ) → Option (List ℕ) → Action → Result Bool CommandRefusal → Type 0
   ActsOnFile unread unread_new written written_new action result =
       ActsOpened unread unread_new written written_new action result
       ⊎ ((why : Unopened) × TellsAlone unread unread_new written written_new result (Err (unopened why)))

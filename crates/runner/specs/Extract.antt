@@ -37,8 +37,8 @@ module _ {S F : Type 0} (shown : S → Shown) (failures : S → ℕ) (shown_too 
   abbrev pub Fills : Image → List (List ℕ) → Result (Unit {0}) CommandRefusal → Type 0
   Fills held teams result = FillsOpened held teams result ⊎ FillsNone result
 
-module _ {S F : Type 0} (shown : S → Shown) (failures : S → ℕ) (held : Image) (shown_too : F → Shown) (failures_too : F → ℕ) (held_too : Image)
-    (teams : List (List ℕ)) where
+module _ {S F : Type 0} (shown : S → Shown) (failures : S → ℕ) (held : Image) (shown_too : F → Shown) (failures_too : F → ℕ)
+    (held_too : Image) (teams : List (List ℕ)) where
   -- the store of one file was opened, and some teams' part of it was put into that of another, or was not
   pub record ExtractsOpened (result : Result (Unit {0}) CommandRefusal) : Type 0 where
     pub source : S

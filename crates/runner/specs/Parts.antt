@@ -16,7 +16,9 @@ use Rattle.store.specs.Parts.{part_of, chains, AreTeams}
 -- when the request comes.
 abbrev pub AllOf : World → List (List ℕ) → List Event → Type 0
 AllOf w ss [] = Unit {0}
-AllOf w ss (e ∷ es) = ((k : List ℕ) × (h : Holder) × (asking_key e ≡ Some k) × (map.get w.keys k ≡ Some h) × (is_among ss h.shelf ≡ true)) × AllOf w ss es
+AllOf w ss (e ∷ es) =
+    ((k : List ℕ) × (h : Holder) × (asking_key e ≡ Some k) × (map.get w.keys k ≡ Some h) × (is_among ss h.shelf ≡ true))
+    × AllOf w ss es
 
 -- Two runs, one over the whole and one over the part of some teams, give the same replies if they answered the same requests, each
 -- with a key of a shelf that one of the teams sees.

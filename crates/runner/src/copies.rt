@@ -123,8 +123,10 @@ fn uncopied(refusal: Unopened) -> CopyRefusal
 
 /// Counts the versions of the served store.
 fn count_in<S: Alter>(served: &mut SqlShelves<S>) -> Result<u64, StoreFault>
-    ensures reads { IsOnlyRead (⟦<SqlShelves<S> as Shelves>⟧.shown served.old) (⟦<SqlShelves<S> as Shelves>⟧.shown served.new)
-        (⟦<SqlShelves<S> as Shelves>⟧.failure_count served.old) (⟦<SqlShelves<S> as Shelves>⟧.failure_count served.new) }
+    ensures reads { IsOnlyRead
+        (⟦<SqlShelves<S> as Shelves>⟧.shown served.old) (⟦<SqlShelves<S> as Shelves>⟧.shown served.new)
+        (⟦<SqlShelves<S> as Shelves>⟧.failure_count served.old)
+        (⟦<SqlShelves<S> as Shelves>⟧.failure_count served.new) }
     ensures cause { HasCause (⟦<SqlShelves<S> as Shelves>⟧.failure_count served.old)
         (⟦<SqlShelves<S> as Shelves>⟧.failure_count served.new) result }
     ensures counted { IfOk result (λ n. CountsIn ⟦<SqlShelves<S> as Shelves>⟧.shown served.old served.new n) }

@@ -1,5 +1,6 @@
 -- What was answered since a server began, and the line that tells it.
-use Rattle.std.specs.Prelude.{ℕ, ◌≡◌, ◌+◌, ◌/◌, ◌<◌, ◌++◌, nat_eq, cond, Bool, true, false, List, length, codes, decimal, count_by, Option, Some, None, Result, Ok, Err}
+use Rattle.std.specs.Prelude.{ℕ, ◌≡◌, ◌+◌, ◌/◌, ◌<◌, ◌++◌, nat_eq, cond, Bool, true, false}
+use Rattle.std.specs.Prelude.{List, length, codes, decimal, count_by, Option, Some, None, Result, Ok, Err}
 use Rattle.world.specs.Store.{GrewOrFull}
 use Rattle.world.specs.declared.registry.StoreFault.{StoreFault}
 use Rattle.world.specs.declared.registry.StoreFault.TheVariants.{Device}

@@ -15,7 +15,8 @@ abbrev pub IsLineFor : Health → Told → Type 0
 IsLineFor health told = (told ≡ told_of_ping (Ok health)) ⊎ (told ≡ told_of_ping (Err Memory))
 
 -- The store was only read, and this was told.
-pub record Pings {S : Type 0} (shown : S → Shown) (failures : S → ℕ) (counted : S → S → ℕ → Type 0) (tally : Tally) (old new : S) (told : Told)
+pub record Pings
+    {S : Type 0} (shown : S → Shown) (failures : S → ℕ) (counted : S → S → ℕ → Type 0) (tally : Tally) (old new : S) (told : Told)
     : Type 0 where
   pub heard : Result Health StoreFault
   pub reads : IsOnlyRead (shown old) (shown new) (failures old) (failures new)

@@ -1,6 +1,7 @@
 //! The operator's side.
 ghost use Rattle.std.specs.Prelude.{◌≡◌, ◌++◌, ◌∷◌, [], IfOk, IfErr, IfSome, OnOk, option_copied};
-ghost use Rattle.control.specs.Asking.{Asks, AsksForHealth, AsksToCopy, AsksToStop, IsUnsent, IsUnwritten, TellsOutcome, TellsHealth, IsTold};
+ghost use Rattle.control.specs.Asking.{Asks, AsksForHealth, AsksToCopy, AsksToStop};
+ghost use Rattle.control.specs.Asking.{IsUnsent, IsUnwritten, TellsOutcome, TellsHealth, IsTold};
 ghost use Rattle.control.specs.Line.{IsCopyTo, IsSaid, IsSent, copy_words, longest_copy};
 ghost use Rattle.control.specs.Order as spec;
 ghost use Rattle.control.specs.Order.{said_in};
@@ -53,7 +54,8 @@ pub fn ask<R: Read, W: Write>(
     writer: &mut W,
     order: &Order,
 ) -> Result<Outcome, Untold>
-    ensures { Asks (R.remaining reader.old) (R.remaining reader.new) (W.contents writer.old) (W.contents writer.new) order.now result }
+    ensures { Asks (R.remaining reader.old) (R.remaining reader.new)
+        (W.contents writer.old) (W.contents writer.new) order.now result }
 {
     let line = line_to_send(alloc, order)?;
     match write_bytes(writer, &line) {
@@ -86,7 +88,8 @@ pub fn ask_to_stop<R: Read, W: Write>(
     reader: &mut R,
     writer: &mut W,
 ) -> Result<Outcome, Untold>
-    ensures { AsksToStop (R.remaining reader.old) (R.remaining reader.new) (W.contents writer.old) (W.contents writer.new) result }
+    ensures { AsksToStop (R.remaining reader.old) (R.remaining reader.new)
+        (W.contents writer.old) (W.contents writer.new) result }
 {
     match write_bytes(writer, b"stop\n") {
         Ok(()) => hear_outcome(alloc, reader),

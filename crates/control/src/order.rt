@@ -81,7 +81,8 @@ fn right_of(verb: &str) -> Option<Right>
 
 /// Returns the order that two words say, or None if they say none.
 fn shorter<'a>(verb: &'a str, name: &'a str) -> Option<Order<'a>>
-    ensures { MatchOption result (spec.SaysNoOrder (spec.two verb.now name.now)) (λ order. spec.two verb.now name.now ≡ spec.said_in order) }
+    ensures { MatchOption result (spec.SaysNoOrder (spec.two verb.now name.now))
+        (λ order. spec.two verb.now name.now ≡ spec.said_in order) }
 {
     if verb == "team-add" {
         Some(Order::TeamAdd { name, group: None })

@@ -39,11 +39,13 @@ pub fn serve_both<
     connections: u32,
 )
     // One run of the machine: its events are the messages, at most one on each connection, and the orders.
-    ensures goes { GoesOn (S.shown shelves.old) (S.shown shelves.new) (S.failure_count shelves.old) (S.failure_count shelves.new)
+    ensures goes { GoesOn
+        (S.shown shelves.old) (S.shown shelves.new) (S.failure_count shelves.old) (S.failure_count shelves.new)
         connections }
     // Each message is answered on the connection that it came over, and the outcome of each order is told on its own.
     ensures each { ServesEach O.unread O.written P.unread P.written (L.waiting callers.old) (L.waiting callers.new)
-        (S.shown shelves.old) (S.shown shelves.new) (S.failure_count shelves.old) (S.failure_count shelves.new) connections }
+        (S.shown shelves.old) (S.shown shelves.new) (S.failure_count shelves.old) (S.failure_count shelves.new)
+        connections }
     // Each copy is made of the machine's world at its moment, between two of its events. Each ping is told the versions that were
     // counted so, and the counts of the connections that were taken before it.
     ensures reads { ReadsEach O.unread O.written P.unread P.written S.shown S.failure_count K.copied K.counted

@@ -57,6 +57,15 @@ def counts():
     return health()[:5]
 
 
+def counts_of(connections):
+    """The counts, once so many connections were taken. A ping goes before peers who wait to be taken."""
+    for _ in range(200):
+        if counts()[0] >= connections:
+            break
+        time.sleep(0.05)
+    return counts()
+
+
 def utc():
     return time.strftime("%Y-%m-%dT%H:%M:%SZ", time.gmtime())
 
@@ -93,12 +102,12 @@ def unanswered(suite):
     server = Server("served.db")
     for _ in range(50):
         server.connected().close()
-    suite.equal("50 peers that close at once", counts(), [50, 0, 0, 0, 50])
+    suite.equal("50 peers that close at once", counts_of(50), [50, 0, 0, 0, 50])
     for _ in range(10):
         held = server.connected()
         held.setsockopt(socket.SOL_SOCKET, socket.SO_LINGER, NO_LINGER)
         held.close()
-    suite.equal("10 peers that reset the connection", counts(), [60, 0, 0, 0, 60])
+    suite.equal("10 peers that reset the connection", counts_of(60), [60, 0, 0, 0, 60])
     begun = time.monotonic()
     for _ in range(1_000):
         server.connected().close()
@@ -108,7 +117,7 @@ def unanswered(suite):
     suite.equal("and are counted", counts(), [1_061, 0, 1, 0, 1_060])
     with server.connected() as held:
         held.sendall(b"GET /k")
-        told = counts()
+        told = counts_of(1_062)
         suite.equal("a ping behind a peer that stays silent in mid-request", told, [1_062, 0, 1, 0, 1_061])
     server.kill()
 

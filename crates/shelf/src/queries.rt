@@ -45,43 +45,13 @@ fn answer_from<S: Shelves>(
     ensures cause { HasCause (S.failure_count shelves.old) (S.failure_count shelves.new) result }
 {
     match query {
-        Query::GoMod { path, version } => answer_gomod(shelves, shelf, path, version),
-        Query::Zip { path, version } => answer_zip(shelves, shelf, path, version),
+        Query::GoMod { path, version } => Ok(gomod_reply(shelves.heading(shelf, path, version)?)),
+        Query::Zip { path, version } => Ok(zip_reply(shelves.entry(shelf, path, version)?)),
         Query::Info { path, version } => answer_info(shelves, shelf, path, version.copy(alloc)?),
-        Query::List { path } => answer_list(shelves, shelf, path),
+        Query::List { path } => Ok(list_reply(shelves.versions(shelf, path)?)),
         Query::Latest { path } => answer_latest(shelves, shelf, path),
         Query::Modules => Ok(Reply::Paths(shelves.paths(shelf)?)),
     }
-}
-
-/// Returns the reply to a GET of a go.mod. Fails only if the store fails.
-fn answer_gomod<S: Shelves>(
-    shelves: &mut S,
-    shelf: &str,
-    path: &ModulePath,
-    version: &Version,
-) -> Result<Reply, StoreFault>
-    ensures reads { Reads (S.shown shelves.old) (S.shown shelves.new) result
-        (λ w. query_reply w shelf.now (Query.GoMod path.now version.now)) }
-    ensures cause { HasCause (S.failure_count shelves.old) (S.failure_count shelves.new) result }
-{
-    let heading = shelves.heading(shelf, path, version)?;
-    Ok(gomod_reply(heading))
-}
-
-/// Returns the reply to a GET of a zip. Fails only if the store fails.
-fn answer_zip<S: Shelves>(
-    shelves: &mut S,
-    shelf: &str,
-    path: &ModulePath,
-    version: &Version,
-) -> Result<Reply, StoreFault>
-    ensures reads { Reads (S.shown shelves.old) (S.shown shelves.new) result
-        (λ w. query_reply w shelf.now (Query.Zip path.now version.now)) }
-    ensures cause { HasCause (S.failure_count shelves.old) (S.failure_count shelves.new) result }
-{
-    let seen = shelves.entry(shelf, path, version)?;
-    Ok(zip_reply(seen))
 }
 
 /// Returns the reply to a GET of the name and the time of a version. Fails only if the store fails.
@@ -97,20 +67,6 @@ fn answer_info<S: Shelves>(
 {
     let heading = shelves.heading(shelf, path, &version)?;
     Ok(info_reply(version, heading))
-}
-
-/// Returns the reply to a GET of the list of a path. Fails only if the store fails.
-fn answer_list<S: Shelves>(
-    shelves: &mut S,
-    shelf: &str,
-    path: &ModulePath,
-) -> Result<Reply, StoreFault>
-    ensures reads { Reads (S.shown shelves.old) (S.shown shelves.new) result
-        (λ w. query_reply w shelf.now (Query.List path.now)) }
-    ensures cause { HasCause (S.failure_count shelves.old) (S.failure_count shelves.new) result }
-{
-    let versions = shelves.versions(shelf, path)?;
-    Ok(list_reply(versions))
 }
 
 fn info_reply(version: Version, heading: Option<Heading>) -> Reply

@@ -15,12 +15,10 @@
 //! | `latest_versions` | `latest` | the highest version, and the latest |
 //! | `hashes` | `gosum` | hashes and go.sum lines |
 //! | `targets` | `wire`, `text` | what requests ask for |
-//! | `framing` | `wire` | messages and the ends of streams, however they are cut; lengths |
+//! | `messages` | `framing`, by `wire` | messages and the ends of streams, however they are cut; lengths |
 //! | `replies` | `wire` | replies, heads and the bodies of `.info` |
 #![tactic(auto)]
 
-#[cfg(test)]
-mod framing;
 #[cfg(test)]
 mod gomod_faults;
 #[cfg(test)]
@@ -29,6 +27,8 @@ mod gomod_files;
 mod hashes;
 #[cfg(test)]
 mod latest_versions;
+#[cfg(test)]
+mod messages;
 #[cfg(test)]
 mod module_paths;
 #[cfg(test)]

@@ -1,8 +1,8 @@
 //! Reads the tables of all modules. A row is a line of a table, with `|` between its columns: the call, its arguments, and last what it
 //! returns. In a row, `;` is a newline and `ÿ` the byte 255.
 use crate::{
-    framing, gomod_faults, hashes, latest_versions, module_paths, orders, replies, targets, tokens,
-    versions,
+    gomod_faults, hashes, latest_versions, messages, module_paths, orders, replies, targets,
+    tokens, versions,
 };
 use modver::Version;
 use std::alloc::{AllocError, Global};
@@ -12,7 +12,7 @@ use std::test::Fail;
 /// The module to whose calls a table belongs.
 #[derive(Clone, Copy)]
 enum Subject {
-    Framing,
+    Messages,
     GoModFaults,
     Hashes,
     Latest,
@@ -25,7 +25,7 @@ enum Subject {
 }
 
 const SUBJECTS: [Subject; 10] = [
-    Subject::Framing,
+    Subject::Messages,
     Subject::GoModFaults,
     Subject::Hashes,
     Subject::Latest,
@@ -40,7 +40,7 @@ const SUBJECTS: [Subject; 10] = [
 /// Returns the table of a subject.
 fn table(subject: Subject) -> &'static str {
     match subject {
-        Subject::Framing => framing::ROWS,
+        Subject::Messages => messages::ROWS,
         Subject::GoModFaults => gomod_faults::ROWS,
         Subject::Hashes => hashes::ROWS,
         Subject::Latest => latest_versions::ROWS,
@@ -56,7 +56,7 @@ fn table(subject: Subject) -> &'static str {
 /// Makes the call of a row, and returns its result as a text.
 fn given(alloc: Global, subject: Subject, row: &str) -> Result<String, Fail> {
     match subject {
-        Subject::Framing => framing::given(alloc, row),
+        Subject::Messages => messages::given(alloc, row),
         Subject::GoModFaults => Ok(gomod_faults::given(alloc, row)?),
         Subject::Hashes => hashes::given(alloc, row),
         Subject::Latest => latest_versions::given(alloc, row),

@@ -138,9 +138,11 @@ module _ (x : World) (is : IsWorld x) (one : HasOtherShelf x → ⊥) (two : Has
 
   pub common_alone : x ≡ only_common
   common_alone =
-      let keys = map.same_map texts_total texts_exact x.keys only_common.keys (λ k. same_got x.keys only_common.keys k (λ h at. absurd (two (k, h, at))) (λ h at. absurd (none_in_empty text_cmp k h at))) in
+      let keys =
+      map.same_map texts_total texts_exact x.keys only_common.keys (λ k. same_got x.keys only_common.keys k (λ h at. absurd (two (k, h, at))) (λ h at. absurd (none_in_empty text_cmp k h at))) in
       let shelves = map.same_map texts_total texts_exact x.shelves only_common.shelves (λ s. same_got x.shelves only_common.shelves s (shelf_is s) (common_is s)) in
-      let entries = map.same_map places_total places_exact x.entries only_common.entries (λ q. same_got x.entries only_common.entries q (λ e at. absurd (three (q, e, at))) (λ e at. absurd (none_in_empty place_cmp q e at))) in
+      let entries = map.same_map places_total places_exact x.entries only_common.entries
+      (λ q. same_got x.entries only_common.entries q (λ e at. absurd (three (q, e, at))) (λ e at. absurd (none_in_empty place_cmp q e at))) in
       λ i. record { keys = keys i; shelves = shelves i; entries = entries i }
 
 -- a store that has no other shelf and no key has `common` alone exactly if it has no entry

@@ -71,7 +71,8 @@ first_put true c o at first = sym (first refl)
 first_put false c o at first = refl
 
 module _ (w : World) where
-  one_more : (ss : List (List ℕ)) (shelves : map.FinMap text_cmp (Option (List ℕ))) (t : List ℕ) (o : Option (List ℕ)) → map.get w.shelves t ≡ Some o → ArePut w ss shelves → ArePut w (t ∷ ss) (map.insert shelves t o)
+  one_more : (ss : List (List ℕ)) (shelves : map.FinMap text_cmp (Option (List ℕ))) (t : List ℕ) (o : Option (List ℕ))
+      → map.get w.shelves t ≡ Some o → ArePut w ss shelves → ArePut w (t ∷ ss) (map.insert shelves t o)
   one_more ss shelves t o at put s =
       map.get-insert texts_total shelves t o s
       ∙ (ap (λ b. cond b (Some o) (map.get shelves s)) (is_eq-slice_cmp s t)
@@ -213,14 +214,16 @@ module _ (w : World) (ss : List (List ℕ)) (source db mid after : Trees) (means
 
 -- tables that mean a world without entries have no version
 no_version_yet : (db : Trees) (x y : World) → Means db y → y.entries ≡ x.entries → x.entries ≡ map.empty → db 6 ≡ []
-no_version_yet db x y means same none = none_there (db 6) (λ row there. let of = means.entries.each row there in none_in_empty place_cmp of.0.0 of.0.1 (ap (λ m. map.get m of.0.0) (sym (same ∙ none)) ∙ of.2))
+no_version_yet db x y means same none =
+    none_there (db 6) (λ row there. let of = means.entries.each row there in none_in_empty place_cmp of.0.0 of.0.1 (ap (λ m. map.get m of.0.0) (sym (same ∙ none)) ∙ of.2))
 
 -- the shelves of a list are put in, and then the keys, the versions and the pieces of these and of `common`
 abbrev FillsAlong : List Shelf → List (List ℕ) → Trees → Trees → Trees → Type 0
 FillsAlong shelves ss = Then (Then (Then (λ _. PutsShelves shelves) (Along (λ s. OfWorlds (CopiesKeys s)) ss)) (Along CopiesVersions ss)) (Along CopiesPieces ss)
 
 -- the copies, in this order, make of a store with `common` alone the part of the source with these shelves and `common`
-pub makes_part : (shelves : List Shelf) → AreNew (common ∷ []) (names_of shelves) → (source db after : Trees) → FillsAlong shelves (common ∷ names_of shelves) source db after → MakesPart shelves source db after
+pub makes_part : (shelves : List Shelf) → AreNew (common ∷ []) (names_of shelves) → (source db after : Trees)
+    → FillsAlong shelves (common ∷ names_of shelves) source db after → MakesPart shelves source db after
 makes_part shelves new source db after it w means is are blank =
     let ss : List (List ℕ) = common ∷ names_of shelves in
     let with_keys : Trees = it.1.0 in

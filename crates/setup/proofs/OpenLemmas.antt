@@ -17,7 +17,8 @@ use Rattle.statements.proofs.WriteLemmas.{open_leaves}
 
 module _ (old new : State) where
   -- a store that holds a world begins at it
-  pub begins_at : ((db : Trees) → IsTrue new.is_open → new.may_leave db → db ≡ new.committed.trees) → IsTrue new.is_open → HasCleanDisk new → (w : World) → Holds new w → IsWorld w → BeginsAt (shown_of new) w
+  pub begins_at : ((db : Trees) → IsTrue new.is_open → new.may_leave db → db ≡ new.committed.trees)
+      → IsTrue new.is_open → HasCleanDisk new → (w : World) → Holds new w → IsWorld w → BeginsAt (shown_of new) w
   begins_at law opened clean w holds is = record {
     honest = clean;
     stands = ((λ _ _. holds), is);
@@ -48,6 +49,7 @@ pub told_device : (old new : State) (e : Error) (r : Refusal) → (e ≡ SqliteF
 told_device old new e r memory (inl wanted) device = absurd (let d : refusal.Memory ≡ refusal.Device = sym (memory wanted) ∙ device in cc)
 told_device old new e r memory (inr hindered) device = hindered
 
-pub told_reason : (old new : State) (e : Error) (r : Refusal) → (e ≡ SqliteFailure code.OutOfMemory → r ≡ refusal.Memory) → HasReason old new e → r ≡ refusal.Device → IsHindered old new ⊎ IsVast old.now
+pub told_reason : (old new : State) (e : Error) (r : Refusal) → (e ≡ SqliteFailure code.OutOfMemory → r ≡ refusal.Memory)
+    → HasReason old new e → r ≡ refusal.Device → IsHindered old new ⊎ IsVast old.now
 told_reason old new e r memory (inl excused) device = inl (told_device old new e r memory excused device)
 told_reason old new e r memory (inr vast) device = inr vast

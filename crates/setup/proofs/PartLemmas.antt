@@ -1,5 +1,6 @@
 -- Some shelves of a world as a world of their own.
-use Rattle.std.proofs.Common.{◌≡◌, ◌≢◌, ◌⊎◌, ℕ, ◌≤◌, List, [], ◌∷◌, ◌++◌, Bool, true, false, cond, refl, ◌∙◌, sym, ap, subst, Option, Some, None, length, get_or, zero, suc, ◌<◌, inl, inr, arith, true≢false}
+use Rattle.std.proofs.Common.{◌≡◌, ◌≢◌, ◌⊎◌, ℕ, ◌≤◌, List, [], ◌∷◌, ◌++◌, Bool, true, false, cond, refl, ◌∙◌, sym, ap}
+use Rattle.std.proofs.Common.{subst, Option, Some, None, length, get_or, zero, suc, ◌<◌, inl, inr, arith, true≢false}
 use Rattle.std.specs.Borrow.{Bor}
 use Rattle.std.specs.Prelude.{bytes_eq, ◌&&◌, ◌||◌, is_some, map as each}
 use Rattle.std.specs.FinMap as map
@@ -135,9 +136,11 @@ whole false (Some x) h = absurd (true≢false (sym (h x refl)))
 
 pub part_all : (w : World) (ss : List (List ℕ)) → IsWorld w → ((s : List ℕ) → map.contains_key w.shelves s ≡ true → is_among ss s ≡ true) → part_of w ss ≡ w
 part_all w ss is all =
-    let keys : (part_of w ss).keys ≡ w.keys = map.same_map texts_total texts_exact _ _ (λ k. key_at w ss k ∙ whole (is_held ss (map.get w.keys k)) (map.get w.keys k) (λ h at. ap (is_held ss) at ∙ all h.shelf (is.keys_stand k h at))) in
+    let keys : (part_of w ss).keys ≡ w.keys =
+    map.same_map texts_total texts_exact _ _ (λ k. key_at w ss k ∙ whole (is_held ss (map.get w.keys k)) (map.get w.keys k) (λ h at. ap (is_held ss) at ∙ all h.shelf (is.keys_stand k h at))) in
     let shelves : (part_of w ss).shelves ≡ w.shelves = map.same_map texts_total texts_exact _ _ (λ s. parent_at w ss s ∙ whole (is_among ss s) (map.get w.shelves s) (λ o at. all s (ap is_some at))) in
-    let entries : (part_of w ss).entries ≡ w.entries = map.same_map places_total places_exact _ _ (λ q. entry_at w ss q ∙ whole (is_among ss q.shelf) (map.get w.entries q) (λ e at. all q.shelf (is.entries_stand q e at))) in
+    let entries : (part_of w ss).entries ≡ w.entries =
+    map.same_map places_total places_exact _ _ (λ q. entry_at w ss q ∙ whole (is_among ss q.shelf) (map.get w.entries q) (λ e at. all q.shelf (is.entries_stand q e at))) in
     λ i. record { keys = keys i; shelves = shelves i; entries = entries i }
 
 -- ---- the shelves that some teams see
@@ -171,7 +174,8 @@ chains_has w (u ∷ ts) t s (inr later) seen = among_either (chain w u) (chains 
 no_parent : (parent : List ℕ) → ◌≡◌ {A = Option (Option (List ℕ))} (Some None) (Some (Some parent)) → ⊥
 no_parent parent e = cc e
 
-pub chains_closed : (w : World) → IsWorld w → (ts : List (List ℕ)) (s parent : List ℕ) → is_among (chains w ts) s ≡ true → map.get w.shelves s ≡ Some (Some parent) → is_among (chains w ts) parent ≡ true
+pub chains_closed : (w : World) → IsWorld w → (ts : List (List ℕ)) (s parent : List ℕ)
+    → is_among (chains w ts) s ≡ true → map.get w.shelves s ≡ Some (Some parent) → is_among (chains w ts) parent ≡ true
 chains_closed w is ts s parent among at = elim (chains_from w ts s among) [
   | inl same ↦ absurd (no_parent parent (sym is.has_common ∙ (ap (map.get w.shelves) (sym same) ∙ at)))
   | inr it ↦ chains_has w ts it.0 parent it.1 (sees_through w is it.0 s parent it.2 (sees_parent w s parent at))
@@ -276,7 +280,8 @@ SeenSoFar w done shelves = ((t : List ℕ) → Has done t → IsTeam w t) × Are
 pub none_so_far : (w : World) → SeenSoFar w [] []
 none_so_far w = (λ t none. absurd none, none_of w)
 
-pub one_so_far : (w : World) → IsWorld w → (done : List (List ℕ)) (shelves more : List Shelf) (t : List ℕ) → AddsTeam w t shelves (Some more) → SeenSoFar w done shelves → SeenSoFar w (done ++ t ∷ []) more
+pub one_so_far : (w : World) → IsWorld w → (done : List (List ℕ)) (shelves more : List Shelf) (t : List ℕ)
+    → AddsTeam w t shelves (Some more) → SeenSoFar w done shelves → SeenSoFar w (done ++ t ∷ []) more
 one_so_far w is done shelves more t adds seen = (
   (λ u there. elim (has_either done (t ∷ []) u there) [
     | inl was ↦ seen.0 u was

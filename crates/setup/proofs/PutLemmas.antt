@@ -44,7 +44,8 @@ spared_at a b x next spares = record {
 -- ---- shelves that are put in
 
 pub puts_if : {A E : Type 0} (r : Result A E) (name : List ℕ) (parent : Option (List ℕ)) (a b : State) → Survives a b (λ _. ⊥) → (HasCleanDisk b → IsTrue a.in_transaction → KeepsCommit a b)
-    → (HasCleanDisk b → IsTrue a.in_transaction → OnOk r (IsTrue b.in_transaction)) → (HasCleanDisk b → Filling a → OnOk r (PutsShelf name parent a.now.trees b.now.trees × Filling b)) → Puts (PutsShelf name parent) a b (is_ok r)
+    → (HasCleanDisk b → IsTrue a.in_transaction → OnOk r (IsTrue b.in_transaction))
+    → (HasCleanDisk b → Filling a → OnOk r (PutsShelf name parent a.now.trees b.now.trees × Filling b)) → Puts (PutsShelf name parent) a b (is_ok r)
 puts_if r name parent a b survives kept inside puts = record { goes_on = goes_on_if r a b survives kept inside; makes = λ clean filling done. when_ok r done (puts clean filling) }
 
 pub puts_none : (a : State) → Puts (PutsShelves []) a a true

@@ -1,5 +1,6 @@
 -- Copying some shelves of a store into a fresh store: those that some teams see, or all.
-use Rattle.std.specs.Prelude.{ℕ, ◌≡◌, ◌≢◌, List, [], ◌∷◌, ◌++◌, map as each, Bool, true, false, Option, Some, None, Result, Ok, Err, OnOk, OnErr, IsTrue}
+use Rattle.std.specs.Prelude.{ℕ, ◌≡◌, ◌≢◌, List, [], ◌∷◌, ◌++◌, map as each, Bool, true}
+use Rattle.std.specs.Prelude.{false, Option, Some, None, Result, Ok, Err, OnOk, OnErr, IsTrue}
 use Rattle.std.specs.FinMap as map
 use Rattle.sqlite.specs.State.{State, HasCleanDisk}
 use Rattle.sqlite.specs.Tree.{Trees}
@@ -124,7 +125,8 @@ CopiesRows rows.Pieces shelf = CopiesPieces shelf
 -- if the source means w, and the fresh tables stood for `common` alone, they come to mean w with only these shelves and `common`
 abbrev pub MakesPart : List Shelf → Trees → Trees → Trees → Type 0
 MakesPart shelves source db after =
-    (w : World) → Means source w → IsWorld w → AreShelves w shelves → StandFor db only_common → Means after (part_of w (common ∷ names_of shelves))
+    (w : World) → Means source w → IsWorld w → AreShelves w shelves
+    → StandFor db only_common → Means after (part_of w (common ∷ names_of shelves))
 
 -- ---- the calls `extract_teams` and `copy`
 
@@ -149,7 +151,8 @@ pub record FillsAt (old new : Shown) (There : Type 0) (next x : World) (result :
 
 -- For each world of the source and each of the fresh store, `FillsAt` holds, if the disks have returned what was written. The
 -- source is only read, and so is the fresh store if `IsUnfit` holds of the result.
-pub record FillsBy (There : World → Type 0) (next : World → World) (source source_new fresh fresh_new : Shown) (result : Result (Unit {0}) Refusal) : Type 0 where
+pub record FillsBy (There : World → Type 0) (next : World → World)
+    (source source_new fresh fresh_new : Shown) (result : Result (Unit {0}) Refusal) : Type 0 where
   pub reads : IsRead source source_new
   pub honest : fresh_new.is_honest → fresh.is_honest
   pub spares : IsUnfit result → IsRead fresh fresh_new

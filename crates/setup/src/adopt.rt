@@ -48,7 +48,8 @@ fn make_tables<S: Alter>(conn: &mut Connection<S>) -> Result<(), Refusal>
     requires empty { (state S.Store conn.old).now.schema ≡ no_schema }
     ensures clean { doubt (state S.Store conn.old).is_clean ≤ doubt (state S.Store conn.new).is_clean }
     ensures refused { IfErr result IsOfOpening }
-    ensures opens { Honestly (state S.Store conn.old) (state S.Store conn.new) (λ old new. OnOk result (Opens old new)) }
+    ensures opens { Honestly (state S.Store conn.old) (state S.Store conn.new)
+        (λ old new. OnOk result (Opens old new)) }
     ensures kept { Honestly (state S.Store conn.old) (state S.Store conn.new) (λ old new.
         IsTrue new.is_open → OnErr result (new.now ≡ old.now)) }
     ensures left { Honestly (state S.Store conn.old) (state S.Store conn.new) LeavesFirst }

@@ -25,10 +25,13 @@ pub fn extract_part<S: Alter, F: Alter>(
     ensures clean { doubt (state F.Store fresh.old).is_clean ≤ doubt (state F.Store fresh.new).is_clean }
     ensures spares { IfOk result (λ judged. is_fit judged ≡ false
         → Spares (state F.Store fresh.old) (state F.Store fresh.new)) }
-    ensures verdict { InEachTwo (state S.Store source.old) (state S.Store source.new) (state F.Store fresh.old) (state F.Store fresh.new)
+    ensures verdict { InEachTwo (state S.Store source.old) (state S.Store source.new)
+        (state F.Store fresh.old) (state F.Store fresh.new)
         (λ w x. IfOk result (IsJudged w x wanted.entry)) }
-    ensures changes { InEachTwo (state S.Store source.old) (state S.Store source.new) (state F.Store fresh.old) (state F.Store fresh.new)
-        (λ w x. ChangesAt (state F.Store fresh.old) (state F.Store fresh.new) (is_written result) x (what wanted.entry w)) }
+    ensures changes { InEachTwo (state S.Store source.old) (state S.Store source.new)
+        (state F.Store fresh.old) (state F.Store fresh.new)
+        (λ w x. ChangesAt (state F.Store fresh.old) (state F.Store fresh.new)
+        (is_written result) x (what wanted.entry w)) }
 {
     let judged = judge(alloc, source, wanted, fresh)?;
     match judged {

@@ -55,7 +55,8 @@ fn put_shelf<F: Alter>(
 /// Writes the row of a shelf of a list.
 fn put_listed<F: Alter>(tx: &mut Transaction<'_, F>, shelf: &Shelf) -> Result<(), Error>
     ensures same_reference { tx.new.conn.ghost_name ≡ tx.old.conn.ghost_name }
-    ensures puts { Puts (PutsShelf shelf.now.name shelf.now.parent) (state F.Store tx.old.conn.now) (state F.Store tx.new.conn.now) (is_ok result) }
+    ensures puts { Puts (PutsShelf shelf.now.name shelf.now.parent)
+        (state F.Store tx.old.conn.now) (state F.Store tx.new.conn.now) (is_ok result) }
 {
     match &shelf.parent {
         None => put_shelf(tx, shelf.name.as_str(), None),
@@ -66,7 +67,8 @@ fn put_listed<F: Alter>(tx: &mut Transaction<'_, F>, shelf: &Shelf) -> Result<()
 /// Writes the rows of shelves that do not exist, one after another.
 fn put_shelves<F: Alter>(tx: &mut Transaction<'_, F>, shelves: &[Shelf]) -> Result<(), Error>
     ensures same_reference { tx.new.conn.ghost_name ≡ tx.old.conn.ghost_name }
-    ensures puts { Puts (PutsShelves shelves.now) (state F.Store tx.old.conn.now) (state F.Store tx.new.conn.now) (is_ok result) }
+    ensures puts { Puts (PutsShelves shelves.now) (state F.Store tx.old.conn.now)
+        (state F.Store tx.new.conn.now) (is_ok result) }
 {
     for shelf in shelves {
         put_listed(tx, shelf)?;
@@ -100,7 +102,8 @@ fn copy_along<S: Alter, F: Alter>(
     tx: &mut Transaction<'_, F>,
 ) -> Result<(), CopyError>
     ensures same_reference { tx.new.conn.ghost_name ≡ tx.old.conn.ghost_name }
-    ensures copies { Copies (Along (CopiesRows rows) (common ∷ names_of shelves.now)) (state S.Store source.old) (state S.Store source.new)
+    ensures copies { Copies (Along (CopiesRows rows) (common ∷ names_of shelves.now))
+        (state S.Store source.old) (state S.Store source.new)
         (state F.Store tx.old.conn.now) (state F.Store tx.new.conn.now) (is_ok result) }
 {
     copy_rows(source, rows, COMMON, tx)?;
@@ -142,9 +145,11 @@ pub(crate) fn write_part<S: Alter, F: Alter>(
     ensures clean { doubt (state S.Store source.old).is_clean ≤ doubt (state S.Store source.new).is_clean }
     ensures clean_too { doubt (state F.Store fresh.old).is_clean ≤ doubt (state F.Store fresh.new).is_clean }
     ensures reads { IsReady (state S.Store source.old) → Spares (state S.Store source.old) (state S.Store source.new) }
-    ensures changes { IsReady (state S.Store source.old) → IsOpenIfHonest (state F.Store fresh.old) → HasCleanDisk (state S.Store source.new)
+    ensures changes { IsReady (state S.Store source.old)
+        → IsOpenIfHonest (state F.Store fresh.old) → HasCleanDisk (state S.Store source.new)
         → (w : _) → Stands (state S.Store source.old) w → IsWorld w → AreShelves w shelves.now
-        → ChangesAt (state F.Store fresh.old) (state F.Store fresh.new) (is_ok result) only_common (part_of w (common ∷ names_of shelves.now)) }
+        → ChangesAt (state F.Store fresh.old) (state F.Store fresh.new)
+        (is_ok result) only_common (part_of w (common ∷ names_of shelves.now)) }
 {
     if !fresh.is_autocommit() {
         return Err(CopyError::Fresh(Error::SqliteFailure(ErrorCode::TransactionState)));

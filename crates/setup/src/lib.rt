@@ -6,7 +6,7 @@
 //! |---|---|
 //! | `adopt::open_tables` | `tables::fit::stand_for_world`, or `tables::create::create` if there are no tables |
 //! | `extract_judge::is_blank` | `statements::query::find_row` for a shelf other than `common`, a key and an entry |
-//! | `extract::extract_part` | `find_shelf` or `find_shelves` of `statements` and `is_blank`; then, in one transaction, `statements::extract_rows` |
+//! | `extract::extract_part` | `find_shelf` or `find_shelves` of `statements`, and `is_blank`; then, in one transaction, `extract_rows` |
 //!
 //! What contracts say of values holds if the disk has returned what was written.
 #![tactic(auto)]

@@ -12,7 +12,8 @@ returns-in-Ok-clause-opens g c clean =
       is_open = h.0;
       world = only_common;
       tables = inl (c.requires.empty, refl);
-      begins = begins_at (state g.S.Store c.args.conn.now) (state g.S.Store c.create.new.conn) (λ db shown may. g.met.S.Store.settled c.create.new.conn.store db shown may) h.0 clean only_common h.1 only_common_stands;
+      begins = begins_at (state g.S.Store c.args.conn.now) (state g.S.Store c.create.new.conn)
+          (λ db shown may. g.met.S.Store.settled c.create.new.conn.store db shown may) h.0 clean only_common h.1 only_common_stands;
     }
 
 pub returns-in-Err-clause-device : goal.returns-in-Err-clause-device

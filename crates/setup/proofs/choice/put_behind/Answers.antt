@@ -6,5 +6,6 @@ use Rattle.setup.proofs.choice.put_behind.Goals as goal
 pub returns : goal.returns
 returns c =
     weaker c.with-2.result
-    (λ more then. adds_behind c.args.list c.in_ok-list.list more c.args.parent c.args.team.now c.in_ok-copy_of.field-0 c.in_ok-copy_of-2.field-0 (c.in_ok-copy_of.ensures ∙ c.as_str.ensures) c.in_ok-copy_of-2.ensures c.in_ok-list.ensures then)
+    (λ more then. adds_behind c.args.list c.in_ok-list.list more c.args.parent c.args.team.now c.in_ok-copy_of.field-0 c.in_ok-copy_of-2.field-0
+    (c.in_ok-copy_of.ensures ∙ c.as_str.ensures) c.in_ok-copy_of-2.ensures c.in_ok-list.ensures then)
     c.with-2.ensures

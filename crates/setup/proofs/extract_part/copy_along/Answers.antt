@@ -23,7 +23,8 @@ loop-shelf-preserved g c =
     let kept = c.loop-shelf.invariant in
     let step = c.in_ok-copy_rows-2.ensures in (
       step.same_reference ∙ kept.0,
-      rw (map_more (λ (s : Shelf). s.name) c.args.shelves.now c.loop-shelf.shelf-index c.shelf-item.result c.loop-shelf-test.true ∙ ap (λ (s : Shelf). names_of (take c.loop-shelf.shelf-index c.args.shelves.now) ++ s.name ∷ []) (sym c.shelf-item.is))
+      rw (map_more (λ (s : Shelf). s.name) c.args.shelves.now c.loop-shelf.shelf-index c.shelf-item.result c.loop-shelf-test.true
+          ∙ ap (λ (s : Shelf). names_of (take c.loop-shelf.shelf-index c.args.shelves.now) ++ s.name ∷ []) (sym c.shelf-item.is))
           (copies_weaker _ _ _ _ _ _ true (along_more (CopiesRows c.args.rows) (common ∷ names_of _) _) (copies_then _ _ _ _ _ _ _ _ true kept.1 (rw c.as_str.ensures at step.copies))),
     )
 

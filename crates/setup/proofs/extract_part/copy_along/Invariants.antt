@@ -10,4 +10,5 @@ use Rattle.setup.proofs.extract_part.copy_along.Given as goal
 abbrev pub invariant-loop-shelf : goal.invariant-loop-shelf
 invariant-loop-shelf g l =
     (l.tx.conn.ghost_name ≡ l.fn.tx.conn.ghost_name)
-    × Copies (Along (CopiesRows l.rows) (common ∷ names_of (take l.shelf-index l.shelves))) (state g.S.Store l.fn.source) (state g.S.Store l.source) (state g.F.Store l.fn.tx.conn.now) (state g.F.Store l.tx.conn.now) true
+    × Copies (Along (CopiesRows l.rows) (common ∷ names_of (take l.shelf-index l.shelves))) (state g.S.Store l.fn.source)
+    (state g.S.Store l.source) (state g.F.Store l.fn.tx.conn.now) (state g.F.Store l.tx.conn.now) true

@@ -13,7 +13,8 @@ loop-shelf-preserved g c =
     let kept = c.loop-shelf.invariant in
     let step = c.in_ok-put_listed.ensures in (
       step.same_reference ∙ kept.0,
-      rw (take_more c.args.shelves.now c.loop-shelf.shelf-index c.shelf-item.result c.loop-shelf-test.true ∙ ap (λ (s : Shelf). take c.loop-shelf.shelf-index c.args.shelves.now ++ s ∷ []) (sym c.shelf-item.is)) (puts_then _ _ _ _ _ kept.1 step.puts),
+      rw (take_more c.args.shelves.now c.loop-shelf.shelf-index c.shelf-item.result c.loop-shelf-test.true
+          ∙ ap (λ (s : Shelf). take c.loop-shelf.shelf-index c.args.shelves.now ++ s ∷ []) (sym c.shelf-item.is)) (puts_then _ _ _ _ _ kept.1 step.puts),
     )
 
 pub returns-in_err-put_listed-clause-puts : goal.returns-in_err-put_listed-clause-puts

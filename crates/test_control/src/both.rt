@@ -26,6 +26,27 @@ fn serve<S: Shelves + Drop>(rt: &HostRuntime, doors: &mut Doors, mut shelves: S,
     );
 }
 
+/// A peer who has sent a request.
+fn peer_at(rt: &HostRuntime, port: u16) -> io::Result<TcpStream> {
+    let mut peer = TcpStream::connect(rt, ("127.0.0.1", port))?;
+    peer.write_all(GET)?;
+    peer.shutdown(Shutdown::Write)?;
+    Ok(peer)
+}
+
+/// An operator who has sent an order.
+fn operator_at(rt: &HostRuntime, path: &str) -> io::Result<UnixStream> {
+    let mut operator = UnixStream::connect(rt, path)?;
+    operator.write_all(b"team-add alpha\n")?;
+    Ok(operator)
+}
+
+/// Whether a peer was answered.
+fn is_answered(rt: &HostRuntime, peer: TcpStream) -> io::Result<bool> {
+    let reply = io::read_to_string(rt.alloc(), peer)?;
+    Ok(reply.as_str().starts_with("HTTP/1.1 404 "))
+}
+
 #[test]
 fn obeys_operators_before_peers(rt: HostRuntime) -> Result<(), Fail> {
     let path = "control-of-a-test";
@@ -33,11 +54,8 @@ fn obeys_operators_before_peers(rt: HostRuntime) -> Result<(), Fail> {
     let peers = TcpListener::bind(&rt, "127.0.0.1:0")?;
     let port = peers.local_addr()?.port();
     let operators = UnixListener::bind(&rt, path)?;
-    let mut peer = TcpStream::connect(&rt, ("127.0.0.1", port))?;
-    peer.write_all(GET)?;
-    peer.shutdown(Shutdown::Write)?;
-    let mut operator = UnixStream::connect(&rt, path)?;
-    operator.write_all(b"team-add alpha\n")?;
+    let peer = peer_at(&rt, port)?;
+    let operator = operator_at(&rt, path)?;
     let Ok(shelves) = MapShelves::new(rt.alloc()) else {
         return Err(Fail::from("no memory"));
     };
@@ -48,8 +66,7 @@ fn obeys_operators_before_peers(rt: HostRuntime) -> Result<(), Fail> {
     serve(&rt, &mut doors, shelves, since);
     let told = io::read_to_string(rt.alloc(), operator)?;
     assert!(rt; told.as_str() == "done\n");
-    let reply = io::read_to_string(rt.alloc(), peer)?;
-    assert!(rt; reply.as_str().starts_with("HTTP/1.1 404 "));
+    assert!(rt; is_answered(&rt, peer)?);
     fs::remove_file(&rt, path)?;
     Ok(())
 }

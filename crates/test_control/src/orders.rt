@@ -231,7 +231,7 @@ fn is_pinged(alloc: Global, row: &str) -> Result<bool, Fail> {
         Err(refusal) => Err(refusal),
     };
     Ok(
-        sent.as_slice() == b"ping\n"
+        sent.as_slice() == b"ping\n".as_slice()
             && printed.as_slice() == wanted.as_bytes()
             && ended(alloc, done)?.as_str() == column(row, 2),
     )

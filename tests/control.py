@@ -5,6 +5,7 @@ Each order is compared with what the same command does with `--db` on a store of
 under load. `control_kills` has the kills.
 """
 
+import contextlib
 import os
 import socket
 import statistics
@@ -439,21 +440,52 @@ def same_bytes(suite):
     two.kill()
 
 
+def no_listeners(held):
+    """What standard input may be that is no TCP socket that listens. The stack closes it."""
+    here, udp = ("127.0.0.1", 0), socket.SOCK_DGRAM
+
+    def made(at=None, family=socket.AF_INET, kind=socket.SOCK_STREAM):
+        it = held.enter_context(socket.socket(family, kind))
+        if at:
+            it.bind(at)
+        return it
+
+    fresh, bound, once, one, datagrams, sender = made(), made(here), made(here), made(), made(here, kind=udp), made(kind=udp)
+    local, here_too = made("local", socket.AF_UNIX), held.enter_context(socket.create_server(here))
+    for it in (once, local):
+        it.listen()
+    once.shutdown(socket.SHUT_RD)
+    sender.connect(datagrams.getsockname())
+    one.connect(here_too.getsockname())
+    two, pair = held.enter_context(here_too.accept()[0]), [held.enter_context(it) for it in socket.socketpair()]
+    write({"file": ""})
+    return [
+        ("a file", held.enter_context(open("file", "rb"))), ("a pipe", subprocess.PIPE), ("nothing", subprocess.DEVNULL), ("no descriptor", None),
+        ("a connection", two), ("its other end", one), ("a pair", pair[0]), ("a socket without a port", fresh), ("one that does not listen", bound),
+        ("one that no longer listens", once), ("a socket of UDP", datagrams), ("one with a peer", sender), ("a unix socket that listens", local),
+    ]  # fmt: skip
+
+
 def from_input(suite):
     """`serve --stdin`: what standard input may be, and restarts that refuse nobody."""
     new_store("served.db", ("alpha", KEY))
     serve = ["serve", "--db", "served.db", "--stdin"]
-    write({"file": ""})
-    with socket.create_server(("127.0.0.1", 0)) as listener, open("file", "rb") as file:
-        one = socket.create_connection(listener.getsockname())
-        two, _ = listener.accept()
-        left, right = socket.socketpair()
-        for name, taken in (("a file", file), ("a pipe", subprocess.PIPE), ("nothing", subprocess.DEVNULL), ("a connection", two), ("a pair", left)):
-            ran = subprocess.run([PROGRAM, *serve], stdin=taken, capture_output=True, timeout=60)
-            suite.equal(f"--stdin of {name}", (ran.returncode, ran.stdout, ran.stderr), (1, b"", b"goshelf: io\n"))
-        for it in (one, two, left, right):
-            it.close()
-        suite.equal("--stdin and --port", run([*serve, "--port", "0"])[0], 2)
+    before = read("served.db-wal"), read("served.db")
+    with contextlib.ExitStack() as held:
+        for name, taken in no_listeners(held):
+            for way in ([], ["--control", CONTROL]):
+                closes = (lambda: os.close(0)) if taken is None else None
+                ran = subprocess.run([PROGRAM, *serve, *way], stdin=taken, capture_output=True, timeout=60, preexec_fn=closes)
+                suite.equal(f"--stdin of {' '.join([name, *way])}", (ran.returncode, ran.stdout, ran.stderr), (1, b"", b"goshelf: io\n"))
+    suite.equal("no socket is left", os.path.lexists(CONTROL), False)
+    suite.equal("and the store is as it was", (read("served.db-wal"), read("served.db")), before)
+    suite.equal("--stdin and --port", run([*serve, "--port", "0"])[0], 2)
+    if socket.has_ipv6:
+        with socket.create_server(("::1", 0), family=socket.AF_INET6) as listener:
+            ran = subprocess.Popen([PROGRAM, *serve, "--connections", "1"], stdin=listener, stdout=subprocess.PIPE)
+            told = asked_by(lambda: socket.create_connection(listener.getsockname()[:2], timeout=60), get(LIST)), ran.communicate(timeout=60)[0]
+        suite.equal("--stdin of a socket of IPv6", told, (reply(404, b"not found\n"), b"listening on standard input\n"))
+    with socket.create_server(("127.0.0.1", 0)) as listener:
         answered, failed, stopped = [], [], threading.Event()
 
         def ask():

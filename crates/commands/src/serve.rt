@@ -7,12 +7,15 @@ use crate::moment::time_now;
 use crate::refusal::CommandRefusal;
 use control::{Copies, Doors, operators_at, remove_socket, serve_both};
 use itoa::Buffer;
+use mio::unix::SourceFd;
+use mio::{Events, Interest, Poll, Token};
 use socket::serve_on;
 use std::io::{self, ErrorKind, Write};
 use std::net::{Ipv4Addr, TcpListener, TcpStream};
-use std::os::fd::{AsFd, OwnedFd};
+use std::os::fd::{AsFd, AsRawFd, OwnedFd};
 use std::os::unix::net::UnixListener;
 use std::rt::HostRuntime;
+use std::time::Duration;
 use world::shelves::Shelves;
 
 /// Where the connections of peers come in.
@@ -133,18 +136,31 @@ fn listen_at<O: Write>(rt: &HostRuntime, port: u16, output: &mut O) -> io::Resul
     Ok(listener)
 }
 
-/// The listener that standard input is. It fails if that is no TCP socket, or one that is connected.
+/// The listener that standard input is. It fails if that is no TCP socket that listens.
 /// Whether a socket waits is shared with the processes that had it before, so it is set anew.
 fn input_listener(rt: &HostRuntime) -> io::Result<TcpListener> {
     let input = rt.stdin();
     let stream = TcpStream::from(input.as_fd().try_clone_to_owned()?);
-    if stream.peer_addr().is_ok() {
+    if stream.peer_addr().is_ok() || may_be_written(rt, &stream)? {
         return Err(io::Error::from(ErrorKind::InvalidInput));
     }
     let listener = TcpListener::from(OwnedFd::from(stream));
     let _address = listener.local_addr()?;
     listener.set_nonblocking(false)?;
     Ok(listener)
+}
+
+/// Whether the system would take bytes, or refuse them at once. Of sockets that have no peer, that is all but those that listen.
+fn may_be_written(rt: &HostRuntime, stream: &TcpStream) -> io::Result<bool> {
+    let mut poll = Poll::new(rt)?;
+    let mut events = Events::with_capacity(rt.alloc(), 1)?;
+    poll.registry().register(
+        &mut SourceFd(&stream.as_raw_fd()),
+        Token(0),
+        Interest::WRITABLE,
+    )?;
+    poll.poll(&mut events, Some(Duration::ZERO))?;
+    Ok(events.iter().next().is_some())
 }
 
 /// Prints the line that tells of standard input.

@@ -1,5 +1,5 @@
 -- The order of the bytes of keys is that of what they are made of.
-use Rattle.std.proofs.Common.{◌≡◌, ◌<◌, ◌+◌, ◌*◌, ◌^◌, ◌++◌, ℕ, zero, suc, List, [], ◌∷◌, length, true, append_assoc, refl, sym, ap, ◌∙◌, inl, inr, arith}
+use Rattle.std.proofs.Common.{get_or, ◌≡◌, ◌≢◌, ◌<◌, ◌+◌, ◌*◌, ◌^◌, ◌++◌, ℕ, zero, suc, List, [], ◌∷◌, length, true, append_assoc, refl, sym, ap, ◌∙◌, inl, inr, arith}
 use Rattle.std.proofs.lemmas.Bool.{cases_Bool, cases_lt}
 use Rattle.std.proofs.lemmas.Bool.Decides.{nat_tests}
 use Rattle.std.proofs.lemmas.Nat.{from_be_bytes-to_be_bytes_8}
@@ -11,7 +11,7 @@ use Rattle.std.specs.Str.Parse.{digits_value}
 use Rattle.std.specs.declared.cmp.Ordering.{Ordering}
 use Rattle.std.specs.declared.cmp.Ordering.TheVariants.{Equal, Greater, Less}
 use Rattle.modver.specs.KeyLaws.{bytes_cmp}
-use Rattle.modver.specs.Keys.{identifier_key, order_key_of, pre_release_key}
+use Rattle.modver.specs.Keys.{AreBytes, head_of, identifier_key, order_key_of, padded, pre_release_key}
 use Rattle.modver.specs.Precedence.{identifier_cmp, precedence, pre_release_cmp}
 use Rattle.modver.specs.SemanticVersion.{IsVersion, SemanticVersion, is_build_identifier, is_identifier, is_identifier_byte, is_numeric}
 use Rattle.modver.proofs.Conditions.{and-first, and-second, nat_cmp-eq, nat_cmp-gt, nat_cmp-lt, then-equal}
@@ -34,10 +34,6 @@ first-lists (x ∷ xs) (y ∷ ys) s t e =
 abbrev after : ℕ → List ℕ → ℕ
 after n [] = n
 after n (b ∷ bs) = after (n * 256 + b) bs
-
-abbrev AreBytes : List ℕ → Type 0
-AreBytes [] = Unit {0}
-AreBytes (b ∷ bs) = (b < 256) × AreBytes bs
 
 -- a byte more on each side
 byte-step : (m n a b : ℕ) → a < 256 → b < 256 → nat_cmp (m * 256 + a) (n * 256 + b) ≡ ordering_then (nat_cmp m n) (nat_cmp a b)
@@ -171,7 +167,7 @@ identifiers-order (x ∷ xs) (y ∷ ys) p q =
     ∙ identifier-first x y s t (and-first _ _ p) (and-first _ _ q)
     ∙ ap (ordering_then (identifier_cmp x y)) (identifiers-order xs ys (and-second _ _ p) (and-second _ _ q))
 
-pre_release-order : (xs ys : List (List ℕ)) → list_all is_identifier xs ≡ true → list_all is_identifier ys ≡ true
+pub pre_release-order : (xs ys : List (List ℕ)) → list_all is_identifier xs ≡ true → list_all is_identifier ys ≡ true
     → bytes_cmp (pre_release_key xs) (pre_release_key ys) ≡ pre_release_cmp xs ys
 pre_release-order [] [] p q = refl
 pre_release-order [] (y ∷ ys) p q = ap (bytes_cmp (3 ∷ [])) (cut y ys) ∙ release-above y (flat_map identifier_key ys ++ 0 ∷ [])
@@ -189,3 +185,82 @@ order-key u v p q =
     number-first u.major v.major (to_be_bytes w64 u.minor ++ (to_be_bytes w64 u.patch ++ pre_release_key u.identifiers))
     (to_be_bytes w64 v.minor ++ (to_be_bytes w64 v.patch ++ pre_release_key v.identifiers)) p.major q.major
     ∙ ap (ordering_then (nat_cmp u.major v.major)) (minor ∙ ap (ordering_then (nat_cmp u.minor v.minor)) (patch ∙ ap (ordering_then (nat_cmp u.patch v.patch)) pre))
+
+-- ---- the first bytes
+
+pub eight-bytes : (x : List ℕ) → get_or x 0 0 ∷ get_or x 1 0 ∷ get_or x 2 0 ∷ get_or x 3 0 ∷ get_or x 4 0 ∷ get_or x 5 0 ∷ get_or x 6 0 ∷ get_or x 7 0 ∷ [] ≡ padded 8 x
+eight-bytes [] = refl
+eight-bytes (a ∷ []) = refl
+eight-bytes (a ∷ b ∷ []) = refl
+eight-bytes (a ∷ b ∷ c ∷ []) = refl
+eight-bytes (a ∷ b ∷ c ∷ d ∷ []) = refl
+eight-bytes (a ∷ b ∷ c ∷ d ∷ e ∷ []) = refl
+eight-bytes (a ∷ b ∷ c ∷ d ∷ e ∷ f ∷ []) = refl
+eight-bytes (a ∷ b ∷ c ∷ d ∷ e ∷ f ∷ g ∷ []) = refl
+eight-bytes (a ∷ b ∷ c ∷ d ∷ e ∷ f ∷ g ∷ h ∷ rest) = refl
+
+-- an empty key is lowest
+no-lower : (xs : List ℕ) → bytes_cmp xs [] ≡ Less → ⊥
+no-lower [] e = cc e
+no-lower (x ∷ xs) e = cc e
+
+no-higher : (ys : List ℕ) → bytes_cmp [] ys ≡ Greater → ⊥
+no-higher [] e = cc e
+no-higher (y ∷ ys) e = cc e
+
+-- what the first bytes decide
+padded-less : (n : ℕ) (x y : List ℕ) → bytes_cmp (padded n x) (padded n y) ≡ Less → bytes_cmp x y ≡ Less
+padded-less zero x y e = cc e
+padded-less (suc n) [] [] e = padded-less n [] [] e
+padded-less (suc n) [] (b ∷ ys) e = refl
+padded-less (suc n) (a ∷ xs) [] e = elim (cases_lt 0 a) [
+  | inl gt ↦ cc (rw (nat_cmp-gt a 0 gt) at e)
+  | inr le ↦ absurd (no-lower xs (padded-less n xs [] (rw (nat_cmp-eq a 0 (omega arith)) at e)))
+]
+padded-less (suc n) (a ∷ xs) (b ∷ ys) e = elim (cases_lt a b) [
+  | inl lt ↦ rw (nat_cmp-lt a b lt) refl
+  | inr le ↦ elim (cases_lt b a) [
+    | inl gt ↦ cc (rw (nat_cmp-gt a b gt) at e)
+    | inr ge ↦
+        let same = nat_cmp-eq a b (omega arith) in
+        rw same (padded-less n xs ys (rw same at e))
+  ]
+]
+
+padded-greater : (n : ℕ) (x y : List ℕ) → bytes_cmp (padded n x) (padded n y) ≡ Greater → bytes_cmp x y ≡ Greater
+padded-greater zero x y e = cc e
+padded-greater (suc n) [] [] e = padded-greater n [] [] e
+padded-greater (suc n) (a ∷ xs) [] e = refl
+padded-greater (suc n) [] (b ∷ ys) e = elim (cases_lt 0 b) [
+  | inl lt ↦ cc (rw (nat_cmp-lt 0 b lt) at e)
+  | inr le ↦ absurd (no-higher ys (padded-greater n [] ys (rw (nat_cmp-eq 0 b (omega arith)) at e)))
+]
+padded-greater (suc n) (a ∷ xs) (b ∷ ys) e = elim (cases_lt a b) [
+  | inl lt ↦ cc (rw (nat_cmp-lt a b lt) at e)
+  | inr le ↦ elim (cases_lt b a) [
+    | inl gt ↦ rw (nat_cmp-gt a b gt) refl
+    | inr ge ↦
+        let same = nat_cmp-eq a b (omega arith) in
+        rw same (padded-greater n xs ys (rw same at e))
+  ]
+]
+
+padded-length : (n : ℕ) (x : List ℕ) → length (padded n x) ≡ n
+padded-length zero x = refl
+padded-length (suc n) [] = ap suc (padded-length n [])
+padded-length (suc n) (b ∷ rest) = ap suc (padded-length n rest)
+
+after-eight : (x : List ℕ) → after 0 (padded 8 x) ≡ head_of x
+unfolding head_of
+after-eight x = rw (← eight-bytes x) (eight (get_or x 0 0) (get_or x 1 0) (get_or x 2 0) (get_or x 3 0) (get_or x 4 0) (get_or x 5 0) (get_or x 6 0) (get_or x 7 0))
+
+heads-order : (x y : List ℕ) → AreBytes (padded 8 x) → AreBytes (padded 8 y) → nat_cmp (head_of x) (head_of y) ≡ bytes_cmp (padded 8 x) (padded 8 y)
+heads-order x y p q =
+    ap (λ (n : ℕ). nat_cmp n (head_of y)) (sym (after-eight x)) ∙ ap (nat_cmp (after 0 (padded 8 x))) (sym (after-eight y))
+    ∙ after-order 0 0 (padded 8 x) (padded 8 y) p q (padded-length 8 x ∙ sym (padded-length 8 y))
+
+-- two keys compare as their first 8 bytes do, if those differ
+pub heads-decide : (x y : List ℕ) (o : Ordering) → AreBytes (padded 8 x) → AreBytes (padded 8 y) → nat_cmp (head_of x) (head_of y) ≡ o → o ≢ Equal → bytes_cmp x y ≡ o
+heads-decide x y Less p q e some = padded-less 8 x y (sym (heads-order x y p q) ∙ e)
+heads-decide x y Equal p q e some = absurd (some refl)
+heads-decide x y Greater p q e some = padded-greater 8 x y (sym (heads-order x y p q) ∙ e)

@@ -1,6 +1,6 @@
 -- Keys of order and of rank: bytes that sort as the versions do.
-use Rattle.std.specs.Prelude.{ℕ, List, [], ◌∷◌, ◌++◌, length, Option, Some, None, if◌then◌else◌}
-use Rattle.std.specs.Int.{to_be_bytes, w64}
+use Rattle.std.specs.Prelude.{ℕ, zero, suc, ◌<◌, List, [], ◌∷◌, ◌++◌, length, Option, Some, None, if◌then◌else◌}
+use Rattle.std.specs.Int.{from_be_bytes, to_be_bytes, w64}
 use Rattle.std.specs.List.{flat_map}
 use Rattle.modver.specs.Class.{stamp_of}
 use Rattle.modver.specs.SemanticVersion.{SemanticVersion, is_numeric}
@@ -27,3 +27,19 @@ class_key (i ∷ rest) (Some stamp) = 1 ∷ stamp
 -- the class, and then the key of order
 unfoldable pub rank_key_of : SemanticVersion → List ℕ
 rank_key_of v = class_key v.identifiers (stamp_of v) ++ order_key_of v
+
+-- ---- the first bytes of a key, for a comparison that reads no more
+
+-- as many of the first bytes of a key; those that it lacks are 0
+abbrev pub padded : ℕ → List ℕ → List ℕ
+padded zero key = []
+padded (suc n) [] = 0 ∷ padded n []
+padded (suc n) (b ∷ rest) = b ∷ padded n rest
+
+-- the first 8 bytes of a key as a number, whose highest byte is the first
+unfoldable pub head_of : List ℕ → ℕ
+head_of key = from_be_bytes w64 (padded 8 key)
+
+abbrev pub AreBytes : List ℕ → Type 0
+AreBytes [] = Unit {0}
+AreBytes (b ∷ bs) = (b < 256) × AreBytes bs

@@ -19,11 +19,18 @@ pub fn compare(left: &Version, right: &Version) -> Ordering
 }
 
 /// Compares two versions without their texts by precedence. It takes no memory.
-#[tactic(auto, using(crate::proofs::Orders::precedence_of))]
 pub fn compare_bounds(left: &Bound, right: &Bound) -> Ordering
     ensures { result ≡ precedence left.now right.now }
 {
-    left.parts.cmp_precedence(&right.parts)
+    let by_numbers = left
+        .major()
+        .cmp(&right.major())
+        .then(left.minor().cmp(&right.minor()))
+        .then(left.patch().cmp(&right.patch()));
+    match by_numbers {
+        Ordering::Equal => left.compare_pre_releases(right),
+        other => other,
+    }
 }
 
 // 3 for a release, 2 for a pre-release, 1 for a pseudo-version.

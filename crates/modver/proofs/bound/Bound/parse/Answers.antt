@@ -1,7 +1,8 @@
-use Rattle.std.proofs.Common.{◌≡◌, ◌∷◌, ◌⊎◌, ◌≤◌, length, Ok, Err, refl, sym, inl, inr, arith, List, ℕ, lit<}
+use Rattle.std.proofs.Common.{◌≡◌, ◌∷◌, ◌⊎◌, ◌≤◌, length, Ok, Err, refl, subst, sym, inl, inr, arith, List, ℕ, lit<}
 use Rattle.std.proofs.lemmas.Str.Pattern.{strip_prefix_char}
+use Rattle.modver.proofs.KeyParts.{pre-short}
 use Rattle.modver.proofs.SemVerText.{IsSemVer-of, no_front, no_mark, refused, version_text-of}
-use Rattle.modver.specs.Reading.{IsFault, IsHeld}
+use Rattle.modver.specs.Reading.{IsCanonical, IsFault, IsHeld}
 use Rattle.modver.specs.declared.version.VersionFault.{VersionFault}
 use Rattle.modver.specs.declared.version.VersionFault.TheVariants as fault
 use Rattle.semver.specs.Parse.{IsRefused, Parts, memory_error, version_parts}
@@ -41,15 +42,29 @@ returns-else-is_mark-clause-err c =
     let n = no_mark p.4 mark in
     inl (omega arith, (version_of_parts p, p.4, IsSemVer-of c.args.text.now c.in-Some.rest.now p front c.in-Ok.ensures.ok, n.0, n.1))
 
-pub invariant_of-result : goal.invariant_of-result
-invariant_of-result c =
+pub of-requires-clause-valid : goal.of-requires-clause-valid
+of-requires-clause-valid c =
     let front = rw c.in-Some.is at (strip_prefix_char 118 c.args.text.now c.strip_prefix.result c.strip_prefix.ensures.cases (lit< tt)) in
     (IsSemVer-of c.args.text.now c.in-Some.rest.now (parts_of c.in-Ok.parts) front c.in-Ok.ensures.ok).valid
 
-pub returns-then-is_mark-clause-ok : goal.returns-then-is_mark-clause-ok
-returns-then-is_mark-clause-ok c =
+pub of-requires-clause-short : goal.of-requires-clause-short
+of-requires-clause-short c =
+    let front = rw c.in-Some.is at (strip_prefix_char 118 c.args.text.now c.strip_prefix.result c.strip_prefix.ensures.cases (lit< tt)) in
+    let p = parts_of c.in-Ok.parts in
+    let s = IsSemVer-of c.args.text.now c.in-Some.rest.now p front c.in-Ok.ensures.ok in
+    pre-short p.0 p.1 p.2 p.3 p.4 c.args.text.now 128 (sym s.same) (omega arith)
+
+pub returns-in-Ok-of-clause-ok : goal.returns-in-Ok-of-clause-ok
+returns-in-Ok-of-clause-ok c =
     let front = rw c.in-Some.is at (strip_prefix_char 118 c.args.text.now c.strip_prefix.result c.strip_prefix.ensures.cases (lit< tt)) in
     let mark = sym (rw c.as_str.ensures at c.if-is_mark.ensures) in
     let v = IsSemVer-of c.args.text.now c.in-Some.rest.now (parts_of c.in-Ok.parts) front c.in-Ok.ensures.ok in
     let same = version_text-of c.args.text.now c.in-Some.rest.now (parts_of c.in-Ok.parts) front c.in-Ok.ensures.ok mark in
-    record { valid = v.valid; same = same; short = omega arith }
+    let canonical : IsCanonical c.args.text.now (version_of_parts (parts_of c.in-Ok.parts)) = record { valid = v.valid; same = same; short = omega arith } in
+    subst (IsCanonical c.args.text.now) (sym c.in-Ok-of.ensures) canonical
+
+pub returns-in-Err-of-clause-err : goal.returns-in-Err-of-clause-err
+returns-in-Err-of-clause-err c =
+    let front = rw c.in-Some.is at (strip_prefix_char 118 c.args.text.now c.strip_prefix.result c.strip_prefix.ensures.cases (lit< tt)) in
+    let p = parts_of c.in-Ok.parts in
+    inr (refl, (omega arith, (version_of_parts p, p.4, IsSemVer-of c.args.text.now c.in-Some.rest.now p front c.in-Ok.ensures.ok)))

@@ -94,7 +94,8 @@ impl Retraction {
     fn fits(&self, suffix: Suffix) -> bool
         ensures { result ≡ (fits suffix self.now.versions.low && fits suffix self.now.versions.high) }
     {
-        fits_suffix(suffix, &self.versions.low) && fits_suffix(suffix, self.versions.high())
+        fits_suffix(suffix, &self.versions.low)
+            && (self.versions.is_one() || fits_suffix(suffix, self.versions.high()))
     }
 }
 

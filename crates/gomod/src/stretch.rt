@@ -1,6 +1,6 @@
 //! Versions from a low one to a high one.
 
-ghost use Rattle.std.specs.Prelude.{◌≡◌, IfOk, OnOk, not};
+ghost use Rattle.std.specs.Prelude.{◌≡◌, IfOk, IsTrue, OnOk, not};
 ghost use Rattle.gomod.specs.Paths.{is_below as lies_below};
 ghost use Rattle.gomod.specs.Spans.{joined};
 
@@ -43,6 +43,13 @@ impl Stretch {
     {
         let above = Some(Box::new(alloc, high)?);
         Ok(Stretch { low, above })
+    }
+
+    /// Whether it is known to have one version alone.
+    pub(crate) fn is_one(&self) -> bool
+        ensures { IsTrue result → self.now.high ≡ self.now.low }
+    {
+        self.above.is_none()
     }
 
     pub(crate) fn high(&self) -> &Bound

@@ -60,7 +60,7 @@ impl Stretches {
 fn lent<'a>(alloc: Global, retractions: &'a [Retraction]) -> Result<Vec<&'a Stretch>, AllocError>
     ensures { IfOk result (λ v. lent v.items ≡ map interval_of retractions.now) }
 {
-    let mut lent = Vec::new(alloc);
+    let mut lent = Vec::with_capacity(alloc, retractions.len())?;
     for retraction in retractions {
         lent.push(&retraction.versions)?;
     }
@@ -94,7 +94,9 @@ fn step(
         done.push(last)?;
         return next.copy(alloc);
     }
-    last.join(alloc, next)?;
+    if !next.is_one() {
+        last.join(alloc, next)?;
+    }
     Ok(last)
 }
 
@@ -113,7 +115,7 @@ fn ended(mut done: Vec<Stretch>, current: Option<Stretch>) -> Result<Vec<Stretch
 fn merged(alloc: Global, stretches: Vec<&Stretch>) -> Result<Vec<Stretch>, AllocError>
     ensures { IfOk result (λ v. v.items ≡ merged_all (lent stretches.entry.items)) }
 {
-    let mut done = Vec::new(alloc);
+    let mut done = Vec::with_capacity(alloc, stretches.len())?;
     let mut current = None;
     for next in stretches {
         current = Some(step(alloc, &mut done, current, next)?);

@@ -1,6 +1,6 @@
 -- Cached zips stay right when one more is cached, when some are dropped, and when the world grows.
 use Rattle.std.proofs.Common.{◌≡◌, ◌∙◌, ◌⊎◌, ℕ, List, [], ◌∷◌, true, Option, None, Some, inl, inr, refl, sym, ap, subst}
-use Rattle.std.specs.Prelude.{bytes_eq, IsTrue}
+use Rattle.std.specs.Prelude.{bytes_eq, IsTrue, IfSome}
 use Rattle.std.specs.FinMap as map
 use Rattle.std.specs.Option.{option_or}
 use Rattle.std.proofs.lemmas.Bool.{and_parts}
@@ -45,6 +45,11 @@ found_zip w zips it q at is are =
     let two = and_parts _ _ is in
     let one = and_parts _ _ two.0 in
     subst (λ (r : Place). IsZipAt w r it.zip) (same_place it.place q one.0 one.1 two.1) (are it at)
+
+-- what holds of a zip holds of the same bytes, if there are any
+pub of_same : (P : List ℕ → Type 0) (zip : List ℕ) (again : Option (List ℕ)) → IfSome again (λ b. b ≡ zip) → P zip → IfSome again P
+of_same P zip None same is = tt
+of_same P zip (Some b) same is = subst P (sym same) is
 
 -- ---- the world grows
 

@@ -1,21 +1,21 @@
 //! Caches zips.
 
-ghost use Rattle.std.specs.Prelude.{◌≡◌, [], IfOk, IfSome, IsTrue, option_copied};
+ghost use Rattle.std.specs.Prelude.{◌≡◌, [], IfSome, IsTrue};
 ghost use Rattle.world.specs.World.{World, place};
 ghost use Rattle.kept.specs.Recent.{Holds};
 ghost use Rattle.kept.specs.Zips.{is_at, IsZipAt, IsSeenAt, AreZips};
 
 use crate::recent::Recent;
-use std::alloc::{AllocError, Global};
+use std::alloc::Global;
 use std::hash::{FoldHasher, Hasher};
 use world::bytes::Bytes;
-use world::entry::{MAX_ZIP, Place, Seen};
+use world::entry::{Entry, MAX_ZIP, Place, Seen};
 
-/// The most that all zips weigh: 32 MiB, so that two of the largest are kept. A byte weighs one.
+/// The most that all zips weigh: 32 MiB, so that two of the largest are kept. A byte of their memory weighs one.
 /// The figure bounds the memory, not the answers: a zip that is not kept is read from the tables.
 const MOST_WEIGHT: usize = 2 * (MAX_ZIP + ZIP_WEIGHT);
 
-/// What a zip weighs beside its bytes: the names of its place, and its place among the others.
+/// What a zip weighs beside its memory: the names of its place, and its place among the others.
 const ZIP_WEIGHT: usize = 512;
 
 /// The zip of an entry, with the place where that stands.
@@ -35,20 +35,15 @@ impl KeptZip {
             && self.place.version.as_str() == version
     }
 
-    /// Returns a copy of the zip of the entry at a place. Fails if memory runs out.
-    fn copy_of(
-        alloc: Global,
-        shelf: &str,
-        path: &str,
-        version: &str,
-        zip: &[u8],
-    ) -> Result<KeptZip, AllocError>
-        ensures { IfOk result (λ it. it ≡ record { place = place shelf.now path.now version.now; zip = zip.now }) }
+    /// Returns the zip of the entry at a place, without copying it. None if memory runs out or the zip can't be shared.
+    fn of(alloc: Global, shelf: &str, path: &str, version: &str, zip: &Bytes) -> Option<KeptZip>
+        ensures { IfSome result (λ it. it ≡ record { place = place shelf.now path.now version.now; zip = zip.now }) }
     {
-        Ok(KeptZip {
-            place: Place::new(alloc, shelf, path, version)?,
-            zip: Bytes::copy_of(alloc, zip)?,
-        })
+        let zip = zip.again()?;
+        match Place::new(alloc, shelf, path, version) {
+            Ok(place) => Some(KeptZip { place, zip }),
+            Err(_) => None,
+        }
     }
 }
 
@@ -64,48 +59,60 @@ impl Recent<KeptZip> {
         Recent::new(MOST_WEIGHT)
     }
 
-    /// Returns a copy of the zip of the entry at a place, or None if it is not cached or memory runs out.
-    pub fn zip(&mut self, alloc: Global, shelf: &str, path: &str, version: &str) -> Option<Bytes>
+    /// Returns the zip of the entry at a place, which shares its memory with the cache, or None if it is not cached.
+    pub fn zip(&mut self, shelf: &str, path: &str, version: &str) -> Option<Bytes>
         ensures others { (it : _) → Holds self.new it → Holds self.old it }
         ensures found { IfSome result (λ zip. (w : World) → AreZips w self.old
             → IsZipAt w (place shelf.now path.now version.now) zip) }
     {
         self.promote(number_of(shelf, path, version));
         let kept = self.kept_zip(shelf, path, version)?;
-        match Bytes::copy_of(alloc, kept.zip.as_slice()) {
-            Ok(copy) => Some(copy),
-            Err(_) => None,
-        }
+        kept.zip.again()
     }
 
-    /// Caches a copy of the zip of what is seen of a version, if anything is. If memory runs out, it is not cached.
-    pub fn keep_seen(&mut self, alloc: Global, path: &str, version: &str, seen: Option<&Seen>)
-        ensures { (w : World) → AreZips w self.old → IsSeenAt w path.now version.now (option_copied seen.entry)
-            → AreZips w self.new }
+    /// Caches the zip of what is seen of a version, if anything is, and returns what is seen, whose zip then shares its memory
+    /// with the cache. If memory runs out, it is not cached.
+    pub fn keep_seen(
+        &mut self,
+        alloc: Global,
+        path: &str,
+        version: &str,
+        seen: Option<Seen>,
+    ) -> Option<Seen>
+        ensures kept { (w : World) → AreZips w self.old → IsSeenAt w path.now version.now seen → AreZips w self.new }
+        ensures same { result ≡ seen }
     {
-        let Some(seen) = seen else {
-            return;
-        };
-        self.keep_copy_of(
-            alloc,
-            seen.shelf.as_str(),
-            path,
-            version,
-            seen.entry.zip.as_slice(),
-        );
+        let Seen { shelf, entry } = seen?;
+        let zip = self.keep_shared(alloc, shelf.as_str(), path, version, entry.zip);
+        Some(Seen {
+            shelf,
+            entry: Entry {
+                gomod: entry.gomod,
+                zip,
+                time: entry.time,
+            },
+        })
     }
 
-    /// Caches a copy of the zip of the entry at a place. It makes room before it copies, so all zips never take more than
-    /// their figure.
-    fn keep_copy_of(&mut self, alloc: Global, shelf: &str, path: &str, version: &str, zip: &[u8])
-        ensures { (w : World) → AreZips w self.old → IsZipAt w (place shelf.now path.now version.now) zip.now
+    /// Caches the zip of the entry at a place, and returns the zip, which then shares its memory with the cache.
+    fn keep_shared(
+        &mut self,
+        alloc: Global,
+        shelf: &str,
+        path: &str,
+        version: &str,
+        zip: Bytes,
+    ) -> Bytes
+        ensures kept { (w : World) → AreZips w self.old → IsZipAt w (place shelf.now path.now version.now) zip
             → AreZips w self.new }
+        ensures same { result ≡ zip }
     {
-        let weight = zip.len().saturating_add(ZIP_WEIGHT);
-        self.make_room(weight);
-        if let Ok(kept) = KeptZip::copy_of(alloc, shelf, path, version, zip) {
+        let zip = zip.shared(alloc);
+        if let Some(kept) = KeptZip::of(alloc, shelf, path, version, &zip) {
+            let weight = zip.capacity().saturating_add(ZIP_WEIGHT);
             self.keep(alloc, number_of(shelf, path, version), weight, kept);
         }
+        zip
     }
 
     /// Returns the zip of the entry at a place, or None if it is not cached.

@@ -108,17 +108,19 @@ impl<S: Alter> Shelves for SqlShelves<S> {
         let Some(seen) = self.seen(shelf, path.as_str(), version.as_str())? else {
             return Ok(None);
         };
-        if let Some(zip) = self.kept.zips.zip(
-            self.alloc,
-            seen.shelf.as_str(),
-            path.as_str(),
-            version.as_str(),
-        ) {
+        if let Some(zip) = self
+            .kept
+            .zips
+            .zip(seen.shelf.as_str(), path.as_str(), version.as_str())
+        {
             return Ok(Some(with_zip(seen, zip)));
         }
         let found = self.find(shelf, path.as_str(), version.as_str())?;
-        self.kept.zips.keep_seen(self.alloc, path.as_str(), version.as_str(), found.as_ref());
-        Ok(found)
+        let seen = self
+            .kept
+            .zips
+            .keep_seen(self.alloc, path.as_str(), version.as_str(), found);
+        Ok(seen)
     }
 
     fn heading(

@@ -1,11 +1,12 @@
-use Rattle.std.proofs.Common.{◌∙◌, sym}
-use Rattle.world.specs.World.{place}
-use Rattle.kept.proofs.ZipLemmas.{found_zip}
+use Rattle.world.specs.World.{World, place}
+use Rattle.kept.specs.Zips.{IsZipAt, AreZips}
+use Rattle.kept.proofs.ZipLemmas.{found_zip, of_same}
 use Rattle.kept.proofs.zips.Recent+KeptZip.zip.Goals as goal
 
-pub returns-in-Ok-clause-found : goal.returns-in-Ok-clause-found
-returns-in-Ok-clause-found c w are =
+pub returns-clause-found : goal.returns-clause-found
+returns-clause-found c =
     let it = c.in_ok-kept.kept.now in
+    let q = place c.args.shelf.now c.args.path.now c.args.version.now in
     let held = c.promote.ensures it c.in_ok-kept.ensures.held in
-    let at = found_zip w c.args.self.now it (place c.args.shelf.now c.args.path.now c.args.version.now) held c.in_ok-kept.ensures.place are in
-    (at.0, at.1, at.2 ∙ sym (c.in-Ok.ensures ∙ c.as_slice.ensures))
+    of_same (λ zip. (w : World) → AreZips w c.args.self.now → IsZipAt w q zip) it.zip c.again.result c.again.ensures
+    (λ w are. found_zip w c.args.self.now it q held c.in_ok-kept.ensures.place are)

@@ -45,7 +45,7 @@ returns-clause-reads g c =
     let v = version_text c.args.version.now in
     let read = rw (c.as_str.ensures.value, c.as_str-2.ensures.value) at c.in_ok-seen.ensures.reads in
     let then = rw (c.as_str-6.ensures.value, c.as_str-7.ensures.value) at c.in_ok-found.ensures.reads in
-    let kept = rw (c.as_str-8.ensures.value, c.as_str-9.ensures.value, c.as_ref.ensures.value) at c.keep_seen.ensures in
+    let kept = rw (c.as_str-8.ensures.value, c.as_str-9.ensures.value) at c.keep_seen-seen.ensures.kept in
     record {
       honest = λ h. read.honest (then.honest h);
       at = λ h w stands.
@@ -54,7 +54,7 @@ returns-clause-reads g c =
           let more = then.at h w (told.stays.0, (right.0, right.1, right.2, (fewer_zips w c.seen.new.self.kept.zips c.zip.new.self c.zip.ensures.others right.3.0, right.3.1, right.3.2))) in
           let after = more.stays.1 in
           record {
-            answer = more.answer;
+            answer = c.keep_seen-seen.ensures.same ∙ more.answer;
             stays = (more.stays.0, (after.0, after.1, after.2, (kept w after.3.0 (stands_on w (chain w s) p v c.in_ok-found.found (sym more.answer)), after.3.1, after.3.2)));
             left = λ x y was. more.left x y (told.left x y was);
           };

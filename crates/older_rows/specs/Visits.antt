@@ -1,8 +1,11 @@
 -- Visits of the rows of an older store, each of which is put into a fresh store.
-use Rattle.std.specs.Prelude.{◌≡◌, ◌≤◌, Bool, false, List, [], ◌∷◌, Result, Ok, Err, is_ok, IsTrue}
+use Rattle.std.specs.Prelude.{ℕ, ◌≡◌, ◌≤◌, Bool, false, List, [], ◌∷◌, Result, Ok, Err, is_ok, IsTrue}
+use Rattle.sqlite.specs.Effect.{Reads}
+use Rattle.sqlite.specs.Listing.{understood}
 use Rattle.sqlite.specs.Order.{Row}
 use Rattle.sqlite.specs.Tree.{Trees}
 use Rattle.sqlite.specs.State.{State, HasCleanDisk, Survives}
+use Rattle.sqlite.proofs.Callers.{command_of}
 use Rattle.sqlite_trees.specs.View.{doubt}
 use Rattle.older.specs.declared.schema.Format.{Format}
 use Rattle.older.specs.Schemas.{schema_of}
@@ -12,7 +15,16 @@ use Rattle.statements.specs.Rows.{Filling, GoesOn}
 -- for each row in turn, `Puts` relates what is kept and the tables before it to those after it
 abbrev pub Visits : {X : Type 0} → (X → Row → Trees → X → Trees → Type 0) → X → Trees → List Row → X → Trees → Type 0
 Visits Puts kept db [] end after = (end ≡ kept) × (after ≡ db)
-Visits {X} Puts kept db (row ∷ rows) end after = (next : X) × (mid : Trees) × Puts kept row db next mid × Visits Puts next mid rows end after
+Visits {X} Puts kept db (row ∷ rows) end after =
+    (next : X) × (mid : Trees) × Puts kept row db next mid × Visits Puts next mid rows end after
+
+-- Each row that a query showed of the old tables of a format was visited in turn, and the fresh store may be filled further.
+abbrev pub IsFilledBy : {X : Type 0} → Format → List ℕ → (X → Row → Trees → X → Trees → Type 0)
+    → State → X → State → X → State → Type 0
+IsFilledBy format sql Puts old kept fresh end filled =
+    Filling filled
+    × ((rows : List Row) × Reads (command_of (understood (schema_of format) sql)) old.now [] rows
+    × Visits Puts kept fresh.now.trees rows end filled.now.trees)
 
 -- the connection is open and its tables are those of the format, if the disk has returned what was written
 abbrev pub IsReadyAs : Format → State → Type 0
@@ -30,7 +42,8 @@ is_taken (Err e) = false
 
 -- Rows of an older store, which is only read, are put into a fresh one inside a transaction of it. If the call is done, `Makes`
 -- relates the old tables, the fresh tables before, and the fresh tables after.
-pub record Moves (format : Format) (Makes : Trees → Trees → Trees → Type 0) (old old_new fresh fresh_new : State) (done : Bool) : Type 0 where
+pub record Moves (format : Format) (Makes : Trees → Trees → Trees → Type 0)
+    (old old_new fresh fresh_new : State) (done : Bool) : Type 0 where
   pub clean : doubt old.is_clean ≤ doubt old_new.is_clean
   pub reads : IsReadyAs format old → IsReadBy old old_new done
   pub survives : HasCleanDisk old_new → IsReadyAs format old → Survives old old_new (λ _. ⊥)

@@ -1,21 +1,19 @@
 //! Puts rows of an older store into a fresh one, one after another.
 
-ghost use Rattle.std.specs.Prelude.{◌≡◌, ◌≤◌, [], false, OnOk, IfOk, IfErr, is_ok, IsTrue};
-ghost use Rattle.sqlite.specs.Effect.{Reads};
+ghost use Rattle.std.specs.Prelude.{◌≡◌, ◌≤◌, false, OnOk, IfOk, IfErr, is_ok, IsTrue};
 ghost use Rattle.sqlite.specs.Given.{IsPlain};
 ghost use Rattle.sqlite.specs.Held.{state};
 ghost use Rattle.sqlite.specs.Listing.{understood, reads_listing};
 ghost use Rattle.sqlite.specs.Order.{Row as Shown};
 ghost use Rattle.sqlite.specs.State.{HasCleanDisk, KeepsCommit, Survives};
 ghost use Rattle.sqlite.specs.Tree.{Trees};
-ghost use Rattle.sqlite.proofs.Callers.{command_of};
 ghost use Rattle.sqlite_trees.specs.View.{doubt};
 ghost use Rattle.tables.specs.Calls.{Honestly, HonestlyOver};
 ghost use Rattle.older.specs.Schemas.{schema_of};
 ghost use Rattle.statements.specs.Extract.{IsReadBy};
 ghost use Rattle.statements.specs.Rows.{Filling, GoesOn};
 ghost use Rattle.older_rows.specs.Causes.{IsWalkableAs, HasReasonAs, FailsAs};
-ghost use Rattle.older_rows.specs.Visits.{Visits, is_taken};
+ghost use Rattle.older_rows.specs.Visits.{IsFilledBy, is_taken};
 
 use older::schema::Format;
 use sqlite::{Alter, Connection, Error, ErrorCode, Row, Transaction};
@@ -61,10 +59,9 @@ fn visit_each<S: Alter, F: Alter, V: Visit>(
     ensures goes_on { GoesOn (state F.Store tx.old.conn.now) (state F.Store tx.new.conn.now) (is_taken result) }
     ensures puts { HasCleanDisk (state S.Store source.new) → HasCleanDisk (state F.Store tx.new.conn.now)
         → (state S.Store source.old).now.schema ≡ schema_of format → Filling (state F.Store tx.old.conn.now)
-        → IfOk result (λ visited. IfOk visited (λ all. IsTrue all → Filling (state F.Store tx.new.conn.now)
-        × ((rows : _) × Reads (command_of (understood (schema_of format) sql.now)) (state S.Store source.old).now [] rows
-        × Visits (λ kept row db next after. V.Puts kept row db next after) visitor.old (state F.Store tx.old.conn.now).now.trees
-        rows visitor.new (state F.Store tx.new.conn.now).now.trees))) }
+        → IfOk result (λ visited. IfOk visited (λ all. IsTrue all → IsFilledBy format sql.now
+        (λ kept row db next after. V.Puts kept row db next after) (state S.Store source.old)
+        visitor.old (state F.Store tx.old.conn.now) visitor.new (state F.Store tx.new.conn.now))) }
     ensures cause { HonestlyOver (schema_of format) (state S.Store source.old) (state S.Store source.new) (λ old new.
         IfErr result (HasReasonAs format old new)) }
 {
@@ -104,10 +101,9 @@ pub(crate) fn visit_rows<S: Alter, F: Alter, V: Visit>(
     ensures goes_on { GoesOn (state F.Store tx.old.conn.now) (state F.Store tx.new.conn.now) (is_ok result) }
     ensures puts { HasCleanDisk (state S.Store source.new) → HasCleanDisk (state F.Store tx.new.conn.now)
         → (state S.Store source.old).now.schema ≡ schema_of format → Filling (state F.Store tx.old.conn.now)
-        → IfOk result (λ all. IsTrue all → Filling (state F.Store tx.new.conn.now)
-        × ((rows : _) × Reads (command_of (understood (schema_of format) sql.now)) (state S.Store source.old).now [] rows
-        × Visits (λ kept row db next after. V.Puts kept row db next after) visitor.old (state F.Store tx.old.conn.now).now.trees
-        rows visitor.new (state F.Store tx.new.conn.now).now.trees)) }
+        → IfOk result (λ all. IsTrue all → IsFilledBy format sql.now
+        (λ kept row db next after. V.Puts kept row db next after) (state S.Store source.old)
+        visitor.old (state F.Store tx.old.conn.now) visitor.new (state F.Store tx.new.conn.now)) }
     ensures cause { FailsAs format (state S.Store source.old) (state S.Store source.new) result }
 {
     match visit_each(source, format, sql, tx, visitor) {

@@ -1,5 +1,6 @@
 -- Why a walk over the rows of an older store fails.
-use Rattle.std.proofs.Common.{◌≡◌, ◌≤◌, ◌⊎◌, ◌+◌, ◌^◌, ◌++◌, ℕ, Bool, true, false, List, [], ◌∷◌, length, map, Option, None, Ok, Err, Result, inl, inr, refl, sym, ap, subst, ◌∙◌, arith, IsTrue, IfErr, true≢false, length-append}
+use Rattle.std.proofs.Common.{◌≡◌, ◌≤◌, ◌⊎◌, ◌+◌, ◌^◌, ◌++◌, ℕ, Bool, true, false, List, [], ◌∷◌, length, map, Option, None, Ok}
+use Rattle.std.proofs.Common.{Err, Result, inl, inr, refl, sym, ap, subst, ◌∙◌, arith, IsTrue, IfErr, true≢false, length-append}
 use Rattle.std.specs.Prelude.{IsSome, IsErrAnd}
 use Rattle.std.proofs.lemmas.Bool.{cases_Bool}
 use Rattle.std.proofs.lemmas.List.{length-map}
@@ -60,7 +61,8 @@ module _ (format : Format) (sql : List ℕ) (it : IsWalkableAs format sql) (plai
     next_excused new e survives h = excused_since old mid new e (on_its_way old mid (λ _. ⊥) survives same.0.is_open) (query_excused mid new e still h)
 
     some_shown : (rows : List Row) → Begins sql [] mid rows → ReadsFirst (command_of (understood (schema_of format) sql)) old.now [] rows
-    some_shown rows begins = subst (λ db. ReadsFirst (command_of (understood (schema_of format) sql)) db [] rows) same.0.now_is (begins_as sql [] mid mid (schema_of format) still _ refl plain unlisted rows begins)
+    some_shown rows begins =
+        subst (λ db. ReadsFirst (command_of (understood (schema_of format) sql)) db [] rows) same.0.now_is (begins_as sql [] mid mid (schema_of format) still _ refl plain unlisted rows begins)
 
     pub too_vast : (rows : List Row) → Begins sql [] mid rows → 2 ^ 128 ≤ length rows + 1 → IsVastAs format old.now
     too_vast rows begins many = it.vast old.now has (rows, some_shown rows begins, many)
@@ -70,7 +72,8 @@ module _ (format : Format) (sql : List ℕ) (it : IsWalkableAs format sql) (plai
 module _ (format : Format) (sql : List ℕ) (from : Join) (project : List Term) (order : List (Term × Key)) (names : List (List ℕ))
     (is : command_of (understood (schema_of format) sql) ≡ Select (record { lets = []; body = listing from project order }) names) where
   -- a query that lists rows without a fold is walkable if it is one statement, typed, and shows too many rows only of a vast table
-  pub walkable : has_no_fold from ≡ true → ((db : Database) → db.schema ≡ schema_of format → RefusesQuery None db (record { lets = []; body = listing from project order }) [] (SqliteFailure TypeMismatch) → ⊥)
+  pub walkable : has_no_fold from ≡ true
+      → ((db : Database) → db.schema ≡ schema_of format → RefusesQuery None db (record { lets = []; body = listing from project order }) [] (SqliteFailure TypeMismatch) → ⊥)
       → IsAlone sql (understood (schema_of format) sql) → ((db : Database) → db.schema ≡ schema_of format → ShowsTooMany format sql db → IsVastAs format db) → IsWalkableAs format sql
   walkable foldless typed alone vast = record { alone = alone; allowed = allowed; vast = vast }
     where
@@ -87,7 +90,8 @@ module _ (format : Format) (sql : List ℕ) (from : Join) (project : List Term) 
   many_listed db h =
       let got = (subst (λ k. ReadsFirst k db [] h.0) is h.1).1 in
       let listed : IsListing (listing from project order) (overlay db.trees []) (h.0 ++ got.0) = is_listing from project order (overlay db.trees []) (h.0 ++ got.0) (got.1 Null) in
-      let same = length_permutation (map (eval_all project) (matches (overlay db.trees []) [] from ([] ∷ []))) (h.0 ++ got.0) (listed_rows from project order (overlay db.trees []) (h.0 ++ got.0) listed) in
+      let same =
+      length_permutation (map (eval_all project) (matches (overlay db.trees []) [] from ([] ∷ []))) (h.0 ++ got.0) (listed_rows from project order (overlay db.trees []) (h.0 ++ got.0) listed) in
       let all = length-append h.0 got.0 in
       let long = h.2 in
       omega (arith, same, all, long)
@@ -96,7 +100,8 @@ module _ (format : Format) (sql : List ℕ) (from : Join) (project : List Term) 
 module _ (format : Format) (sql : List ℕ) (tree : ℕ) (project : List Term) (order : List (Term × Key)) (names : List (List ℕ))
     (is : command_of (understood (schema_of format) sql) ≡ Select (record { lets = []; body = listing (inner tree end) project order }) names) where
   -- if a query over one table shows too many rows, the table is vast
-  pub table_vast : (table : Table) → Has (schema_of format).tables table → table.tree ≡ tree → ((db : Database) → overlay db.trees [] tree ≡ db.trees tree) → (db : Database) → db.schema ≡ schema_of format → ShowsTooMany format sql db → IsVastAs format db
+  pub table_vast : (table : Table) → Has (schema_of format).tables table → table.tree ≡ tree → ((db : Database) → overlay db.trees [] tree ≡ db.trees tree)
+      → (db : Database) → db.schema ≡ schema_of format → ShowsTooMany format sql db → IsVastAs format db
   table_vast table listed own plain db has h = record { schema = has; table = table; listed = listed; rows = subst (λ t. 2 ^ 64 ≤ length (db.trees t)) (sym own) many }
     where
       many : 2 ^ 64 ≤ length (db.trees tree)

@@ -39,12 +39,14 @@ zips_came old db was sound = record { world = was.world; is = was.is; shelves = 
 -- two tables are alike if what is read from one is, in some order, what is read from the other
 pub alike : (read : Row → Row) (rows others : List Row) → IsPermutation (mapped read rows) (mapped read others) → AreAlike read rows others
 alike read rows others same = record {
-  there = λ row at. let it = has_mapped read others _ (has_permuted (mapped read others) (mapped read rows) (read row) (IsPermutation-sym _ _ same) (mapped_has read rows row at)) in (it.0, it.1, sym it.2);
+  there = λ row at. let it =
+      has_mapped read others _ (has_permuted (mapped read others) (mapped read rows) (read row) (IsPermutation-sym _ _ same) (mapped_has read rows row at)) in (it.0, it.1, sym it.2);
   back = λ other at. let it = has_mapped read rows _ (has_permuted (mapped read rows) (mapped read others) (read other) same (mapped_has read others other at)) in (it.0, it.1, it.2);
 }
 
 -- if a row is of one thing at most, and a table tabulates both P and Q, then Q holds wherever P does
-carried : {X : Type 0} (IsRow : Row → X → Type 0) (rows : List Row) (P Q : X → Type 0) → ((row : Row) (x y : X) → IsRow row x → IsRow row y → y ≡ x) → Tabulates IsRow rows P → Tabulates IsRow rows Q → (x : X) → P x → Q x
+carried : {X : Type 0} (IsRow : Row → X → Type 0) (rows : List Row) (P Q : X → Type 0)
+    → ((row : Row) (x y : X) → IsRow row x → IsRow row y → y ≡ x) → Tabulates IsRow rows P → Tabulates IsRow rows Q → (x : X) → P x → Q x
 carried IsRow rows P Q one p q x holds =
     let from = p.found x holds in
     let to = q.each from.0 from.1 in
@@ -52,7 +54,8 @@ carried IsRow rows P Q one p q x holds =
 
 -- ---- the zips of schema 2
 
-module _ (old db after : Trees) (was : HasEntries Two old db) (sound : IsSound store_schema after) (else_same : IsElseSame piece_table db after) (pieces : IsPermutation (mapped piece_shown (old 8)) (mapped piece_shown (after 8)))
+module _ (old db after : Trees) (was : HasEntries Two old db) (sound : IsSound store_schema after)
+    (else_same : IsElseSame piece_table db after) (pieces : IsPermutation (mapped piece_shown (old 8)) (mapped piece_shown (after 8)))
     (fit : ArePiecesFit (mapped piece_shown (after 8))) where
   meta_stays : after 0 ≡ db 0
   meta_stays = else_same.0 (λ e. omega (arith, e))

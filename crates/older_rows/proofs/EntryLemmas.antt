@@ -1,5 +1,6 @@
 -- The rows of `version` in the order of their places, put into a store that has no entry.
-use Rattle.std.proofs.Common.{◌≡◌, ◌≤◌, ◌<◌, ◌+◌, ◌++◌, ◌⊎◌, ◌∙◌, ℕ, ℤ, Bool, true, false, cond, List, [], ◌∷◌, Option, Some, None, is_some, inl, inr, refl, sym, ap, subst, subst₂, arith, true≢false, append_assoc, append-nil, Less, length, filter}
+use Rattle.std.proofs.Common.{◌≡◌, ◌≤◌, ◌<◌, ◌+◌, ◌++◌, ◌⊎◌, ◌∙◌, ℕ, ℤ, Bool, true, false, cond, List, [], ◌∷◌, Option, Some, None, is_some}
+use Rattle.std.proofs.Common.{inl, inr, refl, sym, ap, subst, subst₂, arith, true≢false, append_assoc, append-nil, Less, length, filter}
 use Rattle.std.specs.Prelude.{bytes_eq, ◌&&◌}
 use Rattle.std.specs.FinMap as map
 use Rattle.std.specs.Ordering.{is_lt, ordering_then}
@@ -65,7 +66,8 @@ placed : (row : Row) (q : Place) (e : Entry) → ShowsEntry row q e → IsPlaced
 placed row q e shows = (held (column row 0) q.shelf shows.shelf, held (column row 1) q.path shows.path, held (column row 2) q.version shows.version)
 
 -- SQL orders places as we do
-places_in_order : (a b : Row) → IsPlaced a → IsPlaced b → key_cmp 0 (ascending Binary ∷ ascending Binary ∷ ascending Binary ∷ []) (place_columns a) (place_columns b) ≡ place_cmp (place_in a) (place_in b)
+places_in_order : (a b : Row) → IsPlaced a → IsPlaced b
+    → key_cmp 0 (ascending Binary ∷ ascending Binary ∷ ascending Binary ∷ []) (place_columns a) (place_columns b) ≡ place_cmp (place_in a) (place_in b)
 places_in_order a b one two = rw (one.0, one.1, one.2, two.0, two.1, two.2)
     (λ i. ordering_then (value_cmp-Text (place_in a).shelf (place_in b).shelf i)
     (ordering_then (value_cmp-Text (place_in a).path (place_in b).path i)
@@ -77,7 +79,8 @@ may_differ (Some p) many q may is = may.0 (let e = is in cc)
 
 -- a row is fit for an entry if it shows the entry, its zip, its number and the order keys of its version, and the entry may stand
 pub fit_row : (format : Format) (row : Row) (id : ℤ) (s p v zip : List ℕ) (e : Entry) (x : SemanticVersion) (order rank : List ℕ)
-    → ShowsZip format row zip → ShowsEntry row (place_of s p v) e × (e.zip ≡ zip) → Some x ≡ fitting_version p v e → order ≡ order_key_of x → rank ≡ rank_key_of x → ShowsKeys format row order rank → column row 5 ≡ Int id
+    → ShowsZip format row zip → ShowsEntry row (place_of s p v) e × (e.zip ≡ zip) → Some x ≡ fitting_version p v e
+    → order ≡ order_key_of x → rank ≡ rank_key_of x → ShowsKeys format row order rank → column row 5 ≡ Int id
     → ((order ≡ order_key_at v) × (rank ≡ rank_key_at v)) × IsFitRow format row id (place_of s p v) e
 fit_row format row id s p v zip e x order rank shows_zip shows fits order_is rank_is shows_keys number =
     let it = fitting_some p v e x fits in
@@ -124,7 +127,8 @@ module _ (start end : EntryRows) (rows : List Row) (sorted : InPlaces rows) (p :
   rise =
       let apart = adjacent_apart Fits Keeps (λ (x : EntryRows). x.last) place_in (λ x row next keeps. keeps.0) (λ x row fits. may_differ x.last x.many (place_in row) fits.1) start rows end p in
       let each = λ (r : Row) (there : Has rows r). (pass_each Fits Keeps start rows end p r there).1.0 in
-      let upto = adjacent_among _ (λ a b. is_lt (place_cmp (place_in b) (place_in a)) ≡ false) rows (λ a b here there h. ap is_lt (sym (places_in_order b a (each b there) (each a here))) ∙ h) sorted in
+      let upto =
+      adjacent_among _ (λ a b. is_lt (place_cmp (place_in b) (place_in a)) ≡ false) rows (λ a b here there h. ap is_lt (sym (places_in_order b a (each b there) (each a here))) ∙ h) sorted in
       ascends (λ a b. place_cmp (place_in a) (place_in b) ≡ Less) (λ a b c. places_total.trans (place_in a) (place_in b) (place_in c)) rows
       (adjacent_both _ _ _ (λ a b upto apart. apart_below places_total places_exact (place_in a) (place_in b) upto apart) rows upto apart)
 
@@ -189,7 +193,8 @@ shelf_there after y stand q e at =
     let name : q.shelf ≡ it.0.0 = texts_same (column shelf.0 1) it.0.0 q.shelf it.1.0 shelf.2 in
     ap (map.contains_key y.shelves) name ∙ ap is_some it.2
 
-module _ (format : Format) (x : World) (db after : Trees) (done : List Row) (row : Row) (rows : List Row) (up : Rises (done ++ row ∷ rows)) (small : (s p : List ℕ) → many_on s p (done ++ row ∷ rows) ≤ version_limit)
+module _ (format : Format) (x : World) (db after : Trees) (done : List Row) (row : Row) (rows : List Row)
+    (up : Rises (done ++ row ∷ rows)) (small : (s p : List ℕ) → many_on s p (done ++ row ∷ rows) ≤ version_limit)
     (is : IsWorld x) (stand : StandFor db x) (shows : Shows format x db done) (id : ℤ) (q : Place) (e : Entry) (fits : IsFitRow format row id q e) (adds : AddsAs id q e db after) where
   abbrev next : World
   next = with_entry x q e
@@ -243,7 +248,8 @@ module _ (format : Format) (x : World) (db after : Trees) (done : List Row) (row
   new_row = subst (λ l. Has l new) (sym rows_are) (put_all_adds (new ∷ []) (db 6) new is_fresh (inl refl))
 
   still : (r : Row) → IsIn format x db r → IsIn format next after r
-  still r it = record { id = it.id; place = it.place; entry = it.entry; fits = it.fits; holds = put_keeps places_total places_exact x.entries q e free it.place it.entry it.holds; there = kept_row _ it.there }
+  still r it =
+      record { id = it.id; place = it.place; entry = it.entry; fits = it.fits; holds = put_keeps places_total places_exact x.entries q e free it.place it.entry it.holds; there = kept_row _ it.there }
 
   own : IsIn format next after row
   own = record { id = id; place = q; entry = e; fits = fits; holds = get_put places_total x.entries q e; there = new_row }
@@ -294,17 +300,27 @@ pub record Entered (format : Format) (x y : World) (after : Trees) (rows : List 
   pub shows : Shows format y after rows
 
 -- if the rows that remain are visited, the tables come to stand for a world with the entries of all rows
-entered : (format : Format) (done rows : List Row) → Rises (done ++ rows) → ((s p : List ℕ) → many_on s p (done ++ rows) ≤ version_limit) → (kept end : EntryRows) (db after : Trees) → kept.format ≡ format → Visits Puts kept db rows end after
+entered : (format : Format) (done rows : List Row) → Rises (done ++ rows) → ((s p : List ℕ) → many_on s p (done ++ rows) ≤ version_limit)
+    → (kept end : EntryRows) (db after : Trees) → kept.format ≡ format → Visits Puts kept db rows end after
     → (x : World) → IsWorld x → StandFor db x → Shows format x db done → (y : World) × Entered format x y after (done ++ rows)
 entered format done [] up small kept end db after own same x is stand shows =
-    let all = append-nil done in
-    (x, record { is = is; stand = subst (λ t. StandFor t x) (sym same.1) stand; keys = refl; shelves = refl; shows = subst (λ l. Shows format x after l) (sym all) (subst (λ t. Shows format x t done) (sym same.1) shows) })
+    let all = append-nil done in (
+      x,
+      record {
+        is = is;
+        stand = subst (λ t. StandFor t x) (sym same.1) stand;
+        keys = refl;
+        shelves = refl;
+        shows = subst (λ l. Shows format x after l) (sym all) (subst (λ t. Shows format x t done) (sym same.1) shows);
+      },
+    )
 entered format done (row ∷ rows) up small kept end db after own visited x is stand shows =
     let put = visited.2.1 in
     let fits : IsFitRow format row put.id put.place put.entry = subst (λ f. IsFitRow f row put.id put.place put.entry) own put.fits in
     let mid = visited.1 in
     let assoc = append_assoc done (row ∷ []) rows in
-    let rest = entered format (done ++ row ∷ []) rows (subst Rises (sym assoc) up) (λ s p. subst (λ l. many_on s p l ≤ version_limit) (sym assoc) (small s p)) visited.0 end mid after (visited.2.0 ∙ own) visited.3
+    let rest = entered format (done ++ row ∷ []) rows (subst Rises (sym assoc) up)
+    (λ s p. subst (λ l. many_on s p l ≤ version_limit) (sym assoc) (small s p)) visited.0 end mid after (visited.2.0 ∙ own) visited.3
     (with_entry x put.place put.entry)
     (next_is format x db mid done row rows up small is stand shows put.id put.place put.entry fits put.adds)
     (next_stands format x db mid done row rows up small is stand shows put.id put.place put.entry fits put.adds)
@@ -321,5 +337,6 @@ all_entered format rows sorted start end db after own new visited x is stand non
       each = λ row there. absurd there;
       entry = λ q e at. absurd (none_in_empty place_cmp q e (ap (λ m. map.get m q) (sym none) ∙ at));
       version = λ r there. absurd (let it = stand.means.entries.each r there in none_in_empty place_cmp it.0.0 it.0.1 (ap (λ m. map.get m it.0.0) (sym none) ∙ it.2));
-      counted = λ s p. let e = ap (λ m. map.len (map.retain_keys m (λ q. bytes_eq q.shelf s && bytes_eq q.path p))) none ∙ none_retained (λ q. bytes_eq q.shelf s && bytes_eq q.path p) in omega (arith, e);
+      counted = λ s p. let e = ap (λ m. map.len (map.retain_keys m (λ q. bytes_eq q.shelf s && bytes_eq q.path p))) none
+          ∙ none_retained (λ q. bytes_eq q.shelf s && bytes_eq q.path p) in omega (arith, e);
     })

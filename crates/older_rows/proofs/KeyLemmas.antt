@@ -26,7 +26,8 @@ use Rattle.older_rows.proofs.ListedLemmas.{key_columns}
 abbrev pub Puts : {X : Type 0} → X → Row → Trees → X → Trees → Type 0
 Puts kept row db next after = IsKeyRow row db after
 
-passed : {X : Type 0} (kept : X) (db : Trees) (rows : List Row) (end : X) (after : Trees) → Visits Puts kept db rows end after → Pass (λ _ row. IsKeyShown row) (λ t row u. PutsKey row t u) db rows after
+passed : {X : Type 0} (kept : X) (db : Trees) (rows : List Row) (end : X) (after : Trees)
+    → Visits Puts kept db rows end after → Pass (λ _ row. IsKeyShown row) (λ t row u. PutsKey row t u) db rows after
 passed kept db [] end after same = same.1
 passed kept db (r ∷ rows) end after visited =
     let it = visited.2 in ((it.0.0, it.0.1), visited.1, it.1, passed visited.0 visited.1 rows end after visited.3)

@@ -95,6 +95,7 @@ pub key_whole : IsWhole key_text 4 key_columns key_names
 key_whole = record { is = key_is; plain = key_plain; unlisted = key_unlisted }
 
 -- the rows that it shows are those of the table
-pub all_of : (sql : List ℕ) (tree : ℕ) (project : List Term) (names : List (List ℕ)) → IsWhole sql tree project names → (own : (trees : _) → Rattle.sqlite.specs.Program.overlay trees [] tree ≡ trees tree)
+pub all_of : (sql : List ℕ) (tree : ℕ) (project : List Term) (names : List (List ℕ)) → IsWhole sql tree project names
+    → (own : (trees : _) → Rattle.sqlite.specs.Program.overlay trees [] tree ≡ trees tree)
     → (f : Format) (db : Database) (rows : List Row) → Reads (command_of (understood (schema_of f) sql)) db [] rows → AreFound (db.trees tree) [] project [] rows
 all_of sql tree project names whole own f db rows read = all_found [] db tree [] project [] own rows (subst (λ k. Reads k db [] rows) (whole.is f) read)

@@ -146,7 +146,8 @@ module _ (old : Database) (rows : List Row) (reads : Reads (command_of (understo
     numbered row body there = let it = has_filtered (goes_with row) (old.trees 8) body there in (it.0, (and_parts _ _ it.1).0)
 
     -- a version whose row is fit has a body, and each of its bodies holds the zip of the entry
-    has_body : (row body : Row) (id : _) (q : Place) (e : Entry) → Has (old.trees 6) row → Has (bodies_of row (old.trees 8)) body → IsFitRow One (shown row body) id q e → HasBody (old.trees 8) row e.zip
+    has_body : (row body : Row) (id : _) (q : Place) (e : Entry) → Has (old.trees 6) row
+        → Has (bodies_of row (old.trees 8)) body → IsFitRow One (shown row body) id q e → HasBody (old.trees 8) row e.zip
     has_body row body id q e there has fits =
         let it = numbered row body (is_body _ body e.zip has fits.zip) in
         record {
@@ -159,7 +160,8 @@ module _ (old : Database) (rows : List Row) (reads : Reads (command_of (understo
               ap (λ (r : Row). column r 6) alike ∙ fits.zip;
         }
 
-    entry_of : (row body : Row) (id : _) (q : Place) (e : Entry) → Has (old.trees 6) row → Has (bodies_of row (old.trees 8)) body → IsFitRow One (shown row body) id q e → IsWithBody (old.trees 8) row (q, e)
+    entry_of : (row body : Row) (id : _) (q : Place) (e : Entry) → Has (old.trees 6) row
+        → Has (bodies_of row (old.trees 8)) body → IsFitRow One (shown row body) id q e → IsWithBody (old.trees 8) row (q, e)
     entry_of row body id q e there has fits =
         let shows = fits.shows in
         record { place = (shows.shelf, shows.path, shows.version); time = shows.time; gomod = shows.gomod; zip = has_body row body id q e there has fits }

@@ -41,13 +41,15 @@ abbrev today : Trees → Database
 today trees = record { schema = store_schema; trees = trees }
 
 -- the query reads from the old trees, as a database of today's schema, what it reads from the old tables
-read_today : (old : Database) (rows : List Row) → Reads (command_of (understood schema_2 piece_rows_text)) old [] rows → Reads (command_of (understood store_schema piece_rows_text)) (today old.trees) [] rows
+read_today : (old : Database) (rows : List Row) → Reads (command_of (understood schema_2 piece_rows_text)) old [] rows
+    → Reads (command_of (understood store_schema piece_rows_text)) (today old.trees) [] rows
 unfolding understood everything
 read_today old rows reads =
     let read = subst (λ k. Reads k old [] rows) piece_is reads in
     subst (λ k. Reads k (today old.trees) [] rows) (sym piece_rows_is) (record { typed = refl; answer = read.answer })
 
-module _ (old : Database) (rows : List Row) (reads : Reads (command_of (understood schema_2 piece_rows_text)) old [] rows) (start stop : ZipRows) (db after : Trees) (new : start.last ≡ None) (visited : Visits Puts start db rows stop after) where
+module _ (old : Database) (rows : List Row) (reads : Reads (command_of (understood schema_2 piece_rows_text)) old [] rows)
+    (start stop : ZipRows) (db after : Trees) (new : start.last ≡ None) (visited : Visits Puts start db rows stop after) where
   -- the walk tests the pieces as today's test does, so they are fit
   fit : ArePiecesFit (mapped piece_shown (old.trees 8))
   fit = pieces_true (today old.trees) (tested start) (tested stop) new (rows, read_today old rows reads, passed start stop db after rows visited)

@@ -78,7 +78,8 @@ module _ (names : Names) (x : World) (has : HasTeams names x) (name : List ℕ) 
   one_team more is = record {
     is = shelf_stands x name (Some common) (ap is_some free) has.is good (λ g same. let e : common ≡ g = cc same in subst (λ t. map.get x.shelves t ≡ Some None) e has.is.has_common);
     each = λ s o at. elim (put_splits texts_total texts_exact x.shelves name (Some common) (s, o) at) [
-      | inl here ↦ (let it = shelf_parts (s, o) (name, Some common) here in inr (ap (λ (n : Names). set.contains n s) is ∙ (ap (set.contains (set.insert names name)) it.0 ∙ text_put names name), it.1))
+      | inl here
+          ↦ (let it = shelf_parts (s, o) (name, Some common) here in inr (ap (λ (n : Names). set.contains n s) is ∙ (ap (set.contains (set.insert names name)) it.0 ∙ text_put names name), it.1))
       | inr before ↦ elim (has.each s o before) [
         | inl top ↦ inl top
         | inr team ↦ inr (ap (λ (n : Names). set.contains n s) is ∙ still names name s team.0, team.1)
@@ -95,7 +96,8 @@ module _ (names : Names) (x : World) (has : HasTeams names x) (name : List ℕ) 
 -- ---- the rows, one after another
 
 -- a team that is noted stays noted
-grown : (kept : ShelfRows) (db : Trees) (rows : List Row) (end : ShelfRows) (after : Trees) → Visits Puts kept db rows end after → (s : List ℕ) → set.contains kept.names s ≡ true → set.contains end.names s ≡ true
+grown : (kept : ShelfRows) (db : Trees) (rows : List Row) (end : ShelfRows) (after : Trees)
+    → Visits Puts kept db rows end after → (s : List ℕ) → set.contains kept.names s ≡ true → set.contains end.names s ≡ true
 grown kept db [] end after same s there = ap (λ (x : ShelfRows). set.contains x.names s) same.0 ∙ there
 grown kept db (r ∷ rows) end after visited s there = grown visited.0 visited.1 rows end after visited.3 s (elim visited.2 [
   | inl top ↦ ap (λ (n : Names). set.contains n s) top.1.0 ∙ there
@@ -133,7 +135,8 @@ abbrev HasRow : List Row → List ℕ → Type 0
 HasRow rows s = (row : Row) × Has rows row × (column row 0 ≡ Text s)
 
 -- a team that is noted at the end was noted at the start, or a row shows it
-came : (kept : ShelfRows) (db : Trees) (rows : List Row) (end : ShelfRows) (after : Trees) → Visits Puts kept db rows end after → (s : List ℕ) → set.contains end.names s ≡ true → (set.contains kept.names s ≡ true) ⊎ HasRow rows s
+came : (kept : ShelfRows) (db : Trees) (rows : List Row) (end : ShelfRows) (after : Trees) → Visits Puts kept db rows end after
+    → (s : List ℕ) → set.contains end.names s ≡ true → (set.contains kept.names s ≡ true) ⊎ HasRow rows s
 came kept db [] end after same s there = inl (ap (λ (x : ShelfRows). set.contains x.names s) (sym same.0) ∙ there)
 came kept db (r ∷ rows) end after visited s there = elim (came visited.0 visited.1 rows end after visited.3 s there) [
   | inr later ↦ inr (later.0, inr later.1, later.2)
@@ -146,7 +149,8 @@ came kept db (r ∷ rows) end after visited s there = elim (came visited.0 visit
   ]
 ]
 
-top_came : (kept : ShelfRows) (db : Trees) (rows : List Row) (end : ShelfRows) (after : Trees) → Visits Puts kept db rows end after → end.has_common ≡ true → (kept.has_common ≡ true) ⊎ HasRow rows common
+top_came : (kept : ShelfRows) (db : Trees) (rows : List Row) (end : ShelfRows) (after : Trees)
+    → Visits Puts kept db rows end after → end.has_common ≡ true → (kept.has_common ≡ true) ⊎ HasRow rows common
 top_came kept db [] end after same has = inl (ap (λ (x : ShelfRows). x.has_common) (sym same.0) ∙ has)
 top_came kept db (r ∷ rows) end after visited has = elim (top_came visited.0 visited.1 rows end after visited.3 has) [
   | inr later ↦ inr (later.0, inr later.1, later.2)

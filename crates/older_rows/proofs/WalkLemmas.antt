@@ -25,12 +25,15 @@ module _ (schema : Schema) (sql : List ℕ) (plain : IsPlain (understood schema 
   pub commits_nothing : (old new : State) → Survives old new (CommitsShowing sql [] old) → old.now.schema ≡ schema → Survives old new (λ _. ⊥)
   commits_nothing old new survives has = survives_weaker old new _ _ (λ _ db. never_commits sql [] old db (subst (λ s. IsPlain (understood s sql)) (sym has) plain)) survives
 
-  pub all_shown : reads_listing schema sql ≡ false → (old mid new : State) → old.now.schema ≡ schema → IsUnchanged old mid → (rows : List Row) → Shown sql [] mid new rows → Reads (command_of (understood schema sql)) old.now [] rows
+  pub all_shown : reads_listing schema sql ≡ false → (old mid new : State) → old.now.schema ≡ schema → IsUnchanged old mid
+      → (rows : List Row) → Shown sql [] mid new rows → Reads (command_of (understood schema sql)) old.now [] rows
   all_shown unlisted old mid new has same rows shown =
-      subst (λ db. Reads (command_of (understood schema sql)) db [] rows) same.0.now_is (reads_as sql [] mid new schema (ap (λ (d : Database). d.schema) same.0.now_is ∙ has) _ refl plain unlisted rows shown)
+      subst (λ db. Reads (command_of (understood schema sql)) db [] rows) same.0.now_is
+      (reads_as sql [] mid new schema (ap (λ (d : Database). d.schema) same.0.now_is ∙ has) _ refl plain unlisted rows shown)
 
 -- a store is only read if nothing is committed and it is unchanged, or rolled back by a call that is not done
-pub quiet_read : (old new : State) (done : Bool) → Survives old new (λ _. ⊥) → (HasCleanDisk new → IsUnchanged old new ⊎ IsRolledBack old new) → (HasCleanDisk new → IsTrue done → IsUnchanged old new) → IsReadBy old new done
+pub quiet_read : (old new : State) (done : Bool) → Survives old new (λ _. ⊥) → (HasCleanDisk new → IsUnchanged old new ⊎ IsRolledBack old new)
+    → (HasCleanDisk new → IsTrue done → IsUnchanged old new) → IsReadBy old new done
 quiet_read old new done survives kept same = record {
   left = λ clean db may. elim (survives.crash clean db may) [ inl was ↦ was | inr none ↦ absurd none ];
   kept = kept;
@@ -114,7 +117,8 @@ if_done (Err e) f it = tt
 
 module _ (format : Format) (Makes : Trees → Trees → Trees → Type 0) (s t a b : State) (up : doubt s.is_clean ≤ doubt t.is_clean) where
   -- a walk moves what it makes if it reads the old store, goes on in the fresh one, and is done only if each row was visited
-  pub moves_part : (whole done : Bool) → (IsTrue done → IsTrue whole) → (s.now.schema ≡ schema_of format → IsReadBy s t whole) → (s.now.schema ≡ schema_of format → Survives s t (λ _. ⊥)) → GoesOn a b whole
+  pub moves_part : (whole done : Bool) → (IsTrue done → IsTrue whole) → (s.now.schema ≡ schema_of format → IsReadBy s t whole)
+      → (s.now.schema ≡ schema_of format → Survives s t (λ _. ⊥)) → GoesOn a b whole
       → (HasCleanDisk t → HasCleanDisk b → s.now.schema ≡ schema_of format → Filling a → IsTrue done → Makes s.now.trees a.now.trees b.now.trees × Filling b) → Moves format Makes s t a b done
   moves_part whole done less read survives goes makes =
       let has = λ (ready : IsReadyAs format s) (clean : HasCleanDisk t). (ready (was_clean s t up clean)).1 in
@@ -131,11 +135,13 @@ module _ (format : Format) (Makes : Trees → Trees → Trees → Type 0) (s t a
       }
 
   pub moves_of : {E : Type 0} (r : Result Bool E) → (s.now.schema ≡ schema_of format → IsReadBy s t (is_ok r)) → (s.now.schema ≡ schema_of format → Survives s t (λ _. ⊥)) → GoesOn a b (is_ok r)
-      → (HasCleanDisk t → HasCleanDisk b → s.now.schema ≡ schema_of format → Filling a → IfOk r (λ all. IsTrue all → Makes s.now.trees a.now.trees b.now.trees × Filling b)) → Moves format Makes s t a b (is_done r)
+      → (HasCleanDisk t → HasCleanDisk b → s.now.schema ≡ schema_of format → Filling a → IfOk r (λ all. IsTrue all → Makes s.now.trees a.now.trees b.now.trees × Filling b))
+      → Moves format Makes s t a b (is_done r)
   moves_of r read survives goes makes = moves_part (is_ok r) (is_done r) (done_ok r) read survives goes (λ clean good has filling all. when_done r all (makes clean good has filling))
 
 -- a walk that makes P makes each Q that P implies
-pub moves_weaker : (format : Format) (P Q : Trees → Trees → Trees → Type 0) (s t a b : State) (done : Bool) → ((old db after : Trees) → P old db after → Q old db after) → Moves format P s t a b done → Moves format Q s t a b done
+pub moves_weaker : (format : Format) (P Q : Trees → Trees → Trees → Type 0) (s t a b : State) (done : Bool)
+    → ((old db after : Trees) → P old db after → Q old db after) → Moves format P s t a b done → Moves format Q s t a b done
 moves_weaker format P Q s t a b done less p = record {
   clean = p.clean;
   reads = p.reads;

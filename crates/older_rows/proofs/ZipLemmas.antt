@@ -1,5 +1,6 @@
 -- The rows of `piece`, put into a store that has none.
-use Rattle.std.proofs.Common.{◌≡◌, ◌++◌, ◌⊎◌, ◌∙◌, ◌||◌, ℕ, ℤ, Bool, true, false, List, [], ◌∷◌, map, Option, Some, None, inl, inr, refl, sym, ap, subst, subst₂, true≢false, append-nil, IsPermutation, Less, Equal, Greater}
+use Rattle.std.proofs.Common.{◌≡◌, ◌++◌, ◌⊎◌, ◌∙◌, ◌||◌, ℕ, ℤ, Bool, true, false, List, [], ◌∷◌, map, Option, Some, None, inl}
+use Rattle.std.proofs.Common.{inr, refl, sym, ap, subst, subst₂, true≢false, append-nil, IsPermutation, Less, Equal, Greater}
 use Rattle.std.specs.Prelude.{not}
 use Rattle.std.specs.Ordering.{is_eq, match_ordering}
 use Rattle.std.specs.declared.cmp.Ordering.{Ordering}
@@ -63,7 +64,8 @@ put_pieces : (kept end : ZipRows) (db after : Trees) (rows : List Row) → Visit
 put_pieces kept end db after [] same = subst (λ t. IsPermutation (map piece_shown (db 8)) (map piece_shown (t 8))) (sym same.1) (IsPermutation-refl _)
 put_pieces kept end db after (row ∷ rows) visited =
     let put = visited.2.1.1.1 in
-    let one : IsPermutation (cut row ∷ map piece_shown (db 8)) (map piece_shown (visited.1 8)) = subst (λ l. IsPermutation (cut row ∷ map piece_shown (db 8)) (map piece_shown l)) (sym put.put.rows) (IsPermutation-map piece_shown _ _ (one_permuted (piece_of put.id row) (db 8) put.put.fresh)) in
+    let one : IsPermutation (cut row ∷ map piece_shown (db 8)) (map piece_shown (visited.1 8)) = subst
+    (λ l. IsPermutation (cut row ∷ map piece_shown (db 8)) (map piece_shown l)) (sym put.put.rows) (IsPermutation-map piece_shown _ _ (one_permuted (piece_of put.id row) (db 8) put.put.fresh)) in
     let rest = put_pieces visited.0 end visited.1 after rows visited.3 in
     IsPermutation-trans _ _ _ (IsPermutation-sym _ _ (IsPermutation-middle (map cut rows) (cut row) (map piece_shown (db 8))))
     (IsPermutation-trans _ _ _ (IsPermutation-append_right (map cut rows) _ _ one) rest)
@@ -107,7 +109,8 @@ cut_shown [] = refl
 cut_shown (r ∷ rows) = ap (λ l. piece_shown r ∷ l) (cut_shown rows)
 
 -- if there were no pieces, what is read from the fresh rows is what is read from the old ones, in some order
-pub same_pieces_read : (old db after : Trees) (kept end : ZipRows) (rows : List Row) → IsPermutation (map piece_shown (old 8)) rows → db 8 ≡ [] → Visits Puts kept db rows end after → IsPermutation (map piece_shown (old 8)) (map piece_shown (after 8))
+pub same_pieces_read : (old db after : Trees) (kept end : ZipRows) (rows : List Row) → IsPermutation (map piece_shown (old 8)) rows
+    → db 8 ≡ [] → Visits Puts kept db rows end after → IsPermutation (map piece_shown (old 8)) (map piece_shown (after 8))
 same_pieces_read old db after kept end rows listed none visited =
     let put = subst (λ l. IsPermutation l (map piece_shown (after 8))) (ap (λ l. map cut rows ++ map piece_shown l) none ∙ append-nil (map cut rows)) (put_pieces kept end db after rows visited) in
     IsPermutation-trans _ _ _ (subst (λ l. IsPermutation l (map cut rows)) (cut_shown (old 8)) (IsPermutation-map cut _ _ listed)) put

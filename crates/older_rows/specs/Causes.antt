@@ -40,10 +40,12 @@ FailsAs format old new result = HonestlyOver (schema_of format) old new (λ old 
 
 -- the query shows at least as many rows as a walk counts, which is 2 ^ 128 - 1
 abbrev pub ShowsTooMany : Format → List ℕ → Database → Type 0
-ShowsTooMany format sql db = (rows : List Row) × ReadsFirst (command_of (understood (schema_of format) sql)) db [] rows × (2 ^ 128 ≤ length rows + 1)
+ShowsTooMany format sql db =
+    (rows : List Row) × ReadsFirst (command_of (understood (schema_of format) sql)) db [] rows × (2 ^ 128 ≤ length rows + 1)
 
 -- only a limit on its steps refuses the query, and only a vast table makes it show too many rows
 pub record IsWalkableAs (format : Format) (sql : List ℕ) : Type 0 where
   pub alone : IsAlone sql (understood (schema_of format) sql)
-  pub allowed : (limit : Option ℕ) (db : Database) (e : Error) → db.schema ≡ schema_of format → RefusesToRead limit (command_of (understood (schema_of format) sql)) db [] e → IsSome limit
+  pub allowed : (limit : Option ℕ) (db : Database) (e : Error) → db.schema ≡ schema_of format
+      → RefusesToRead limit (command_of (understood (schema_of format) sql)) db [] e → IsSome limit
   pub vast : (db : Database) → db.schema ≡ schema_of format → ShowsTooMany format sql db → IsVastAs format db

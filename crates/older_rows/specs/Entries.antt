@@ -53,7 +53,8 @@ pub record AddsAs (id : ℤ) (q : Place) (e : Entry) (db after : Trees) : Type 0
   pub sound : IsSound store_schema after
 
 -- a row shows an entry that may follow the last one, and the rows of the entry are put in
-pub record PutsEntry (format : Format) (last : Option Place) (many : ℕ) (row : Row) (db after : Trees) (now : Option Place) (more : ℕ) : Type 0 where
+pub record PutsEntry (format : Format) (last : Option Place) (many : ℕ)
+    (row : Row) (db after : Trees) (now : Option Place) (more : ℕ) : Type 0 where
   pub id : ℤ
   pub place : Place
   pub entry : Entry

@@ -180,7 +180,8 @@ fn put_with_zips<S: Alter, F: Alter>(
     visit_rows(
         source,
         Format::One,
-        "SELECT v.shelf, v.path, v.version, v.time, v.mod, v.id, b.zip FROM version AS v LEFT JOIN body AS b ON b.id = v.id ORDER BY v.shelf, v.path, v.version",
+        "SELECT v.shelf, v.path, v.version, v.time, v.mod, v.id, b.zip FROM version AS v \
+         LEFT JOIN body AS b ON b.id = v.id ORDER BY v.shelf, v.path, v.version",
         tx,
         &mut rows,
     )

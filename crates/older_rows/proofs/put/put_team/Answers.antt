@@ -13,5 +13,6 @@ returns-clause-puts g c clean filling =
     let old = state g.F.Store c.args.tx.now.conn.now in
     let new = state g.F.Store c.execute.new.self.conn.now in
     let name = c.args.name.now in
-    let ran : ExecutesInside 0 _ (shelf_params name (Some common)) old new (Ok c.in_ok-execute.field-0) = rw (c.params-to_sql.ensures, c.params-to_sql-2.ensures) at (c.in_ok-execute.ensures.runs clean filling.inside) in
+    let ran : ExecutesInside 0 _ (shelf_params name (Some common)) old new (Ok c.in_ok-execute.field-0) =
+    rw (c.params-to_sql.ensures, c.params-to_sql-2.ensures) at (c.in_ok-execute.ensures.runs clean filling.inside) in
     shelf_put _ refl (refl, refl) old new name (Some common) c.in_ok-execute.field-0 filling ran

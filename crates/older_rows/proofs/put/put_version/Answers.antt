@@ -18,6 +18,22 @@ returns-clause-puts g c clean filling =
     let range : SFits w64 c.args.id = search rules in
     let keys = c.requires.keys in
     let ran : ExecutesInside 0 _ (version_params (Some c.args.id) p e) old new (Ok c.in_ok-execute.field-0) =
-    rw (c.params-to_sql.ensures, to_z-of_z {w = w64} {z = c.args.id} range, c.params-to_sql-2.ensures, c.params-to_sql-3.ensures, c.params-to_sql-4.ensures, c.params-to_sql-5.ensures, c.time_text-time.ensures, ap (λ (x : Entry). x.time) c.entry.view_is, text_bound e.time, c.params-to_sql-6.ensures, ap (λ (x : Entry). x.gomod) c.entry.view_is, c.params-to_sql-7.ensures, c.params-to_sql-8.ensures, keys.0, keys.1) at (c.in_ok-execute.ensures.runs clean filling.inside) in
+    rw (
+      c.params-to_sql.ensures,
+      to_z-of_z {w = w64} {z = c.args.id} range,
+      c.params-to_sql-2.ensures,
+      c.params-to_sql-3.ensures,
+      c.params-to_sql-4.ensures,
+      c.params-to_sql-5.ensures,
+      c.time_text-time.ensures,
+      ap (λ (x : Entry). x.time) c.entry.view_is,
+      text_bound e.time,
+      c.params-to_sql-6.ensures,
+      ap (λ (x : Entry). x.gomod) c.entry.view_is,
+      c.params-to_sql-7.ensures,
+      c.params-to_sql-8.ensures,
+      keys.0,
+      keys.1,
+    ) at (c.in_ok-execute.ensures.runs clean filling.inside) in
     let put = version_put _ refl (refl, refl) (Some c.args.id) p e old new c.in_ok-execute.field-0 filling ran in
     (put.0, put.2)

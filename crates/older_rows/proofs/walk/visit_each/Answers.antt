@@ -24,7 +24,8 @@ returns-in_err-rows-clause-reads g c has =
     let sql = c.args.sql.now in
     let kept : Survives old new (CommitsShowing sql [] old) = search rules in
     subst (IsReadBy old new) (sym (not_ok c.from_residual.result c.from_residual.ensures.0))
-    (quiet_read old new false (commits_nothing (schema_of c.args.format) sql c.requires.plain old new kept has) (λ clean. let h = rw c.in_err-rows.was at held in failed_query sql [] old new _ (h.err clean)) (λ _ done. absurd (true≢false (sym done))))
+    (quiet_read old new false (commits_nothing (schema_of c.args.format) sql c.requires.plain old new kept has)
+    (λ clean. let h = rw c.in_err-rows.was at held in failed_query sql [] old new _ (h.err clean)) (λ _ done. absurd (true≢false (sym done))))
 
 pub returns-in_err-rows-clause-survives : goal.returns-in_err-rows-clause-survives
 returns-in_err-rows-clause-survives g c has =
@@ -49,7 +50,8 @@ rows-init g c =
     let sql = c.args.sql.now in
     let old = state g.S.Store c.args.source.now in
     let now = c.in_ok-rows.rows.conn.now in
-    let begun = λ (clean : HasCleanDisk (state g.S.Store now)) (has : old.now.schema ≡ _). begun_plain g.S.Store sql [] c.args.source.now now (subst (λ s. IsPlain (understood s sql)) (sym has) c.requires.plain) (made.begun clean) in (
+    let begun = λ (clean : HasCleanDisk (state g.S.Store now)) (has : old.now.schema ≡ _). begun_plain g.S.Store sql [] c.args.source.now now
+    (subst (λ s. IsPlain (understood s sql)) (sym has) c.requires.plain) (made.begun clean) in (
       refl,
       made.survives.clean,
       commits_nothing (schema_of c.args.format) sql c.requires.plain old _ made.survives,
@@ -75,7 +77,8 @@ rows-preserved g c =
     let put = c.in-Ok-true.ensures in
     let row = c.in-Some.row.now in
     let fits : IsTrue c.in-Ok-true.field-0 = search rules in
-    let still = λ (clean : HasCleanDisk new) (has : old.now.schema ≡ _). unchanged_then old mid new (kept.3 (was_clean mid new moved.survives.clean clean) has) (rw c.in_ok-row.was at (moved.same clean)) in (
+    let still =
+    λ (clean : HasCleanDisk new) (has : old.now.schema ≡ _). unchanged_then old mid new (kept.3 (was_clean mid new moved.survives.clean clean) has) (rw c.in_ok-row.was at (moved.same clean)) in (
       moved.same_reference ∙ kept.0,
       omega (arith, kept.1, moved.survives.clean),
       λ has. then_survives old mid new (kept.2 has) (λ clean. kept.3 clean has) moved.survives,
@@ -108,7 +111,8 @@ returns-in_err-row-clause-cause g c clean has =
     let failed = (rw c.in_err-row.was at (moved.err late)) c.args.sql.now [] was.0 was.1 in
     told_error _ c.from_residual-in_err-row.result c.in_err-row.field-0.0 c.from_residual-in_err-row.ensures.1
     (excused_same g.S.Store old now c.source-in_err-row-1.given.0 _ _ same
-    (next_excused c.args.format c.args.sql.now c.requires.walkable c.requires.plain c.requires.tables old mid has (c.rows.invariant.3 before has) (state g.S.Store now) _ (c.rows.invariant.2 has) failed))
+    (next_excused c.args.format c.args.sql.now c.requires.walkable c.requires.plain c.requires.tables old mid has
+    (c.rows.invariant.3 before has) (state g.S.Store now) _ (c.rows.invariant.2 has) failed))
 
 -- ---- each row was visited
 
@@ -120,7 +124,15 @@ returns-in_default-clause-puts g c clean good has filling =
     let before = was_clean (state g.S.Store c.rows.rows.conn.now) (state g.S.Store now) moved.survives.clean late in
     let was = c.rows.invariant.6 before good has filling in
     let shown = (rw (c.in_ok-row.was, c.in_default.is) at (moved.ok late)) c.args.sql.now [] was.1 was.2 in
-    λ all. (was.0, (was.1, all_shown (schema_of c.args.format) c.args.sql.now c.requires.plain c.requires.tables (state g.S.Store c.args.source.now) (state g.S.Store c.rows.rows.conn.now) (state g.S.Store now) has (c.rows.invariant.3 before has) was.1 shown, was.3))
+    λ all. (
+      was.0,
+      (
+        was.1,
+        all_shown (schema_of c.args.format) c.args.sql.now c.requires.plain c.requires.tables (state g.S.Store c.args.source.now)
+            (state g.S.Store c.rows.rows.conn.now) (state g.S.Store now) has (c.rows.invariant.3 before has) was.1 shown,
+        was.3,
+      ),
+    )
 
 -- ---- there are too many
 

@@ -37,6 +37,7 @@ module _ (old new : Shown) (s p : List ℕ) (v : SemanticVersion) (found : Optio
   adds_none is same = adds_lines None is (same ∙ sym (append-nil before))
 
   -- with an outline, adding the line of its row adds those of the version
-  pub adds_one : (it : Outline) (row : InventoryRow) → found ≡ Some it → row ∷ [] ≡ outlined p v (Some it) → after ≡ before ++ line (fields row) → Adds old new before after (Ok tt) (λ w. lines_at w s p v)
+  pub adds_one : (it : Outline) (row : InventoryRow) → found ≡ Some it → row ∷ [] ≡ outlined p v (Some it)
+      → after ≡ before ++ line (fields row) → Adds old new before after (Ok tt) (λ w. lines_at w s p v)
   adds_one it row is rows told =
       adds_lines (Some it) is (told ∙ (ap (λ l. before ++ l) (sym (append-nil (line (fields row)))) ∙ ap (λ rs. before ++ lines_of rs) rows))

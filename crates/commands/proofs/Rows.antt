@@ -162,7 +162,8 @@ module _ (w : World) (is : IsWorld w) (s p t : List ℕ) (seen : Seen) (found : 
 
 -- ---- each row is of a version that is seen
 
-row_is_seen : (w : World) (s p : List ℕ) (v : SemanticVersion) (r : InventoryRow) (o : Option Seen) → view w s p (version_text v) ≡ o → Contains (row_of p v o) r → IsSeen w s r.path (version_text r.version)
+row_is_seen : (w : World) (s p : List ℕ) (v : SemanticVersion) (r : InventoryRow) (o : Option Seen)
+    → view w s p (version_text v) ≡ o → Contains (row_of p v o) r → IsSeen w s r.path (version_text r.version)
 row_is_seen w s p v r None none at = absurd (no_member r at)
 row_is_seen w s p v r (Some e) seen at = elim (member_cases _ r [] at) [
   | inl same ↦ subst (λ (x : InventoryRow). IsSeen w s x.path (version_text x.version)) same (e, seen)

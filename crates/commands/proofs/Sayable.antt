@@ -1,5 +1,6 @@
 -- How orders that no line can carry end in each world.
-use Rattle.std.proofs.Common.{◌≡◌, ◌≢◌, ℕ, ◌+◌, ◌<◌, ◌≤◌, ◌⊎◌, inl, inr, List, [], ◌∷◌, ◌++◌, length, Bool, true, false, Option, Some, None, Result, Ok, Err, refl, ◌∙◌, sym, ap, subst, arith, nat_eq, nat_lt, ltb-true, leb-true, true≢false}
+use Rattle.std.proofs.Common.{◌≡◌, ◌≢◌, ℕ, ◌+◌, ◌<◌, ◌≤◌, ◌⊎◌, inl, inr, List, [], ◌∷◌, ◌++◌, length, Bool, true, false, Option, Some}
+use Rattle.std.proofs.Common.{None, Result, Ok, Err, refl, ◌∙◌, sym, ap, subst, arith, nat_eq, nat_lt, ltb-true, leb-true, true≢false}
 use Rattle.std.specs.Borrow.{Bor}
 use Rattle.std.specs.Prelude.{◌&&◌, ◌||◌, not, if◌then◌else◌, codes, bytes_eq, nat_le, is_some, option_copied}
 use Rattle.std.specs.List.{list_all}
@@ -272,7 +273,8 @@ pub unsent_ends : (order sent : Order) → IsSentFor order sent → IsUnsayable 
 unsent_ends (TeamAdd name group) sent (other, is, same) unsaid w world =
     let sayable = subst IsGroupSayable (sym same) (sent_sayable (option_copied group)) in
     let said = team_unsaid name other sayable (subst IsUnsayable is unsaid) w in
-    ap (λ o. Err (unsayable o)) is ∙ sym said ∙ ap (λ o. ending (Ok o)) (subst (λ o. outcome_in w o ≡ outcome_in w (TeamAdd name group)) is (comes_to_the_same (TeamAdd name group) sent (other, is, same) w world).0)
+    ap (λ o. Err (unsayable o)) is ∙ sym said
+    ∙ ap (λ o. ending (Ok o)) (subst (λ o. outcome_in w o ≡ outcome_in w (TeamAdd name group)) is (comes_to_the_same (TeamAdd name group) sent (other, is, same) w world).0)
 unsent_ends (GroupAdd name) sent is unsaid w world = ap (λ o. Err (unsayable o)) is ∙ sym (group_unsaid name (subst IsUnsayable is unsaid) w)
 unsent_ends (KeyAdd shelf key right) sent is unsaid w world = ap (λ o. Err (unsayable o)) is ∙ sym (key_unsaid shelf key right (subst IsUnsayable is unsaid) w world)
 unsent_ends (KeyRevoke key) sent is unsaid w world = ap (λ o. Err (unsayable o)) is ∙ sym (revoke_unsaid key (subst IsUnsayable is unsaid) w world)

@@ -17,7 +17,8 @@ use Rattle.control.specs.Health.{Answered, AreBelow, IsPinged, tally_of, with_on
 use Rattle.control.specs.Hearing.{Heard, Carried, Copied, Pinged, Stop, NoOrder, NoMemory, Obeys}
 use Rattle.control.specs.Told.{line_told}
 use Rattle.control.specs.Turns.{Asked, messages, world_at, GoesThroughTurns, GoesOn}
-use Rattle.control.specs.Visits.{Call, OfPeer, OfOperator, answered_with, caller_of, turns_if, turns_of, turns_with, read_by, read_with, steps_of, steps_with, peers, AnswersOne, ObeysOne, ObeysOneBy, IsCallThere, IsTallied, ServesEach, ReadsEach, TellsTally}
+use Rattle.control.specs.Visits.{Call, OfPeer, OfOperator, answered_with, caller_of, turns_if, turns_of, turns_with, read_by, read_with, steps_of}
+use Rattle.control.specs.Visits.{steps_with, peers, AnswersOne, ObeysOne, ObeysOneBy, IsCallThere, IsTallied, ServesEach, ReadsEach, TellsTally}
 use Rattle.control.specs.declared.callers.Caller.{Caller}
 use Rattle.control.specs.declared.callers.Caller.TheVariants.{Peer, Operator}
 use Rattle.control.specs.declared.copies.CopyRefusal.{CopyRefusal}

@@ -43,7 +43,8 @@ pub marks_front : (w : World) (ss : List (List ℕ)) (xs : List Exchange) (left 
 marks_front w ss [] left = marked_nothing (kept w ss (map spec.event_of left))
 marks_front w ss (x ∷ xs) left =
     let next = after w (event_of x) in
-    elim (is_kept w ss (event_of x)) as (λ b. marked (b ∷ kept next ss (map spec.event_of (map message_of xs ++ left))) (text_of x ∷ map text_of xs) ≡ marked (b ∷ kept next ss (map event_of xs)) (text_of x ∷ map text_of xs)) [
+    elim (is_kept w ss (event_of x))
+    as (λ b. marked (b ∷ kept next ss (map spec.event_of (map message_of xs ++ left))) (text_of x ∷ map text_of xs) ≡ marked (b ∷ kept next ss (map event_of xs)) (text_of x ∷ map text_of xs)) [
       | true ↦ ap (λ texts. text_of x ∷ texts) (marks_front next ss xs left)
       | false ↦ marks_front next ss xs left
     ]
@@ -56,10 +57,11 @@ kept_front w ss (x ∷ xs) more =
     let next = after w (event_of x) in
     let front = kept_front next ss xs more in (
       front.0,
-      elim (is_kept w ss (event_of x)) as (λ b. marked (b ∷ kept next ss (map event_of (xs ++ more))) (text_of x ∷ map text_of (xs ++ more)) ≡ marked (b ∷ kept next ss (map event_of xs)) (text_of x ∷ map text_of xs) ++ front.0) [
-        | true ↦ ap (λ texts. text_of x ∷ texts) front.1
-        | false ↦ front.1
-      ],
+      elim (is_kept w ss (event_of x))
+          as (λ b. marked (b ∷ kept next ss (map event_of (xs ++ more))) (text_of x ∷ map text_of (xs ++ more)) ≡ marked (b ∷ kept next ss (map event_of xs)) (text_of x ∷ map text_of xs) ++ front.0) [
+            | true ↦ ap (λ texts. text_of x ∷ texts) front.1
+            | false ↦ front.1
+          ],
     )
 
 -- ---- if one ends before the other
@@ -85,7 +87,8 @@ either_ends w ss (x ∷ xs) [] left left_too same = inr ([], x ∷ xs, refl, ref
 either_ends w ss (x ∷ xs) (y ∷ ys) left left_too same =
     let next = after w (event_of x) in
     let ms = map message_of xs ++ left in
-    elim (is_kept w ss (event_of x)) as (λ b. is_kept w ss (event_of x) ≡ b → marked (b ∷ kept next ss (map spec.event_of ms)) (message_of x ∷ ms) ≡ message_of y ∷ (map message_of ys ++ left_too) → GoesAsFar w ss (x ∷ xs) (y ∷ ys) ⊎ EndsBefore w ss (x ∷ xs) (y ∷ ys)) [
+    elim (is_kept w ss (event_of x)) as (λ b. is_kept w ss (event_of x) ≡ b → marked (b ∷ kept next ss (map spec.event_of ms)) (message_of x ∷ ms) ≡ message_of y ∷ (map message_of ys ++ left_too)
+    → GoesAsFar w ss (x ∷ xs) (y ∷ ys) ⊎ EndsBefore w ss (x ∷ xs) (y ∷ ys)) [
       | true ↦ λ near is.
           let first : message_of y ≡ message_of x = cc is in
           let others : marked (kept next ss (map spec.event_of ms)) ms ≡ map message_of ys ++ left_too = cc is in

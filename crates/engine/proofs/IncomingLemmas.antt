@@ -59,7 +59,11 @@ module _
     bytes = far.bytes;
     consumed = far.consumed;
     near = far.near;
-    stands = (far.bytes ++ left_of u₁, Tells_after u₀ u₁ far.bytes (left_of u₁) far.consumed (Tells_left u₁), subst (λ (bytes : List ℕ). IsClosing bytes (Some closing)) (behind (left_of u₁)) (closes (left_of u₁)));
+    stands = (
+      far.bytes ++ left_of u₁,
+      Tells_after u₀ u₁ far.bytes (left_of u₁) far.consumed (Tells_left u₁),
+      subst (λ (bytes : List ℕ). IsClosing bytes (Some closing)) (behind (left_of u₁)) (closes (left_of u₁)),
+    );
   }
 
   -- if no read is left, the call fails with `Io::Read`

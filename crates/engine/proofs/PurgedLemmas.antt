@@ -62,7 +62,8 @@ kept_answered : (w : World) (ss : List (List ℕ)) (xs : List Exchange) → None
 kept_answered w ss [] none = tt
 kept_answered w ss (x ∷ xs) none =
     let next : World = after w (event_of x) in
-    elim (is_kept w ss (event_of x)) as (λ b. NoneUnavailable (marked (b ∷ are_kept next ss xs) (text_of x ∷ map text_of xs)) → IsAnsweredIfKept b (answer_of x) × KeptAnswered next ss (map event_of xs) (map answer_of xs)) [
+    elim (is_kept w ss (event_of x))
+    as (λ b. NoneUnavailable (marked (b ∷ are_kept next ss xs) (text_of x ∷ map text_of xs)) → IsAnsweredIfKept b (answer_of x) × KeptAnswered next ss (map event_of xs) (map answer_of xs)) [
       | true ↦ λ n. (answered x.message (answer_of x) n.0, kept_answered next ss xs n.1)
       | false ↦ λ n. (tt, kept_answered next ss xs n)
     ] none
@@ -86,7 +87,8 @@ exchanges_alike old old_too new new_too later s full purged is then agree run ag
     let marks : List Bool = are_kept old (chain later s) full in
     let events : map event_of purged ≡ marked marks (map event_of full) =
     events_are purged ∙ ap (λ ms. map spec.event_of ms) same ∙ sym (marked_events marks (map message_of full)) ∙ ap (marked marks) (sym (events_are full)) in
-    let alike = purged_runs_agree_so_far old old_too new new_too later s (map event_of full) (map answer_of full) (map answer_of purged) is then agree run (kept_answered old (chain later s) full others)
+    let alike =
+    purged_runs_agree_so_far old old_too new new_too later s (map event_of full) (map answer_of full) (map answer_of purged) is then agree run (kept_answered old (chain later s) full others)
     (subst (λ es. Run old_too es (map answer_of purged) new_too) events again) (all_replied purged none) in (
       texts_are purged
           ∙ ap (λ ms. texts_for ms (map answer_of purged)) same

@@ -65,7 +65,8 @@ pub record AreTwoCalls
 -- Two calls, one for these messages and one for the marked ones, wrote an equal text for each message and equal bytes for the
 -- end. The stores stand for worlds that agree again on these shelves.
 pub record WriteAlike
-    (new new_too : Shown) (ss : List (List ℕ)) (messages : List Request) (marks : List Bool) (end : End) (one two : List Exchange) (out out_too : List ℕ) : Type 0 where
+    (new new_too : Shown) (ss : List (List ℕ)) (messages : List Request) (marks : List Bool)
+    (end : End) (one two : List Exchange) (out out_too : List ℕ) : Type 0 where
   pub all : map message_of one ≡ messages
   pub left : map message_of two ≡ marked marks messages
   pub texts : map text_of two ≡ marked marks (map text_of one)
@@ -82,7 +83,8 @@ pub record WriteAlike
 -- commands between them may follow each other.
 abbrev pub CallsTellAlike : Shown → Shown → Shown → Shown → Type 0
 CallsTellAlike old new old_too new_too =
-    (w x later : World) (s : List ℕ) (events : List Event) (answers : List Answer) (messages : List Request) (end : End) → Run w events answers later
+    (w x later : World) (s : List ℕ) (events : List Event) (answers : List Answer) (messages : List Request) (end : End)
+    → Run w events answers later
     → (calls : AreTwoCalls old new old_too new_too w x (chain later s) messages end (Ok tt) (Ok tt))
     → let marks : List Bool = kept_for w (chain later s) messages in
     calls.full.ends.1.0 ≢ Some Unavailable → calls.purged.ends.1.0 ≢ Some Unavailable
@@ -97,7 +99,8 @@ AgreeAsFar one two = (more : List (List ℕ)) × ((one ≡ two ++ more) ⊎ (two
 -- the kept messages is the 503, those of one call begin with those of the other.
 abbrev pub CallsTellAlikeAsFar : Shown → Shown → Shown → Shown → Type 0
 CallsTellAlikeAsFar old new old_too new_too =
-    (w x later : World) (s : List ℕ) (events : List Event) (answers : List Answer) (messages : List Request) (end : End) (result result_too : Result (Unit {0}) Io)
+    (w x later : World) (s : List ℕ) (events : List Event) (answers : List Answer)
+    (messages : List Request) (end : End) (result result_too : Result (Unit {0}) Io)
     → Run w events answers later → (calls : AreTwoCalls old new old_too new_too w x (chain later s) messages end result result_too)
     → let marks : List Bool = kept_for w (chain later s) messages in
     NoneUnavailable (marked marks (map text_of calls.full.exchanges)) → NoneUnavailable (map text_of calls.purged.exchanges)

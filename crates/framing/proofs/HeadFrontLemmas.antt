@@ -1,15 +1,18 @@
 -- Where in a head bytes end, with one byte more, and that a head may begin so.
-use Rattle.std.proofs.Common.{◌≡◌, ◌≢◌, ℕ, ◌<◌, ◌≤◌, ◌||◌, ◌==◌, Bool, true, false, inl, inr, List, [], ◌∷◌, ◌++◌, length, drop, take, refl, sym, ap, ◌∙◌, subst, arith, append_assoc, append-nil, length-append, codes, Option, Some, None, IfSome}
+use Rattle.std.proofs.Common.{◌≡◌, ◌≢◌, ℕ, ◌<◌, ◌≤◌, ◌||◌, ◌==◌, Bool, true, false, inl, inr, List, [], ◌∷◌, ◌++◌, length, drop, take}
+use Rattle.std.proofs.Common.{refl, sym, ap, ◌∙◌, subst, arith, append_assoc, append-nil, length-append, codes, Option, Some, None, IfSome}
 use Rattle.std.proofs.lemmas.Grind.{flat_map-append}
 use Rattle.std.proofs.lemmas.List.{length_push, take_all, take-append-drop, take-append-le}
 use Rattle.std.proofs.lemmas.List.Elements.{All-nil, All-push}
 use Rattle.std.specs.Char.{is_ascii_alphanumeric}
 use Rattle.std.specs.List.{list_any}
-use Rattle.httparse.specs.Grammar.{RequestHead, HasNoRequest, MayBecomeRequest, LineEnd, crlf, lf, Field, AllPass, IsToken, is_token_byte, is_uri_byte, is_value_byte, print_request, print_blank, print_end, print_version, print_section}
+use Rattle.httparse.specs.Grammar.{RequestHead, HasNoRequest, MayBecomeRequest, LineEnd, crlf, lf, Field, AllPass, IsToken, is_token_byte}
+use Rattle.httparse.specs.Grammar.{is_uri_byte, is_value_byte, print_request, print_blank, print_end, print_version, print_section}
 use Rattle.httparse.specs.Pieces.{Completes, Stops, is_newline, FieldLine}
 use Rattle.httparse.proofs.GrammarLemmas.{print_request-append, cons-append}
 use Rattle.httparse.proofs.PieceLemmas.{RequestStart_deterministic, FieldLines-append, Stops_token, print_end_unique, newline_not_stopped}
-use Rattle.httparse.proofs.OpenLemmas.{BlankLines_after, Newline_after_cr, some_newline, some_section, some_text, Word_cut, letter_is_token, line_blank, line_method, request_may, request_may_from_line, Completes_first, Completes_next, Section_after_lines, Section_of_line, FieldLine_of_row}
+use Rattle.httparse.proofs.OpenLemmas.{BlankLines_after, Newline_after_cr, some_newline, some_section, some_text, Word_cut, letter_is_token, line_blank, line_method}
+use Rattle.httparse.proofs.OpenLemmas.{request_may, request_may_from_line, Completes_first, Completes_next, Section_after_lines, Section_of_line, FieldLine_of_row}
 use Rattle.framing.specs.Framing.{MayBeginHead}
 use Rattle.framing.specs.HeadFront.{HasLines, EndsIn, Stands, WasLookedAt, HasLooked, EndsLine}
 use Rattle.framing.specs.declared.head_front.Looked.{Looked}

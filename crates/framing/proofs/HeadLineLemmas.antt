@@ -1,12 +1,14 @@
 -- Bytes that may become a head: up to the end of a line they are empty lines, or a request line and headers.
 use Prim.Native.Nat.{zero, suc}
-use Rattle.std.proofs.Common.{◌≡◌, ◌≢◌, ℕ, ◌+◌, ◌<◌, ◌≤◌, ◌⊎◌, ◌==◌, not, Bool, true, false, inl, inr, List, [], ◌∷◌, ◌++◌, length, drop, take, get_or, refl, sym, ap, ◌∙◌, subst, arith, append_assoc, append-nil, All}
+use Rattle.std.proofs.Common.{◌≡◌, ◌≢◌, ℕ, ◌+◌, ◌<◌, ◌≤◌, ◌⊎◌, ◌==◌, not, Bool, true, false, inl, inr, List, [], ◌∷◌, ◌++◌}
+use Rattle.std.proofs.Common.{length, drop, take, get_or, refl, sym, ap, ◌∙◌, subst, arith, append_assoc, append-nil, All}
 use Rattle.std.specs.List.{list_all, flat_map}
 use Rattle.std.proofs.lemmas.Bool.{and_parts, and_from, eqb-true}
 use Rattle.std.proofs.lemmas.List.{take_more}
 use Rattle.std.proofs.lemmas.List.Folds.{list_all-append}
 use Rattle.std.proofs.lemmas.List.Elements.{All-nil, All-head, All-tail, All-cons}
-use Rattle.httparse.specs.Grammar.{RequestHead, IsRequestHead, HasNoRequest, MayBecomeRequest, LineEnd, crlf, lf, Field, IsField, AllPass, is_token_byte, is_uri_byte, is_value_byte, print_request, print_blank, print_end, print_version, print_section, print_field}
+use Rattle.httparse.specs.Grammar.{RequestHead, IsRequestHead, HasNoRequest, MayBecomeRequest, LineEnd, crlf, lf, Field, IsField, AllPass, is_token_byte}
+use Rattle.httparse.specs.Grammar.{is_uri_byte, is_value_byte, print_request, print_blank, print_end, print_version, print_section, print_field}
 use Rattle.httparse.specs.Pieces.{Stops, is_newline, RequestStart, FieldLines}
 use Rattle.httparse.proofs.GrammarLemmas.{print_request-append, cons-append, ReadsRequest-append}
 use Rattle.httparse.proofs.PieceLemmas.{Stops_token, front-append}
@@ -272,7 +274,8 @@ stops_not (b ∷ q) stops all = cc (stops, (and_parts (is_newline b) (list_all i
 pub newlines_blank : (front : List ℕ) → list_all is_newline front ≡ true → BlankOrLines front → EndsIn state.Blank front
 newlines_blank front all (inl blank) = blank
 newlines_blank front all (inr ((s, fs), (middle, (q, (e, stops), start), lines))) =
-    absurd (stops_not q stops (and_parts (list_all is_newline (print_blank s.0)) (list_all is_newline q) (sym (list_all-append is_newline (print_blank s.0) q) ∙ ap (list_all is_newline) (sym e) ∙ all)).1)
+    absurd
+    (stops_not q stops (and_parts (list_all is_newline (print_blank s.0)) (list_all is_newline q) (sym (list_all-append is_newline (print_blank s.0) q) ∙ ap (list_all is_newline) (sym e) ∙ all)).1)
 
 pub others_lines : (front : List ℕ) → list_all is_newline front ≡ false → BlankOrLines front → EndsIn state.Line front
 others_lines front some (inl (ends, e)) = absurd (cc (ap (list_all is_newline) e ∙ blank_newlines ends, some))

@@ -1,5 +1,6 @@
 -- What the framer says of the bytes that it holds.
-use Rattle.std.specs.Prelude.{◌≡◌, ◌≢◌, [], ℕ, ◌≤◌, ◌<◌, ◌+◌, ◌⊎◌, List, ◌++◌, length, drop, map, Option, Some, None, Result, MatchResult, ⊤}
+use Rattle.std.specs.Prelude.{◌≡◌, ◌≢◌, [], ℕ, ◌≤◌, ◌<◌, ◌+◌, ◌⊎◌, List, ◌++◌, length}
+use Rattle.std.specs.Prelude.{drop, map, Option, Some, None, Result, MatchResult, ⊤}
 use Rattle.std.specs.List.{slice_range}
 use Rattle.std.specs.Prelude.{Vec}
 use Rattle.std.specs.declared.alloc.Global.{Global}

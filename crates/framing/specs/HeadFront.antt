@@ -10,7 +10,8 @@ use Rattle.framing.specs.declared.head_front.Looked.{Looked}
 
 -- the bytes are empty lines, a request line, some headers, and then rest
 abbrev pub HasLines : List ℕ → List ℕ → Type 0
-HasLines bytes rest = (lines : (List LineEnd × (List ℕ × (List ℕ × (ℕ × LineEnd)))) × List Field) × Then RequestStart FieldLines lines bytes rest
+HasLines bytes rest =
+    (lines : (List LineEnd × (List ℕ × (List ℕ × (ℕ × LineEnd)))) × List Field) × Then RequestStart FieldLines lines bytes rest
 
 -- the bytes end there in a head
 abbrev pub EndsIn : HeadState → List ℕ → Type 0

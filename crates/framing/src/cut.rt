@@ -40,7 +40,8 @@ pub(crate) fn bodiless_of(
     requires head { IsHeadAt bytes.now headers.now head }
     requires whole { head.spans.len + head.body ≤ length bytes.now }
     ensures { IfOk result (λ message.
-        ReadsMessage bytes.now (with_body (slice_range bytes.now head.spans.len (head.spans.len + head.body)) (view message))
+        ReadsMessage bytes.now
+        (with_body (slice_range bytes.now head.spans.len (head.spans.len + head.body)) (view message))
         (drop (head.spans.len + head.body) bytes.now)) }
 {
     let spans = head.spans;

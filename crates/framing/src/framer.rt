@@ -1,5 +1,6 @@
 //! The framer, which splits bytes that come in any pieces into messages.
-ghost use Rattle.std.specs.Prelude.{◌≡◌, ℕ, ◌+◌, ◌≤◌, ◌<◌, List, [], ◌++◌, length, drop, vec_len, None, IfOk, OnOk, OnErr, IfSome, IsTrue, ◌↔◌};
+ghost use Rattle.std.specs.Prelude.{◌≡◌, ℕ, ◌+◌, ◌≤◌, ◌<◌, List, [], ◌++◌, length, drop};
+ghost use Rattle.std.specs.Prelude.{vec_len, None, IfOk, OnOk, OnErr, IfSome, IsTrue, ◌↔◌};
 ghost use Rattle.framing.specs.Framing.{Answers, IsBad, IsUnfinished, HasMessage, GivesBody, TakesOff};
 
 use crate::cut::bodiless_of;

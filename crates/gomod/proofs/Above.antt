@@ -1,5 +1,6 @@
 -- The lines above a line: what is computed of them is what their directives are and mean.
-use Rattle.std.proofs.Common.{◌≡◌, ℕ, suc, zero, ◌+◌, Bool, true, false, ◌&&◌, cond, List, [], ◌∷◌, ◌++◌, map, length, refl, ap, sym, ◌∙◌, subst, arith, append_assoc, append-nil, Option, Some, None, Ok, Err, ◌⊎◌, inl, inr, ⊎_elim}
+use Rattle.std.proofs.Common.{◌≡◌, ℕ, suc, zero, ◌+◌, Bool, true, false, ◌&&◌, cond, List, [], ◌∷◌, ◌++◌, map, length, refl, ap}
+use Rattle.std.proofs.Common.{sym, ◌∙◌, subst, arith, append_assoc, append-nil, Option, Some, None, Ok, Err, ◌⊎◌, inl, inr, ⊎_elim}
 use Rattle.std.specs.List.{flat_map, list_all}
 use Rattle.std.proofs.lemmas.Bool.{cases_Bool, or_parts}
 use Rattle.gomod.specs.declared.keyword.Keyword.{Keyword}
@@ -38,7 +39,8 @@ entries_under-append k (i ∷ is) js =
     ap (λ l. cond (is_keyword k i.keyword) (i.entry ∷ l) l) (entries_under-append k is js)
     ∙ cond-join (is_keyword k i.keyword) i.entry (entries_under k is) (entries_under k js)
 
-paths_join : (xs ys : List Row) (p q : Option (List ℕ)) → (xs ≡ []) ⊎ (ys ≡ []) → Pointwise (λ e x. IsModuleEntry e.symbols x) xs (path_list p) → Pointwise (λ e x. IsModuleEntry e.symbols x) ys (path_list q) → Pointwise (λ e x. IsModuleEntry e.symbols x) (xs ++ ys) (path_list (last_path p q))
+paths_join : (xs ys : List Row) (p q : Option (List ℕ)) → (xs ≡ []) ⊎ (ys ≡ []) → Pointwise (λ e x. IsModuleEntry e.symbols x) xs (path_list p)
+    → Pointwise (λ e x. IsModuleEntry e.symbols x) ys (path_list q) → Pointwise (λ e x. IsModuleEntry e.symbols x) (xs ++ ys) (path_list (last_path p q))
 paths_join [] ys None None once h k = k
 paths_join [] ys None (Some y) once h k = k
 paths_join (x ∷ xs) ys None q once h k = absurd h
@@ -50,9 +52,12 @@ paths_join (x ∷ xs) (y ∷ ys) (Some p) (Some q) once h k = ⊎_elim (λ none.
 
 meant_join : (is js : List Item) (p q : Parts) → (entries_under Module is ≡ []) ⊎ (entries_under Module js ≡ []) → AreMeant is p → AreMeant js q → AreMeant (is ++ js) (p ⊕ q)
 meant_join is js p q once h k = record {
-  paths = subst (λ l. Pointwise (λ e x. IsModuleEntry e.symbols x) l (path_list (last_path p.module_path q.module_path))) (sym (entries_under-append Module is js)) (paths_join (entries_under Module is) (entries_under Module js) p.module_path q.module_path once h.paths k.paths);
-  required = subst (λ l. Pointwise (λ e r. IsPair e.symbols r) l (p.required ++ q.required)) (sym (entries_under-append Require is js)) (pointwise-append (λ e r. IsPair e.symbols r) (entries_under Require is) p.required (entries_under Require js) q.required h.required k.required);
-  retractions = subst (λ l. Pointwise IsPlaced l (p.retractions ++ q.retractions)) (sym (entries_under-append Retract is js)) (pointwise-append IsPlaced (entries_under Retract is) p.retractions (entries_under Retract js) q.retractions h.retractions k.retractions);
+  paths = subst (λ l. Pointwise (λ e x. IsModuleEntry e.symbols x) l (path_list (last_path p.module_path q.module_path)))
+      (sym (entries_under-append Module is js)) (paths_join (entries_under Module is) (entries_under Module js) p.module_path q.module_path once h.paths k.paths);
+  required = subst (λ l. Pointwise (λ e r. IsPair e.symbols r) l (p.required ++ q.required)) (sym (entries_under-append Require is js))
+      (pointwise-append (λ e r. IsPair e.symbols r) (entries_under Require is) p.required (entries_under Require js) q.required h.required k.required);
+  retractions = subst (λ l. Pointwise IsPlaced l (p.retractions ++ q.retractions)) (sym (entries_under-append Retract is js))
+      (pointwise-append IsPlaced (entries_under Retract is) p.retractions (entries_under Retract js) q.retractions h.retractions k.retractions);
 }
 
 other_entries : (j k : Keyword) (es : List Row) → is_keyword j k ≡ false → entries_under j (map (item k) es) ≡ []
@@ -73,7 +78,8 @@ none_entries j (d ∷ ds) h =
     ∙ none_entries j ds parts.1
 
 -- of the entries so far and those that a move adds, at most one part has an entry of module
-module_once : {known : Keywords} {ds es : List Directive} {o p : Option OpenBlock} {r : Row} (m : Move known ds o r es p) → IsAlone ds o → (entries_under Module (items ds o) ≡ []) ⊎ (entries_under Module (items_more m) ≡ [])
+module_once : {known : Keywords} {ds es : List Directive} {o p : Option OpenBlock} {r : Row} (m : Move known ds o r es p)
+    → IsAlone ds o → (entries_under Module (items ds o) ≡ []) ⊎ (entries_under Module (items_more m) ≡ [])
 module_once (blank ds o line) alone = inr refl
 module_once (single ds line k ts a fresh s) alone =
     ⊎_elim
@@ -123,7 +129,9 @@ list_all-join p (x ∷ xs) ys = and_assoc (p x) (list_all p xs) (list_all p ys) 
     and_assoc false b c = refl
 
 -- a line more
-pub above_move : {known : Keywords} {ls : List (List ℕ)} {ds es : List Directive} {o q : Option OpenBlock} {p : Parts} (l : List ℕ) (ts : List Lexeme) (m : Move known ds o (row (length ls + 1) (map symbol_of ts)) es q) (s : Says known (length ls + 1) (context_at ds o) (context_at es q) (map symbol_of ts) (items_more m) (keywords_more m)) → Above known ls ds o p → AreTokens (length ls + 1) (place_behind 0 ls) l ts → Above known (ls ++ l ∷ []) es q (p ⊕ s.said)
+pub above_move : {known : Keywords} {ls : List (List ℕ)} {ds es : List Directive} {o q : Option OpenBlock} {p : Parts} (l : List ℕ) (ts : List Lexeme)
+    (m : Move known ds o (row (length ls + 1) (map symbol_of ts)) es q) (s : Says known (length ls + 1) (context_at ds o) (context_at es q) (map symbol_of ts) (items_more m) (keywords_more m))
+    → Above known ls ds o p → AreTokens (length ls + 1) (place_behind 0 ls) l ts → Above known (ls ++ l ∷ []) es q (p ⊕ s.said)
 above_move {known = known} {ls = ls} {ds = ds} {es = es} {o = o} {q = q} {p = p} l ts m s a are =
     let number : length ls + 1 ≡ 1 + length ls = omega arith in
     let alone = written-alone known (rows_of_tokens a.read.tokens) ds o a.read.grammar in
@@ -131,10 +139,12 @@ above_move {known = known} {ls = ls} {ds = ds} {es = es} {o = o} {q = q} {p = p}
       read = record {
         tokens = a.read.tokens ++ ts ∷ [];
         lexemes = tokens_of-append 1 0 ls a.read.tokens l ts a.read.lexemes (subst (λ n. AreTokens n (place_behind 0 ls) l ts) number are);
-        grammar = subst (λ rows. AreWritten known rows es q) (sym (rows_of-append (length ls) a.read.tokens ts (tokens_of-length 1 0 ls a.read.tokens a.read.lexemes))) (written-move (rows_of_tokens a.read.tokens) m a.read.grammar);
+        grammar = subst (λ rows. AreWritten known rows es q) (sym (rows_of-append (length ls) a.read.tokens ts (tokens_of-length 1 0 ls a.read.tokens a.read.lexemes)))
+            (written-move (rows_of_tokens a.read.tokens) m a.read.grammar);
       };
       meant = subst (λ is. AreMeant is (p ⊕ s.said)) (sym (items-move m)) (meant_join (items ds o) (items_more m) p s.said (module_once m alone) a.meant s.meant);
-      bare = ap (λ b. b && s.said.bare) a.bare ∙ ap (λ b. list_all is_module (keywords_in ds o) && b) s.bare ∙ list_all-join is_module (keywords_in ds o) (keywords_more m) ∙ ap (list_all is_module) (sym (keywords_in-move m));
+      bare = ap (λ b. b && s.said.bare) a.bare ∙ ap (λ b. list_all is_module (keywords_in ds o) && b) s.bare
+          ∙ list_all-join is_module (keywords_in ds o) (keywords_more m) ∙ ap (list_all is_module) (sym (keywords_in-move m));
     }
 
 -- the lines above the next line, and what is computed of them
@@ -145,7 +155,8 @@ pub record Next (known : Keywords) (ls : List (List ℕ)) (c : Context) (p : Par
   pub context : c ≡ context_at directives opened
 
 -- a line that is read after lines that are read leaves lines that are read, with what it says added
-pub above_line : {known : Keywords} {ls : List (List ℕ)} {ds : List Directive} {o : Option OpenBlock} {p : Parts} (l : List ℕ) (x : Context × Parts) → Above known ls ds o p → bytes_say known (length ls + 1) (context_at ds o) l ≡ Ok x → Next known (ls ++ l ∷ []) x.0 (p ⊕ x.1)
+pub above_line : {known : Keywords} {ls : List (List ℕ)} {ds : List Directive} {o : Option OpenBlock} {p : Parts} (l : List ℕ) (x : Context × Parts)
+    → Above known ls ds o p → bytes_say known (length ls + 1) (context_at ds o) l ≡ Ok x → Next known (ls ++ l ∷ []) x.0 (p ⊕ x.1)
 above_line {known = known} {ls = ls} {ds = ds} {o = o} {p = p} l x a h =
     let b = bytes_ok known (length ls + 1) (place_behind 0 ls) (context_at ds o) l x h in
     let alone = written-alone known (rows_of_tokens a.read.tokens) ds o a.read.grammar in
@@ -162,7 +173,8 @@ above_line {known = known} {ls = ls} {ds = ds} {o = o} {p = p} l x a h =
 -- ---- all lines
 
 -- lines that are read after lines that are read leave lines that are read, with what they say added
-pub above_lines : (known : Keywords) (ms ls : List (List ℕ)) (ds : List Directive) (o : Option OpenBlock) (p : Parts) (x : Context × Parts) → Above known ls ds o p → lines_say known (length ls + 1) (context_at ds o) ms ≡ Ok x → Next known (ls ++ ms) x.0 (p ⊕ x.1)
+pub above_lines : (known : Keywords) (ms ls : List (List ℕ)) (ds : List Directive) (o : Option OpenBlock) (p : Parts) (x : Context × Parts)
+    → Above known ls ds o p → lines_say known (length ls + 1) (context_at ds o) ms ≡ Ok x → Next known (ls ++ ms) x.0 (p ⊕ x.1)
 above_lines known [] ls ds o p x a h =
     let same : ◌≡◌ {A = Context × Parts} (context_at ds o, nothing) x = ok_same _ x h in
     subst (λ (y : Context × Parts). Next known (ls ++ []) y.0 (p ⊕ y.1)) same
@@ -186,7 +198,8 @@ above_lines known (l ∷ ms) ls ds o p x a h =
     (subst (Next known ((ls ++ l ∷ []) ++ ms) c.0.0) (sym (join_assoc p b.0.1 c.0.1)) more))
 
 -- the first line with a fault
-pub above_fault : (known : Keywords) (ms ls : List (List ℕ)) (ds : List Directive) (o : Option OpenBlock) (p : Parts) (f : GoModFault) → Above known ls ds o p → lines_say known (length ls + 1) (context_at ds o) ms ≡ Err f → HasFirstFault known (ls ++ ms) f
+pub above_fault : (known : Keywords) (ms ls : List (List ℕ)) (ds : List Directive) (o : Option OpenBlock) (p : Parts) (f : GoModFault)
+    → Above known ls ds o p → lines_say known (length ls + 1) (context_at ds o) ms ≡ Err f → HasFirstFault known (ls ++ ms) f
 above_fault known [] ls ds o p f a h = cc
 above_fault known (l ∷ ms) ls ds o p f a h =
     ⊎_elim
@@ -230,7 +243,8 @@ empty_rows known [] ds o h w = nothing_above known ds o w.spelled
 empty_rows known (ts ∷ tss) ds o h w = absurd h
 
 -- one line more
-computed_line : (known : Keywords) (ls : List (List ℕ)) (l : List ℕ) (ds : List Directive) (o : Option OpenBlock) → ((es : List Directive) (q : Option OpenBlock) → AreRead known ls es q → Computed known ls es q) → AreRead known (ls ++ l ∷ []) ds o → Computed known (ls ++ l ∷ []) ds o
+computed_line : (known : Keywords) (ls : List (List ℕ)) (l : List ℕ) (ds : List Directive) (o : Option OpenBlock)
+    → ((es : List Directive) (q : Option OpenBlock) → AreRead known ls es q → Computed known ls es q) → AreRead known (ls ++ l ∷ []) ds o → Computed known (ls ++ l ∷ []) ds o
 computed_line known ls l ds o before r =
     let t = tokens_of-last 1 0 ls l r.tokens r.lexemes in
     let rows : rows_of_tokens r.tokens ≡ rows_of_tokens t.front ++ row (length ls + 1) (map symbol_of t.last) ∷ [] =

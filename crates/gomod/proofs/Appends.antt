@@ -38,7 +38,8 @@ pub joined-joined : (r : Said) (f g : Context → Said) → joined r (λ c. join
 joined-joined (Ok x) f g = with_joined x.1 (f x.0) g
 joined-joined (Err e) f g = refl
 
-pub lines_say-append : (known : Keywords) (line : ℕ) (c : Context) (ls ms : List (List ℕ)) → lines_say known line c (ls ++ ms) ≡ joined (lines_say known line c ls) (λ d. lines_say known (line + length ls) d ms)
+pub lines_say-append : (known : Keywords) (line : ℕ) (c : Context) (ls ms : List (List ℕ))
+    → lines_say known line c (ls ++ ms) ≡ joined (lines_say known line c ls) (λ d. lines_say known (line + length ls) d ms)
 lines_say-append known line c [] ms =
     let here : line ≡ line + 0 = omega arith in
     ap (λ n. lines_say known n c ms) here ∙ with_nothing (lines_say known (line + 0) c ms)
@@ -53,7 +54,8 @@ abbrev pub place_behind : ℕ → List (List ℕ) → ℕ
 place_behind at [] = at
 place_behind at (l ∷ ls) = place_behind (at + length l + 1) ls
 
-pub tokens_of-append : (line at : ℕ) (ls : List (List ℕ)) (tss : List (List Lexeme)) (l : List ℕ) (ts : List Lexeme) → AreTokensOf line at ls tss → AreTokens (line + length ls) (place_behind at ls) l ts → AreTokensOf line at (ls ++ l ∷ []) (tss ++ ts ∷ [])
+pub tokens_of-append : (line at : ℕ) (ls : List (List ℕ)) (tss : List (List Lexeme)) (l : List ℕ) (ts : List Lexeme)
+    → AreTokensOf line at ls tss → AreTokens (line + length ls) (place_behind at ls) l ts → AreTokensOf line at (ls ++ l ∷ []) (tss ++ ts ∷ [])
 tokens_of-append line at [] [] l ts h k = let here : line + 0 ≡ line = omega arith in (subst (λ n. AreTokens n at l ts) here k, tt)
 tokens_of-append line at [] (t ∷ tss) l ts h k = absurd h
 tokens_of-append line at (m ∷ ls) [] l ts h k = absurd h

@@ -130,7 +130,8 @@ context-single ds k d is = λ i. record {
 }
 
 -- a block begins
-pub context-begins : (ds : List Directive) (k : Keyword) (line : ℕ) → ◌≡◌ {A = Context} (record { block = Some k; has_module = stands Module ds; stood = stood_in ds }) (context_at ds (Some (record { keyword = k; first = line; entries = [] })))
+pub context-begins : (ds : List Directive) (k : Keyword) (line : ℕ)
+    → ◌≡◌ {A = Context} (record { block = Some k; has_module = stands Module ds; stood = stood_in ds }) (context_at ds (Some (record { keyword = k; first = line; entries = [] })))
 context-begins ds k line = λ i. record {
   block = Some k;
   has_module = (sym (or_none (stands Module ds)) ∙ ap (λ b. stands Module ds || b) (sym (and_none (is_module k)))) i;
@@ -151,7 +152,8 @@ absorbs false false x = refl
 pub context-inside : (ds : List Directive) (b : OpenBlock) (r : Row) → has_block b.keyword ≡ true → with_entry (context_at ds (Some b)) b.keyword ≡ context_at ds (Some (with_row b r))
 context-inside ds b r h = λ i. record {
   block = Some b.keyword;
-  has_module = (absorbs (stands Module ds) (is_module b.keyword) (has_entry b.entries) ∙ ap (λ x. stands Module ds || x) (sym (and_one (is_module b.keyword)) ∙ ap (λ x. is_module b.keyword && x) (sym (some_entry b.entries r)))) i;
+  has_module = (absorbs (stands Module ds) (is_module b.keyword) (has_entry b.entries)
+      ∙ ap (λ x. stands Module ds || x) (sym (and_one (is_module b.keyword)) ∙ ap (λ x. is_module b.keyword && x) (sym (some_entry b.entries r)))) i;
   stood = stood_same (stood_in ds) b.keyword h i;
 }
 
@@ -161,7 +163,8 @@ filled_entry true (r ∷ rs) h = refl
 filled_entry false rs h = refl
 
 -- a block ends
-pub context-closes : (ds : List Directive) (b : OpenBlock) (line : ℕ) → has_block b.keyword ≡ true → IsFilled b → ◌≡◌ {A = Context} (record { block = None; has_module = (context_at ds (Some b)).has_module; stood = stood_in ds }) (context_at (ds ++ closed b line ∷ []) None)
+pub context-closes : (ds : List Directive) (b : OpenBlock) (line : ℕ) → has_block b.keyword ≡ true → IsFilled b
+    → ◌≡◌ {A = Context} (record { block = None; has_module = (context_at ds (Some b)).has_module; stood = stood_in ds }) (context_at (ds ++ closed b line ∷ []) None)
 context-closes ds b line h filled = λ i. record {
   block = None;
   has_module = (ap (λ x. stands Module ds || x) (filled_entry (is_module b.keyword) b.entries filled ∙ sym (module_same b.keyword)) ∙ sym (stands-more Module ds (closed b line))) i;
@@ -219,7 +222,8 @@ filled-context ds b alone filled = by_module (is_module b.keyword) refl
     by_module false is = refl
 
 pub context-filled : (ds : List Directive) (b : OpenBlock) → IsAlone ds (Some b) → (is_module b.keyword && not (context_at ds (Some b)).has_module) ≡ false → IsFilled b
-context-filled ds b alone h is = any_entry b.entries (sym (module_entry_is ds b alone is) ∙ not_not (context_at ds (Some b)).has_module (ap (λ m. m && not (context_at ds (Some b)).has_module) (sym is) ∙ h))
+context-filled ds b alone h is =
+    any_entry b.entries (sym (module_entry_is ds b alone is) ∙ not_not (context_at ds (Some b)).has_module (ap (λ m. m && not (context_at ds (Some b)).has_module) (sym is) ∙ h))
   where
     not_not : (x : Bool) → not x ≡ false → x ≡ true
     not_not true e = refl

@@ -10,7 +10,8 @@ use Rattle.gomod.specs.Paths.{Version, is_path, is_loose_path, version_of, fits_
 use Rattle.gomod.specs.GoVersion.{is_go_version, is_file_path}
 use Rattle.modlex.specs.Symbols.{Symbol}
 use Rattle.modlex.specs.Words.{value_of}
-use Rattle.gomod.specs.Reading.{◌>>=◌, version_found, path_word, version_word, fitting_word, pair, old_path, old_version, new_file, new_version, module_entry, go_entry, word_entry, pair_entry, replace_entry, replace_three, replace_four, replace_five, interval, retract_entry, entry}
+use Rattle.gomod.specs.Reading.{◌>>=◌, version_found, path_word, version_word, fitting_word, pair, old_path, old_version, new_file, new_version, module_entry}
+use Rattle.gomod.specs.Reading.{go_entry, word_entry, pair_entry, replace_entry, replace_three, replace_four, replace_five, interval, retract_entry, entry}
 use Rattle.gomod.specs.Entries.{Demand, fault_of, old_demands, old_version_demands, new_file_demands, new_version_demands}
 use Rattle.gomod.specs.Entries as asks
 use Rattle.gomod.proofs.Demands.{meets, fits_some, not_above, check, outcome}
@@ -26,7 +27,8 @@ abbrev and_then : Result (Unit {0}) GoModFault → Result (Unit {0}) GoModFault 
 and_then (Ok u) next = next
 and_then (Err e) next = Err e
 
-pub success-chain : {A B : Type 0} (r : Result A GoModFault) (f : A → Result B GoModFault) (next : Result (Unit {0}) GoModFault) → ((x : A) → success (f x) ≡ next) → success (r >>= f) ≡ and_then (success r) next
+pub success-chain : {A B : Type 0} (r : Result A GoModFault) (f : A → Result B GoModFault) (next : Result (Unit {0}) GoModFault)
+    → ((x : A) → success (f x) ≡ next) → success (r >>= f) ≡ and_then (success r) next
 success-chain (Ok x) f next h = h x
 success-chain (Err e) f next h = refl
 
@@ -66,12 +68,14 @@ unfolding old_path
 old_path_success line p = success-keeps (path_word line is_loose_path p) (λ x. tt) ∙ success-cond (is_loose_path (value_of p)) _ _
 
 -- a path and a version that fits it
-pair_any : (line : ℕ) (path : List ℕ) (b : Bool) (o : Option Version) → success (cond b (Ok path) (Err (faults.Path line)) >>= (λ p. version_found line o >>= (λ v. cond (fits_path p v) (Ok v) (Err (faults.Version line))))) ≡ cond b (cond (fits_some path o) (Ok tt) (Err (faults.Version line))) (Err (faults.Path line))
+pair_any : (line : ℕ) (path : List ℕ) (b : Bool) (o : Option Version) → success (cond b (Ok path) (Err (faults.Path line))
+    >>= (λ p. version_found line o >>= (λ v. cond (fits_path p v) (Ok v) (Err (faults.Version line))))) ≡ cond b (cond (fits_some path o) (Ok tt) (Err (faults.Version line))) (Err (faults.Path line))
 pair_any line path false o = refl
 pair_any line path true None = refl
 pair_any line path true (Some v) = success-cond (fits_path path v) _ _
 
-pair_success : (line : ℕ) (passes : List ℕ → Bool) (p v : Symbol) → success (path_word line passes p >>= (λ path. fitting_word line path v)) ≡ cond (passes (value_of p)) (check line (asks.fitting_version (value_of p) (value_of v) ∷ [])) (Err (faults.Path line))
+pair_success : (line : ℕ) (passes : List ℕ → Bool) (p v : Symbol)
+    → success (path_word line passes p >>= (λ path. fitting_word line path v)) ≡ cond (passes (value_of p)) (check line (asks.fitting_version (value_of p) (value_of v) ∷ [])) (Err (faults.Path line))
 unfolding fitting_word
 pair_success line passes p v = pair_any line (value_of p) (passes (value_of p)) (version_of (value_of v))
 
@@ -103,7 +107,9 @@ turned : {A : Type 0} (b : Bool) (x : A) (e : GoModFault) → success (cond b (E
 turned true x e = refl
 turned false x e = refl
 
-interval_any : (line : ℕ) (o p : Option Version) → success {A = Retraction} (version_found line o >>= (λ low. version_found line p >>= (λ high. cond (is_below high low) (Err (faults.Interval line)) (Ok (record { line = line; versions = record { low = low; high = high } }))))) ≡ cond (is_some o) (cond (is_some p) (cond (not_above o p) (Ok tt) (Err (faults.Interval line))) (Err (faults.Version line))) (Err (faults.Version line))
+interval_any : (line : ℕ) (o p : Option Version) → success {A = Retraction} (version_found line o
+    >>= (λ low. version_found line p >>= (λ high. cond (is_below high low) (Err (faults.Interval line)) (Ok (record { line = line; versions = record { low = low; high = high } })))))
+    ≡ cond (is_some o) (cond (is_some p) (cond (not_above o p) (Ok tt) (Err (faults.Interval line))) (Err (faults.Version line))) (Err (faults.Version line))
 interval_any line None p = refl
 interval_any line (Some x) None = refl
 interval_any line (Some x) (Some y) = turned (is_below y x) _ _
@@ -118,7 +124,8 @@ interval_success line v w = interval_any line (version_of (value_of v)) (version
 two_steps : (line : ℕ) (r s : Result (Unit {0}) GoModFault) (ds es : List Demand) → success r ≡ check line ds → success s ≡ check line es → success (r >>= (λ o. s)) ≡ check line (ds ++ es)
 two_steps line r s ds es hr hs = success-chain r (λ o. s) (check line es) (λ o. hs) ∙ ap (λ x. and_then x (check line es)) hr ∙ sym (check-append line ds es)
 
-replace_four_by : (line : ℕ) (b c : Bool) (r s : Result (Unit {0}) GoModFault) (ds es : List Demand) → success r ≡ check line ds → success s ≡ check line es → success (cond b r (cond c s (Err (faults.Grammar line)))) ≡ outcome line (cond b (Some ds) (when c es))
+replace_four_by : (line : ℕ) (b c : Bool) (r s : Result (Unit {0}) GoModFault) (ds es : List Demand) → success r ≡ check line ds
+    → success s ≡ check line es → success (cond b r (cond c s (Err (faults.Grammar line)))) ≡ outcome line (cond b (Some ds) (when c es))
 replace_four_by line true c r s ds es hr hs = hr
 replace_four_by line false c r s ds es hr hs = outcome_when line c s es hs
 
@@ -132,7 +139,8 @@ replace_success line (p ∷ a ∷ q ∷ w ∷ []) =
     (two_steps line (old_path line p) (new_version line q w) (old_demands p) (new_version_demands q w) (old_path_success line p) (new_version_success line q w))
     (two_steps line (old_version line p a) (new_file line w) (old_version_demands p a) (new_file_demands w) (old_version_success line p a) (new_file_success line w))
 replace_success line (p ∷ v ∷ a ∷ q ∷ w ∷ []) =
-    outcome_when line _ _ _ (two_steps line (old_version line p v) (new_version line q w) (old_version_demands p v) (new_version_demands q w) (old_version_success line p v) (new_version_success line q w))
+    outcome_when line _ _ _
+    (two_steps line (old_version line p v) (new_version line q w) (old_version_demands p v) (new_version_demands q w) (old_version_success line p v) (new_version_success line q w))
 replace_success line _ = refl
 
 pair_entry_success : (line : ℕ) (ts : List Symbol) → success (pair_entry line ts) ≡ outcome line (demands_of Require ts)

@@ -8,7 +8,8 @@ use Rattle.gomod.specs.declared.entries.Retraction.{Retraction}
 use Rattle.gomod.specs.Paths.{Version, is_path, is_loose_path, version_of, fits_path, is_below}
 use Rattle.modlex.specs.Symbols.{Symbol, is_word}
 use Rattle.modlex.specs.Words.{value_of}
-use Rattle.gomod.specs.Reading.{interval_of, Parts, nothing, ◌>>=◌, version_found, path_word, version_word, fitting_word, pair, module_entry, go_entry, word_entry, pair_entry, replace_entry, interval, retract_entry, are_interval_kinds, entry}
+use Rattle.gomod.specs.Reading.{interval_of, Parts, nothing, ◌>>=◌, version_found, path_word, version_word, fitting_word, pair, module_entry}
+use Rattle.gomod.specs.Reading.{go_entry, word_entry, pair_entry, replace_entry, interval, retract_entry, are_interval_kinds, entry}
 use Rattle.gomod.specs.Entries.{IsModuleEntry, IsPair, IsSpan}
 use Rattle.gomod.specs.Grammar.{Row, row, Item, item, entries_under}
 use Rattle.gomod.specs.Reads.{Pointwise}
@@ -69,7 +70,8 @@ pair_entry_means line _ r h = cc
 interval_means : (line : ℕ) (l v c w r : Symbol) (i : Retraction) → interval line v w ≡ Ok i → IsPlaced (row line (l ∷ v ∷ c ∷ w ∷ r ∷ [])) i
 unfolding interval
 interval_means line l v c w r i h =
-    let a = bound (version_word line v) (λ low. version_word line w >>= (λ high. cond (is_below high low) (Err (faults.Interval line)) (Ok (record { line = line; versions = record { low = low; high = high } })))) i h in
+    let a = bound (version_word line v)
+    (λ low. version_word line w >>= (λ high. cond (is_below high low) (Err (faults.Interval line)) (Ok (record { line = line; versions = record { low = low; high = high } })))) i h in
     let b = bound (version_word line w) (λ high. cond (is_below high a.0) (Err (faults.Interval line)) (Ok (record { line = line; versions = record { low = a.0; high = high } }))) i a.2 in
     ⊎_elim
     (λ x. (let e = x.1 in cc))

@@ -10,7 +10,8 @@ use Rattle.gomod.specs.declared.fault.GoModFault.TheVariants as faults
 use Rattle.modlex.specs.Symbols.{Symbol, is_word_kind}
 use Rattle.gomod.specs.Keywords.{opens_block_kind, closes_block_kind, Keywords, keyword_named, spelling}
 use Rattle.gomod.specs.Reading.{Parts, entry, is_opening, is_closing}
-use Rattle.gomod.specs.Entries.{Demand, HasShape, IsRight, FailsFirst, fault_of, module_shape, word_shape, go_shape, require_shape, exclude_shape, path_by_file, path_by_version, version_by_file, version_by_version, retract_version, retract_interval}
+use Rattle.gomod.specs.Entries.{Demand, HasShape, IsRight, FailsFirst, fault_of, module_shape, word_shape, go_shape, require_shape, exclude_shape}
+use Rattle.gomod.specs.Entries.{path_by_file, path_by_version, version_by_file, version_by_version, retract_version, retract_interval}
 use Rattle.gomod.proofs.Demands.{check-met, check-all, check-fails, outcome}
 use Rattle.gomod.proofs.Shapes.{demands_of, demands-from_shape, shape-from_demands}
 use Rattle.gomod.proofs.EntryLaw.{success, entry_success}

@@ -1,5 +1,6 @@
 -- What is computed of a file is what it says by the grammar, and its fault is its first.
-use Rattle.std.proofs.Common.{◌≡◌, ℕ, ◌+◌, ◌<◌, Bool, true, false, ◌&&◌, ◌||◌, List, [], ◌∷◌, ◌++◌, map, filter, length, refl, ap, sym, ◌∙◌, subst, arith, append-nil, Option, Some, None, Ok, Err, inl, inr, ⊎_elim, ◌↔◌, IsUtf8}
+use Rattle.std.proofs.Common.{◌≡◌, ℕ, ◌+◌, ◌<◌, Bool, true, false, ◌&&◌, ◌||◌, List, [], ◌∷◌, ◌++◌, map, filter, length, refl}
+use Rattle.std.proofs.Common.{ap, sym, ◌∙◌, subst, arith, append-nil, Option, Some, None, Ok, Err, inl, inr, ⊎_elim, ◌↔◌, IsUtf8}
 use Rattle.std.specs.Str.{is_utf8}
 use Rattle.std.specs.List.{flat_map, list_all, AllByRecursion}
 use Rattle.std.proofs.lemmas.Bool.{cases_Bool, and_parts, and_from, both_ways, false_from_ne_true}
@@ -21,7 +22,8 @@ use Rattle.gomod.specs.Grammar.{Row, Directive, OpenBlock, Item, items_of, keywo
 use Rattle.gomod.specs.Reads.{Pointwise, FitsPath, Reads, rows_of_tokens}
 use Rattle.gomod.specs.Faults.{HasFirstFault, IsFirstUnfit, IsLastFault, Faulty}
 use Rattle.gomod.specs.FileLaws.{ReadsOrIsFaulty}
-use Rattle.gomod.specs.Reading.{interval_of, Context, Parts, nothing, at_start, ◌⊕◌, ◌>>=◌, bytes_say, lines_say, fits_retraction, first_unfit, fitting_module, module_of, file_says, text_says, reading}
+use Rattle.gomod.specs.Reading.{interval_of, Context, Parts, nothing, at_start, ◌⊕◌, ◌>>=◌, bytes_say, lines_say}
+use Rattle.gomod.specs.Reading.{fits_retraction, first_unfit, fitting_module, module_of, file_says, text_says, reading}
 use Rattle.modlex.proofs.TokenSound.{chosen}
 use Rattle.gomod.proofs.Steps.{bound, fails, ok_same, err_same, ok_err, ok_or_err}
 use Rattle.gomod.proofs.Contexts.{context_at, stands, module_same, written-alone}
@@ -158,11 +160,13 @@ unfit_from path (e ∷ es) (r ∷ rs) line h k =
     (chosen (fits_retraction path r) _ _ _ k)
 
 -- the search of an unfit retraction finds the line of the first one
-unfit_at : (path : List ℕ) (before : List Row) (u : Row) (others : List Row) (rs : List Retraction) (span : Interval) → Pointwise IsPlaced (before ++ u ∷ others) rs → AllByRecursion (λ e. (i : Interval) × IsSpan e.symbols i × FitsPath path i) before → IsSpan u.symbols span → ¬ FitsPath path span → first_unfit path rs ≡ Some u.line
+unfit_at : (path : List ℕ) (before : List Row) (u : Row) (others : List Row) (rs : List Retraction) (span : Interval) → Pointwise IsPlaced (before ++ u ∷ others) rs
+    → AllByRecursion (λ e. (i : Interval) × IsSpan e.symbols i × FitsPath path i) before → IsSpan u.symbols span → ¬ FitsPath path span → first_unfit path rs ≡ Some u.line
 unfit_at path [] u others [] span h fit is misfit = absurd h
 unfit_at path [] u others (r ∷ rs) span h fit is misfit =
     let same = span_same u.symbols (interval_of r) span h.0.1 is in
-    let unfit : fits_retraction path r ≡ false = false_from_ne_true (fits_retraction path r) (λ e. misfit (subst (FitsPath path) same (and_parts (fits_path path r.versions.low) (fits_path path r.versions.high) e))) in
+    let unfit : fits_retraction path r ≡ false =
+    false_from_ne_true (fits_retraction path r) (λ e. misfit (subst (FitsPath path) same (and_parts (fits_path path r.versions.low) (fits_path path r.versions.high) e))) in
     rw unfit (ap (λ n. Some n) h.0.0)
 unfit_at path (b ∷ before) u others [] span h fit is misfit = absurd h
 unfit_at path (b ∷ before) u others (r ∷ rs) span h fit is misfit =
@@ -232,7 +236,8 @@ no_path None es none h = refl
 no_path (Some p) es none h = absurd (subst (λ l. Pointwise (λ e q. IsModuleEntry e.symbols q) l (p ∷ [])) none h)
 
 -- a file whose lines, path and retractions pass is read by the grammar as what was computed
-reads_fitting : (known : Keywords) (bytes : List ℕ) (ds : List Directive) (p : Parts) (path : List ℕ) (m : GoModule) (u : Option ℕ) → IsUtf8 bytes → Above known (lines bytes) ds None p → p.module_path ≡ Some path → first_unfit path p.retractions ≡ u → fitting_module path p u ≡ Ok m → Reads known bytes m
+reads_fitting : (known : Keywords) (bytes : List ℕ) (ds : List Directive) (p : Parts) (path : List ℕ) (m : GoModule) (u : Option ℕ) → IsUtf8 bytes
+    → Above known (lines bytes) ds None p → p.module_path ≡ Some path → first_unfit path p.retractions ≡ u → fitting_module path p u ≡ Ok m → Reads known bytes m
 reads_fitting known bytes ds p path m (Some line) utf8 a is unfit h = cc
 reads_fitting known bytes ds p path m None utf8 a is unfit h =
     let paths = subst (λ o. Pointwise (λ e x. IsModuleEntry e.symbols x) (entries_under Module (items ds None)) (path_list o)) is a.meant.paths in
@@ -251,11 +256,13 @@ reads_fitting known bytes ds p path m None utf8 a is unfit h =
       bare = (λ b. bare.0 (sym a.bare ∙ b), λ one. a.bare ∙ bare.1 one);
     })
 
-reads_by : (known : Keywords) (bytes : List ℕ) (ds : List Directive) (p : Parts) (m : GoModule) (o : Option (List ℕ)) → IsUtf8 bytes → Above known (lines bytes) ds None p → p.module_path ≡ o → module_of p o ≡ Ok m → Reads known bytes m
+reads_by : (known : Keywords) (bytes : List ℕ) (ds : List Directive) (p : Parts) (m : GoModule) (o : Option (List ℕ))
+    → IsUtf8 bytes → Above known (lines bytes) ds None p → p.module_path ≡ o → module_of p o ≡ Ok m → Reads known bytes m
 reads_by known bytes ds p m None utf8 a is h = cc
 reads_by known bytes ds p m (Some path) utf8 a is h = reads_fitting known bytes ds p path m (first_unfit path p.retractions) utf8 a is refl h
 
-reads_file : (known : Keywords) (bytes : List ℕ) (ds : List Directive) (o : Option OpenBlock) (p : Parts) (m : GoModule) (last : ℕ) → IsUtf8 bytes → Above known (lines bytes) ds o p → file_says last (context_at ds o, p) ≡ Ok m → Reads known bytes m
+reads_file : (known : Keywords) (bytes : List ℕ) (ds : List Directive) (o : Option OpenBlock) (p : Parts) (m : GoModule) (last : ℕ)
+    → IsUtf8 bytes → Above known (lines bytes) ds o p → file_says last (context_at ds o, p) ≡ Ok m → Reads known bytes m
 unfolding file_says
 reads_file known bytes ds None p m last utf8 a h = reads_by known bytes ds p m p.module_path utf8 a refl h
 reads_file known bytes ds (Some b) p m last utf8 a h = cc
@@ -306,9 +313,12 @@ pub reading-from_reads : (known : Keywords) (bytes : List ℕ) (m : GoModule) �
 reading-from_reads known bytes m r =
     let c = computed known (lines bytes) r.directives None (record { tokens = r.tokens; lexemes = r.lexemes; grammar = r.grammar }) in
     let is : List Item = items r.directives None in
-    let paths = pointwise_same (λ (e : Row) (x : List ℕ). IsModuleEntry e.symbols x) (λ e x y h k. path_same e.symbols x y h k) (entries_under Module is) (path_list c.parts.module_path) (m.path ∷ []) c.above.meant.paths r.path in
-    let required = pointwise_same (λ (e : Row) (x : Requirement). IsPair e.symbols x) (λ e x y h k. pair_same e.symbols x y h k) (entries_under Require is) c.parts.required m.required c.above.meant.required r.required in
-    let spans = pointwise_same (λ (e : Row) (x : Interval). IsSpan e.symbols x) (λ e x y h k. span_same e.symbols x y h k) (entries_under Retract is) (map interval_of c.parts.retractions) m.retractions (placed_spans (entries_under Retract is) c.parts.retractions c.above.meant.retractions) r.retractions in
+    let paths = pointwise_same (λ (e : Row) (x : List ℕ). IsModuleEntry e.symbols x)
+    (λ e x y h k. path_same e.symbols x y h k) (entries_under Module is) (path_list c.parts.module_path) (m.path ∷ []) c.above.meant.paths r.path in
+    let required = pointwise_same (λ (e : Row) (x : Requirement). IsPair e.symbols x)
+    (λ e x y h k. pair_same e.symbols x y h k) (entries_under Require is) c.parts.required m.required c.above.meant.required r.required in
+    let spans = pointwise_same (λ (e : Row) (x : Interval). IsSpan e.symbols x) (λ e x y h k. span_same e.symbols x y h k) (entries_under Retract is)
+    (map interval_of c.parts.retractions) m.retractions (placed_spans (entries_under Retract is) c.parts.retractions c.above.meant.retractions) r.retractions in
     let path = path_some c.parts.module_path m.path paths in
     let fits = all_fit m.path c.parts.retractions (subst (AllByRecursion (FitsPath m.path)) (sym spans) r.fitting) in
     let bare = bare_file known (rows_of_tokens c.above.read.tokens) r.directives c.above.read.grammar (module_stands r.directives m.path r.path) in
@@ -322,7 +332,8 @@ reading-from_reads known bytes m r =
 
 -- ---- faults
 
-last_fitting : (ds : List Directive) (p : Parts) (last : ℕ) (path : List ℕ) (f : GoModFault) (u : Option ℕ) → AreMeant (items ds None) p → p.module_path ≡ Some path → first_unfit path p.retractions ≡ u → fitting_module path p u ≡ Err f → IsLastFault ds None last f
+last_fitting : (ds : List Directive) (p : Parts) (last : ℕ) (path : List ℕ) (f : GoModFault) (u : Option ℕ) → AreMeant (items ds None) p
+    → p.module_path ≡ Some path → first_unfit path p.retractions ≡ u → fitting_module path p u ≡ Err f → IsLastFault ds None last f
 last_fitting ds p last path f None meant is unfit h = cc
 last_fitting ds p last path f (Some line) meant is unfit h =
     let paths = subst (λ o. Pointwise (λ e x. IsModuleEntry e.symbols x) (entries_under Module (items ds None)) (path_list o)) is meant.paths in
@@ -330,7 +341,11 @@ last_fitting ds p last path f (Some line) meant is unfit h =
 
 last_by : (ds : List Directive) (p : Parts) (last : ℕ) (f : GoModFault) (o : Option (List ℕ)) → AreMeant (items ds None) p → p.module_path ≡ o → module_of p o ≡ Err f → IsLastFault ds None last f
 last_by ds p last f None meant is h =
-    inl (empty_pointwise (λ e x. IsModuleEntry e.symbols x) (entries_under Module (items ds None)) (subst (λ o. Pointwise (λ e x. IsModuleEntry e.symbols x) (entries_under Module (items ds None)) (path_list o)) is meant.paths), cc)
+    inl (
+      empty_pointwise (λ e x. IsModuleEntry e.symbols x) (entries_under Module (items ds None))
+          (subst (λ o. Pointwise (λ e x. IsModuleEntry e.symbols x) (entries_under Module (items ds None)) (path_list o)) is meant.paths),
+      cc,
+    )
 last_by ds p last f (Some path) meant is h = last_fitting ds p last path f (first_unfit path p.retractions) meant is refl h
 
 last_fault : (ds : List Directive) (o : Option OpenBlock) (p : Parts) (last : ℕ) (f : GoModFault) → AreMeant (items ds o) p → file_says last (context_at ds o, p) ≡ Err f → IsLastFault ds o last f
@@ -374,14 +389,16 @@ first_said known ls f h =
     ∙ ap (λ r. r >>= (λ y. Ok (y.0, c.parts ⊕ y.1))) rest
 
 -- if all lines can be read, the fault after the last line is the fault found there
-last_said : (known : Keywords) (ls : List (List ℕ)) (ds : List Directive) (o : Option OpenBlock) (p : Parts) (last : ℕ) (f : GoModFault) → Above known ls ds o p → IsLastFault ds o last f → file_says last (context_at ds o, p) ≡ Err f
+last_said : (known : Keywords) (ls : List (List ℕ)) (ds : List Directive) (o : Option OpenBlock) (p : Parts) (last : ℕ) (f : GoModFault)
+    → Above known ls ds o p → IsLastFault ds o last f → file_says last (context_at ds o, p) ≡ Err f
 last_said known ls ds (Some b) p last f a h = open_file last ds b p ∙ ap (λ e. Err e) (sym h)
 last_said known ls ds None p last f a h =
     closed_file last ds p
     ∙ ⊎_elim
     (λ none. ap (module_of p) (no_path p.module_path (entries_under Module (items ds None)) none.0 a.meant.paths) ∙ ap (λ e. Err e) (sym none.1))
     (λ x.
-    let paths = pointwise_same (λ (e : Row) (q : List ℕ). IsModuleEntry e.symbols q) (λ e q r u v. path_same e.symbols q r u v) (entries_under Module (items ds None)) (path_list p.module_path) (x.0 ∷ []) a.meant.paths x.1 in
+    let paths = pointwise_same (λ (e : Row) (q : List ℕ). IsModuleEntry e.symbols q)
+    (λ e q r u v. path_same e.symbols q r u v) (entries_under Module (items ds None)) (path_list p.module_path) (x.0 ∷ []) a.meant.paths x.1 in
     ap (module_of p) (path_some p.module_path x.0 paths)
     ∙ ap (fitting_module x.0 p) (unfit_is x.0 (entries_under Retract (items ds None)) p.retractions x.2.0 a.meant.retractions x.2.1)
     ∙ ap (λ e. Err e) (sym x.2.2))

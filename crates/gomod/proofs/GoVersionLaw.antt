@@ -1,5 +1,6 @@
 -- The test of a Go version passes just those that are ones by their parts.
-use Rattle.std.proofs.Common.{◌≡◌, ◌↔◌, ℕ, zero, suc, ◌+◌, ◌<◌, true, false, ◌==◌, List, [], ◌∷◌, ◌++◌, length, take, drop, codes, arith, add-one, refl, ap, sym, ◌∙◌, subst, append_assoc, length-append, inl, inr, ⊎_elim, nat_eq, rules, tests}
+use Rattle.std.proofs.Common.{◌≡◌, ◌↔◌, ℕ, zero, suc, ◌+◌, ◌<◌, true, false, ◌==◌, List, [], ◌∷◌, ◌++◌, length, take, drop, codes, arith}
+use Rattle.std.proofs.Common.{add-one, refl, ap, sym, ◌∙◌, subst, append_assoc, length-append, inl, inr, ⊎_elim, nat_eq, rules, tests}
 use Rattle.std.specs.List.{list_all, starts_with}
 use Rattle.std.specs.Char.{is_ascii_digit}
 use Rattle.std.proofs.lemmas.Slice.Eq.{bytes_eq-Decides}

@@ -8,7 +8,8 @@ use Rattle.gomod.specs.declared.fault.GoModFault.{GoModFault}
 use Rattle.gomod.specs.declared.fault.GoModFault.TheVariants as faults
 use Rattle.modlex.specs.Symbols.{Symbol, is_name_kind}
 use Rattle.gomod.specs.Keywords.{Keywords, keyword_named, is_module, has_block, opens_block_kind, closes_block_kind}
-use Rattle.gomod.specs.Reading.{Context, Parts, nothing, last_path, ◌⊕◌, ◌>>=◌, has_stood, header, with_entry, entry, entry_says, is_opening, is_closing, directive, line_outside, line_inside, line_says}
+use Rattle.gomod.specs.Reading.{Context, Parts, nothing, last_path, ◌⊕◌, ◌>>=◌, has_stood, header, with_entry, entry}
+use Rattle.gomod.specs.Reading.{entry_says, is_opening, is_closing, directive, line_outside, line_inside, line_says}
 use Rattle.gomod.specs.declared.keyword.Keyword.TheVariants.{Module}
 use Rattle.gomod.specs.Reads.{Pointwise}
 use Rattle.gomod.specs.Entries.{IsModuleEntry}
@@ -19,7 +20,8 @@ use Rattle.gomod.proofs.Steps.{guarded, bound}
 use Rattle.gomod.proofs.Moves.{Move, blank, single, begins, inside, closes, with_row, closed, IsFresh, keywords_more, items_more}
 use Rattle.gomod.proofs.EntryMeaning.{AreMeant, path_list, entry_means}
 use Rattle.gomod.proofs.EntryRight.{entry_right, right_entry, shape_no_opening, shape_no_closing, named_spelling}
-use Rattle.gomod.proofs.Contexts.{context_at, IsAlone, fresh-stood, stood-fresh, context-single, context-begins, context-inside, context-closes, room-context, context-room, filled-context, context-filled}
+use Rattle.gomod.proofs.Contexts.{context_at, IsAlone, fresh-stood, stood-fresh, context-single, context-begins}
+use Rattle.gomod.proofs.Contexts.{context-inside, context-closes, room-context, context-room, filled-context, context-filled}
 
 -- ---- a move is computed
 
@@ -36,12 +38,14 @@ pub record Says (known : Keywords) (line : ℕ) (c d : Context) (ts : List Symbo
   pub bare : said.bare ≡ list_all is_module ks
 
 -- a line that begins with a keyword
-outside_is : (known : Keywords) (line : ℕ) (ds : List Directive) (k : Keyword) (ts : List Symbol) → IsKnown known k → line_says known line (context_at ds None) (keyword_symbol k ∷ ts) ≡ directive line (context_at ds None) k ts
+outside_is : (known : Keywords) (line : ℕ) (ds : List Directive) (k : Keyword) (ts : List Symbol) → IsKnown known k
+    → line_says known line (context_at ds None) (keyword_symbol k ∷ ts) ≡ directive line (context_at ds None) k ts
 unfolding line_says line_outside
 outside_is known line ds k ts known_k = rw known_k refl
 
 -- a line with a keyword that may come here and an entry that is read says what the keyword and the entry say
-directive_entry : (line : ℕ) (c : Context) (k : Keyword) (ts : List Symbol) (q : Parts) → has_stood c k ≡ false → is_opening ts ≡ false → entry line k ts ≡ Ok q → directive line c k ts ≡ Ok (with_entry c k, header k ⊕ q)
+directive_entry : (line : ℕ) (c : Context) (k : Keyword) (ts : List Symbol) (q : Parts) → has_stood c k ≡ false
+    → is_opening ts ≡ false → entry line k ts ≡ Ok q → directive line c k ts ≡ Ok (with_entry c k, header k ⊕ q)
 unfolding directive
 directive_entry line c k ts q fresh no_opening is =
     let other : (has_block k && is_opening ts) ≡ false = ap (λ b. has_block k && b) no_opening ∙ and_none (has_block k) in
@@ -52,7 +56,8 @@ directive_entry line c k ts q fresh no_opening is =
     and_none true = refl
     and_none false = refl
 
-directive_begins : (line : ℕ) (ds : List Directive) (k : Keyword) → IsFresh ds k → has_block k ≡ true → directive line (context_at ds None) k (left ∷ []) ≡ Ok (context_at ds (Some (record { keyword = k; first = line; entries = [] })), header k)
+directive_begins : (line : ℕ) (ds : List Directive) (k : Keyword) → IsFresh ds k → has_block k ≡ true
+    → directive line (context_at ds None) k (left ∷ []) ≡ Ok (context_at ds (Some (record { keyword = k; first = line; entries = [] })), header k)
 unfolding directive
 directive_begins line ds k fresh h =
     let stood = fresh-stood ds k fresh in
@@ -65,13 +70,15 @@ meant_behind k is q m = record {
   retractions = m.retractions;
 }
 
-inside_entry : (known : Keywords) (line : ℕ) (ds : List Directive) (b : OpenBlock) (t : Symbol) (ts : List Symbol) (q : Parts) → IsAlone ds (Some b) → HasRoom b → is_closing (t ∷ ts) ≡ false → entry line b.keyword (t ∷ ts) ≡ Ok q → line_says known line (context_at ds (Some b)) (t ∷ ts) ≡ Ok (context_at ds (Some (with_row b (row line (t ∷ ts)))), q)
+inside_entry : (known : Keywords) (line : ℕ) (ds : List Directive) (b : OpenBlock) (t : Symbol) (ts : List Symbol) (q : Parts) → IsAlone ds (Some b) → HasRoom b → is_closing (t ∷ ts) ≡ false
+    → entry line b.keyword (t ∷ ts) ≡ Ok q → line_says known line (context_at ds (Some b)) (t ∷ ts) ≡ Ok (context_at ds (Some (with_row b (row line (t ∷ ts)))), q)
 unfolding line_says line_inside
 inside_entry known line ds b t ts q alone room no_closing is =
     let has_room = room-context ds b alone room in
     rw (no_closing, has_room) (ap (λ r. r >>= (λ p. Ok (with_entry (context_at ds (Some b)) b.keyword, p))) is ∙ ap (λ c. Ok (c, q)) (context-inside ds b (row line (t ∷ ts)) alone.0))
 
-inside_closes : (known : Keywords) (line : ℕ) (ds : List Directive) (b : OpenBlock) → IsAlone ds (Some b) → IsFilled b → line_says known line (context_at ds (Some b)) (right ∷ []) ≡ Ok (context_at (ds ++ closed b line ∷ []) None, nothing)
+inside_closes : (known : Keywords) (line : ℕ) (ds : List Directive) (b : OpenBlock) → IsAlone ds (Some b) → IsFilled b
+    → line_says known line (context_at ds (Some b)) (right ∷ []) ≡ Ok (context_at (ds ++ closed b line ∷ []) None, nothing)
 unfolding line_says line_inside
 inside_closes known line ds b alone filled =
     let full = filled-context ds b alone filled in
@@ -81,7 +88,8 @@ and_itself : (a b : Bool) → b ≡ true → (a && b) ≡ (a && true)
 and_itself a b h = ap (λ x. a && x) h
 
 -- a line that is a move by the grammar is read, and says what the move adds
-pub move_says : {known : Keywords} {ds es : List Directive} {o p : Option OpenBlock} {r : Row} (m : Move known ds o r es p) → IsAlone ds o → Says known r.line (context_at ds o) (context_at es p) r.symbols (items_more m) (keywords_more m)
+pub move_says : {known : Keywords} {ds es : List Directive} {o p : Option OpenBlock} {r : Row} (m : Move known ds o r es p)
+    → IsAlone ds o → Says known r.line (context_at ds o) (context_at es p) r.symbols (items_more m) (keywords_more m)
 unfolding line_says
 move_says (blank ds o line) alone = record { said = nothing; is_said = refl; meant = record { paths = tt; required = tt; retractions = tt }; bare = refl }
 move_says {known = known} (single ds line k ts known_k fresh is_right) alone =
@@ -89,7 +97,8 @@ move_says {known = known} (single ds line k ts known_k fresh is_right) alone =
     let means = entry_means line k ts q.0 q.1 in
     record {
       said = header k ⊕ q.0;
-      is_said = outside_is known line ds k ts known_k ∙ directive_entry line (context_at ds None) k ts q.0 (fresh-stood ds k fresh) (shape_no_opening k ts is_right.0 is_right.1) q.1 ∙ ap (λ c. Ok (c, header k ⊕ q.0)) (context-single ds k (one k (row line ts)) refl);
+      is_said = outside_is known line ds k ts known_k ∙ directive_entry line (context_at ds None) k ts q.0 (fresh-stood ds k fresh) (shape_no_opening k ts is_right.0 is_right.1) q.1
+          ∙ ap (λ c. Ok (c, header k ⊕ q.0)) (context-single ds k (one k (row line ts)) refl);
       meant = meant_behind k (item k (row line ts) ∷ []) q.0 means.0;
       bare = and_itself (is_module k) q.0.bare means.1;
     }
@@ -184,7 +193,8 @@ pub record Moves (known : Keywords) (ds : List Directive) (o : Option OpenBlock)
   pub move : Move known ds o r directives opened
 
 -- a line outside a block whose reading succeeds after its keyword is a move by the grammar
-directive_moves : (known : Keywords) (line : ℕ) (ds : List Directive) (k : Keyword) (ts : List Symbol) (x : Context × Parts) → IsKnown known k → AllByRecursion IsPlain ts → directive line (context_at ds None) k ts ≡ Ok x → Moves known ds None (row line (keyword_symbol k ∷ ts))
+directive_moves : (known : Keywords) (line : ℕ) (ds : List Directive) (k : Keyword) (ts : List Symbol) (x : Context × Parts) → IsKnown known k
+    → AllByRecursion IsPlain ts → directive line (context_at ds None) k ts ≡ Ok x → Moves known ds None (row line (keyword_symbol k ∷ ts))
 unfolding directive
 directive_moves known line ds k ts x known_k plain h =
     ⊎_elim
@@ -194,7 +204,11 @@ directive_moves known line ds k ts x known_k plain h =
     let parts = opening_parts ts (and_right (has_block k) (is_opening ts) block.0) in
     let is_left : ts ≡ left ∷ [] = parts.1 ∙ ap (λ p. p ∷ []) (λ i. record { kind = parts.2 i; text = (subst (AllByRecursion IsPlain) parts.1 plain).0.0 parts.2 i }) in
     subst (λ us. Moves known ds None (row line (keyword_symbol k ∷ us))) (sym is_left)
-    (record { directives = ds; opened = Some (record { keyword = k; first = line; entries = [] }); move = begins ds line k known_k (stood-fresh ds k fresh.0) (and_left (has_block k) (is_opening ts) block.0) }))
+    (record {
+      directives = ds;
+      opened = Some (record { keyword = k; first = line; entries = [] });
+      move = begins ds line k known_k (stood-fresh ds k fresh.0) (and_left (has_block k) (is_opening ts) block.0);
+    }))
     (λ entry_.
     let b = bound (entry_says line (context_at ds None) k ts) (λ y. Ok (y.0, header k ⊕ y.1)) x entry_.1 in
     let c = bound (entry line k ts) (λ p. Ok (with_entry (context_at ds None) k, p)) b.0 b.1 in
@@ -210,14 +224,17 @@ directive_moves known line ds k ts x known_k plain h =
     and_right true b e = e
     and_right false b e = cc
 
-named_moves : (known : Keywords) (line : ℕ) (ds : List Directive) (t : Symbol) (ts : List Symbol) (x : Context × Parts) (o : Option Keyword) → keyword_named known t.text ≡ o → is_name_kind t.kind ≡ true → AllByRecursion IsPlain ts → ◌≡◌ {A = Result (Context × Parts) GoModFault} (elim o [ None ↦ Err (faults.Unknown line) | Some k ↦ directive line (context_at ds None) k ts ]) (Ok x) → Moves known ds None (row line (t ∷ ts))
+named_moves : (known : Keywords) (line : ℕ) (ds : List Directive) (t : Symbol) (ts : List Symbol) (x : Context × Parts) (o : Option Keyword)
+    → keyword_named known t.text ≡ o → is_name_kind t.kind ≡ true → AllByRecursion IsPlain ts
+    → ◌≡◌ {A = Result (Context × Parts) GoModFault} (elim o [ None ↦ Err (faults.Unknown line) | Some k ↦ directive line (context_at ds None) k ts ]) (Ok x) → Moves known ds None (row line (t ∷ ts))
 named_moves known line ds t ts x None named name plain h = cc
 named_moves known line ds t ts x (Some k) named name plain h =
     let is = keyword_is known t k name named in
     subst (λ u. Moves known ds None (row line (u ∷ ts))) (sym is.0) (directive_moves known line ds k ts x is.1 plain h)
 
 -- a line inside a block whose reading succeeds is a move by the grammar
-inside_moves : (known : Keywords) (line : ℕ) (ds : List Directive) (b : OpenBlock) (t : Symbol) (ts : List Symbol) (x : Context × Parts) → IsAlone ds (Some b) → AllByRecursion IsPlain (t ∷ ts) → line_inside line (context_at ds (Some b)) b.keyword (t ∷ ts) ≡ Ok x → Moves known ds (Some b) (row line (t ∷ ts))
+inside_moves : (known : Keywords) (line : ℕ) (ds : List Directive) (b : OpenBlock) (t : Symbol) (ts : List Symbol) (x : Context × Parts) → IsAlone ds (Some b)
+    → AllByRecursion IsPlain (t ∷ ts) → line_inside line (context_at ds (Some b)) b.keyword (t ∷ ts) ≡ Ok x → Moves known ds (Some b) (row line (t ∷ ts))
 unfolding line_inside
 inside_moves known line ds b t ts x alone plain h =
     ⊎_elim
@@ -237,7 +254,8 @@ inside_moves known line ds b t ts x alone plain h =
     (chosen (is_module b.keyword && (context_at ds (Some b)).has_module) _ _ _ other.1))
     (chosen (is_closing (t ∷ ts)) _ _ _ h)
 
-pub says_move : (known : Keywords) (line : ℕ) (ds : List Directive) (o : Option OpenBlock) (ts : List Symbol) (x : Context × Parts) → IsAlone ds o → AllByRecursion IsPlain ts → line_says known line (context_at ds o) ts ≡ Ok x → Moves known ds o (row line ts)
+pub says_move : (known : Keywords) (line : ℕ) (ds : List Directive) (o : Option OpenBlock) (ts : List Symbol) (x : Context × Parts)
+    → IsAlone ds o → AllByRecursion IsPlain ts → line_says known line (context_at ds o) ts ≡ Ok x → Moves known ds o (row line ts)
 unfolding line_says line_outside
 says_move known line ds o [] x alone plain h = record { directives = ds; opened = o; move = blank ds o line }
 says_move known line ds None (t ∷ ts) x alone plain h =

@@ -42,14 +42,16 @@ read_ok (Err (token_faults.Lex n)) ts h = cc
 read_ok (Err token_faults.Memory) ts h = cc
 
 -- a line that reads has tokens
-pub bytes_ok : (known : Keywords) (line at : ℕ) (c : Context) (l : List ℕ) (x : Context × Parts) → bytes_say known line c l ≡ Ok x → (ts : List Lexeme) × AreTokens line at l ts × (line_says known line c (map symbol_of ts) ≡ Ok x)
+pub bytes_ok : (known : Keywords) (line at : ℕ) (c : Context) (l : List ℕ) (x : Context × Parts) → bytes_say known line c l ≡ Ok x
+    → (ts : List Lexeme) × AreTokens line at l ts × (line_says known line c (map symbol_of ts) ≡ Ok x)
 unfolding bytes_say
 bytes_ok known line at c l x h =
     let b = bound (as_reader (line_tokens line 0 l)) (λ ts. line_says known line c (map symbol_of ts)) x h in
     let there = moved line 0 line at l b.0 (tokens_are line 0 l b.0 (read_ok (line_tokens line 0 l) b.0 b.1)) in
     (there.tokens, there.are, ap (line_says known line c) there.same ∙ b.2)
 
-reader_fault : (line : ℕ) (r : Result (List Lexeme) TokenFault) (f : GoModFault) → ((e : TokenFault) → r ≡ Err e → e ≡ token_faults.Lex line) → as_reader r ≡ Err f → (r ≡ Err (token_faults.Lex line)) × (f ≡ faults.Lex line)
+reader_fault : (line : ℕ) (r : Result (List Lexeme) TokenFault) (f : GoModFault) → ((e : TokenFault) → r ≡ Err e → e ≡ token_faults.Lex line)
+    → as_reader r ≡ Err f → (r ≡ Err (token_faults.Lex line)) × (f ≡ faults.Lex line)
 reader_fault line (Ok ts) f only h = cc
 reader_fault line (Err (token_faults.Lex n)) f only h =
     let same = only (token_faults.Lex n) refl in (ap (λ e. Err e) same, (let number : n ≡ line = cc in cc))
@@ -59,7 +61,8 @@ no_tokens : (line : ℕ) (l : List ℕ) (e : TokenFault) → line_tokens line 0 
 no_tokens line l e h ts are = let some = tokens_behind-all line 0 l ts are in cc
 
 -- the fault of a line is computed, and what is computed is its fault
-pub bytes_fault : (known : Keywords) (line : ℕ) (ds : List Directive) (o : Option OpenBlock) (l : List ℕ) (f : GoModFault) → IsAlone ds o → bytes_say known line (context_at ds o) l ≡ Err f → IsLineFault known ds o line l f
+pub bytes_fault : (known : Keywords) (line : ℕ) (ds : List Directive) (o : Option OpenBlock) (l : List ℕ) (f : GoModFault)
+    → IsAlone ds o → bytes_say known line (context_at ds o) l ≡ Err f → IsLineFault known ds o line l f
 unfolding bytes_say
 bytes_fault known line ds o l f alone h =
     ⊎_elim
@@ -72,7 +75,8 @@ bytes_fault known line ds o l f alone h =
     (fails (as_reader (line_tokens line 0 l)) (λ ts. line_says known line (context_at ds o) (map symbol_of ts)) f h)
 
 -- the fault of a line is the fault that reading its bytes finds
-pub fault_bytes : (known : Keywords) (line : ℕ) (ds : List Directive) (o : Option OpenBlock) (l : List ℕ) (f : GoModFault) → IsAlone ds o → IsLineFault known ds o line l f → bytes_say known line (context_at ds o) l ≡ Err f
+pub fault_bytes : (known : Keywords) (line : ℕ) (ds : List Directive) (o : Option OpenBlock) (l : List ℕ) (f : GoModFault)
+    → IsAlone ds o → IsLineFault known ds o line l f → bytes_say known line (context_at ds o) l ≡ Err f
 unfolding bytes_say
 fault_bytes known line ds o l f alone h =
     ⊎_elim

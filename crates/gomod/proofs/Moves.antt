@@ -5,7 +5,8 @@ use Rattle.gomod.specs.declared.keyword.Keyword.{Keyword}
 use Rattle.modlex.specs.Symbols.{Symbol}
 use Rattle.gomod.specs.Keywords.{Keywords, has_block}
 use Rattle.gomod.specs.Entries.{IsRight}
-use Rattle.gomod.specs.Grammar.{Row, row, has_symbols, keyword_symbol, Directive, one, block, OpenBlock, opening, closing, rows_of, rows_of_open, keyword_of, keywords_in, Item, item, items_of, items, is_keyword, is_single, IsKnown}
+use Rattle.gomod.specs.Grammar.{Row, row, has_symbols, keyword_symbol, Directive, one, block, OpenBlock, opening, closing, rows_of}
+use Rattle.gomod.specs.Grammar.{rows_of_open, keyword_of, keywords_in, Item, item, items_of, items, is_keyword, is_single, IsKnown}
 use Rattle.gomod.specs.Faults.{HasRoom, IsFilled}
 use Rattle.gomod.proofs.Lists.{map-join, flat_map-join}
 
@@ -23,9 +24,12 @@ IsFresh ds k = is_single k ≡ true → list_any (is_keyword k) (map keyword_of 
 -- what one line makes of the directives above it
 pub data Move (known : Keywords) : List Directive → Option OpenBlock → Row → List Directive → Option OpenBlock → Type 0 where
   blank : (ds : List Directive) (o : Option OpenBlock) (line : ℕ) → Move known ds o (row line []) ds o
-  single : (ds : List Directive) (line : ℕ) (k : Keyword) (ts : List Symbol) → IsKnown known k → IsFresh ds k → IsRight k ts → Move known ds None (row line (keyword_symbol k ∷ ts)) (ds ++ one k (row line ts) ∷ []) None
-  begins : (ds : List Directive) (line : ℕ) (k : Keyword) → IsKnown known k → IsFresh ds k → has_block k ≡ true → Move known ds None (opening k line) ds (Some (record { keyword = k; first = line; entries = [] }))
-  inside : (ds : List Directive) (b : OpenBlock) (line : ℕ) (t : Symbol) (ts : List Symbol) → HasRoom b → IsRight b.keyword (t ∷ ts) → Move known ds (Some b) (row line (t ∷ ts)) ds (Some (with_row b (row line (t ∷ ts))))
+  single : (ds : List Directive) (line : ℕ) (k : Keyword) (ts : List Symbol) → IsKnown known k → IsFresh ds k
+      → IsRight k ts → Move known ds None (row line (keyword_symbol k ∷ ts)) (ds ++ one k (row line ts) ∷ []) None
+  begins : (ds : List Directive) (line : ℕ) (k : Keyword) → IsKnown known k → IsFresh ds k → has_block k ≡ true
+      → Move known ds None (opening k line) ds (Some (record { keyword = k; first = line; entries = [] }))
+  inside : (ds : List Directive) (b : OpenBlock) (line : ℕ) (t : Symbol) (ts : List Symbol) → HasRoom b
+      → IsRight b.keyword (t ∷ ts) → Move known ds (Some b) (row line (t ∷ ts)) ds (Some (with_row b (row line (t ∷ ts))))
   closes : (ds : List Directive) (b : OpenBlock) (line : ℕ) → IsFilled b → Move known ds (Some b) (closing line) (ds ++ closed b line ∷ []) None
 
 -- ---- what a move adds
@@ -79,7 +83,8 @@ items-move (closes ds b line filled) =
     ap (λ l. l ++ []) (flat_map-join items_of ds (closed b line ∷ [])) ∙ ap (λ l. (flat_map items_of ds ++ l) ++ []) (append-nil (map (item b.keyword) b.entries))
 
 -- the lines of a directive, and of the open block, grow by the line
-pub rows-move : {known : Keywords} {ds es : List Directive} {o p : Option OpenBlock} {r : Row} (m : Move known ds o r es p) → flat_map rows_of es ++ rows_of_open p ≡ (flat_map rows_of ds ++ rows_of_open o) ++ filter has_symbols (r ∷ [])
+pub rows-move : {known : Keywords} {ds es : List Directive} {o p : Option OpenBlock} {r : Row} (m : Move known ds o r es p)
+    → flat_map rows_of es ++ rows_of_open p ≡ (flat_map rows_of ds ++ rows_of_open o) ++ filter has_symbols (r ∷ [])
 rows-move (blank ds o line) = no_more _
 rows-move (single ds line k ts a f s) =
     ap (λ l. l ++ []) (flat_map-join rows_of ds (one k (row line ts) ∷ [])) ∙ at_end (flat_map rows_of ds) (row line (keyword_symbol k ∷ ts))

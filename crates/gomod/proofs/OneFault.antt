@@ -61,7 +61,8 @@ later_same known ds o line ts f g h k =
     (λ once. ⊎_elim (λ other. absurd (once.0 other.0)) (λ other. last_same known o line ts f g once.1 other.1) k)
     h
 
-pub fault_same : (known : Keywords) (ds : List Directive) (o : Option OpenBlock) (line : ℕ) (ts : List Symbol) (f g : GoModFault) → IsRowFault known ds o line ts f → IsRowFault known ds o line ts g → f ≡ g
+pub fault_same : (known : Keywords) (ds : List Directive) (o : Option OpenBlock) (line : ℕ) (ts : List Symbol) (f g : GoModFault)
+    → IsRowFault known ds o line ts f → IsRowFault known ds o line ts g → f ≡ g
 fault_same known ds o line ts f g h k =
     ⊎_elim
     (λ unknown. ⊎_elim (λ other. unknown.1 ∙ sym other.1) (λ other. absurd (other.0 unknown.0)) k)
@@ -74,7 +75,8 @@ met_first : (ds : List Demand) (d : Demand) → AllByRecursion IsMet ds → ¬ F
 met_first ds d met first = let a = check-all 0 ds met in let b = check-first 0 ds d first in cc
 
 -- a line that is not unknown, not repeated and allowed, and asks only what is met
-no_fault : (known : Keywords) (ds : List Directive) (o : Option OpenBlock) (line : ℕ) (ts : List Symbol) (f : GoModFault) → ¬ IsUnknown known o ts → ¬ IsRepeated known ds o ts → IsAllowed known o ts → ((demands : List Demand) → Asks known o ts demands → AllByRecursion IsMet demands) → ¬ IsRowFault known ds o line ts f
+no_fault : (known : Keywords) (ds : List Directive) (o : Option OpenBlock) (line : ℕ) (ts : List Symbol) (f : GoModFault) → ¬ IsUnknown known o ts → ¬ IsRepeated known ds o ts
+    → IsAllowed known o ts → ((demands : List Demand) → Asks known o ts demands → AllByRecursion IsMet demands) → ¬ IsRowFault known ds o line ts f
 no_fault known ds o line ts f no_unknown no_twice allowed met h =
     ⊎_elim
     (λ unknown. no_unknown unknown.0)
@@ -136,7 +138,8 @@ move_no_fault {known = known} f (closes ds b line filled) =
     (λ demands a. (let bad = shape_no_closing b.keyword (right ∷ []) demands a.1 in cc))
 
 -- the fault of a line is computed
-pub fault_says : (known : Keywords) (line : ℕ) (ds : List Directive) (o : Option OpenBlock) (ts : List Symbol) (f : GoModFault) → IsAlone ds o → AllByRecursion IsPlain ts → IsRowFault known ds o line ts f → line_says known line (context_at ds o) ts ≡ Err f
+pub fault_says : (known : Keywords) (line : ℕ) (ds : List Directive) (o : Option OpenBlock) (ts : List Symbol) (f : GoModFault)
+    → IsAlone ds o → AllByRecursion IsPlain ts → IsRowFault known ds o line ts f → line_says known line (context_at ds o) ts ≡ Err f
 fault_says known line ds o ts f alone plain h =
     ⊎_elim
     (λ x. absurd (move_no_fault f (says_move known line ds o ts x.0 alone plain x.1).move h))

@@ -39,7 +39,8 @@ pub version_of-fault : (line : ℕ) (text : List ℕ) (f : VersionFault) → IsF
 version_of-fault line text f h = no_version line text f (version_of text) refl h
 
 -- a text that was read as no version
-pub version_of-unread : (line : ℕ) (text : List ℕ) (f : VersionFault) → IsFault text f ⊎ ((f ≡ version_faults.Memory) × IsHeld text) → Fails (version_fault line f) (version_found line (version_of text))
+pub version_of-unread : (line : ℕ) (text : List ℕ) (f : VersionFault) → IsFault text f ⊎ ((f ≡ version_faults.Memory) × IsHeld text)
+    → Fails (version_fault line f) (version_found line (version_of text))
 version_of-unread line text version_faults.Form h = ⊎_elim (λ fault. version_of-fault line text version_faults.Form fault) (λ m. (let bad = m.0 in cc)) h
 version_of-unread line text version_faults.Build h = ⊎_elim (λ fault. version_of-fault line text version_faults.Build fault) (λ m. (let bad = m.0 in cc)) h
 version_of-unread line text version_faults.TooLong h = ⊎_elim (λ fault. version_of-fault line text version_faults.TooLong fault) (λ m. (let bad = m.0 in cc)) h

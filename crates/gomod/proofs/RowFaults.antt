@@ -38,7 +38,8 @@ head_of : (t u : Symbol) (ts us : List Symbol) → t ∷ ts ≡ u ∷ us → (t 
 head_of t u ts us h = (cc, cc)
 
 -- outside a block, a line that begins with this keyword and has no shape is not allowed
-outside_denied : (known : Keywords) (t : Symbol) (ts : List Symbol) (k : Keyword) → keyword_named known t.text ≡ Some k → (has_block k && is_opening ts) ≡ false → ((demands : List Demand) → ¬ HasShape k ts demands) → ¬ IsAllowed known None (t ∷ ts)
+outside_denied : (known : Keywords) (t : Symbol) (ts : List Symbol) (k : Keyword) → keyword_named known t.text ≡ Some k
+    → (has_block k && is_opening ts) ≡ false → ((demands : List Demand) → ¬ HasShape k ts demands) → ¬ IsAllowed known None (t ∷ ts)
 outside_denied known t ts k named no_block no_shape allowed =
     ⊎_elim (λ none. cc)
     (λ some. ⊎_elim
@@ -66,7 +67,8 @@ nameless_denied known t ts nameless allowed =
     allowed
 
 -- in a block, a line that is no end of it and no entry is not allowed
-inside_denied : (known : Keywords) (b : OpenBlock) (t : Symbol) (ts : List Symbol) → (is_closing (t ∷ ts) ≡ true → ¬ IsFilled b) → ((demands : List Demand) → HasRoom b → ¬ HasShape b.keyword (t ∷ ts) demands) → ¬ IsAllowed known (Some b) (t ∷ ts)
+inside_denied : (known : Keywords) (b : OpenBlock) (t : Symbol) (ts : List Symbol) → (is_closing (t ∷ ts) ≡ true → ¬ IsFilled b)
+    → ((demands : List Demand) → HasRoom b → ¬ HasShape b.keyword (t ∷ ts) demands) → ¬ IsAllowed known (Some b) (t ∷ ts)
 inside_denied known b t ts no_end no_entry allowed =
     ⊎_elim (λ none. cc)
     (λ some. ⊎_elim
@@ -81,7 +83,8 @@ entry_fails : (line : ℕ) (c : Context) (k : Keyword) (ts : List Symbol) (f : G
 entry_fails line c k ts f h = ⊎_elim (λ e. e) (λ x. (let bad = x.2 in cc)) (fails (entry line k ts) (λ p. Ok (with_entry c k, p)) f h)
 
 -- of an entry, behind a keyword
-single_fault : (known : Keywords) (line : ℕ) (ds : List Directive) (t : Symbol) (ts : List Symbol) (k : Keyword) (f : GoModFault) → IsKeyword known t k → keyword_named known t.text ≡ Some k → ¬ IsUnknown known None (t ∷ ts) → ¬ IsRepeated known ds None (t ∷ ts) → (has_block k && is_opening ts) ≡ false → IsEntryFault line k ts f → IsRowFault known ds None line (t ∷ ts) f
+single_fault : (known : Keywords) (line : ℕ) (ds : List Directive) (t : Symbol) (ts : List Symbol) (k : Keyword) (f : GoModFault) → IsKeyword known t k → keyword_named known t.text ≡ Some k
+    → ¬ IsUnknown known None (t ∷ ts) → ¬ IsRepeated known ds None (t ∷ ts) → (has_block k && is_opening ts) ≡ false → IsEntryFault line k ts f → IsRowFault known ds None line (t ∷ ts) f
 single_fault known line ds t ts k f is named no_unknown no_twice no_block h =
     inr (
       no_unknown,
@@ -100,7 +103,8 @@ fresh_once known ds t ts k named fresh r =
     both_ways (stands k ds) (fresh (subst (λ j. is_single j ≡ true) same r.2)) (subst (λ j. stands j ds ≡ true) same r.3)
 
 -- the fault found in a line after its keyword, outside a block, is the fault of the line
-directive_fault : (known : Keywords) (line : ℕ) (ds : List Directive) (t : Symbol) (ts : List Symbol) (k : Keyword) (f : GoModFault) → IsKeyword known t k → keyword_named known t.text ≡ Some k → directive line (context_at ds None) k ts ≡ Err f → IsRowFault known ds None line (t ∷ ts) f
+directive_fault : (known : Keywords) (line : ℕ) (ds : List Directive) (t : Symbol) (ts : List Symbol) (k : Keyword) (f : GoModFault) → IsKeyword known t k
+    → keyword_named known t.text ≡ Some k → directive line (context_at ds None) k ts ≡ Err f → IsRowFault known ds None line (t ∷ ts) f
 unfolding directive
 directive_fault known line ds t ts k f is named h =
     let no_unknown : ¬ IsUnknown known None (t ∷ ts) = λ u. (let none = u.1 in cc) in
@@ -119,11 +123,13 @@ directive_fault known line ds t ts k f is named h =
     (chosen (has_block k && is_opening ts) _ _ _ fresh.1))
     (chosen (has_stood (context_at ds None) k) _ _ _ h)
 
-named_fault : (known : Keywords) (line : ℕ) (ds : List Directive) (t : Symbol) (ts : List Symbol) (f : GoModFault) (o : Option Keyword) → keyword_named known t.text ≡ o → is_name_kind t.kind ≡ true → ◌≡◌ {A = Result (Context × Parts) GoModFault} (elim o [ None ↦ Err (faults.Unknown line) | Some k ↦ directive line (context_at ds None) k ts ]) (Err f) → IsRowFault known ds None line (t ∷ ts) f
+named_fault : (known : Keywords) (line : ℕ) (ds : List Directive) (t : Symbol) (ts : List Symbol) (f : GoModFault) (o : Option Keyword) → keyword_named known t.text ≡ o → is_name_kind t.kind ≡ true
+    → ◌≡◌ {A = Result (Context × Parts) GoModFault} (elim o [ None ↦ Err (faults.Unknown line) | Some k ↦ directive line (context_at ds None) k ts ]) (Err f) → IsRowFault known ds None line (t ∷ ts) f
 named_fault known line ds t ts f None named name h = inl ((name_is t.kind name, named), cc)
 named_fault known line ds t ts f (Some k) named name h = directive_fault known line ds t ts k f (keyword_is known t k name named) named h
 
-nameless_fault : (known : Keywords) (line : ℕ) (ds : List Directive) (t : Symbol) (ts : List Symbol) (f : GoModFault) → is_name_kind t.kind ≡ false → f ≡ faults.Grammar line → IsRowFault known ds None line (t ∷ ts) f
+nameless_fault : (known : Keywords) (line : ℕ) (ds : List Directive) (t : Symbol) (ts : List Symbol) (f : GoModFault)
+    → is_name_kind t.kind ≡ false → f ≡ faults.Grammar line → IsRowFault known ds None line (t ∷ ts) f
 nameless_fault known line ds t ts f nameless is =
     inr (
       λ u. both_ways (is_name_kind t.kind) nameless (ap is_name_kind u.0),
@@ -131,7 +137,8 @@ nameless_fault known line ds t ts f nameless is =
     )
 
 -- the fault found in a line inside a block is the fault of the line
-inside_fault : (known : Keywords) (line : ℕ) (ds : List Directive) (b : OpenBlock) (t : Symbol) (ts : List Symbol) (f : GoModFault) → IsAlone ds (Some b) → line_inside line (context_at ds (Some b)) b.keyword (t ∷ ts) ≡ Err f → IsRowFault known ds (Some b) line (t ∷ ts) f
+inside_fault : (known : Keywords) (line : ℕ) (ds : List Directive) (b : OpenBlock) (t : Symbol) (ts : List Symbol) (f : GoModFault)
+    → IsAlone ds (Some b) → line_inside line (context_at ds (Some b)) b.keyword (t ∷ ts) ≡ Err f → IsRowFault known ds (Some b) line (t ∷ ts) f
 unfolding line_inside
 inside_fault known line ds b t ts f alone h =
     ⊎_elim
@@ -179,7 +186,8 @@ inside_fault known line ds b t ts f alone h =
     (chosen (is_module b.keyword && (context_at ds (Some b)).has_module) _ _ _ other.1))
     (chosen (is_closing (t ∷ ts)) _ _ _ h)
 
-pub says_fault : (known : Keywords) (line : ℕ) (ds : List Directive) (o : Option OpenBlock) (ts : List Symbol) (f : GoModFault) → IsAlone ds o → line_says known line (context_at ds o) ts ≡ Err f → IsRowFault known ds o line ts f
+pub says_fault : (known : Keywords) (line : ℕ) (ds : List Directive) (o : Option OpenBlock) (ts : List Symbol) (f : GoModFault)
+    → IsAlone ds o → line_says known line (context_at ds o) ts ≡ Err f → IsRowFault known ds o line ts f
 unfolding line_says line_outside
 says_fault known line ds o [] f alone h = cc
 says_fault known line ds None (t ∷ ts) f alone h =

@@ -9,7 +9,8 @@ use Rattle.modlex.specs.Symbols.{Symbol, is_word, is_arrow_kind, is_word_kind}
 use Rattle.gomod.specs.Keywords.{takes_any_word}
 use Rattle.modlex.specs.Words.{value_of}
 use Rattle.gomod.specs.Reading.{are_interval_kinds}
-use Rattle.gomod.specs.Entries.{Demand, module_path, go_version, version, interval, old_demands, old_version_demands, new_file_demands, new_version_demands, HasShape, module_shape, word_shape, go_shape, require_shape, exclude_shape, path_by_file, path_by_version, version_by_file, version_by_version, retract_version, retract_interval}
+use Rattle.gomod.specs.Entries.{Demand, module_path, go_version, version, interval, old_demands, old_version_demands, new_file_demands, new_version_demands, HasShape, module_shape}
+use Rattle.gomod.specs.Entries.{word_shape, go_shape, require_shape, exclude_shape, path_by_file, path_by_version, version_by_file, version_by_version, retract_version, retract_interval}
 use Rattle.modlex.proofs.TokenSound.{chosen}
 
 abbrev pub when : Bool → List Demand → Option (List Demand)

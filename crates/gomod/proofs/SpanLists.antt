@@ -200,8 +200,10 @@ module _ (v : Version) where
   parts-of zero (i ∷ is) le begun later =
       (not-false (is_below v i.low) (later 0 i (omega arith) (omega arith)), parts-of zero is (omega arith) (λ j d a b. absurd (omega arith)) (λ j d a b. later (suc j) d (omega arith) (omega arith)))
   parts-of (suc k) [] le begun later = absurd (omega arith)
-  parts-of (suc k) (i ∷ is) le begun later =
-      (not-true (is_below v i.low) (begun 0 i (omega arith) (omega arith)), parts-of k is (omega arith) (λ j d a b. begun (suc j) d (omega arith) (omega arith)) (λ j d a b. later (suc j) d (omega arith) (omega arith)))
+  parts-of (suc k) (i ∷ is) le begun later = (
+    not-true (is_below v i.low) (begun 0 i (omega arith) (omega arith)),
+    parts-of k is (omega arith) (λ j d a b. begun (suc j) d (omega arith) (omega arith)) (λ j d a b. later (suc j) d (omega arith) (omega arith)),
+  )
 
   pub last-at : (k : ℕ) (is : List Interval) (d : Interval) → k < length is → last_has v (suc k) is ≡ not (is_below (get_or is k d).high v)
   last-at k [] d lt = absurd (omega arith)

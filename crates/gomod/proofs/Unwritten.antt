@@ -5,9 +5,11 @@ use Rattle.gomod.specs.declared.keyword.Keyword.{Keyword}
 use Rattle.modlex.specs.Symbols.{Symbol}
 use Rattle.gomod.specs.Keywords.{Keywords}
 use Rattle.gomod.specs.Entries.{IsRight}
-use Rattle.gomod.specs.Grammar.{Row, row, has_symbols, keyword_symbol, Directive, one, block, OpenBlock, opening, closing, rows_of, rows_of_open, keyword_of, keywords_in, item, items, is_keyword, is_single, IsKnown, IsBlock, IsOpenBlock, AreWritten}
+use Rattle.gomod.specs.Grammar.{Row, row, has_symbols, keyword_symbol, Directive, one, block, OpenBlock, opening, closing, rows_of, rows_of_open}
+use Rattle.gomod.specs.Grammar.{keyword_of, keywords_in, item, items, is_keyword, is_single, IsKnown, IsBlock, IsOpenBlock, AreWritten}
 use Rattle.gomod.proofs.Lists.{all-front, all-back, flat_map-join, filter-join, last_of, last_same, none-any, empty_list, length-join}
-use Rattle.gomod.proofs.Moves.{Move, blank, single, begins, inside, closes, with_row, closed, IsFresh, keywords_more, items_more, keywords_in-move, items-move, keywords_in-single, items-single, items-inside}
+use Rattle.gomod.proofs.Moves.{Move, blank, single, begins, inside, closes, with_row, closed, IsFresh, keywords_more}
+use Rattle.gomod.proofs.Moves.{items_more, keywords_in-move, items-move, keywords_in-single, items-single, items-inside}
 use Rattle.gomod.proofs.Written.{is_keyword-itself}
 
 -- the directives above a last line, and its move
@@ -18,7 +20,8 @@ pub record Back (known : Keywords) (rows : List Row) (r : Row) (es : List Direct
   pub above : AreWritten known rows directives opened
 
 -- what is known of all lines is known of those before the last
-fewer : {known : Keywords} {rows : List Row} {ds es : List Directive} {o p : Option OpenBlock} {r : Row} (m : Move known ds o r es p) → filter has_symbols rows ≡ flat_map rows_of ds ++ rows_of_open o → AllByRecursion IsBlock ds → IsOpenBlock o → AreWritten known (rows ++ r ∷ []) es p → Back known rows r es p
+fewer : {known : Keywords} {rows : List Row} {ds es : List Directive} {o p : Option OpenBlock} {r : Row} (m : Move known ds o r es p)
+    → filter has_symbols rows ≡ flat_map rows_of ds ++ rows_of_open o → AllByRecursion IsBlock ds → IsOpenBlock o → AreWritten known (rows ++ r ∷ []) es p → Back known rows r es p
 fewer {known = known} {rows = rows} {ds = ds} {es = es} {o = o} {p = p} {r = r} m spelled blocks open_block w = record {
   directives = ds;
   opened = o;
@@ -52,7 +55,8 @@ back_blank known rows line es p w =
     fewer (blank es p line) (sym (filter-join has_symbols rows (row line [] ∷ []) ∙ append-nil _) ∙ w.spelled) w.blocks w.open_block w
 
 -- it is a directive with its entry
-back_single : (known : Keywords) (rows : List Row) (ds : List Directive) (k : Keyword) (e : Row) (r : Row) → filter has_symbols rows ≡ flat_map rows_of ds → r ≡ row e.line (keyword_symbol k ∷ e.symbols) → AreWritten known (rows ++ r ∷ []) (ds ++ one k e ∷ []) None → Back known rows r (ds ++ one k e ∷ []) None
+back_single : (known : Keywords) (rows : List Row) (ds : List Directive) (k : Keyword) (e : Row) (r : Row) → filter has_symbols rows ≡ flat_map rows_of ds
+    → r ≡ row e.line (keyword_symbol k ∷ e.symbols) → AreWritten known (rows ++ r ∷ []) (ds ++ one k e ∷ []) None → Back known rows r (ds ++ one k e ∷ []) None
 back_single known rows ds k e r spelled is w =
     let keywords : keywords_in (ds ++ one k e ∷ []) None ≡ keywords_in ds None ++ k ∷ [] = keywords_in-single ds k e in
     let entries : items (ds ++ one k e ∷ []) None ≡ items ds None ++ item k e ∷ [] = items-single ds k e in
@@ -68,7 +72,8 @@ back_single known rows ds k e r spelled is w =
     (subst (λ x. AreWritten known (rows ++ x ∷ []) (ds ++ one k e ∷ []) None) is w))
 
 -- it ends a block
-back_closes : (known : Keywords) (rows : List Row) (ds : List Directive) (b : OpenBlock) (last : ℕ) (r : Row) → filter has_symbols rows ≡ flat_map rows_of ds ++ rows_of_open (Some b) → r ≡ closing last → AreWritten known (rows ++ r ∷ []) (ds ++ closed b last ∷ []) None → Back known rows r (ds ++ closed b last ∷ []) None
+back_closes : (known : Keywords) (rows : List Row) (ds : List Directive) (b : OpenBlock) (last : ℕ) (r : Row) → filter has_symbols rows ≡ flat_map rows_of ds ++ rows_of_open (Some b)
+    → r ≡ closing last → AreWritten known (rows ++ r ∷ []) (ds ++ closed b last ∷ []) None → Back known rows r (ds ++ closed b last ∷ []) None
 back_closes known rows ds b last r spelled is w =
     let all = all-back IsBlock ds (closed b last ∷ []) w.blocks in
     subst (λ x. Back known rows x (ds ++ closed b last ∷ []) None) (sym is)
@@ -80,7 +85,8 @@ back_closes known rows ds b last r spelled is w =
     (subst (λ x. AreWritten known (rows ++ x ∷ []) (ds ++ closed b last ∷ []) None) is w))
 
 -- it begins a block
-back_begins : (known : Keywords) (rows : List Row) (ds : List Directive) (k : Keyword) (first : ℕ) (r : Row) → filter has_symbols rows ≡ flat_map rows_of ds → r ≡ opening k first → AreWritten known (rows ++ r ∷ []) ds (Some (record { keyword = k; first = first; entries = [] })) → Back known rows r ds (Some (record { keyword = k; first = first; entries = [] }))
+back_begins : (known : Keywords) (rows : List Row) (ds : List Directive) (k : Keyword) (first : ℕ) (r : Row) → filter has_symbols rows ≡ flat_map rows_of ds → r ≡ opening k first
+    → AreWritten known (rows ++ r ∷ []) ds (Some (record { keyword = k; first = first; entries = [] })) → Back known rows r ds (Some (record { keyword = k; first = first; entries = [] }))
 back_begins known rows ds k first r spelled is w =
     let opened : Option OpenBlock = Some (record { keyword = k; first = first; entries = [] }) in
     let keywords : keywords_in ds opened ≡ keywords_in ds None ++ k ∷ [] = ap (λ l. l ++ k ∷ []) (sym (append-nil (map keyword_of ds))) in
@@ -96,7 +102,8 @@ back_begins known rows ds k first r spelled is w =
     (subst (λ x. AreWritten known (rows ++ x ∷ []) ds opened) is w))
 
 -- it is an entry of a block
-back_inside : (known : Keywords) (rows : List Row) (ds : List Directive) (b : OpenBlock) (line : ℕ) (t : Symbol) (ts : List Symbol) → filter has_symbols rows ≡ flat_map rows_of ds ++ rows_of_open (Some b) → AreWritten known (rows ++ row line (t ∷ ts) ∷ []) ds (Some (with_row b (row line (t ∷ ts)))) → Back known rows (row line (t ∷ ts)) ds (Some (with_row b (row line (t ∷ ts))))
+back_inside : (known : Keywords) (rows : List Row) (ds : List Directive) (b : OpenBlock) (line : ℕ) (t : Symbol) (ts : List Symbol) → filter has_symbols rows ≡ flat_map rows_of ds ++ rows_of_open
+    (Some b) → AreWritten known (rows ++ row line (t ∷ ts) ∷ []) ds (Some (with_row b (row line (t ∷ ts)))) → Back known rows (row line (t ∷ ts)) ds (Some (with_row b (row line (t ∷ ts))))
 back_inside known rows ds b line t ts spelled w =
     let r : Row = row line (t ∷ ts) in
     let entries : items ds (Some (with_row b r)) ≡ items ds (Some b) ++ item b.keyword r ∷ [] = items-inside ds b r in
@@ -114,7 +121,8 @@ abbrev Goal : Keywords → List Row → Row → List Directive → Option OpenBl
 Goal known rows r es p = AreWritten known (rows ++ r ∷ []) es p → Back known rows r es p
 
 -- the last line is the last of what an open block is written on
-back_open : (known : Keywords) (rows : List Row) (line : ℕ) (t : Symbol) (ts : List Symbol) (es : List Directive) (b : OpenBlock) → filter has_symbols rows ++ row line (t ∷ ts) ∷ [] ≡ flat_map rows_of es ++ rows_of_open (Some b) → Goal known rows (row line (t ∷ ts)) es (Some b)
+back_open : (known : Keywords) (rows : List Row) (line : ℕ) (t : Symbol) (ts : List Symbol) (es : List Directive) (b : OpenBlock)
+    → filter has_symbols rows ++ row line (t ∷ ts) ∷ [] ≡ flat_map rows_of es ++ rows_of_open (Some b) → Goal known rows (row line (t ∷ ts)) es (Some b)
 back_open known rows line t ts es b h w =
     ⊎_elim
     (λ none.
@@ -131,7 +139,8 @@ back_open known rows line t ts es b h w =
     (last_of b.entries)
 
 -- it is the last of what the last directive is written on
-back_directive : (known : Keywords) (rows : List Row) (r : Row) (ds : List Directive) (d : Directive) → filter has_symbols rows ++ r ∷ [] ≡ flat_map rows_of ds ++ rows_of d → Goal known rows r (ds ++ d ∷ []) None
+back_directive : (known : Keywords) (rows : List Row) (r : Row) (ds : List Directive) (d : Directive)
+    → filter has_symbols rows ++ r ∷ [] ≡ flat_map rows_of ds ++ rows_of d → Goal known rows r (ds ++ d ∷ []) None
 back_directive known rows r ds (one k e) h w =
     let parts = last_same (filter has_symbols rows) (flat_map rows_of ds) r (row e.line (keyword_symbol k ∷ e.symbols)) h in
     back_single known rows ds k e r parts.0 parts.1 w
@@ -155,7 +164,8 @@ back_closed known rows r es h =
     (last_of es)
 
 -- the lines before the last are written, and the last is a move
-pub written-back : (known : Keywords) (rows : List Row) (line : ℕ) (ts : List Symbol) (es : List Directive) (p : Option OpenBlock) → AreWritten known (rows ++ row line ts ∷ []) es p → Back known rows (row line ts) es p
+pub written-back : (known : Keywords) (rows : List Row) (line : ℕ) (ts : List Symbol) (es : List Directive) (p : Option OpenBlock)
+    → AreWritten known (rows ++ row line ts ∷ []) es p → Back known rows (row line ts) es p
 written-back known rows line [] es p w = back_blank known rows line es p w
 written-back known rows line (t ∷ ts) es None w =
     back_closed known rows (row line (t ∷ ts)) es (sym (filter-join has_symbols rows (row line (t ∷ ts) ∷ [])) ∙ w.spelled ∙ append-nil _) w

@@ -70,9 +70,11 @@ open_more (inside ds b line t ts room s) h =
 open_more (closes ds b line filled) h = tt
 
 -- one keyword more
-fresh_by : (ds : List Directive) (j k : Keyword) (b : Bool) → is_keyword j k ≡ b → IsFresh ds k → is_single j ≡ true → length (filter (is_keyword j) (map keyword_of ds ++ [])) ≤ 1 → length (filter (is_keyword j) ((map keyword_of ds ++ []) ++ k ∷ [])) ≤ 1
+fresh_by : (ds : List Directive) (j k : Keyword) (b : Bool) → is_keyword j k ≡ b → IsFresh ds k → is_single j ≡ true
+    → length (filter (is_keyword j) (map keyword_of ds ++ [])) ≤ 1 → length (filter (is_keyword j) ((map keyword_of ds ++ []) ++ k ∷ [])) ≤ 1
 fresh_by ds j k false same fresh only few =
-    let join : filter (is_keyword j) ((map keyword_of ds ++ []) ++ k ∷ []) ≡ filter (is_keyword j) (map keyword_of ds ++ []) ++ filter (is_keyword j) (k ∷ []) = filter-join (is_keyword j) (map keyword_of ds ++ []) (k ∷ []) in
+    let join : filter (is_keyword j) ((map keyword_of ds ++ []) ++ k ∷ []) ≡ filter (is_keyword j) (map keyword_of ds ++ []) ++ filter (is_keyword j) (k ∷ []) =
+    filter-join (is_keyword j) (map keyword_of ds ++ []) (k ∷ []) in
     let none : length (filter (is_keyword j) (k ∷ [])) ≡ 0 = rw same refl in
     omega (arith, ap length join, length-join (filter (is_keyword j) (map keyword_of ds ++ [])) (filter (is_keyword j) (k ∷ [])), none, few)
 fresh_by ds j k true same fresh only few =
@@ -83,7 +85,8 @@ fresh_by ds j k true same fresh only few =
     let join = filter-join (is_keyword j) (map keyword_of ds ++ []) (k ∷ []) in
     omega (arith, ap length join, length-join (filter (is_keyword j) (map keyword_of ds ++ [])) (filter (is_keyword j) (k ∷ [])), ap length empty, one_more)
 
-once_more : {known : Keywords} {ds es : List Directive} {o p : Option OpenBlock} {r : Row} (m : Move known ds o r es p) (j : Keyword) → is_single j ≡ true → length (filter (is_keyword j) (keywords_in ds o)) ≤ 1 → length (filter (is_keyword j) (keywords_in ds o ++ keywords_more m)) ≤ 1
+once_more : {known : Keywords} {ds es : List Directive} {o p : Option OpenBlock} {r : Row} (m : Move known ds o r es p) (j : Keyword) → is_single j ≡ true
+    → length (filter (is_keyword j) (keywords_in ds o)) ≤ 1 → length (filter (is_keyword j) (keywords_in ds o ++ keywords_more m)) ≤ 1
 once_more (blank ds o line) j only few = subst (λ l. length (filter (is_keyword j) l) ≤ 1) (sym (append-nil _)) few
 once_more (single ds line k ts a f s) j only few = fresh_by ds j k (is_keyword j k) refl f only few
 once_more (begins ds line k a f h) j only few = fresh_by ds j k (is_keyword j k) refl f only few
@@ -91,12 +94,14 @@ once_more (inside ds b line t ts room s) j only few = subst (λ l. length (filte
 once_more (closes ds b line filled) j only few = subst (λ l. length (filter (is_keyword j) l) ≤ 1) (sym (append-nil _)) few
 
 -- the lines with the line more are written too
-pub written-move : {known : Keywords} {ds es : List Directive} {o p : Option OpenBlock} {r : Row} (rows : List Row) (m : Move known ds o r es p) → AreWritten known rows ds o → AreWritten known (rows ++ r ∷ []) es p
+pub written-move : {known : Keywords} {ds es : List Directive} {o p : Option OpenBlock} {r : Row} (rows : List Row) (m : Move known ds o r es p)
+    → AreWritten known rows ds o → AreWritten known (rows ++ r ∷ []) es p
 written-move {known = known} {ds = ds} {es = es} {o = o} {p = p} {r = r} rows m w = record {
   spelled = filter-join has_symbols rows (r ∷ []) ∙ ap (λ l. l ++ filter has_symbols (r ∷ [])) w.spelled ∙ sym (rows-move m);
   known_keywords = subst (AllByRecursion (IsKnown known)) (sym (keywords_in-move m)) (all-append (IsKnown known) (keywords_in ds o) (keywords_more m) w.known_keywords (known_more m));
   blocks = blocks_more m w.blocks w.open_block;
   open_block = open_more m w.open_block;
   single = λ j only. subst (λ l. length (filter (is_keyword j) l) ≤ 1) (sym (keywords_in-move m)) (once_more m j only (w.single j only));
-  entries = subst (AllByRecursion (λ i. IsRight i.keyword i.entry.symbols)) (sym (items-move m)) (all-append (λ i. IsRight i.keyword i.entry.symbols) (items ds o) (items_more m) w.entries (right_more m));
+  entries =
+      subst (AllByRecursion (λ i. IsRight i.keyword i.entry.symbols)) (sym (items-move m)) (all-append (λ i. IsRight i.keyword i.entry.symbols) (items ds o) (items_more m) w.entries (right_more m));
 }

@@ -85,12 +85,18 @@ pub data HasShape : Keyword → List Symbol → List Demand → Type 0 where
   go_shape : (w : Symbol) → IsWord w → HasShape Go (w ∷ []) (go_version (value_of w) ∷ [])
   require_shape : (p v : Symbol) → IsWord p → IsWord v → HasShape Require (p ∷ v ∷ []) (old_version_demands p v)
   exclude_shape : (p v : Symbol) → IsWord p → IsWord v → HasShape Exclude (p ∷ v ∷ []) (old_version_demands p v)
-  path_by_file : (p a f : Symbol) → IsWord p → IsArrow a → IsWord f → HasShape Replace (p ∷ a ∷ f ∷ []) (old_demands p ++ new_file_demands f)
-  path_by_version : (p a q w : Symbol) → IsWord p → IsArrow a → IsWord q → IsWord w → HasShape Replace (p ∷ a ∷ q ∷ w ∷ []) (old_demands p ++ new_version_demands q w)
-  version_by_file : (p v a f : Symbol) → IsWord p → IsWord v → IsArrow a → IsWord f → HasShape Replace (p ∷ v ∷ a ∷ f ∷ []) (old_version_demands p v ++ new_file_demands f)
-  version_by_version : (p v a q w : Symbol) → IsWord p → IsWord v → IsArrow a → IsWord q → IsWord w → HasShape Replace (p ∷ v ∷ a ∷ q ∷ w ∷ []) (old_version_demands p v ++ new_version_demands q w)
+  path_by_file : (p a f : Symbol) → IsWord p → IsArrow a → IsWord f
+      → HasShape Replace (p ∷ a ∷ f ∷ []) (old_demands p ++ new_file_demands f)
+  path_by_version : (p a q w : Symbol) → IsWord p → IsArrow a → IsWord q → IsWord w
+      → HasShape Replace (p ∷ a ∷ q ∷ w ∷ []) (old_demands p ++ new_version_demands q w)
+  version_by_file : (p v a f : Symbol) → IsWord p → IsWord v → IsArrow a → IsWord f
+      → HasShape Replace (p ∷ v ∷ a ∷ f ∷ []) (old_version_demands p v ++ new_file_demands f)
+  version_by_version : (p v a q w : Symbol) → IsWord p → IsWord v → IsArrow a → IsWord q → IsWord w
+      → HasShape Replace (p ∷ v ∷ a ∷ q ∷ w ∷ []) (old_version_demands p v ++ new_version_demands q w)
   retract_version : (v : Symbol) → IsWord v → HasShape Retract (v ∷ []) (version (value_of v) ∷ [])
-  retract_interval : (l v c w r : Symbol) → l.kind ≡ kinds.BracketLeft → IsWord v → c.kind ≡ kinds.Comma → IsWord w → r.kind ≡ kinds.BracketRight → HasShape Retract (l ∷ v ∷ c ∷ w ∷ r ∷ []) (version (value_of v) ∷ version (value_of w) ∷ interval (value_of v) (value_of w) ∷ [])
+  retract_interval : (l v c w r : Symbol) → l.kind ≡ kinds.BracketLeft
+      → IsWord v → c.kind ≡ kinds.Comma → IsWord w → r.kind ≡ kinds.BracketRight
+      → HasShape Retract (l ∷ v ∷ c ∷ w ∷ r ∷ []) (version (value_of v) ∷ version (value_of w) ∷ interval (value_of v) (value_of w) ∷ [])
   word_shape : (k : Keyword) (w : Symbol) → takes_any_word k ≡ true → IsWord w → HasShape k (w ∷ []) []
 
 -- the entry has a shape, and its words meet the demands

@@ -4,7 +4,8 @@ use Rattle.std.specs.Str.{bytes_eq}
 use Rattle.modlex.specs.declared.lexer.Kind.{Kind}
 use Rattle.modlex.specs.declared.lexer.Kind.TheVariants as kinds
 use Rattle.gomod.specs.declared.keyword.Keyword.{Keyword}
-use Rattle.gomod.specs.declared.keyword.Keyword.TheVariants.{Module, Go, Toolchain, Require, Exclude, Replace, Retract, Tool, Godebug, Ignore}
+use Rattle.gomod.specs.declared.keyword.Keyword.TheVariants.{Module, Go, Toolchain, Require, Exclude}
+use Rattle.gomod.specs.declared.keyword.Keyword.TheVariants.{Replace, Retract, Tool, Godebug, Ignore}
 
 -- how a keyword is spelled
 abbrev pub spelling : Keyword → List ℕ

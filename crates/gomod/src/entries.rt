@@ -5,7 +5,9 @@
 ghost use Rattle.std.specs.Prelude.{◌≡◌};
 ghost use Rattle.modlex.specs.Symbols.{symbol, symbols};
 ghost use Rattle.gomod.specs.Paths.{is_path, is_loose_path, is_below};
-ghost use Rattle.gomod.specs.Reading.{Gives, path_word, version_fault, version_word, fitting_word, module_entry, go_entry, word_entry, pair, pair_entry, old_path, old_version, new_file, new_version, replace_three, replace_four, replace_five, replace_entry, are_interval_kinds, interval, retract_entry};
+ghost use Rattle.gomod.specs.Reading.{Gives, path_word, version_fault, version_word, fitting_word, module_entry, go_entry};
+ghost use Rattle.gomod.specs.Reading.{word_entry, pair, pair_entry, old_path, old_version, new_file, new_version, replace_three};
+ghost use Rattle.gomod.specs.Reading.{replace_four, replace_five, replace_entry, are_interval_kinds, interval, retract_entry};
 
 use super::fault::GoModFault;
 use super::go_version::{is_file_path, is_go_version};
@@ -299,7 +301,8 @@ fn replace_five(
     fitting: &Token,
 ) -> Result<(), GoModFault>
     ensures { Gives (λ o. o) result
-        (replace_five line (symbol path.now) (symbol version.now) (symbol arrow.now) (symbol target.now) (symbol fitting.now)) }
+        (replace_five line (symbol path.now) (symbol version.now)
+        (symbol arrow.now) (symbol target.now) (symbol fitting.now)) }
 {
     if path.is_word()
         && version.is_word()

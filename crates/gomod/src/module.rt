@@ -37,7 +37,12 @@ impl Model for GoMod {
 
     ghost Value = { GoModule };
 
-    ghost view = { λ m. record { path = m.path; required = m.required.items; retractions = map interval_of m.retractions.items; bare = m.bare } };
+    ghost view = { λ m. record {
+      path = m.path;
+      required = m.required.items;
+      retractions = map interval_of m.retractions.items;
+      bare = m.bare;
+    } };
 
     ghost invariant = { λ m. (v : Version)
         → list_any (covers v) m.stretches ≡ list_any (covers v) (map interval_of m.retractions.items) };

@@ -83,7 +83,8 @@ module _ (w : World) (s p v : List ℕ) (e : Entry) (other : List ℕ) (apart : 
       (ap (λ texts. in_order (by_precedence (named (in_order texts)))) (sym (seen_still t)))
       (λ u. ap without_zip (sym (on_others (chain w t) u))) list is
 
-pub others_still : (w : World) (s p v : List ℕ) (e : Entry) (lists : Kept) → ((list : KeptList) → Holds lists list → bytes_eq list.path p ≡ false) → AreLists w lists → AreLists (with_entry w (place s p v) e) lists
+pub others_still : (w : World) (s p v : List ℕ) (e : Entry) (lists : Kept)
+    → ((list : KeptList) → Holds lists list → bytes_eq list.path p ≡ false) → AreLists w lists → AreLists (with_entry w (place s p v) e) lists
 others_still w s p v e lists apart are list at = still w s p v e list.path (apart list at) list.shelf list (are list at)
 
 -- lists stay right when a group is added

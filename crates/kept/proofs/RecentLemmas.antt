@@ -1,5 +1,6 @@
 -- Cached values: which remain, and what they weigh.
-use Rattle.std.proofs.Common.{◌≡◌, ◌∙◌, ◌≤◌, ◌⊎◌, ◌+◌, ◌-◌, ℕ, zero, suc, Bool, true, false, cond, List, [], ◌∷◌, take, length, slice_get, Contains, Option, Some, None, inl, inr, refl, sym, ap, subst, arith}
+use Rattle.std.proofs.Common.{◌≡◌, ◌∙◌, ◌≤◌, ◌⊎◌, ◌+◌, ◌-◌, ℕ, zero, suc, Bool, true, false, cond, List, [], ◌∷◌, take}
+use Rattle.std.proofs.Common.{length, slice_get, Contains, Option, Some, None, inl, inr, refl, sym, ap, subst, arith}
 use Rattle.std.specs.Map.{lookup, lookup_entry, remove_entry}
 use Rattle.std.specs.Option.{option_map_or}
 use Rattle.lru.specs.LruCache.{LruCache, lru_cache, promoted, put_entries, last_entry}
@@ -116,7 +117,8 @@ module _ {V : Type 0} where
 
       module _ (is : new ≡ lru_cache (remove_entry test old.entries) old.cap) where
         pub removed_holds : (v : V) → Holds new.entries v → Holds es v
-        removed_holds v h = subst (λ l. Holds l v) was (holds_fewer (remove_entry test old.entries) old.entries (Contains-remove_entry test old.entries) v (subst (λ (c : Cache V). Holds c.entries v) is h))
+        removed_holds v h =
+            subst (λ l. Holds l v) was (holds_fewer (remove_entry test old.entries) old.entries (Contains-remove_entry test old.entries) v (subst (λ (c : Cache V). Holds c.entries v) is h))
 
         pub none_removed_fits : (weight_in new.entries ≤ noted) × (noted ≤ most)
         none_removed_fits =
@@ -138,7 +140,8 @@ module _ {V : Type 0} where
 
     module _ (is : new ≡ lru_cache (take (length old.entries - 1) old.entries) old.cap) where
       pub cut_holds : (v : V) → Holds new.entries v → Holds es v
-      cut_holds v h = subst (λ l. Holds l v) was (holds_fewer (take (length old.entries - 1) old.entries) old.entries (Contains-take (length old.entries - 1) old.entries) v (subst (λ (c : Cache V). Holds c.entries v) is h))
+      cut_holds v h = subst (λ l. Holds l v) was
+          (holds_fewer (take (length old.entries - 1) old.entries) old.entries (Contains-take (length old.entries - 1) old.entries) v (subst (λ (c : Cache V). Holds c.entries v) is h))
 
       pub none_cut_fits : (weight_in new.entries ≤ noted) × (noted ≤ most)
       none_cut_fits =

@@ -70,7 +70,8 @@ stands_on w ss p v (Some e) found = go ss found
     go : (ss : List (List ℕ)) → first_on w ss p v ≡ Some e → map.get w.entries (place e.shelf p v) ≡ Some e.entry
     go [] found = cc found
     go (s ∷ ss) found =
-        elim (map.get w.entries (place s p v)) as (λ o. map.get w.entries (place s p v) ≡ o → option_or (seen_at o s) (first_on w ss p v) ≡ Some e → map.get w.entries (place e.shelf p v) ≡ Some e.entry) [
+        elim (map.get w.entries (place s p v))
+        as (λ o. map.get w.entries (place s p v) ≡ o → option_or (seen_at o s) (first_on w ss p v) ≡ Some e → map.get w.entries (place e.shelf p v) ≡ Some e.entry) [
           | None ↦ λ _ rest. go ss rest
           | Some x ↦ λ here is.
               let mine : Seen = record { shelf = s; entry = x } in

@@ -12,7 +12,8 @@ is_of s p list = bytes_eq list.shelf s && bytes_eq list.path p
 
 -- a list has the versions of its path that its shelf sees, in ascending precedence, and the latest of them if it has one cached
 abbrev pub IsListIn : World → KeptList → Type 0
-IsListIn w list = (list.versions ≡ versions_of w list.shelf list.path) × IfSome list.latest (λ latest. latest ≡ latest_of w list.shelf list.path)
+IsListIn w list = (list.versions ≡ versions_of w list.shelf list.path)
+    × IfSome list.latest (λ latest. latest ≡ latest_of w list.shelf list.path)
 
 -- `IsListIn` holds of each cached list
 abbrev pub AreLists : World → List (ℕ × (ℕ × KeptList)) → Type 0

@@ -37,7 +37,8 @@ impl Recent<KeptKey> {
     /// Returns a copy of what a key holds, or None if it is not cached or memory runs out.
     pub fn holder(&mut self, alloc: Global, key: &str) -> Option<Holder>
         ensures others { (it : _) → Holds self.new it → Holds self.old it }
-        ensures found { IfSome result (λ holder. (w : World) → AreKeys w self.old → map.get w.keys key.now ≡ Some holder) }
+        ensures found { IfSome result
+            (λ holder. (w : World) → AreKeys w self.old → map.get w.keys key.now ≡ Some holder) }
     {
         self.promote(number_of(key));
         let kept = self.kept_key(key)?;
@@ -49,7 +50,8 @@ impl Recent<KeptKey> {
 
     /// Caches a copy of what a key holds, if the key exists. If memory runs out, it is not cached.
     pub fn keep_holder(&mut self, alloc: Global, key: &str, holder: Option<&Holder>)
-        ensures { (w : World) → AreKeys w self.old → map.get w.keys key.now ≡ option_copied holder.entry → AreKeys w self.new }
+        ensures { (w : World) → AreKeys w self.old
+            → map.get w.keys key.now ≡ option_copied holder.entry → AreKeys w self.new }
     {
         let Some(holder) = holder else {
             return;

@@ -120,7 +120,8 @@ impl Recent<KeptList> {
 
     /// Caches a copy of the versions of a path that a shelf sees. If memory runs out, they are not cached.
     pub fn keep_copy(&mut self, alloc: Global, shelf: &str, path: &str, versions: &[Version])
-        ensures { (w : World) → AreLists w self.old → versions.now ≡ versions_of w shelf.now path.now → AreLists w self.new }
+        ensures { (w : World) → AreLists w self.old
+            → versions.now ≡ versions_of w shelf.now path.now → AreLists w self.new }
     {
         if let Ok(copies) = copied(alloc, versions) {
             self.keep_list(alloc, shelf, path, copies, None);

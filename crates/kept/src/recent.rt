@@ -32,7 +32,8 @@ impl<V> Model for Recent<V> {
 
     ghost view = { λ r. option_map_or (λ cache. cache.entries) r.cache [] };
 
-    ghost invariant = { λ r. (weight_in (option_map_or (λ cache. cache.entries) r.cache []) ≤ r.weight) × (r.weight ≤ r.most) };
+    ghost invariant = { λ r. (weight_in (option_map_or (λ cache. cache.entries) r.cache []) ≤ r.weight)
+        × (r.weight ≤ r.most) };
 }
 
 impl<V> Recent<V> {

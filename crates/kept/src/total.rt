@@ -7,7 +7,8 @@ ghost use Rattle.kept.specs.Total.{IsTotal};
 
 /// Returns the number of all versions after one more was stored, or None if it is not cached or can't grow.
 pub fn raised(total: Option<u64>) -> Option<u64>
-    ensures { (w : World) (q : _) (e : _) → map.get w.entries q ≡ None → IsTotal w total → IsTotal (with_entry w q e) result }
+    ensures { (w : World) (q : _) (e : _) → map.get w.entries q ≡ None
+        → IsTotal w total → IsTotal (with_entry w q e) result }
 {
     let Some(number) = total else {
         return None;

@@ -34,7 +34,9 @@ after_fault : (front : List Lexeme) (r : Result (List Lexeme) TokenFault) (e : T
 after_fault front (Ok ts) e h = cc
 after_fault front (Err d) e h = h
 
-found_fault : (line at b : ℕ) (bs : List ℕ) (e : TokenFault) (o : Option (Kind × ℕ)) → ((k : ℕ) → tokens_behind k line (at + 1) bs ≡ Err e → e ≡ token_faults.Lex line) → ◌≡◌ {A = Result (List Lexeme) TokenFault} (elim o [ None ↦ Err (token_faults.Lex line) | Some x ↦ tokens_then (lexeme x.0 line at (take x.1 (b ∷ bs)) ∷ []) (tokens_behind (x.1 - 1) line (at + 1) bs) ]) (Err e) → e ≡ token_faults.Lex line
+found_fault : (line at b : ℕ) (bs : List ℕ) (e : TokenFault) (o : Option (Kind × ℕ))
+    → ((k : ℕ) → tokens_behind k line (at + 1) bs ≡ Err e → e ≡ token_faults.Lex line) → ◌≡◌ {A = Result (List Lexeme) TokenFault}
+    (elim o [ None ↦ Err (token_faults.Lex line) | Some x ↦ tokens_then (lexeme x.0 line at (take x.1 (b ∷ bs)) ∷ []) (tokens_behind (x.1 - 1) line (at + 1) bs) ]) (Err e) → e ≡ token_faults.Lex line
 found_fault line at b bs e None below h = cc
 found_fault line at b bs e (Some x) below h = below (x.1 - 1) (after_fault (lexeme x.0 line at (take x.1 (b ∷ bs)) ∷ []) _ e h)
 
@@ -61,7 +63,9 @@ none_few : (n : ℕ) (ts : List Lexeme) → ◌≡◌ {A = Result (List Lexeme) 
 none_few n [] h = omega arith
 none_few n (t ∷ ts) h = cc
 
-found_few : (line at b : ℕ) (bs : List ℕ) (ts : List Lexeme) (o : Option (Kind × ℕ)) → ((k : ℕ) (us : List Lexeme) → tokens_behind k line (at + 1) bs ≡ Ok us → length us ≤ length bs) → ◌≡◌ {A = Result (List Lexeme) TokenFault} (elim o [ None ↦ Err (token_faults.Lex line) | Some x ↦ tokens_then (lexeme x.0 line at (take x.1 (b ∷ bs)) ∷ []) (tokens_behind (x.1 - 1) line (at + 1) bs) ]) (Ok ts) → length ts ≤ length (b ∷ bs)
+found_few : (line at b : ℕ) (bs : List ℕ) (ts : List Lexeme) (o : Option (Kind × ℕ))
+    → ((k : ℕ) (us : List Lexeme) → tokens_behind k line (at + 1) bs ≡ Ok us → length us ≤ length bs) → ◌≡◌ {A = Result (List Lexeme) TokenFault} (elim o
+    [ None ↦ Err (token_faults.Lex line) | Some x ↦ tokens_then (lexeme x.0 line at (take x.1 (b ∷ bs)) ∷ []) (tokens_behind (x.1 - 1) line (at + 1) bs) ]) (Ok ts) → length ts ≤ length (b ∷ bs)
 found_few line at b bs ts None below h = cc
 found_few line at b bs ts (Some x) below h =
     let more = after_one (lexeme x.0 line at (take x.1 (b ∷ bs))) _ ts h in

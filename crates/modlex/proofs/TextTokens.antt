@@ -1,5 +1,6 @@
 -- The tokens of a text: those of its lines, in order, each with its slice of the text.
-use Rattle.std.proofs.Common.{◌≡◌, ℕ, ◌+◌, ◌-◌, ◌<◌, ◌≤◌, true, ◌==◌, List, [], ◌∷◌, ◌++◌, length, take, arith, refl, ap, sym, ◌∙◌, subst, append_assoc, append-nil, length-append, Result, Ok, Err, ⊎_elim, ◌↔◌, slice_range, rules, tests}
+use Rattle.std.proofs.Common.{◌≡◌, ℕ, ◌+◌, ◌-◌, ◌<◌, ◌≤◌, true, ◌==◌, List, [], ◌∷◌, ◌++◌, length, take, arith, refl, ap, sym, ◌∙◌}
+use Rattle.std.proofs.Common.{subst, append_assoc, append-nil, length-append, Result, Ok, Err, ⊎_elim, ◌↔◌, slice_range, rules, tests}
 use Rattle.std.specs.List.{flat_map}
 use Rattle.std.proofs.lemmas.List.{take_at, drop_at}
 use Rattle.std.proofs.lemmas.Bool.{cases_Bool}
@@ -39,7 +40,9 @@ record Each (line at : ℕ) (ls : List (List ℕ)) (us : List Lexeme) : Type 0 w
   are : AreTokensOf line at ls tokens
   joined : all_of tokens ≡ us
 
-each_by : (line at : ℕ) (l : List ℕ) (ls : List (List ℕ)) (us : List Lexeme) (r : Result (List Lexeme) TokenFault) → line_tokens line at l ≡ r → ((vs : List Lexeme) → lines_tokens (line + 1) (at + length l + 1) ls ≡ Ok vs → Each (line + 1) (at + length l + 1) ls vs) → ◌≡◌ {A = Result (List Lexeme) TokenFault} (elim r [ Err e ↦ Err e | Ok ts ↦ tokens_then ts (lines_tokens (line + 1) (at + length l + 1) ls) ]) (Ok us) → Each line at (l ∷ ls) us
+each_by : (line at : ℕ) (l : List ℕ) (ls : List (List ℕ)) (us : List Lexeme) (r : Result (List Lexeme) TokenFault) → line_tokens line at l ≡ r
+    → ((vs : List Lexeme) → lines_tokens (line + 1) (at + length l + 1) ls ≡ Ok vs → Each (line + 1) (at + length l + 1) ls vs)
+    → ◌≡◌ {A = Result (List Lexeme) TokenFault} (elim r [ Err e ↦ Err e | Ok ts ↦ tokens_then ts (lines_tokens (line + 1) (at + length l + 1) ls) ]) (Ok us) → Each line at (l ∷ ls) us
 each_by line at l ls us (Err e) is more h = cc
 each_by line at l ls us (Ok ts) is more h =
     let t = then_ok ts (lines_tokens (line + 1) (at + length l + 1) ls) us h in
@@ -78,7 +81,9 @@ none_by line at n place l e is ts are =
     let some = tokens_behind-all line at l there.tokens there.are in cc
 
 -- a fault of lines is that of the first line, or the fault of the others, and the lines above it have tokens
-first_by : (line at : ℕ) (l : List ℕ) (ls : List (List ℕ)) (e : TokenFault) (r : Result (List Lexeme) TokenFault) → line_tokens line at l ≡ r → (lines_tokens (line + 1) (at + length l + 1) ls ≡ Err e → First (line + 1) (at + length l + 1) ls e) → ◌≡◌ {A = Result (List Lexeme) TokenFault} (elim r [ Err d ↦ Err d | Ok ts ↦ tokens_then ts (lines_tokens (line + 1) (at + length l + 1) ls) ]) (Err e) → First line at (l ∷ ls) e
+first_by : (line at : ℕ) (l : List ℕ) (ls : List (List ℕ)) (e : TokenFault) (r : Result (List Lexeme) TokenFault)
+    → line_tokens line at l ≡ r → (lines_tokens (line + 1) (at + length l + 1) ls ≡ Err e → First (line + 1) (at + length l + 1) ls e)
+    → ◌≡◌ {A = Result (List Lexeme) TokenFault} (elim r [ Err d ↦ Err d | Ok ts ↦ tokens_then ts (lines_tokens (line + 1) (at + length l + 1) ls) ]) (Err e) → First line at (l ∷ ls) e
 first_by line at l ls e (Err d) is more h =
     let same : d ≡ e = cc in
     let number : line ≡ line + 0 = omega arith in
@@ -113,7 +118,8 @@ no_line line at n l (Ok ts) is none = absurd (none ts (tokens_are line at l ts i
 no_line line at n l (Err e) is none = ap (λ d. Err d) (tokens_fault 0 line at l e is)
 
 -- if each line above has tokens and this one cannot be split into tokens, the fault is this line's
-first_line : (line at : ℕ) (before : List (List ℕ)) (l : List ℕ) (others : List (List ℕ)) (tss : List (List Lexeme)) → AreTokensOf line at before tss → ((place : ℕ) (ts : List Lexeme) → ¬ AreTokens (line + length before) place l ts) → lines_tokens line at (before ++ l ∷ others) ≡ Err (faults.Lex (line + length before))
+first_line : (line at : ℕ) (before : List (List ℕ)) (l : List ℕ) (others : List (List ℕ)) (tss : List (List Lexeme)) → AreTokensOf line at before tss
+    → ((place : ℕ) (ts : List Lexeme) → ¬ AreTokens (line + length before) place l ts) → lines_tokens line at (before ++ l ∷ others) ≡ Err (faults.Lex (line + length before))
 first_line line at [] l others tss h none =
     let number : line + 0 ≡ line = omega arith in
     let bad = no_line line at 0 l (line_tokens line at l) refl (λ ts. subst (λ n. ¬ AreTokens n at l ts) number (none at ts)) in
@@ -219,7 +225,8 @@ record InLine (text : List ℕ) (at to : ℕ) (ts : List Lexeme) : Type 0 where
   within : end_of at ts ≤ to
 
 -- the tokens of a line in a text are in order and end within the line
-line_order : (text front bytes back : List ℕ) (line at : ℕ) (ts : List Lexeme) → text ≡ front ++ (bytes ++ back) → at ≡ length front → AreTokens line at bytes ts → InLine text at (at + length bytes) ts
+line_order : (text front bytes back : List ℕ) (line at : ℕ) (ts : List Lexeme) → text ≡ front ++ (bytes ++ back)
+    → at ≡ length front → AreTokens line at bytes ts → InLine text at (at + length bytes) ts
 unfolding end_of
 line_order text front bytes back line at [] is place h = record { order = tt; within = omega arith }
 line_order text front bytes back line at (t ∷ ts) is place h =
@@ -257,7 +264,8 @@ line_order text front bytes back line at (t ∷ ts) is place h =
     }
 
 -- the tokens of lines that follow one another in a text are in order
-lines_order : (text front : List ℕ) (line at : ℕ) (ls : List (List ℕ)) (tss : List (List Lexeme)) → text ≡ front ++ joined_lines ls → at ≡ length front → AreTokensOf line at ls tss → AreInOrder text at (all_of tss)
+lines_order : (text front : List ℕ) (line at : ℕ) (ls : List (List ℕ)) (tss : List (List Lexeme))
+    → text ≡ front ++ joined_lines ls → at ≡ length front → AreTokensOf line at ls tss → AreInOrder text at (all_of tss)
 unfolding joined_lines
 lines_order text front line at [] [] is place h = tt
 lines_order text front line at [] (ts ∷ tss) is place h = absurd h

@@ -1,5 +1,6 @@
 -- A line has the tokens that the definition computes, and no others.
-use Rattle.std.proofs.Common.{◌≡◌, ◌≢◌, ℕ, suc, ◌+◌, ◌<◌, Bool, true, false, not, ◌==◌, cond, List, [], ◌∷◌, ◌++◌, length, take, drop, arith, sym, ap, ◌∙◌, refl, rules, tests, add-one, append_assoc, Option, Some, None, Ok, ⊎_elim, codes, length-append, MatchBool}
+use Rattle.std.proofs.Common.{◌≡◌, ◌≢◌, ℕ, suc, ◌+◌, ◌<◌, Bool, true, false, not, ◌==◌, cond, List, [], ◌∷◌, ◌++◌, length, take, drop, arith, sym}
+use Rattle.std.proofs.Common.{ap, ◌∙◌, refl, rules, tests, add-one, append_assoc, Option, Some, None, Ok, ⊎_elim, codes, length-append, MatchBool}
 use Rattle.std.proofs.lemmas.List.{take_at, drop_at}
 use Rattle.std.specs.Option.{option_map}
 use Rattle.std.specs.Str.{bytes_eq}
@@ -62,7 +63,8 @@ raw_len-content (b ∷ content) rest raw =
     let other = other_byte b 96 raw.0.1 in
     rw (raw.0.0, other) (one_more _ _ (raw_len-content content rest raw.1))
 
-escape_by : (b c : ℕ) (bs rest : List ℕ) (t : Bool) → (IsQuoted bs → quoted_len false (bs ++ 34 ∷ rest) ≡ Some (suc (length bs))) → (IsQuoted (c ∷ bs) → quoted_len false (c ∷ (bs ++ 34 ∷ rest)) ≡ Some (suc (length (c ∷ bs)))) → MatchBool t ((is_string_byte c ≡ true) × IsQuoted bs) (IsQuoted (c ∷ bs)) → quoted_len t (c ∷ (bs ++ 34 ∷ rest)) ≡ Some (suc (length (c ∷ bs)))
+escape_by : (b c : ℕ) (bs rest : List ℕ) (t : Bool) → (IsQuoted bs → quoted_len false (bs ++ 34 ∷ rest) ≡ Some (suc (length bs))) → (IsQuoted (c ∷ bs) → quoted_len false (c ∷ (bs ++ 34 ∷ rest))
+    ≡ Some (suc (length (c ∷ bs)))) → MatchBool t ((is_string_byte c ≡ true) × IsQuoted bs) (IsQuoted (c ∷ bs)) → quoted_len t (c ∷ (bs ++ 34 ∷ rest)) ≡ Some (suc (length (c ∷ bs)))
 escape_by b c bs rest true short long h = rw h.0 (one_more _ _ (short h.1))
 escape_by b c bs rest false short long h = long h
 
@@ -79,7 +81,8 @@ quoted_len-content (b ∷ c ∷ bs) rest quoted =
 name_len-comment : (c : ℕ) (cs : List ℕ) → is_slash_and 47 c cs ≡ true → name_len (c ∷ cs) ≡ Some 0
 name_len-comment c cs comment = choose_same (is_name_byte c) comment
   where
-    choose_same : (t : Bool) → is_slash_and 47 c cs ≡ true → cond (not t) (Some 0) (cond (is_slash_and 47 c cs) (Some 0) (cond (is_slash_and 42 c cs) None (option_map (λ n. n + 1) (name_len cs)))) ≡ Some 0
+    choose_same : (t : Bool) → is_slash_and 47 c cs ≡ true
+        → cond (not t) (Some 0) (cond (is_slash_and 47 c cs) (Some 0) (cond (is_slash_and 42 c cs) None (option_map (λ n. n + 1) (name_len cs)))) ≡ Some 0
     choose_same true h = rw h refl
     choose_same false h = refl
 
@@ -209,7 +212,8 @@ lexeme_begins Arrow text rest h = begins_run text rest (let e = ap length h.0 in
 lexeme_begins Name text rest h = begins_run text rest h.0 h.2
 
 -- a token at the front
-token_front : (line at : ℕ) (kind : Kind) (text rest : List ℕ) → IsLexeme kind text rest → tokens_behind 0 line at (text ++ rest) ≡ tokens_then (lexeme kind line at text ∷ []) (tokens_behind 0 line (at + length text) rest)
+token_front : (line at : ℕ) (kind : Kind) (text rest : List ℕ) → IsLexeme kind text rest
+    → tokens_behind 0 line at (text ++ rest) ≡ tokens_then (lexeme kind line at text ∷ []) (tokens_behind 0 line (at + length text) rest)
 token_front line at kind text rest h =
     let begins = lexeme_begins kind text rest h in
     let front : text ++ rest ≡ begins.first ∷ (begins.others ++ rest) = ap (λ t. t ++ rest) begins.is in

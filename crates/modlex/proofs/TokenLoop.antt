@@ -1,5 +1,6 @@
 -- The loop over a line, and what one turn keeps of it.
-use Rattle.std.proofs.Common.{◌≡◌, ℕ, zero, suc, ◌+◌, ◌-◌, ◌<◌, ◌≤◌, true, false, List, [], ◌∷◌, ◌++◌, length, take, drop, get_or, arith, sym, ap, ◌∙◌, refl, length-drop, length-take-le, append_assoc, Some, None, Result, Ok, Err}
+use Rattle.std.proofs.Common.{◌≡◌, ℕ, zero, suc, ◌+◌, ◌-◌, ◌<◌, ◌≤◌, true, false, List, [], ◌∷◌, ◌++◌, length, take, drop, get_or}
+use Rattle.std.proofs.Common.{arith, sym, ap, ◌∙◌, refl, length-drop, length-take-le, append_assoc, Some, None, Result, Ok, Err}
 use Rattle.modlex.specs.Bytes.{is_blank, is_slash_and}
 use denote.Text.{Utf8}
 use denote.Shadow.{shadow}
@@ -23,15 +24,18 @@ tokens_then-tokens_then xs ys (Ok ts) = ap (λ l. Ok l) (append_assoc xs ys ts)
 tokens_then-tokens_then xs ys (Err e) = refl
 
 -- a token and what stands behind it
-pub tokens_behind-token : (line at b : ℕ) (bs : List ℕ) (kind : Kind) (n : ℕ) → is_blank b ≡ false → is_slash_and 47 b bs ≡ false → lexeme_at (b ∷ bs) ≡ Some (kind, n) → 0 < n → tokens_behind 0 line at (b ∷ bs) ≡ tokens_then (lexeme kind line at (take n (b ∷ bs)) ∷ []) (tokens_behind 0 line (at + n) (drop n (b ∷ bs)))
+pub tokens_behind-token : (line at b : ℕ) (bs : List ℕ) (kind : Kind) (n : ℕ) → is_blank b ≡ false → is_slash_and 47 b bs ≡ false → lexeme_at (b ∷ bs) ≡ Some (kind, n)
+    → 0 < n → tokens_behind 0 line at (b ∷ bs) ≡ tokens_then (lexeme kind line at (take n (b ∷ bs)) ∷ []) (tokens_behind 0 line (at + n) (drop n (b ∷ bs)))
 tokens_behind-token line at b bs kind zero no_blank no_comment found positive = absurd (omega arith)
 tokens_behind-token line at b bs kind (suc m) no_blank no_comment found positive =
     let pred : suc m - 1 ≡ m = omega arith in
     let there : at + 1 + m ≡ at + suc m = omega arith in
-    simp (no_blank, no_comment, found, pred) (ap (tokens_then (lexeme kind line at (take (suc m) (b ∷ bs)) ∷ [])) (tokens_behind-skipped m line (at + 1) bs ∙ ap (λ k. tokens_behind 0 line k (drop m bs)) there))
+    simp (no_blank, no_comment, found, pred)
+    (ap (tokens_then (lexeme kind line at (take (suc m) (b ∷ bs)) ∷ [])) (tokens_behind-skipped m line (at + 1) bs ∙ ap (λ k. tokens_behind 0 line k (drop m bs)) there))
 
 -- the tokens from a token on, whose first byte is read by its index
-pub tokens_behind-token_at : (line at : ℕ) (bytes : List ℕ) (kind : Kind) (n : ℕ) → 0 < length bytes → is_blank (get_or bytes 0 0) ≡ false → is_slash_and 47 (get_or bytes 0 0) (drop 1 bytes) ≡ false → lexeme_at bytes ≡ Some (kind, n) → 0 < n → tokens_behind 0 line at bytes ≡ tokens_then (lexeme kind line at (take n bytes) ∷ []) (tokens_behind 0 line (at + n) (drop n bytes))
+pub tokens_behind-token_at : (line at : ℕ) (bytes : List ℕ) (kind : Kind) (n : ℕ) → 0 < length bytes → is_blank (get_or bytes 0 0) ≡ false → is_slash_and 47 (get_or bytes 0 0) (drop 1 bytes) ≡ false
+    → lexeme_at bytes ≡ Some (kind, n) → 0 < n → tokens_behind 0 line at bytes ≡ tokens_then (lexeme kind line at (take n bytes) ∷ []) (tokens_behind 0 line (at + n) (drop n bytes))
 tokens_behind-token_at line at [] kind n some no_blank no_comment found positive = absurd (omega arith)
 tokens_behind-token_at line at (b ∷ bs) kind n some no_blank no_comment found positive =
     tokens_behind-token line at b bs kind n no_blank no_comment found positive
@@ -63,8 +67,12 @@ pub record ReadsOn (line start : ℕ) (text : List ℕ) (most : ℕ) (out : List
   pub utf8 : shadow (Utf8 rest)
 
 -- a token joins those so far, if it is one of the first
-pub ReadsOn-token : {line start most at : ℕ} {text rest : List ℕ} {out : List Lexeme} (behind token : List ℕ) (kind : Kind) (n : ℕ) → ReadsOn line start text most out at rest → (0 < n) × (n ≤ length rest) → is_blank (get_or rest 0 0) ≡ false → is_slash_and 47 (get_or rest 0 0) (drop 1 rest) ≡ false → lexeme_at rest ≡ Some (kind, n) → token ≡ take n rest → behind ≡ drop n rest → shadow (Utf8 behind) → (kept : List Lexeme) → kept ≡ take most (out ++ record { kind = kind; line = line; span = record { start = at; end = at + n }; text = token } ∷ []) → ReadsOn line start text most kept (at + n) behind
-ReadsOn-token {line = line} {start = start} {most = most} {at = at} {text = text} {rest = rest} {out = out} behind token kind n before within no_blank no_comment found token_is behind_is utf8 kept kept_is =
+pub ReadsOn-token : {line start most at : ℕ} {text rest : List ℕ} {out : List Lexeme} (behind token : List ℕ) (kind : Kind) (n : ℕ)
+    → ReadsOn line start text most out at rest → (0 < n) × (n ≤ length rest) → is_blank (get_or rest 0 0) ≡ false → is_slash_and 47 (get_or rest 0 0) (drop 1 rest) ≡ false
+    → lexeme_at rest ≡ Some (kind, n) → token ≡ take n rest → behind ≡ drop n rest → shadow (Utf8 behind) → (kept : List Lexeme)
+    → kept ≡ take most (out ++ record { kind = kind; line = line; span = record { start = at; end = at + n }; text = token } ∷ []) → ReadsOn line start text most kept (at + n) behind
+ReadsOn-token {line = line} {start = start} {most = most} {at = at} {text = text} {rest = rest} {out = out}
+    behind token kind n before within no_blank no_comment found token_is behind_is utf8 kept kept_is =
     let len : length token ≡ n = ap length token_is ∙ length-take-le n rest within.1 in
     let step = tokens_behind-token_at line at rest kind n (omega (arith, within)) no_blank no_comment found within.0 in
     let this : List Lexeme = record { kind = kind; line = line; span = record { start = at; end = at + n }; text = token } ∷ [] in
@@ -72,7 +80,8 @@ ReadsOn-token {line = line} {start = start} {most = most} {at = at} {text = text
     ap (λ t. lexeme kind line at t ∷ []) (sym token_is) ∙ ap (λ m. record { kind = kind; line = line; span = record { start = at; end = at + m }; text = token } ∷ []) len in
     let left = tokens_behind 0 line (at + n) behind in
     let all : tokens_then (out ++ this) left ≡ tokens_then out (tokens_behind 0 line at rest) =
-    tokens_then-tokens_then out this left ∙ ap (tokens_then out) (ap (λ l. tokens_then this (tokens_behind 0 line (at + n) l)) behind_is ∙ ap (λ t. tokens_then t (tokens_behind 0 line (at + n) (drop n rest))) (sym same) ∙ sym step) in
+    tokens_then-tokens_then out this left
+    ∙ ap (tokens_then out) (ap (λ l. tokens_then this (tokens_behind 0 line (at + n) l)) behind_is ∙ ap (λ t. tokens_then t (tokens_behind 0 line (at + n) (drop n rest))) (sym same) ∙ sym step) in
     record {
       told = ap (λ l. first_of most (tokens_then l left)) kept_is ∙ first_of-take most (out ++ this) left ∙ ap (first_of most) all ∙ before.told;
       room = omega (arith, ap length behind_is, length-drop n rest, before.room, within);

@@ -1,5 +1,6 @@
 -- What the definition computes are tokens of the line.
-use Rattle.std.proofs.Common.{◌≡◌, ◌≢◌, ℕ, zero, suc, ◌+◌, ◌<◌, ◌≤◌, Bool, true, false, ◌||◌, not, ◌==◌, cond, List, [], ◌∷◌, ◌++◌, length, take, drop, arith, subst, sym, ap, ◌∙◌, refl, rules, tests, append_assoc, Option, Some, None, Result, Ok, Err, ◌⊎◌, inl, inr, ⊎_elim, codes, MatchBool, length-append}
+use Rattle.std.proofs.Common.{◌≡◌, ◌≢◌, ℕ, zero, suc, ◌+◌, ◌<◌, ◌≤◌, Bool, true, false, ◌||◌, not, ◌==◌, cond, List, [], ◌∷◌, ◌++◌, length, take, drop, arith, subst, sym}
+use Rattle.std.proofs.Common.{ap, ◌∙◌, refl, rules, tests, append_assoc, Option, Some, None, Result, Ok, Err, ◌⊎◌, inl, inr, ⊎_elim, codes, MatchBool, length-append}
 use Rattle.std.proofs.lemmas.Option.{same_Some}
 use Rattle.modlex.specs.declared.lexer.Kind.{Kind}
 use Rattle.modlex.specs.declared.lexer.Kind.TheVariants.{Name, Quoted, Raw, Arrow, Comma, ParenLeft, ParenRight, BracketLeft, BracketRight}
@@ -106,7 +107,8 @@ cons_quoted b (c ∷ bs) good mark slash quoted =
     (good, mark, subst (λ t. MatchBool t ((is_string_byte c ≡ true) × IsQuoted bs) (IsQuoted (c ∷ bs))) (sym slash) quoted)
 
 -- what closes the string after a first byte, which may be a backslash, closes it with that byte
-quoted_by : (b c : ℕ) (bs : List ℕ) (n k : ℕ) (t : Bool) → (b == 92) ≡ t → is_string_byte b ≡ true → b ≢ 34 → ((j : ℕ) → quoted_len false bs ≡ Some j → Closes IsQuoted 34 bs j) → (quoted_len false (c ∷ bs) ≡ Some k → Closes IsQuoted 34 (c ∷ bs) k) → quoted_len t (c ∷ bs) ≡ Some k → k + 1 ≡ n → Closes IsQuoted 34 (b ∷ c ∷ bs) n
+quoted_by : (b c : ℕ) (bs : List ℕ) (n k : ℕ) (t : Bool) → (b == 92) ≡ t → is_string_byte b ≡ true → b ≢ 34 → ((j : ℕ) → quoted_len false bs ≡ Some j → Closes IsQuoted 34 bs j)
+    → (quoted_len false (c ∷ bs) ≡ Some k → Closes IsQuoted 34 (c ∷ bs) k) → quoted_len t (c ∷ bs) ≡ Some k → k + 1 ≡ n → Closes IsQuoted 34 (b ∷ c ∷ bs) n
 quoted_by b c bs n k true slash good mark short long h n_is =
     ⊎_elim
     (λ bad. cc)
@@ -225,7 +227,8 @@ word_cuts b bs kind n no_comment h =
     let same = pair_parts m.2 in
     let more = name_runs bs m.0 m.1 in
     let cut : take m.0 bs ≡ more.text = ap (take m.0) more.is ∙ take_at more.text more.rest m.0 (sym more.len) in
-    let run : IsRun (b ∷ more.text) more.rest = (not_false _ tests.0, subst (λ l. is_slash_and 47 b l ≡ false) more.is no_comment, subst (λ l. is_slash_and 42 b l ≡ false) more.is tests.1, more.run) in
+    let run : IsRun (b ∷ more.text) more.rest =
+    (not_false _ tests.0, subst (λ l. is_slash_and 47 b l ≡ false) more.is no_comment, subst (λ l. is_slash_and 42 b l ≡ false) more.is tests.1, more.run) in
     record {
       text = b ∷ more.text;
       rest = more.rest;
@@ -240,7 +243,8 @@ word_cuts b bs kind n no_comment h =
     pair_parts : {k j : Kind} {m i : ℕ} → ◌≡◌ {A = Kind × ℕ} (k, m) (j, i) → (k ≡ j) × (m ≡ i)
     pair_parts h = (ap (λ p. p.0) h, ap (λ p. p.1) h)
 
-cuts_by : (o : Option Kind) (b : ℕ) (bs : List ℕ) (kind : Kind) (n : ℕ) → punctuation_kind b ≡ o → is_slash_and 47 b bs ≡ false → ◌≡◌ {A = Option (Kind × ℕ)} (elim o [ Some k ↦ Some (k, 1) | None ↦ word_at b bs ]) (Some (kind, n)) → Cuts kind (b ∷ bs) n
+cuts_by : (o : Option Kind) (b : ℕ) (bs : List ℕ) (kind : Kind) (n : ℕ) → punctuation_kind b ≡ o → is_slash_and 47 b bs ≡ false
+    → ◌≡◌ {A = Option (Kind × ℕ)} (elim o [ Some k ↦ Some (k, 1) | None ↦ word_at b bs ]) (Some (kind, n)) → Cuts kind (b ∷ bs) n
 cuts_by None b bs kind n mark no_comment h = word_cuts b bs kind n no_comment h
 cuts_by (Some k) b bs kind n mark no_comment h =
     let same = some_pair_parts k kind 1 n h in
@@ -266,7 +270,9 @@ end_only line at bytes [] end h = ([], bytes, tt, end, refl)
 end_only line at bytes (t ∷ ts) end h = cc
 
 -- the tokens read from bytes that begin with neither a blank nor a comment are theirs, if that holds of all shorter bytes
-token_sound : (fuel line at b : ℕ) (bs : List ℕ) (ts : List Lexeme) (o : Option (Kind × ℕ)) → ((place : ℕ) (rest : List ℕ) (more : List Lexeme) → length rest ≤ fuel → tokens_behind 0 line place rest ≡ Ok more → AreTokens line place rest more) → length (b ∷ bs) ≤ suc fuel → tokens_behind 0 line at (b ∷ bs) ≡ Ok ts → lexeme_at (b ∷ bs) ≡ o → is_blank b ≡ false → is_slash_and 47 b bs ≡ false → AreTokens line at (b ∷ bs) ts
+token_sound : (fuel line at b : ℕ) (bs : List ℕ) (ts : List Lexeme) (o : Option (Kind × ℕ))
+    → ((place : ℕ) (rest : List ℕ) (more : List Lexeme) → length rest ≤ fuel → tokens_behind 0 line place rest ≡ Ok more → AreTokens line place rest more) → length (b ∷ bs) ≤ suc fuel
+    → tokens_behind 0 line at (b ∷ bs) ≡ Ok ts → lexeme_at (b ∷ bs) ≡ o → is_blank b ≡ false → is_slash_and 47 b bs ≡ false → AreTokens line at (b ∷ bs) ts
 token_sound fuel line at b bs ts None below within h found no_blank no_comment =
     let bad = tokens_behind-none line at b bs no_blank no_comment found in cc
 token_sound fuel line at b bs ts (Some x) below within h found no_blank no_comment =
@@ -279,7 +285,8 @@ token_sound fuel line at b bs ts (Some x) below within h found no_blank no_comme
     let place : at + x.1 ≡ at + 0 + length cuts.text = omega (arith, cuts.len) in
     let here : at ≡ at + 0 = omega arith in
     let shorter : length cuts.rest ≤ fuel = omega (arith, within, some, cuts.len, ap length cuts.is, length-append cuts.text cuts.rest) in
-    let more = below (at + 0 + length cuts.text) cuts.rest inside.0 shorter (ap (tokens_behind 0 line (at + 0 + length cuts.text)) (sym back) ∙ ap (λ k. tokens_behind 0 line k (drop x.1 (b ∷ bs))) (sym place) ∙ inside.1) in
+    let more = below (at + 0 + length cuts.text) cuts.rest inside.0 shorter
+    (ap (tokens_behind 0 line (at + 0 + length cuts.text)) (sym back) ∙ ap (λ k. tokens_behind 0 line k (drop x.1 (b ∷ bs))) (sym place) ∙ inside.1) in
     let all : AreTokens line at (b ∷ bs) (lexeme x.0 line at cuts.text ∷ inside.0) =
     ([], cuts.rest, tt, cuts.lex, cuts.is, ap (λ k. lexeme x.0 line k cuts.text) here, more) in
     subst (AreTokens line at (b ∷ bs)) (ap (λ t. lexeme x.0 line at t ∷ inside.0) (sym front) ∙ inside.2) all

@@ -17,7 +17,8 @@ other_byte b c h = search (rules, tests)
 abbrev Says : List ℕ → Type 0
 Says content = IsQuoted content → Spells content (plain_text content)
 
-says_by : (b c : ℕ) (bs : List ℕ) (t : Bool) → Says bs → Says (c ∷ bs) → MatchBool t ((is_string_byte c ≡ true) × IsQuoted bs) (IsQuoted (c ∷ bs)) → MatchBool t ((rest : List ℕ) × Spells bs rest × (cond t (c ∷ plain_text bs) (b ∷ plain_text (c ∷ bs)) ≡ c ∷ rest)) ((rest : List ℕ) × Spells (c ∷ bs) rest × (cond t (c ∷ plain_text bs) (b ∷ plain_text (c ∷ bs)) ≡ b ∷ rest))
+says_by : (b c : ℕ) (bs : List ℕ) (t : Bool) → Says bs → Says (c ∷ bs) → MatchBool t ((is_string_byte c ≡ true) × IsQuoted bs) (IsQuoted (c ∷ bs)) → MatchBool t ((rest : List ℕ) × Spells bs rest
+    × (cond t (c ∷ plain_text bs) (b ∷ plain_text (c ∷ bs)) ≡ c ∷ rest)) ((rest : List ℕ) × Spells (c ∷ bs) rest × (cond t (c ∷ plain_text bs) (b ∷ plain_text (c ∷ bs)) ≡ b ∷ rest))
 says_by b c bs true short long q = (plain_text bs, short q.1, refl)
 says_by b c bs false short long q = (plain_text (c ∷ bs), long q, refl)
 
@@ -26,7 +27,9 @@ plain_spells [] = λ q. refl
 plain_spells (b ∷ []) = λ q. (let plain = other_byte b 92 q.2 in rw plain refl)
 plain_spells (b ∷ c ∷ bs) = λ q. says_by b c bs (b == 92) (plain_spells bs) (plain_spells (c ∷ bs)) q.2
 
-same_by : (b c : ℕ) (bs value : List ℕ) (t : Bool) → ((v : List ℕ) → IsQuoted bs → Spells bs v → v ≡ plain_text bs) → ((v : List ℕ) → IsQuoted (c ∷ bs) → Spells (c ∷ bs) v → v ≡ plain_text (c ∷ bs)) → MatchBool t ((is_string_byte c ≡ true) × IsQuoted bs) (IsQuoted (c ∷ bs)) → MatchBool t ((rest : List ℕ) × Spells bs rest × (value ≡ c ∷ rest)) ((rest : List ℕ) × Spells (c ∷ bs) rest × (value ≡ b ∷ rest)) → value ≡ cond t (c ∷ plain_text bs) (b ∷ plain_text (c ∷ bs))
+same_by : (b c : ℕ) (bs value : List ℕ) (t : Bool) → ((v : List ℕ) → IsQuoted bs → Spells bs v → v ≡ plain_text bs)
+    → ((v : List ℕ) → IsQuoted (c ∷ bs) → Spells (c ∷ bs) v → v ≡ plain_text (c ∷ bs)) → MatchBool t ((is_string_byte c ≡ true) × IsQuoted bs) (IsQuoted (c ∷ bs))
+    → MatchBool t ((rest : List ℕ) × Spells bs rest × (value ≡ c ∷ rest)) ((rest : List ℕ) × Spells (c ∷ bs) rest × (value ≡ b ∷ rest)) → value ≡ cond t (c ∷ plain_text bs) (b ∷ plain_text (c ∷ bs))
 same_by b c bs value true short long q h = h.2 ∙ ap (λ l. c ∷ l) (short h.0 q.1 h.1)
 same_by b c bs value false short long q h = h.2 ∙ ap (λ l. b ∷ l) (long h.0 q h.1)
 

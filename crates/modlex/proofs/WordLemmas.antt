@@ -1,5 +1,6 @@
 -- What stands between two marks, and without its backslashes.
-use Rattle.std.proofs.Common.{◌≡◌, ◌≢◌, ℕ, suc, ◌+◌, ◌-◌, ◌<◌, true, false, ◌==◌, eq-eqb, List, [], ◌∷◌, ◌++◌, length, take, drop, get_or, arith, refl, ap, sym, ◌∙◌, rules, tests, Option, Some, None, MatchOption, IfSome, lit<, append_assoc, append-nil}
+use Rattle.std.proofs.Common.{◌≡◌, ◌≢◌, ℕ, suc, ◌+◌, ◌-◌, ◌<◌, true, false, ◌==◌, eq-eqb, List, [], ◌∷◌, ◌++◌, length, take, drop, get_or}
+use Rattle.std.proofs.Common.{arith, refl, ap, sym, ◌∙◌, rules, tests, Option, Some, None, MatchOption, IfSome, lit<, append_assoc, append-nil}
 use denote.Ref.{Bor}
 use lib.Utf8.{encode}
 use Rattle.std.proofs.lemmas.Str.{inside_one, length-encode, len_utf8_bounds, len_utf8_ascii}
@@ -33,11 +34,14 @@ without_last-absent mark (b ∷ c ∷ bs) absent =
     ap (λ l. b ∷ l) (without_last-absent mark (c ∷ bs) (λ front e. absent (b ∷ front) (ap (λ l. b ∷ l) e)))
 
 -- what `strip_prefix` and `strip_suffix` with the text as their default give
-pub without_first-stripped : (mark : ℕ) (text kept : Bor (List ℕ)) (r : Option (Bor (List ℕ))) → MatchOption r (FindsCharPrefix mark text.now None) (λ x. (n : ℕ) × FindsCharPrefix mark text.now (Some n) × (x.now ≡ drop n text.now) × (length x.now + n ≡ length text.now)) → mark < 128 → kept ≡ unwrap_or r text → kept.now ≡ without_first mark text.now
+pub without_first-stripped : (mark : ℕ) (text kept : Bor (List ℕ)) (r : Option (Bor (List ℕ))) → MatchOption r (FindsCharPrefix mark text.now None) (λ x. (n : ℕ)
+    × FindsCharPrefix mark text.now (Some n) × (x.now ≡ drop n text.now) × (length x.now + n ≡ length text.now)) → mark < 128 → kept ≡ unwrap_or r text → kept.now ≡ without_first mark text.now
 without_first-stripped mark text kept None h small is = ap (λ x. x.now) is ∙ sym (without_first-absent mark text.now (strip_prefix_char mark text.now None h small))
 without_first-stripped mark text kept (Some x) h small is = ap (λ x. x.now) is ∙ sym (ap (without_first mark) (strip_prefix_char mark text.now (Some x) h small) ∙ without_first-there mark x.now)
 
-pub without_last-stripped : (mark : ℕ) (text kept : Bor (List ℕ)) (r : Option (Bor (List ℕ))) → MatchOption r (FindsCharSuffix mark text.now None) (λ x. (n : ℕ) × FindsCharSuffix mark text.now (Some n) × (x.now ≡ take (length text.now - n) text.now) × (length x.now + n ≡ length text.now)) → mark < 128 → kept ≡ unwrap_or r text → kept.now ≡ without_last mark text.now
+pub without_last-stripped : (mark : ℕ) (text kept : Bor (List ℕ)) (r : Option (Bor (List ℕ)))
+    → MatchOption r (FindsCharSuffix mark text.now None) (λ x. (n : ℕ) × FindsCharSuffix mark text.now (Some n) × (x.now ≡ take (length text.now - n) text.now) × (length x.now + n ≡ length text.now))
+    → mark < 128 → kept ≡ unwrap_or r text → kept.now ≡ without_last mark text.now
 without_last-stripped mark text kept None h small is = ap (λ x. x.now) is ∙ sym (without_last-absent mark text.now (strip_suffix_char mark text.now None h small))
 without_last-stripped mark text kept (Some x) h small is = ap (λ x. x.now) is ∙ sym (ap (without_last mark) (strip_suffix_char mark text.now (Some x) h small) ∙ without_last-there mark x.now)
 
@@ -70,7 +74,8 @@ plain_text-char c rest =
     plain_text-char_bytes (encode c) rest (omega (arith, length-encode c, (len_utf8_bounds c).0)) (no_backslash_behind c)
 
 -- what `split_once` at a backslash says
-pub cut_escapes : (text : List ℕ) (r : Option (Bor (List ℕ) × Bor (List ℕ))) → IsSplitOnceResult 92 text r → MatchOption r (plain_text text ≡ text) (λ x. plain_text text ≡ x.0.now ++ plain_text (92 ∷ x.1.now))
+pub cut_escapes : (text : List ℕ) (r : Option (Bor (List ℕ) × Bor (List ℕ))) → IsSplitOnceResult 92 text r
+    → MatchOption r (plain_text text ≡ text) (λ x. plain_text text ≡ x.0.now ++ plain_text (92 ∷ x.1.now))
 cut_escapes text None h =
     ap plain_text (sym (append-nil text)) ∙ plain_text-plain text [] (record { none = split_parts 92 text None h (lit< tt) }) ∙ append-nil text
 cut_escapes text (Some x) h =
@@ -82,7 +87,8 @@ cut_has_escape text None h = tt
 cut_has_escape text (Some x) h = (x.0.now, x.1.now, (split_parts 92 text (Some x) h (lit< tt)).0)
 
 -- one turn: what stands before a backslash, and the character after it
-pub escape_kept : (before behind others whole : List ℕ) (c : ℕ) (out next last rest : List ℕ) → out ++ plain_text rest ≡ whole → plain_text rest ≡ before ++ plain_text (92 ∷ behind) → behind ≡ encode c ++ others → next ≡ out ++ before → last ≡ next ++ encode c → last ++ plain_text others ≡ whole
+pub escape_kept : (before behind others whole : List ℕ) (c : ℕ) (out next last rest : List ℕ) → out ++ plain_text rest ≡ whole
+    → plain_text rest ≡ before ++ plain_text (92 ∷ behind) → behind ≡ encode c ++ others → next ≡ out ++ before → last ≡ next ++ encode c → last ++ plain_text others ≡ whole
 escape_kept before behind others whole c out next last rest told cut first next_is last_is =
     ap (λ l. l ++ plain_text others) (last_is ∙ ap (λ l. l ++ encode c) next_is)
     ∙ append_assoc (out ++ before) (encode c) (plain_text others)

@@ -1,5 +1,6 @@
 -- The computed tokens of lines and of texts.
-use Rattle.std.specs.Prelude.{◌≡◌, ℕ, zero, suc, length, ◌+◌, ◌-◌, false, ◌||◌, not, ◌==◌, List, [], ◌∷◌, Option, Some, None, Result, Ok, Err, map, ◌++◌, if◌then◌else◌, take, codes}
+use Rattle.std.specs.Prelude.{◌≡◌, ℕ, zero, suc, length, ◌+◌, ◌-◌, false, ◌||◌, not, ◌==◌, List, [], ◌∷◌}
+use Rattle.std.specs.Prelude.{Option, Some, None, Result, Ok, Err, map, ◌++◌, if◌then◌else◌, take, codes}
 use Rattle.std.specs.Option.{option_map}
 use Rattle.std.specs.Str.{bytes_eq}
 use Rattle.modlex.specs.declared.lexer.Kind.{Kind}

@@ -1,5 +1,6 @@
 -- The tokens of lines and of texts, as relations.
-use Rattle.std.specs.Prelude.{◌≡◌, ◌≢◌, ℕ, ◌+◌, ◌<◌, ◌≤◌, Bool, true, false, ◌==◌, List, [], ◌∷◌, ◌++◌, length, codes, slice_range, ◌⊎◌, MatchBool}
+use Rattle.std.specs.Prelude.{◌≡◌, ◌≢◌, ℕ, ◌+◌, ◌<◌, ◌≤◌, Bool, true, false, ◌==◌, List}
+use Rattle.std.specs.Prelude.{[], ◌∷◌, ◌++◌, length, codes, slice_range, ◌⊎◌, MatchBool}
 use Rattle.std.specs.List.{AllByRecursion, flat_map}
 use Rattle.modlex.specs.declared.lexer.Kind.{Kind}
 use Rattle.modlex.specs.declared.lexer.Kind.TheVariants.{Name, Quoted, Raw, Arrow, Comma, ParenLeft, ParenRight, BracketLeft, BracketRight}
@@ -24,7 +25,8 @@ IsEnd rest = (rest ≡ []) ⊎ (opens 47 rest ≡ true)
 abbrev pub IsQuoted : List ℕ → Type 0
 IsQuoted [] = Unit {0}
 IsQuoted (b ∷ []) = (is_string_byte b ≡ true) × (b ≢ 34) × (b ≢ 92)
-IsQuoted (b ∷ c ∷ bs) = (is_string_byte b ≡ true) × (b ≢ 34) × MatchBool (b == 92) ((is_string_byte c ≡ true) × IsQuoted bs) (IsQuoted (c ∷ bs))
+IsQuoted (b ∷ c ∷ bs) =
+    (is_string_byte b ≡ true) × (b ≢ 34) × MatchBool (b == 92) ((is_string_byte c ≡ true) × IsQuoted bs) (IsQuoted (c ∷ bs))
 
 -- what a raw string may hold
 abbrev pub IsRaw : List ℕ → Type 0
@@ -34,7 +36,8 @@ IsRaw = AllByRecursion (λ b. (is_string_byte b ≡ true) × (b ≢ 96))
 abbrev pub IsRun : List ℕ → List ℕ → Type 0
 IsRun [] [] = Unit {0}
 IsRun [] (c ∷ cs) = (is_name_byte c ≡ false) ⊎ (is_slash_and 47 c cs ≡ true)
-IsRun (b ∷ bs) rest = (is_name_byte b ≡ true) × (is_slash_and 47 b (bs ++ rest) ≡ false) × (is_slash_and 42 b (bs ++ rest) ≡ false) × IsRun bs rest
+IsRun (b ∷ bs) rest = (is_name_byte b ≡ true) × (is_slash_and 47 b (bs ++ rest) ≡ false)
+    × (is_slash_and 42 b (bs ++ rest) ≡ false) × IsRun bs rest
 
 -- a text is a token of this kind if `rest` comes after it
 abbrev pub IsLexeme : Kind → List ℕ → List ℕ → Type 0

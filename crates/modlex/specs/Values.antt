@@ -11,7 +11,8 @@ abbrev pub Spells : List ℕ → List ℕ → Type 0
 Spells [] value = value ≡ []
 Spells (b ∷ []) value = value ≡ b ∷ []
 Spells (b ∷ c ∷ bs) value =
-    MatchBool (b == 92) ((rest : List ℕ) × Spells bs rest × (value ≡ c ∷ rest)) ((rest : List ℕ) × Spells (c ∷ bs) rest × (value ≡ b ∷ rest))
+    MatchBool (b == 92) ((rest : List ℕ) × Spells bs rest × (value ≡ c ∷ rest))
+    ((rest : List ℕ) × Spells (c ∷ bs) rest × (value ≡ b ∷ rest))
 
 -- a string has the value that the text between its marks spells, a raw string that text itself, and any other token its text
 abbrev pub HasValue : Kind → List ℕ → List ℕ → Type 0

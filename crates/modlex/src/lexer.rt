@@ -1,6 +1,7 @@
 //! The tokens of a go.mod file.
 
-ghost use Rattle.std.specs.Prelude.{◌≡◌, ◌+◌, ◌<◌, ◌≤◌, ◌^◌, ◌-◌, length, IsUtf8, MatchOption, IfOk, IfSome, IfNone, IsTrue, Some, None, false, slice_index, drop, take, [], ◌∷◌, ◌++◌};
+ghost use Rattle.std.specs.Prelude.{◌≡◌, ◌+◌, ◌<◌, ◌≤◌, ◌^◌, ◌-◌, length, IsUtf8, MatchOption, IfOk, IfSome};
+ghost use Rattle.std.specs.Prelude.{IfNone, IsTrue, Some, None, false, slice_index, drop, take, [], ◌∷◌, ◌++◌};
 ghost use Rattle.std.specs.Str.{IsCharBoundary};
 ghost use Rattle.modlex.specs.Bytes.{is_blank, is_string_byte, is_name_byte, is_slash_and, quoted_len, raw_len, name_len};
 ghost use Rattle.modlex.specs.Lines.{lines};

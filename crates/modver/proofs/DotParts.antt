@@ -1,5 +1,6 @@
 -- What stands between the dots of a text that is cut at its last dot.
-use Rattle.std.proofs.Common.{◌≡◌, ◌==◌, ◌+◌, ◌-◌, ◌<◌, ◌++◌, ℕ, suc, List, [], ◌∷◌, length, take, drop, get_or, length-append, length-drop, ◌&&◌, reverse, None, Bool, true, false, refl, sym, ap, ◌∙◌, inl, inr, arith, add-one, drop-cons}
+use Rattle.std.proofs.Common.{◌≡◌, ◌==◌, ◌+◌, ◌-◌, ◌<◌, ◌++◌, ℕ, suc, List, [], ◌∷◌, length, take, drop, get_or, length-append}
+use Rattle.std.proofs.Common.{length-drop, ◌&&◌, reverse, None, Bool, true, false, refl, sym, ap, ◌∙◌, inl, inr, arith, add-one, drop-cons}
 use Rattle.std.proofs.lemmas.Bool.{cases_Bool}
 use Rattle.std.proofs.lemmas.List.{get_or-drop, reverse-append, take-append-drop}
 use Rattle.std.specs.List.{slice_split}

@@ -1,5 +1,6 @@
 -- The computed stamp of a version is that of its form as a pseudo-version.
-use Rattle.std.proofs.Common.{◌≡◌, ◌≢◌, ◌==◌, ◌&&◌, ◌≤◌, ◌++◌, ℕ, List, [], ◌∷◌, length, length-drop, take, drop, reverse, Option, Some, None, Bool, true, false, refl, sym, ap, ◌∙◌, subst, inl, inr, arith}
+use Rattle.std.proofs.Common.{◌≡◌, ◌≢◌, ◌==◌, ◌&&◌, ◌≤◌, ◌++◌, ℕ, List, [], ◌∷◌, length, length-drop, take, drop}
+use Rattle.std.proofs.Common.{reverse, Option, Some, None, Bool, true, false, refl, sym, ap, ◌∙◌, subst, inl, inr, arith}
 use Rattle.std.proofs.Math.Seq.{take-append_seam}
 use Rattle.std.proofs.lemmas.Bool.{cases_Bool, eqb-true}
 use Rattle.std.proofs.lemmas.List.{drop-drop, reverse-append, reverse-reverse, take-append-drop, take_all}

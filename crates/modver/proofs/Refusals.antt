@@ -2,7 +2,8 @@
 use Rattle.std.proofs.Common.{◌≢◌, ◌+◌, ◌-◌, ◌*◌, ◌^◌, ◌==◌, ℕ, List, [], ◌∷◌, length, Ok, Err, Bool, true, false, ap}
 use Rattle.std.specs.Char.{is_ascii_digit}
 use Rattle.std.specs.Prelude.{Result, ⊤, nat_le, nat_lt, if◌then◌else◌}
-use Rattle.semver.specs.Parse.{◌>>=◌, digits_from, dot_of, end_error, identifier_of, is_bad_zero, is_leading_zero, is_letter, memory_error, numeric, part_end, scan, starts_zero, tail_build, tail_end, tail_pre, version_parts}
+use Rattle.semver.specs.Parse.{◌>>=◌, digits_from, dot_of, end_error, identifier_of, is_bad_zero, is_leading_zero, is_letter}
+use Rattle.semver.specs.Parse.{memory_error, numeric, part_end, scan, starts_zero, tail_build, tail_end, tail_pre, version_parts}
 use Rattle.semver.specs.declared.error.Error.{Error}
 use Rattle.semver.specs.declared.error.Position.{Position}
 use Rattle.semver.specs.declared.error.Position.TheVariants as place

@@ -57,7 +57,8 @@ fourteen (a ∷ b ∷ c ∷ d ∷ e ∷ f ∷ g ∷ h ∷ i ∷ j ∷ k ∷ l �
 fourteen (a ∷ b ∷ c ∷ d ∷ e ∷ f ∷ g ∷ h ∷ i ∷ j ∷ k ∷ l ∷ m ∷ n ∷ o ∷ rest) size = absurd (omega arith)
 
 order-fourteen : (a1 b1 c1 d1 e1 f1 g1 h1 i1 j1 k1 l1 m1 n1 : ℕ) (a2 b2 c2 d2 e2 f2 g2 h2 i2 j2 k2 l2 m2 n2 : ℕ)
-    → slice_cmp nat_cmp (time_of_stamp (a1 ∷ b1 ∷ c1 ∷ d1 ∷ e1 ∷ f1 ∷ g1 ∷ h1 ∷ i1 ∷ j1 ∷ k1 ∷ l1 ∷ m1 ∷ n1 ∷ [])) (time_of_stamp (a2 ∷ b2 ∷ c2 ∷ d2 ∷ e2 ∷ f2 ∷ g2 ∷ h2 ∷ i2 ∷ j2 ∷ k2 ∷ l2 ∷ m2 ∷ n2 ∷ []))
+    → slice_cmp nat_cmp (time_of_stamp (a1 ∷ b1 ∷ c1 ∷ d1 ∷ e1 ∷ f1 ∷ g1 ∷ h1 ∷ i1 ∷ j1 ∷ k1 ∷ l1 ∷ m1 ∷ n1 ∷ []))
+    (time_of_stamp (a2 ∷ b2 ∷ c2 ∷ d2 ∷ e2 ∷ f2 ∷ g2 ∷ h2 ∷ i2 ∷ j2 ∷ k2 ∷ l2 ∷ m2 ∷ n2 ∷ []))
     ≡ slice_cmp nat_cmp (a1 ∷ b1 ∷ c1 ∷ d1 ∷ e1 ∷ f1 ∷ g1 ∷ h1 ∷ i1 ∷ j1 ∷ k1 ∷ l1 ∷ m1 ∷ n1 ∷ []) (a2 ∷ b2 ∷ c2 ∷ d2 ∷ e2 ∷ f2 ∷ g2 ∷ h2 ∷ i2 ∷ j2 ∷ k2 ∷ l2 ∷ m2 ∷ n2 ∷ [])
 order-fourteen a1 b1 c1 d1 e1 f1 g1 h1 i1 j1 k1 l1 m1 n1 a2 b2 c2 d2 e2 f2 g2 h2 i2 j2 k2 l2 m2 n2 = refl
 

@@ -1,5 +1,6 @@
 -- Times and stamps are the digits of their numbers.
-use Rattle.std.proofs.Common.{◌≡◌, ◌==◌, ◌&&◌, ◌<◌, ◌+◌, ◌*◌, ◌/◌, ◌%◌, ◌^◌, ◌⊎◌, pow-suc, ℕ, zero, suc, List, [], ◌∷◌, ◌++◌, append_assoc, append-nil, length, take, drop, Bool, true, false, refl, sym, ap, ◌∙◌, subst, inl, inr, arith, lit<}
+use Rattle.std.proofs.Common.{◌≡◌, ◌==◌, ◌&&◌, ◌<◌, ◌+◌, ◌*◌, ◌/◌, ◌%◌, ◌^◌, ◌⊎◌, pow-suc, ℕ, zero, suc, List, [], ◌∷◌, ◌++◌, append_assoc}
+use Rattle.std.proofs.Common.{append-nil, length, take, drop, Bool, true, false, refl, sym, ap, ◌∙◌, subst, inl, inr, arith, lit<}
 use Rattle.std.proofs.Math.Nat.{mod-lt}
 use Rattle.std.proofs.lemmas.Bool.{cases_Bool, eqb-true, lt-ltb}
 use Rattle.std.proofs.lemmas.Bool.Decides.{nat_tests}
@@ -11,7 +12,8 @@ use Rattle.std.specs.Char.{digit_value, is_ascii_digit}
 use Rattle.std.specs.List.{list_all}
 use Rattle.std.specs.Prelude.{codes, nat_le, nat_lt}
 use Rattle.std.specs.Str.Parse.{digits_value, digits_value_after}
-use Rattle.modver.specs.Time.{DateTime, Exists, HasDigits, IsStamp, IsTime, IsTimeFault, days_in_month, fits_byte, fits_form, has_stamp_form, has_time_form, is_date, is_moment, is_time_of_day, number_at, padded, stamp_text, time_of_stamp, time_text}
+use Rattle.modver.specs.Time.{DateTime, Exists, HasDigits, IsStamp, IsTime, IsTimeFault, days_in_month, fits_byte, fits_form, has_stamp_form}
+use Rattle.modver.specs.Time.{has_time_form, is_date, is_moment, is_time_of_day, number_at, padded, stamp_text, time_of_stamp, time_text}
 use Rattle.modver.specs.TimeLaws.{EachTextIsATimeOrFaulty, IsTimeIsExact, TimeOfStampIsExact, TimeTextIsOneToOne}
 use Rattle.modver.specs.declared.time.TimeFault.{TimeFault}
 use Rattle.modver.specs.declared.time.TimeFault.TheVariants as fault

@@ -216,7 +216,8 @@ fn tail_of(alloc: Global, pre: Prerelease, marked: bool) -> Result<Option<Rc<Tai
 
 // Returns `Memory` if memory ran out, and otherwise `Form`.
 fn fault_of(error: semver::Error) -> VersionFault
-    ensures { ((result ≡ fault.Memory) × (error ≡ memory_error)) ⊎ ((result ≡ fault.Form) × (error ≡ memory_error → ⊥)) }
+    ensures { ((result ≡ fault.Memory) × (error ≡ memory_error))
+        ⊎ ((result ≡ fault.Form) × (error ≡ memory_error → ⊥)) }
 {
     if error == semver::Error::from(AllocError) {
         VersionFault::Memory

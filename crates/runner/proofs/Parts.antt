@@ -117,7 +117,8 @@ low_decided w x s o p d low = low
 same_decision : (a b : Decision) → reply.Decided a ≡ reply.Decided b → a ≡ b
 same_decision a b e = cc
 
-low_asked : (w x : World) (s : List ℕ) (a : Ask) (k : List ℕ) → key_of a ≡ Some k → map.get w.keys k ≡ map.get x.keys k → ask_reply w a ≡ ask_reply x a → Low w x s → Low (after_ask w a) (after_ask x a) s
+low_asked : (w x : World) (s : List ℕ) (a : Ask) (k : List ℕ) → key_of a ≡ Some k → map.get w.keys k ≡ map.get x.keys k
+    → ask_reply w a ≡ ask_reply x a → Low w x s → Low (after_ask w a) (after_ask x a) s
 low_asked w x s Unreadable k by held told low = low
 low_asked w x s (Get j q) k by held told low = low
 low_asked w x s (Put j p) k by held told low =
@@ -141,7 +142,8 @@ one_sees w (t ∷ ts) s are among = elim (chains_from w (t ∷ ts) s among) [
 ]
 
 module _ (ts : List (List ℕ)) where
-  team_blind : (w x : World) (a : Ask) (k : List ℕ) (h : Holder) (t : List ℕ) → Has ts t → IsWorld w → IsWorld x → AllLow w x ts → key_of a ≡ Some k → map.get w.keys k ≡ Some h → sees w t h.shelf ≡ true
+  team_blind : (w x : World) (a : Ask) (k : List ℕ) (h : Holder) (t : List ℕ) → Has ts t → IsWorld w
+      → IsWorld x → AllLow w x ts → key_of a ≡ Some k → map.get w.keys k ≡ Some h → sees w t h.shelf ≡ true
       → (ask_reply w a ≡ ask_reply x a) × AllLow (after_ask w a) (after_ask x a) ts
   team_blind w x a k h t there is_w is_x low by at seen =
       let one = blind w x t h.shelf k a is_w is_x (low t there) seen (h, at, refl) by in
@@ -159,7 +161,8 @@ module _ (ts : List (List ℕ)) where
       let next : World = after_ask w a in
       let again : AreTeams next ts = (are.0, λ t there. let team = are.1 t there in (team.0, ap (λ m. map.get m t) kept.shelves ∙ team.1)) in
       let chained = chains_kept w next ts kept.shelves in
-      let rest = all_blind next (after_ask x a) es (sound w (Asked a) is_w) (sound x (Asked a) is_x) again one.1 (subst (λ ss. AllOf next ss es) (sym chained) (still_of w next (chains w ts) es kept of.1)) in
+      let rest =
+      all_blind next (after_ask x a) es (sound w (Asked a) is_w) (sound x (Asked a) is_x) again one.1 (subst (λ ss. AllOf next ss es) (sym chained) (still_of w next (chains w ts) es kept of.1)) in
       (λ i. one.0 i ∷ rest i)
     where
       chains_kept : (w x : World) (ts : List (List ℕ)) → x.shelves ≡ w.shelves → chains x ts ≡ chains w ts

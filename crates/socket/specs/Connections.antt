@@ -50,7 +50,8 @@ module _ {P : Type 0} (unread written : P → Option (List ℕ)) where
   IsBetween before after None = Keeps (written before) (written after)
   IsBetween before after (Some first) =
       TakesFirst (unread before) (unread after) first
-      × (WritesBeginning (written before) (written after) (first_bytes first) ⊎ Appends (written before) (written after) (first_bytes first))
+      × (WritesBeginning (written before) (written after) (first_bytes first)
+      ⊎ Appends (written before) (written after) (first_bytes first))
 
   -- the visit is one between its peer before and after it
   abbrev pub IsAnsweredThere : Visit P → Type 0

@@ -42,7 +42,8 @@ pub fn answer_in_time<C: Clock, R: BoundRead + Drop, W: BoundWrite + Drop, S: Sh
     writer: W,
     shelves: &mut S,
 ) -> Answered<R, W>
-    ensures serves { ServesFirst (S.shown shelves.old) (S.shown shelves.new) (S.failure_count shelves.old) (S.failure_count shelves.new)
+    ensures serves { ServesFirst (S.shown shelves.old) (S.shown shelves.new)
+        (S.failure_count shelves.old) (S.failure_count shelves.new)
         (R.remaining reader) (R.remaining result.reader) (W.contents writer) (W.contents result.writer) result.status }
     // An empty input and a failed read leave the shelves untouched.
     ensures empty { IfOk result.status (λ status. status ≡ None → shelves.new ≡ shelves.old) }
@@ -82,7 +83,8 @@ pub trait Peer {
         routes: &mut RouteTable,
         shelves: &mut S,
     ) -> Result<Option<u16>, Io>
-        ensures { ServesFirst (S.shown shelves.old) (S.shown shelves.new) (S.failure_count shelves.old) (S.failure_count shelves.new)
+        ensures { ServesFirst (S.shown shelves.old) (S.shown shelves.new)
+            (S.failure_count shelves.old) (S.failure_count shelves.new)
             (unread self.old) (unread self.new) (written self.old) (written self.new) result };
 
     /// Ends the connection after a reply with this status.

@@ -59,7 +59,8 @@ number_of None rows = next_rowid rows
 number_of (Some n) rows = n
 
 module _ (limit : Option ℕ) (p : Place) (e : Entry) where
-  version_added : (number : Option ℤ) (db : Database) (tally : Tally) (after : Database) → db.schema ≡ store_schema → Does limit enforced (version_params number p e) db [] None version_insert (Ok (tally, after))
+  version_added : (number : Option ℤ) (db : Database) (tally : Tally) (after : Database) → db.schema ≡ store_schema
+      → Does limit enforced (version_params number p e) db [] None version_insert (Ok (tally, after))
       → (after.schema ≡ store_schema) × Inserted db.trees after.trees version_table (version_row (number_of number (db.trees 6)) p e) × (tally.last ≡ Some (number_of number (db.trees 6)))
   version_added None db tally after has h =
       let it = inserted limit version_table refl (version_params None p e) version_terms version_width (Null ∷ Null ∷ version_values p e) refl (λ _. refl) 3 refl db [] tally after has h in

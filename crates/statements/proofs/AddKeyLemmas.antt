@@ -39,7 +39,8 @@ module _ (limit : Option ℕ) (token : List ℕ) (g : Holder) where
   source : Row
   source = Null ∷ key_params token g
 
-  pub added : (db : Database) (text : List ℕ) (tally : Tally) (after : Database) → db.schema ≡ store_schema → Does limit Rattle.tables.proofs.InsertLemmas.enforced (key_params token g) db text None (Insert 2 (Values terms 4)) (Ok (tally, after))
+  pub added : (db : Database) (text : List ℕ) (tally : Tally) (after : Database) → db.schema ≡ store_schema
+      → Does limit Rattle.tables.proofs.InsertLemmas.enforced (key_params token g) db text None (Insert 2 (Values terms 4)) (Ok (tally, after))
       → (after.schema ≡ store_schema) × Inserted db.trees after.trees access_table (Int (next_rowid (db.trees 4)) ∷ key_params token g)
   added db text tally after has h =
       let it = inserted limit access_table refl (key_params token g) terms 4 (Null ∷ key_params token g) refl (λ _. refl) 2 refl db text tally after has h in
@@ -47,7 +48,8 @@ module _ (limit : Option ℕ) (token : List ℕ) (g : Holder) where
 
 module _ (w : World) (token : List ℕ) (g : Holder) (unused : map.get w.keys token ≡ None) where
   -- no row of the tables has the key
-  token_free : (rows : List Row) → Tabulates IsAccess rows (λ it. map.get w.keys it.0 ≡ Some it.1) → (id : Value) → (r : Row) → Has rows r → (t : List ℕ) → column (id ∷ key_params token g) 1 ≡ Text t → column r 1 ≡ Text t → ⊥
+  token_free : (rows : List Row) → Tabulates IsAccess rows (λ it. map.get w.keys it.0 ≡ Some it.1) → (id : Value)
+      → (r : Row) → Has rows r → (t : List ℕ) → column (id ∷ key_params token g) 1 ≡ Text t → column r 1 ≡ Text t → ⊥
   token_free rows tabulated id r there t is also =
       let it = tabulated.each r there in
       let same : it.0.0 ≡ token = let e = sym it.1.0 ∙ (also ∙ sym is) in cc in
@@ -58,11 +60,13 @@ module _ (w : World) (token : List ℕ) (g : Holder) (unused : map.get w.keys to
   key_means db after it means = record {
     named = rw (it.tables.0 (λ e. omega (arith, e))) means.named;
     shelves = rw (it.tables.1.0 (λ e. omega (arith, e))) means.shelves;
-    access = rw it.rows (tabulates_put IsAccess (db 4) _ (token, g) _ _ it.fresh (refl, refl, refl) (λ y. put_keeps texts_total texts_exact w.keys token g unused y.0 y.1) (get_put texts_total w.keys token g) (put_splits texts_total texts_exact w.keys token g) means.access);
+    access = rw it.rows (tabulates_put IsAccess (db 4) _ (token, g) _ _ it.fresh (refl, refl, refl)
+        (λ y. put_keeps texts_total texts_exact w.keys token g unused y.0 y.1) (get_put texts_total w.keys token g) (put_splits texts_total texts_exact w.keys token g) means.access);
     numbered = rw it.rows (numbered_put (db 4) (next_rowid (db 4)) _ refl it.fresh means.numbered);
     entries = rw (it.tables.1.1.1.0 (λ e. omega (arith, e)), it.tables.1.1.1.1.0 (λ e. omega (arith, e))) means.entries;
     names = rw (it.tables.1.0 (λ e. omega (arith, e))) means.names;
-    tokens = rw it.rows (put_apart (λ a b. (t : List ℕ) → column a 1 ≡ Text t → column b 1 ≡ Text t → ⊥) (λ a b apart t also is. apart t is also) _ (db 4) (all_from _ (db 4) (token_free (db 4) means.access (Int (next_rowid (db 4))))) means.tokens);
+    tokens = rw it.rows (put_apart (λ a b. (t : List ℕ) → column a 1 ≡ Text t → column b 1 ≡ Text t → ⊥)
+        (λ a b apart t also is. apart t is also) _ (db 4) (all_from _ (db 4) (token_free (db 4) means.access (Int (next_rowid (db 4))))) means.tokens);
     places = rw (it.tables.1.1.1.0 (λ e. omega (arith, e))) means.places;
     pieces = rw (it.tables.1.1.1.1.0 (λ e. omega (arith, e))) means.pieces;
   }

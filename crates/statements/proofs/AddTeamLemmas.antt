@@ -56,7 +56,8 @@ lent_or None other = refl
 lent_or (Some g) other = refl
 
 module _ (name : List ℕ) (parent : Option (List ℕ)) where
-  added : (limit : Option ℕ) (db : Database) (text : List ℕ) (tally : Tally) (after : Database) → db.schema ≡ store_schema → Does limit enforced (shelf_params name parent) db text None shelf_insert (Ok (tally, after))
+  added : (limit : Option ℕ) (db : Database) (text : List ℕ) (tally : Tally) (after : Database) → db.schema ≡ store_schema
+      → Does limit enforced (shelf_params name parent) db text None shelf_insert (Ok (tally, after))
       → (after.schema ≡ store_schema) × Inserted db.trees after.trees shelf_table (Int (next_rowid (db.trees 2)) ∷ shelf_params name parent)
   added limit db text tally after has h =
       let it = inserted limit shelf_table refl (shelf_params name parent) terms 3 (Null ∷ shelf_params name parent) refl (λ _. refl) 1 refl db text tally after has h in
@@ -64,7 +65,8 @@ module _ (name : List ℕ) (parent : Option (List ℕ)) where
 
   module _ (w : World) (free : map.get w.shelves name ≡ None) where
     -- no row of the tables has the name of the shelf
-    name_free : (rows : List Row) → Tabulates IsShelf rows (λ it. map.get w.shelves it.0 ≡ Some it.1) → (id : Value) → (r : Row) → Has rows r → (n : List ℕ) → column (id ∷ shelf_params name parent) 1 ≡ Text n → column r 1 ≡ Text n → ⊥
+    name_free : (rows : List Row) → Tabulates IsShelf rows (λ it. map.get w.shelves it.0 ≡ Some it.1) → (id : Value)
+        → (r : Row) → Has rows r → (n : List ℕ) → column (id ∷ shelf_params name parent) 1 ≡ Text n → column r 1 ≡ Text n → ⊥
     name_free rows tabulated id r there n is also =
         let it = tabulated.each r there in
         let same : it.0.0 ≡ name = let e = sym it.1.0 ∙ (also ∙ sym is) in cc in
@@ -74,11 +76,13 @@ module _ (name : List ℕ) (parent : Option (List ℕ)) where
     pub shelf_means : (db after : Trees) → Inserted db after shelf_table (Int (next_rowid (db 2)) ∷ shelf_params name parent) → Means db w → Means after (with_shelf w name parent)
     shelf_means db after it means = record {
       named = rw (it.tables.0 (λ e. omega (arith, e))) means.named;
-      shelves = rw it.rows (tabulates_put IsShelf (db 2) _ (name, parent) _ _ it.fresh (refl, refl) (λ y. put_keeps texts_total texts_exact w.shelves name parent free y.0 y.1) (get_put texts_total w.shelves name parent) (put_splits texts_total texts_exact w.shelves name parent) means.shelves);
+      shelves = rw it.rows (tabulates_put IsShelf (db 2) _ (name, parent) _ _ it.fresh (refl, refl) (λ y. put_keeps texts_total texts_exact w.shelves name parent free y.0 y.1)
+          (get_put texts_total w.shelves name parent) (put_splits texts_total texts_exact w.shelves name parent) means.shelves);
       access = rw (it.tables.1.1.0 (λ e. omega (arith, e))) means.access;
       numbered = rw (it.tables.1.1.0 (λ e. omega (arith, e))) means.numbered;
       entries = rw (it.tables.1.1.1.0 (λ e. omega (arith, e)), it.tables.1.1.1.1.0 (λ e. omega (arith, e))) means.entries;
-      names = rw it.rows (put_apart (λ a b. (n : List ℕ) → column a 1 ≡ Text n → column b 1 ≡ Text n → ⊥) (λ a b apart n also is. apart n is also) _ (db 2) (all_from _ (db 2) (name_free (db 2) means.shelves (Int (next_rowid (db 2))))) means.names);
+      names = rw it.rows (put_apart (λ a b. (n : List ℕ) → column a 1 ≡ Text n → column b 1 ≡ Text n → ⊥)
+          (λ a b apart n also is. apart n is also) _ (db 2) (all_from _ (db 2) (name_free (db 2) means.shelves (Int (next_rowid (db 2))))) means.names);
       tokens = rw (it.tables.1.1.0 (λ e. omega (arith, e))) means.tokens;
       places = rw (it.tables.1.1.1.0 (λ e. omega (arith, e))) means.places;
       pieces = rw (it.tables.1.1.1.1.0 (λ e. omega (arith, e))) means.pieces;
@@ -129,7 +133,8 @@ misnamed_group w name wrong = rw wrong refl
 
 -- an INSERT of a shelf inside a transaction puts in the shelf with its parent
 pub shelf_put : (sql : List ℕ) → command_of (understood store_schema sql) ≡ shelf_insert → IsPlain (understood store_schema sql)
-    → (old new : State) (name : List ℕ) (parent : Option (List ℕ)) (count : ℕ) → Filling old → ExecutesInside 0 sql (shelf_params name parent) old new (Ok count) → PutsShelf name parent old.now.trees new.now.trees × Filling new
+    → (old new : State) (name : List ℕ) (parent : Option (List ℕ)) (count : ℕ) → Filling old
+    → ExecutesInside 0 sql (shelf_params name parent) old new (Ok count) → PutsShelf name parent old.now.trees new.now.trees × Filling new
 shelf_put sql is plain old new name parent count filling ran =
     let wrote = runs_as sql (shelf_params name parent) old new store_schema filling.schema _ is plain count ran.0 in
     let it = added name parent old.step_limit old.now [] wrote.tally new.now filling.schema wrote.changed in

@@ -175,7 +175,8 @@ module _ (sql : List ℕ) (params : Row) (plain : IsPlain (understood store_sche
     first_selected row ran = subst (λ db. Selects sql params db (Some row)) same_now (first_as sql params mid new store_schema held.schema _ refl plain unlisted row ran)
 
     pub all_selected : (rows : List Row) → Shown sql params mid new rows → Reads (command_of (understood store_schema sql)) old.now params rows
-    all_selected rows shown = subst (λ db. Reads (command_of (understood store_schema sql)) db params rows) same_now (reads_as sql params mid new store_schema held.schema _ refl plain unlisted rows shown)
+    all_selected rows shown =
+        subst (λ db. Reads (command_of (understood store_schema sql)) db params rows) same_now (reads_as sql params mid new store_schema held.schema _ refl plain unlisted rows shown)
 
     pub none_selected : QueriesRow sql params mid new (Err QueryReturnedNoRows) → Selects sql params old.now None
     none_selected ran =

@@ -1,5 +1,6 @@
 -- Calls one after another.
-use Rattle.std.proofs.Common.{◌≡◌, ◌≤◌, ◌⊎◌, Bool, true, false, inl, inr, refl, sym, subst, arith, IsTrue, true≢false, Result, Ok, Err, IsErr, is_ok, IfOk, OnOk, Option, Some, None, is_some, option_map}
+use Rattle.std.proofs.Common.{◌≡◌, ◌≤◌, ◌⊎◌, Bool, true, false, inl, inr, refl, sym, subst, arith, IsTrue, true≢false}
+use Rattle.std.proofs.Common.{Result, Ok, Err, IsErr, is_ok, IfOk, OnOk, Option, Some, None, is_some, option_map}
 use Rattle.sqlite_trees.specs.View.{doubt}
 use Rattle.sqlite.specs.Tree.{Trees}
 use Rattle.sqlite.specs.State.{State, HasCleanDisk}
@@ -41,7 +42,8 @@ no_more a b c w next s up clean stands (inl only) = inl only
 no_more a b c w next s up clean stands (inr none) = inr (λ db may. s.left (was_clean b c up clean) w stands db (none db may))
 
 -- a read, and then a change of what it leaves, is a change of what was there before the read
-pub spares_changes : (a b c : State) (done : Bool) (next : World → World) → Spares a b → doubt b.is_clean ≤ doubt c.is_clean → ((w : World) → (HasCleanDisk c → Stands a w → ChangesAt b c done w (next w))) → Changes a c done next
+pub spares_changes : (a b c : State) (done : Bool) (next : World → World) → Spares a b → doubt b.is_clean ≤ doubt c.is_clean
+    → ((w : World) → (HasCleanDisk c → Stands a w → ChangesAt b c done w (next w))) → Changes a c done next
 spares_changes a b c done next s up then = record {
   clean = omega (arith, s.clean, up);
   at = λ w. record {

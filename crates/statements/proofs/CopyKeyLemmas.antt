@@ -166,7 +166,8 @@ token_alone after sound new other token m n here there is also number own apart 
     true≢false (sym alone ∙ ap not clash)
 
 -- a key whose row was put in was not there before
-pub key_new : (db after : Trees) (x : World) (token : List ℕ) (g : Holder) → IsSound store_schema after → Means db x → Inserted db after access_table (Int (next_rowid (db 4)) ∷ key_params token g) → map.get x.keys token ≡ None
+pub key_new : (db after : Trees) (x : World) (token : List ℕ) (g : Holder) → IsSound store_schema after → Means db x
+    → Inserted db after access_table (Int (next_rowid (db 4)) ∷ key_params token g) → map.get x.keys token ≡ None
 key_new db after x token g sound means it = go (map.get x.keys token) refl
   where
     new : Row

@@ -54,7 +54,8 @@ abbrev pub versions_on_query : Query
 versions_on_query = lookup 6 by_shelf version_shown
 
 -- each row that the query of versions shows is that of a version
-pub versions_fit : (shelf : List ℕ) (db : Database) (w : World) (rows : List Row) (row : Row) → Means db.trees w → ReadsFirst (asks versions_on_query) db (Text shelf ∷ []) (rows ++ row ∷ []) → IsVersionShown row
+pub versions_fit : (shelf : List ℕ) (db : Database) (w : World) (rows : List Row) (row : Row) → Means db.trees w
+    → ReadsFirst (asks versions_on_query) db (Text shelf ∷ []) (rows ++ row ∷ []) → IsVersionShown row
 versions_fit shelf db w rows row means first =
     let begun = begun_found (Text shelf ∷ []) db 6 by_shelf version_shown [] (λ _. refl) (rows ++ row ∷ []) first in
     let from = begun.1.sound row (at_place rows begun.0 row) in
@@ -86,7 +87,8 @@ pieces_on_query = pairs 6 8 on_shelf piece_shown
 -- an INSERT of the values of a version inside a transaction puts in the row of `version` with these values
 pub version_copied : (sql : List ℕ) → command_of (understood store_schema sql) ≡ version_insert → IsPlain (understood store_schema sql)
     → (old new : State) (values : Row) (id : ℤ) (p : Place) (h : Heading) (count : ℕ) → column values 0 ≡ Int id → ShowsVersion values p h → Filling old
-    → ExecutesInside 0 sql (version_params (Rattle.std.proofs.Common.Some id) p (record { gomod = h.gomod; zip = []; time = h.time })) old new (Ok count) → PutsVersion values old.now.trees new.now.trees × Filling new
+    → ExecutesInside 0 sql (version_params (Rattle.std.proofs.Common.Some id) p (record { gomod = h.gomod; zip = []; time = h.time })) old new (Ok count)
+    → PutsVersion values old.now.trees new.now.trees × Filling new
 version_copied sql is bare old new values id p h count first shows filling ran =
     let it = version_put sql is bare (Rattle.std.proofs.Common.Some id) p (record { gomod = h.gomod; zip = []; time = h.time }) old new count filling ran in (
       record {
@@ -101,7 +103,8 @@ version_copied sql is bare old new values id p h count first shows filling ran =
 -- ---- unique rows
 
 -- a row with the place of another, and another number, breaks the rule of the unique place
-place_alone : (after : Trees) → IsSound store_schema after → (new other : Row) (q : Place) → Has (after 6) new → Has (after 6) other → IsAt new q → IsAt other q → differ (rowid other) (rowid new) ≡ true → ⊥
+place_alone : (after : Trees) → IsSound store_schema after → (new other : Row) (q : Place) → Has (after 6) new
+    → Has (after 6) other → IsAt new q → IsAt other q → differ (rowid other) (rowid new) ≡ true → ⊥
 unfolding first_key
 place_alone after sound new other q here there at also apart =
     let kept = keeps_at Unique store_schema after version_table new (sound.obeys.rules Unique) (inr (inr (inr (inl refl)))) here in
@@ -125,14 +128,16 @@ piece_alone after sound new other version number here there of_version numbered 
     true≢false (sym alone ∙ ap not clash)
 
 -- if all rows have numbers, and one more has a number, all of them have
-numbers_more : (rows : List Row) (id : ℤ) (new : Row) → rowid new ≡ Int id → ((row : Row) → Has rows row → (n : ℤ) × (rowid row ≡ Int n)) → (row : Row) → Has (put_all rows (new ∷ [])) row → (n : ℤ) × (rowid row ≡ Int n)
+numbers_more : (rows : List Row) (id : ℤ) (new : Row) → rowid new ≡ Int id → ((row : Row) → Has rows row → (n : ℤ) × (rowid row ≡ Int n))
+    → (row : Row) → Has (put_all rows (new ∷ [])) row → (n : ℤ) × (rowid row ≡ Int n)
 numbers_more rows id new is numbers row h = elim (put_all_has (new ∷ []) rows row h) [
   | inl (inl same) ↦ (id, ap rowid same ∙ is)
   | inl (inr none) ↦ absurd none
   | inr was ↦ numbers row was
 ]
 
-other_number : (rows : List Row) (id : ℤ) (new : Row) → rowid new ≡ Int id → are_fresh rows (new ∷ []) ≡ true → (row : Row) → Has rows row → (n : ℤ) × (rowid row ≡ Int n) → differ (rowid row) (rowid new) ≡ true
+other_number : (rows : List Row) (id : ℤ) (new : Row) → rowid new ≡ Int id → are_fresh rows (new ∷ []) ≡ true
+    → (row : Row) → Has rows row → (n : ℤ) × (rowid row ≡ Int n) → differ (rowid row) (rowid new) ≡ true
 other_number rows id new is fresh row there it =
     rw is (differ_is (rowid row) (Int id) (ap is_null it.1) refl ∙ ap not (fresh_before id new rows is fresh row there))
 
@@ -154,7 +159,8 @@ version_puts values db after put =
       apart = λ apart. record {
         numbers = subst (λ l. (row : Row) → Has l row → (n : ℤ) × (rowid row ≡ Int n)) (sym put.put.rows) (numbers_more (db 6) put.id new put.number apart.numbers);
         once = subst IsEachPlaceOnce (sym put.put.rows) (put_apart (λ a b. (q : Place) → IsAt a q → IsAt b q → ⊥) (λ a b other q ofb ofa. other q ofa ofb) new (db 6)
-            (all_from _ (db 6) (λ r there q at also. place_alone after put.sound new r q here (still r there) at also (other_number (db 6) put.id new put.number put.put.fresh r there (apart.numbers r there)))) apart.once);
+            (all_from _ (db 6) (λ r there q at also. place_alone after put.sound new r q here (still r there)
+            at also (other_number (db 6) put.id new put.number put.put.fresh r there (apart.numbers r there)))) apart.once);
       };
       tables = put.put.tables;
     }
@@ -170,7 +176,8 @@ piece_puts values db after put =
       apart = λ apart. record {
         numbers = subst (λ l. (row : Row) → Has l row → (n : ℤ) × (rowid row ≡ Int n)) (sym put.put.rows) (numbers_more (db 8) put.id new refl apart.numbers);
         once = subst IsEachPieceOnce (sym put.put.rows) (put_apart (λ a b. column a 1 ≡ column b 1 → column a 2 ≡ column b 2 → ⊥) (λ a b other one two. other (sym one) (sym two)) new (db 8)
-            (all_from _ (db 8) (λ r there one two. piece_alone after put.sound new r put.version put.number here (still r there) put.of_version put.numbered one two (other_number (db 8) put.id new refl put.put.fresh r there (apart.numbers r there)))) apart.once);
+            (all_from _ (db 8) (λ r there one two. piece_alone after put.sound new r put.version put.number here (still r there) put.of_version put.numbered one two
+            (other_number (db 8) put.id new refl put.put.fresh r there (apart.numbers r there)))) apart.once);
       };
       tables = put.put.tables;
     }

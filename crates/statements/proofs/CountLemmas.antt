@@ -1,5 +1,6 @@
 -- What the query of a count answers.
-use Rattle.std.proofs.Common.{◌≡◌, ◌≤◌, ◌++◌, ℕ, suc, pos, negsuc, Bool, true, false, cond, List, [], ◌∷◌, length, min, map as mapped, flat_map, filter, Option, Some, None, is_some, inl, inr, refl, sym, ap, subst, ◌∙◌, arith, true≢false}
+use Rattle.std.proofs.Common.{◌≡◌, ◌≤◌, ◌++◌, ℕ, suc, pos, negsuc, Bool, true, false, cond, List, [], ◌∷◌, length, min, map as mapped}
+use Rattle.std.proofs.Common.{flat_map, filter, Option, Some, None, is_some, inl, inr, refl, sym, ap, subst, ◌∙◌, arith, true≢false}
 use Rattle.std.specs.FinMap as map
 use Rattle.std.specs.List.{AllZip, list_all}
 use Rattle.std.proofs.lemmas.Bool.{and_parts}
@@ -59,7 +60,8 @@ matched_length : {X Y : Type 0} (p : X → Bool) (f : X → Y) (xs : List X) →
 matched_length p f [] = refl
 matched_length {X} {Y} p f (x ∷ xs) = go (p x) (matched_length p f xs)
   where
-    go : (b : Bool) → length (flat_map (λ x. cond (p x) (f x ∷ []) []) xs) ≡ length (filter p xs) → length (cond b (f x ∷ []) [] ++ flat_map (λ x. cond (p x) (f x ∷ []) []) xs) ≡ length (cond b (x ∷ filter p xs) (filter p xs))
+    go : (b : Bool) → length (flat_map (λ x. cond (p x) (f x ∷ []) []) xs) ≡ length (filter p xs)
+        → length (cond b (f x ∷ []) [] ++ flat_map (λ x. cond (p x) (f x ∷ []) []) xs) ≡ length (cond b (x ∷ filter p xs) (filter p xs))
     go true h = ap suc h
     go false h = h
 
@@ -98,7 +100,8 @@ module _ (tree : ℕ) (filters : List Term) (db : Trees) (params row : Row) (tai
       let order = sum.grouping.0 in
       let summary = zipped_alone (IsSummary all_rows) order sum.rows r.0 (subst (λ gs. AllZip (IsSummary all_rows) gs sum.rows) sum.grouping.2 sum.summaries) r.1 in
       let shown : column row 0 ≡ column r.0 0 = ap (λ (x : Row). column x 0) (o.2 ∙ (ap (λ (k : Output). k.1) e.2 ∙ ap (λ env. (output q env).1) r.2)) in
-      let many : length order ≡ length (filter (passes filters params) (db tree)) = length_permutation all order sum.grouping.1 ∙ matched_length (passes filters params) (λ x. params ∷ x ∷ []) (db tree) in
+      let many : length order ≡ length (filter (passes filters params) (db tree)) = length_permutation all order sum.grouping.1
+      ∙ matched_length (passes filters params) (λ x. params ∷ x ∷ []) (db tree) in
       shown ∙ (summed order r.0 summary ∙ ap (λ n. Int (pos (min n most))) many)
 
 -- ---- the versions of a path on a shelf
@@ -141,7 +144,8 @@ module _ (s p : List ℕ) (w : World) (db : Trees) (means : Means db w) where
       let counted = row_counted 6 by_path (overlay base.trees []) (path_params s p) row got.0 answer in
       let value : pos n ≡ pos (min (length (filter (passes by_path (path_params s p)) (base.trees 6))) most) = let e = sym shown ∙ counted in cc in
       let number : n ≡ min (length (filter (passes by_path (path_params s p)) (base.trees 6))) most = cc in
-      let many : length (filter (passes by_path (path_params s p)) (base.trees 6)) ≡ count w s p = subst (λ (t : Trees). length (filter (passes by_path (path_params s p)) (t 6)) ≡ count w s p) (sym has_db) (all_counted s p w db means (passes by_path (path_params s p)) passes_own passes_only) in
+      let many : length (filter (passes by_path (path_params s p)) (base.trees 6)) ≡ count w s p = subst
+      (λ (t : Trees). length (filter (passes by_path (path_params s p)) (t 6)) ≡ count w s p) (sym has_db) (all_counted s p w db means (passes by_path (path_params s p)) passes_own passes_only) in
       number ∙ (ap (λ k. min k most) many ∙ small (count w s p) (is.few s p))
 
 -- ---- all versions
@@ -174,5 +178,6 @@ module _ (w : World) (db : Trees) (means : Means db w) where
       let counted = row_counted 6 [] (overlay base.trees []) [] row got.0 answer in
       let value : pos n ≡ pos (min (length (filter (passes [] []) (base.trees 6))) most) = let e = sym shown ∙ counted in cc in
       let number : n ≡ min (length (filter (passes [] []) (base.trees 6))) most = cc in
-      let many : length (filter (passes [] []) (base.trees 6)) ≡ map.len w.entries = ap length (kept_all [] (base.trees 6)) ∙ subst (λ (t : Trees). length (t 6) ≡ map.len w.entries) (sym has_db) rows_of_all in
+      let many : length (filter (passes [] []) (base.trees 6)) ≡ map.len w.entries = ap length (kept_all [] (base.trees 6))
+      ∙ subst (λ (t : Trees). length (t 6) ≡ map.len w.entries) (sym has_db) rows_of_all in
       number ∙ ap (λ k. min k most) many

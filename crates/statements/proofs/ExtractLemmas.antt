@@ -23,26 +23,33 @@ use Rattle.statements.proofs.GoingLemmas.{goes_on_itself, goes_on_then}
 
 -- ---- a query with parameters, one row at a time
 
-pub commits_nothing : (sql : List ℕ) (params : Row) (old new : State) → IsPlain (understood store_schema sql) → Survives old new (CommitsShowing sql params old) → old.now.schema ≡ store_schema → Survives old new (λ _. ⊥)
+pub commits_nothing : (sql : List ℕ) (params : Row) (old new : State) → IsPlain (understood store_schema sql)
+    → Survives old new (CommitsShowing sql params old) → old.now.schema ≡ store_schema → Survives old new (λ _. ⊥)
 commits_nothing sql params old new plain survives has =
     survives_weaker old new _ _ (λ _ db. never_commits sql params old db (subst (λ s. IsPlain (understood s sql)) (sym has) plain)) survives
 
-module _ (sql : List ℕ) (params : Row) (plain : IsPlain (understood store_schema sql)) (unlisted : reads_listing store_schema sql ≡ false) (old mid new : State) (has : old.now.schema ≡ store_schema) (same : IsUnchanged old mid) where
+module _ (sql : List ℕ) (params : Row) (plain : IsPlain (understood store_schema sql)) (unlisted : reads_listing store_schema sql ≡ false)
+    (old mid new : State) (has : old.now.schema ≡ store_schema) (same : IsUnchanged old mid) where
   pub all_shown : (rows : List Row) → Shown sql params mid new rows → Reads (command_of (understood store_schema sql)) old.now params rows
-  all_shown rows shown = subst (λ db. Reads (command_of (understood store_schema sql)) db params rows) same.0.now_is (reads_as sql params mid new store_schema (unchanged_schema old mid same has) _ refl plain unlisted rows shown)
+  all_shown rows shown = subst (λ db. Reads (command_of (understood store_schema sql)) db params rows) same.0.now_is
+      (reads_as sql params mid new store_schema (unchanged_schema old mid same has) _ refl plain unlisted rows shown)
 
   pub some_shown : (rows : List Row) → Begins sql params mid rows → ReadsFirst (command_of (understood store_schema sql)) old.now params rows
-  some_shown rows begins = subst (λ db. ReadsFirst (command_of (understood store_schema sql)) db params rows) same.0.now_is (begins_as sql params mid mid store_schema (unchanged_schema old mid same has) _ refl plain unlisted rows begins)
+  some_shown rows begins = subst (λ db. ReadsFirst (command_of (understood store_schema sql)) db params rows) same.0.now_is
+      (begins_as sql params mid mid store_schema (unchanged_schema old mid same has) _ refl plain unlisted rows begins)
 
 -- ---- copies
 
 -- `GoesOn` holds of a call, done if it returns Ok, that commits nothing and leaves the transaction open when it returns Ok
-pub goes_on_if : {A E : Type 0} (r : Result A E) (a b : State) → Survives a b (λ _. ⊥) → (HasCleanDisk b → IsTrue a.in_transaction → KeepsCommit a b) → (HasCleanDisk b → IsTrue a.in_transaction → OnOk r (IsTrue b.in_transaction)) → GoesOn a b (is_ok r)
+pub goes_on_if : {A E : Type 0} (r : Result A E) (a b : State) → Survives a b (λ _. ⊥) → (HasCleanDisk b → IsTrue a.in_transaction → KeepsCommit a b)
+    → (HasCleanDisk b → IsTrue a.in_transaction → OnOk r (IsTrue b.in_transaction)) → GoesOn a b (is_ok r)
 goes_on_if r a b survives kept inside = record { survives = survives; kept = kept; inside = λ clean is done. when_ok r done (inside clean is) }
 
 -- a call copies what it makes if it only looks at the source, leaves it unchanged when it returns Ok, and goes on inside the transaction
-pub copied : {A E : Type 0} (r : Result A E) (Makes : Trees → Trees → Trees → Type 0) (s t a b : State) → Looks s t → (HasCleanDisk t → s.now.schema ≡ store_schema → OnOk r (IsUnchanged s t)) → GoesOn a b (is_ok r)
-    → (HasCleanDisk t → HasCleanDisk b → s.now.schema ≡ store_schema → (w : World) → Means s.now.trees w → Filling a → OnOk r (Makes s.now.trees a.now.trees b.now.trees × Filling b)) → Copies Makes s t a b (is_ok r)
+pub copied : {A E : Type 0} (r : Result A E) (Makes : Trees → Trees → Trees → Type 0) (s t a b : State)
+    → Looks s t → (HasCleanDisk t → s.now.schema ≡ store_schema → OnOk r (IsUnchanged s t)) → GoesOn a b (is_ok r)
+    → (HasCleanDisk t → HasCleanDisk b → s.now.schema ≡ store_schema → (w : World) → Means s.now.trees w → Filling a → OnOk r (Makes s.now.trees a.now.trees b.now.trees × Filling b))
+    → Copies Makes s t a b (is_ok r)
 copied r Makes s t a b looks same goes_on makes =
     let has = λ (ready : IsReady s) (clean : HasCleanDisk t). (ready (was_clean s t looks.clean clean)).1 in
     record {
@@ -77,7 +84,8 @@ copies_none s a = record {
 
 -- a shelf is put in, and the source is not touched
 pub put_copied : {A E : Type 0} (r : Result A E) (name : List ℕ) (parent : Option (List ℕ)) (s a b : State) → Survives a b (λ _. ⊥) → (HasCleanDisk b → IsTrue a.in_transaction → KeepsCommit a b)
-    → (HasCleanDisk b → IsTrue a.in_transaction → OnOk r (IsTrue b.in_transaction)) → (HasCleanDisk b → Filling a → OnOk r (PutsShelf name parent a.now.trees b.now.trees × Filling b)) → Copies (λ _. PutsShelf name parent) s s a b (is_ok r)
+    → (HasCleanDisk b → IsTrue a.in_transaction → OnOk r (IsTrue b.in_transaction))
+    → (HasCleanDisk b → Filling a → OnOk r (PutsShelf name parent a.now.trees b.now.trees × Filling b)) → Copies (λ _. PutsShelf name parent) s s a b (is_ok r)
 put_copied r name parent s a b survives kept inside puts = record {
   clean = omega arith;
   reads = untouched s (is_ok r);
@@ -112,7 +120,8 @@ module _ (P Q : Trees → Trees → Trees → Type 0) (s t u a b c : State) (don
   }
 
 -- a copy that makes P makes each Q that P implies
-pub copies_weaker : (P Q : Trees → Trees → Trees → Type 0) (s t a b : State) (done : Bool) → ((source db after : Trees) → P source db after → Q source db after) → Copies P s t a b done → Copies Q s t a b done
+pub copies_weaker : (P Q : Trees → Trees → Trees → Type 0) (s t a b : State) (done : Bool)
+    → ((source db after : Trees) → P source db after → Q source db after) → Copies P s t a b done → Copies Q s t a b done
 copies_weaker P Q s t a b done less p = record {
   clean = p.clean;
   reads = p.reads;

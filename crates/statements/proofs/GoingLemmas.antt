@@ -25,7 +25,8 @@ stays_quiet a b c p q = survives_then a b c _ _ (λ _. ⊥) (λ _ db none. none)
 kept_both : (a b c : State) → KeepsCommit a b → KeepsCommit b c → KeepsCommit a c
 kept_both a b c p q = record { was_open = λ is. p.was_open (q.was_open is); committed = λ is. q.committed is ∙ p.committed (q.was_open is) }
 
-pub commit_kept : (a b c : State) → GoesOn a b true → doubt b.is_clean ≤ doubt c.is_clean → (HasCleanDisk c → IsTrue b.in_transaction → KeepsCommit b c) → HasCleanDisk c → IsTrue a.in_transaction → KeepsCommit a c
+pub commit_kept : (a b c : State) → GoesOn a b true → doubt b.is_clean ≤ doubt c.is_clean
+    → (HasCleanDisk c → IsTrue b.in_transaction → KeepsCommit b c) → HasCleanDisk c → IsTrue a.in_transaction → KeepsCommit a c
 commit_kept a b c p up next clean inside = let was = was_clean b c up clean in kept_both a b c (p.kept was inside) (next clean (p.inside was inside refl))
 
 pub goes_on_then : (a b c : State) (done : Bool) → GoesOn a b true → GoesOn b c done → GoesOn a c done

@@ -138,7 +138,8 @@ module _ (w : World) (shelves : List (Bor (List ℕ))) (i : ℕ) (p v : List ℕ
 -- ---- the entry and the heading of a row
 
 -- the row and its zip are the entry that is seen
-pub entry_of_row : (db : Trees) (seen : Option Seen) (row : VersionRow) (zip : List ℕ) → (it : IsRowOf db seen row) → zip ≡ it.entry.zip → Some (record { shelf = row.shelf; entry = entry_with row.heading zip }) ≡ seen
+pub entry_of_row : (db : Trees) (seen : Option Seen) (row : VersionRow) (zip : List ℕ) → (it : IsRowOf db seen row)
+    → zip ≡ it.entry.zip → Some (record { shelf = row.shelf; entry = entry_with row.heading zip }) ≡ seen
 entry_of_row db seen row zip it zips =
     let mods = ap (λ (h : Heading). h.gomod) it.heading in
     let times = ap (λ (h : Heading). h.time) it.heading in

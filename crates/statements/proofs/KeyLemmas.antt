@@ -52,7 +52,8 @@ module _ (token : List ℕ) (db : Database) (w : World) (means : Means db.trees 
   right_is Publishes Reads e = absurd (true≢false e)
   right_is Publishes Publishes e = refl
 
-  pub key_some : (out : Row) (g : Holder) (n : ℤ) → FirstFound (db.trees 4) by_token shown (Text token ∷ []) (Some out) → column out 0 ≡ Text g.shelf → column out 1 ≡ Int n → may_publish g.right ≡ not (int_eq n (pos 0))
+  pub key_some : (out : Row) (g : Holder) (n : ℤ) → FirstFound (db.trees 4) by_token shown (Text token ∷ []) (Some out)
+      → column out 0 ≡ Text g.shelf → column out 1 ≡ Int n → may_publish g.right ≡ not (int_eq n (pos 0))
       → Some g ≡ map.get w.keys token
   key_some out g n h shelf publish right =
       let it = means.access.each h.0 h.1 in

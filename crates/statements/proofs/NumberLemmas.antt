@@ -1,5 +1,6 @@
 -- What the queries of a number answer.
-use Rattle.std.proofs.Common.{◌≡◌, ◌<ℤ◌, ◌-ℤ◌, ℤ, pos, true, false, List, [], ◌∷◌, ◌++◌, map as mapped, Option, Some, None, is_some, inl, inr, refl, sym, ap, subst, ◌∙◌, true≢false, Decides, SomeIff, FitsSigned, w64, IsPermutation, arith, MatchOption}
+use Rattle.std.proofs.Common.{◌≡◌, ◌<ℤ◌, ◌-ℤ◌, ℤ, pos, true, false, List, [], ◌∷◌, ◌++◌, map as mapped, Option, Some, None, is_some, inl, inr}
+use Rattle.std.proofs.Common.{refl, sym, ap, subst, ◌∙◌, true≢false, Decides, SomeIff, FitsSigned, w64, IsPermutation, arith, MatchOption}
 use Rattle.std.specs.Ordering.{is_lt, is_gt, ordering_reverse, int_cmp}
 use Rattle.std.specs.declared.cmp.Ordering.{Ordering}
 use Rattle.std.specs.declared.cmp.Ordering.TheVariants.{Less, Equal, Greater}
@@ -92,7 +93,8 @@ module _ (db : Trees) (n : ℤ) (row : Row) (tail : List Row) (it : IsListing nu
       let listed = has_permuted (row ∷ tail) (mapped number_shown (db 6)) (number_shown r) (IsPermutation-sym _ _ same) (mapped_has number_shown (db 6) r there) in
       elim listed [
         | inl here ↦ (let e : Int m ≡ Int n = sym is ∙ (ap (λ (x : Row). column x 0) here ∙ shown) in let f : m ≡ n = cc in omega (arith, ints, below, f))
-        | inr later ↦ (let h = all_has (Upto row) tail (number_shown r) (ascends Upto upto_then (row ∷ tail) in_order).0 later in true≢false (sym (below_less m n below) ∙ (ap is_lt (sym (value_cmp-Int m n)) ∙ (rw (is, shown) at h))))
+        | inr later ↦ (let h = all_has (Upto row) tail (number_shown r) (ascends Upto upto_then (row ∷ tail) in_order).0 later in
+            true≢false (sym (below_less m n below) ∙ (ap is_lt (sym (value_cmp-Int m n)) ∙ (rw (is, shown) at h))))
       ]
 
 abbrev listed : Trees → List Row → Type 0

@@ -63,7 +63,8 @@ short_ends zip it short is more =
     omega (arith, short, more, taken, dropped, size)
 
 -- and so is one that no other follows
-pub none_follows : (db : Trees) (id : ℤ) (next : ℕ) (it : Piece) (row : Option Row) → next ≡ it.number + 1 → ShowsPiece db id next row → is_some row ≡ false → (zip : List ℕ) → IsZip db id zip → EndsWith zip it
+pub none_follows : (db : Trees) (id : ℤ) (next : ℕ) (it : Piece) (row : Option Row) → next ≡ it.number + 1
+    → ShowsPiece db id next row → is_some row ≡ false → (zip : List ℕ) → IsZip db id zip → EndsWith zip it
 none_follows db id next it None is shows none = λ zip own _. subst (λ n. ¬ HasPiece zip n) is (shows zip own)
 none_follows db id next it (Some row) is shows none = absurd (true≢false none)
 
@@ -89,6 +90,7 @@ pub outline_of_row : (db : Trees) (seen : Option Seen) (row : VersionRow) (bytes
 outline_of_row db seen row bytes mod_bytes it mods zips =
     let same : mod_bytes ≡ length it.entry.gomod = mods ∙ ap (λ (h : Heading). length h.gomod) it.heading in
     let times = ap (λ (h : Heading). h.time) it.heading in
-    let whole : ◌≡◌ {A = Outline} (record { shelf = row.shelf; time = row.heading.time; gomod_bytes = mod_bytes; zip_bytes = bytes }) (record { shelf = row.shelf; time = it.entry.time; gomod_bytes = length it.entry.gomod; zip_bytes = length it.entry.zip }) =
+    let whole : ◌≡◌ {A = Outline} (record { shelf = row.shelf; time = row.heading.time; gomod_bytes = mod_bytes; zip_bytes = bytes })
+    (record { shelf = row.shelf; time = it.entry.time; gomod_bytes = length it.entry.gomod; zip_bytes = length it.entry.zip }) =
     λ i. record { shelf = row.shelf; time = times i; gomod_bytes = same i; zip_bytes = zips i } in
     ap Some whole ∙ sym (ap in_outline it.is)

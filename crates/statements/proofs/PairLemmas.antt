@@ -16,7 +16,8 @@ use Rattle.statements.proofs.LookupLemmas.{has_matched, matched_has, asks}
 use Rattle.tables.proofs.Ascending.{has_permuted}
 
 -- an answer to a query over two tables has the pairs that pass, projected, and no others
-pub answer_paired : (t u : ℕ) (filter project : List Term) (db : Trees) (params : Row) (out : List Row) → IsAnswer (pairs t u filter project) db params out → ArePaired (db t) (db u) filter project params out
+pub answer_paired : (t u : ℕ) (filter project : List Term) (db : Trees) (params : Row) (out : List Row)
+    → IsAnswer (pairs t u filter project) db params out → ArePaired (db t) (db u) filter project params out
 answer_paired t u filter project db params out answer =
     let q = pairs t u filter project in
     let env = λ (r b : Row). params ∷ r ∷ b ∷ [] in
@@ -41,7 +42,8 @@ answer_paired t u filter project db params out answer =
 module _ (params : Row) (db : Database) (t u : ℕ) (filter project : List Term)
     (one : (trees : Trees) → overlay trees [] t ≡ trees t) (two : (trees : Trees) → overlay trees [] u ≡ trees u) where
   answered : (out : List Row) → IsAnswer (pairs t u filter project) (overlay db.trees []) params out → ArePaired (db.trees t) (db.trees u) filter project params out
-  answered out answer = subst (λ l. ArePaired l (db.trees u) filter project params out) (one db.trees) (subst (λ l. ArePaired (overlay db.trees [] t) l filter project params out) (two db.trees) (answer_paired t u filter project (overlay db.trees []) params out answer))
+  answered out answer = subst (λ l. ArePaired l (db.trees u) filter project params out) (one db.trees)
+      (subst (λ l. ArePaired (overlay db.trees [] t) l filter project params out) (two db.trees) (answer_paired t u filter project (overlay db.trees []) params out answer))
 
   pub all_paired : (out : List Row) → Reads (asks (pairs t u filter project)) db params out → ArePaired (db.trees t) (db.trees u) filter project params out
   all_paired out read = answered out (read.answer Null)

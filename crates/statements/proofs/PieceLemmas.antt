@@ -1,5 +1,6 @@
 -- What the query of a piece answers, and zips that are put together or compared piece by piece.
-use Rattle.std.proofs.Common.{◌≡◌, ◌≢◌, ◌≤◌, nat_eq, MatchOption, ◌<◌, ◌+◌, ◌==◌, ◌++◌, ℕ, ℤ, pos, Bool, true, false, List, [], ◌∷◌, length, length-append, append-nil, take, drop, Option, Some, None, refl, sym, ap, subst, ◌∙◌, arith, true≢false}
+use Rattle.std.proofs.Common.{◌≡◌, ◌≢◌, ◌≤◌, nat_eq, MatchOption, ◌<◌, ◌+◌, ◌==◌, ◌++◌, ℕ, ℤ, pos, Bool, true, false, List, [], ◌∷◌, length}
+use Rattle.std.proofs.Common.{length-append, append-nil, take, drop, Option, Some, None, refl, sym, ap, subst, ◌∙◌, arith, true≢false}
 use lib.Dec.{eqb-suc-zero}
 use Rattle.std.specs.Prelude.{bytes_eq}
 use Rattle.std.specs.Cmp.{unsigned_Decides}
@@ -97,7 +98,8 @@ all_there there given rest n is none = go rest (is ∙ ap (λ l. l ++ rest) (no_
   where
     go : (rest : List ℕ) → given ≡ there ++ rest → (length rest == 0) ≡ bytes_eq there given
     go [] same = sym (ap (bytes_eq there) (same ∙ append-nil there) ∙ text_self there)
-    go (x ∷ rest) same = eqb-suc-zero (length rest) ∙ sym (false_from_ne_true (bytes_eq there given) (λ h. let long = ap length (text_same there given h ∙ same) in let sum = length-append there (x ∷ rest) in omega (arith, long, sum)))
+    go (x ∷ rest) same = eqb-suc-zero (length rest)
+        ∙ sym (false_from_ne_true (bytes_eq there given) (λ h. let long = ap length (text_same there given h ∙ same) in let sum = length-append there (x ∷ rest) in omega (arith, long, sum)))
 
 -- ---- bytes that are lent
 
@@ -106,7 +108,8 @@ bytes_same e = cc
 
 -- what `strip_prefix` returns: the rest of the bytes, or None
 abbrev Stripped : List ℕ → List ℕ → Option (Bor (List ℕ)) → Type 0
-Stripped s p r = MatchOption r (pointwise nat_eq (take (length p) s) p ≡ false) (λ x. (pointwise nat_eq (take (length p) s) p ≡ true) × (x.now ≡ drop (length p) s) × (length x.now + length p ≡ length s))
+Stripped s p r =
+    MatchOption r (pointwise nat_eq (take (length p) s) p ≡ false) (λ x. (pointwise nat_eq (take (length p) s) p ≡ true) × (x.now ≡ drop (length p) s) × (length x.now + length p ≡ length s))
 
 pub cut_off : (s p : List ℕ) (r : Option (Bor (List ℕ))) (x : Bor (List ℕ)) → r ≡ Some x → Stripped s p r → s ≡ p ++ x.now
 cut_off s p r x is cases = subst (λ o. MatchOption o ((rest : List ℕ) → s ≢ p ++ rest) (λ y. s ≡ p ++ y.now)) is (strip_prefix_is unsigned_Decides s p r cases)

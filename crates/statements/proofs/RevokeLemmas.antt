@@ -82,7 +82,8 @@ module _ (limit : Option ℕ) (token : List ℕ) where
         }),
       )
 
-  removed : (db : Database) (text : List ℕ) (tally : Tally) (after : Database) → db.schema ≡ store_schema → Does limit enforced (revoke_params token) db text None (Delete 2 keys_of) (Ok (tally, after))
+  removed : (db : Database) (text : List ℕ) (tally : Tally) (after : Database) → db.schema ≡ store_schema
+      → Does limit enforced (revoke_params token) db text None (Delete 2 keys_of) (Ok (tally, after))
       → (after.schema ≡ store_schema) × Removed db.trees after.trees token
   removed db text tally after has h =
       let does = subst (λ s. Does limit enforced (revoke_params token) (record db { schema = s }) text None (Delete 2 keys_of) (Ok (tally, after))) has h in

@@ -1,5 +1,6 @@
 -- Lists of shelves, no two of one name, and those that rows show.
-use Rattle.std.proofs.Common.{◌≡◌, ◌⊎◌, ℕ, Bool, true, false, cond, List, [], ◌∷◌, ◌++◌, Option, Some, None, ◌+◌, ◌<◌, length, take, get_or, inl, inr, refl, sym, ap, subst, subst₂, ◌∙◌, true≢false, is_some}
+use Rattle.std.proofs.Common.{◌≡◌, ◌⊎◌, ℕ, Bool, true, false, cond, List, [], ◌∷◌, ◌++◌, Option, Some, None, ◌+◌, ◌<◌}
+use Rattle.std.proofs.Common.{length, take, get_or, inl, inr, refl, sym, ap, subst, subst₂, ◌∙◌, true≢false, is_some}
 use Rattle.std.specs.Prelude.{bytes_eq, ◌||◌}
 use Rattle.std.specs.FinMap as map
 use Rattle.std.specs.FinSet as set
@@ -65,7 +66,8 @@ names_more (t ∷ shelves) s = ap (λ ns. t.name ∷ ns) (names_more shelves s)
 abbrev pub AreNames : set.FinSet text_cmp → List (List ℕ) → Type 0
 AreNames names ns = (s : List ℕ) → set.contains names s ≡ is_among (behind (common ∷ []) ns) s
 
-one_more : (names : set.FinSet text_cmp) (ns : List (List ℕ)) (n : List ℕ) → ((s : List ℕ) → set.contains names s ≡ is_among ns s) → (s : List ℕ) → set.contains (set.insert names n) s ≡ is_among (n ∷ ns) s
+one_more : (names : set.FinSet text_cmp) (ns : List (List ℕ)) (n : List ℕ) → ((s : List ℕ) → set.contains names s ≡ is_among ns s)
+    → (s : List ℕ) → set.contains (set.insert names n) s ≡ is_among (n ∷ ns) s
 one_more names ns n are s = set.contains-insert texts_total names n s ∙ (λ i. is_eq-slice_cmp s n i || are s i)
 
 pub of_common : AreNames (set.insert set.empty common) []
@@ -108,7 +110,8 @@ or_taken false false h = refl
 pub added_names : (shelves : List Shelf) (one : Shelf) (s : List ℕ) → is_among (common ∷ names_of (added shelves one)) s ≡ (is_among (common ∷ names_of shelves) s || bytes_eq s one.name)
 added_names shelves one s = go (is_among (common ∷ names_of shelves) one.name) refl
   where
-    go : (b : Bool) → is_among (common ∷ names_of shelves) one.name ≡ b → is_among (common ∷ names_of (cond b shelves (shelves ++ one ∷ []))) s ≡ (is_among (common ∷ names_of shelves) s || bytes_eq s one.name)
+    go : (b : Bool) → is_among (common ∷ names_of shelves) one.name ≡ b
+        → is_among (common ∷ names_of (cond b shelves (shelves ++ one ∷ []))) s ≡ (is_among (common ∷ names_of shelves) s || bytes_eq s one.name)
     go true there = or_taken _ (bytes_eq s one.name) (λ same. ap (is_among (common ∷ names_of shelves)) (text_same s one.name same) ∙ there)
     go false free = ap (λ ns. is_among (common ∷ ns) s) (names_more shelves one) ∙ among_more (common ∷ names_of shelves) one.name s
 
@@ -162,7 +165,8 @@ same_option (Some a) None e = cc
 same_option (Some a) (Some b) e = let same : a ≡ b = cc in ap Some same
 
 -- the list of the rows that the query of all shelves shows has all shelves of the world
-pub all_listed : (db : Database) (w : World) (means : Means db.trees w) (rows : List Row) → Reads (asks all_query) db [] rows → (shelves : List Shelf) → ListsRows rows shelves → AreAllShelves w shelves
+pub all_listed : (db : Database) (w : World) (means : Means db.trees w) (rows : List Row)
+    → Reads (asks all_query) db [] rows → (shelves : List Shelf) → ListsRows rows shelves → AreAllShelves w shelves
 all_listed db w means rows read shelves lists =
     let found = all_found [] db 2 [] shown by_parent (λ _. refl) rows read in
     record {
@@ -195,7 +199,8 @@ rows_at rows at row shelves more s within is shows made lists =
 abbrev pub AreKept : List Shelf → set.FinSet text_cmp → Type 0
 AreKept shelves names = AreNew (common ∷ []) (names_of shelves) × AreNames names (names_of shelves)
 
-pub kept_first : (shelves : List Shelf) (names before : set.FinSet text_cmp) (text : List ℕ) → shelves ≡ [] → names ≡ set.insert before text → before ≡ set.empty → text ≡ common → AreKept shelves names
+pub kept_first : (shelves : List Shelf) (names before : set.FinSet text_cmp) (text : List ℕ) → shelves ≡ []
+    → names ≡ set.insert before text → before ≡ set.empty → text ≡ common → AreKept shelves names
 kept_first shelves names before text none made first is =
     let whole : names ≡ set.insert set.empty common = made ∙ (λ i. set.insert (first i) (is i)) in
     let start : AreNames names [] = subst (λ n. AreNames n []) (sym whole) of_common in

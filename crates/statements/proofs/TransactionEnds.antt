@@ -110,7 +110,8 @@ module _ {S : Type 0} (g : Ghosts S) (h : Held S) (last exit : State) (w next : 
         ]
 
     module _ (is_whole : Bool) (undone : HasCleanDisk exit → is_whole ≡ false → IsRolledBack last exit) (ends : IsTrue is_whole → Survives last exit (λ db. db ≡ last.now.trees))
-        (lost : is_whole ≡ false → Survives last exit (λ _. ⊥)) (keeps : HasCleanDisk last → KeepsCommit begun last) (made : HasCleanDisk last → Stands old w → IsTrue is_whole → Writing last next) where
+        (lost : is_whole ≡ false → Survives last exit (λ _. ⊥)) (keeps : HasCleanDisk last → KeepsCommit begun last)
+        (made : HasCleanDisk last → Stands old w → IsTrue is_whole → Writing last next) where
       not_whole : is_whole ≡ false → ChangesAt old exit false w next
       not_whole part = undone_to keeps (lost part).clean (λ clean _. undone clean part) (λ _. ⊥) (λ _ _ _ none. absurd none) (lost part)
 
@@ -133,7 +134,8 @@ module _ {S : Type 0} (g : Ghosts S) (h : Held S) (last exit : State) (w next : 
       ]
 
 -- once the rows of an entry are added inside a transaction, its tables stand for the world with the entry
-pub entry_written : (begun last : State) (w : World) (p : Place) (e : Entry) → map.get w.entries p ≡ None → Writing begun w → (Filling begun → HasAdded begun.now.trees last.now.trees p e × Filling last) → Writing last (with_entry w p e)
+pub entry_written : (begun last : State) (w : World) (p : Place) (e : Entry) → map.get w.entries p ≡ None → Writing begun w
+    → (Filling begun → HasAdded begun.now.trees last.now.trees p e × Filling last) → Writing last (with_entry w p e)
 entry_written begun last w p e unused writing add =
     let it = add (filling_of begun w writing) in
     writing_of last (with_entry w p e) it.1 (entry_means w p e unused begun.now.trees last.now.trees writing.trees.sound it.0 writing.trees.means)

@@ -68,7 +68,8 @@ module _ (w : World) (p : Place) (e : Entry) (unused : map.get w.entries p ≡ N
   split y is = put_splits places_total places_exact w.entries p e y is
 
   -- no row of the tables names the place
-  place_free : (pieces rows : List Row) → Tabulates (IsVersion pieces) rows (λ it. map.get w.entries it.0 ≡ Some it.1) → (r : Row) → Has rows r → (new : Row) → IsAt new p → (q : Place) → IsAt new q → IsAt r q → ⊥
+  place_free : (pieces rows : List Row) → Tabulates (IsVersion pieces) rows (λ it. map.get w.entries it.0 ≡ Some it.1)
+      → (r : Row) → Has rows r → (new : Row) → IsAt new p → (q : Place) → IsAt new q → IsAt r q → ⊥
   place_free pieces rows tabulated r there new at q new_at r_at =
       let it = tabulated.each r there in
       let same : it.0.0 ≡ p = same_place r it.0.0 q it.1.place r_at ∙ same_place new q p new_at at in
@@ -80,7 +81,8 @@ module _ (w : World) (p : Place) (e : Entry) (unused : map.get w.entries p ≡ N
       let row = version_row a.id p e in
       let rows : after 6 ≡ a.mid 6 = a.zip.tables.1.1.1.0 (λ f. omega (arith, f)) in
       let same : a.mid 8 ≡ db 8 = a.version.tables.1.1.1.1.0 (λ f. omega (arith, f)) in
-      let adds : AddsRows piece_read (λ values. (n : ℕ) × HasPiece e.zip n × (values ≡ piece_values a.id e.zip n)) (db 8) (after 8) = subst (λ l. AddsRows piece_read (λ values. (n : ℕ) × HasPiece e.zip n × (values ≡ piece_values a.id e.zip n)) l (after 8)) same a.zip.pieces in
+      let adds : AddsRows piece_read (λ values. (n : ℕ) × HasPiece e.zip n × (values ≡ piece_values a.id e.zip n)) (db 8) (after 8) =
+      subst (λ l. AddsRows piece_read (λ values. (n : ℕ) × HasPiece e.zip n × (values ≡ piece_values a.id e.zip n)) l (after 8)) same a.zip.pieces in
       let none : (b : Row) → Has (db 8) b → is_of row b ≡ false = λ b there. false_from_ne_true (is_of row b) (λ tied.
       let v = piece_version db sound b there in
       true≢false (sym (equal_chain (rowid v.0) (column b 1) (Int a.id) (equal_turned (rowid v.0) (column b 1) ∙ v.2) tied) ∙ fresh_before a.id row (db 6) refl a.version.fresh v.0 v.1)) in
@@ -110,7 +112,8 @@ module _ (w : World) (p : Place) (e : Entry) (unused : map.get w.entries p ≡ N
         entries = rw (rows, a.version.rows) (tabulates_put (IsVersion (after 8)) (db 6) row (p, e) _ _ a.version.fresh new_is kept (get_put places_total w.entries p e) split wider);
         names = rw (a.zip.tables.1.0 (λ f. omega (arith, f)), a.version.tables.1.0 (λ f. omega (arith, f))) means.names;
         tokens = rw (a.zip.tables.1.1.0 (λ f. omega (arith, f)), a.version.tables.1.1.0 (λ f. omega (arith, f))) means.tokens;
-        places = rw (rows, a.version.rows) (put_apart (λ a b. (q : Place) → IsAt a q → IsAt b q → ⊥) (λ a b apart q ofb ofa. apart q ofa ofb) row (db 6) (all_from _ (db 6) (λ r there. place_free (db 8) (db 6) means.entries r there row (refl, refl, refl))) means.places);
+        places = rw (rows, a.version.rows) (put_apart (λ a b. (q : Place) → IsAt a q → IsAt b q → ⊥)
+            (λ a b apart q ofb ofa. apart q ofa ofb) row (db 6) (all_from _ (db 6) (λ r there. place_free (db 8) (db 6) means.entries r there row (refl, refl, refl))) means.places);
         pieces = a.zip.once
             (λ b there own. true≢false (sym (ap (λ v. equal Binary v (Int a.id)) own ∙ int_itself a.id) ∙ none b (subst (λ l. Has l b) same there)))
             (subst Rattle.tables.specs.Means.IsEachPieceOnce (sym same) means.pieces);

@@ -140,7 +140,8 @@ or_swap false y z = refl
 
 -- it does not matter which set is added first
 swapped : (a b c : set.FinSet text_cmp) → set.union a (set.union b c) ≡ set.union b (set.union a c)
-swapped a b c = same_set texts_total texts_exact (set.union a (set.union b c)) (set.union b (set.union a c)) (λ t. member a b t ∙ (or_swap (set.contains a t) (set.contains b t) (set.contains c t) ∙ sym (member b a t)))
+swapped a b c = same_set texts_total texts_exact (set.union a (set.union b c)) (set.union b (set.union a c))
+    (λ t. member a b t ∙ (or_swap (set.contains a t) (set.contains b t) (set.contains c t) ∙ sym (member b a t)))
   where
     member : (x y : set.FinSet text_cmp) (t : List ℕ) → set.contains (set.union x (set.union y c)) t ≡ (set.contains x t || (set.contains y t || set.contains c t))
     member x y t = set.contains-union texts_total x (set.union y c) t ∙ ap (λ h. set.contains x t || h) (set.contains-union texts_total y c t)
@@ -179,6 +180,7 @@ one_more rows row text old mid new shows made adds t = (to t, from t)
     from t (inl before) = kept t ((adds t).1 (inl before))
     from t (inr shown) = elim (has_either rows (row ∷ []) shown.0 shown.1) [
       | inl was ↦ kept t ((adds t).1 (inr (shown.0, was, shown.2)))
-      | inr (inl last) ↦ (let same : text ≡ t = let e = sym shows ∙ (ap (λ (r : Row). column r 0) (sym last) ∙ shown.2) in cc in subst (λ s. set.contains s t ≡ true) (sym made) (subst (λ x. set.contains (set.insert mid text) x ≡ true) same (text_put mid text)))
+      | inr (inl last) ↦ (let same : text ≡ t = let e = sym shows ∙ (ap (λ (r : Row). column r 0) (sym last) ∙ shown.2) in cc in
+          subst (λ s. set.contains s t ≡ true) (sym made) (subst (λ x. set.contains (set.insert mid text) x ≡ true) same (text_put mid text)))
       | inr (inr none) ↦ absurd none
     ]

@@ -57,7 +57,8 @@ abbrev pub Rewrites : Row → Command → State → World → Type 0
 Rewrites params command old next =
     (text : List ℕ) (tally : Tally) (after : Database) → Does old.step_limit (mode_of old) params old.now text None command (Ok (tally, after)) → (after.schema ≡ store_schema) × Means after.trees next
 
-module _ (sql : List ℕ) (params : Row) (command : Command) (is : command_of (understood store_schema sql) ≡ command) (plain : IsPlain (understood store_schema sql)) (edit : IsEdit command) (old new : State) where
+module _ (sql : List ℕ) (params : Row) (command : Command) (is : command_of (understood store_schema sql) ≡ command)
+    (plain : IsPlain (understood store_schema sql)) (edit : IsEdit command) (old new : State) where
   abbrev text : List ℕ
   text = statement_of sql (understood store_schema sql)
 
@@ -80,7 +81,8 @@ module _ (sql : List ℕ) (params : Row) (command : Command) (is : command_of (u
   written_open w h count ran = (wrote_as w h count ran).shown.is_open
 
   -- what the statement may commit stands for the next world
-  committed : (w next : World) → Holds old w → Rewrites params command old next → (c : Compiled) → understood old.now.schema sql ≡ Ok c → (full : Row) → full ≡ params → (db : Trees) → MayCommit old c.returning c.command (text_of sql c) full db → StandFor db next
+  committed : (w next : World) → Holds old w → Rewrites params command old next → (c : Compiled) → understood old.now.schema sql ≡ Ok c
+      → (full : Row) → full ≡ params → (db : Trees) → MayCommit old c.returning c.command (text_of sql c) full db → StandFor db next
   committed w next h turns c found full given db may =
       let known : Ok c ≡ understood store_schema sql = sym found ∙ ap (λ s. understood s sql) h.schema in
       let bare = (subst IsPlain (sym known) plain).0 in
@@ -94,27 +96,32 @@ module _ (sql : List ℕ) (params : Row) (command : Command) (is : command_of (u
           let done = turns text it.1 it.2 it.3 in
           subst (λ t. StandFor t next) (sym it.5) (record { sound = subst (λ s. IsSound s it.2.trees) done.0 it.4; means = done.1 })
 
-  pub written_leaves : (w next : World) → Holds old w → Rewrites params command old next → Survives old new (CommitsBy sql params old) → HasCleanDisk new → LeavesOnly old (λ x. x ≡ w) → LeavesOnly new (λ x. (x ≡ w) ⊎ (x ≡ next))
+  pub written_leaves : (w next : World) → Holds old w → Rewrites params command old next → Survives old new (CommitsBy sql params old)
+      → HasCleanDisk new → LeavesOnly old (λ x. x ≡ w) → LeavesOnly new (λ x. (x ≡ w) ⊎ (x ≡ next))
   unfolding CommitsBy
   written_leaves w next h turns survives clean only db may = elim (survives.crash clean db may) [
     | inl was ↦ (let it = only db was in (it.0, it.1, inl it.2))
-    | inr commits ↦ (let bare = (subst IsPlain (sym (sym commits.1.is ∙ ap (λ s. understood s sql) h.schema)) plain).1 in let full : timed params commits.0.formats commits.1.now ≡ params = rw bare (append-nil params) in (next, committed w next h turns commits.0 commits.1.is _ full db commits.2, inr refl))
+    | inr commits ↦ (let bare = (subst IsPlain (sym (sym commits.1.is ∙ ap (λ s. understood s sql) h.schema)) plain).1 in
+        let full : timed params commits.0.formats commits.1.now ≡ params = rw bare (append-nil params) in (next, committed w next h turns commits.0 commits.1.is _ full db commits.2, inr refl))
   ]
 
   -- a statement that was executed is a change that was done
-  pub done_changes : (law : (db : Trees) → IsTrue new.is_open → new.may_leave db → db ≡ new.committed.trees) → (HasCleanDisk old → IsTrue old.is_open) → (w next : World) → ((h : Holds old w) → Rewrites params command old next)
+  pub done_changes : (law : (db : Trees) → IsTrue new.is_open → new.may_leave db → db ≡ new.committed.trees)
+      → (HasCleanDisk old → IsTrue old.is_open) → (w next : World) → ((h : Holds old w) → Rewrites params command old next)
       → Survives old new (CommitsBy sql params old) → (count : ℕ) → (HasCleanDisk new → Executes sql params old new (Ok count)) → ChangesAt old new true w next
   done_changes law opened w next turns survives count ran =
       let held = λ (clean : HasCleanDisk new) (stands : Stands old w). let was = was_clean old new survives.clean clean in stands was (opened was) in
       record {
         world = λ stands clean shown. written_holds w next (held clean stands) (turns (held clean stands)) count (ran clean);
         left = λ clean stands only. written_leaves w next (held clean stands) (turns (held clean stands)) survives clean only;
-        kept = λ _ clean stands. open_leaves new next (λ db. law db (written_open w (held clean stands) count (ran clean))) (written_holds w next (held clean stands) (turns (held clean stands)) count (ran clean));
+        kept = λ _ clean stands. open_leaves new next
+            (λ db. law db (written_open w (held clean stands) count (ran clean))) (written_holds w next (held clean stands) (turns (held clean stands)) count (ran clean));
         failed = λ part. absurd (true≢false part);
       }
 
   -- a statement that failed is a change that was not done
-  pub failed_changes : ((db : Trees) → IsTrue old.is_open → old.may_leave db → db ≡ old.committed.trees) → (HasCleanDisk old → IsTrue old.is_open) → (w next : World) → ((h : Holds old w) → Rewrites params command old next)
+  pub failed_changes : ((db : Trees) → IsTrue old.is_open → old.may_leave db → db ≡ old.committed.trees)
+      → (HasCleanDisk old → IsTrue old.is_open) → (w next : World) → ((h : Holds old w) → Rewrites params command old next)
       → Survives old new (CommitsBy sql params old) → (e : Error) → (HasCleanDisk new → Executes sql params old new (Err e)) → ChangesAt old new false w next
   failed_changes law opened w next turns survives e ran =
       let held = λ (clean : HasCleanDisk new) (stands : Stands old w). let was = was_clean old new survives.clean clean in stands was (opened was) in

@@ -85,7 +85,8 @@ zip_params id = Int id ∷ []
 
 module _ (id : ℤ) (db : Database) where
   -- a row that comes next, and shows the next number, shows the zip's piece of that number
-  row_shown : (rows : List Row) (row : Row) (n : ℕ) (bytes zip : List ℕ) → ReadsFirst (asks zip_query) db (zip_params id) (rows ++ row ∷ []) → IsShownAs row n bytes → IsZip db.trees id zip → bytes ≡ piece zip n
+  row_shown : (rows : List Row) (row : Row) (n : ℕ) (bytes zip : List ℕ) → ReadsFirst (asks zip_query) db (zip_params id) (rows ++ row ∷ [])
+      → IsShownAs row n bytes → IsZip db.trees id zip → bytes ≡ piece zip n
   row_shown rows row n bytes zip first shows is =
       let begun = begun_found (zip_params id) db 8 of_version shown by_piece (λ _. refl) (rows ++ row ∷ []) first in
       let it = begun.1.sound row (at_place rows begun.0 row) in
@@ -105,9 +106,11 @@ module _ (id : ℤ) (db : Database) where
       omega (arith, same, low)
 
 module _ (id : ℤ) (old s t : State) (has : s.now.schema ≡ store_schema) (same : s.now ≡ old.now) where
-  pub one_more_piece : (rows : List Row) (row : Row) (n : ℕ) (bytes zip : List ℕ) → Begins zip_text (zip_params id) s (rows ++ row ∷ []) → IsShownAs row n bytes → IsZip old.now.trees id zip → take (begin n) zip ++ bytes ≡ take (begin (n + 1)) zip
+  pub one_more_piece : (rows : List Row) (row : Row) (n : ℕ) (bytes zip : List ℕ) → Begins zip_text (zip_params id) s (rows ++ row ∷ [])
+      → IsShownAs row n bytes → IsZip old.now.trees id zip → take (begin n) zip ++ bytes ≡ take (begin (n + 1)) zip
   one_more_piece rows row n bytes zip begins shows is =
-      let first = subst (λ db. ReadsFirst (asks zip_query) db (zip_params id) (rows ++ row ∷ [])) same (begins_as zip_text (zip_params id) s s store_schema has _ zip_is zip_plain zip_tables (rows ++ row ∷ []) begins) in
+      let first = subst (λ db. ReadsFirst (asks zip_query) db (zip_params id) (rows ++ row ∷ [])) same
+      (begins_as zip_text (zip_params id) s s store_schema has _ zip_is zip_plain zip_tables (rows ++ row ∷ []) begins) in
       ap (λ l. take (begin n) zip ++ l) (row_shown id old.now rows row n bytes zip first shows is) ∙ next_piece zip n
 
   pub whole_zip : (rows : List Row) (n : ℕ) (zip : List ℕ) → Shown zip_text (zip_params id) s t rows → AreBelow rows n → IsZip old.now.trees id zip → take (begin n) zip ≡ zip
@@ -117,7 +120,8 @@ module _ (id : ℤ) (old s t : State) (has : s.now.schema ≡ store_schema) (sam
 
 -- ---- a query that is asked of a connection that is open
 
-module _ (sql : List ℕ) (params : Row) (plain : IsPlain (understood store_schema sql)) (old new : State) (opened : HasCleanDisk old → IsTrue old.is_open) (survives : Survives old new (CommitsShowing sql params old)) where
+module _ (sql : List ℕ) (params : Row) (plain : IsPlain (understood store_schema sql)) (old new : State)
+    (opened : HasCleanDisk old → IsTrue old.is_open) (survives : Survives old new (CommitsShowing sql params old)) where
   pub plain_then : (w : World) → Stands old w → HasCleanDisk new → IsPlain (understood old.now.schema sql)
   plain_then w stands clean = let was = was_clean old new survives.clean clean in subst (λ s. IsPlain (understood s sql)) (sym (stands was (opened was)).schema) plain
 

@@ -30,8 +30,10 @@ piece_values id zip n = Int id ∷ Int (pos n) ∷ Blob (piece zip n) ∷ []
 -- A row of `piece` is put in for each piece of the zip of a version, and no other table changes. If no row was of that version
 -- and each piece had one row, each piece has one row after.
 pub record AddsZip (id : ℤ) (zip : List ℕ) (db after : Trees) : Type 0 where
-  pub pieces : AddsRows piece_read (λ values. (n : ℕ) × HasPiece zip n × (values ≡ piece_values id zip n)) (db piece_table.tree) (after piece_table.tree)
-  pub once : ((row : Row) → Has (db piece_table.tree) row → column row 1 ≢ Int id) → IsEachPieceOnce (db piece_table.tree) → IsEachPieceOnce (after piece_table.tree)
+  pub pieces : AddsRows piece_read
+      (λ values. (n : ℕ) × HasPiece zip n × (values ≡ piece_values id zip n)) (db piece_table.tree) (after piece_table.tree)
+  pub once : ((row : Row) → Has (db piece_table.tree) row → column row 1 ≢ Int id)
+      → IsEachPieceOnce (db piece_table.tree) → IsEachPieceOnce (after piece_table.tree)
   pub tables : IsElseSame piece_table db after
 
 -- a row of `version` is put in, and then the rows of its zip

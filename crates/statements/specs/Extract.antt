@@ -38,7 +38,8 @@ pub record Copies (Makes : Trees → Trees → Trees → Type 0) (source source_
   pub reads : IsReady source → IsReadBy source source_new done
   pub goes_on : GoesOn fresh fresh_new done
   pub makes :
-      HasCleanDisk source_new → HasCleanDisk fresh_new → IsReady source → (w : World) → Means source.now.trees w → Filling fresh → IsTrue done
+      HasCleanDisk source_new → HasCleanDisk fresh_new → IsReady source
+      → (w : World) → Means source.now.trees w → Filling fresh → IsTrue done
       → Makes source.now.trees fresh.now.trees fresh_new.now.trees × Filling fresh_new
 
 -- if the source means `w` and the fresh tables stood for `x`, they stand after for a world that `Makes` relates to these two
@@ -55,7 +56,8 @@ AllFit Fits sql params =
 
 -- a row shows a key, its shelf and its right
 abbrev pub ShowsKey : Row → List ℕ × Holder → Type 0
-ShowsKey row it = (column row 0 ≡ Text it.0) × (column row 1 ≡ Text it.1.shelf) × (column row 2 ≡ Int (if may_publish it.1.right then pos 1 else pos 0))
+ShowsKey row it = (column row 0 ≡ Text it.0) × (column row 1 ≡ Text it.1.shelf)
+    × (column row 2 ≡ Int (if may_publish it.1.right then pos 1 else pos 0))
 
 abbrev pub IsKeyShown : Row → Type 0
 IsKeyShown row = (it : List ℕ × Holder) × ShowsKey row it
@@ -100,7 +102,8 @@ IsVersionOn shelf db values = IsRead version_read (db version_table.tree) values
 -- the values are read from a row of `piece` whose version is on the shelf
 abbrev pub IsPieceOn : List ℕ → Trees → Row → Type 0
 IsPieceOn shelf db values =
-    (version : Row) × Has (db version_table.tree) version × (column version 2 ≡ Text shelf) × IsRead piece_read (filter (is_of version) (db piece_table.tree)) values
+    (version : Row) × Has (db version_table.tree) version × (column version 2 ≡ Text shelf)
+    × IsRead piece_read (filter (is_of version) (db piece_table.tree)) values
 
 -- the rows of the versions on one shelf are put in
 abbrev pub CopiesVersions : List ℕ → Trees → Trees → Trees → Type 0

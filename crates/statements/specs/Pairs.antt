@@ -26,5 +26,7 @@ passes_both filter params row other = list_all (holds (params ∷ row ∷ other 
 
 -- `out` has the pairs that pass, projected, and no others
 pub record ArePaired (rows others : List Row) (filter project : List Term) (params : Row) (out : List Row) : Type 0 where
-  pub sound : (x : Row) → Has out x → (row : Row) × (other : Row) × Has rows row × Has others other × (passes_both filter params row other ≡ true) × (x ≡ eval_all project (params ∷ row ∷ other ∷ []))
-  pub complete : (row other : Row) → Has rows row → Has others other → passes_both filter params row other ≡ true → Has out (eval_all project (params ∷ row ∷ other ∷ []))
+  pub sound : (x : Row) → Has out x → (row : Row) × (other : Row) × Has rows row × Has others other
+      × (passes_both filter params row other ≡ true) × (x ≡ eval_all project (params ∷ row ∷ other ∷ []))
+  pub complete : (row other : Row) → Has rows row → Has others other
+      → passes_both filter params row other ≡ true → Has out (eval_all project (params ∷ row ∷ other ∷ []))

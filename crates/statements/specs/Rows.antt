@@ -38,7 +38,8 @@ pub record GoesOn (old new : State) (done : Bool) : Type 0 where
 -- the row of `version` that has these values, the first of which is its number
 abbrev pub version_of : Row → Row
 version_of values =
-    column values 0 ∷ Null ∷ column values 1 ∷ column values 2 ∷ column values 3 ∷ column values 4 ∷ column values 5 ∷ column values 6 ∷ column values 7 ∷ []
+    column values 0 ∷ Null ∷ column values 1 ∷ column values 2 ∷ column values 3
+    ∷ column values 4 ∷ column values 5 ∷ column values 6 ∷ column values 7 ∷ []
 
 -- a row of `version` with these values is put in
 pub record PutsVersion (values : Row) (db after : Trees) : Type 0 where
@@ -65,7 +66,8 @@ pub record PutsPiece (values : Row) (db after : Trees) : Type 0 where
 
 -- what is read from a row of `version`
 abbrev pub version_read : Row → Row
-version_read row = column row 0 ∷ column row 2 ∷ column row 3 ∷ column row 4 ∷ column row 5 ∷ column row 6 ∷ column row 7 ∷ column row 8 ∷ []
+version_read row =
+    column row 0 ∷ column row 2 ∷ column row 3 ∷ column row 4 ∷ column row 5 ∷ column row 6 ∷ column row 7 ∷ column row 8 ∷ []
 
 -- what is read from a row of `piece`
 abbrev pub piece_read : Row → Row

@@ -2,7 +2,8 @@
 use Rattle.std.specs.Prelude.{ℕ, List, Option}
 use Rattle.world.specs.declared.entry.Right.{Right}
 use Rattle.world.specs.World.{World}
-use Rattle.world.specs.Registry.{key_added, after_key_add, key_revoked, after_key_revoke, team_added, after_team_add, group_added, after_group_add}
+use Rattle.world.specs.Registry.{key_added, after_key_add, key_revoked, after_key_revoke}
+use Rattle.world.specs.Registry.{team_added, after_team_add, group_added, after_group_add}
 
 -- the world after a command to add a key
 abbrev pub with_key_added : List ℕ → List ℕ → Right → World → World

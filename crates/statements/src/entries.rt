@@ -321,7 +321,8 @@ pub fn add_entry<S: Alter>(
     ensures clean { doubt (state S.Store conn.old).is_clean ≤ doubt (state S.Store conn.new).is_clean }
     ensures changes { InEachWorld (state S.Store conn.old) (state S.Store conn.new) (λ old new w.
         map.get w.entries (place shelf.now path.now (version_text version.now)) ≡ None
-        → ChangesAt old new (is_ok result) w (with_entry w (place shelf.now path.now (version_text version.now)) entry.now)) }
+        → ChangesAt old new (is_ok result) w
+        (with_entry w (place shelf.now path.now (version_text version.now)) entry.now)) }
 {
     let keyed = KeyedVersion::of(alloc, version)?;
     // This fails on a closed connection, so the next line finds the tables.

@@ -15,7 +15,8 @@ ghost use Rattle.tables.specs.Means.{Means};
 ghost use Rattle.tables.specs.Walks.{Looks, Pass};
 ghost use Rattle.tables.specs.Calls.{Honestly};
 ghost use Rattle.statements.specs.Rows.{Filling, PutsPiece, PutsVersion};
-ghost use Rattle.statements.specs.Extract.{Copies, OfWorlds, AllFit, IsKeyShown, PutsKey, CopiesKeys, IsVersionShown, CopiesVersions, CopiesPieces};
+ghost use Rattle.statements.specs.Extract.{Copies, OfWorlds, AllFit, IsKeyShown, PutsKey};
+ghost use Rattle.statements.specs.Extract.{CopiesKeys, IsVersionShown, CopiesVersions, CopiesPieces};
 
 use crate::pieces::{insert_piece, lent_bytes};
 use sqlite::types::ValueRef;
@@ -80,10 +81,13 @@ pub(crate) fn hand_on<S: Alter, F: Alter, T: RowSink>(
         IsTrue old.in_transaction → KeepsCommit old new) }
     ensures inside { Honestly (state F.Store tx.old.conn.now) (state F.Store tx.new.conn.now) (λ old new.
         IsTrue old.in_transaction → OnOk result (IsTrue new.in_transaction)) }
-    ensures puts { HasCleanDisk (state S.Store source.new) → HasCleanDisk (state F.Store tx.new.conn.now) → (state S.Store source.old).now.schema ≡ store_schema
+    ensures puts { HasCleanDisk (state S.Store source.new) → HasCleanDisk (state F.Store tx.new.conn.now)
+        → (state S.Store source.old).now.schema ≡ store_schema
         → (w : _) → Means (state S.Store source.old).now.trees w → Filling (state F.Store tx.old.conn.now)
-        → OnOk result (Filling (state F.Store tx.new.conn.now) × ((rows : _) × Reads (command_of (understood store_schema sql.now)) (state S.Store source.old).now (bound params.now) rows
-        × Pass (λ _ row. T.Fits row) (λ db row after. T.Puts row db after) (state F.Store tx.old.conn.now).now.trees rows (state F.Store tx.new.conn.now).now.trees)) }
+        → OnOk result (Filling (state F.Store tx.new.conn.now) × ((rows : _)
+        × Reads (command_of (understood store_schema sql.now)) (state S.Store source.old).now (bound params.now) rows
+        × Pass (λ _ row. T.Fits row) (λ db row after. T.Puts row db after)
+        (state F.Store tx.old.conn.now).now.trees rows (state F.Store tx.new.conn.now).now.trees)) }
 {
     let mut rows = source.query(sql, params)?;
     'rows: for _turn in 0..u128::MAX {

@@ -39,7 +39,8 @@ impl Model for ShelfList {
     ghost view = { λ l. l.shelves.items };
 
     ghost invariant = { λ l. AreNew (common ∷ []) (each (λ shelf. shelf.name) l.shelves.items)
-        × ((s : _) → set.contains l.names s ≡ is_among (behind (common ∷ []) (each (λ shelf. shelf.name) l.shelves.items)) s) };
+        × ((s : _) → set.contains l.names s
+        ≡ is_among (behind (common ∷ []) (each (λ shelf. shelf.name) l.shelves.items)) s) };
 }
 
 impl ShelfList {

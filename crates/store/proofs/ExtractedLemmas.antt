@@ -120,7 +120,8 @@ one_tells w x t (Err refusal.Device) h = tt
 one_tells w x t (Err refusal.Memory) h = tt
 
 -- extracting the list of one team is extracting the team
-pub extracts_one : (source source_new fresh fresh_new : Shown) (t : List ℕ) (r : Result (Unit {0}) Refusal) → ExtractsTeams (t ∷ []) source source_new fresh fresh_new r → Extracts source source_new fresh fresh_new t r
+pub extracts_one : (source source_new fresh fresh_new : Shown) (t : List ℕ) (r : Result (Unit {0}) Refusal)
+    → ExtractsTeams (t ∷ []) source source_new fresh fresh_new r → Extracts source source_new fresh fresh_new t r
 extracts_one source source_new fresh fresh_new t r does = record {
   reads = does.reads;
   honest = does.honest;

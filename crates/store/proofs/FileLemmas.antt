@@ -56,7 +56,8 @@ holds_none before after old new Limit Wanted e same (inl memory) (inl bad) = cc
 holds_none before after old new Limit Wanted e same (inl memory) (inr bad) = cc
 holds_none before after old new Limit Wanted e same (inr (inl none)) bad = none.1
 holds_none before after old new Limit Wanted e same (inr (inr (inl fault))) bad =
-    elim (uncaught before after same) [ inl io ↦ (let it = rw io at fault.0 in elim bad [ inl b ↦ cc | inr b ↦ cc ]) | inr full ↦ (let it = rw full at fault.0 in elim bad [ inl b ↦ cc | inr b ↦ cc ]) ]
+    elim (uncaught before after same)
+    [ inl io ↦ (let it = rw io at fault.0 in elim bad [ inl b ↦ cc | inr b ↦ cc ]) | inr full ↦ (let it = rw full at fault.0 in elim bad [ inl b ↦ cc | inr b ↦ cc ]) ]
 holds_none before after old new Limit Wanted e same (inr (inr (inr full))) (inl bad) = let it = full.0 in cc
 holds_none before after old new Limit Wanted e same (inr (inr (inr full))) (inr bad) = let it = full.0 in cc
 
@@ -103,7 +104,8 @@ module _ (size : ℕ) (image : Image) (pages : PageMap) (found : Adopts size ima
       let used : pages 1 ≡ Some (take size page) = ap (λ (p : PageMap). p 1) (sym found.shows) ∙ trimmed_some size _ 1 page is in
       let large = long_page size pages page used sound.header in
       let long = part_within image.db 0 whole (omega arith) (ap length front ∙ found.whole.sized 1 page is) in
-      let head : header_in pages ≡ take 100 (take size (part image.db 0 whole)) = ap (λ (o : Option (List ℕ)). take 100 (unwrap_or o [])) used ∙ ap (λ (b : List ℕ). take 100 (take size b)) (sym front) in
+      let head : header_in pages ≡ take 100 (take size (part image.db 0 whole)) =
+      ap (λ (o : Option (List ℕ)). take 100 (unwrap_or o [])) used ∙ ap (λ (b : List ℕ). take 100 (take size b)) (sym front) in
       let byte = ap (λ (b : List ℕ). slice_index b 0) head ∙ get_or-take 100 (take size (part image.db 0 whole)) 0 0 (omega arith)
       ∙ get_or-take size (part image.db 0 whole) 0 0 (omega arith) ∙ slice_index-part image.db 0 whole 0 (omega arith) ∙ ap (slice_index image.db) (zero-add 0) in
       (omega arith, sym byte ∙ sym (get_or-take 16 (header_in pages) 0 0 (omega arith)) ∙ ap (λ (b : List ℕ). slice_index b 0) sound.header.0.magic)

@@ -60,7 +60,8 @@ told_blank (Ok NotEmpty) some x is = absurd (some refl)
 told_blank (Err e) some x is = tt
 
 -- the outcome is an error for a reason, if it is the error of the writing and that had a reason
-pub written_cause : (format : Format) (s t : State) (w : Result Bool CopyError) (r : Result Migrated CopyError) → IfErr r (λ e. w ≡ Err e) → IfErr w (HasReasonIf format s t) → IfErr r (HasOlderReason s t)
+pub written_cause : (format : Format) (s t : State) (w : Result Bool CopyError) (r : Result Migrated CopyError)
+    → IfErr r (λ e. w ≡ Err e) → IfErr w (HasReasonIf format s t) → IfErr r (HasOlderReason s t)
 written_cause format s t w (Ok m) same reason = tt
 written_cause format s t w (Err (Fresh e)) same reason = tt
 written_cause format s t w (Err (Source e)) same reason =
@@ -187,7 +188,8 @@ no_device s t count r other = record { no_fewer = omega arith; device = λ _ sam
 pub device_is : (r : Refusal) → ◌≡◌ {A = Result (Unit {0}) Refusal} (Err r) (Err refusal.Device) → r ≡ refusal.Device
 device_is r same = cc
 
-pub older_device : (s t : State) (e : Error) (r : Refusal) (count : ℕ) → (e ≡ SqliteFailure code.OutOfMemory → r ≡ refusal.Memory) → (HasCleanDisk t → HasOlderReason s t (Source e)) → HasCauseInOne s t count count (Err r)
+pub older_device : (s t : State) (e : Error) (r : Refusal) (count : ℕ) → (e ≡ SqliteFailure code.OutOfMemory → r ≡ refusal.Memory)
+    → (HasCleanDisk t → HasOlderReason s t (Source e)) → HasCauseInOne s t count count (Err r)
 older_device s t e r count memory reason = record { no_fewer = omega arith; device = λ clean same. inl (go (reason clean) (device_is r same)) }
   where
     go : HasOlderReason s t (Source e) → r ≡ refusal.Device → IsHindered s t ⊎ IsVastOlder s.now

@@ -51,7 +51,8 @@ unlisted db none some = bare _ none.lists.listed.tables some.lists.listed.tables
     bare (r ∷ rows) none some = none
 
 -- if the files hold a database that stands for the world, the store begins at it
-pub begins_found : (old new : State) (image : Image) → IsLive old → IsTrue old.is_open → old.now ≡ old.committed → FindsIn image old → Opens old new → (w : World) → HoldsWorld image w → BeginsAt (shown_of new) w
+pub begins_found : (old new : State) (image : Image) → IsLive old → IsTrue old.is_open → old.now ≡ old.committed
+    → FindsIn image old → Opens old new → (w : World) → HoldsWorld image w → BeginsAt (shown_of new) w
 begins_found old new image live opened settled finds it w held =
     let trees : old.now.trees ≡ held.0 = ap (λ (d : Database). d.trees) settled ∙ finds.holds held.0 held.1 in
     let stand : StandFor old.now.trees w = subst (λ db. StandFor db w) (sym trees) held.2 in
@@ -61,7 +62,8 @@ begins_found old new image live opened settled finds it w held =
     ]
 
 -- if the files have no database yet, the store begins with `common` alone
-begins_blank : (old new : State) (image : Image) → IsLive old → IsTrue old.is_open → old.now ≡ old.committed → FindsIn image old → Opens old new → HoldsNothing image → BeginsAt (shown_of new) only_common
+begins_blank : (old new : State) (image : Image) → IsLive old → IsTrue old.is_open → old.now ≡ old.committed
+    → FindsIn image old → Opens old new → HoldsNothing image → BeginsAt (shown_of new) only_common
 begins_blank old new image live opened settled finds it nothing =
     let empty = finds_empty image old.committed.trees nothing finds.reads in
     let none : old.now.trees catalog_tree ≡ [] = ap (λ (d : Database). d.trees catalog_tree) settled ∙ empty.1 in
@@ -70,7 +72,8 @@ begins_blank old new image live opened settled finds it nothing =
       | inr found ↦ absurd (unlisted old.now.trees (empty_is_sound old.now.trees none) (subst (λ s. IsSound s old.now.trees) found.schema (live opened).0))
     ]
 
-pub begins_store : (old new : State) (image : Image) → IsLive old → IsTrue old.is_open → old.now ≡ old.committed → FindsIn image old → Opens old new → (w : World) → HoldsStore image w → BeginsAt (shown_of new) w
+pub begins_store : (old new : State) (image : Image) → IsLive old → IsTrue old.is_open → old.now ≡ old.committed
+    → FindsIn image old → Opens old new → (w : World) → HoldsStore image w → BeginsAt (shown_of new) w
 begins_store old new image live opened settled finds it w (inl held) = begins_found old new image live opened settled finds it w held
 begins_store old new image live opened settled finds it w (inr blank) =
     subst (BeginsAt (shown_of new)) (sym blank.1) (begins_blank old new image live opened settled finds it blank.0)
@@ -90,7 +93,8 @@ no_database_is_no_store : (image : Image) → HoldsNoDatabase image → HoldsNoS
 no_database_is_no_store image none w is (inl held) = none (inl (held.0, held.1))
 no_database_is_no_store image none w is (inr blank) = none (inr blank.0)
 
-pub left_of_no_store : {D : Type 0} {g : Ghosts D} (image : Image) (left : Option (Leftover D g)) → IsSomeAnd left (λ it. IsCleanLeft it → HoldsNoDatabase image) → IsSomeAnd left (λ it. IsCleanLeft it → HoldsNoStore image)
+pub left_of_no_store : {D : Type 0} {g : Ghosts D} (image : Image) (left : Option (Leftover D g))
+    → IsSomeAnd left (λ it. IsCleanLeft it → HoldsNoDatabase image) → IsSomeAnd left (λ it. IsCleanLeft it → HoldsNoStore image)
 left_of_no_store image None none = absurd none
 left_of_no_store image (Some it) none = λ clean. no_database_is_no_store image (none clean)
 
@@ -108,7 +112,8 @@ only_memory refusal.NotEmpty opening bad device = absurd opening
 only_memory refusal.NoTeam opening bad device = absurd opening
 
 -- nothing hinders a call on a new connection in memory, and no table of it is vast
-pub memory_unhindered : (old new : Held MemStore) → IsEmpty (state over_memory old) → IsNew old → IsTrue old.in_transaction ⊎ (IsHindered (state over_memory old) (state over_memory new) ⊎ IsVast (state over_memory old).now) → ⊥
+pub memory_unhindered : (old new : Held MemStore) → IsEmpty (state over_memory old) → IsNew old
+    → IsTrue old.in_transaction ⊎ (IsHindered (state over_memory old) (state over_memory new) ⊎ IsVast (state over_memory old).now) → ⊥
 memory_unhindered old new empty fresh (inl inside) = true≢false (sym inside ∙ fresh.autocommit)
 memory_unhindered old new empty fresh (inr (inl (inl shut))) = true≢false (sym empty.0.is_open ∙ shut)
 memory_unhindered old new empty fresh (inr (inl (inr (inl limited)))) = true≢false (sym (subst IsSome fresh.unlimited limited))

@@ -27,10 +27,12 @@ pub whole : (w : World) (ss : List (List ℕ)) (p v : List ℕ) (h : SeenHeading
     → Some (record { shelf = h.shelf; entry = entry_with h.heading zip }) ≡ first_on w ss p v
 whole w ss p v h zip = go (first_on w ss p v) refl
   where
-    go : (seen : Option Seen) → first_on w ss p v ≡ seen → Some h ≡ seen_heading (first_on w ss p v) → IsZipAt w (place h.shelf p v) zip → Some (record { shelf = h.shelf; entry = entry_with h.heading zip }) ≡ first_on w ss p v
+    go : (seen : Option Seen) → first_on w ss p v ≡ seen → Some h ≡ seen_heading (first_on w ss p v)
+        → IsZipAt w (place h.shelf p v) zip → Some (record { shelf = h.shelf; entry = entry_with h.heading zip }) ≡ first_on w ss p v
     go None is found kept = let never : Some h ≡ None = found ∙ ap seen_heading is in cc never
     go (Some e) is found kept =
-        let same : h ≡ record { shelf = e.shelf; heading = heading_of e.entry } = let it : Some h ≡ Some (record { shelf = e.shelf; heading = heading_of e.entry }) = found ∙ ap seen_heading is in cc it in
+        let same : h ≡ record { shelf = e.shelf; heading = heading_of e.entry } =
+        let it : Some h ≡ Some (record { shelf = e.shelf; heading = heading_of e.entry }) = found ∙ ap seen_heading is in cc it in
         let at = stands_on w ss p v (Some e) is in
         let stored : Some kept.0 ≡ Some e.entry = sym kept.1 ∙ (ap (λ (g : SeenHeading). map.get w.entries (place g.shelf p v)) same ∙ at) in
         let entry : kept.0 ≡ e.entry = cc stored in

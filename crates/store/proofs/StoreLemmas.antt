@@ -79,7 +79,8 @@ pub reads : {T : Type 0} (old new : State) (kept : Kept) (r : Result T StoreFaul
 reads old new kept r value spares answer = reads_keeping old new kept kept r value spares (λ clean w stands right. (answer clean w stands, right))
 
 -- a read of what is cached, with no call on the tables
-pub reads_kept : {T : Type 0} (old : State) (kept after : Kept) (x : T) (value : World → T) → ((w : World) → AreKept w kept → (x ≡ value w) × AreKept w after) → Reads (shown_with old kept) (shown_with old after) (Ok x) value
+pub reads_kept : {T : Type 0} (old : State) (kept after : Kept) (x : T) (value : World → T)
+    → ((w : World) → AreKept w kept → (x ≡ value w) × AreKept w after) → Reads (shown_with old kept) (shown_with old after) (Ok x) value
 reads_kept old kept after x value told = record {
   honest = λ clean. clean;
   at = λ clean w stands. let it = told w stands.1 in record { answer = it.0; stays = (stands.0, it.1); left = λ _ _ only. only };
@@ -102,7 +103,8 @@ reads_as start end f x y value other made same read = record {
 }
 
 -- if a read on the way fails, the whole read fails
-pub reads_failed : {T U : Type 0} (start end : Shown) (r : Result T StoreFault) (s : Result U StoreFault) (value : World → T) (other : World → U) → IsErr s → Reads start end r value → Reads start end s other
+pub reads_failed : {T U : Type 0} (start end : Shown) (r : Result T StoreFault) (s : Result U StoreFault) (value : World → T) (other : World → U)
+    → IsErr s → Reads start end r value → Reads start end s other
 reads_failed start end r s value other failed read = record {
   honest = read.honest;
   at = λ clean w stands. let told = read.at clean w stands in record { answer = none (λ x. x ≡ other w) s failed; stays = told.stays; left = told.left };
@@ -121,7 +123,8 @@ reads_with_less old kept less end r value right read = record {
 }
 
 -- a read of a shelf's group, and then a read of the tables along its chain, is one read
-pub reads_along : {T : Type 0} (start : Shown) (mid new : State) (kept : Kept) (shelf : List ℕ) (group : Option (List ℕ)) (shelves : List (List ℕ)) (r : Result T StoreFault) (value : World → List (List ℕ) → T)
+pub reads_along : {T : Type 0} (start : Shown) (mid new : State) (kept : Kept) (shelf : List ℕ)
+    (group : Option (List ℕ)) (shelves : List (List ℕ)) (r : Result T StoreFault) (value : World → List (List ℕ) → T)
     → shelves ≡ shelf ∷ above group → Reads start (shown_with mid kept) (Ok group) (λ w. group_of w shelf) → Spares mid new
     → (HasCleanDisk new → (w : World) → Stands mid w → IfOk r (λ x. x ≡ value w shelves)) → Reads start (shown_with new kept) r (λ w. value w (chain w shelf))
 reads_along start mid new kept shelf group shelves r value along read spares answer = record {
@@ -137,7 +140,8 @@ reads_along start mid new kept shelf group shelves r value along read spares ans
 }
 
 -- a change that is refused without a call on the tables
-pub refused : {T : Type 0} (old : State) (kept : Kept) (x : T) (value : World → T) (next : World → World) → ((w : World) → (x ≡ value w) × (w ≡ next w)) → Does (shown_with old kept) (shown_with old kept) (Ok x) value next
+pub refused : {T : Type 0} (old : State) (kept : Kept) (x : T) (value : World → T) (next : World → World)
+    → ((w : World) → (x ≡ value w) × (w ≡ next w)) → Does (shown_with old kept) (shown_with old kept) (Ok x) value next
 refused old kept x value next same = record {
   honest = λ clean. clean;
   at = λ clean w stands _. record {

@@ -102,7 +102,8 @@ pub record Migrates (old old_new : State) (fresh fresh_new : Shown) (result : Re
   pub same : IsOpenIfHonest old → HasCleanDisk old_new → IsSettled old → IsTrue old_new.is_open → old_new.now ≡ old.now
   pub honest : fresh_new.is_honest → fresh.is_honest
   pub spares : (result ≡ Err refusal.NotEmpty) ⊎ IsForeign old.now → IsRead fresh fresh_new
-  pub at : HasCleanDisk old_new → fresh_new.is_honest → IsOpenIfHonest old → (x : World) → fresh.stands x → MigratesAt old.now fresh fresh_new x result
+  pub at : HasCleanDisk old_new → fresh_new.is_honest → IsOpenIfHonest old
+      → (x : World) → fresh.stands x → MigratesAt old.now fresh fresh_new x result
 
 -- The call returns `Device` only if the older connection was closed or limited in its steps, or its disk failed in the call, or a
 -- table of it is vast, or if a device of the fresh store failed or its count of failures cannot grow.

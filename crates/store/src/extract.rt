@@ -44,7 +44,8 @@ impl<S: Alter> SqlShelves<S> {
             (shown_with (state S.Store self.new.conn) self.new.kept)
             (shown_with (state F.Store fresh.old.conn) fresh.old.kept)
             (shown_with (state F.Store fresh.new.conn) fresh.new.kept) team.now result }
-        ensures cause { HasCauseInEither self.old.failures self.new.failures fresh.old.failures fresh.new.failures result }
+        ensures cause { HasCauseInEither self.old.failures self.new.failures
+            fresh.old.failures fresh.new.failures result }
     {
         self.extract_teams(&[team], fresh)
     }
@@ -62,11 +63,13 @@ impl<S: Alter> SqlShelves<S> {
         teams: &[&str],
         fresh: &mut SqlShelves<F>,
     ) -> Result<(), Refusal>
-        ensures extracts { ExtractsTeams (each (λ team. team.now) teams.now) (shown_with (state S.Store self.old.conn) self.old.kept)
+        ensures extracts { ExtractsTeams (each (λ team. team.now) teams.now)
+            (shown_with (state S.Store self.old.conn) self.old.kept)
             (shown_with (state S.Store self.new.conn) self.new.kept)
             (shown_with (state F.Store fresh.old.conn) fresh.old.kept)
             (shown_with (state F.Store fresh.new.conn) fresh.new.kept) result }
-        ensures cause { HasCauseInEither self.old.failures self.new.failures fresh.old.failures fresh.new.failures result }
+        ensures cause { HasCauseInEither self.old.failures self.new.failures
+            fresh.old.failures fresh.new.failures result }
     {
         self.fill(Wanted::Teams(teams), fresh)
     }
@@ -82,7 +85,8 @@ impl<S: Alter> SqlShelves<S> {
             (shown_with (state S.Store self.new.conn) self.new.kept)
             (shown_with (state F.Store fresh.old.conn) fresh.old.kept)
             (shown_with (state F.Store fresh.new.conn) fresh.new.kept) result }
-        ensures cause { HasCauseInEither self.old.failures self.new.failures fresh.old.failures fresh.new.failures result }
+        ensures cause { HasCauseInEither self.old.failures self.new.failures
+            fresh.old.failures fresh.new.failures result }
     {
         self.fill(Wanted::All, fresh)
     }
@@ -97,7 +101,8 @@ impl<S: Alter> SqlShelves<S> {
             (shown_with (state S.Store self.new.conn) self.new.kept)
             (shown_with (state F.Store fresh.old.conn) fresh.old.kept)
             (shown_with (state F.Store fresh.new.conn) fresh.new.kept) result }
-        ensures cause { HasCauseInEither self.old.failures self.new.failures fresh.old.failures fresh.new.failures result }
+        ensures cause { HasCauseInEither self.old.failures self.new.failures
+            fresh.old.failures fresh.new.failures result }
     {
         fresh.kept = Kept::new(fresh.alloc);
         self.fill_rows(wanted, fresh)
@@ -110,10 +115,12 @@ impl<S: Alter> SqlShelves<S> {
         wanted: Wanted<'_>,
         fresh: &mut SqlShelves<F>,
     ) -> Result<(), Refusal>
-        ensures fills { Fills wanted.entry (shown_of (state S.Store self.old.conn)) (shown_of (state S.Store self.new.conn))
+        ensures fills { Fills wanted.entry
+            (shown_of (state S.Store self.old.conn)) (shown_of (state S.Store self.new.conn))
             (shown_of (state F.Store fresh.old.conn)) (shown_of (state F.Store fresh.new.conn)) result }
         ensures kept { (self.new.kept ≡ self.old.kept) × (fresh.new.kept ≡ fresh.old.kept) }
-        ensures cause { HasCauseInEither self.old.failures self.new.failures fresh.old.failures fresh.new.failures result }
+        ensures cause { HasCauseInEither self.old.failures self.new.failures
+            fresh.old.failures fresh.new.failures result }
     {
         match extract_part(self.alloc, &mut self.conn, wanted, &mut fresh.conn) {
             Ok(Judged::Fit(_)) => Ok(()),

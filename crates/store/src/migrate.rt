@@ -53,7 +53,8 @@ fn migrate_rows<S: Alter, F: Alter>(
     old: &mut Connection<S>,
     fresh: &mut Connection<F>,
 ) -> Result<Migrated, CopyError>
-    ensures migrates { MigratesRows (state S.Store old.old) (state S.Store old.new) (state F.Store fresh.old) (state F.Store fresh.new) result }
+    ensures migrates { MigratesRows (state S.Store old.old) (state S.Store old.new)
+        (state F.Store fresh.old) (state F.Store fresh.new) result }
 {
     match is_blank(fresh) {
         Ok(true) => {}
@@ -78,8 +79,10 @@ pub fn migrate<S: Alter, F: Alter>(
     fresh: &mut SqlShelves<F>,
 ) -> Result<(), Refusal>
     ensures migrates { Migrates (state S.Store old.old) (state S.Store old.new)
-        (shown_with (state F.Store fresh.old.conn) fresh.old.kept) (shown_with (state F.Store fresh.new.conn) fresh.new.kept) result }
-    ensures cause { HasCauseInOne (state S.Store old.old) (state S.Store old.new) fresh.old.failures fresh.new.failures result }
+        (shown_with (state F.Store fresh.old.conn) fresh.old.kept)
+        (shown_with (state F.Store fresh.new.conn) fresh.new.kept) result }
+    ensures cause { HasCauseInOne
+        (state S.Store old.old) (state S.Store old.new) fresh.old.failures fresh.new.failures result }
 {
     fresh.kept = Kept::new(fresh.alloc);
     match migrate_rows(fresh.alloc, old, &mut fresh.conn) {

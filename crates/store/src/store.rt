@@ -80,7 +80,8 @@ impl<S: Alter> Shelves for SqlShelves<S> {
 
     ghost sound = { λ s w stands. stands.0.1 };
 
-    ghost wider = { λ s w x only db may. let it = only db may in (it.0, it.1, inl (elim it.2 [ inl e ↦ e | inr e ↦ e ])) };
+    ghost wider = { λ s w x only db may. let it = only db may in
+        (it.0, it.1, inl (elim it.2 [ inl e ↦ e | inr e ↦ e ])) };
 
     fn failures(&self) -> u64 {
         self.failures
@@ -370,7 +371,8 @@ impl<S: Alter> SqlShelves<S> {
         version: &str,
     ) -> Result<Option<SeenHeading>, StoreFault>
         ensures reads { Reads (shown_with (state S.Store self.old.conn) self.old.kept)
-            (shown_with (state S.Store self.new.conn) self.new.kept) result (λ w. seen_heading (view w shelf.now path.now version.now)) }
+            (shown_with (state S.Store self.new.conn) self.new.kept) result
+            (λ w. seen_heading (view w shelf.now path.now version.now)) }
         ensures cause { HasCause self.old.failures self.new.failures result }
     {
         if let Some(seen) = self.kept.headings.seen(self.alloc, shelf, path, version) {
@@ -392,7 +394,8 @@ impl<S: Alter> SqlShelves<S> {
     /// What a shelf sees of a version. Queries the tables.
     fn find(&mut self, shelf: &str, path: &str, version: &str) -> Result<Option<Seen>, StoreFault>
         ensures reads { Reads (shown_with (state S.Store self.old.conn) self.old.kept)
-            (shown_with (state S.Store self.new.conn) self.new.kept) result (λ w. view w shelf.now path.now version.now) }
+            (shown_with (state S.Store self.new.conn) self.new.kept) result
+            (λ w. view w shelf.now path.now version.now) }
         ensures cause { HasCause self.old.failures self.new.failures result }
     {
         let group = self.group_of(shelf)?;

@@ -1,5 +1,6 @@
 -- What the two routes match.
-use Rattle.std.proofs.Common.{◌≡◌, ◌⊎◌, ℕ, zero, suc, ◌-◌, ◌<◌, List, [], ◌∷◌, ◌++◌, length, take, drop, Option, Some, None, Bool, true, false, cond, refl, sym, ap, ◌∙◌, subst, arith, ◌==◌, ◌&&◌, ◌||◌, get_or, inl, inr, codes, nat_eq, length-append, ltb}
+use Rattle.std.proofs.Common.{◌≡◌, ◌⊎◌, ℕ, zero, suc, ◌-◌, ◌<◌, List, [], ◌∷◌, ◌++◌, length, take, drop, Option, Some, None, Bool, true, false}
+use Rattle.std.proofs.Common.{cond, refl, sym, ap, ◌∙◌, subst, arith, ◌==◌, ◌&&◌, ◌||◌, get_or, inl, inr, codes, nat_eq, length-append, ltb}
 use Rattle.std.specs.List.{list_any}
 use Rattle.std.specs.Cmp.Lexicographic.{pointwise, pointwise_decides}
 use Rattle.std.proofs.lemmas.Bool.{and_parts, cases_Bool, eqb-true, false_from_ne_true, false≢true, lt-ltb, or_parts}
@@ -204,7 +205,8 @@ module _ {K : Type 0} (a b : K) where
       by false w = refl
   rest_area (y ∷ s ∷ c ∷ rest) some bytes =
       own_or_path a b y (s ∷ c ∷ rest) (no-token 257 (y ∷ s ∷ c ∷ rest) (omega arith) bytes)
-      ∙ rw (seek_one 47 (257 ∷ []) a s (c ∷ rest) refl refl, seek_rest a c rest (no-token 257 (c ∷ rest) (omega arith) (λ i. bytes (suc (suc i)))), lt-ltb 2 (length (y ∷ s ∷ c ∷ rest)) (omega arith)) (by (45 == y) (47 == s))
+      ∙ rw (seek_one 47 (257 ∷ []) a s (c ∷ rest) refl refl, seek_rest a c rest (no-token 257 (c ∷ rest) (omega arith) (λ i. bytes (suc (suc i)))), lt-ltb 2 (length (y ∷ s ∷ c ∷ rest)) (omega arith))
+      (by (45 == y) (47 == s))
     where
       by : (v w : Bool) → or_else (cond v (cond w (Some a) None) None) (Some b) ≡ Some (cond ((v && (w && true)) && true) a b)
       by true true = refl

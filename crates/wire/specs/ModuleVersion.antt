@@ -1,5 +1,6 @@
 -- Module paths and versions in their escaped forms, around `/@`. (Go Modules Reference, "GOPROXY protocol".)
-use Rattle.std.specs.Prelude.{◌≡◌, ◌==◌, ℕ, ◌-◌, nat_eq, nat_lt, Bool, true, false, ◌&&◌, List, [], ◌∷◌, ◌++◌, length, take, drop, codes, Option, Some, None, is_none, not, option_map, if◌then◌else◌}
+use Rattle.std.specs.Prelude.{◌≡◌, ◌==◌, ℕ, ◌-◌, nat_eq, nat_lt, Bool, true, false, ◌&&◌, List, [], ◌∷◌, ◌++◌}
+use Rattle.std.specs.Prelude.{length, take, drop, codes, Option, Some, None, is_none, not, option_map, if◌then◌else◌}
 use Rattle.std.specs.Char.{is_ascii_uppercase}
 use Rattle.std.specs.Option.{option_and_then}
 use Rattle.std.specs.Cmp.Lexicographic.{pointwise}
@@ -77,4 +78,5 @@ pair path version = option_and_then (λ p. option_map (λ v. record { path = p; 
 -- the path before `/@v/` and the version after it, if the text has this form
 unfoldable pub module_version_of : List ℕ → Option ModuleVersion
 module_version_of text =
-    option_and_then (λ (parts : List ℕ × List ℕ). option_and_then (λ name. pair (path_of parts.0) (version_from name)) (without_start (codes "v/") parts.1)) (cut_of text)
+    option_and_then (λ (parts : List ℕ × List ℕ). option_and_then
+    (λ name. pair (path_of parts.0) (version_from name)) (without_start (codes "v/") parts.1)) (cut_of text)

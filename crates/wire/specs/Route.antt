@@ -1,5 +1,6 @@
 -- Targets by their routes: `/k/{key}/-/{*rest}` and `/k/{key}/{*rest}`.
-use Rattle.std.specs.Prelude.{◌==◌, ◌&&◌, ℕ, nat_eq, nat_lt, Bool, List, [], ◌∷◌, length, drop, codes, Option, Some, None, option_map, if◌then◌else◌}
+use Rattle.std.specs.Prelude.{◌==◌, ◌&&◌, ℕ, nat_eq, nat_lt, Bool, List, [], ◌∷◌, length}
+use Rattle.std.specs.Prelude.{drop, codes, Option, Some, None, option_map, if◌then◌else◌}
 use Rattle.std.specs.List.{starts_with}
 use Rattle.std.specs.Option.{option_and_then}
 use Rattle.matchit.specs.Rows.{RowsOf}
@@ -50,4 +51,5 @@ area_of rest =
 -- the area, the key and the rest of a target
 unfoldable pub routed_of : List ℕ → Option (Area × List ℕ × List ℕ)
 routed_of text =
-    option_and_then (λ (parts : List ℕ × List ℕ). option_map (λ (found : Area × List ℕ). (found.0, parts.0, found.1)) (area_of parts.1)) (split_of text)
+    option_and_then
+    (λ (parts : List ℕ × List ℕ). option_map (λ (found : Area × List ℕ). (found.0, parts.0, found.1)) (area_of parts.1)) (split_of text)

@@ -20,7 +20,8 @@ pub(crate) struct ModuleVersion {
 /// Returns the texts before and after the first `byte` in a text, or `None` if there is none.
 #[tactic(auto, unfolding(crate::specs::ModuleVersion::around))]
 fn split_at_byte(text: &[u8], byte: u8) -> Option<(&[u8], &[u8])>
-    ensures { MatchOption result (around byte text.now ≡ None) (λ parts. around byte text.now ≡ Some (parts.0.now, parts.1.now)) }
+    ensures { MatchOption result (around byte text.now ≡ None)
+        (λ parts. around byte text.now ≡ Some (parts.0.now, parts.1.now)) }
 {
     let at = text.iter().position(|b| *b == byte)?;
     Some((&text[..at], &text[at + 1..]))

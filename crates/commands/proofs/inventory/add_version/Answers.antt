@@ -7,4 +7,5 @@ returns-in_default-clause-adds g c = adds_none _ _ c.args.shelf.now c.args.path.
 
 pub returns-clause-adds : goal.returns-clause-adds
 returns-clause-adds g c =
-    adds_one _ _ c.args.shelf.now c.args.path.now c.args.version.now _ c.in_ok-outline.ensures.reads _ _ c.in-Some.outline c.in_ok-row.row c.in-Some.is c.in_ok-row.ensures c.in_ok-write_row.ensures.text
+    adds_one _ _ c.args.shelf.now c.args.path.now c.args.version.now _ c.in_ok-outline.ensures.reads _ _
+    c.in-Some.outline c.in_ok-row.row c.in-Some.is c.in_ok-row.ensures c.in_ok-write_row.ensures.text

@@ -19,7 +19,8 @@ returns-in-None c = bad_head _ _ _ c.requires.whole.1.reads (never_from_unannoun
 pub returns-in-Some : goal.returns-in-Some
 returns-in-Some c =
     let at = c.requires.whole.1 in
-    let good = good_head c.args.bytes.now c.args.headers.now c.args.spans c.requires.whole.0 at c.in-Some.body c.requires.room c.if-spans-gt-HEAD_LIMIT.false c.if-is_encoded.ensures c.in-Some.ensures in
+    let good =
+    good_head c.args.bytes.now c.args.headers.now c.args.spans c.requires.whole.0 at c.in-Some.body c.requires.room c.if-spans-gt-HEAD_LIMIT.false c.if-is_encoded.ensures c.in-Some.ensures in
     too_large_ends c.args.bytes.now (
       c.requires.whole.0,
       c.in-Some.body,

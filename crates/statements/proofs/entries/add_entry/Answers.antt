@@ -25,7 +25,8 @@ returns-in_err-number-clause-changes g c clean w stands unused =
     let new = state g.S.Store c.chosen_number.new.conn in
     let e : Entry = c.args.entry.now in
     let next = with_entry w (place c.args.shelf.now c.args.path.now (version_text c.args.version.now)) e in
-    subst (λ b. ChangesAt old new b w next) (sym (not_ok c.from_residual-in_err-number.result c.from_residual-in_err-number.ensures.0)) ((spared old new (λ _. next) c.chosen_number.ensures.spares).at w)
+    subst
+    (λ b. ChangesAt old new b w next) (sym (not_ok c.from_residual-in_err-number.result c.from_residual-in_err-number.ensures.0)) ((spared old new (λ _. next) c.chosen_number.ensures.spares).at w)
 
 pub returns-clause-changes : goal.returns-clause-changes
 returns-clause-changes g c clean w stands unused =

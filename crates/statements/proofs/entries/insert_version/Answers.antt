@@ -19,7 +19,24 @@ returns-clause-puts g c clean filling =
     let p : Place = record { shelf = c.args.shelf.now; path = c.args.path.now; version = c.args.version.now } in
     let e : Entry = c.args.entry.now in
     let ran : ExecutesInside 0 _ (version_params c.args.number p e) old new (Ok c.in_ok-execute.field-0) =
-    rw (c.params-to_sql.ensures, number_bound c.args.number, c.params-to_sql-2.ensures, c.params-to_sql-3.ensures, c.params-to_sql-4.ensures, c.params-to_sql-5.ensures, c.time_text-time.ensures, ap (λ (x : Entry). x.time) c.entry.view_is, text_bound e.time, c.params-to_sql-6.ensures, ap (λ (x : Entry). x.gomod) c.entry.view_is, c.params-to_sql-7.ensures, c.params-to_sql-8.ensures, c.as_str.ensures, c.order.ensures, c.rank.ensures) at (c.in_ok-execute.ensures.runs clean filling.inside) in
+    rw (
+      c.params-to_sql.ensures,
+      number_bound c.args.number,
+      c.params-to_sql-2.ensures,
+      c.params-to_sql-3.ensures,
+      c.params-to_sql-4.ensures,
+      c.params-to_sql-5.ensures,
+      c.time_text-time.ensures,
+      ap (λ (x : Entry). x.time) c.entry.view_is,
+      text_bound e.time,
+      c.params-to_sql-6.ensures,
+      ap (λ (x : Entry). x.gomod) c.entry.view_is,
+      c.params-to_sql-7.ensures,
+      c.params-to_sql-8.ensures,
+      c.as_str.ensures,
+      c.order.ensures,
+      c.rank.ensures,
+    ) at (c.in_ok-execute.ensures.runs clean filling.inside) in
     let put = version_put _ refl (refl, refl) c.args.number p e old new c.in_ok-execute.field-0 filling ran in
     let range : SFits w64 c.last_insert_rowid.result = search rules in
     let told = to_z-of_z {w = w64} {z = c.last_insert_rowid.result} range ∙ (c.last_insert_rowid.ensures ∙ put.1) in

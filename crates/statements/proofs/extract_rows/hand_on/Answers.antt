@@ -28,7 +28,8 @@ rows-init g c =
     let params = bound c.args.params.now in
     let old = state g.S.Store c.args.source.now in
     let now = c.in_ok-rows.rows.conn.now in
-    let begun = λ (clean : HasCleanDisk (state g.S.Store now)) (has : old.now.schema ≡ _). begun_plain g.S.Store sql params c.args.source.now now (subst (λ s. IsPlain (understood s sql)) (sym has) c.requires.plain) (made.begun clean) in (
+    let begun = λ (clean : HasCleanDisk (state g.S.Store now)) (has : old.now.schema ≡ _). begun_plain g.S.Store sql params c.args.source.now now
+    (subst (λ s. IsPlain (understood s sql)) (sym has) c.requires.plain) (made.begun clean) in (
       refl,
       made.survives.clean,
       commits_nothing sql params old _ c.requires.plain made.survives,
@@ -96,8 +97,15 @@ returns-in_default-clause-puts g c clean good has w means filling =
     let late : HasCleanDisk (state g.S.Store now) = search rules in
     let before = was_clean (state g.S.Store c.rows.rows.conn.now) (state g.S.Store now) moved.survives.clean late in
     let was = c.rows.invariant.6 before good has w means filling in
-    let shown = (rw (c.in_ok-row.was, c.in_default.is) at (moved.ok late)) c.args.sql.now (bound c.args.params.now) was.1 was.2 in
-    (was.0, (was.1, all_shown c.args.sql.now (bound c.args.params.now) c.requires.plain c.requires.tables (state g.S.Store c.args.source.now) (state g.S.Store c.rows.rows.conn.now) (state g.S.Store now) has (c.rows.invariant.3 before has) was.1 shown, was.3))
+    let shown = (rw (c.in_ok-row.was, c.in_default.is) at (moved.ok late)) c.args.sql.now (bound c.args.params.now) was.1 was.2 in (
+      was.0,
+      (
+        was.1,
+        all_shown c.args.sql.now (bound c.args.params.now) c.requires.plain c.requires.tables (state g.S.Store c.args.source.now)
+            (state g.S.Store c.rows.rows.conn.now) (state g.S.Store now) has (c.rows.invariant.3 before has) was.1 shown,
+        was.3,
+      ),
+    )
 
 pub returns-in-Err-clause-looks : goal.returns-in-Err-clause-looks
 returns-in-Err-clause-looks g c =
@@ -135,7 +143,8 @@ rows-preserved g c =
     let end = state g.F.Store c.put.new.tx.conn.now in
     let put = c.in-Ok.ensures in
     let row = c.in-Some.row.now in
-    let still = λ (clean : HasCleanDisk new) (has : old.now.schema ≡ _). unchanged_then old mid new (kept.3 (was_clean mid new moved.survives.clean clean) has) (rw c.in_ok-row.was at (moved.same clean)) in (
+    let still =
+    λ (clean : HasCleanDisk new) (has : old.now.schema ≡ _). unchanged_then old mid new (kept.3 (was_clean mid new moved.survives.clean clean) has) (rw c.in_ok-row.was at (moved.same clean)) in (
       moved.same_reference ∙ kept.0,
       omega (arith, kept.1, moved.survives.clean),
       then_survives old mid new kept.2 moved.survives,
@@ -146,7 +155,8 @@ rows-preserved g c =
           let was = kept.6 (was_clean mid new moved.survives.clean clean) (was_clean at end put.survives.clean good) has w means filling in
           let given = (rw (c.in_ok-row.was, c.in-Some.is) at (moved.ok clean)) sql params was.1 was.2 in
           let rows = was.1 ++ row ∷ [] in
-          let fits = c.requires.fits old.now w was.1 row means (some_shown sql params c.requires.plain c.requires.tables old new new has (still clean has) rows (given_begin g.S.Store sql params now rows given)) in
+          let fits = c.requires.fits old.now w was.1 row means
+          (some_shown sql params c.requires.plain c.requires.tables old new new has (still clean has) rows (given_begin g.S.Store sql params now rows given)) in
           let one = put.puts good fits was.0 in
           (one.1, rows, given, one_more _ _ begun.now.trees was.1 at.now.trees row end.now.trees was.3 fits one.0),
     )
@@ -156,7 +166,8 @@ returns-clause-looks g c =
     let now = c.rows.rows.conn.now in
     let was = c.rows.invariant in
     let same : now ≡ c.source-2-1.given.0 = search rules in
-    subst (λ h. Looks (state g.S.Store c.args.source.now) (state g.S.Store h)) same (quiet_looks (state g.S.Store c.args.source.now) (state g.S.Store now) was.1 was.2 (λ clean has. inl (was.3 clean has)))
+    subst
+    (λ h. Looks (state g.S.Store c.args.source.now) (state g.S.Store h)) same (quiet_looks (state g.S.Store c.args.source.now) (state g.S.Store now) was.1 was.2 (λ clean has. inl (was.3 clean has)))
 
 pub returns-clause-same_reference : goal.returns-clause-same_reference
 returns-clause-same_reference g c = c.rows.invariant.4

@@ -18,8 +18,11 @@ unfolding understood everything
 returns-in-Some-clause-answer g c clean w stands =
     let old = state g.S.Store c.args.conn.now in
     let h = c.in_ok-lowest.ensures.number clean w stands in
-    let fits : SFits w64 c.in-Some.lowest = search rules in
-    (h.1, one_less old.now c.in-Some.lowest c.checked_sub.result fits (subst (PicksNumber numbers_query [] old.now) c.in-Some.is h.2) (rw (to_z-of_z {w = w64} {z = c.in-Some.lowest} fits) at c.checked_sub.ensures))
+    let fits : SFits w64 c.in-Some.lowest = search rules in (
+      h.1,
+      one_less old.now c.in-Some.lowest c.checked_sub.result fits (subst (PicksNumber numbers_query [] old.now) c.in-Some.is h.2)
+          (rw (to_z-of_z {w = w64} {z = c.in-Some.lowest} fits) at c.checked_sub.ensures),
+    )
 
 pub returns-in-None-clause-answer : goal.returns-in-None-clause-answer
 unfolding understood everything

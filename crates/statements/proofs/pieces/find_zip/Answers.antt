@@ -40,7 +40,8 @@ loop-number-init g c =
     let opened = λ (clean : HasCleanDisk mid). (prepared clean).0.is_open in
     let before = spares_then old room mid c.find_room.ensures.spares (quiet_spares room mid c.prepare.ensures.survives (λ clean. inl (prepared clean))) in
     let survives = rw c.params-to_sql.ensures at made.survives in
-    let begun = λ (clean : HasCleanDisk new) (plain : IsPlain (understood mid.now.schema zip_text)). begun_plain g.S.Store zip_text params c.prepare.new.self now plain (rw c.params-to_sql.ensures at (made.begun clean)) in (
+    let begun = λ (clean : HasCleanDisk new) (plain : IsPlain (understood mid.now.schema zip_text)). begun_plain g.S.Store zip_text params c.prepare.new.self now plain
+    (rw c.params-to_sql.ensures at (made.begun clean)) in (
       refl,
       spares_then old mid new before (asked_spares zip_text params zip_plain mid new opened survives (λ clean plain. inl (begun clean plain).1)),
       λ clean w stands.
@@ -56,7 +57,8 @@ returns-in_err-row-clause-spares g c =
     let now = c.next.follows.lender-at-none.conn.now in
     let same : now ≡ c.conn-in_err-row-1.given.0 = search rules in
     subst (λ h. Spares (state g.S.Store c.args.conn.now) (state g.S.Store h)) same
-    (spares_then _ _ _ c.loop-number.invariant.1 (quiet_spares (state g.S.Store c.loop-number.rows.conn.now) (state g.S.Store now) moved.survives (λ clean. failed_or_same _ _ _ (rw c.in_err-row.was at (moved.kept clean)))))
+    (spares_then _ _ _ c.loop-number.invariant.1
+    (quiet_spares (state g.S.Store c.loop-number.rows.conn.now) (state g.S.Store now) moved.survives (λ clean. failed_or_same _ _ _ (rw c.in_err-row.was at (moved.kept clean)))))
 
 pub returns-in_default-clause-spares : goal.returns-in_default-clause-spares
 returns-in_default-clause-spares g c =
@@ -64,7 +66,8 @@ returns-in_default-clause-spares g c =
     let now = c.next.follows.lender-at-none.conn.now in
     let same : now ≡ c.conn-in_default-1.given.0 = search rules in
     subst (λ h. Spares (state g.S.Store c.args.conn.now) (state g.S.Store h)) same
-    (spares_then _ _ _ c.loop-number.invariant.1 (quiet_spares (state g.S.Store c.loop-number.rows.conn.now) (state g.S.Store now) moved.survives (λ clean. inl (rw c.in_ok-row.was at (moved.same clean)))))
+    (spares_then _ _ _ c.loop-number.invariant.1
+    (quiet_spares (state g.S.Store c.loop-number.rows.conn.now) (state g.S.Store now) moved.survives (λ clean. inl (rw c.in_ok-row.was at (moved.same clean)))))
 
 pub returns-in_default-clause-answer : goal.returns-in_default-clause-answer
 returns-in_default-clause-answer g c clean w stands =
@@ -92,7 +95,8 @@ returns-in_err-piece_in-clause-spares g c =
     let now = c.next.follows.lender-at-none.conn.now in
     let same : now ≡ c.conn-in_err-piece_in-1.given.0 = search rules in
     subst (λ h. Spares (state g.S.Store c.args.conn.now) (state g.S.Store h)) same
-    (spares_then _ _ _ c.loop-number.invariant.1 (quiet_spares (state g.S.Store c.loop-number.rows.conn.now) (state g.S.Store now) moved.survives (λ clean. inl (rw c.in_ok-row.was at (moved.same clean)))))
+    (spares_then _ _ _ c.loop-number.invariant.1
+    (quiet_spares (state g.S.Store c.loop-number.rows.conn.now) (state g.S.Store now) moved.survives (λ clean. inl (rw c.in_ok-row.was at (moved.same clean)))))
 
 pub returns-in_err-extend_from_slice-clause-spares : goal.returns-in_err-extend_from_slice-clause-spares
 returns-in_err-extend_from_slice-clause-spares g c =
@@ -100,7 +104,8 @@ returns-in_err-extend_from_slice-clause-spares g c =
     let now = c.next.follows.lender-at-none.conn.now in
     let same : now ≡ c.conn-in_err-extend_from_slice-1.given.0 = search rules in
     subst (λ h. Spares (state g.S.Store c.args.conn.now) (state g.S.Store h)) same
-    (spares_then _ _ _ c.loop-number.invariant.1 (quiet_spares (state g.S.Store c.loop-number.rows.conn.now) (state g.S.Store now) moved.survives (λ clean. inl (rw c.in_ok-row.was at (moved.same clean)))))
+    (spares_then _ _ _ c.loop-number.invariant.1
+    (quiet_spares (state g.S.Store c.loop-number.rows.conn.now) (state g.S.Store now) moved.survives (λ clean. inl (rw c.in_ok-row.was at (moved.same clean)))))
 
 pub loop-number-preserved : goal.loop-number-preserved
 loop-number-preserved g c =

@@ -37,4 +37,5 @@ returns-clause-open g c clean w stands =
     let mid = state g.S.Store c.prepare.new.self in
     let new = state g.S.Store c.query_all.new.self in
     let prepared = λ (clean : HasCleanDisk mid). (c.in_ok-prepare.ensures.ok clean).1 in
-    weaker c.query_all.result (λ rows shown. rows_open sql params c.requires.plain old mid new prepared c.prepare.ensures.survives c.query_all.ensures.survives c.requires.tables clean w stands rows.items shown) (c.query_all.ensures.ok clean)
+    weaker c.query_all.result (λ rows shown. rows_open sql params c.requires.plain old mid new prepared c.prepare.ensures.survives
+    c.query_all.ensures.survives c.requires.tables clean w stands rows.items shown) (c.query_all.ensures.ok clean)

@@ -39,7 +39,8 @@ returns-in_ok-insert_shelf-clause-changes g c =
     spares_changes old mid new true (with_team_added name group) c.judge_team.ensures.spares c.insert_shelf.ensures.clean (λ w clean stands.
     let h = c.in_ok-registered.ensures.answer (was_clean mid new c.insert_shelf.ensures.clean clean) w stands in
     let free : team_added w name group ≡ Done = sym h.1 ∙ is in
-    subst (ChangesAt mid new true w) (ap (λ (p : List ℕ). with_shelf w name (Some p)) parent ∙ sym (team_new w name group free)) (c.in_ok-insert_shelf.ensures.changes (λ _. h.0) w (team_free w name group free)))
+    subst (ChangesAt mid new true w) (ap (λ (p : List ℕ). with_shelf w name (Some p)) parent ∙ sym (team_new w name group free))
+    (c.in_ok-insert_shelf.ensures.changes (λ _. h.0) w (team_free w name group free)))
 
 pub returns-in_err-insert_shelf-clause-changes : goal.returns-in_err-insert_shelf-clause-changes
 returns-in_err-insert_shelf-clause-changes g c =
@@ -54,4 +55,5 @@ returns-in_err-insert_shelf-clause-changes g c =
     (spares_changes old mid new false (with_team_added name group) c.judge_team.ensures.spares c.insert_shelf.ensures.clean (λ w clean stands.
     let h = c.in_ok-registered.ensures.answer (was_clean mid new c.insert_shelf.ensures.clean clean) w stands in
     let free : team_added w name group ≡ Done = sym h.1 ∙ is in
-    subst (ChangesAt mid new false w) (ap (λ (p : List ℕ). with_shelf w name (Some p)) parent ∙ sym (team_new w name group free)) (c.in_err-insert_shelf.ensures.changes (λ _. h.0) w (team_free w name group free))))
+    subst (ChangesAt mid new false w) (ap (λ (p : List ℕ). with_shelf w name (Some p)) parent ∙ sym (team_new w name group free))
+    (c.in_err-insert_shelf.ensures.changes (λ _. h.0) w (team_free w name group free))))

@@ -15,7 +15,8 @@ returns-in-Err-clause-changes g c opened w free =
     let name = c.args.name.now in
     let parent : Option (List ℕ) = option_copied c.args.parent in
     let told = rw (c.params-to_sql.ensures, c.params-to_sql-2.ensures, parent_bound c.args.parent) at c.in-Err.ensures in
-    failed_changes _ (shelf_params name parent) shelf_insert refl (refl, refl) (inserting 1 _) old new (g.met.S.Store.settled c.args.conn.now.store) opened w (with_shelf w name parent) (add_shelf_turns name parent w free old) told.survives c.in-Err.error told.runs
+    failed_changes _ (shelf_params name parent) shelf_insert refl (refl, refl) (inserting 1 _) old new (g.met.S.Store.settled c.args.conn.now.store) opened w
+    (with_shelf w name parent) (add_shelf_turns name parent w free old) told.survives c.in-Err.error told.runs
 
 pub returns-in-Ok-clause-changes : goal.returns-in-Ok-clause-changes
 unfolding understood everything
@@ -25,5 +26,6 @@ returns-in-Ok-clause-changes g c opened w free =
     let name = c.args.name.now in
     let parent : Option (List ℕ) = option_copied c.args.parent in
     let told = rw (c.params-to_sql.ensures, c.params-to_sql-2.ensures, parent_bound c.args.parent) at c.in-Ok.ensures in
-    done_changes _ (shelf_params name parent) shelf_insert refl (refl, refl) (inserting 1 _) old new (g.met.S.Store.settled c.execute.new.self.store) opened w (with_shelf w name parent) (add_shelf_turns name parent w free old)
+    done_changes _ (shelf_params name parent) shelf_insert refl (refl, refl) (inserting 1 _) old new
+    (g.met.S.Store.settled c.execute.new.self.store) opened w (with_shelf w name parent) (add_shelf_turns name parent w free old)
     told.survives c.in-Ok.field-0 told.runs

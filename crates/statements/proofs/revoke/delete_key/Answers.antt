@@ -15,7 +15,8 @@ returns-in-Err-clause-changes g c opened w =
     let new = state g.S.Store c.execute.new.self in
     let token = c.args.token.now in
     let told = rw c.params-to_sql.ensures at c.in-Err.ensures in
-    failed_changes _ (revoke_params token) (Delete 2 keys_of) refl (refl, refl) (deleting 2 keys_of) old new (g.met.S.Store.settled c.args.conn.now.store) opened w (without_key w token) (revoke_turns w token old) told.survives c.in-Err.error told.runs
+    failed_changes _ (revoke_params token) (Delete 2 keys_of) refl (refl, refl) (deleting 2 keys_of) old new
+    (g.met.S.Store.settled c.args.conn.now.store) opened w (without_key w token) (revoke_turns w token old) told.survives c.in-Err.error told.runs
 
 pub returns-in-Ok-clause-changes : goal.returns-in-Ok-clause-changes
 unfolding understood everything
@@ -24,5 +25,6 @@ returns-in-Ok-clause-changes g c opened w =
     let new = state g.S.Store c.execute.new.self in
     let token = c.args.token.now in
     let told = rw c.params-to_sql.ensures at c.in-Ok.ensures in
-    done_changes _ (revoke_params token) (Delete 2 keys_of) refl (refl, refl) (deleting 2 keys_of) old new (g.met.S.Store.settled c.execute.new.self.store) opened w (without_key w token) (revoke_turns w token old)
+    done_changes _ (revoke_params token) (Delete 2 keys_of) refl (refl, refl) (deleting 2 keys_of) old new
+    (g.met.S.Store.settled c.execute.new.self.store) opened w (without_key w token) (revoke_turns w token old)
     told.survives c.in-Ok.field-0 told.runs

@@ -58,7 +58,8 @@ returns-in_err-row-clause-spares g c =
     let now = c.next.follows.lender-at-none.conn.now in
     let same : now ≡ c.conn-in_err-row-1.given.0 = search rules in
     subst (λ h. Spares (state g.S.Store c.args.conn.now) (state g.S.Store h)) same
-    (spares_then _ _ _ c.loop.invariant.1 (quiet_spares (state g.S.Store c.loop.rows.conn.now) (state g.S.Store now) moved.survives (λ clean. failed_or_same _ _ _ (rw c.in_err-row.was at (moved.kept clean)))))
+    (spares_then _ _ _ c.loop.invariant.1
+    (quiet_spares (state g.S.Store c.loop.rows.conn.now) (state g.S.Store now) moved.survives (λ clean. failed_or_same _ _ _ (rw c.in_err-row.was at (moved.kept clean)))))
 
 pub returns-in_default-clause-spares : goal.returns-in_default-clause-spares
 returns-in_default-clause-spares g c =
@@ -85,7 +86,8 @@ returns-in_default-clause-adds g c clean w stands =
       was.1,
       record {
         rows = was.2;
-        read = subst (λ db. Reads (command_of (understood store_schema sql)) db params was.2) was.0 (reads_as sql params mid new store_schema has _ refl c.requires.plain c.requires.tables was.2 shown);
+        read =
+            subst (λ db. Reads (command_of (understood store_schema sql)) db params was.2) was.0 (reads_as sql params mid new store_schema has _ refl c.requires.plain c.requires.tables was.2 shown);
         adds = was.4;
       },
     )

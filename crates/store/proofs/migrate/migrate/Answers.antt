@@ -32,7 +32,8 @@ returns-in-Ok-BadSchema-clause-migrates g c =
     let t = state g.S.Store c.migrate_rows.new.old in
     let f = state g.F.Store c.args.fresh.now.conn in
     let e = state g.F.Store c.migrate_rows.new.fresh in
-    migrated s t f e c.args.fresh.now.kept _ (Ok BadSchema) (Err refusal.BadSchema) (subst (λ (m : Migrated). MigratesRows s t f e (Ok m)) c.in-Ok-BadSchema.field-0-is c.in-Ok-BadSchema.ensures.migrates)
+    migrated s t f e c.args.fresh.now.kept _ (Ok BadSchema) (Err refusal.BadSchema)
+    (subst (λ (m : Migrated). MigratesRows s t f e (Ok m)) c.in-Ok-BadSchema.field-0-is c.in-Ok-BadSchema.ensures.migrates)
     c.new.ensures refl (some_told refusal.BadSchema (λ same. cc)) (λ x told. told)
 
 pub returns-in-Err-Source-clause-migrates : goal.returns-in-Err-Source-clause-migrates

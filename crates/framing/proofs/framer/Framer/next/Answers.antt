@@ -19,7 +19,8 @@ returns-then-held-self-clause-answer c =
 
 pub returns-then-held-len-clause-answer : goal.returns-then-held-len-clause-answer
 returns-then-held-len-clause-answer c =
-    let held = slice_to_end c.self-2.inside.start c.deref-2.result.now ∙ ap (λ (xs : List ℕ). drop c.self-2.inside.start xs) c.deref-2.ensures.value ∙ ap (λ (f : Framing). f.held) (c.self-2.view_is ∙ c.stays_open.ensures.same) in
+    let held = slice_to_end c.self-2.inside.start c.deref-2.result.now ∙ ap (λ (xs : List ℕ). drop c.self-2.inside.start xs) c.deref-2.ensures.value
+    ∙ ap (λ (f : Framing). f.held) (c.self-2.view_is ∙ c.stays_open.ensures.same) in
     let at : IsHeadAt c.args.self.now.held c.front_of.new.headers c.in-Begun.head =
     subst (λ (bytes : List ℕ). IsHeadAt bytes c.front_of.new.headers c.in-Begun.head) held c.in-Begun.ensures in
     let short : length c.args.self.now.held < c.in-Begun.head.spans.len + c.in-Begun.head.body =
@@ -49,14 +50,16 @@ on_err (Err e) P p = p
 
 pub returns-in_err-message-in-Begun-clause-whole : goal.returns-in_err-message-in-Begun-clause-whole
 returns-in_err-message-in-Begun-clause-whole c =
-    let held = slice_to_end c.self-2.inside.start c.deref-2.result.now ∙ ap (λ (xs : List ℕ). drop c.self-2.inside.start xs) c.deref-2.ensures.value ∙ ap (λ (f : Framing). f.held) (c.self-2.view_is ∙ c.stays_open.ensures.same) in
+    let held = slice_to_end c.self-2.inside.start c.deref-2.result.now ∙ ap (λ (xs : List ℕ). drop c.self-2.inside.start xs) c.deref-2.ensures.value
+    ∙ ap (λ (f : Framing). f.held) (c.self-2.view_is ∙ c.stays_open.ensures.same) in
     let at : IsHeadAt c.args.self.now.held c.front_of.new.headers c.in-Begun.head =
     subst (λ (bytes : List ℕ). IsHeadAt bytes c.front_of.new.headers c.in-Begun.head) held c.in-Begun.ensures in
     on_err _ _ (whole_message c.args.self.now.held c.front_of.new.headers c.in-Begun.head at (omega (arith, c.if-held-len.false, ap length held)))
 
 pub returns-in_err-body-in-Begun-clause-whole : goal.returns-in_err-body-in-Begun-clause-whole
 returns-in_err-body-in-Begun-clause-whole c =
-    let held = slice_to_end c.self-2.inside.start c.deref-2.result.now ∙ ap (λ (xs : List ℕ). drop c.self-2.inside.start xs) c.deref-2.ensures.value ∙ ap (λ (f : Framing). f.held) (c.self-2.view_is ∙ c.stays_open.ensures.same) in
+    let held = slice_to_end c.self-2.inside.start c.deref-2.result.now ∙ ap (λ (xs : List ℕ). drop c.self-2.inside.start xs) c.deref-2.ensures.value
+    ∙ ap (λ (f : Framing). f.held) (c.self-2.view_is ∙ c.stays_open.ensures.same) in
     let at : IsHeadAt c.args.self.now.held c.front_of.new.headers c.in-Begun.head =
     subst (λ (bytes : List ℕ). IsHeadAt bytes c.front_of.new.headers c.in-Begun.head) held c.in-Begun.ensures in
     on_err _ _ (whole_message c.args.self.now.held c.front_of.new.headers c.in-Begun.head at (omega (arith, c.if-held-len.false, ap length held)))

@@ -32,7 +32,8 @@ answered T text rest error f short front (Err e) read same blames cause (inr for
 pub returns-in-Err-clause-err : goal.returns-in-Err-clause-err
 returns-in-Err-clause-err c =
     let front = rw c.in-Some.is at (strip_prefix_char 118 c.args.text.now c.strip_prefix.result c.strip_prefix.ensures.cases (lit< tt)) in
-    answered _ c.args.text.now c.in-Some.rest.now c.in-Err.error c.fault_of.result (omega arith) front (version_parts c.in-Some.rest.now) refl c.in-Err.ensures.refused (text-to-blame c.in-Some.rest.now) c.in-Err.ensures.err c.fault_of.ensures
+    answered _ c.args.text.now c.in-Some.rest.now c.in-Err.error c.fault_of.result (omega arith) front
+    (version_parts c.in-Some.rest.now) refl c.in-Err.ensures.refused (text-to-blame c.in-Some.rest.now) c.in-Err.ensures.err c.fault_of.ensures
 
 pub returns-else-is_mark-clause-err : goal.returns-else-is_mark-clause-err
 returns-else-is_mark-clause-err c =

@@ -19,4 +19,5 @@ invariant_of-self c =
 pub returns : goal.returns
 returns c =
     let free : set.contains c.self.inside.names c.args.shelf.name ≡ false = ap (set.contains c.self.inside.names) (sym c.as_str.ensures) ∙ (sym c.contains.ensures ∙ c.if-contains.false) in
-    c.in_ok-push.ensures.items ∙ subst (λ l. c.self.inside.shelves.items ++ c.args.shelf ∷ [] ≡ added l c.args.shelf) c.self.view_is (added_one c.self.inside.shelves.items c.args.shelf c.self.inside.names c.self.invariant.1 free)
+    c.in_ok-push.ensures.items ∙ subst
+    (λ l. c.self.inside.shelves.items ++ c.args.shelf ∷ [] ≡ added l c.args.shelf) c.self.view_is (added_one c.self.inside.shelves.items c.args.shelf c.self.inside.names c.self.invariant.1 free)

@@ -14,4 +14,5 @@ pub returns-clause-refused : goal.returns-clause-refused
 returns-clause-refused c =
     let clean = memory_is_clean c.in-Err.field-0-1 in
     let empty = c.in-Ok.ensures.empty in
-    only_memory c.in-Err.refusal c.in-Err.ensures.refused (λ bad. (c.in-Err.ensures.bad clean bad).some empty.2) (λ device. memory_unhindered c.in-Ok.conn c.in-Err.field-0-1 empty c.in-Ok.ensures.fresh (c.in-Err.ensures.device clean device))
+    only_memory c.in-Err.refusal c.in-Err.ensures.refused (λ bad. (c.in-Err.ensures.bad clean bad).some empty.2)
+    (λ device. memory_unhindered c.in-Ok.conn c.in-Err.field-0-1 empty c.in-Ok.ensures.fresh (c.in-Err.ensures.device clean device))

@@ -77,6 +77,7 @@ returns-clause-fills g c =
       reads = is_read (state g.S.Store c.args.self.now.conn) (state g.S.Store c.extract_part.new.source) c.extract_part.ensures.reads;
       honest = was_clean fresh end c.extract_part.ensures.clean;
       spares = λ unfit. absurd (fault_is_fit c.told_as-in-Err-Fresh.result named.1 named.2 unfit);
-      at = λ clean good w x sw sx. fills_at fresh end (IsThere w it) (what it w) x (Err c.told_as-in-Err-Fresh.result) good sx (what_is_world it w sw.1) (c.in-Err-Fresh.ensures.changes clean good w x sw sx)
+      at = λ clean good w x sw sx. fills_at fresh end (IsThere w it) (what it w) x (Err c.told_as-in-Err-Fresh.result) good sx
+          (what_is_world it w sw.1) (c.in-Err-Fresh.ensures.changes clean good w x sw sx)
           (fault_tells (IsThere w it) x c.told_as-in-Err-Fresh.result named.0 named.1 named.2);
     }

@@ -7,13 +7,15 @@ use Rattle.store.proofs.store.SqlShelves.find.Goals as goal
 pub returns-in-Ok-clause-reads : goal.returns-in-Ok-clause-reads
 returns-in-Ok-clause-reads g c =
     let along : map (λ s. s.now) c.as_slice.result.now ≡ c.args.shelf.now ∷ above c.in_ok-group.group = search rules in
-    reads_along _ (state g.S.Store c.group_of.new.self.conn) (state g.S.Store c.find_entry.new.conn) c.group_of.new.self.kept c.args.shelf.now _ _ (Ok c.in-Ok.found) (λ w ss. first_on w ss c.args.path.now c.args.version.now)
+    reads_along _ (state g.S.Store c.group_of.new.self.conn) (state g.S.Store c.find_entry.new.conn) c.group_of.new.self.kept c.args.shelf.now _ _ (Ok c.in-Ok.found)
+    (λ w ss. first_on w ss c.args.path.now c.args.version.now)
     along c.in_ok-group.ensures.reads c.find_entry.ensures.spares c.in-Ok.ensures.answer
 
 pub returns-clause-reads : goal.returns-clause-reads
 returns-clause-reads g c =
     let along : map (λ s. s.now) c.as_slice.result.now ≡ c.args.shelf.now ∷ above c.in_ok-group.group = search rules in
-    reads_along _ (state g.S.Store c.group_of.new.self.conn) (state g.S.Store c.find_entry.new.conn) c.group_of.new.self.kept c.args.shelf.now _ _ (Err c.fault.result) (λ w ss. first_on w ss c.args.path.now c.args.version.now)
+    reads_along _ (state g.S.Store c.group_of.new.self.conn) (state g.S.Store c.find_entry.new.conn) c.group_of.new.self.kept c.args.shelf.now _ _ (Err c.fault.result)
+    (λ w ss. first_on w ss c.args.path.now c.args.version.now)
     along c.in_ok-group.ensures.reads c.find_entry.ensures.spares (λ _ _ _. tt)
 
 pub returns-in_err-group-clause-reads : goal.returns-in_err-group-clause-reads

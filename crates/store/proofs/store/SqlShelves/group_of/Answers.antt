@@ -14,14 +14,16 @@ pub returns-in-Ok-Some-clause-reads : goal.returns-in-Ok-Some-clause-reads
 returns-in-Ok-Some-clause-reads g c =
     let kept = record c.args.self.now.kept { groups = c.keep.new.self } in
     let lent : option_copied c.as_ref-in-Ok-Some.result ≡ c.group_in-group.result = search rules in
-    reads_keeping (state g.S.Store c.args.self.now.conn) (state g.S.Store c.find_shelf.new.conn) c.args.self.now.kept kept (Ok c.group_in-group.result) _ c.find_shelf.ensures.spares (λ clean w stands right.
+    reads_keeping (state g.S.Store c.args.self.now.conn) (state g.S.Store c.find_shelf.new.conn) c.args.self.now.kept kept (Ok c.group_in-group.result) _ c.find_shelf.ensures.spares
+    (λ clean w stands right.
     let found = (rw c.in-Ok-Some.field-0-is at (c.in-Ok-Some.ensures.answer clean w stands.0)).2 in
     let same = c.group_in-group.ensures ∙ ap group_in found in
     (same, (right.0, right.1, c.keep.ensures w right.2 (ap is_some (sym found), sym (lent ∙ same)), right.3)))
 
 pub returns-in-Ok-None-clause-reads : goal.returns-in-Ok-None-clause-reads
 returns-in-Ok-None-clause-reads g c =
-    reads (state g.S.Store c.args.self.now.conn) (state g.S.Store c.find_shelf.new.conn) c.args.self.now.kept (Ok None) _ c.find_shelf.ensures.spares (λ clean w stands. ap group_in (rw c.in-Ok-None.field-0-is at (c.in-Ok-None.ensures.answer clean w stands.0)).2)
+    reads (state g.S.Store c.args.self.now.conn) (state g.S.Store c.find_shelf.new.conn) c.args.self.now.kept (Ok None) _ c.find_shelf.ensures.spares
+    (λ clean w stands. ap group_in (rw c.in-Ok-None.field-0-is at (c.in-Ok-None.ensures.answer clean w stands.0)).2)
 
 pub returns-in-Err-clause-reads : goal.returns-in-Err-clause-reads
 returns-in-Err-clause-reads g c =

@@ -18,7 +18,8 @@ returns-in-Ok-clause-reads g c =
     let along : map (λ s. s.now) c.as_slice.result.now ≡ c.args.shelf.now ∷ above c.in_ok-group.group = search rules in
     let conn = state g.S.Store c.args.self.now.conn in
     let less = record c.args.self.now.kept { headings = c.seen.new.self } in
-    let read = reads_along _ (state g.S.Store c.group_of.new.self.conn) (state g.S.Store c.find_seen.new.conn) c.group_of.new.self.kept c.args.shelf.now _ _ (Ok c.in-Ok.seen) (λ w ss. seen_heading (first_on w ss c.args.path.now c.args.version.now))
+    let read = reads_along _ (state g.S.Store c.group_of.new.self.conn) (state g.S.Store c.find_seen.new.conn) c.group_of.new.self.kept c.args.shelf.now _ _ (Ok c.in-Ok.seen)
+    (λ w ss. seen_heading (first_on w ss c.args.path.now c.args.version.now))
     along c.in_ok-group.ensures.reads c.find_seen.ensures.spares c.in-Ok.ensures.answer in
     reads_with_less conn c.args.self.now.kept less _ (Ok c.in-Ok.seen) _
     (λ w right. (right.0, right.1, right.2, (right.3.0, fewer_held _ c.args.self.now.kept.headings c.seen.new.self c.seen.ensures.others right.3.1, right.3.2)))
@@ -32,7 +33,8 @@ returns-clause-reads g c =
     let less = record c.args.self.now.kept { headings = c.seen.new.self } in
     reads_with_less (state g.S.Store c.args.self.now.conn) c.args.self.now.kept less _ (Err c.fault.result) _
     (λ w right. (right.0, right.1, right.2, (right.3.0, fewer_held _ c.args.self.now.kept.headings c.seen.new.self c.seen.ensures.others right.3.1, right.3.2)))
-    (reads_along _ (state g.S.Store c.group_of.new.self.conn) (state g.S.Store c.find_seen.new.conn) c.group_of.new.self.kept c.args.shelf.now _ _ (Err c.fault.result) (λ w ss. seen_heading (first_on w ss c.args.path.now c.args.version.now))
+    (reads_along _ (state g.S.Store c.group_of.new.self.conn) (state g.S.Store c.find_seen.new.conn) c.group_of.new.self.kept c.args.shelf.now _ _ (Err c.fault.result)
+    (λ w ss. seen_heading (first_on w ss c.args.path.now c.args.version.now))
     along c.in_ok-group.ensures.reads c.find_seen.ensures.spares (λ _ _ _. tt))
 
 pub returns-in_err-group-clause-reads : goal.returns-in_err-group-clause-reads

@@ -20,7 +20,8 @@ returns-in-Ok-clause-reads g c =
     let less = record c.args.self.now.kept { lists = c.take_versions.new.self } in
     reads_with_less (state g.S.Store c.args.self.now.conn) c.args.self.now.kept less _ (Ok c.in-Ok.versions) _
     (λ w right. (right.0, fewer w c.args.self.now.kept.lists c.take_versions.new.self c.take_versions.ensures.others right.1, right.2, right.3))
-    (reads_along _ (state g.S.Store c.group_of.new.self.conn) (state g.S.Store c.find_versions.new.conn) c.group_of.new.self.kept c.args.shelf.now _ _ (Ok c.in-Ok.versions) (λ w ss. in_order (by_precedence (named (in_order (versions_on w ss c.args.path.now)))))
+    (reads_along _ (state g.S.Store c.group_of.new.self.conn) (state g.S.Store c.find_versions.new.conn) c.group_of.new.self.kept c.args.shelf.now _ _ (Ok c.in-Ok.versions)
+    (λ w ss. in_order (by_precedence (named (in_order (versions_on w ss c.args.path.now)))))
     along c.in_ok-group.ensures.reads c.find_versions.ensures.spares c.in-Ok.ensures.answer)
 
 pub returns-clause-reads : goal.returns-clause-reads
@@ -29,7 +30,8 @@ returns-clause-reads g c =
     let less = record c.args.self.now.kept { lists = c.take_versions.new.self } in
     reads_with_less (state g.S.Store c.args.self.now.conn) c.args.self.now.kept less _ (Err c.fault.result) _
     (λ w right. (right.0, fewer w c.args.self.now.kept.lists c.take_versions.new.self c.take_versions.ensures.others right.1, right.2, right.3))
-    (reads_along _ (state g.S.Store c.group_of.new.self.conn) (state g.S.Store c.find_versions.new.conn) c.group_of.new.self.kept c.args.shelf.now _ _ (Err c.fault.result) (λ w ss. in_order (by_precedence (named (in_order (versions_on w ss c.args.path.now)))))
+    (reads_along _ (state g.S.Store c.group_of.new.self.conn) (state g.S.Store c.find_versions.new.conn) c.group_of.new.self.kept c.args.shelf.now _ _ (Err c.fault.result)
+    (λ w ss. in_order (by_precedence (named (in_order (versions_on w ss c.args.path.now)))))
     along c.in_ok-group.ensures.reads c.find_versions.ensures.spares (λ _ _ _. tt))
 
 pub returns-in_err-group-clause-reads : goal.returns-in_err-group-clause-reads

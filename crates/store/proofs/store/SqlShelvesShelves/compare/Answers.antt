@@ -10,13 +10,15 @@ pub returns-in-Ok-clause-reads : goal.returns-in-Ok-clause-reads
 returns-in-Ok-clause-reads g c =
     let along : map (λ s. s.now) c.as_slice.result.now ≡ c.args.shelf.now ∷ above c.in_ok-group.group = search rules in
     let answer = rw (c.as_str.ensures.value, c.as_str-2.ensures.value) at c.in-Ok.ensures.answer in
-    reads_along _ (state g.S.Store c.group_of.new.self.conn) (state g.S.Store c.find_standing.new.conn) c.group_of.new.self.kept c.args.shelf.now _ _ (Ok c.in-Ok.standing) (λ w ss. standing_to (option_map (λ seen. seen.entry) (first_on w ss c.args.path.now (version_text c.args.version.now))) c.args.entry.now)
+    reads_along _ (state g.S.Store c.group_of.new.self.conn) (state g.S.Store c.find_standing.new.conn) c.group_of.new.self.kept c.args.shelf.now _ _ (Ok c.in-Ok.standing)
+    (λ w ss. standing_to (option_map (λ seen. seen.entry) (first_on w ss c.args.path.now (version_text c.args.version.now))) c.args.entry.now)
     along c.in_ok-group.ensures.reads c.find_standing.ensures.spares answer
 
 pub returns-clause-reads : goal.returns-clause-reads
 returns-clause-reads g c =
     let along : map (λ s. s.now) c.as_slice.result.now ≡ c.args.shelf.now ∷ above c.in_ok-group.group = search rules in
-    reads_along _ (state g.S.Store c.group_of.new.self.conn) (state g.S.Store c.find_standing.new.conn) c.group_of.new.self.kept c.args.shelf.now _ _ (Err c.fault.result) (λ w ss. standing_to (option_map (λ seen. seen.entry) (first_on w ss c.args.path.now (version_text c.args.version.now))) c.args.entry.now)
+    reads_along _ (state g.S.Store c.group_of.new.self.conn) (state g.S.Store c.find_standing.new.conn) c.group_of.new.self.kept c.args.shelf.now _ _ (Err c.fault.result)
+    (λ w ss. standing_to (option_map (λ seen. seen.entry) (first_on w ss c.args.path.now (version_text c.args.version.now))) c.args.entry.now)
     along c.in_ok-group.ensures.reads c.find_standing.ensures.spares (λ _ _ _. tt)
 
 pub returns-in_err-group-clause-reads : goal.returns-in_err-group-clause-reads

@@ -14,10 +14,17 @@ returns-in-Ok-clause-does g c =
     let told = rw c.as_str.ensures.value at c.in-Ok.ensures.changes in
     let raised = rw c.as_str-in-Ok.ensures.value at c.raise.ensures in
     let forgot = λ (w : World) (right : AreLists w c.args.self.now.kept.lists).
-    subst (λ p. AreLists (with_entry w (place c.args.shelf.now p (version_text c.args.version.now)) c.args.entry.now) c.forget.new.self) c.as_str-in-Ok-2.ensures.value (c.forget.ensures w c.args.shelf.now (version_text c.args.version.now) c.args.entry.now right) in
-    changes (state g.S.Store c.args.self.now.conn) (state g.S.Store c.add_entry.new.conn) c.args.self.now.kept (record c.args.self.now.kept { counts = c.raise.new.self; total = c.raised-self.result; lists = c.forget.new.self; headings = c.no_headings.result }) (Ok tt) _ (λ _. tt) _ c.add_entry.ensures.clean
+    subst (λ p. AreLists (with_entry w (place c.args.shelf.now p (version_text c.args.version.now)) c.args.entry.now) c.forget.new.self) c.as_str-in-Ok-2.ensures.value
+    (c.forget.ensures w c.args.shelf.now (version_text c.args.version.now) c.args.entry.now right) in
+    changes (state g.S.Store c.args.self.now.conn) (state g.S.Store c.add_entry.new.conn) c.args.self.now.kept (record c.args.self.now.kept
+    { counts = c.raise.new.self; total = c.raised-self.result; lists = c.forget.new.self; headings = c.no_headings.result }) (Ok tt) _ (λ _. tt) _ c.add_entry.ensures.clean
     (λ clean w stands room. (refl, told clean w stands.0 room.free, entry_added w _ _ stands.1 room))
-    (λ w room right. ((raised w (version_text c.args.version.now) c.args.entry.now room.free right.0.0, c.raised-self.ensures w _ c.args.entry.now room.free right.0.1), forgot w right.1, right.2, (zips_still w _ c.args.entry.now room.free c.args.self.now.kept.zips right.3.0, none_held _ c.no_headings.result c.no_headings.ensures, right.3.2)))
+    (λ w room right. (
+      (raised w (version_text c.args.version.now) c.args.entry.now room.free right.0.0, c.raised-self.ensures w _ c.args.entry.now room.free right.0.1),
+      forgot w right.1,
+      right.2,
+      (zips_still w _ c.args.entry.now room.free c.args.self.now.kept.zips right.3.0, none_held _ c.no_headings.result c.no_headings.ensures, right.3.2),
+    ))
 
 pub returns-in-Err-clause-does : goal.returns-in-Err-clause-does
 returns-in-Err-clause-does g c =

@@ -8,7 +8,8 @@ pub returns-in-Some-clause-reads : goal.returns-in-Some-clause-reads
 returns-in-Some-clause-reads g c =
     let less = record c.args.self.now.kept { keys = c.holder.new.self } in
     reads_kept (state g.S.Store c.args.self.now.conn) c.args.self.now.kept less (Some c.in-Some.holder) _
-    (λ w right. (sym (c.in-Some.ensures.found w right.3.2), (right.0, right.1, right.2, (right.3.0, right.3.1, fewer_held _ c.args.self.now.kept.keys c.holder.new.self c.holder.ensures.others right.3.2))))
+    (λ w right.
+    (sym (c.in-Some.ensures.found w right.3.2), (right.0, right.1, right.2, (right.3.0, right.3.1, fewer_held _ c.args.self.now.kept.keys c.holder.new.self c.holder.ensures.others right.3.2))))
 
 pub returns-in-Ok-clause-reads : goal.returns-in-Ok-clause-reads
 returns-in-Ok-clause-reads g c =

@@ -14,7 +14,8 @@ returns-then-not-is_key-clause-does g c =
     let shelf = c.args.shelf.now in
     let key = c.args.key.now in
     let wrong : is_key key ≡ false = search rules in
-    refused (state g.S.Store c.args.self.now.conn) c.args.self.now.kept Name _ _ (λ w. let named = misnamed w shelf key wrong in (named, ap (λ (r : Registered). after_key_add w shelf key c.args.right r) named))
+    refused (state g.S.Store c.args.self.now.conn) c.args.self.now.kept Name _ _
+    (λ w. let named = misnamed w shelf key wrong in (named, ap (λ (r : Registered). after_key_add w shelf key c.args.right r) named))
 
 pub returns-in-Ok-clause-does : goal.returns-in-Ok-clause-does
 returns-in-Ok-clause-does g c =

@@ -34,22 +34,26 @@ returns-clause-reads g c =
     let left = rw c.as_slice-2.ensures at c.in_ok-latest.ensures in
     let kept = rw c.as_str-3.ensures.value at c.keep_with_latest.ensures in
     let start = shown_with conn less in
-    let all = latest_read start _ (λ w stands. stands.0.1) c.args.shelf.now c.args.path.now vs read _ c.in-Some-highest.newest.now c.in_ok-heading.heading c.in_ok-gomod.gomod _ top c.in_ok-heading.ensures.reads c.in_ok-gomod.ensures left in
-    reads_with_less conn c.args.self.now.kept less _ (Ok c.in_ok-latest.latest) _ (λ w right. (right.0, fewer w c.args.self.now.kept.lists c.latest.new.self c.latest.ensures.others right.1, right.2, right.3))
+    let all = latest_read start _ (λ w stands. stands.0.1) c.args.shelf.now c.args.path.now vs read _ c.in-Some-highest.newest.now
+    c.in_ok-heading.heading c.in_ok-gomod.gomod _ top c.in_ok-heading.ensures.reads c.in_ok-gomod.ensures left in
+    reads_with_less conn c.args.self.now.kept less _ (Ok c.in_ok-latest.latest) _
+    (λ w right. (right.0, fewer w c.args.self.now.kept.lists c.latest.new.self c.latest.ensures.others right.1, right.2, right.3))
     (reads_then start (state g.S.Store c.heading.new.self.conn) c.heading.new.self.kept (record c.heading.new.self.kept { lists = c.keep_with_latest.new.self }) (Ok c.in_ok-latest.latest) _ all
     (λ clean w stands right. (right.0, kept w right.1 (read.at (c.in_ok-heading.ensures.reads.honest clean) w stands).answer (all.at clean w stands).answer, right.2, right.3)))
 
 pub returns-in_err-versions-clause-reads : goal.returns-in_err-versions-clause-reads
 returns-in_err-versions-clause-reads g c =
     let less = record c.args.self.now.kept { lists = c.latest.new.self } in
-    reads_with_less (state g.S.Store c.args.self.now.conn) c.args.self.now.kept less _ _ _ (λ w right. (right.0, fewer w c.args.self.now.kept.lists c.latest.new.self c.latest.ensures.others right.1, right.2, right.3))
+    reads_with_less (state g.S.Store c.args.self.now.conn) c.args.self.now.kept less _ _ _
+    (λ w right. (right.0, fewer w c.args.self.now.kept.lists c.latest.new.self c.latest.ensures.others right.1, right.2, right.3))
     (reads_failed _ _ _ c.from_residual.result _ _ c.from_residual.ensures.0 c.in_err-versions.ensures.reads)
 
 pub returns-in_err-heading-clause-reads : goal.returns-in_err-heading-clause-reads
 returns-in_err-heading-clause-reads g c =
     let read = c.in_ok-versions.ensures.reads in
     let then = c.in_err-heading.ensures.reads in
-    reads_with_less (state g.S.Store c.args.self.now.conn) c.args.self.now.kept (record c.args.self.now.kept { lists = c.latest.new.self }) _ _ _ (λ w right. (right.0, fewer w c.args.self.now.kept.lists c.latest.new.self c.latest.ensures.others right.1, right.2, right.3))
+    reads_with_less (state g.S.Store c.args.self.now.conn) c.args.self.now.kept (record c.args.self.now.kept { lists = c.latest.new.self }) _ _ _
+    (λ w right. (right.0, fewer w c.args.self.now.kept.lists c.latest.new.self c.latest.ensures.others right.1, right.2, right.3))
     (record {
       honest = λ h. read.honest (then.honest h);
       at = λ h w stands.
@@ -62,7 +66,8 @@ pub returns-in_err-gomod-clause-reads : goal.returns-in_err-gomod-clause-reads
 returns-in_err-gomod-clause-reads g c =
     let read = c.in_ok-versions.ensures.reads in
     let then = c.in_ok-heading.ensures.reads in
-    reads_with_less (state g.S.Store c.args.self.now.conn) c.args.self.now.kept (record c.args.self.now.kept { lists = c.latest.new.self }) _ _ _ (λ w right. (right.0, fewer w c.args.self.now.kept.lists c.latest.new.self c.latest.ensures.others right.1, right.2, right.3))
+    reads_with_less (state g.S.Store c.args.self.now.conn) c.args.self.now.kept (record c.args.self.now.kept { lists = c.latest.new.self }) _ _ _
+    (λ w right. (right.0, fewer w c.args.self.now.kept.lists c.latest.new.self c.latest.ensures.others right.1, right.2, right.3))
     (record {
       honest = λ h. read.honest (then.honest h);
       at = λ h w stands.
@@ -75,7 +80,8 @@ pub returns-in_err-latest-clause-reads : goal.returns-in_err-latest-clause-reads
 returns-in_err-latest-clause-reads g c =
     let read = c.in_ok-versions.ensures.reads in
     let then = c.in_ok-heading.ensures.reads in
-    reads_with_less (state g.S.Store c.args.self.now.conn) c.args.self.now.kept (record c.args.self.now.kept { lists = c.latest.new.self }) _ _ _ (λ w right. (right.0, fewer w c.args.self.now.kept.lists c.latest.new.self c.latest.ensures.others right.1, right.2, right.3))
+    reads_with_less (state g.S.Store c.args.self.now.conn) c.args.self.now.kept (record c.args.self.now.kept { lists = c.latest.new.self }) _ _ _
+    (λ w right. (right.0, fewer w c.args.self.now.kept.lists c.latest.new.self c.latest.ensures.others right.1, right.2, right.3))
     (record {
       honest = λ h. read.honest (then.honest h);
       at = λ h w stands.

@@ -18,7 +18,8 @@ returns-clause-reads g c =
     let less = record c.args.self.now.kept { lists = c.versions.new.self } in
     let read = rw c.as_str-2.ensures.value at c.in_ok-found.ensures.reads in
     let kept = rw (c.as_str-3.ensures.value, c.as_slice.ensures) at c.keep_copy.ensures in
-    reads_with_less conn c.args.self.now.kept less _ (Ok c.in_ok-found.found) _ (λ w right. (right.0, fewer w c.args.self.now.kept.lists c.versions.new.self c.versions.ensures.others right.1, right.2, right.3))
+    reads_with_less conn c.args.self.now.kept less _ (Ok c.in_ok-found.found) _
+    (λ w right. (right.0, fewer w c.args.self.now.kept.lists c.versions.new.self c.versions.ensures.others right.1, right.2, right.3))
     (reads_then (shown_with conn less) (state g.S.Store c.take_versions.new.self.conn) c.take_versions.new.self.kept
     (record c.take_versions.new.self.kept { lists = c.keep_copy.new.self }) (Ok c.in_ok-found.found) _ read
     (λ clean w stands right. (right.0, kept w right.1 (read.at clean w stands).answer, right.2, right.3)))
@@ -26,5 +27,6 @@ returns-clause-reads g c =
 pub returns-in_err-found-clause-reads : goal.returns-in_err-found-clause-reads
 returns-in_err-found-clause-reads g c =
     let less = record c.args.self.now.kept { lists = c.versions.new.self } in
-    reads_with_less (state g.S.Store c.args.self.now.conn) c.args.self.now.kept less _ _ _ (λ w right. (right.0, fewer w c.args.self.now.kept.lists c.versions.new.self c.versions.ensures.others right.1, right.2, right.3))
+    reads_with_less (state g.S.Store c.args.self.now.conn) c.args.self.now.kept less _ _ _
+    (λ w right. (right.0, fewer w c.args.self.now.kept.lists c.versions.new.self c.versions.ensures.others right.1, right.2, right.3))
     (reads_failed _ _ _ c.from_residual.result _ _ c.from_residual.ensures.0 c.in_err-found.ensures.reads)

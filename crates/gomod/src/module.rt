@@ -1,20 +1,21 @@
 //! What a go.mod file says.
 
-ghost use Rattle.std.specs.Prelude.{◌≡◌, ◌↔◌, ◌&&◌, IsTrue, IsUtf8, Err};
+ghost use Rattle.std.specs.Prelude.{◌≡◌, ◌↔◌, ◌&&◌, IfOk, IsTrue, IsUtf8, Err, map};
 ghost use Rattle.gomod.specs.Keywords.{profile_in_force};
-ghost use Rattle.gomod.specs.Reading.{Gives, first_unfit, file_says, text_says, reading};
-ghost use Rattle.gomod.specs.Module.{IsRetracted, is_retracted};
+ghost use Rattle.gomod.specs.Reading.{Gives, first_unfit, file_says, interval_of, text_says, reading};
+ghost use Rattle.std.specs.List.{list_any};
+ghost use Rattle.gomod.specs.Module.{IsRetracted, covers, is_retracted};
 ghost use Rattle.gomod.specs.State.{state_of};
 ghost use Rattle.modver.specs.Fits.{fits};
 
 use super::entries::{Requirement, Retraction};
 use super::fault::GoModFault;
+use super::marks::{ascend, marks};
 use super::reader::{Reader, read_line};
-use super::stretches::Stretches;
 use modlex::cut_line;
 use modpath::{ModulePath, Suffix, suffix};
-use modver::{Version, fits_suffix};
-use std::alloc::Global;
+use modver::{Bound, Version, fits_suffix};
+use std::alloc::{AllocError, Global};
 use std::marker::Model;
 
 /// What a go.mod file says. (Go Modules Reference, "go.mod files".)
@@ -23,17 +24,13 @@ pub struct GoMod {
     path: ModulePath,
     required: Vec<Requirement>,
     retractions: Vec<Retraction>,
-    /// The versions of the retractions, for a search.
-    stretches: Stretches,
     bare: bool,
 }
 
 impl Model for GoMod {
-    ghost use Rattle.std.specs.Prelude.{◌≡◌, map};
-    ghost use Rattle.std.specs.List.{list_any};
-    ghost use Rattle.gomod.specs.Module.{GoModule, covers};
+    ghost use Rattle.std.specs.Prelude.{map};
+    ghost use Rattle.gomod.specs.Module.{GoModule};
     ghost use Rattle.gomod.specs.Reading.{interval_of};
-    ghost use Rattle.gomod.specs.Paths.{Version};
 
     ghost Value = { GoModule };
 
@@ -43,9 +40,6 @@ impl Model for GoMod {
       retractions = map interval_of m.retractions.items;
       bare = m.bare;
     } };
-
-    ghost invariant = { λ m. (v : Version)
-        → list_any (covers v) m.stretches ≡ list_any (covers v) (map interval_of m.retractions.items) };
 }
 
 impl GoMod {
@@ -77,12 +71,27 @@ impl GoMod {
         &self.required
     }
 
-    /// Whether the module retracts a version.
+    /// Whether the module retracts a version. It takes no memory, and may compare the version with each
+    /// retraction. Of many versions [`GoMod::retracted`] tells it sooner.
     pub fn retracts(&self, version: &Version) -> bool
         ensures value { result ≡ is_retracted self.now version.now }
         ensures retracted { IsTrue result ↔ IsRetracted self.now version.now }
     {
-        self.stretches.has(version)
+        some_has(&self.retractions, version.bound())
+    }
+
+    /// Returns for each version whether the module retracts it. It fails only if memory runs out.
+    /// If the versions ascend by precedence, it compares each retraction with few of them.
+    pub fn retracted(&self, alloc: Global, versions: &[Version]) -> Result<Vec<bool>, AllocError>
+        ensures { IfOk result (λ marks. marks.items ≡ map (is_retracted self.now) versions.now) }
+    {
+        if ascend(versions) {
+            return marks(alloc, &self.retractions, versions);
+        }
+        versions
+            .iter()
+            .map(|version| self.retracts(version))
+            .collect(alloc)
     }
 
     /// Whether the module directive is the only directive.
@@ -92,6 +101,15 @@ impl GoMod {
     {
         self.bare
     }
+}
+
+/// Whether a retraction contains a version.
+fn some_has(retractions: &[Retraction], version: &Bound) -> bool
+    ensures { result ≡ list_any (λ r. covers version.now (interval_of r)) retractions.now }
+{
+    retractions
+        .iter()
+        .any(|retraction| retraction.versions.has(version))
 }
 
 impl Retraction {
@@ -122,9 +140,9 @@ fn first_unfit(path: &ModulePath, retractions: &[Retraction]) -> Option<usize>
 
 /// Returns what all lines say, the last of which has the number `last`. It fails with the first of:
 /// [`GoModFault::Grammar`] if a block is open, [`GoModFault::NoModule`], [`GoModFault::Version`] of a
-/// retraction that does not fit the path, [`GoModFault::Memory`].
+/// retraction that does not fit the path.
 #[tactic(auto, unfolding(crate::specs::Reading::file_says))]
-fn finish(alloc: Global, reader: Reader, last: usize) -> Result<GoMod, GoModFault>
+fn finish(reader: Reader, last: usize) -> Result<GoMod, GoModFault>
     ensures { Gives (λ m. m) result (file_says last (state_of reader)) }
 {
     let Reader {
@@ -144,12 +162,10 @@ fn finish(alloc: Global, reader: Reader, last: usize) -> Result<GoMod, GoModFaul
     if let Some(line) = first_unfit(&path, retractions.as_slice()) {
         return Err(GoModFault::Version(line));
     }
-    let stretches = Stretches::of(alloc, &retractions)?;
     Ok(GoMod {
         path,
         required,
         retractions,
-        stretches,
         bare,
     })
 }
@@ -167,5 +183,5 @@ fn read_text(alloc: Global, text: &str) -> Result<GoMod, GoModFault>
         rest = behind;
     }
     read_line(&mut reader, &mut tokens, alloc, line, rest)?;
-    finish(alloc, reader, line)
+    finish(reader, line)
 }

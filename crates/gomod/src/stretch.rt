@@ -1,8 +1,8 @@
 //! Versions from a low one to a high one.
 
-ghost use Rattle.std.specs.Prelude.{◌≡◌, IfOk, IsTrue, OnOk, not};
+ghost use Rattle.std.specs.Prelude.{◌≡◌, IfOk, IsTrue, not};
+ghost use Rattle.gomod.specs.Module.{covers};
 ghost use Rattle.gomod.specs.Paths.{is_below as lies_below};
-ghost use Rattle.gomod.specs.Spans.{joined};
 
 use super::entries::is_below;
 use modver::Bound;
@@ -68,26 +68,10 @@ impl Stretch {
         !is_below(self.high(), version)
     }
 
-    /// Returns a copy. It fails only if memory runs out.
-    pub(crate) fn copy(&self, alloc: Global) -> Result<Stretch, AllocError>
-        ensures { IfOk result (λ s. s ≡ self.now) }
+    /// Whether the stretch contains a version.
+    pub(crate) fn has(&self, version: &Bound) -> bool
+        ensures { result ≡ covers version.now self.now }
     {
-        let low = self.low.copy(alloc)?;
-        let above = match &self.above {
-            Some(high) => Some(Box::new(alloc, high.copy(alloc)?)?),
-            None => None,
-        };
-        Ok(Stretch { low, above })
-    }
-
-    /// Extends it to the end of `other`, which it meets and which begins no lower. It fails only if
-    /// memory runs out.
-    pub(crate) fn join(&mut self, alloc: Global, other: &Stretch) -> Result<(), AllocError>
-        ensures { OnOk result (self.new ≡ joined self.old other.now) }
-    {
-        if is_below(self.high(), other.high()) {
-            self.above = Some(Box::new(alloc, other.high().copy(alloc)?)?);
-        }
-        Ok(())
+        !is_below(version, &self.low) && self.reaches(version)
     }
 }

@@ -1,13 +1,18 @@
 use Rattle.std.proofs.Common.{◌≡◌, ap, sym, ◌∙◌}
-use Rattle.gomod.specs.Module.{is_retracted}
+use Rattle.std.specs.List.{list_any}
+use Rattle.gomod.specs.Module.{covers, is_retracted}
+use Rattle.gomod.specs.Reading.{interval_of}
+use Rattle.gomod.proofs.MarkLists.{any-of_each}
 use Rattle.gomod.proofs.Retractions.{is_retracted-decides}
 use Rattle.gomod.proofs.module.GoMod.retracts.Goals as goal
-use Rattle.gomod.proofs.module.GoMod.retracts.Goals.{After-has}
+use Rattle.gomod.proofs.module.GoMod.retracts.Goals.{After-some_has}
 
-value : (c : After-has) → c.has.result ≡ is_retracted c.args.self.now c.args.version.now
+value : (c : After-some_has) → c.some_has.result ≡ is_retracted c.args.self.now c.args.version.now
 value c =
-    c.has.ensures
-    ∙ c.self.invariant c.args.version.now
+    c.some_has.ensures
+    ∙ ap (λ v. list_any (λ r. covers v (interval_of r)) c.deref.result.now) c.bound.ensures
+    ∙ ap (list_any (λ r. covers c.args.version.now (interval_of r))) c.deref.ensures.value
+    ∙ any-of_each (covers c.args.version.now) interval_of c.self.inside.retractions.items
     ∙ ap (λ m. is_retracted m c.args.version.now) c.self.view_is
 
 pub returns-clause-value : goal.returns-clause-value

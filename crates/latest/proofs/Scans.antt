@@ -1,11 +1,12 @@
 -- The highest of the first versions of a list.
-use Rattle.std.proofs.Common.{◌≡◌, ◌<◌, ◌+◌, ℕ, zero, suc, List, [], ◌∷◌, Bool, true, false, refl, sym, ◌∙◌, ap, subst, Option, Some, None, length, inl, inr, ◌⊎◌, arith, get_or}
+use Rattle.std.proofs.Common.{◌≡◌, ◌<◌, ◌+◌, map, not, ℕ, zero, suc, List, [], ◌∷◌, Bool, true, false, refl, sym, ◌∙◌, ap, subst, Option, Some, None, length, inl, inr, ◌⊎◌, arith, get_or}
 use Rattle.std.specs.Prelude.{slice_get, unwrap_or}
 use Rattle.std.specs.declared.cmp.Ordering.{Ordering}
 use Rattle.std.specs.declared.cmp.Ordering.TheVariants.{Less, Equal, Greater}
 use Rattle.std.proofs.Math.Nat.{eq-or-lt_of_le}
 use Rattle.std.proofs.lemmas.Bool.{true≢false}
-use Rattle.gomod.specs.Module.{GoModule}
+use Rattle.std.proofs.lemmas.List.{get_or-map}
+use Rattle.gomod.specs.Module.{GoModule, is_retracted}
 use Rattle.modver.specs.Fits.{IsVersionOf}
 use Rattle.modver.specs.Rank.{IsAbove, rank_cmp}
 use Rattle.modver.specs.SemanticVersion.{SemanticVersion}
@@ -33,6 +34,12 @@ pub found : {X : Type 0} (xs : List X) (k : ℕ) (x : X) → k < length xs → g
 found [] k x less e = absurd (omega (arith, less))
 found (y ∷ ys) zero x less e = ap Some e
 found (y ∷ ys) (suc k) x less e = found ys k x (omega (arith, less)) e
+
+-- a mark tells whether the version at its place counts
+pub marked_at : (m : GoModule) (vs : List SemanticVersion) (marks : List Bool) → marks ≡ map (is_retracted m) vs → (place : ℕ) (x : SemanticVersion)
+    → place < length vs → get_or vs place x ≡ x → (b : Bool) → get_or marks place false ≡ b → is_kept (Some m) x ≡ not b
+marked_at m vs marks e place x less at b is =
+    ap not (ap (is_retracted m) (sym at) ∙ sym (get_or-map (is_retracted m) vs place x false less) ∙ sym (ap (λ l. get_or l place false) e) ∙ is)
 
 -- ---- the scan
 

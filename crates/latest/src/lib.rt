@@ -14,11 +14,13 @@
 pub mod laws;
 
 ghost use Rattle.std.specs.Option.{option_copied};
-ghost use Rattle.std.specs.Prelude.{◌≡◌, ◌<◌, ◌+◌, length};
+ghost use Rattle.std.specs.Prelude.{◌≡◌, ◌<◌, ◌+◌, IfOk, Some, length, map};
+ghost use Rattle.gomod.specs.Module.{GoModule, is_retracted};
 ghost use Rattle.latest.specs.Latest.{IsBest, NamesTop, among, is_higher, is_kept, kept, unretracted};
 
 use gomod::GoMod;
 use modver::{Version, rank_compare};
+use std::alloc::{AllocError, Global};
 use std::cmp::Ordering;
 
 /// Returns the index of the highest version by rank, or `None` if there are no versions. It takes no memory.
@@ -29,11 +31,25 @@ pub fn top(versions: &[Version]) -> Option<usize>
 }
 
 /// Returns the index of the highest version by rank that a go.mod does not retract, or `None` if it retracts every
-/// version. It takes no memory.
+/// version. It takes no memory. It may compare each version with each retraction, where [`latest_of`] compares few.
 pub fn latest(versions: &[Version], gomod: &GoMod) -> Option<usize>
     ensures { NamesTop versions.now (unretracted versions.now gomod.now) result }
 {
     top_of_kept(versions, Some(gomod))
+}
+
+/// Returns the index of the highest version by rank that a go.mod does not retract, or `None` if it retracts every
+/// version. It fails only if memory runs out. If the versions ascend by precedence, it compares each retraction with
+/// few of them.
+pub fn latest_of(
+    alloc: Global,
+    versions: &[Version],
+    gomod: &GoMod,
+) -> Result<Option<usize>, AllocError>
+    ensures { IfOk result (λ place. NamesTop versions.now (unretracted versions.now gomod.now) place) }
+{
+    let retracted = gomod.retracted(alloc, versions)?;
+    Ok(top_unmarked(versions, &retracted))
 }
 
 /// Whether a version counts: any version if no go.mod is given, and otherwise one that the go.mod does not retract.
@@ -90,4 +106,39 @@ fn is_higher(versions: &[Version], version: &Version, highest: Option<usize>) ->
             Some(other) => rank_compare(version, other) == Ordering::Greater,
         },
     }
+}
+
+/// Returns the index of the highest version without a mark, or `None` if each has one.
+fn top_unmarked(versions: &[Version], retracted: &[bool]) -> Option<usize>
+    requires { length retracted.now ≡ length versions.now }
+    ensures { (m : GoModule) → retracted.now ≡ map (is_retracted m) versions.now
+        → NamesTop versions.now (kept versions.now (Some m)) result }
+{
+    let mut highest = None;
+    for next in 0..versions.len() {
+        highest = better_unmarked(versions, retracted, next, highest);
+    }
+    highest
+}
+
+/// Returns the index of the highest version without a mark among those up to `place`, from the index of the highest
+/// before `place`.
+fn better_unmarked(
+    versions: &[Version],
+    retracted: &[bool],
+    place: usize,
+    highest: Option<usize>,
+) -> Option<usize>
+    requires { (place < length versions.now) × (length retracted.now ≡ length versions.now) }
+    ensures { (m : GoModule) → retracted.now ≡ map (is_retracted m) versions.now
+        → IsBest versions.now (Some m) place highest → IsBest versions.now (Some m) (place + 1) result }
+{
+    let version = &versions[place];
+    if retracted[place] {
+        return highest;
+    }
+    if !is_higher(versions, version, highest) {
+        return highest;
+    }
+    Some(place)
 }

@@ -12,7 +12,7 @@ use crate::text_set::TextSet;
 use crate::version_list::Versions;
 use crate::version_set::VersionSet;
 use gomod::GoMod;
-use latest::{latest, top};
+use latest::{latest_of, top};
 use modver::Version;
 use std::alloc::{AllocError, Global};
 
@@ -80,13 +80,19 @@ pub fn highest(versions: &[Version]) -> Option<&Version>
 }
 
 /// Returns the highest by rank of those versions of one path that the go.mod does not retract, or None if there are none.
-/// Allocates nothing.
-pub fn highest_left<'a>(versions: &'a [Version], gomod: &GoMod) -> Option<&'a Version>
-    ensures { (path : List ℕ) → AllOf path versions.now
-        → option_copied result ≡ spec.highest (spec.unretracted gomod.now versions.now) }
+/// Fails only if memory runs out.
+fn highest_left<'a>(
+    alloc: Global,
+    versions: &'a [Version],
+    gomod: &GoMod,
+) -> Result<Option<&'a Version>, AllocError>
+    ensures { IfOk result (λ found. (path : List ℕ) → AllOf path versions.now
+        → option_copied found ≡ spec.highest (spec.unretracted gomod.now versions.now)) }
 {
-    let place = latest(versions, gomod)?;
-    versions.get(place)
+    match latest_of(alloc, versions, gomod)? {
+        Some(place) => Ok(versions.get(place)),
+        None => Ok(None),
+    }
 }
 
 /// Returns the highest by rank of those versions of one path that the go.mod does not retract, or None if there are none
@@ -101,7 +107,7 @@ pub fn latest_left(
     let Some(gomod) = gomod else {
         return Ok(None);
     };
-    match highest_left(versions, &gomod) {
+    match highest_left(alloc, versions, &gomod)? {
         None => Ok(None),
         Some(version) => Ok(Some(version.copy(alloc)?)),
     }

@@ -1,12 +1,19 @@
-use Rattle.std.proofs.Common.{ap, ◌∙◌, Some, None, option_copied}
+use Rattle.std.proofs.Common.{◌≡◌, subst, sym, ◌∙◌, Some, None, rules}
+use Rattle.latest.specs.Latest.{NamesTop, unretracted}
 use Rattle.world.proofs.Tops.{lent_at, names_highest_left}
 use Rattle.world.proofs.versions.highest_left.Goals as goal
 
-pub returns-in_err-place : goal.returns-in_err-place
-returns-in_err-place c =
-    λ path all. ap option_copied c.from_residual.ensures ∙ names_highest_left c.args.gomod.now path c.args.versions.now all None c.in_err-place.ensures
+pub returns-in-Some : goal.returns-in-Some
+returns-in-Some c = λ path all.
+    let m = c.args.gomod.now in
+    let vs = c.args.versions.now in
+    let e : c.in_ok-place.field-0 ≡ Some c.in-Some.place = search rules in
+    lent_at vs c.in-Some.place c.get.result c.get.ensures.lookup
+    ∙ names_highest_left m path vs all (Some c.in-Some.place) (subst (NamesTop vs (unretracted vs m)) e c.in_ok-place.ensures)
 
-pub returns : goal.returns
-returns c =
-    λ path all. lent_at c.args.versions.now c.in_ok-place.place c.get.result c.get.ensures.lookup
-    ∙ names_highest_left c.args.gomod.now path c.args.versions.now all (Some c.in_ok-place.place) c.in_ok-place.ensures
+pub returns-in-None : goal.returns-in-None
+returns-in-None c = λ path all.
+    let m = c.args.gomod.now in
+    let vs = c.args.versions.now in
+    let e : c.in_ok-place.field-0 ≡ None = search rules in
+    names_highest_left m path vs all None (subst (NamesTop vs (unretracted vs m)) e c.in_ok-place.ensures)

@@ -11,7 +11,7 @@ use std::marker::Model;
 use text::Text;
 use world::names::COMMON;
 
-/// The group of each of some shelves, or None if it has none, so that a store need not query the tables again.
+/// Cached groups of shelves, so that a store need not query the tables again. A shelf without a group is cached with None.
 /// A shelf's group never changes, so a cached one is never wrong. Contracts see a map from shelves to their groups.
 #[derive(Drop)]
 pub struct Groups {

@@ -59,8 +59,8 @@ impl KeptHeading {
     }
 }
 
-/// Cached headings. If one more has no room, those that were asked for longest ago go. A publish and a new team can change what
-/// a shelf sees of a version, so each of them empties the cache.
+/// Cached headings. The cache makes room by dropping those that were asked for longest ago. A publish or a new team can change
+/// what a shelf sees of a version, so each empties the cache.
 pub type Headings = Recent<KeptHeading>;
 
 impl Recent<KeptHeading> {

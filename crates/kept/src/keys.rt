@@ -23,7 +23,7 @@ pub struct KeptKey {
     pub(crate) holder: Holder,
 }
 
-/// Cached keys. If one more has no room, the key that was used longest ago goes.
+/// Cached keys. The cache makes room by dropping the key that was used longest ago.
 pub type Keys = Recent<KeptKey>;
 
 impl Recent<KeptKey> {
@@ -87,8 +87,8 @@ impl KeptKey {
     }
 }
 
-/// Returns the number under which a key is cached. Two keys with one number replace each other, and the text in a cached key says
-/// which one it is.
+/// Returns the number under which a key is cached. Two keys with the same number replace each other; the text in a cached key
+/// says which key it is.
 fn number_of(key: &str) -> u64 {
     let mut hasher = FoldHasher::default();
     hasher.write(key.as_bytes());

@@ -1,10 +1,10 @@
 //! What a store keeps from call to call, so that it need not query its tables again.
 //!
-//! | module | what it keeps | until when it is right |
+//! | module | what it keeps | valid until |
 //! |---|---|---|
 //! | `lists` | the versions of a path that a shelf sees, and the latest of them | the path gets a version, or a team is added |
-//! | `groups` | the group of a shelf, or that it has none | for good: the group of a shelf never changes |
-//! | `zips` | the zip of the entry at a place | for good: an entry never changes |
+//! | `groups` | the group of a shelf, or that it has none | forever: the group of a shelf never changes |
+//! | `zips` | the zip of the entry at a place | forever: an entry never changes |
 //! | `headings` | what a shelf sees of a version, without its zip | any path gets a version, or a team is added |
 //! | `keys` | what a key holds | a key is revoked |
 //! | `total` | how many versions there are | any path gets a version, which raises it |

@@ -64,8 +64,8 @@ impl KeptList {
     }
 }
 
-/// Cached lists of the versions of paths that a shelf sees, in ascending precedence, and the latest of them. If a list has no
-/// room, the lists that were asked for longest ago go.
+/// Cached lists of the versions of paths that a shelf sees, in ascending precedence, and the latest of them. The cache makes room
+/// by dropping the lists that were asked for longest ago.
 pub type Lists = Recent<KeptList>;
 
 impl Recent<KeptList> {
@@ -238,8 +238,8 @@ impl Recent<KeptList> {
     }
 }
 
-/// Returns the number under which the list of a shelf and a path is cached. Two lists with one number replace each other, and
-/// the names in a list say whose it is.
+/// Returns the number under which the list of a shelf and a path is cached. Two lists with the same number replace each other; the
+/// names in a list say whose it is.
 fn number_of(shelf: &str, path: &str) -> u64 {
     let mut hasher = FoldHasher::default();
     hasher.write(shelf.as_bytes());

@@ -8,11 +8,11 @@ use lru::LruCache;
 use std::alloc::{AllocError, Global};
 use std::marker::Model;
 
-/// Values with their weights, those that were asked for last first. It drops none by itself.
+/// Values with their weights, the one that was asked for last first. It drops nothing by itself.
 type Cache<V> = LruCache<u64, (usize, V)>;
 
-/// Values under numbers, which together weigh at most a fixed figure. If a new value has no room, those that were asked for
-/// longest ago go. Contracts see each value with its number and its weight.
+/// Values under numbers, which together weigh at most a fixed figure. To make room for a new value, it drops those that were
+/// asked for longest ago. Contracts see each value with its number and its weight.
 #[derive(Drop)]
 pub struct Recent<V> {
     pub(crate) cache: Option<Cache<V>>,

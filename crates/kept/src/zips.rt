@@ -18,7 +18,7 @@ const MOST_WEIGHT: usize = 2 * (MAX_ZIP + ZIP_WEIGHT);
 /// What a zip weighs beside its memory: the names of its place, and its place among the others.
 const ZIP_WEIGHT: usize = 512;
 
-/// The zip of an entry, with the place where that stands.
+/// The zip of an entry, with the place of the entry.
 #[derive(Drop)]
 pub struct KeptZip {
     pub(crate) place: Place,
@@ -35,7 +35,7 @@ impl KeptZip {
             && self.place.version.as_str() == version
     }
 
-    /// Returns the zip of the entry at a place, without copying it. None if memory runs out or the zip can't be shared.
+    /// Returns the zip of the entry at a place without copying it, or None if memory runs out or the zip cannot be shared.
     fn of(alloc: Global, shelf: &str, path: &str, version: &str, zip: &Bytes) -> Option<KeptZip>
         ensures { IfSome result (λ it. it ≡ record { place = place shelf.now path.now version.now; zip = zip.now }) }
     {
@@ -47,8 +47,8 @@ impl KeptZip {
     }
 }
 
-/// Zips of entries. An entry never changes, so none is ever wrong. Where one more has no room, those that were asked
-/// longest ago go. A zip is found by where its entry stands, so all shelves that see the entry share it.
+/// Cached zips of entries. An entry never changes, so a cached zip is never wrong. The cache makes room by dropping the zips that
+/// were asked for longest ago. It finds a zip by the place of its entry, so all shelves that see the entry share the zip.
 pub type Zips = Recent<KeptZip>;
 
 impl Recent<KeptZip> {
@@ -129,8 +129,8 @@ impl Recent<KeptZip> {
     }
 }
 
-/// Returns the number under which what is cached of a shelf and a version is found. Two with one number replace each other, and
-/// the names in each say whose it is.
+/// Returns the number under which a zip or a heading is cached, by its shelf and its version. Two with the same number replace
+/// each other; the names in each say whose it is.
 pub(crate) fn number_of(shelf: &str, path: &str, version: &str) -> u64 {
     let mut hasher = FoldHasher::default();
     hasher.write(shelf.as_bytes());

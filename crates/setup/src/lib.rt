@@ -1,6 +1,6 @@
 //! Sets up a store on a connection: finds or makes its tables, or fills them with shelves of another store.
 //!
-//! The crate `store` makes calls of a store of the calls here. Each call uses connections, and nothing that a store keeps.
+//! The crate `store` builds the calls of a store on those here. They use connections, and nothing that a store caches.
 //!
 //! | call | what it calls |
 //! |---|---|

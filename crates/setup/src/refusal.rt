@@ -8,8 +8,8 @@ use sqlite::{Error, ErrorCode};
 /// Why a call that opens a store, copies one or a part of it, or migrates one, fails.
 #[derive(Clone, Copy, Debug, PartialEq, Eq)]
 pub enum Refusal {
-    /// A disk failed, the system or the name does not let a file be opened, the connection is closed, in a
-    /// transaction or limited in its steps, or a table has 2^64 rows, one for each rowid.
+    /// A disk failed, a file cannot be opened, the connection is closed, in a transaction or limited in its steps, or a table
+    /// has 2^64 rows, one for each rowid.
     Device,
     /// Memory ran out.
     Memory,
@@ -17,7 +17,7 @@ pub enum Refusal {
     BadSchema,
     /// The fresh store has more than `common`: another shelf, a key or an entry.
     NotEmpty,
-    /// There is no such team, or none is named. `common` and groups are no teams.
+    /// There is no such team, or none is named. Neither `common` nor a group is a team.
     NoTeam,
 }
 

@@ -1,6 +1,6 @@
 //! The SQL statements that read and change the tables of a store.
 //!
-//! The crate `tables` defines the tables and the world that they stand for; the crate `store` makes a store of the calls here.
+//! The crate `tables` defines the tables and the world that they stand for; the crate `store` builds a store on the calls here.
 //! Each call uses a `Connection`, or a `Transaction` of one, and nothing else. Its contract says what becomes of the world
 //! that the tables stand for, and what a crash may leave.
 //!
@@ -13,7 +13,7 @@
 //! | `registry::find_shelf` | read the row of `shelf` that has the name |
 //! | `shelves::find_shelves` | read all rows of `shelf` |
 //! | `entries::find_seen` | read the row of `version` on each shelf in turn, up to the first that has one, and no row of `piece` |
-//! | `outlines::find_outline` | those of `find_seen`, then read the last row of `piece`, and look for one more behind a full one |
+//! | `outlines::find_outline` | those of `find_seen`, then read the last row of `piece`, and look for one more after a full one |
 //! | `entries::find_entry` | those of `find_seen`, then read the last row of `piece` of the version, then all in order |
 //! | `compare::find_standing` | those of `find_seen`; if it is equal, read rows of `piece` by number, up to the first that differs |
 //! | `visible::find_versions`, `find_paths` | read rows of `version` on each shelf in turn |

@@ -1,4 +1,4 @@
-//! How long the files of an entry are. No zip is read for it but a piece.
+//! Reads how long the files of an entry are. Of a zip it reads one piece.
 
 ghost use Rattle.std.specs.Prelude.{◌≡◌, ◌≤◌, ℕ, List, length, map as each, pos, IfOk, IfSome, OnOk, IsTrue};
 ghost use Rattle.sqlite.specs.declared.types.Value.TheVariants.{Int, Blob};
@@ -18,14 +18,14 @@ use outline::outlines::Outline;
 use sqlite::{Alter, Connection, Error, ErrorCode, Row, params};
 use tables::pieces::PIECE_SIZE;
 
-/// A piece of a zip by its number, with how many bytes it has.
+/// A piece of a zip: its number, and how many bytes it has.
 #[derive(Clone, Copy)]
 pub(crate) struct Piece {
     pub(crate) number: u32,
     pub(crate) size: usize,
 }
 
-/// The piece that a row shows. A row with more bytes than a piece can have is corrupt.
+/// Returns the piece that a row shows. Fails with `DatabaseCorrupt` if the row has more bytes than a piece can have.
 fn read_piece(row: &Row) -> Result<Piece, Error>
     ensures number { IfOk result (λ it. column row.now 0 ≡ Int (pos it.number)) }
     ensures size { IfOk result (λ it. (bytes : List ℕ) → column row.now 1 ≡ Blob bytes → it.size ≡ length bytes) }
@@ -39,8 +39,8 @@ fn read_piece(row: &Row) -> Result<Piece, Error>
     Ok(Piece { number, size })
 }
 
-/// A piece of the zip of the version that has this number; None if the zip is empty.
-/// It is the one with the highest number, which is seen by `ends_with` and not taken from the statement.
+/// Returns the last piece of the zip of version `id`, or None if the zip is empty.
+/// The contract says only that it is a piece of the zip. `ends_with` shows that it is the last, not the order of the statement.
 fn find_last<S: Alter>(conn: &mut Connection<S>, id: i64) -> Result<Option<Piece>, Error>
     ensures spares { Spares (state S.Store conn.old) (state S.Store conn.new) }
     ensures same { InEachWorld (state S.Store conn.old) (state S.Store conn.new) (λ old new _.
@@ -59,8 +59,8 @@ fn find_last<S: Alter>(conn: &mut Connection<S>, id: i64) -> Result<Option<Piece
     }
 }
 
-/// Whether the zip of the version that has this number ends with a piece. One that is not full is the last. Behind a
-/// full one it looks for another.
+/// Reports whether a piece is the last of the zip of version `id`. A piece that is not full is the last. After a full one it
+/// looks for another.
 fn ends_with<S: Alter>(conn: &mut Connection<S>, id: i64, last: Piece) -> Result<bool, Error>
     ensures spares { Spares (state S.Store conn.old) (state S.Store conn.new) }
     ensures answer { InEachWorld (state S.Store conn.old) (state S.Store conn.new) (λ old new _.
@@ -75,8 +75,8 @@ fn ends_with<S: Alter>(conn: &mut Connection<S>, id: i64, last: Piece) -> Result
     }
 }
 
-/// How many bytes the zip of the version that has this number has. Of its pieces it reads the last alone. If another
-/// stands behind that, the call fails.
+/// Returns how many bytes the zip of version `id` has. It reads the last piece only, and fails with `DatabaseCorrupt` if another
+/// piece follows it.
 fn find_zip_length<S: Alter>(conn: &mut Connection<S>, id: i64) -> Result<usize, Error>
     ensures spares { Spares (state S.Store conn.old) (state S.Store conn.new) }
     ensures answer { InEachWorld (state S.Store conn.old) (state S.Store conn.new) (λ old new _.
@@ -91,7 +91,7 @@ fn find_zip_length<S: Alter>(conn: &mut Connection<S>, id: i64) -> Result<usize,
     Ok(last.number as usize * PIECE_SIZE + last.size)
 }
 
-/// The outline of the entry of a version on the first of these shelves that has one.
+/// Returns the outline of the entry of a version on the first of these shelves that has it, or None if none has.
 pub fn find_outline<S: Alter>(
     conn: &mut Connection<S>,
     shelves: &[&str],

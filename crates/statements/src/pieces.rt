@@ -38,7 +38,7 @@ pub(crate) fn find_piece<S: Alter>(
     )
 }
 
-/// Returns the bytes in a column of a row, which lends them. Fails with `DatabaseCorrupt` if the column is no BLOB.
+/// Borrows the bytes in a column of a row. Fails with `DatabaseCorrupt` if the column is not a BLOB.
 pub(crate) fn lent_bytes(row: &Row, at: usize) -> Result<&[u8], Error>
     ensures { IfOk result (λ bytes. column row.now at ≡ Blob bytes.now) }
 {
@@ -106,7 +106,7 @@ pub(crate) fn find_zip<S: Alter>(
     Err(Error::SqliteFailure(ErrorCode::TooBig))
 }
 
-/// Reports whether these bytes are the zip of version `id`. It compares each piece with the bytes that its row lends, and
+/// Reports whether these bytes are the zip of version `id`. It compares each piece with the bytes in its row, and
 /// stops at the first piece that differs. The connection keeps the compiled look-up.
 pub(crate) fn has_zip<S: Alter>(
     conn: &mut Connection<S>,

@@ -131,7 +131,7 @@ fn insert_key<S: Alter>(
     }
 }
 
-/// Returns what adding a well-formed key comes to: `NoTeam` if there is no such shelf, `Taken` if the key exists, otherwise
+/// Returns the outcome of adding a well-formed key: `NoTeam` if there is no such shelf, `Taken` if the key exists, otherwise
 /// `Done`.
 fn judge_key<S: Alter>(
     conn: &mut Connection<S>,
@@ -194,7 +194,7 @@ fn insert_shelf<S: Alter>(
     }
 }
 
-/// Returns what adding a team with a valid name comes to: `Taken` if the name is taken, `NoGroup` if a group is named and there
+/// Returns the outcome of adding a team with a valid name: `Taken` if the name is taken, `NoGroup` if a group is named and there
 /// is no such group, otherwise `Done`.
 fn judge_team<S: Alter>(
     conn: &mut Connection<S>,
@@ -238,7 +238,7 @@ pub fn add_team<S: Alter>(
     Ok(registered)
 }
 
-/// Returns what adding a group with a valid name comes to: `Taken` if the name is taken, otherwise `Done`.
+/// Returns the outcome of adding a group with a valid name: `Taken` if the name is taken, otherwise `Done`.
 fn judge_group<S: Alter>(conn: &mut Connection<S>, name: &str) -> Result<Registered, Error>
     requires { is_team_name name.now ≡ true }
     ensures spares { Spares (state S.Store conn.old) (state S.Store conn.new) }

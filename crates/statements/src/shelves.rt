@@ -12,7 +12,7 @@ use sqlite::{Alter, Connection, Error, Row};
 use std::alloc::Global;
 use text::Text;
 
-/// Returns the shelf that a row shows by its parent and its name.
+/// Returns the shelf that a row shows, with its name and its parent.
 fn read_shelf(row: &Row) -> Result<Shelf, Error>
     ensures { IfOk result (λ shelf. ShowsShelf row.now shelf) }
 {

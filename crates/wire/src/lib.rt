@@ -1,5 +1,5 @@
 //! The server's side of HTTP/1.1 on bytes: reads what a request asks for, and writes the bytes of replies. The messages of
-//! a stream come from `framing`, which this crate passes on.
+//! a stream come from `framing`, which this crate re-exports.
 //!
 //! A target is `/k/`, a key, `/` and a rest, which is percent-decoded once (RFC 3986, section 2.1) and contains a module
 //! path and a version in the escaped form of the Go Modules Reference ("GOPROXY protocol"). In a GET below `/@v/`, one

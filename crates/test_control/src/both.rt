@@ -26,7 +26,7 @@ fn serve<S: Shelves + Drop>(rt: &HostRuntime, doors: &mut Doors, mut shelves: S,
     );
 }
 
-/// A peer who has sent a request.
+/// Returns a peer that has sent a request.
 fn peer_at(rt: &HostRuntime, port: u16) -> io::Result<TcpStream> {
     let mut peer = TcpStream::connect(rt, ("127.0.0.1", port))?;
     peer.write_all(GET)?;
@@ -34,14 +34,14 @@ fn peer_at(rt: &HostRuntime, port: u16) -> io::Result<TcpStream> {
     Ok(peer)
 }
 
-/// An operator who has sent an order.
+/// Returns an operator that has sent an order.
 fn operator_at(rt: &HostRuntime, path: &str) -> io::Result<UnixStream> {
     let mut operator = UnixStream::connect(rt, path)?;
     operator.write_all(b"team-add alpha\n")?;
     Ok(operator)
 }
 
-/// Whether a peer was answered.
+/// Reports whether a peer was answered.
 fn is_answered(rt: &HostRuntime, peer: TcpStream) -> io::Result<bool> {
     let reply = io::read_to_string(rt.alloc(), peer)?;
     Ok(reply.as_str().starts_with("HTTP/1.1 404 "))

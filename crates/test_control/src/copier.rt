@@ -1,10 +1,10 @@
-//! What copies a store of a test, and counts what it keeps.
+//! A double of what copies a store and counts its versions.
 use control::{Copies, CopyRefusal};
 use world::registry::StoreFault;
 use world::shelves::Shelves;
 
-/// Makes no copy, and tells what the path says: `full` is not empty, `small` wants memory, and nothing can be opened without a name.
-/// Counts nothing, and tells this number.
+/// Makes no copy, and fails for three paths: for `full` with `NotEmpty`, for `small` with `Memory`, for the empty one with `Device`.
+/// Counts nothing, and returns this number.
 #[derive(Drop)]
 pub(crate) struct Copier {
     pub(crate) versions: u64,

@@ -78,7 +78,7 @@ one.db|bad|copy one.db|Io
 one.db||copy one.db|Io
 a path|done||Name";
 
-/// What a server tells of its health, what is printed, and how the command ends.
+/// What a server replies to a ping, what is printed, and how the command ends.
 const HEALTHS: &str = "\
 connections=124 2xx=100 4xx=20 5xx=3 unanswered=1 store-failures=0 since=2026-11-26T18:40:00Z versions=12345|\
 connections=124 2xx=100 4xx=20 5xx=3 unanswered=1 store-failures=0 since=2026-11-26T18:40:00Z versions=12345|done
@@ -92,7 +92,7 @@ done||Io
 bad||Io
 ||Io";
 
-/// A column of a row.
+/// Returns a column of a row, or the empty text if the row has no such column.
 fn column(row: &str, place: usize) -> &str {
     row.split('|').nth(place).unwrap_or("")
 }
@@ -129,7 +129,7 @@ fn order_at(number: &str) -> Order<'static> {
     }
 }
 
-/// A tally whose counts all differ.
+/// Returns a tally whose counts all differ.
 fn some_tally() -> Result<Tally, Fail> {
     let Ok(since) = read_time("2026-11-26T18:40:00Z") else {
         return Err(Fail::from("no time"));
@@ -181,7 +181,7 @@ fn ended(alloc: Global, told: Result<(), CommandRefusal>) -> Result<String, Fail
     }
 }
 
-/// Whether what was sent is the line of a row, and the command ended as its row says.
+/// Reports whether what was sent is the line of a row, and the command ended as its row says.
 fn is_row(
     alloc: Global,
     row: &str,
@@ -195,7 +195,7 @@ fn is_row(
     Ok(sent == line.as_bytes() && ended(alloc, told)?.as_str() == column(row, 3))
 }
 
-/// Whether the line of a copy is sent, and the command ends as its row says.
+/// Reports whether the line of a copy is sent, and the command ends as its row says.
 fn is_copied(alloc: Global, row: &str) -> Result<bool, Fail> {
     let reply = format!(in alloc; "{}\n", column(row, 1))?;
     let mut sent = Vec::new(alloc);
@@ -203,7 +203,7 @@ fn is_copied(alloc: Global, row: &str) -> Result<bool, Fail> {
     is_row(alloc, row, &sent, told)
 }
 
-/// Whether the line of the order is sent, and the command ends as its row says.
+/// Reports whether the line of the order is sent, and the command ends as its row says.
 fn is_sent(alloc: Global, row: &str) -> Result<bool, Fail> {
     let reply = format!(in alloc; "{}\n", column(row, 1))?;
     let mut sent = Vec::new(alloc);
@@ -216,7 +216,7 @@ fn is_sent(alloc: Global, row: &str) -> Result<bool, Fail> {
     is_row(alloc, row, &sent, told)
 }
 
-/// Whether a ping is sent, and the command prints and ends as its row says.
+/// Reports whether a ping is sent, and the command prints and ends as its row says.
 fn is_pinged(alloc: Global, row: &str) -> Result<bool, Fail> {
     let reply = format!(in alloc; "{}\n", column(row, 0))?;
     let mut sent = Vec::new(alloc);

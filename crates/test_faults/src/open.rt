@@ -122,7 +122,7 @@ fn copy_of(alloc: Global, file: &Memory) -> Result<Memory, Fail> {
     Ok(copy)
 }
 
-/// Returns a copy of a file, whose machine stops after so many calls.
+/// Returns a copy of a file whose machine stops after this many calls.
 fn stopping(alloc: Global, file: &Memory, calls: u64) -> Result<Counted<Fuse<Memory>>, Fail> {
     Ok(Counted {
         file: Fuse::new(copy_of(alloc, file)?, calls),

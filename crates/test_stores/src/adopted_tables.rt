@@ -32,7 +32,7 @@ INSERT INTO piece VALUES (7, 0, X'5A');
 ///   and checks of others, the order and the text of tables.
 /// - Rows that stand for no world; then rows that do: other shelves and parents, a key of a group, another version, an empty zip, zips
 ///   of one full piece and of a byte more, and the last table made again as it was.
-/// - Rows of which one has the last rowid, and one the first too; and a limit of one step.
+/// - Tables with a row at the last rowid, and with one at the first too; and a limit of one step.
 pub const CASES: &str = "\
 empty|BadSchema None
 CREATE TABLE x (a INTEGER) STRICT
@@ -142,7 +142,7 @@ most|BadSchema Some(4097)
 INSERT INTO version SELECT 1, shelf, path, 'v1.0.1', NULL, mod, X'00000000000000010000000000000000000000000000000103', X'0300000000000000010000000000000000000000000000000103' FROM version WHERE id = 7
 ";
 
-/// Publishes into tables of which one row has the last rowid, and reads what they stored.
+/// Publishes into tables that have a row at the last rowid, and reads what they stored.
 const BELOW: &str = "\
 PUT A example.com/own/@v/v1.0.0 | 201 Created | plain | published; | module example.com/own; | a
 PUT A example.com/own/@v/v1.1.0 | 201 Created | plain | published; | module example.com/own; | b
@@ -154,7 +154,7 @@ GET A example.com/lib/@v/v1.1.0.zip | 200 OK | zip | YY
 failures = 0
 ";
 
-/// A publish into tables of which one row has the last rowid and one the first.
+/// A publish into tables that have a row at the last rowid and one at the first.
 const NONE_BELOW: &str = "\
 insert|alpha|example.com/own|v1.0.0|module example.com/own; = Device
 failures = 1

@@ -1,4 +1,4 @@
--- The tokens that are computed of a line, its fault, and the same tokens at another place.
+-- The tokens that are computed of a line, its fault, and the same tokens at another offset.
 use Rattle.std.proofs.Common.{◌≡◌, ℕ, zero, suc, ◌+◌, ◌-◌, ◌≤◌, take, List, [], ◌∷◌, map, length, refl, ap, arith, Option, Some, None, Result, Ok, Err, ◌⊎◌, inl, inr, ⊎_elim}
 use Rattle.modlex.specs.declared.lexer.Kind.{Kind}
 use Rattle.modlex.specs.declared.lexer.TokenFault.{TokenFault}
@@ -16,12 +16,12 @@ pub record Moved (line at : ℕ) (bytes : List ℕ) (ts : List Lexeme) : Type 0 
   pub are : AreTokens line at bytes tokens
   pub same : map symbol_of tokens ≡ map symbol_of ts
 
-pub moved : (line at n place : ℕ) (bytes : List ℕ) (ts : List Lexeme) → AreTokens line at bytes ts → Moved n place bytes ts
-moved line at n place bytes [] h = record { tokens = []; are = h; same = refl }
-moved line at n place bytes (t ∷ ts) h =
-    let more = moved line (at + length h.0 + length t.text) n (place + length h.0 + length t.text) h.1 ts h.6 in
+pub moved : (line at n offset : ℕ) (bytes : List ℕ) (ts : List Lexeme) → AreTokens line at bytes ts → Moved n offset bytes ts
+moved line at n offset bytes [] h = record { tokens = []; are = h; same = refl }
+moved line at n offset bytes (t ∷ ts) h =
+    let more = moved line (at + length h.0 + length t.text) n (offset + length h.0 + length t.text) h.1 ts h.6 in
     record {
-      tokens = lexeme t.kind n (place + length h.0) t.text ∷ more.tokens;
+      tokens = lexeme t.kind n (offset + length h.0) t.text ∷ more.tokens;
       are = (h.0, h.1, h.2, h.3, h.4, refl, more.are);
       same = ap (λ l. symbol_of t ∷ l) more.same;
     }

@@ -68,16 +68,16 @@ record First (line at : ℕ) (ls : List (List ℕ)) (e : TokenFault) : Type 0 wh
   others : List (List ℕ)
   split : ls ≡ before ++ faulty ∷ others
   above : (tss : List (List Lexeme)) × AreTokensOf line at before tss
-  none : (place : ℕ) (ts : List Lexeme) → ¬ AreTokens (line + length before) place faulty ts
+  none : (offset : ℕ) (ts : List Lexeme) → ¬ AreTokens (line + length before) offset faulty ts
   is : e ≡ faults.Lex (line + length before)
 
 then_err : (ts : List Lexeme) (r : Result (List Lexeme) TokenFault) (e : TokenFault) → tokens_then ts r ≡ Err e → r ≡ Err e
 then_err ts (Ok vs) e h = cc
 then_err ts (Err d) e h = h
 
-none_by : (line at n place : ℕ) (l : List ℕ) (e : TokenFault) → line_tokens line at l ≡ Err e → (ts : List Lexeme) → ¬ AreTokens n place l ts
-none_by line at n place l e is ts are =
-    let there = moved n place line at l ts are in
+none_by : (line at n offset : ℕ) (l : List ℕ) (e : TokenFault) → line_tokens line at l ≡ Err e → (ts : List Lexeme) → ¬ AreTokens n offset l ts
+none_by line at n offset l e is ts are =
+    let there = moved n offset line at l ts are in
     let some = tokens_behind-all line at l there.tokens there.are in cc
 
 -- a fault of lines is that of the first line, or the fault of the others, and the lines above it have tokens
@@ -93,7 +93,7 @@ first_by line at l ls e (Err d) is more h =
       others = ls;
       split = refl;
       above = ([], tt);
-      none = λ place ts. none_by line at (line + 0) place l d is ts;
+      none = λ offset ts. none_by line at (line + 0) offset l d is ts;
       is = sym same ∙ tokens_fault 0 line at l d is ∙ ap (λ n. faults.Lex n) number;
     }
 first_by line at l ls e (Ok ts) is more h =
@@ -105,7 +105,7 @@ first_by line at l ls e (Ok ts) is more h =
       others = rest.others;
       split = ap (λ x. l ∷ x) rest.split;
       above = (ts ∷ rest.above.0, (tokens_are line at l ts is, rest.above.1));
-      none = subst (λ n. (place : ℕ) (us : List Lexeme) → ¬ AreTokens n place rest.faulty us) number rest.none;
+      none = subst (λ n. (offset : ℕ) (us : List Lexeme) → ¬ AreTokens n offset rest.faulty us) number rest.none;
       is = rest.is ∙ ap (λ n. faults.Lex n) number;
     }
 
@@ -119,7 +119,7 @@ no_line line at n l (Err e) is none = ap (λ d. Err d) (tokens_fault 0 line at l
 
 -- if each line above has tokens and this one cannot be split into tokens, the fault is this line's
 first_line : (line at : ℕ) (before : List (List ℕ)) (l : List ℕ) (others : List (List ℕ)) (tss : List (List Lexeme)) → AreTokensOf line at before tss
-    → ((place : ℕ) (ts : List Lexeme) → ¬ AreTokens (line + length before) place l ts) → lines_tokens line at (before ++ l ∷ others) ≡ Err (faults.Lex (line + length before))
+    → ((offset : ℕ) (ts : List Lexeme) → ¬ AreTokens (line + length before) offset l ts) → lines_tokens line at (before ++ l ∷ others) ≡ Err (faults.Lex (line + length before))
 first_line line at [] l others tss h none =
     let number : line + 0 ≡ line = omega arith in
     let bad = no_line line at 0 l (line_tokens line at l) refl (λ ts. subst (λ n. ¬ AreTokens n at l ts) number (none at ts)) in
@@ -128,7 +128,7 @@ first_line line at (m ∷ before) l others [] h none = absurd h
 first_line line at (m ∷ before) l others (ts ∷ tss) h none =
     let here = tokens_behind-all line at m ts h.0 in
     let number : line + length (m ∷ before) ≡ line + 1 + length before = omega arith in
-    let rest = first_line (line + 1) (at + length m + 1) before l others tss h.1 (subst (λ n. (place : ℕ) (us : List Lexeme) → ¬ AreTokens n place l us) number none) in
+    let rest = first_line (line + 1) (at + length m + 1) before l others tss h.1 (subst (λ n. (offset : ℕ) (us : List Lexeme) → ¬ AreTokens n offset l us) number none) in
     ap (line_then (lines_tokens (line + 1) (at + length m + 1) (before ++ l ∷ others))) here ∙ ap (tokens_then ts) rest ∙ ap (λ n. Err (faults.Lex n)) (sym number)
 
 -- the computed fault of a text is exactly that of its first line that cannot be split into tokens
@@ -145,7 +145,7 @@ text_tokens-fault text e = (
           split = f.split;
           number = refl;
           above = f.above;
-          none = subst (λ n. (place : ℕ) (us : List Lexeme) → ¬ AreTokens n place f.faulty us) number f.none;
+          none = subst (λ n. (offset : ℕ) (us : List Lexeme) → ¬ AreTokens n offset f.faulty us) number f.none;
         },
         f.is ∙ ap (λ n. faults.Lex n) number,
       )
@@ -153,7 +153,7 @@ text_tokens-fault text e = (
   λ x. (
       let number : x.0 ≡ 1 + length x.1.before = omega (arith, x.1.number) in
       ap (lines_tokens 1 0) x.1.split
-      ∙ first_line 1 0 x.1.before x.1.faulty x.1.others x.1.above.0 x.1.above.1 (subst (λ n. (place : ℕ) (us : List Lexeme) → ¬ AreTokens n place x.1.faulty us) number x.1.none)
+      ∙ first_line 1 0 x.1.before x.1.faulty x.1.others x.1.above.0 x.1.above.1 (subst (λ n. (offset : ℕ) (us : List Lexeme) → ¬ AreTokens n offset x.1.faulty us) number x.1.none)
       ∙ ap (λ n. Err (faults.Lex n)) (sym number) ∙ ap (λ d. Err d) (sym x.2)
       ),
 )
@@ -228,8 +228,8 @@ record InLine (text : List ℕ) (at to : ℕ) (ts : List Lexeme) : Type 0 where
 line_order : (text front bytes back : List ℕ) (line at : ℕ) (ts : List Lexeme) → text ≡ front ++ (bytes ++ back)
     → at ≡ length front → AreTokens line at bytes ts → InLine text at (at + length bytes) ts
 unfolding end_of
-line_order text front bytes back line at [] is place h = record { order = tt; within = omega arith }
-line_order text front bytes back line at (t ∷ ts) is place h =
+line_order text front bytes back line at [] is offset h = record { order = tt; within = omega arith }
+line_order text front bytes back line at (t ∷ ts) is offset h =
     let gap = h.0 in
     let rest = h.1 in
     let start : ℕ = at + length gap in
@@ -238,7 +238,7 @@ line_order text front bytes back line at (t ∷ ts) is place h =
     let cut : text ≡ (front ++ gap) ++ (t.text ++ (rest ++ back)) =
     is ∙ ap (λ b. front ++ (b ++ back)) h.4 ∙ ap (λ b. front ++ b) (append_assoc gap (t.text ++ rest) back ∙ ap (λ b. gap ++ b) (append_assoc t.text rest back))
     ∙ sym (append_assoc front gap (t.text ++ (rest ++ back))) in
-    let before : length (front ++ gap) ≡ start = omega (arith, length-append front gap, place) in
+    let before : length (front ++ gap) ≡ start = omega (arith, length-append front gap, offset) in
     let behind : text ≡ ((front ++ gap) ++ t.text) ++ (rest ++ back) = cut ∙ sym (append_assoc (front ++ gap) t.text (rest ++ back)) in
     let there : start + length t.text ≡ length ((front ++ gap) ++ t.text) = omega (arith, length-append (front ++ gap) t.text, before) in
     let slice : slice_range text start (start + length t.text) ≡ t.text =
@@ -267,18 +267,18 @@ line_order text front bytes back line at (t ∷ ts) is place h =
 lines_order : (text front : List ℕ) (line at : ℕ) (ls : List (List ℕ)) (tss : List (List Lexeme))
     → text ≡ front ++ joined_lines ls → at ≡ length front → AreTokensOf line at ls tss → AreInOrder text at (all_of tss)
 unfolding joined_lines
-lines_order text front line at [] [] is place h = tt
-lines_order text front line at [] (ts ∷ tss) is place h = absurd h
-lines_order text front line at (l ∷ ls) [] is place h = absurd h
-lines_order text front line at (l ∷ []) (ts ∷ []) is place h =
+lines_order text front line at [] [] is offset h = tt
+lines_order text front line at [] (ts ∷ tss) is offset h = absurd h
+lines_order text front line at (l ∷ ls) [] is offset h = absurd h
+lines_order text front line at (l ∷ []) (ts ∷ []) is offset h =
     let whole : text ≡ front ++ (l ++ []) = is ∙ ap (λ b. front ++ b) (sym (append-nil l)) in
-    subst (AreInOrder text at) (sym (append-nil ts)) (line_order text front l [] line at ts whole place h.0).order
-lines_order text front line at (l ∷ []) (ts ∷ us ∷ tss) is place h = absurd h.1
-lines_order text front line at (l ∷ m ∷ ls) (ts ∷ tss) is place h =
-    let here = line_order text front l (10 ∷ joined_lines (m ∷ ls)) line at ts is place h.0 in
+    subst (AreInOrder text at) (sym (append-nil ts)) (line_order text front l [] line at ts whole offset h.0).order
+lines_order text front line at (l ∷ []) (ts ∷ us ∷ tss) is offset h = absurd h.1
+lines_order text front line at (l ∷ m ∷ ls) (ts ∷ tss) is offset h =
+    let here = line_order text front l (10 ∷ joined_lines (m ∷ ls)) line at ts is offset h.0 in
     let next : text ≡ (front ++ (l ++ 10 ∷ [])) ++ joined_lines (m ∷ ls) =
     is ∙ ap (λ b. front ++ b) (sym (append_assoc l (10 ∷ []) (joined_lines (m ∷ ls)))) ∙ sym (append_assoc front (l ++ 10 ∷ []) (joined_lines (m ∷ ls))) in
-    let there : at + length l + 1 ≡ length (front ++ (l ++ 10 ∷ [])) = omega (arith, length-append front (l ++ 10 ∷ []), length-append l (10 ∷ []), place) in
+    let there : at + length l + 1 ≡ length (front ++ (l ++ 10 ∷ [])) = omega (arith, length-append front (l ++ 10 ∷ []), length-append l (10 ∷ []), offset) in
     order_join text at (at + length l + 1) ts (all_of tss) here.order (let w = here.within in omega (arith, w))
     (lines_order text (front ++ (l ++ 10 ∷ [])) (line + 1) (at + length l + 1) (m ∷ ls) tss next there h.1)
 

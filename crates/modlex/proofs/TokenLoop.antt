@@ -60,19 +60,19 @@ pub first_of-take : (n : ℕ) (xs : List Lexeme) (r : Result (List Lexeme) Token
 first_of-take n xs (Ok ts) = ap (λ l. Ok l) (take-take_append n xs ts)
 first_of-take n xs (Err e) = refl
 
--- what the loop keeps: the first of the tokens so far, and those of the rest, begin as those of the line
+-- what holds in the loop: the first of the tokens so far, and those of the rest, begin as those of the line
 pub record ReadsOn (line start : ℕ) (text : List ℕ) (most : ℕ) (out : List Lexeme) (at : ℕ) (rest : List ℕ) : Type 0 where
-  pub told : first_of most (tokens_then out (tokens_behind 0 line at rest)) ≡ first_of most (tokens_behind 0 line start text)
+  pub reads : first_of most (tokens_then out (tokens_behind 0 line at rest)) ≡ first_of most (tokens_behind 0 line start text)
   pub room : at + length rest ≡ start + length text
   pub utf8 : shadow (Utf8 rest)
 
 -- a token joins those so far, if it is one of the first
 pub ReadsOn-token : {line start most at : ℕ} {text rest : List ℕ} {out : List Lexeme} (behind token : List ℕ) (kind : Kind) (n : ℕ)
     → ReadsOn line start text most out at rest → (0 < n) × (n ≤ length rest) → is_blank (get_or rest 0 0) ≡ false → is_slash_and 47 (get_or rest 0 0) (drop 1 rest) ≡ false
-    → lexeme_at rest ≡ Some (kind, n) → token ≡ take n rest → behind ≡ drop n rest → shadow (Utf8 behind) → (kept : List Lexeme)
-    → kept ≡ take most (out ++ record { kind = kind; line = line; span = record { start = at; end = at + n }; text = token } ∷ []) → ReadsOn line start text most kept (at + n) behind
+    → lexeme_at rest ≡ Some (kind, n) → token ≡ take n rest → behind ≡ drop n rest → shadow (Utf8 behind) → (more : List Lexeme)
+    → more ≡ take most (out ++ record { kind = kind; line = line; span = record { start = at; end = at + n }; text = token } ∷ []) → ReadsOn line start text most more (at + n) behind
 ReadsOn-token {line = line} {start = start} {most = most} {at = at} {text = text} {rest = rest} {out = out}
-    behind token kind n before within no_blank no_comment found token_is behind_is utf8 kept kept_is =
+    behind token kind n before within no_blank no_comment found token_is behind_is utf8 more more_is =
     let len : length token ≡ n = ap length token_is ∙ length-take-le n rest within.1 in
     let step = tokens_behind-token_at line at rest kind n (omega (arith, within)) no_blank no_comment found within.0 in
     let this : List Lexeme = record { kind = kind; line = line; span = record { start = at; end = at + n }; text = token } ∷ [] in
@@ -83,14 +83,14 @@ ReadsOn-token {line = line} {start = start} {most = most} {at = at} {text = text
     tokens_then-tokens_then out this left
     ∙ ap (tokens_then out) (ap (λ l. tokens_then this (tokens_behind 0 line (at + n) l)) behind_is ∙ ap (λ t. tokens_then t (tokens_behind 0 line (at + n) (drop n rest))) (sym same) ∙ sym step) in
     record {
-      told = ap (λ l. first_of most (tokens_then l left)) kept_is ∙ first_of-take most (out ++ this) left ∙ ap (first_of most) all ∙ before.told;
+      reads = ap (λ l. first_of most (tokens_then l left)) more_is ∙ first_of-take most (out ++ this) left ∙ ap (first_of most) all ∙ before.reads;
       room = omega (arith, ap length behind_is, length-drop n rest, before.room, within);
       utf8 = utf8;
     }
 
--- what the loop over the lines keeps: the tokens so far, and those of the lines that are left, are those of the text
+-- what holds in the loop over the lines: the tokens so far, and those of the lines that are left, are those of the text
 pub record ReadsLines (text : List ℕ) (out : List Lexeme) (number start : ℕ) (rest : List ℕ) : Type 0 where
-  pub told : tokens_then out (lines_tokens number start (lines rest)) ≡ text_tokens text
+  pub reads : tokens_then out (lines_tokens number start (lines rest)) ≡ text_tokens text
   pub room : start + length rest ≡ length text
   pub count : number ≤ start + 1
   pub utf8 : shadow (Utf8 rest)

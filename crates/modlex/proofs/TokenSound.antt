@@ -271,7 +271,7 @@ end_only line at bytes (t ∷ ts) end h = cc
 
 -- the tokens read from bytes that begin with neither a blank nor a comment are theirs, if that holds of all shorter bytes
 token_sound : (fuel line at b : ℕ) (bs : List ℕ) (ts : List Lexeme) (o : Option (Kind × ℕ))
-    → ((place : ℕ) (rest : List ℕ) (more : List Lexeme) → length rest ≤ fuel → tokens_behind 0 line place rest ≡ Ok more → AreTokens line place rest more) → length (b ∷ bs) ≤ suc fuel
+    → ((offset : ℕ) (rest : List ℕ) (more : List Lexeme) → length rest ≤ fuel → tokens_behind 0 line offset rest ≡ Ok more → AreTokens line offset rest more) → length (b ∷ bs) ≤ suc fuel
     → tokens_behind 0 line at (b ∷ bs) ≡ Ok ts → lexeme_at (b ∷ bs) ≡ o → is_blank b ≡ false → is_slash_and 47 b bs ≡ false → AreTokens line at (b ∷ bs) ts
 token_sound fuel line at b bs ts None below within h found no_blank no_comment =
     let bad = tokens_behind-none line at b bs no_blank no_comment found in cc
@@ -282,11 +282,11 @@ token_sound fuel line at b bs ts (Some x) below within h found no_blank no_comme
     let inside = after_one (lexeme x.0 line at (take x.1 (b ∷ bs))) (tokens_behind 0 line (at + x.1) (drop x.1 (b ∷ bs))) ts (sym step ∙ h) in
     let front : take x.1 (b ∷ bs) ≡ cuts.text = ap (take x.1) cuts.is ∙ take_at cuts.text cuts.rest x.1 (sym cuts.len) in
     let back : drop x.1 (b ∷ bs) ≡ cuts.rest = ap (drop x.1) cuts.is ∙ drop_at cuts.text cuts.rest x.1 (sym cuts.len) in
-    let place : at + x.1 ≡ at + 0 + length cuts.text = omega (arith, cuts.len) in
+    let offset : at + x.1 ≡ at + 0 + length cuts.text = omega (arith, cuts.len) in
     let here : at ≡ at + 0 = omega arith in
     let shorter : length cuts.rest ≤ fuel = omega (arith, within, some, cuts.len, ap length cuts.is, length-append cuts.text cuts.rest) in
     let more = below (at + 0 + length cuts.text) cuts.rest inside.0 shorter
-    (ap (tokens_behind 0 line (at + 0 + length cuts.text)) (sym back) ∙ ap (λ k. tokens_behind 0 line k (drop x.1 (b ∷ bs))) (sym place) ∙ inside.1) in
+    (ap (tokens_behind 0 line (at + 0 + length cuts.text)) (sym back) ∙ ap (λ k. tokens_behind 0 line k (drop x.1 (b ∷ bs))) (sym offset) ∙ inside.1) in
     let all : AreTokens line at (b ∷ bs) (lexeme x.0 line at cuts.text ∷ inside.0) =
     ([], cuts.rest, tt, cuts.lex, cuts.is, ap (λ k. lexeme x.0 line k cuts.text) here, more) in
     subst (AreTokens line at (b ∷ bs)) (ap (λ t. lexeme x.0 line at t ∷ inside.0) (sym front) ∙ inside.2) all

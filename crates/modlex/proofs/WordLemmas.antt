@@ -34,16 +34,16 @@ without_last-absent mark (b ∷ c ∷ bs) absent =
     ap (λ l. b ∷ l) (without_last-absent mark (c ∷ bs) (λ front e. absent (b ∷ front) (ap (λ l. b ∷ l) e)))
 
 -- what `strip_prefix` and `strip_suffix` with the text as their default give
-pub without_first-stripped : (mark : ℕ) (text kept : Bor (List ℕ)) (r : Option (Bor (List ℕ))) → MatchOption r (FindsCharPrefix mark text.now None) (λ x. (n : ℕ)
-    × FindsCharPrefix mark text.now (Some n) × (x.now ≡ drop n text.now) × (length x.now + n ≡ length text.now)) → mark < 128 → kept ≡ unwrap_or r text → kept.now ≡ without_first mark text.now
-without_first-stripped mark text kept None h small is = ap (λ x. x.now) is ∙ sym (without_first-absent mark text.now (strip_prefix_char mark text.now None h small))
-without_first-stripped mark text kept (Some x) h small is = ap (λ x. x.now) is ∙ sym (ap (without_first mark) (strip_prefix_char mark text.now (Some x) h small) ∙ without_first-there mark x.now)
+pub without_first-stripped : (mark : ℕ) (text left : Bor (List ℕ)) (r : Option (Bor (List ℕ))) → MatchOption r (FindsCharPrefix mark text.now None) (λ x. (n : ℕ)
+    × FindsCharPrefix mark text.now (Some n) × (x.now ≡ drop n text.now) × (length x.now + n ≡ length text.now)) → mark < 128 → left ≡ unwrap_or r text → left.now ≡ without_first mark text.now
+without_first-stripped mark text left None h small is = ap (λ x. x.now) is ∙ sym (without_first-absent mark text.now (strip_prefix_char mark text.now None h small))
+without_first-stripped mark text left (Some x) h small is = ap (λ x. x.now) is ∙ sym (ap (without_first mark) (strip_prefix_char mark text.now (Some x) h small) ∙ without_first-there mark x.now)
 
-pub without_last-stripped : (mark : ℕ) (text kept : Bor (List ℕ)) (r : Option (Bor (List ℕ)))
+pub without_last-stripped : (mark : ℕ) (text left : Bor (List ℕ)) (r : Option (Bor (List ℕ)))
     → MatchOption r (FindsCharSuffix mark text.now None) (λ x. (n : ℕ) × FindsCharSuffix mark text.now (Some n) × (x.now ≡ take (length text.now - n) text.now) × (length x.now + n ≡ length text.now))
-    → mark < 128 → kept ≡ unwrap_or r text → kept.now ≡ without_last mark text.now
-without_last-stripped mark text kept None h small is = ap (λ x. x.now) is ∙ sym (without_last-absent mark text.now (strip_suffix_char mark text.now None h small))
-without_last-stripped mark text kept (Some x) h small is = ap (λ x. x.now) is ∙ sym (ap (without_last mark) (strip_suffix_char mark text.now (Some x) h small) ∙ without_last-there mark x.now)
+    → mark < 128 → left ≡ unwrap_or r text → left.now ≡ without_last mark text.now
+without_last-stripped mark text left None h small is = ap (λ x. x.now) is ∙ sym (without_last-absent mark text.now (strip_suffix_char mark text.now None h small))
+without_last-stripped mark text left (Some x) h small is = ap (λ x. x.now) is ∙ sym (ap (without_last mark) (strip_suffix_char mark text.now (Some x) h small) ∙ without_last-there mark x.now)
 
 -- no byte is a backslash
 pub record IsPlain (xs : List ℕ) : Type 0 where
@@ -87,11 +87,11 @@ cut_has_escape text None h = tt
 cut_has_escape text (Some x) h = (x.0.now, x.1.now, (split_parts 92 text (Some x) h (lit< tt)).0)
 
 -- one turn: what stands before a backslash, and the character after it
-pub escape_kept : (before behind others whole : List ℕ) (c : ℕ) (out next last rest : List ℕ) → out ++ plain_text rest ≡ whole
+pub escape_turn : (before behind others whole : List ℕ) (c : ℕ) (out next last rest : List ℕ) → out ++ plain_text rest ≡ whole
     → plain_text rest ≡ before ++ plain_text (92 ∷ behind) → behind ≡ encode c ++ others → next ≡ out ++ before → last ≡ next ++ encode c → last ++ plain_text others ≡ whole
-escape_kept before behind others whole c out next last rest told cut first next_is last_is =
+escape_turn before behind others whole c out next last rest so_far cut first next_is last_is =
     ap (λ l. l ++ plain_text others) (last_is ∙ ap (λ l. l ++ encode c) next_is)
     ∙ append_assoc (out ++ before) (encode c) (plain_text others)
     ∙ append_assoc out before (encode c ++ plain_text others)
     ∙ ap (λ l. out ++ l) (ap (λ l. before ++ l) (sym (plain_text-char c others) ∙ ap (λ l. plain_text (92 ∷ l)) (sym first)) ∙ sym cut)
-    ∙ told
+    ∙ so_far

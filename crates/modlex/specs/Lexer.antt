@@ -52,7 +52,7 @@ view t = record { kind = t.kind; line = t.line; span = t.span; text = t.text.now
 abbrev pub views : List Token → List Lexeme
 views = map view
 
--- the lexeme of this kind and this text at a place in a line
+-- the lexeme of this kind and this text at an offset
 abbrev pub lexeme : Kind → ℕ → ℕ → List ℕ → Lexeme
 lexeme kind line at text = record { kind = kind; line = line; span = record { start = at; end = at + length text }; text = text }
 
@@ -73,7 +73,7 @@ tokens_behind zero line at (b ∷ bs) =
       | Some x ↦ tokens_then (lexeme x.0 line at (take x.1 (b ∷ bs)) ∷ []) (tokens_behind (x.1 - 1) line (at + 1) bs)
     ])
 
--- the tokens of a line, by its number, its place in the text and its bytes
+-- the tokens of a line, by its number, its offset in the text and its bytes
 abbrev pub line_tokens : ℕ → ℕ → List ℕ → Result (List Lexeme) TokenFault
 line_tokens line at bytes = tokens_behind 0 line at bytes
 

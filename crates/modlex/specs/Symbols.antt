@@ -1,11 +1,11 @@
--- The tokens of a line without their places.
+-- The tokens of a line without their lines and spans.
 use Rattle.std.specs.Prelude.{ℕ, Bool, true, false, List, map}
 use Rattle.modlex.specs.declared.lexer.Kind.{Kind}
 use Rattle.modlex.specs.declared.lexer.Kind.TheVariants as kinds
 use Rattle.modlex.specs.declared.lexer.Token.{Token}
 use Rattle.modlex.specs.Lexer.{Lexeme, view, views}
 
--- a token without its place
+-- a token without its line and span
 pub record Symbol : Type 0 where
   pub kind : Kind
   pub text : List ℕ

@@ -51,7 +51,7 @@ IsLexeme Raw text rest = (content : List ℕ) × IsRaw content × (text ≡ 96 �
 IsLexeme Arrow text rest = (text ≡ codes "=>") × IsRun text rest
 IsLexeme Name text rest = (0 < length text) × (text ≢ codes "=>") × IsRun text rest
 
--- the tokens of a line with this number, which begins at this place of the text: blanks may come before each, and
+-- the tokens of a line with this number, which begins at this offset of the text: blanks may come before each, and
 -- after the last come blanks and perhaps a comment
 abbrev pub AreTokens : ℕ → ℕ → List ℕ → List Lexeme → Type 0
 AreTokens line at bytes [] = (gap : List ℕ) × (rest : List ℕ) × AreBlank gap × IsEnd rest × (bytes ≡ gap ++ rest)
@@ -59,7 +59,7 @@ AreTokens line at bytes (t ∷ ts) =
     (gap : List ℕ) × (rest : List ℕ) × AreBlank gap × IsLexeme t.kind t.text rest × (bytes ≡ gap ++ (t.text ++ rest))
     × (t ≡ lexeme t.kind line (at + length gap) t.text) × AreTokens line (at + length gap + length t.text) rest ts
 
--- the tokens of each of several lines, the first of which has this number and begins at this place of the text
+-- the tokens of each of several lines, the first of which has this number and begins at this offset of the text
 abbrev pub AreTokensOf : ℕ → ℕ → List (List ℕ) → List (List Lexeme) → Type 0
 AreTokensOf line at [] [] = Unit {0}
 AreTokensOf line at (l ∷ ls) (ts ∷ tss) = AreTokens line at l ts × AreTokensOf (line + 1) (at + length l + 1) ls tss

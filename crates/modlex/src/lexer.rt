@@ -23,7 +23,7 @@ pub enum Kind {
     BracketRight,
 }
 
-/// The place of a token in the text: the index of its first byte, and the index after its last byte.
+/// Where a token is in the text: the index of its first byte, and the index after its last byte.
 #[derive(Clone, Copy, Debug, PartialEq, Eq)]
 pub struct Span {
     pub start: usize,
@@ -210,7 +210,7 @@ fn lexeme_at(bytes: &[u8]) -> Option<(Kind, usize)>
 }
 
 /// Replaces the content of `out` by the first tokens of a line, at most `most` of them. `line` is the
-/// number of the line and `start` its place in the whole text. It reads the line to its end, and fails
+/// number of the line and `start` its offset in the whole text. It reads the line to its end, and fails
 /// with [`TokenFault::Lex`] and the number if the line cannot be split into tokens, and with
 /// [`TokenFault::Memory`] if memory runs out.
 pub fn first_tokens<'a>(
@@ -264,7 +264,7 @@ pub fn first_tokens<'a>(
 /// Appends a token to `out`, unless `out` has `most` of them. It fails only if memory runs out.
 fn keep_token<'a>(out: &mut Vec<Token<'a>>, most: usize, token: Token<'a>) -> Result<(), AllocError>
     requires { length out.old.items ≤ most }
-    ensures kept { IfOk result (λ _. views out.new.items ≡ take most (views out.old.items ++ view token.entry ∷ [])) }
+    ensures tokens { IfOk result (λ _. views out.new.items ≡ take most (views out.old.items ++ view token.entry ∷ [])) }
     ensures bound { length out.new.items ≤ most }
 {
     if out.len() < most {

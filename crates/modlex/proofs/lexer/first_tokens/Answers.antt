@@ -39,6 +39,6 @@ scan-preserved c =
           (subst IsUtf8 (ap (drop c.in-Some-lexeme_at.len) bytes ∙ sym c.split_at-in-Some.ensures.back)
           (IsUtf8-drop _ c.in-Some-lexeme_at.len c.as_bytes-bytes.ensures.utf8 (c.in-Some-lexeme_at.ensures.boundary c.as_bytes-bytes.ensures.utf8)))
           (views c.keep_token.new.out.items)
-          c.in_ok-keep_token.ensures.kept,
+          c.in_ok-keep_token.ensures.tokens,
       c.keep_token.ensures.bound,
     )

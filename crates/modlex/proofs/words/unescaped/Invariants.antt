@@ -7,7 +7,7 @@ use Rattle.modlex.proofs.words.unescaped.Given as goal
 abbrev pub invariant-escapes : goal.invariant-escapes
 invariant-escapes l = record {
   utf8 : shadow (Utf8 l.rest);
-  told : string_bytes l.out ++ plain_text l.rest ≡ plain_text l.text;
+  reads : string_bytes l.out ++ plain_text l.rest ≡ plain_text l.text;
 }
 
 abbrev pub decreases-escapes : goal.decreases-escapes

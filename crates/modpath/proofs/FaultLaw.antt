@@ -126,14 +126,14 @@ leftmost-to : (es : List (List ℕ)) (f : PathFault) → elements_check es ≡ E
 unfolding check_each
 leftmost-to [] f h = cc h
 leftmost-to (e ∷ rest) f h = elim (fault-cases (element_check e) (elements_check rest) f h) [
-  | inl here ↦ record { front = []; element = e; back = rest; place = refl; before = All-nil IsElement; breaks = element-to e f here }
+  | inl here ↦ record { front = []; element = e; back = rest; split = refl; before = All-nil IsElement; breaks = element-to e f here }
   | inr later ↦
       let l = leftmost-to rest f later.1 in
       record {
         front = e ∷ l.front;
         element = l.element;
         back = l.back;
-        place = ap (λ (es : List (List ℕ)). e ∷ es) l.place;
+        split = ap (λ (es : List (List ℕ)). e ∷ es) l.split;
         before = All-cons IsElement e l.front ((element_passes e).0 later.0) l.before;
         breaks = l.breaks;
       }
@@ -186,7 +186,7 @@ long-from text h =
 
 -- ---- texts
 
--- what the check of a text found, by its part
+-- what the check of a text found, by its test
 data Found (strict : Bool) (text : List ℕ) (f : PathFault) : Type 0 where
   at_length : length_check text ≡ Err f → Found strict text f
   at_element : HasPathLength text → elements_check (elements text) ≡ Err f → Found strict text f
@@ -248,7 +248,7 @@ element-fault : (strict : Bool) (text : List ℕ) (f : PathFault) → HasPathLen
 unfolding check_of
 element-fault strict text f n u =
     fault-first _ _ f (fault-first _ _ f (fault-second _ _ f ((length_passes text).1 n)
-    (ap elements_check u.place ∙ leftmost-from u.front u.element u.back f u.before u.breaks)))
+    (ap elements_check u.split ∙ leftmost-from u.front u.element u.back f u.before u.breaks)))
 
 first-fault : (text : List ℕ) → HasPathElements text → (¬ IsFirstElement (first_element (elements text))) → check_of true text ≡ Err fault.First
 unfolding check_of

@@ -70,8 +70,8 @@ port-text name word e low high =
     ∙ ap (λ (l : List ℕ). l ++ to_ascii_uppercase (last name) ∷ []) e
     ∙ ap (λ b. word ++ b ∷ []) (upper-digit (last name) low high)
 
-port-parts : (name word : List ℕ) (d : ℕ) → upper name ≡ word ++ d ∷ [] → 49 ≤ d → d ≤ 57 → (upper (rest name) ≡ word) × (last name ≡ d)
-port-parts name word d e low high =
+port-cut : (name word : List ℕ) (d : ℕ) → upper name ≡ word ++ d ∷ [] → 49 ≤ d → d ≤ 57 → (upper (rest name) ≡ word) × (last name ≡ d)
+port-cut name word d e low high =
     let n : length name ≡ length word + 1 = sym (length-map name to_ascii_uppercase) ∙ ap length e ∙ length_push word d in
     let p = same_from_push (upper (rest name)) word (to_ascii_uppercase (last name)) d (sym (split-upper name (omega arith)) ∙ e) in
     (p.0, digit-upper (last name) d p.1 low high)
@@ -157,12 +157,12 @@ reserved-to name h = elim (or_cases _ _ h) [
 
 com-from : (name : List ℕ) (d : ℕ) → 49 ≤ d → d ≤ 57 → upper name ≡ codes "COM" ++ d ∷ [] → is_reserved name ≡ true
 com-from name d low high e =
-    let p = port-parts name (codes "COM") d e low high in
+    let p = port-cut name (codes "COM") d e low high in
     or_right _ _ (and_from _ _ (and_from _ _ (or_left _ _ (same-from (rest name) (codes "COM") p.0)) (le-leb 49 (last name) (omega (arith, p.1)))) (le-leb (last name) 57 (omega (arith, p.1))))
 
 lpt-from : (name : List ℕ) (d : ℕ) → 49 ≤ d → d ≤ 57 → upper name ≡ codes "LPT" ++ d ∷ [] → is_reserved name ≡ true
 lpt-from name d low high e =
-    let p = port-parts name (codes "LPT") d e low high in
+    let p = port-cut name (codes "LPT") d e low high in
     or_right _ _ (and_from _ _ (and_from _ _ (or_right _ _ (same-from (rest name) (codes "LPT") p.0)) (le-leb 49 (last name) (omega (arith, p.1)))) (le-leb (last name) 57 (omega (arith, p.1))))
 
 -- the test of reserved names finds each of the 22 names, in any case

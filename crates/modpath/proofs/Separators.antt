@@ -4,13 +4,13 @@ use Rattle.std.proofs.lemmas.Bool.{cases_Bool, eq-eqb, eqb-true}
 use Rattle.std.proofs.lemmas.List.{same_from_push}
 use Rattle.std.specs.List.{list_all, list_any, onto_first, slice_split}
 use Rattle.modpath.specs.Path.{last_or}
-use Rattle.modpath.proofs.CheckEach.{last_or-push, parts-shape}
+use Rattle.modpath.proofs.CheckEach.{last_or-push, fields-shape}
 
 -- whether a text has a byte
 abbrev pub has : ℕ → List ℕ → Bool
 has sep text = list_any (λ b. b == sep) text
 
--- a text without separator is its one part
+-- a text without separator is its one field
 pub split_none : (sep : ℕ) (text : List ℕ) → has sep text ≡ false → slice_split (λ b. b == sep) text ≡ text ∷ []
 split_none sep [] h = refl
 split_none sep (b ∷ rest) h = elim (cases_Bool (b == sep)) [
@@ -27,9 +27,9 @@ split_first sep (b ∷ first) rest h = elim (cases_Bool (b == sep)) [
   | inr other ↦ rw (other, split_first sep first rest (rw other at h)) refl
 ]
 
-onto-push : (b : ℕ) (parts : List (List ℕ)) (first : List ℕ) (others : List (List ℕ)) (last : List ℕ) → parts ≡ first ∷ others
-    → onto_first b (parts ++ last ∷ []) ≡ onto_first b parts ++ last ∷ []
-onto-push b parts first others last e = rw e refl
+onto-push : (b : ℕ) (fields : List (List ℕ)) (first : List ℕ) (others : List (List ℕ)) (last : List ℕ) → fields ≡ first ∷ others
+    → onto_first b (fields ++ last ∷ []) ≡ onto_first b fields ++ last ∷ []
+onto-push b fields first others last e = rw e refl
 
 -- and at its last
 pub split_last : (sep : ℕ) (front last : List ℕ) → has sep last ≡ false
@@ -40,11 +40,11 @@ split_last sep (b ∷ front) last h =
     elim (cases_Bool (b == sep)) [
       | inl here ↦ rw (here, ih) refl
       | inr other ↦
-          let s = parts-shape sep front in
+          let s = fields-shape sep front in
           rw (other, ih) (onto-push b (slice_split (λ x. x == sep) front) s.0 s.1 last s.2)
     ]
 
--- what stands around the last separator is one front and one last part
+-- what stands around the last separator is one front and one last field
 pub last_unique : (sep : ℕ) (front last other_front other_last : List ℕ) → front ++ sep ∷ last ≡ other_front ++ sep ∷ other_last
     → has sep last ≡ false → has sep other_last ≡ false → last ≡ other_last
 last_unique sep front last other_front other_last e h k =
@@ -72,7 +72,7 @@ cut-first sep (b ∷ text) h = elim (cases_Bool (b == sep)) [
       (b ∷ r.0, r.1, ap (λ (l : List ℕ). b ∷ l) r.2, rw other r.3)
 ]
 
--- a text has no separator, or it is a front, a separator and a last part without one
+-- a text has no separator, or it is a front, a separator and a last field without one
 pub cut-last : (sep : ℕ) (text : List ℕ)
     → (has sep text ≡ false) ⊎ ((front : List ℕ) × (last : List ℕ) × (text ≡ front ++ sep ∷ last) × (has sep last ≡ false))
 cut-last sep [] = inl refl

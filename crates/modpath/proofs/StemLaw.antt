@@ -8,7 +8,7 @@ use Rattle.std.specs.List.{All, Contains, onto_first, slice_split}
 use Rattle.modpath.specs.ModulePath.{IsStem}
 use Rattle.modpath.specs.Path.{elements, stem}
 use Rattle.modpath.specs.PathLaws.{ElementsAreExact, StemsAreExact}
-use Rattle.modpath.proofs.CheckEach.{parts-shape}
+use Rattle.modpath.proofs.CheckEach.{fields-shape}
 use Rattle.modpath.proofs.ElementLaw.{any_exact}
 use Rattle.modpath.proofs.Separators.{cut-first, has}
 
@@ -21,29 +21,29 @@ none-has sep text n = false_from_ne_true (has sep text) (λ h. n ((any_exact sep
 
 -- ---- elements
 
-onto-none : (sep b : ℕ) (parts : List (List ℕ)) (first : List ℕ) (others : List (List ℕ)) → parts ≡ first ∷ others → (b == sep) ≡ false
-    → All (λ e. has sep e ≡ false) parts → All (λ e. has sep e ≡ false) (onto_first b parts)
-onto-none sep b parts first others shape other all =
+onto-none : (sep b : ℕ) (fields : List (List ℕ)) (first : List ℕ) (others : List (List ℕ)) → fields ≡ first ∷ others → (b == sep) ≡ false
+    → All (λ e. has sep e ≡ false) fields → All (λ e. has sep e ≡ false) (onto_first b fields)
+onto-none sep b fields first others shape other all =
     let none : All (λ e. has sep e ≡ false) (first ∷ others) = rw shape at all in
     rw shape (All-cons (λ e. has sep e ≡ false) (b ∷ first) others (rw other (All-head (λ e. has sep e ≡ false) first others none))
     (All-tail (λ e. has sep e ≡ false) first others none))
 
--- no part of a text that is split at a separator has one
-none-in-parts : (sep : ℕ) (text : List ℕ) → All (λ e. has sep e ≡ false) (slice_split (λ b. b == sep) text)
-none-in-parts sep [] = All-cons (λ e. has sep e ≡ false) [] [] refl (All-nil (λ e. has sep e ≡ false))
-none-in-parts sep (b ∷ text) =
-    let ih = none-in-parts sep text in
+-- no field of a text that is split at a separator has one
+none-in-fields : (sep : ℕ) (text : List ℕ) → All (λ e. has sep e ≡ false) (slice_split (λ b. b == sep) text)
+none-in-fields sep [] = All-cons (λ e. has sep e ≡ false) [] [] refl (All-nil (λ e. has sep e ≡ false))
+none-in-fields sep (b ∷ text) =
+    let ih = none-in-fields sep text in
     elim (cases_Bool (b == sep)) [
       | inl here ↦ rw here (All-cons (λ e. has sep e ≡ false) [] (slice_split (λ x. x == sep) text) refl ih)
       | inr other ↦
-          let s = parts-shape sep text in
+          let s = fields-shape sep text in
           rw other (onto-none sep b (slice_split (λ x. x == sep) text) s.0 s.1 s.2 other ih)
     ]
 
 pub elements_are_exact : ElementsAreExact
 elements_are_exact text = record {
   joined = join_with_byte-slice_split 47 text;
-  no_slash = All-weaker (λ e. has 47 e ≡ false) (λ e. ¬ Contains e 47) (has-none 47) (elements text) (none-in-parts 47 text);
+  no_slash = All-weaker (λ e. has 47 e ≡ false) (λ e. ¬ Contains e 47) (has-none 47) (elements text) (none-in-fields 47 text);
 }
 
 -- ---- stems
@@ -70,15 +70,15 @@ dot-after name rest = sym (append_assoc name (46 ∷ []) rest)
 
 own-stem : (e : List ℕ) → IsStem e (stem e)
 own-stem e = elim (cases_Bool (has 46 e)) [
-  | inr none ↦ record { no_dot = subst (λ (n : List ℕ). ¬ Contains n 46) (sym (stem-whole e none)) (has-none 46 e none); place = inl (sym (stem-whole e none)) }
+  | inr none ↦ record { no_dot = subst (λ (n : List ℕ). ¬ Contains n 46) (sym (stem-whole e none)) (has-none 46 e none); beginning = inl (sym (stem-whole e none)) }
   | inl some ↦
       let c = cut-first 46 e some in
       let s : stem e ≡ c.0 = ap stem c.2 ∙ stem-cut c.0 c.1 c.3 in
-      record { no_dot = rw s (has-none 46 c.0 c.3); place = inr (c.1, c.2 ∙ dot-after c.0 c.1 ∙ ap (λ (n : List ℕ). n ++ (46 ∷ []) ++ c.1) (sym s)) }
+      record { no_dot = rw s (has-none 46 c.0 c.3); beginning = inr (c.1, c.2 ∙ dot-after c.0 c.1 ∙ ap (λ (n : List ℕ). n ++ (46 ∷ []) ++ c.1) (sym s)) }
 ]
 
 stem-from : (e name : List ℕ) → IsStem e name → stem e ≡ name
-stem-from e name u = elim u.place [
+stem-from e name u = elim u.beginning [
   | inl same ↦ ap stem same ∙ stem-whole name (none-has 46 name u.no_dot)
   | inr b ↦ ap stem (b.1 ∙ sym (dot-after name b.0)) ∙ stem-cut name b.0 (none-has 46 name u.no_dot)
 ]

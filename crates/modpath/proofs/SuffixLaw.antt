@@ -88,7 +88,7 @@ dot-from e n u bound =
 -- a `v` with digits and dots
 record Numbered (e : List ℕ) : Type 0 where
   number : List ℕ
-  place : e ≡ 118 ∷ number
+  ending : e ≡ 118 ∷ number
   some : 0 < length number
   each : All (λ b. IsTrue (is_ascii_digit b) ⊎ (b ≡ 46)) number
 
@@ -110,11 +110,11 @@ numbered_exact : (b : ℕ) (rest : List ℕ) → (numbered b rest ≡ true) ↔ 
 numbered_exact b rest = (
   λ h. let p = and_parts _ _ h in let q = and_parts _ _ p.0 in record {
     number = rest;
-    place = ap (λ x. x ∷ rest) (eqb-true b 118 q.0);
+    ending = ap (λ x. x ∷ rest) (eqb-true b 118 q.0);
     some = ltb-true 0 (length rest) q.1;
     each = (dotted_exact rest).0 p.1;
   },
-  λ u. numbered-from u.number u.place u.some u.each,
+  λ u. numbered-from u.number u.ending u.some u.each,
 )
   where
     first_byte : List ℕ → ℕ
@@ -123,9 +123,9 @@ numbered_exact b rest = (
 
     numbered-from : (number : List ℕ) → b ∷ rest ≡ 118 ∷ number → 0 < length number
         → All (λ x. IsTrue (is_ascii_digit x) ⊎ (x ≡ 46)) number → numbered b rest ≡ true
-    numbered-from number place some each =
-        let v : b ≡ 118 = ap (λ (l : List ℕ). first_byte l) place in
-        let same : rest ≡ number = cc place in
+    numbered-from number ending some each =
+        let v : b ≡ 118 = ap (λ (l : List ℕ). first_byte l) ending in
+        let same : rest ≡ number = cc ending in
         rw same (and_from _ _ (and_from _ _ (eq-eqb b 118 v) (lt-ltb 0 (length number) some)) ((dotted_exact number).1 each))
 
 -- what the last element of a path tells of its suffix
@@ -135,7 +135,7 @@ Ending e (suffix.Slash n) = (e ≡ 118 ∷ decimal n) × (2 ≤ n) × (n < 2 ^ 6
 Ending e suffix.None = ¬ Numbered e
 
 nil-numbered : Numbered [] → ⊥
-nil-numbered u = nil-cons u.number u.place
+nil-numbered u = nil-cons u.number u.ending
   where
     nil-cons : (rest : List ℕ) → ◌≡◌ {A = List ℕ} [] (118 ∷ rest) → ⊥
     nil-cons rest h = cc h
@@ -211,7 +211,7 @@ dotted-has-no ds h = digits-have_no 47 (λ d. is_ascii_digit d || (d == 46)) ref
 versioned-last : (text : List ℕ) (c : Cut 47 text) → LooksVersioned text → Numbered c.last
 versioned-last text c u = record {
   number = u.number;
-  place = last_unique 47 c.front c.last u.place.0 (118 ∷ u.number) (sym c.at_last ∙ u.place.1) c.none_in_last
+  ending = last_unique 47 c.front c.last u.ending.0 (118 ∷ u.number) (sym c.at_last ∙ u.ending.1) c.none_in_last
       (dotted-has-no u.number ((dotted_exact u.number).1 u.each));
   some = u.some;
   each = u.each;
@@ -220,7 +220,7 @@ versioned-last text c u = record {
 last-versioned : (text : List ℕ) (c : Cut 47 text) → Numbered c.last → LooksVersioned text
 last-versioned text c u = record {
   number = u.number;
-  place = (c.front, c.at_last ∙ ap (λ (l : List ℕ). c.front ++ 47 ∷ l) u.place);
+  ending = (c.front, c.at_last ∙ ap (λ (l : List ℕ). c.front ++ 47 ∷ l) u.ending);
   some = u.some;
   each = u.each;
 }
@@ -255,7 +255,7 @@ suffix-cut text c =
 whole-none : (text : List ℕ) → has 47 text ≡ false → HasSuffix text suffix.None
 whole-none text none = (
   λ u. cc (sym (ap (has 47) u.1) ∙ none),
-  λ u. cc (sym (ap (has 47) u.place.1 ∙ has-cut 47 u.place.0 (118 ∷ u.number)) ∙ none),
+  λ u. cc (sym (ap (has 47) u.ending.1 ∙ has-cut 47 u.ending.0 (118 ∷ u.number)) ∙ none),
 )
 
 ending-suffix : (text : List ℕ) (c : Cut 47 text) → is_gopkg c.first ≡ false → (s : Suffix) → Ending c.last s → HasSuffix text s

@@ -44,7 +44,7 @@ tilde-to name h =
         → ((i : ℕ) → i < length name → at + 1 ≤ i → is_ascii_digit (get_or name i 0) ≡ true) → EndsInTildeNumber name
     around name at lt byte some each = record {
       digits = drop (at + 1) name;
-      place = (
+      ending = (
         take at name,
         sym (take-append-drop at name) ∙ ap (λ (l : List ℕ). take at name ++ l) (drop_more name at 0 (omega arith) ∙ ap (λ b. b ∷ drop (at + 1) name) byte),
       );
@@ -80,4 +80,4 @@ tilde-from front digits some all =
 
 pub tilde_numbers_are_exact : TildeNumbersAreExact
 tilde_numbers_are_exact name =
-    (tilde-to name, λ u. ap has_tilde_number u.place.1 ∙ tilde-from u.place.0 u.digits u.some u.each)
+    (tilde-to name, λ u. ap has_tilde_number u.ending.1 ∙ tilde-from u.ending.0 u.digits u.some u.each)

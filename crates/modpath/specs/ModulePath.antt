@@ -27,7 +27,7 @@ pub record AreBetweenSlashes (text : List ℕ) (es : List (List ℕ)) : Type 0 w
 -- the text before the first dot of an element, or all of it if it has no dot
 pub record IsStem (e name : List ℕ) : Type 0 where
   pub no_dot : ¬ Contains name 46
-  pub place : (e ≡ name) ⊎ BeginsWith e (name ++ codes ".")
+  pub beginning : (e ≡ name) ⊎ BeginsWith e (name ++ codes ".")
 
 -- an ASCII letter or digit, or one of `-`, `.`, `_`, `~`
 abbrev pub IsElementByte : ℕ → Type 0
@@ -57,7 +57,7 @@ IsReserved name = Contains reserved_names (map to_ascii_uppercase name)
 -- a name ends with a tilde and one or more digits
 pub record EndsInTildeNumber (name : List ℕ) : Type 0 where
   pub digits : List ℕ
-  pub place : EndsWith name (codes "~" ++ digits)
+  pub ending : EndsWith name (codes "~" ++ digits)
   pub some : 0 < length digits
   pub each : All (λ b. IsTrue (is_ascii_digit b)) digits
 
@@ -85,7 +85,7 @@ pub record IsFirstElement (e : List ℕ) : Type 0 where
 -- the last of two or more elements is a `v` and then one or more digits and dots, as if it were a version
 pub record LooksVersioned (text : List ℕ) : Type 0 where
   pub number : List ℕ
-  pub place : EndsWith text (codes "/v" ++ number)
+  pub ending : EndsWith text (codes "/v" ++ number)
   pub some : 0 < length number
   pub each : All (λ b. IsTrue (is_ascii_digit b) ⊎ (b ≡ 46)) number
 
@@ -132,7 +132,7 @@ pub record BreaksLeftmost (es : List (List ℕ)) (f : PathFault) : Type 0 where
   pub front : List (List ℕ)
   pub element : List ℕ
   pub back : List (List ℕ)
-  pub place : es ≡ front ++ element ∷ back
+  pub split : es ≡ front ++ element ∷ back
   pub before : All IsElement front
   pub breaks : BreaksElement element f
 

@@ -4,7 +4,7 @@ ghost use Rattle.std.specs.List.{list_all, list_any};
 ghost use Rattle.std.specs.Prelude.{◌≡◌, ◌==◌};
 ghost use Rattle.modpath.specs.Path as Spec;
 
-use crate::parts::cut;
+use crate::fields::cut;
 use crate::path::PathFault;
 
 /// Passes if each element of `text` meets the rules of elements. Otherwise it fails with the first

@@ -19,12 +19,12 @@ pub fn cut(text: &[u8], separator: u8) -> Option<(&[u8], &[u8])>
 }
 
 /// Returns the text after the last separator of `text`, or all of it if it has no separator.
-pub fn last_part(text: &[u8], separator: u8) -> &[u8]
+pub fn last_after(text: &[u8], separator: u8) -> &[u8]
     ensures { result.now ≡ last_or [] (slice_split (λ b. b == separator) text.now) }
 {
     let mut last = &text[..0];
-    for part in text.split(move |byte| *byte == separator) {
-        last = part;
+    for field in text.split(move |byte| *byte == separator) {
+        last = field;
     }
     last
 }

@@ -19,7 +19,7 @@ IsBad-append bytes more failure is = record {
   ends = λ others. subst (λ all. Ends all (end_of failure)) (sym (append_assoc bytes more others)) (is.ends (more ++ others));
 }
 
--- the parts of a whole message are the message
+-- what is read of a whole message is the message
 pub message_at : (bytes : List ℕ) (headers : List HeaderSpan) (found : Head) (message : Request)
     → IsHeadAt bytes headers found → found.spans.len + found.body ≤ length bytes
     → message.method ≡ span_bytes bytes found.spans.method

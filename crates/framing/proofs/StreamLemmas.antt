@@ -43,8 +43,8 @@ pub message_unique : (bytes : List ℕ) (a b : Request) (r q : List ℕ) → Rea
     → (a ≡ b) × (r ≡ q)
 message_unique bytes a b r q (h, m, x, _, long_a, is_a) (k, n, y, _, long_b, is_b) =
     let heads = head_unique bytes h k m n (a.body ++ r) (b.body ++ q) x y in
-    let parts = same_front a.body b.body r q (long_a ∙ heads.1 ∙ sym long_b) heads.2 in
-    (is_a ∙ (λ i. request_of (heads.0 i) (parts.0 i)) ∙ sym is_b, parts.1)
+    let fronts = same_front a.body b.body r q (long_a ∙ heads.1 ∙ sym long_b) heads.2 in
+    (is_a ∙ (λ i. request_of (heads.0 i) (fronts.0 i)) ∙ sym is_b, fronts.1)
 
 pub ReadsMessage-append : (bytes more : List ℕ) (a : Request) (rest : List ℕ) → ReadsMessage bytes a rest → ReadsMessage (bytes ++ more) a (rest ++ more)
 ReadsMessage-append bytes more a rest (h, n, x, small, long, is) = (

@@ -37,7 +37,7 @@ pub record BeginsWith (bytes : List ℕ) (head : RequestHead) (n : ℕ) (rest : 
   pub reads : ReadsRequest bytes head rest
   pub good : IsGoodHead head n
 
--- the parts of a message that the server reads
+-- what the server reads of a message
 pub record Request : Type 0 where
   pub method : List ℕ
   pub target : List ℕ

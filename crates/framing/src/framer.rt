@@ -130,7 +130,7 @@ impl Framer {
 
     /// Removes and returns the next message of the stream, or returns [`Next::NeedMore`] if it is not whole, or
     /// [`Next::Bad`] if the stream cannot go on, and then again at every later call. It fails with `Memory` if there is no
-    /// room for the parts of a whole message, and then changes nothing.
+    /// room for a whole message, and then changes nothing.
     pub fn next(&mut self) -> Result<Next, Memory>
         ensures answer { IfOk result (λ next. Answers self.old next self.new) }
         ensures again { IfSome self.old.failure (λ bad. result ≡ Ok (Next.Bad bad)) }

@@ -43,7 +43,7 @@ impl Occurs {
     }
 }
 
-/// A good head: where its parts are, and the length of the body that it announces.
+/// A good head: the spans of what it says, and the length of the body that it announces.
 #[derive(Clone, Copy, Drop)]
 pub(crate) struct Head {
     pub(crate) spans: RequestSpans,

@@ -40,9 +40,9 @@ returns-in_ok-body-in-Begun-clause-answer c =
     subst (λ (bytes : List ℕ). ReadsMessage bytes (with_body (slice_range bytes head.spans.len len) (view message)) (drop len bytes)) held c.in_ok-message-in-Begun.ensures in
     let whole : ReadsMessage old.held (with_body c.in_ok-body-in-Begun.body.items (view message)) (drop len old.held) =
     subst (λ (body : List ℕ). ReadsMessage old.held (with_body body (view message)) (drop len old.held)) (sym c.in_ok-body-in-Begun.ensures.body) reads in
-    let kept : ReadsMessage c.args.self.now.held (with_body c.in_ok-body-in-Begun.body.items (view message)) (drop len old.held) =
+    let left : ReadsMessage c.args.self.now.held (with_body c.in_ok-body-in-Begun.body.items (view message)) (drop len old.held) =
     subst (λ (f : Framing). ReadsMessage f.held (with_body c.in_ok-body-in-Begun.body.items (view message)) (drop len old.held)) c.stays_open.ensures.same whole in
-    rw c.in_ok-body-in-Begun.ensures.rest (kept, search (c, rules))
+    rw c.in_ok-body-in-Begun.ensures.rest (left, search (c, rules))
 
 on_err : {A E : Type 0} (r : Result A E) (P : Type 0) → P → OnErr r P
 on_err (Ok x) P p = tt

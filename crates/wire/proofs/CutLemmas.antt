@@ -20,7 +20,7 @@ unfolding around
 around-some byte at text found is some = elim (cases_Bool (nat_lt (position_or_len (λ b. b == byte) text) (length text))) [
   | inl inside ↦
       let here : at ≡ position_or_len (λ b. b == byte) text = cc (some, rw inside at is) in
-      let parts : ℕ → Option (List ℕ × List ℕ) = λ n. Some (take n text, drop (n + 1) text) in
-      rw inside (ap parts (sym here) ∙ ap (λ (rest : List ℕ). Some (take at text, rest)) (sym (slice_to_end (at + 1) text)))
+      let halves : ℕ → Option (List ℕ × List ℕ) = λ n. Some (take n text, drop (n + 1) text) in
+      rw inside (ap halves (sym here) ∙ ap (λ (rest : List ℕ). Some (take at text, rest)) (sym (slice_to_end (at + 1) text)))
   | inr outside ↦ cc (some, rw outside at is)
 ]

@@ -65,7 +65,7 @@ pair-is path version found h =
 pub module-version-is : (text : List ℕ) (found : ModuleVersion) → module_version_of text ≡ Some found → IsModuleVersion text found.path found.version []
 unfolding module_version_of
 module-version-is text found h =
-    let named : List ℕ × List ℕ → Option ModuleVersion = λ parts. option_and_then (λ name. pair (path_of parts.0) (version_from name)) (without_start (codes "v/") parts.1) in
+    let named : List ℕ × List ℕ → Option ModuleVersion = λ halves. option_and_then (λ name. pair (path_of halves.0) (version_from name)) (without_start (codes "v/") halves.1) in
     let outer = then-some named (cut_of text) found h in
     let inner = then-some (λ name. pair (path_of (outer.0).0) (version_from name)) (without_start (codes "v/") (outer.0).1) found outer.2 in
     let both = pair-is (path_of (outer.0).0) (version_from inner.0) found inner.2 in

@@ -24,11 +24,11 @@ all-append p xs ys h k = rw (list_all-append p xs ys, h, k) refl
 
 all-weaker : (p q : ℕ → Bool) → ((b : ℕ) → p b ≡ true → q b ≡ true) → (xs : List ℕ) → list_all p xs ≡ true → list_all q xs ≡ true
 all-weaker p q f [] h = refl
-all-weaker p q f (x ∷ xs) h = let parts = and_parts (p x) (list_all p xs) h in and_from _ _ (f x parts.0) (all-weaker p q f xs parts.1)
+all-weaker p q f (x ∷ xs) h = let both = and_parts (p x) (list_all p xs) h in and_from _ _ (f x both.0) (all-weaker p q f xs both.1)
 
 -- texts that are joined by a byte
-all-joined : (sep : ℕ) (parts : List (List ℕ)) → list_all (list_all is_plain_byte) parts ≡ true → is_plain_byte sep ≡ true
-    → list_all is_plain_byte (join_with_byte sep parts) ≡ true
+all-joined : (sep : ℕ) (texts : List (List ℕ)) → list_all (list_all is_plain_byte) texts ≡ true → is_plain_byte sep ≡ true
+    → list_all is_plain_byte (join_with_byte sep texts) ≡ true
 all-joined sep [] h s = refl
 all-joined sep (x ∷ []) h s = (and_parts _ _ h).0
 all-joined sep (x ∷ y ∷ rest) h s =
@@ -119,5 +119,5 @@ escaped-utf8 text h = IsUtf8-from_ascii (escaped text) (escaped-ascii text h)
 pub ascii-from : (bytes : List ℕ) → list_all (λ b. nat_lt b 128) bytes ≡ true → IsAscii bytes
 ascii-from [] h = IsAscii-nil
 ascii-from (b ∷ bytes) h =
-    let parts = and_parts (nat_lt b 128) (list_all (λ x. nat_lt x 128) bytes) h in
-    IsAscii-cons b bytes (ltb-true b 128 parts.0) (ascii-from bytes parts.1)
+    let both = and_parts (nat_lt b 128) (list_all (λ x. nat_lt x 128) bytes) h in
+    IsAscii-cons b bytes (ltb-true b 128 both.0) (ascii-from bytes both.1)

@@ -83,8 +83,8 @@ asked-by-is : (p q : VersionFile) (name version : List ℕ) → asked_by p name 
 asked-by-is p q name version h =
     let found = map-some (λ (v : List ℕ). (v, p)) (without_end (ending_of p) name) (version, q) h in
     let versions : found.0 ≡ version = ap (λ (x : List ℕ × VersionFile). x.0) found.2 in
-    let parts : p ≡ q = ap (λ (x : List ℕ × VersionFile). x.1) found.2 in
-    end-is (ending_of p) name found.0 found.1 ∙ (λ i. versions i ++ ending_of (parts i))
+    let files : p ≡ q = ap (λ (x : List ℕ × VersionFile). x.1) found.2 in
+    end-is (ending_of p) name found.0 found.1 ∙ (λ i. versions i ++ ending_of (files i))
 
 either-is : (A : Type 0) (P : A → Type 0) (a b : Option A) (x : A) → first_some a b ≡ Some x → (a ≡ Some x → P x) → (b ≡ Some x → P x) → P x
 either-is A P (Some y) b x h left right = left h
@@ -239,7 +239,7 @@ asked-is : (rest : List ℕ) (asked : Resource) → asked_of (percent_decode res
 unfolding asked_of
 asked-is rest asked h =
     let text = percent_decode rest in
-    let outer = then-some (λ (parts : List ℕ × List ℕ). option_and_then (λ path. of_path path parts.1) (path_of parts.0)) (cut_of text) asked h in
+    let outer = then-some (λ (halves : List ℕ × List ℕ). option_and_then (λ path. of_path path halves.1) (path_of halves.0)) (cut_of text) asked h in
     let inner = then-some (λ path. of_path path (outer.0).1) (path_of (outer.0).0) asked outer.2 in
     let path = path-is (outer.0).0 inner.0 inner.1 in
     let whole = cut-is text (outer.0).0 (outer.0).1 outer.1 ∙ (λ i. path.0 i ++ (codes "/@" ++ (outer.0).1)) in

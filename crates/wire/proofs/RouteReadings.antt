@@ -23,10 +23,10 @@ use Rattle.wire.proofs.WalkLemmas.{walk_path, walk_shelf}
 -- ---- keys
 
 -- a key and a rest that pass have a key that is not empty, and are unchanged
-with-key-is : (parts out : List ℕ × List ℕ) → with_key parts ≡ Some out → (0 < length parts.0) × (parts ≡ out)
-with-key-is parts out h = elim (cases_Bool (length parts.0 == 0)) [
+with-key-is : (halves out : List ℕ × List ℕ) → with_key halves ≡ Some out → (0 < length halves.0) × (halves ≡ out)
+with-key-is halves out h = elim (cases_Bool (length halves.0 == 0)) [
   | inl none ↦ cc (rw none at h)
-  | inr some ↦ let same : parts ≡ out = cc (rw some at h) in (grind (arith, nat_tests), same)
+  | inr some ↦ let same : halves ≡ out = cc (rw some at h) in (grind (arith, nat_tests), same)
 ]
 
 -- a text that is `/k/`, a key, a slash and a rest
@@ -99,7 +99,7 @@ pub routed-is : (text key rest : List ℕ) (a : Area) → routed_of text ≡ Som
     → (behind : List ℕ) × IsSplit text key behind × (area_of behind ≡ Some (a, rest))
 unfolding routed_of
 routed-is text key rest a h =
-    let after : List ℕ × List ℕ → Option (Area × List ℕ × List ℕ) = λ parts. option_map (λ (found : Area × List ℕ). (found.0, parts.0, found.1)) (area_of parts.1) in
+    let after : List ℕ × List ℕ → Option (Area × List ℕ × List ℕ) = λ halves. option_map (λ (found : Area × List ℕ). (found.0, halves.0, found.1)) (area_of halves.1) in
     let outer = then-some after (split_of text) (a, key, rest) h in
     let inner = map-some (λ (found : Area × List ℕ). (found.0, (outer.0).0, found.1)) (area_of (outer.0).1) (a, key, rest) outer.2 in
     let keys : (outer.0).0 ≡ key = ap (λ (x : Area × List ℕ × List ℕ). x.1) inner.2 in
@@ -135,7 +135,7 @@ around-utf8 c front rest small utf8 =
       subst IsUtf8 behind second,
     )
 
--- the parts of a text that is split
+-- the halves of a text that is split
 pub split-utf8 : (text key rest : List ℕ) → IsSplit text key rest → IsUtf8 text → IsUtf8 key × IsUtf8 rest
 split-utf8 text key rest is utf8 =
     let whole : IsUtf8 (codes "/k" ++ (47 ∷ (key ++ (47 ∷ rest)))) = subst IsUtf8 is.whole utf8 in

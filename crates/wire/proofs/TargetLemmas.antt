@@ -1,4 +1,4 @@
--- Targets cut into their parts.
+-- Targets, cut at a byte.
 use Rattle.std.proofs.Common.{◌≡◌, ◌==◌, ◌+◌, ◌-◌, ◌<◌, ℕ, suc, List, [], ◌∷◌, ◌++◌, length, take, drop, codes, Option, Some, None, Bool, true}
 use Rattle.std.proofs.Common.{false, nat_lt, nat_eq, cond, get_or, refl, sym, ap, ◌∙◌, subst, inl, inr, arith, append_assoc, length-append}
 use Rattle.std.proofs.lemmas.Bool.{cases_Bool, eq-eqb, eqb-true, lt-ltb, ltb-true, or_parts}

@@ -42,13 +42,13 @@ decoded-from (b ∷ []) h = h
 decoded-from (b ∷ c ∷ []) h = h
 decoded-from (b ∷ high ∷ low ∷ rest) h = elim (cases_Bool (is_escape b high low)) [
   | inl escape ↦
-      let parts = and_parts _ _ escape in
-      let front = and_parts _ _ parts.0 in
+      let both = and_parts _ _ escape in
+      let front = and_parts _ _ both.0 in
       let sign : b ≡ 37 = eqb-true b 37 front.0 in
       let decoded : IsAscii ((16 * digit_value high + digit_value low) ∷ percent_decode rest) = rw escape at h in
       let ih = decoded-from rest (λ i. decoded (suc i)) in
       IsAscii-cons b (high ∷ low ∷ rest) (omega (arith, sign))
-      (IsAscii-cons high (low ∷ rest) (digit-ascii high front.1) (IsAscii-cons low rest (digit-ascii low parts.1) ih))
+      (IsAscii-cons high (low ∷ rest) (digit-ascii high front.1) (IsAscii-cons low rest (digit-ascii low both.1) ih))
   | inr other ↦
       let decoded : IsAscii (b ∷ percent_decode (high ∷ low ∷ rest)) = rw other at h in
       IsAscii-cons b (high ∷ low ∷ rest) (decoded 0) (decoded-from (high ∷ low ∷ rest) (λ i. decoded (suc i)))

@@ -8,8 +8,8 @@ use Rattle.wire.specs.Route.{path_route, shelf_route}
 use Rattle.wire.proofs.RouteLemmas.{Splits, segment_key}
 
 -- the bytes between two indices
-part_at : (bytes : List ℕ) (start end : ℕ) → start ≤ end → end ≤ length bytes → part_of bytes start end ≡ take (end - start) (drop start bytes)
-part_at bytes start end a b = rw (le-leb start end a, le-leb end (length bytes) b) refl
+span_at : (bytes : List ℕ) (start end : ℕ) → start ≤ end → end ≤ length bytes → part_of bytes start end ≡ take (end - start) (drop start bytes)
+span_at bytes start end a b = rw (le-leb start end a, le-leb end (length bytes) b) refl
 
 module _ (target key rest : List ℕ) (splits : Splits target key rest) where
   long : length target ≡ 4 + length key + length rest

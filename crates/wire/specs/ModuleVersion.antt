@@ -40,7 +40,7 @@ around byte text =
     then Some (before_first (λ b. b == byte) text, after_first (λ b. b == byte) text) else None
 
 abbrev pub without_slash : List ℕ × List ℕ → Option (List ℕ × List ℕ)
-without_slash parts = option_map (λ front. (front, parts.1)) (without_end (codes "/") parts.0)
+without_slash halves = option_map (λ front. (front, halves.1)) (without_end (codes "/") halves.0)
 
 -- the texts before and after `/@`, if its `@` is the first in the text
 unfoldable pub cut_of : List ℕ → Option (List ℕ × List ℕ)
@@ -78,5 +78,5 @@ pair path version = option_and_then (λ p. option_map (λ v. record { path = p; 
 -- the path before `/@v/` and the version after it, if the text has this form
 unfoldable pub module_version_of : List ℕ → Option ModuleVersion
 module_version_of text =
-    option_and_then (λ (parts : List ℕ × List ℕ). option_and_then
-    (λ name. pair (path_of parts.0) (version_from name)) (without_start (codes "v/") parts.1)) (cut_of text)
+    option_and_then (λ (halves : List ℕ × List ℕ). option_and_then
+    (λ name. pair (path_of halves.0) (version_from name)) (without_start (codes "v/") halves.1)) (cut_of text)

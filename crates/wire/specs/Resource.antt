@@ -87,7 +87,7 @@ of_path path asked =
 -- what is asked of a module path
 unfoldable pub asked_of : List ℕ → Option Resource
 asked_of text =
-    option_and_then (λ (parts : List ℕ × List ℕ). option_and_then (λ path. of_path path parts.1) (path_of parts.0)) (cut_of text)
+    option_and_then (λ (halves : List ℕ × List ℕ). option_and_then (λ path. of_path path halves.1) (path_of halves.0)) (cut_of text)
 
 -- the go.sum line of a version
 abbrev pub sum_at : ModuleVersion → Resource

@@ -31,7 +31,7 @@ routes = (shelf_route.pattern, shelf_route) ∷ (path_route.pattern, path_route)
 
 -- a key and a rest, if the key is not empty
 abbrev pub with_key : List ℕ × List ℕ → Option (List ℕ × List ℕ)
-with_key parts = if length parts.0 == 0 then None else Some parts
+with_key halves = if length halves.0 == 0 then None else Some halves
 
 -- the key of a target, which has no slash, and the text after the slash that ends it
 unfoldable pub split_of : List ℕ → Option (List ℕ × List ℕ)
@@ -52,4 +52,4 @@ area_of rest =
 unfoldable pub routed_of : List ℕ → Option (Area × List ℕ × List ℕ)
 routed_of text =
     option_and_then
-    (λ (parts : List ℕ × List ℕ). option_map (λ (found : Area × List ℕ). (found.0, parts.0, found.1)) (area_of parts.1)) (split_of text)
+    (λ (halves : List ℕ × List ℕ). option_map (λ (found : Area × List ℕ). (found.0, halves.0, found.1)) (area_of halves.1)) (split_of text)

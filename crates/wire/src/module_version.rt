@@ -21,7 +21,7 @@ pub(crate) struct ModuleVersion {
 #[tactic(auto, unfolding(crate::specs::ModuleVersion::around))]
 fn split_at_byte(text: &[u8], byte: u8) -> Option<(&[u8], &[u8])>
     ensures { MatchOption result (around byte text.now ≡ None)
-        (λ parts. around byte text.now ≡ Some (parts.0.now, parts.1.now)) }
+        (λ halves. around byte text.now ≡ Some (halves.0.now, halves.1.now)) }
 {
     let at = text.iter().position(|b| *b == byte)?;
     Some((&text[..at], &text[at + 1..]))
@@ -31,7 +31,8 @@ fn split_at_byte(text: &[u8], byte: u8) -> Option<(&[u8], &[u8])>
 /// It cuts at the first `@`, because no module path contains one.
 #[tactic(auto, unfolding(crate::specs::ModuleVersion::cut_of))]
 pub(crate) fn cut(text: &[u8]) -> Option<(&[u8], &[u8])>
-    ensures { MatchOption result (cut_of text.now ≡ None) (λ parts. cut_of text.now ≡ Some (parts.0.now, parts.1.now)) }
+    ensures { MatchOption result (cut_of text.now ≡ None)
+        (λ halves. cut_of text.now ≡ Some (halves.0.now, halves.1.now)) }
 {
     let (front, back) = split_at_byte(text, b'@')?;
     let path = front.strip_suffix(b"/")?;

@@ -14,7 +14,7 @@ use text::Text;
 
 /// Returns what a request with this method and this target asks for; both are compared byte for byte. A target that is
 /// not UTF-8, or decodes to bytes that are not, is unreadable. It fails with `Memory`, which says nothing about the
-/// target, if there is no room for the parts of the target or for the routes.
+/// target, if there is no room for what the target names or for the routes.
 pub fn target(table: &mut RouteTable, method: &[u8], target: &[u8]) -> Result<Target, Memory>
     ensures value { IfOk result (λ asked. asked ≡ target_of method.now target.now) }
     ensures reads { IfOk result (ReadsTarget method.now target.now) }

@@ -194,7 +194,7 @@ lines-joined (b ∷ bs) =
     (λ no. rw no (onto_joined b (lines bs) ∙ ap (λ l. b ∷ l) (lines-joined bs)))
     (cases_Bool (b == 10))
 
--- the slice between two parts
+-- the slice between two texts
 slice_between : (xs ys zs : List ℕ) (i j : ℕ) → i ≡ length xs → j ≡ length xs + length ys → slice_range (xs ++ (ys ++ zs)) i j ≡ ys
 slice_between xs ys zs i j hi hj =
     let len : j - i ≡ length ys = omega (arith, hi, hj) in

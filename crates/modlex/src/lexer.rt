@@ -273,7 +273,7 @@ fn keep_token<'a>(out: &mut Vec<Token<'a>>, most: usize, token: Token<'a>) -> Re
     Ok(())
 }
 
-/// Returns the tokens of a line. `line` is the number of the line and `start` its place in the whole
+/// Returns the tokens of a line. `line` is the number of the line and `start` its offset in the whole
 /// text. It fails with [`TokenFault::Lex`] and the number if the line cannot be split into tokens, and
 /// with [`TokenFault::Memory`] if memory runs out.
 pub fn line_tokens<'a>(

@@ -11,9 +11,9 @@ use Rattle.modver.specs.Fits.{IsVersionOf}
 use Rattle.modver.specs.Rank.{IsAbove, rank_cmp}
 use Rattle.modver.specs.SemanticVersion.{SemanticVersion}
 use Rattle.modver.proofs.Ranks.{rank-orders}
-use Rattle.latest.specs.Latest.{IsBest, IsTop, NamesTop, TopIsOne, Versions, among, unretracted, is_above_at, is_greater, is_higher, is_kept, kept}
+use Rattle.latest.specs.Latest.{IsBest, IsTop, NamesTop, TopIsOne, Versions, among, unretracted, is_above_at, is_greater, is_higher, counting, counts}
 
--- ---- places of a list
+-- ---- indexes of a list
 
 some_same : {X : Type 0} (a b : X) → ◌≡◌ {A = Option X} (Some a) (Some b) → a ≡ b
 some_same a b e = ap (λ o. unwrap_or o a) e
@@ -25,21 +25,21 @@ none_some b e = true≢false (sym (ap is_there e))
     is_there None = false
     is_there (Some x) = true
 
-placed : {X : Type 0} (xs : List X) (k : ℕ) (x : X) → slice_get xs k ≡ Some x → (k < length xs) × (get_or xs k x ≡ x)
-placed [] k x e = absurd (none_some x e)
-placed (y ∷ ys) zero x e = (omega arith, some_same y x e)
-placed (y ∷ ys) (suc k) x e = let rest = placed ys k x e in (omega (arith, rest.0), rest.1)
+at_index : {X : Type 0} (xs : List X) (k : ℕ) (x : X) → slice_get xs k ≡ Some x → (k < length xs) × (get_or xs k x ≡ x)
+at_index [] k x e = absurd (none_some x e)
+at_index (y ∷ ys) zero x e = (omega arith, some_same y x e)
+at_index (y ∷ ys) (suc k) x e = let rest = at_index ys k x e in (omega (arith, rest.0), rest.1)
 
 pub found : {X : Type 0} (xs : List X) (k : ℕ) (x : X) → k < length xs → get_or xs k x ≡ x → slice_get xs k ≡ Some x
 found [] k x less e = absurd (omega (arith, less))
 found (y ∷ ys) zero x less e = ap Some e
 found (y ∷ ys) (suc k) x less e = found ys k x (omega (arith, less)) e
 
--- a mark tells whether the version at its place counts
-pub marked_at : (m : GoModule) (vs : List SemanticVersion) (marks : List Bool) → marks ≡ map (is_retracted m) vs → (place : ℕ) (x : SemanticVersion)
-    → place < length vs → get_or vs place x ≡ x → (b : Bool) → get_or marks place false ≡ b → is_kept (Some m) x ≡ not b
-marked_at m vs marks e place x less at b is =
-    ap not (ap (is_retracted m) (sym at) ∙ sym (get_or-map (is_retracted m) vs place x false less) ∙ sym (ap (λ l. get_or l place false) e) ∙ is)
+-- a mark tells whether the version at its index counts
+pub marked_at : (m : GoModule) (vs : List SemanticVersion) (marks : List Bool) → marks ≡ map (is_retracted m) vs → (index : ℕ) (x : SemanticVersion)
+    → index < length vs → get_or vs index x ≡ x → (b : Bool) → get_or marks index false ≡ b → counts (Some m) x ≡ not b
+marked_at m vs marks e index x less at b is =
+    ap not (ap (is_retracted m) (sym at) ∙ sym (get_or-map (is_retracted m) vs index x false less) ∙ sym (ap (λ l. get_or l index false) e) ∙ is)
 
 -- ---- the scan
 
@@ -55,9 +55,9 @@ module _ (vs : List SemanticVersion) (m : Option GoModule) where
     is_last k u same e = some_same x u (sym at ∙ sym (ap (slice_get vs) same) ∙ e)
 
     -- a version that does not count leaves the best as it is
-    pub passed_over : (best : Option ℕ) → IsBest vs m n best → is_kept m x ≡ false → IsBest vs m (n + 1) best
+    pub passed_over : (best : Option ℕ) → IsBest vs m n best → counts m x ≡ false → IsBest vs m (n + 1) best
     passed_over None none out = λ k u less e h. elim (last_or_before k n less) [
-      | inl same ↦ true≢false (sym h ∙ ap (is_kept m) (sym (is_last k u same e)) ∙ out)
+      | inl same ↦ true≢false (sym h ∙ ap (counts m) (sym (is_last k u same e)) ∙ out)
       | inr before ↦ none k u before e h
     ]
     passed_over (Some p) b out = (
@@ -65,7 +65,7 @@ module _ (vs : List SemanticVersion) (m : Option GoModule) where
       b.1,
       b.2,
       λ k u less e h. elim (last_or_before k n less) [
-        | inl same ↦ absurd (true≢false (sym h ∙ ap (is_kept m) (sym (is_last k u same e)) ∙ out))
+        | inl same ↦ absurd (true≢false (sym h ∙ ap (counts m) (sym (is_last k u same e)) ∙ out))
         | inr before ↦ b.3 k u before e h
       ],
     )
@@ -92,14 +92,14 @@ module _ (vs : List SemanticVersion) (m : Option GoModule) where
     itself = (rank-orders []).irreflexive x
 
     -- a version that counts and is above the best is the new best
-    pub above : (best : Option ℕ) → IsBest vs m n best → is_kept m x ≡ true → is_higher vs x best ≡ true → IsBest vs m (n + 1) (Some n)
+    pub above : (best : Option ℕ) → IsBest vs m n best → counts m x ≡ true → is_higher vs x best ≡ true → IsBest vs m (n + 1) (Some n)
     above None none h high = (
       x,
       at,
       h,
-      λ k u less e kept. elim (last_or_before k n less) [
+      λ k u less e counted. elim (last_or_before k n less) [
         | inl same ↦ subst (λ y. ¬ IsAbove y x) (is_last k u same e) itself
-        | inr before ↦ absurd (none k u before e kept)
+        | inr before ↦ absurd (none k u before e counted)
       ],
     )
     above (Some p) b h high =
@@ -107,21 +107,21 @@ module _ (vs : List SemanticVersion) (m : Option GoModule) where
           x,
           at,
           h,
-          λ k u less e kept. elim (last_or_before k n less) [
+          λ k u less e counted. elim (last_or_before k n less) [
             | inl same ↦ subst (λ y. ¬ IsAbove y x) (is_last k u same e) itself
-            | inr before ↦ λ higher. b.3 k u before e kept ((rank-orders []).transitive u x b.0 higher over)
+            | inr before ↦ λ higher. b.3 k u before e counted ((rank-orders []).transitive u x b.0 higher over)
           ],
         )
 
   -- the best of all versions names the top of those that count
-  pub named : (best : Option ℕ) → IsBest vs m (length vs) best → NamesTop vs (kept vs m) best
+  pub named : (best : Option ℕ) → IsBest vs m (length vs) best → NamesTop vs (counting vs m) best
   named None none = λ v h. none h.0.0 v h.0.1 (found vs h.0.0 v h.0.1 h.0.2) h.1
   named (Some p) b =
-      let place = placed vs p b.0 b.1 in (
+      let at = at_index vs p b.0 b.1 in (
         b.0,
         b.1,
         record {
-          member = ((p, place.0, place.1), b.2);
+          member = ((p, at.0, at.1), b.2);
           highest = λ u h. b.3 h.0.0 u h.0.1 (found vs h.0.0 u h.0.1 h.0.2) h.1;
         },
       )

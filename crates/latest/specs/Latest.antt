@@ -27,19 +27,19 @@ pub record IsTop (set : Versions) (v : SemanticVersion) : Type 0 where
 
 -- the answer is the index of a top of the set in the list; `None` means that the set is empty
 abbrev pub NamesTop : List SemanticVersion → Versions → Option ℕ → Type 0
-NamesTop vs set (Some place) = (v : SemanticVersion) × (slice_get vs place ≡ Some v) × IsTop set v
+NamesTop vs set (Some index) = (v : SemanticVersion) × (slice_get vs index ≡ Some v) × IsTop set v
 NamesTop vs set None = (v : SemanticVersion) → ¬ set v
 
 -- ---- the highest version of a scan
 
 -- whether a version counts: any version if no go.mod is given, and otherwise one that the go.mod does not retract
-abbrev pub is_kept : Option GoModule → SemanticVersion → Bool
-is_kept None v = true
-is_kept (Some m) v = not (is_retracted m v)
+abbrev pub counts : Option GoModule → SemanticVersion → Bool
+counts None v = true
+counts (Some m) v = not (is_retracted m v)
 
 -- the versions of a list that count
-abbrev pub kept : List SemanticVersion → Option GoModule → Versions
-kept vs m v = Contains vs v × (is_kept m v ≡ true)
+abbrev pub counting : List SemanticVersion → Option GoModule → Versions
+counting vs m v = Contains vs v × (counts m v ≡ true)
 
 abbrev pub is_greater : Ordering → Bool
 is_greater Greater = true
@@ -52,16 +52,16 @@ is_above_at v (Some u) = is_greater (rank_cmp v u)
 -- whether a version is above the one at an index, or there is no version at the index
 abbrev pub is_higher : List SemanticVersion → SemanticVersion → Option ℕ → Bool
 is_higher vs v None = true
-is_higher vs v (Some place) = is_above_at v (slice_get vs place)
+is_higher vs v (Some index) = is_above_at v (slice_get vs index)
 
 -- of the first n versions, none that counts is above this one
 abbrev pub IsHighest : List SemanticVersion → Option GoModule → ℕ → SemanticVersion → Type 0
-IsHighest vs m n v = (k : ℕ) (u : SemanticVersion) → k < n → slice_get vs k ≡ Some u → is_kept m u ≡ true → ¬ IsAbove u v
+IsHighest vs m n v = (k : ℕ) (u : SemanticVersion) → k < n → slice_get vs k ≡ Some u → counts m u ≡ true → ¬ IsAbove u v
 
 -- the index of the highest version that counts among the first n; `None` means that none of them counts
 abbrev pub IsBest : List SemanticVersion → Option GoModule → ℕ → Option ℕ → Type 0
-IsBest vs m n None = (k : ℕ) (u : SemanticVersion) → k < n → slice_get vs k ≡ Some u → is_kept m u ≡ true → ⊥
-IsBest vs m n (Some p) = (v : SemanticVersion) × (slice_get vs p ≡ Some v) × (is_kept m v ≡ true) × IsHighest vs m n v
+IsBest vs m n None = (k : ℕ) (u : SemanticVersion) → k < n → slice_get vs k ≡ Some u → counts m u ≡ true → ⊥
+IsBest vs m n (Some p) = (v : SemanticVersion) × (slice_get vs p ≡ Some v) × (counts m v ≡ true) × IsHighest vs m n v
 
 -- of versions that fit one path, at most one is the top, and at most one is the top of those that a go.mod does not retract
 abbrev pub TopIsOne : Type 0

@@ -16,7 +16,7 @@ pub mod laws;
 ghost use Rattle.std.specs.Option.{option_copied};
 ghost use Rattle.std.specs.Prelude.{◌≡◌, ◌<◌, ◌+◌, IfOk, Some, length, map};
 ghost use Rattle.gomod.specs.Module.{GoModule, is_retracted};
-ghost use Rattle.latest.specs.Latest.{IsBest, NamesTop, among, is_higher, is_kept, kept, unretracted};
+ghost use Rattle.latest.specs.Latest.{IsBest, NamesTop, among, counting, counts, is_higher, unretracted};
 
 use gomod::GoMod;
 use modver::{Version, rank_compare};
@@ -27,7 +27,7 @@ use std::cmp::Ordering;
 pub fn top(versions: &[Version]) -> Option<usize>
     ensures { NamesTop versions.now (among versions.now) result }
 {
-    top_of_kept(versions, None)
+    top_of_counting(versions, None)
 }
 
 /// Returns the index of the highest version by rank that a go.mod does not retract, or `None` if it retracts every
@@ -35,7 +35,7 @@ pub fn top(versions: &[Version]) -> Option<usize>
 pub fn latest(versions: &[Version], gomod: &GoMod) -> Option<usize>
     ensures { NamesTop versions.now (unretracted versions.now gomod.now) result }
 {
-    top_of_kept(versions, Some(gomod))
+    top_of_counting(versions, Some(gomod))
 }
 
 /// Returns the index of the highest version by rank that a go.mod does not retract, or `None` if it retracts every
@@ -46,15 +46,15 @@ pub fn latest_of(
     versions: &[Version],
     gomod: &GoMod,
 ) -> Result<Option<usize>, AllocError>
-    ensures { IfOk result (λ place. NamesTop versions.now (unretracted versions.now gomod.now) place) }
+    ensures { IfOk result (λ index. NamesTop versions.now (unretracted versions.now gomod.now) index) }
 {
     let retracted = gomod.retracted(alloc, versions)?;
     Ok(top_unmarked(versions, &retracted))
 }
 
 /// Whether a version counts: any version if no go.mod is given, and otherwise one that the go.mod does not retract.
-fn is_kept(retractions: Option<&GoMod>, version: &Version) -> bool
-    ensures { result ≡ is_kept (option_copied retractions.entry) version.now }
+fn counts(retractions: Option<&GoMod>, version: &Version) -> bool
+    ensures { result ≡ counts (option_copied retractions.entry) version.now }
 {
     match retractions {
         Some(gomod) => !gomod.retracts(version),
@@ -63,36 +63,36 @@ fn is_kept(retractions: Option<&GoMod>, version: &Version) -> bool
 }
 
 /// Returns the index of the highest version that counts, or `None` if none does.
-fn top_of_kept(versions: &[Version], retractions: Option<&GoMod>) -> Option<usize>
-    ensures { NamesTop versions.now (kept versions.now (option_copied retractions.entry)) result }
+fn top_of_counting(versions: &[Version], retractions: Option<&GoMod>) -> Option<usize>
+    ensures { NamesTop versions.now (counting versions.now (option_copied retractions.entry)) result }
 {
     let mut highest = None;
-    for place in 0..versions.len() {
-        highest = better(versions, retractions, place, highest);
+    for index in 0..versions.len() {
+        highest = better(versions, retractions, index, highest);
     }
     highest
 }
 
-/// Returns the index of the highest version that counts among those up to `place`, from the index of the highest before
-/// `place`. A version that is not above that one is not compared with the retractions.
+/// Returns the index of the highest version that counts among those up to `index`, from the index of the highest before
+/// `index`. A version that is not above that one is not compared with the retractions.
 fn better(
     versions: &[Version],
     retractions: Option<&GoMod>,
-    place: usize,
+    index: usize,
     highest: Option<usize>,
 ) -> Option<usize>
-    requires { place < length versions.now }
-    ensures { IsBest versions.now (option_copied retractions.entry) place highest
-        → IsBest versions.now (option_copied retractions.entry) (place + 1) result }
+    requires { index < length versions.now }
+    ensures { IsBest versions.now (option_copied retractions.entry) index highest
+        → IsBest versions.now (option_copied retractions.entry) (index + 1) result }
 {
-    let version = &versions[place];
+    let version = &versions[index];
     if !is_higher(versions, version, highest) {
         return highest;
     }
-    if !is_kept(retractions, version) {
+    if !counts(retractions, version) {
         return highest;
     }
-    Some(place)
+    Some(index)
 }
 
 /// Whether a version is above the one at an index, or there is no version at the index.
@@ -101,7 +101,7 @@ fn is_higher(versions: &[Version], version: &Version, highest: Option<usize>) ->
 {
     match highest {
         None => true,
-        Some(place) => match versions.get(place) {
+        Some(index) => match versions.get(index) {
             None => true,
             Some(other) => rank_compare(version, other) == Ordering::Greater,
         },
@@ -112,7 +112,7 @@ fn is_higher(versions: &[Version], version: &Version, highest: Option<usize>) ->
 fn top_unmarked(versions: &[Version], retracted: &[bool]) -> Option<usize>
     requires { length retracted.now ≡ length versions.now }
     ensures { (m : GoModule) → retracted.now ≡ map (is_retracted m) versions.now
-        → NamesTop versions.now (kept versions.now (Some m)) result }
+        → NamesTop versions.now (counting versions.now (Some m)) result }
 {
     let mut highest = None;
     for next in 0..versions.len() {
@@ -121,24 +121,24 @@ fn top_unmarked(versions: &[Version], retracted: &[bool]) -> Option<usize>
     highest
 }
 
-/// Returns the index of the highest version without a mark among those up to `place`, from the index of the highest
-/// before `place`.
+/// Returns the index of the highest version without a mark among those up to `index`, from the index of the highest
+/// before `index`.
 fn better_unmarked(
     versions: &[Version],
     retracted: &[bool],
-    place: usize,
+    index: usize,
     highest: Option<usize>,
 ) -> Option<usize>
-    requires { (place < length versions.now) × (length retracted.now ≡ length versions.now) }
+    requires { (index < length versions.now) × (length retracted.now ≡ length versions.now) }
     ensures { (m : GoModule) → retracted.now ≡ map (is_retracted m) versions.now
-        → IsBest versions.now (Some m) place highest → IsBest versions.now (Some m) (place + 1) result }
+        → IsBest versions.now (Some m) index highest → IsBest versions.now (Some m) (index + 1) result }
 {
-    let version = &versions[place];
-    if retracted[place] {
+    let version = &versions[index];
+    if retracted[index] {
         return highest;
     }
     if !is_higher(versions, version, highest) {
         return highest;
     }
-    Some(place)
+    Some(index)
 }

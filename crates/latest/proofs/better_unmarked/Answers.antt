@@ -1,20 +1,20 @@
 use Rattle.std.proofs.Common.{◌≡◌, true, false, sym, Some, rules}
 use Rattle.std.specs.Prelude.{slice_get}
-use Rattle.latest.specs.Latest.{is_higher, is_kept}
+use Rattle.latest.specs.Latest.{is_higher, counts}
 use Rattle.latest.proofs.Scans.{above, found, marked_at, not_above}
 use Rattle.latest.proofs.better_unmarked.Goals as goal
 
 pub returns : goal.returns
 returns c m marks best =
-    let x = c.index-versions-place.result in
-    let at : slice_get c.args.versions.now c.args.place ≡ Some x = found _ _ _ c.requires.0 (sym c.index-versions-place.is) in
+    let x = c.index-versions-index.result in
+    let at : slice_get c.args.versions.now c.args.index ≡ Some x = found _ _ _ c.requires.0 (sym c.index-versions-index.is) in
     let high : is_higher c.args.versions.now x c.args.highest ≡ true = search rules in
-    let counts : is_kept (Some m) x ≡ true = marked_at m _ _ marks _ x c.requires.0 (sym c.index-versions-place.is) false c.if-retracted-place.false in
-    above _ (Some m) _ _ at _ best counts high
+    let counted : counts (Some m) x ≡ true = marked_at m _ _ marks _ x c.requires.0 (sym c.index-versions-index.is) false c.if-retracted-index.false in
+    above _ (Some m) _ _ at _ best counted high
 
 pub returns-then-not-is_higher : goal.returns-then-not-is_higher
 returns-then-not-is_higher c m marks best =
-    let x = c.index-versions-place.result in
-    let at : slice_get c.args.versions.now c.args.place ≡ Some x = found _ _ _ c.requires.0 (sym c.index-versions-place.is) in
+    let x = c.index-versions-index.result in
+    let at : slice_get c.args.versions.now c.args.index ≡ Some x = found _ _ _ c.requires.0 (sym c.index-versions-index.is) in
     let low : is_higher c.args.versions.now x c.args.highest ≡ false = search rules in
     not_above _ (Some m) _ _ at _ best low

@@ -16,7 +16,7 @@ use text::Text;
 /// The figure bounds the memory, not the answers: a heavier heading is queried each time.
 const MOST_WEIGHT: usize = 8_388_608;
 
-/// What a heading weighs in addition to its go.mod: its names, its time and its place among the others.
+/// What a heading weighs in addition to its go.mod: its names, its time and its position among the others.
 /// So there are at most 16,384 headings.
 const HEADING_WEIGHT: usize = 512;
 

@@ -18,7 +18,7 @@ use world::version_list::Versions;
 /// The figure bounds the memory, not the answers: a heavier list is queried each time.
 const MOST_WEIGHT: usize = 65_536;
 
-/// What a list weighs in addition to its versions: its names, its latest version and its place among the others.
+/// What a list weighs in addition to its versions: its names, its latest version and its position among the others.
 /// So there are at most 7,281 lists. A publish goes over them all.
 const LIST_WEIGHT: usize = 8;
 

@@ -81,7 +81,7 @@ impl<V> Recent<V> {
 }
 
 impl<V: Drop> Recent<V> {
-    /// Caches a value of this weight under a number, in place of the one that was there. If memory runs out, the value is not
+    /// Caches a value of this weight under a number, instead of the one that was there. If memory runs out, the value is not
     /// cached. A value that weighs more than `most` changes nothing.
     pub(crate) fn keep(&mut self, alloc: Global, number: u64, weight: usize, value: V)
         ensures { (v : _) → Holds self.new v → Holds self.old v ⊎ (v ≡ value) }

@@ -15,7 +15,7 @@ use world::entry::{Entry, MAX_ZIP, Place, Seen};
 /// The figure bounds the memory, not the answers: a zip that is not kept is read from the tables.
 const MOST_WEIGHT: usize = 2 * (MAX_ZIP + ZIP_WEIGHT);
 
-/// What a zip weighs beside its memory: the names of its place, and its place among the others.
+/// What a zip weighs beside its memory: the names of its place, and its position among the others.
 const ZIP_WEIGHT: usize = 512;
 
 /// The zip of an entry, with the place of the entry.
@@ -79,7 +79,7 @@ impl Recent<KeptZip> {
         version: &str,
         seen: Option<Seen>,
     ) -> Option<Seen>
-        ensures kept { (w : World) → AreZips w self.old → IsSeenAt w path.now version.now seen → AreZips w self.new }
+        ensures zips { (w : World) → AreZips w self.old → IsSeenAt w path.now version.now seen → AreZips w self.new }
         ensures same { result ≡ seen }
     {
         let Seen { shelf, entry } = seen?;
@@ -103,7 +103,7 @@ impl Recent<KeptZip> {
         version: &str,
         zip: Bytes,
     ) -> Bytes
-        ensures kept { (w : World) → AreZips w self.old → IsZipAt w (place shelf.now path.now version.now) zip
+        ensures zips { (w : World) → AreZips w self.old → IsZipAt w (place shelf.now path.now version.now) zip
             → AreZips w self.new }
         ensures same { result ≡ zip }
     {

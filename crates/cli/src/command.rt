@@ -1,7 +1,7 @@
 //! One whole run of the program.
 ghost use Rattle.std.specs.Prelude.{◌≡◌};
 ghost use Rattle.clap.specs.Values.{kind_of};
-ghost use Rattle.commands.specs.Exit.{IsSilent};
+ghost use Rattle.commands.specs.Exit.{IsSilent, Says, status_of};
 ghost use Rattle.commands.specs.ImportLine.{PrintsFront};
 ghost use Rattle.cli.specs.Run.{EndsShown, Exits, RefusesWords, Tells, new_store_line};
 
@@ -53,19 +53,26 @@ pub fn command_by<P: Runner, I: Read, O: Write, E: Write>(
         (I.remaining input.old) (I.remaining input.new) (O.contents output.old) (O.contents output.new)
         (E.contents errors.old) (E.contents errors.new) result }
 {
-    let exit = match matches_of(alloc, words) {
-        Ok(matches) => match command_of(&matches) {
-            Some(command) => {
-                tell_new_store(runner, &command, errors);
-                Exit::of_command(runner.run(&command, input, output))
-            }
-            // the parser refuses such words
-            None => Exit::BadUsage,
-        },
-        Err(error) => show(error, output, errors),
+    let matches = match matches_of(alloc, words) {
+        Ok(matches) => matches,
+        Err(error) => return end(show(error, output, errors), errors),
     };
-    exit.tell(errors);
-    exit.status()
+    let Some(command) = command_of(&matches) else {
+        // the parser refuses such words
+        return end(Exit::BadUsage, errors);
+    };
+    tell_new_store(runner, &command, errors);
+    let told = runner.run(&command, input, output);
+    end(Exit::of_command(told), errors)
+}
+
+/// Writes the line that says why a run was refused, if it was, and returns the exit status.
+fn end<E: Write>(ended: Exit, errors: &mut E) -> u8
+    ensures says { Says (E.contents errors.old) (E.contents errors.new) ended }
+    ensures status { result ≡ status_of ended }
+{
+    ended.tell(errors);
+    ended.status()
 }
 
 /// Returns what the parser reads in the words. Fails with the text that is shown in place of a run.
@@ -127,6 +134,5 @@ pub fn words_refused<E: Write>(error: io::Error, errors: &mut E) -> u8
             Exit::BadUsage
         }
     };
-    ended.tell(errors);
-    ended.status()
+    end(ended, errors)
 }

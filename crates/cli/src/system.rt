@@ -70,10 +70,8 @@ impl<'a> Runner for SystemStores<'a> {
     ghost use Rattle.runner.specs.Command.{Runs};
 
     ghost ran = { λ _ _.
-        Runs (state ⟦<FoundFiles as Store>⟧)
-        ⟦<Found as Shelves>⟧.shown ⟦<Found as Shelves>⟧.failure_count (image_at ⟦<Unknown as Start>⟧)
-        ⟦<Target as Shelves>⟧.shown ⟦<Target as Shelves>⟧.failure_count
-        (image_at ⟦<UnknownTarget as Start>⟧) };
+        Runs (state ⟦<FoundFiles as Store>⟧) ⟦<Found as Shelves>⟧.shown (image_at ⟦<Unknown as Start>⟧)
+        ⟦<Target as Shelves>⟧.shown (image_at ⟦<UnknownTarget as Start>⟧) };
 
     fn is_new(&self, db: &str) -> bool {
         has_no_bytes(self.rt, db)

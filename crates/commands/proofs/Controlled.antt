@@ -85,10 +85,10 @@ abbrev outcome_in_told : Told → Outcome
 outcome_in_told (spoken.Outcome outcome) = outcome
 outcome_in_told (spoken.Health line) = outcome.Bad
 
-module _ (old new : Shown) (before now : ℕ) (sent : List ℕ) (order asked : Order) (result : Result (Unit {0}) CommandRefusal) (w : World) where
+module _ (old new : Shown) (sent : List ℕ) (order asked : Order) (result : Result (Unit {0}) CommandRefusal) (w : World) where
   carried : new.is_honest → old.stands w → IsWorld w → ComeToTheSame asked order → IsSent sent asked → (other : Order) → IsSent sent other
       → (told : Result Registered StoreFault) → result ≡ told_ending asked (Ok (outcome_of told))
-      → GoesThroughTurns old new before now (turns_heard (Carried other told)) false → EndsAt new w order result
+      → GoesThroughTurns old new (turns_heard (Carried other told)) false → EndsAt new w order result
   carried honest stands is same asks other heard (Ok r) ends through =
       let run = through.runs.at honest w stands in
       let event = same_event sent asked other asks heard in
@@ -98,7 +98,7 @@ module _ (old new : Shown) (before now : ℕ) (sent : List ℕ) (order asked : O
 
   heard_so : new.is_honest → old.stands w → IsWorld w → ComeToTheSame asked order → IsSent sent asked → (heard : Heard) → IsHeardIn sent heard
       → (outcome : Outcome) → spoken.Outcome outcome ≡ told_heard heard → result ≡ told_ending asked (Ok outcome)
-      → GoesThroughTurns old new before now (turns_heard heard) (is_read heard)
+      → GoesThroughTurns old new (turns_heard heard) (is_read heard)
       → EndsAt new w order result
   heard_so honest stands is same asks (Carried other told) from outcome tells ends through =
       carried honest stands is same asks other from told (ends ∙ ap (λ o. told_ending asked (Ok o)) (ap outcome_in_told tells)) through
@@ -116,5 +116,5 @@ ends_as_on_the_store copied pinged old new sound order result w two honest stand
     let asked = two.command.asked in
     let asks = subst (λ told. Asks two.unread two.unread_new (Some []) (Some two.sent) asked told) two.heard two.command.asks in
     let sends : IsSent two.sent asked = subst (λ got. IsSent got asked) (sym asks.2) asks.1 in
-    heard_so old new two.before two.now two.sent order asked result w honest stands (sound w stands) two.command.same sends two.server.heard two.server.from
+    heard_so old new two.sent order asked result w honest stands (sound w stands) two.command.same sends two.server.heard two.server.from
     two.told two.server.tells (two.command.ends ∙ ap (told_ending asked) two.heard) two.server.through

@@ -1,5 +1,5 @@
 -- Gathering a list from a store, part by part.
-use Rattle.std.proofs.Common.{◌≡◌, ◌++◌, ◌∷◌, List, Ok, ◌∙◌, ap, subst, append_assoc}
+use Rattle.std.proofs.Common.{◌≡◌, ◌≤◌, ◌++◌, ◌∷◌, List, Ok, ◌∙◌, ap, subst, append_assoc, arith}
 use Rattle.std.specs.List.{flat_map}
 use Rattle.world.specs.Store.{Shown}
 use Rattle.world.specs.World.{World}
@@ -11,10 +11,11 @@ pub record KeepsAt (old new : Shown) (w : World) (so : Type 0) : Type 0 where
   pub stays : new.stands w
   pub left : (x y : World) → old.leaves x y → new.leaves x y
 
--- it holds in each world that the store stood for
+-- it holds in each world that the store stood for, and the count of failures did not fall
 pub record Keeps (old new : Shown) (so : World → Type 0) : Type 0 where
   pub honest : new.is_honest → old.is_honest
   pub at : new.is_honest → (w : World) → old.stands w → KeepsAt old new w (so w)
+  pub no_fewer : old.failures ≤ new.failures
 
 module _ {X T : Type 0} (f : World → X → List T) (before : List T) (goal : World → List T) where
   -- the items gathered, and those of what is left, are those that were there first and the goal
@@ -34,6 +35,7 @@ module _ {X T : Type 0} (f : World → X → List T) (before : List T) (goal : W
           stays = told.stays;
           left = λ x y before. told.left x y (was.left x y before);
         };
+    no_fewer = omega (arith, far.no_fewer, adds.cause.no_fewer);
   }
 
   -- if the items of the next part of what is left were added, gathering goes on

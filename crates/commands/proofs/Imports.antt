@@ -8,7 +8,7 @@ use Rattle.csv.specs.declared.parser.State.{State}
 use Rattle.csv.specs.declared.reader.Reader.{Reader}
 use Rattle.engine.specs.declared.fault.Io.{Io}
 use Rattle.engine.specs.declared.fault.Io.TheVariants as io
-use Rattle.shelf.proofs.Runs.{runs_begun, runs_replied, runs_failed, runs_joined, grown_more, grown_before}
+use Rattle.shelf.proofs.Runs.{runs_begun, runs_replied, runs_failed, runs_joined}
 use Rattle.shelf.specs.Machine.{ask_reply, after_ask, MetDevice}
 use Rattle.shelf.specs.Runs.{Runs}
 use Rattle.shelf.specs.declared.ask.Ask.{Ask}
@@ -19,8 +19,9 @@ use Rattle.shelf.specs.declared.reply.Answer.TheVariants.{Replied, Failed}
 use Rattle.shelf.specs.declared.reply.Reply.{Reply}
 use Rattle.wire.specs.declared.reply.Fixed.{Fixed}
 use Rattle.wire.specs.declared.reply.Fixed.TheVariants.{Unavailable}
-use Rattle.world.specs.Store.{Shown, Does, HasCause}
+use Rattle.world.specs.Store.{Shown, Does}
 use Rattle.world.specs.declared.registry.StoreFault.{StoreFault}
+use Rattle.world.proofs.Causes.{grown_more, grown_before}
 use Rattle.commands.specs.Import as spec
 use Rattle.commands.specs.Import.{Turn, GoesThrough, Publishes, DoesRow, Imports, Answers, HasNoFile, Unfetched}
 use Rattle.commands.specs.ImportFiles.{IsBodyOf}
@@ -50,61 +51,59 @@ met_either (a ∷ first) last (inr later) = elim (met_either first last later) [
 
 -- ---- one row
 
-module _ (old new : Shown) (before now : ℕ) (ask : Ask) where
+module _ (old new : Shown) (ask : Ask) where
   -- an ask that the machine answered, or that met a fault, is a run of one event
   pub published : (told : Result Reply StoreFault) (answer : Fixed)
-      → Does old new told (λ w. ask_reply w ask) (λ w. after_ask w ask) → HasCause before now told → answer ≡ answer_of told
-      → Publishes old new before now ask answer
-  published (Ok reply) answer does cause is = record {
+      → Does old new told (λ w. ask_reply w ask) (λ w. after_ask w ask) → answer ≡ answer_of told → Publishes old new ask answer
+  published (Ok reply) answer does is = record {
     told = Replied reply;
     runs = record {
       honest = does.honest;
       at = λ h w stands. runs_replied old new w (Asked ask) reply (does.at h w stands tt);
     };
     is = is;
-    no_fewer = cause.no_fewer;
+    no_fewer = does.cause.no_fewer;
     device = λ met. elim met [ inl e ↦ absurd (cc e) | inr never ↦ absurd never ];
   }
-  published (Err fault) answer does cause is = record {
+  published (Err fault) answer does is = record {
     told = Failed fault;
     runs = record {
       honest = does.honest;
       at = λ h w stands. runs_failed old new w (Asked ask) fault _ (does.at h w stands tt);
     };
     is = is;
-    no_fewer = cause.no_fewer;
-    device = λ met. elim met [ inl e ↦ cause.device (cc e) | inr never ↦ absurd never ];
+    no_fewer = does.cause.no_fewer;
+    device = λ met. elim met [ inl e ↦ does.cause.device (cc e) | inr never ↦ absurd never ];
   }
 
 module _ (told : List ℕ → Option (Option (List ℕ))) (key : List ℕ) where
   -- a row whose files were read is a publish of them
-  pub row_published : (old new : Shown) (before now : ℕ) (l : Line) (body : Body) (answer : Fixed) → IsBodyOf told l (Ok body)
-      → Publishes old new before now (spec.ask_of key l body) answer → DoesRow old new before now told key l (outcome.Answered answer)
-  row_published old new before now l body answer had is = record {
+  pub row_published : (old new : Shown) (l : Line) (body : Body) (answer : Fixed) → IsBodyOf told l (Ok body)
+      → Publishes old new (spec.ask_of key l body) answer → DoesRow old new told key l (outcome.Answered answer)
+  row_published old new l body answer had is = record {
     done = Answers (spec.ask_of key l body) is.told;
     through = record { done = ((body, had, refl), tt); runs = is.runs; no_fewer = is.no_fewer; device = is.device };
     is = ap outcome.Answered is.is;
   }
 
   -- a row that was not asked of the machine leaves the store as it was
-  pub row_without_file : (old : Shown) (before : ℕ) (l : Line) → IsBodyOf told l (Err source.NoFile)
-      → DoesRow old old before before told key l outcome.NoFile
-  row_without_file old before l none = record {
+  pub row_without_file : (old : Shown) (l : Line) → IsBodyOf told l (Err source.NoFile) → DoesRow old old told key l outcome.NoFile
+  row_without_file old l none = record {
     done = HasNoFile;
     through = record { done = (none, tt); runs = runs_begun old; no_fewer = omega arith; device = λ never. absurd never };
     is = refl;
   }
 
-  pub row_unfetched : (old : Shown) (before : ℕ) (l : Line) → DoesRow old old before before told key l (outcome.Answered Unavailable)
-  row_unfetched old before l = record {
+  pub row_unfetched : (old : Shown) (l : Line) → DoesRow old old told key l (outcome.Answered Unavailable)
+  row_unfetched old l = record {
     done = Unfetched;
     through = record { done = (tt, tt); runs = runs_begun old; no_fewer = omega arith; device = λ never. absurd never };
     is = refl;
   }
 
   -- an unchanged store goes through no rows
-  pub nothing_done : (old : Shown) (before : ℕ) → GoesThrough old old before before told key []
-  nothing_done old before = record {
+  pub nothing_done : (old : Shown) → GoesThrough old old told key []
+  nothing_done old = record {
     done = tt;
     runs = runs_begun old;
     no_fewer = omega arith;
@@ -118,9 +117,9 @@ module _ (told : List ℕ → Option (Option (List ℕ))) (key : List ℕ) where
   done_more (u ∷ turns) t done last = (done.0, done_more turns t done.1 last)
 
   -- a store that goes through rows and then through one more goes through all of them
-  pub through_more : (a b c : Shown) (n0 n1 n2 : ℕ) (turns : List Turn) (t : Turn) → GoesThrough a b n0 n1 told key turns
-      → GoesThrough b c n1 n2 told key (t ∷ []) → GoesThrough a c n0 n2 told key (turns ++ t ∷ [])
-  through_more a b c n0 n1 n2 turns t far next = record {
+  pub through_more : (a b c : Shown) (turns : List Turn) (t : Turn) → GoesThrough a b told key turns
+      → GoesThrough b c told key (t ∷ []) → GoesThrough a c told key (turns ++ t ∷ [])
+  through_more a b c turns t far next = record {
     done = done_more turns t far.done next.done.0;
     runs = subst (λ es. Runs a c es (spec.answers (turns ++ t ∷ []))) (sym (events_more turns t))
         (subst (λ told. Runs a c (spec.events turns ++ spec.events (t ∷ [])) told) (sym (answers_more turns t))
@@ -128,30 +127,30 @@ module _ (told : List ℕ → Option (Option (List ℕ))) (key : List ℕ) where
     no_fewer = omega (arith, far.no_fewer, next.no_fewer);
     device = λ met.
         elim (met_either (spec.answers turns) (spec.answers (t ∷ [])) (subst MetDevice (answers_more turns t) met)) [
-          | inl x ↦ grown_more n0 n1 n2 (far.device x) next.no_fewer
-          | inr x ↦ grown_before n0 n1 n2 far.no_fewer (next.device x)
+          | inl x ↦ grown_more a.failures b.failures c.failures (far.device x) next.no_fewer
+          | inr x ↦ grown_before a.failures b.failures c.failures far.no_fewer (next.device x)
         ];
   }
 
   -- a store that goes through rows and then through none goes through the rows
-  pub through_idle : (a b c : Shown) (n0 n1 n2 : ℕ) (turns : List Turn) → GoesThrough a b n0 n1 told key turns
-      → GoesThrough b c n1 n2 told key [] → GoesThrough a c n0 n2 told key turns
-  through_idle a b c n0 n1 n2 turns far idle = record {
+  pub through_idle : (a b c : Shown) (turns : List Turn) → GoesThrough a b told key turns
+      → GoesThrough b c told key [] → GoesThrough a c told key turns
+  through_idle a b c turns far idle = record {
     done = far.done;
     runs = subst (λ es. Runs a c es (spec.answers turns)) (append-nil (spec.events turns))
         (subst (λ xs. Runs a c (spec.events turns ++ []) xs) (append-nil (spec.answers turns))
         (runs_joined a b c (spec.events turns) [] (spec.answers turns) [] far.runs idle.runs));
     no_fewer = omega (arith, far.no_fewer, idle.no_fewer);
-    device = λ met. grown_more n0 n1 n2 (far.device met) idle.no_fewer;
+    device = λ met. grown_more a.failures b.failures c.failures (far.device met) idle.no_fewer;
   }
 
   -- ---- how an import ends
 
-  module _ (old new : Shown) (before now : ℕ) (list w0 w1 w2 : Option (List ℕ)) (turns : List Turn) where
+  module _ (old new : Shown) (list w0 w1 w2 : Option (List ℕ)) (turns : List Turn) where
     -- an import that did these rows and printed the line that ends it does as `Imports` says
     pub closed : (n : ℕ) (why : Closing) (accepted : Bool) (result : Result Ending Io) → spec.AreFirst list turns
-        → GoesThrough old new before now told key turns → spec.IsOver list turns n why → accepted ≡ list_all spec.is_accepted turns → Appends w0 w1 (spec.lines_from 1 turns)
-        → spec.Closes n why accepted w1 w2 result → Imports old new before now told key list w0 w2 result
+        → GoesThrough old new told key turns → spec.IsOver list turns n why → accepted ≡ list_all spec.is_accepted turns → Appends w0 w1 (spec.lines_from 1 turns)
+        → spec.Closes n why accepted w1 w2 result → Imports old new told key list w0 w2 result
     closed n why accepted (Ok e) front far over all printed closes = record {
       turns = turns;
       first = front;
@@ -166,14 +165,13 @@ module _ (told : List ℕ → Option (Option (List ℕ))) (key : List ℕ) where
     }
 
     -- an import whose output broke off in the line of a row does as `Imports` says
-    pub broken_off : (mid : Shown) (between n : ℕ) (t : Turn) (e : Io) → spec.AreFirst list (turns ++ t ∷ [])
-        → GoesThrough old mid before between told key turns
-        → GoesThrough mid new between now told key (t ∷ []) → Appends w0 w1 (spec.lines_from 1 turns) → n ≡ length turns + 1 → e ≡ io.Write
-        → PrintsFront w1 w2 (spec.line_of n t) → Imports old new before now told key list w0 w2 (Err e)
-    broken_off mid between n t e first far next printed count is front = record {
+    pub broken_off : (mid : Shown) (n : ℕ) (t : Turn) (e : Io) → spec.AreFirst list (turns ++ t ∷ [])
+        → GoesThrough old mid told key turns → GoesThrough mid new told key (t ∷ []) → Appends w0 w1 (spec.lines_from 1 turns) → n ≡ length turns + 1 → e ≡ io.Write
+        → PrintsFront w1 w2 (spec.line_of n t) → Imports old new told key list w0 w2 (Err e)
+    broken_off mid n t e first far next printed count is front = record {
       turns = turns ++ t ∷ [];
       first = first;
-      through = through_more old mid new before between now turns t far next;
+      through = through_more old mid new turns t far next;
       ends = (is, inl (turns, t, front.0, refl, subst (λ k. IsFront front.0 (spec.line_of k t)) count front.1, Appends-trans w0 w1 w2 _ _ printed front.2));
     }
 

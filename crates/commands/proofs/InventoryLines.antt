@@ -8,8 +8,9 @@ use Rattle.world.specs.Store.{Shown, Reads}
 use Rattle.world.specs.Versions.{versions_of}
 use Rattle.world.specs.Visible.{paths_seen}
 use Rattle.world.specs.World.{World}
+use Rattle.world.proofs.Causes.{answers}
 use Rattle.commands.specs.Inventory.{row_at, rows_at, rows_of_text, rows_seen, line, header, fields, inventory_of_shelf}
-use Rattle.commands.specs.InventoryLines.{lines_of, lines_at, lines_of_path, lines_of_read, lines_of_text, lines_seen}
+use Rattle.commands.specs.InventoryLines.{lines_of, lines_of_read, lines_of_text, lines_seen}
 use Rattle.commands.specs.Reading.{Adds}
 
 module _ {A B C : Type 0} where
@@ -48,4 +49,5 @@ reads_lines old new s before after text begins is adds = record {
         stays = told.stays;
         left = told.left;
       };
+  cause = answers old new text adds.cause.no_fewer;
 }

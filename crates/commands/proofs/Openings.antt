@@ -58,7 +58,7 @@ module _ (old new : World) (t : List ℕ) (r : Registered) where
 
 -- requests that were answered from shelves at the opening's world were answered from the opening
 pub served_from : (start begin end : World) (unread unread_new written written_new : Option (List ℕ)) (result : Result (Unit {0}) Failure)
-    → Serves (in_memory start) (in_memory end) 0 0 unread unread_new written written_new result → start ≡ begin
+    → Serves (in_memory start) (in_memory end) unread unread_new written written_new result → start ≡ begin
     → ServedFrom begin unread unread_new written written_new result
 served_from start begin end unread unread_new written written_new result serves is =
-    (end, subst (λ w. Serves (in_memory w) (in_memory end) 0 0 unread unread_new written written_new result) is serves)
+    (end, subst (λ w. Serves (in_memory w) (in_memory end) unread unread_new written written_new result) is serves)

@@ -6,6 +6,7 @@ use Rattle.outline.specs.declared.outlines.Outline.{Outline}
 use Rattle.world.specs.declared.entry.Seen.{Seen}
 use Rattle.world.specs.Store.{Shown, Reads}
 use Rattle.world.specs.World.{view}
+use Rattle.world.proofs.Causes.{answers}
 use Rattle.commands.specs.Inventory.{row_of, line, fields}
 use Rattle.commands.specs.InventoryLines.{outlined, lines_of, lines_at}
 use Rattle.commands.specs.Reading.{Adds}
@@ -30,6 +31,7 @@ module _ (old new : Shown) (s p : List ℕ) (v : SemanticVersion) (found : Optio
           stays = here.stays;
           left = here.left;
         };
+    cause = answers old new after read.cause.no_fewer;
   }
 
   -- without an outline, adding nothing adds the lines of the version

@@ -33,26 +33,25 @@ abbrev pub acceptance : Result (Unit {0}) CommandRefusal → Result Bool Command
 acceptance (Ok u) = Ok true
 acceptance (Err refusal) = Err refusal
 
-module _ {S : Type 0} (shown : S → Shown) (failures : S → ℕ) (copied : Copied S) (counted : Counted S) (old new : Moment S) where
+module _ {S : Type 0} (shown : S → Shown) (copied : Copied S) (counted : Counted S) (old new : Moment S) where
   -- the store did a command of the registry, with this outcome and this next world, and nothing was read or written
   pub record RegistersAlone (outcome : World → Registered) (next : World → World) (result : Result Bool CommandRefusal) : Type 0 where
     pub ended : Result (Unit {0}) CommandRefusal
-    pub registers : Registers (shown old.store) (shown new.store) (failures old.store) (failures new.store) outcome next ended
+    pub registers : Registers (shown old.store) (shown new.store) outcome next ended
     pub told : result ≡ acceptance ended
     pub silent : IsSilent old new
 
   -- the requests of the input were answered from the store
   pub record AnswersFrom (result : Result Bool CommandRefusal) : Type 0 where
     pub ended : Result (Unit {0}) CommandRefusal
-    pub answers : AnswersAll (shown old.store) (shown new.store) (failures old.store) (failures new.store)
-        old.unread new.unread old.written new.written ended
+    pub answers : AnswersAll (shown old.store) (shown new.store) old.unread new.unread old.written new.written ended
     pub told : result ≡ acceptance ended
 
   -- connections were served from the store, and nothing was read from the input
   pub record ServesConnections
       (entrance : Entrance) (connections : ℕ) (control : Option (List ℕ)) (result : Result Bool CommandRefusal) : Type 0 where
     pub ended : Result (Unit {0}) CommandRefusal
-    pub serves : ListensAs shown failures copied counted old.store new.store entrance connections control old.written new.written ended
+    pub serves : ListensAs shown copied counted old.store new.store entrance connections control old.written new.written ended
     pub told : result ≡ acceptance ended
     pub unread : new.unread ≡ old.unread
 
@@ -72,15 +71,12 @@ module _ {S : Type 0} (shown : S → Shown) (failures : S → ℕ) (copied : Cop
   Acts result (action.KeyRevoke key) =
       RegistersAlone (λ w. key_revoked w key.now) (λ w. after_key_revoke w key.now (key_revoked w key.now)) result
   Acts result (action.Publish words files) =
-      PublishesFiles shown failures old.store new.store (asked_by words) old.written new.written result × (new.unread ≡ old.unread)
+      PublishesFiles shown old.store new.store (asked_by words) old.written new.written result × (new.unread ≡ old.unread)
   Acts result (action.Import key list) =
-      ImportsFile shown failures old.store new.store key.now old.written new.written result × (new.unread ≡ old.unread)
+      ImportsFile shown old.store new.store key.now old.written new.written result × (new.unread ≡ old.unread)
   Acts result (action.Inventory key) =
-      PrintsInventory (shown old.store) (shown new.store) (failures old.store) (failures new.store) key.now old.written new.written result
-      × (new.unread ≡ old.unread)
+      PrintsInventory (shown old.store) (shown new.store) key.now old.written new.written result × (new.unread ≡ old.unread)
   Acts result (action.Requires version) =
-      PrintsRequirements (shown old.store) (shown new.store) (failures old.store) (failures new.store) version
-      old.written new.written result
-      × (new.unread ≡ old.unread)
+      PrintsRequirements (shown old.store) (shown new.store) version old.written new.written result × (new.unread ≡ old.unread)
   Acts result action.Answer = AnswersFrom result
   Acts result (action.Serve entrance connections control) = ServesConnections entrance connections (option_copied control) result

@@ -22,11 +22,9 @@ pub record AreConnected (copied : List ℕ → Result (Unit {0}) CopyRefusal →
   pub unread_new : Option (List ℕ)
   pub sent : List ℕ
   pub told : Outcome
-  pub before : ℕ
-  pub now : ℕ
   pub command : OrdersOver unread unread_new (Some []) (Some sent) order result
   pub heard : command.told ≡ Ok told
-  pub server : Heeds copied pinged old new before now sent (spoken.Outcome told)
+  pub server : Heeds copied pinged old new sent (spoken.Outcome told)
 
 -- The command ends by the machine's reply to the order in this world, and the store stands for the world after it. Or it ends by a
 -- fault of the store, which still stands for this world.

@@ -1,7 +1,7 @@
 -- How a command ends, by the result of the store.
 use Rattle.std.specs.Prelude.{ℕ, ◌≡◌, List, codes, Result, Ok, Err}
 use Rattle.world.specs.World.{World}
-use Rattle.world.specs.Store.{Shown, Does, HasCause}
+use Rattle.world.specs.Store.{Shown, Does}
 use Rattle.world.specs.declared.registry.Registered.{Registered}
 use Rattle.world.specs.declared.registry.Registered.TheVariants as registered
 use Rattle.world.specs.declared.registry.StoreFault.{StoreFault}
@@ -38,9 +38,8 @@ ending (Err fault.Memory) = Err refusal.Memory
 -- From old to new the store did a registry command, with this outcome and this next world in each world that it stood for, or
 -- met a fault and changed nothing; and the command ends by that.
 pub record Registers
-    (old new : Shown) (before now : ℕ) (outcome : World → Registered) (next : World → World)
-    (result : Result (Unit {0}) CommandRefusal) : Type 0 where
+    (old new : Shown) (outcome : World → Registered) (next : World → World) (result : Result (Unit {0}) CommandRefusal)
+    : Type 0 where
   pub told : Result Registered StoreFault
   pub does : Does old new told outcome next
-  pub cause : HasCause before now told
   pub ends : result ≡ ending told

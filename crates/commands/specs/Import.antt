@@ -165,12 +165,12 @@ IsOver list turns n why =
 
 -- the store went through the rows in a run of publishes
 pub record GoesThrough
-    (old new : Shown) (before now : ℕ) (told : List ℕ → Option (Option (List ℕ))) (key : List ℕ) (turns : List Turn) : Type 0 where
+    (old new : Shown) (told : List ℕ → Option (Option (List ℕ))) (key : List ℕ) (turns : List Turn) : Type 0 where
   pub done : AreDone told key turns
   pub runs : Runs old new (events turns) (answers turns)
   -- the count never falls, and a `Device` fault is met only if it grew or is full
-  pub no_fewer : before ≤ now
-  pub device : MetDevice (answers turns) → GrewOrFull before now
+  pub no_fewer : old.failures ≤ new.failures
+  pub device : MetDevice (answers turns) → GrewOrFull old.failures new.failures
 
 -- The output broke off: in the line of the last row, or in the one that ends the import.
 abbrev pub BreaksOff : Option (List ℕ) → Option (List ℕ) → Option (List ℕ) → List Turn → Type 0
@@ -190,29 +190,28 @@ Ends list written written_new turns result =
 
 -- The rows at the front of the list were published one after another, and the import ended as `Ends` says.
 pub record Imports
-    (old new : Shown) (before now : ℕ) (told : List ℕ → Option (Option (List ℕ))) (key : List ℕ)
-    (list written written_new : Option (List ℕ)) (result : Result Ending Io) : Type 0 where
+    (old new : Shown) (told : List ℕ → Option (Option (List ℕ))) (key : List ℕ) (list written written_new : Option (List ℕ))
+    (result : Result Ending Io) : Type 0 where
   pub turns : List Turn
   pub first : AreFirst list turns
-  pub through : GoesThrough old new before now told key turns
+  pub through : GoesThrough old new told key turns
   pub ends : Ends list written written_new turns result
 
 -- ---- its parts
 
 -- an ask was answered as the machine answers it, or met a fault
-pub record Publishes (old new : Shown) (before now : ℕ) (ask : Ask) (answer : Fixed) : Type 0 where
+pub record Publishes (old new : Shown) (ask : Ask) (answer : Fixed) : Type 0 where
   pub told : Answer
   pub runs : Runs old new (Asked ask ∷ []) (told ∷ [])
   pub is : answer ≡ fixed_answer told
-  pub no_fewer : before ≤ now
-  pub device : MetDevice (told ∷ []) → GrewOrFull before now
+  pub no_fewer : old.failures ≤ new.failures
+  pub device : MetDevice (told ∷ []) → GrewOrFull old.failures new.failures
 
 -- a row was done, with this outcome
 pub record DoesRow
-    (old new : Shown) (before now : ℕ) (told : List ℕ → Option (Option (List ℕ))) (key : List ℕ) (l : Line)
-    (result : Outcome) : Type 0 where
+    (old new : Shown) (told : List ℕ → Option (Option (List ℕ))) (key : List ℕ) (l : Line) (result : Outcome) : Type 0 where
   pub done : Done
-  pub through : GoesThrough old new before now told key (record { line = l; done = done } ∷ [])
+  pub through : GoesThrough old new told key (record { line = l; done = done } ∷ [])
   pub is : result ≡ outcome_of done
 
 -- the line that ends the import, if there is one, was printed, or the output broke off
@@ -233,16 +232,16 @@ module _ {R : Type 0} (remaining : R → Option (List ℕ)) where
   FieldsRead list rows reader fields None = HasRead remaining list (rows ++ fields ∷ []) reader
   FieldsRead list rows reader fields (Some why) = IsClosing list rows why
 
-  module _ (old new : Shown) (before now : ℕ) (told : List ℕ → Option (Option (List ℕ))) (key : List ℕ) (list : Option (List ℕ))
+  module _ (old new : Shown) (told : List ℕ → Option (Option (List ℕ))) (key : List ℕ) (list : Option (List ℕ))
       (rows : List (List (List ℕ))) (reader : Reader R) (n : ℕ) (written written_new : Option (List ℕ)) where
     -- a row was done after these rows
     pub record TakesTurn (t : Turn) : Type 0 where
-      pub through : GoesThrough old new before now told key (t ∷ [])
+      pub through : GoesThrough old new told key (t ∷ [])
       pub read : HasRead remaining list (rows ++ fields_of_line t.line ∷ []) reader
 
     -- no row was done
     pub record IsIdle (why : Closing) : Type 0 where
-      pub through : GoesThrough old new before now told key []
+      pub through : GoesThrough old new told key []
       pub closing : IsClosing list rows why
       pub output : written_new ≡ written
 

@@ -15,12 +15,12 @@ told (Ok SomeOut) = Ok false
 told (Ok ABadRow) = Err BadRow
 told (Err failure) = Err Io
 
-module _ {S : Type 0} (shown : S → Shown) (failures : S → ℕ) (old new : S) (key : List ℕ) where
+module _ {S : Type 0} (shown : S → Shown) (old new : S) (key : List ℕ) where
   -- a list was imported whose bytes and files are not known
   pub record ImportsList (written written_new : Option (List ℕ)) (result : Result Bool CommandRefusal) : Type 0 where
     pub list : Option (List ℕ)
     pub ended : Result Ending Failure
-    pub imports : Imports (shown old) (shown new) (failures old) (failures new) (λ name. None) key list written written_new ended
+    pub imports : Imports (shown old) (shown new) (λ name. None) key list written written_new ended
     pub tells : result ≡ told ended
 
   -- a list was imported, or it could not be opened and nothing was done

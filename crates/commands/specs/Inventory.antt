@@ -10,7 +10,7 @@ use Rattle.modver.specs.declared.version.Class.TheVariants as class
 use Rattle.world.specs.Versions.{versions_of}
 use Rattle.world.specs.Forms.{path_of}
 use Rattle.world.specs.Lines.{in_order}
-use Rattle.world.specs.Store.{Shown, Reads, HasCause}
+use Rattle.world.specs.Store.{Shown, Reads}
 use Rattle.world.specs.Visible.{paths_seen}
 use Rattle.world.specs.World.{World, view}
 use Rattle.world.specs.declared.entry.Holder.{Holder}
@@ -105,8 +105,7 @@ ending (Err fault.Memory) = Err why.Memory
 
 -- From old to new the inventory of the key was read, in each world that the store stood for, or a fault was met. Nothing was
 -- changed, and the result is what was read.
-pub record Inventories (old new : Shown) (before now : ℕ) (key : List ℕ) (result : Result (List ℕ) InventoryFault) : Type 0 where
+pub record Inventories (old new : Shown) (key : List ℕ) (result : Result (List ℕ) InventoryFault) : Type 0 where
   pub told : Result (Option (List ℕ)) StoreFault
   pub reads : Reads old new told (λ w. inventory_of w (map.get w.keys key))
-  pub cause : HasCause before now told
   pub ends : result ≡ ending told

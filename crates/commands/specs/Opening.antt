@@ -21,7 +21,7 @@ pub record AreNames (team key : List ℕ) : Type 0 where
 -- the requests were answered from shelves in memory that began at this world, with this result
 abbrev pub ServedFrom : World → Option (List ℕ) → Option (List ℕ) → Option (List ℕ) → Option (List ℕ) → Result (Unit {0}) Failure → Type 0
 ServedFrom start unread unread_new written written_new result =
-    (end : World) × Serves (in_memory start) (in_memory end) 0 0 unread unread_new written written_new result
+    (end : World) × Serves (in_memory start) (in_memory end) unread unread_new written written_new result
 
 -- If the team and the key keep their rules, the requests are answered, or memory ran out before that. Otherwise nothing is read or
 -- written.
@@ -39,10 +39,8 @@ AnsweredFor team key unread unread_new written written_new (Err other) = ⊥
 
 -- The requests were answered from shelves that went from old to new, with this result.
 abbrev pub AnswersAll :
-    Shown → Shown → ℕ → ℕ → Option (List ℕ) → Option (List ℕ) → Option (List ℕ) → Option (List ℕ)
-    → Result (Unit {0}) CommandRefusal → Type 0
-AnswersAll old new before now unread unread_new written written_new (Ok u) =
-    Serves old new before now unread unread_new written written_new (Ok tt)
-AnswersAll old new before now unread unread_new written written_new (Err Io) =
-    (failure : Failure) × Serves old new before now unread unread_new written written_new (Err failure)
-AnswersAll old new before now unread unread_new written written_new (Err other) = ⊥
+    Shown → Shown → Option (List ℕ) → Option (List ℕ) → Option (List ℕ) → Option (List ℕ) → Result (Unit {0}) CommandRefusal → Type 0
+AnswersAll old new unread unread_new written written_new (Ok u) = Serves old new unread unread_new written written_new (Ok tt)
+AnswersAll old new unread unread_new written written_new (Err Io) =
+    (failure : Failure) × Serves old new unread unread_new written written_new (Err failure)
+AnswersAll old new unread unread_new written written_new (Err other) = ⊥

@@ -1,6 +1,5 @@
 -- The health of a running `serve`, printed.
 use Rattle.std.specs.Prelude.{ℕ, ◌≡◌, ◌⊎◌, Bool, List, Option, Result, Ok, Err}
-use Rattle.world.specs.declared.registry.Registered.{Registered}
 use Rattle.world.specs.declared.registry.StoreFault.TheVariants as fault
 use Rattle.control.specs.Asking.{AsksForHealth}
 use Rattle.control.specs.declared.client.Untold.{Untold}

@@ -6,7 +6,7 @@ use Rattle.modver.specs.Reading.{version_of}
 use Rattle.modver.specs.SemanticVersion.{SemanticVersion}
 use Rattle.shelf.specs.Machine.{ask_reply, after_ask}
 use Rattle.world.specs.Forms.{path_of}
-use Rattle.world.specs.Store.{Shown, Does, HasCause}
+use Rattle.world.specs.Store.{Shown, Does}
 use Rattle.shelf.specs.declared.ask.Ask.{Ask}
 use Rattle.shelf.specs.declared.ask.Ask.TheVariants.{Unreadable, Put}
 use Rattle.shelf.specs.declared.ask.Body.{Body}
@@ -64,19 +64,17 @@ Tells answer written written_new result =
 -- From old to new the store did what was asked, as the machine does in each world that it stood for, or met a fault (or memory ran
 -- out before that) and changed nothing; and the line of the answer was printed.
 pub record PublishesAndTells
-    (old new : Shown) (before now : ℕ) (ask : Ask) (written written_new : Option (List ℕ))
-    (result : Result Bool CommandRefusal) : Type 0 where
+    (old new : Shown) (ask : Ask) (written written_new : Option (List ℕ)) (result : Result Bool CommandRefusal) : Type 0 where
   pub told : Result Reply StoreFault
   pub does : Does old new told (λ w. ask_reply w ask) (λ w. after_ask w ask)
-  pub cause : HasCause before now told
   pub tells : Tells (answer_of told) written written_new result
 
-module _ {S : Type 0} (shown : S → Shown) (failures : S → ℕ) (old new : S) (ask : Body → Ask) where
+module _ {S : Type 0} (shown : S → Shown) (old new : S) (ask : Body → Ask) where
   -- How a publish ends, by how its two files were read. If they were, they are published, and the outcome is printed. If memory ran
   -- out, the 503 is printed; if one can't be read, nothing is; and the store stays as it was.
   abbrev pub EndsBy : Option (List ℕ) → Option (List ℕ) → Result Bool CommandRefusal → Result Body FileFault → Type 0
   EndsBy written written_new result (Ok body) =
-      PublishesAndTells (shown old) (shown new) (failures old) (failures new) (ask body) written written_new result
+      PublishesAndTells (shown old) (shown new) (ask body) written written_new result
   EndsBy written written_new result (Err file.Memory) = (new ≡ old) × Tells fixed.Unavailable written written_new result
   EndsBy written written_new result (Err file.Io) = (new ≡ old) × (written_new ≡ written) × (result ≡ Err Io)
 

@@ -4,7 +4,7 @@ use Rattle.std.specs.FinMap as map
 use Rattle.std.specs.Io.KnownBytes.{Appends}
 use Rattle.modver.specs.Reading.{version_of}
 use Rattle.world.specs.Forms.{path_of}
-use Rattle.world.specs.Store.{Shown, Reads, HasCause}
+use Rattle.world.specs.Store.{Shown, Reads}
 use Rattle.world.specs.declared.registry.StoreFault.{StoreFault}
 use Rattle.world.specs.declared.registry.StoreFault.TheVariants as fault
 use Rattle.commands.specs.Inventory.{Inventories}
@@ -37,18 +37,15 @@ Prints written written_new result (Err refusal) = (result ≡ Err refusal) × (w
 
 -- the inventory of a key was read, which changes nothing, and printed
 pub record PrintsInventory
-    (old new : Shown) (before now : ℕ) (key : List ℕ) (written written_new : Option (List ℕ))
-    (result : Result Bool CommandRefusal) : Type 0 where
+    (old new : Shown) (key : List ℕ) (written written_new : Option (List ℕ)) (result : Result Bool CommandRefusal) : Type 0 where
   pub told : Result (List ℕ) InventoryFault
-  pub inventories : Inventories old new before now key told
+  pub inventories : Inventories old new key told
   pub prints : Prints written written_new result (inventory_told told)
 
 -- what a version requires was read, which changes nothing, and printed
 pub record PrintsRequirements
-    (old new : Shown) (before now : ℕ) (version : Named) (written written_new : Option (List ℕ))
-    (result : Result Bool CommandRefusal) : Type 0 where
+    (old new : Shown) (version : Named) (written written_new : Option (List ℕ)) (result : Result Bool CommandRefusal) : Type 0 where
   pub told : Result (Option (List ℕ)) StoreFault
   pub reads : Reads old new told
       (λ w. required_by w (map.get w.keys version.key.now) (path_of version.path.now) (version_of version.version.now))
-  pub cause : HasCause before now told
   pub prints : Prints written written_new result (requirements_told told)

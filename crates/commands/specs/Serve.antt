@@ -35,11 +35,10 @@ Announces Input written written_new = Appends written written_new input_line
 -- The entrance was printed, and the store went through at most as many requests as there are connections. Or the entrance can't be
 -- had, or the output failed, and the store stays as it was.
 abbrev pub Listens :
-    {S : Type 0} → (S → Shown) → (S → ℕ) → S → S → Entrance → ℕ
-    → Option (List ℕ) → Option (List ℕ) → Result (Unit {0}) CommandRefusal → Type 0
-Listens shown failures old new entrance connections written written_new result =
+    {S : Type 0} → (S → Shown) → S → S → Entrance → ℕ → Option (List ℕ) → Option (List ℕ) → Result (Unit {0}) CommandRefusal → Type 0
+Listens shown old new entrance connections written written_new result =
     MatchResult result
-    (λ _. Announces entrance written written_new × GoesThroughMost (shown old) (shown new) (failures old) (failures new) connections)
+    (λ _. Announces entrance written written_new × GoesThroughMost (shown old) (shown new) connections)
     (λ e. (e ≡ Io) × (new ≡ old))
 
 -- what a copy does: a relation of the store before and after it, the path, and the result
@@ -54,20 +53,20 @@ Counted S = S → S → ℕ → Type 0
 -- and copies of the machine's world at that moment, and versions counted in it. Or the entrance or the socket can't be had, or the
 -- time of the begin, or the output failed, and the store stays as it was.
 abbrev pub ListensToBoth :
-    {S : Type 0} → (S → Shown) → (S → ℕ) → Copied S → Counted S → S → S → Entrance → ℕ
+    {S : Type 0} → (S → Shown) → Copied S → Counted S → S → S → Entrance → ℕ
     → Option (List ℕ) → Option (List ℕ) → Result (Unit {0}) CommandRefusal → Type 0
-ListensToBoth shown failures copied counted old new entrance connections written written_new result =
+ListensToBoth shown copied counted old new entrance connections written written_new result =
     MatchResult result
     (λ _. Announces entrance written written_new
-    × GoesOn (shown old) (shown new) (failures old) (failures new) connections
-    × GoesOnRead shown failures copied counted old new connections)
+    × GoesOn (shown old) (shown new) connections
+    × GoesOnRead shown copied counted old new connections)
     (λ e. (e ≡ Io) × (new ≡ old))
 
 -- serving without a socket of operators, or with one
 abbrev pub ListensAs :
-    {S : Type 0} → (S → Shown) → (S → ℕ) → Copied S → Counted S → S → S → Entrance → ℕ
+    {S : Type 0} → (S → Shown) → Copied S → Counted S → S → S → Entrance → ℕ
     → Option (List ℕ) → Option (List ℕ) → Option (List ℕ) → Result (Unit {0}) CommandRefusal → Type 0
-ListensAs shown failures copied counted old new entrance connections None written written_new result =
-    Listens shown failures old new entrance connections written written_new result
-ListensAs shown failures copied counted old new entrance connections (Some path) written written_new result =
-    ListensToBoth shown failures copied counted old new entrance connections written written_new result
+ListensAs shown copied counted old new entrance connections None written written_new result =
+    Listens shown old new entrance connections written written_new result
+ListensAs shown copied counted old new entrance connections (Some path) written written_new result =
+    ListensToBoth shown copied counted old new entrance connections written written_new result

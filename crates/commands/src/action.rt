@@ -77,7 +77,7 @@ pub fn act_on<S: Outlines, K: Copies<S>, I: Read, O: Write>(
     input: &mut I,
     output: &mut O,
 ) -> Result<bool, CommandRefusal>
-    ensures { spec.Acts S.shown S.failure_count K.copied K.counted
+    ensures { spec.Acts S.shown K.copied K.counted
         (record { store = shelves.old; unread = I.remaining input.old; written = O.contents output.old })
         (record { store = shelves.new; unread = I.remaining input.new; written = O.contents output.new })
         result action.now }

@@ -14,8 +14,7 @@ pub fn answer_from<S: Shelves, I: Read, O: Write>(
     input: &mut I,
     output: &mut O,
 ) -> Result<(), CommandRefusal>
-    ensures { AnswersAll
-        (S.shown shelves.old) (S.shown shelves.new) (S.failure_count shelves.old) (S.failure_count shelves.new)
+    ensures { AnswersAll (S.shown shelves.old) (S.shown shelves.new)
         (I.remaining input.old) (I.remaining input.new) (O.contents output.old) (O.contents output.new) result }
 {
     match answer_all(alloc, input, output, shelves) {

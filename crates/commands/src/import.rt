@@ -69,9 +69,8 @@ pub fn import<S: Shelves, L: Read + Drop, F: Sources, O: Write>(
     sources: &F,
     output: &mut O,
 ) -> Result<Ending, Io>
-    ensures { spec.Imports
-        (S.shown shelves.old) (S.shown shelves.new) (S.failure_count shelves.old) (S.failure_count shelves.new)
-        (F.told sources.now) key.now (L.remaining list) (O.contents output.old) (O.contents output.new) result }
+    ensures { spec.Imports (S.shown shelves.old) (S.shown shelves.new) (F.told sources.now) key.now
+        (L.remaining list) (O.contents output.old) (O.contents output.new) result }
 {
     let mut reader = open(alloc, list);
     let mut fields = StringRecord::new(alloc);
@@ -136,8 +135,7 @@ fn import_next<S: Shelves, R: Read, F: Sources, O: Write>(
     output: &mut O,
 ) -> Result<Step, Io>
     ensures { (list : Option (List ℕ)) (rows : List (List (List ℕ))) → HasRead R.remaining list rows reader.old
-        → spec.StepIs R.remaining
-        (S.shown shelves.old) (S.shown shelves.new) (S.failure_count shelves.old) (S.failure_count shelves.new)
+        → spec.StepIs R.remaining (S.shown shelves.old) (S.shown shelves.new)
         (F.told sources.now) key.now list rows reader.new number
         (O.contents output.old) (O.contents output.new) result }
 {
@@ -175,8 +173,7 @@ fn import_row<S: Shelves, F: Sources>(
     row: &ImportRow,
     sources: &F,
 ) -> Outcome
-    ensures { spec.DoesRow
-        (S.shown shelves.old) (S.shown shelves.new) (S.failure_count shelves.old) (S.failure_count shelves.new)
+    ensures { spec.DoesRow (S.shown shelves.old) (S.shown shelves.new)
         (F.told sources.now) key.now (line_of_row row.now) result }
 {
     match body_of(alloc, row, sources) {
@@ -194,8 +191,7 @@ fn publish_row<S: Shelves>(
     row: &ImportRow,
     body: Body,
 ) -> Fixed
-    ensures { spec.Publishes
-        (S.shown shelves.old) (S.shown shelves.new) (S.failure_count shelves.old) (S.failure_count shelves.new)
+    ensures { spec.Publishes (S.shown shelves.old) (S.shown shelves.new)
         (spec.ask_of key.now (line_of_row row.now) body) result }
 {
     let words = Words {

@@ -20,7 +20,7 @@ pub fn import_file<S: Shelves, O: Write>(
     list: &str,
     output: &mut O,
 ) -> Result<bool, CommandRefusal>
-    ensures { spec.ImportsFile S.shown S.failure_count shelves.old shelves.new key.now
+    ensures { spec.ImportsFile S.shown shelves.old shelves.new key.now
         (O.contents output.old) (O.contents output.new) result }
 {
     let Ok(list) = File::open(rt, list) else {

@@ -1,7 +1,7 @@
 //! `inventory`: what a shelf sees, as CSV. (RFC 4180.)
 ghost use Rattle.std.specs.Prelude.{◌≡◌, [], ◌∷◌, Some, IfOk, OnOk};
 ghost use Rattle.std.specs.FinMap as map;
-ghost use Rattle.world.specs.Store.{Reads, HasCause};
+ghost use Rattle.world.specs.Store.{Reads};
 ghost use Rattle.commands.specs.Inventory as spec;
 ghost use Rattle.commands.specs.InventoryLines.{outlined, lines_at, lines_of_path, lines_of_text, lines_seen};
 ghost use Rattle.commands.specs.Lines.{IsBetweenLines, text_in};
@@ -52,9 +52,7 @@ pub fn inventory<S: Outlines>(
     shelves: &mut S,
     key: &str,
 ) -> Result<Bytes, InventoryFault>
-    ensures told { spec.Inventories
-        (S.shown shelves.old) (S.shown shelves.new) (S.failure_count shelves.old) (S.failure_count shelves.new)
-        key.now result }
+    ensures told { spec.Inventories (S.shown shelves.old) (S.shown shelves.new) key.now result }
     ensures whole { IfOk result (λ text. IsWhole (S.shown shelves.old) (S.shown shelves.new) key.now text) }
 {
     match inventory_of(alloc, shelves, key) {
@@ -71,9 +69,8 @@ fn inventory_of<S: Outlines>(
     shelves: &mut S,
     key: &str,
 ) -> Result<Option<Bytes>, StoreFault>
-    ensures reads { Reads (S.shown shelves.old) (S.shown shelves.new) result
+    ensures { Reads (S.shown shelves.old) (S.shown shelves.new) result
         (λ w. spec.inventory_of w (map.get w.keys key.now)) }
-    ensures cause { HasCause (S.failure_count shelves.old) (S.failure_count shelves.new) result }
 {
     let Some(holder) = shelves.key(key)? else {
         return Ok(None);
@@ -88,9 +85,7 @@ fn inventory_on<S: Outlines>(
     shelves: &mut S,
     shelf: &str,
 ) -> Result<Bytes, StoreFault>
-    ensures reads { Reads (S.shown shelves.old) (S.shown shelves.new) result
-        (λ w. spec.inventory_of_shelf w shelf.now) }
-    ensures cause { HasCause (S.failure_count shelves.old) (S.failure_count shelves.new) result }
+    ensures { Reads (S.shown shelves.old) (S.shown shelves.new) result (λ w. spec.inventory_of_shelf w shelf.now) }
 {
     let mut lines = headed(alloc)?;
     add_paths(alloc, shelves, shelf, &mut lines)?;
@@ -104,10 +99,9 @@ fn add_paths<S: Outlines>(
     shelf: &str,
     lines: &mut Writer<Vec<u8>>,
 ) -> Result<(), StoreFault>
-    requires between { IsBetweenLines lines.old }
-    ensures adds { Adds (S.shown shelves.old) (S.shown shelves.new) (text_in lines.old) (text_in lines.new) result
+    requires { IsBetweenLines lines.old }
+    ensures { Adds (S.shown shelves.old) (S.shown shelves.new) (text_in lines.old) (text_in lines.new) result
         (λ w. lines_seen w shelf.now) }
-    ensures cause { HasCause (S.failure_count shelves.old) (S.failure_count shelves.new) result }
 {
     let paths = shelves.paths(shelf)?;
     for text in paths.iter() {
@@ -128,7 +122,6 @@ fn add_text<S: Outlines>(
     ensures between { OnOk result (IsBetweenLines lines.new) }
     ensures adds { Adds (S.shown shelves.old) (S.shown shelves.new) (text_in lines.old) (text_in lines.new) result
         (λ w. lines_of_text w shelf.now text.now) }
-    ensures cause { HasCause (S.failure_count shelves.old) (S.failure_count shelves.new) result }
 {
     let Some(path) = path_of(alloc, text)? else {
         return Ok(());
@@ -148,7 +141,6 @@ fn add_path<S: Outlines>(
     ensures between { OnOk result (IsBetweenLines lines.new) }
     ensures adds { Adds (S.shown shelves.old) (S.shown shelves.new) (text_in lines.old) (text_in lines.new) result
         (λ w. lines_of_path w shelf.now path.now) }
-    ensures cause { HasCause (S.failure_count shelves.old) (S.failure_count shelves.new) result }
 {
     let versions = shelves.versions(shelf, path)?;
     for version in versions.as_slice() {
@@ -170,7 +162,6 @@ fn add_version<S: Outlines>(
     ensures between { OnOk result (IsBetweenLines lines.new) }
     ensures adds { Adds (S.shown shelves.old) (S.shown shelves.new) (text_in lines.old) (text_in lines.new) result
         (λ w. lines_at w shelf.now path.now version.now) }
-    ensures cause { HasCause (S.failure_count shelves.old) (S.failure_count shelves.new) result }
 {
     let Some(outline) = shelves.outline(shelf, path, version)? else {
         return Ok(());

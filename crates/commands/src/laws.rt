@@ -25,5 +25,5 @@ pub fn rows_are_whole()
 /// the world after it; or by a fault of the store, which changes nothing.
 pub fn orders_end_as_on_the_store<S: Shelves, K: Copies<S>>()
     ensures { (old new : S) (tally : Tally) → EndsAsOnTheStore (K.copied old new)
-        (IsPinged tally (S.failure_count old) (S.failure_count new) (K.counted old new)) (S.shown old) (S.shown new) }
+        (IsPinged tally (S.shown old).failures (S.shown new).failures (K.counted old new)) (S.shown old) (S.shown new) }
 {}

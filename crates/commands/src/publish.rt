@@ -2,7 +2,7 @@
 ghost use Rattle.std.specs.Prelude.{◌≡◌, ◌++◌, codes, option_copied, IfOk, OnOk};
 ghost use Rattle.std.specs.Io.KnownBytes.{Appends};
 ghost use Rattle.shelf.specs.Machine.{ask_reply, after_ask};
-ghost use Rattle.world.specs.Store.{Does, HasCause};
+ghost use Rattle.world.specs.Store.{Does};
 ghost use Rattle.wire.specs.Reply.{line_bytes};
 ghost use Rattle.commands.specs.Publish as spec;
 
@@ -50,7 +50,7 @@ pub fn publish<S: Shelves, O: Write>(
     files: &Files,
     output: &mut O,
 ) -> Result<bool, CommandRefusal>
-    ensures { spec.PublishesFiles S.shown S.failure_count shelves.old shelves.new (spec.asked_by words.now)
+    ensures { spec.PublishesFiles S.shown shelves.old shelves.new (spec.asked_by words.now)
         (O.contents output.old) (O.contents output.new) result }
 {
     let had = read_files(rt, files);
@@ -66,7 +66,7 @@ fn publish_had<S: Shelves, O: Write>(
     had: Result<Body, FileFault>,
     output: &mut O,
 ) -> Result<bool, CommandRefusal>
-    ensures { spec.EndsBy S.shown S.failure_count shelves.old shelves.new (spec.asked_by words.now)
+    ensures { spec.EndsBy S.shown shelves.old shelves.new (spec.asked_by words.now)
         (O.contents output.old) (O.contents output.new) result had }
 {
     match had {
@@ -93,9 +93,8 @@ pub fn publish_files<S: Shelves, O: Write>(
     body: Body,
     output: &mut O,
 ) -> Result<bool, CommandRefusal>
-    ensures { spec.PublishesAndTells
-        (S.shown shelves.old) (S.shown shelves.new) (S.failure_count shelves.old) (S.failure_count shelves.new)
-        (spec.asked_by words.now body) (O.contents output.old) (O.contents output.new) result }
+    ensures { spec.PublishesAndTells (S.shown shelves.old) (S.shown shelves.new) (spec.asked_by words.now body)
+        (O.contents output.old) (O.contents output.new) result }
 {
     let told = publish_by(alloc, shelves, words, body);
     tell(answer_of(told), output)
@@ -108,9 +107,8 @@ pub(crate) fn publish_by<S: Shelves>(
     words: &Words,
     body: Body,
 ) -> Result<Reply, StoreFault>
-    ensures does { Does (S.shown shelves.old) (S.shown shelves.new) result
+    ensures { Does (S.shown shelves.old) (S.shown shelves.new) result
         (λ w. ask_reply w (spec.asked_by words.now body)) (λ w. after_ask w (spec.asked_by words.now body)) }
-    ensures cause { HasCause (S.failure_count shelves.old) (S.failure_count shelves.new) result }
 {
     let ask = ask_of(alloc, words, body)?;
     step(alloc, shelves, &ask)

@@ -15,8 +15,7 @@ pub fn add_team<S: Shelves>(
     name: &str,
     group: Option<&str>,
 ) -> Result<(), CommandRefusal>
-    ensures { Registers
-        (S.shown shelves.old) (S.shown shelves.new) (S.failure_count shelves.old) (S.failure_count shelves.new)
+    ensures { Registers (S.shown shelves.old) (S.shown shelves.new)
         (λ w. team_added w name.now (option_copied group.entry))
         (λ w. after_team_add w name.now (option_copied group.entry)
         (team_added w name.now (option_copied group.entry))) result }
@@ -27,8 +26,7 @@ pub fn add_team<S: Shelves>(
 
 /// Adds a group, as the machine does. Fails with `Name`, `Taken`, or a fault of the store, and then changes nothing.
 pub fn add_group<S: Shelves>(shelves: &mut S, name: &str) -> Result<(), CommandRefusal>
-    ensures { Registers
-        (S.shown shelves.old) (S.shown shelves.new) (S.failure_count shelves.old) (S.failure_count shelves.new)
+    ensures { Registers (S.shown shelves.old) (S.shown shelves.new)
         (λ w. group_added w name.now) (λ w. after_group_add w name.now (group_added w name.now)) result }
 {
     let told = shelves.group_add(name);
@@ -43,8 +41,7 @@ pub fn add_key<S: Shelves>(
     key: &str,
     read_only: bool,
 ) -> Result<(), CommandRefusal>
-    ensures { Registers
-        (S.shown shelves.old) (S.shown shelves.new) (S.failure_count shelves.old) (S.failure_count shelves.new)
+    ensures { Registers (S.shown shelves.old) (S.shown shelves.new)
         (λ w. key_added w shelf.now key.now)
         (λ w. after_key_add w shelf.now key.now (if read_only then Right.Reads else Right.Publishes)
         (key_added w shelf.now key.now)) result }
@@ -67,8 +64,7 @@ fn right_of(read_only: bool) -> Right
 
 /// Revokes a key, as the machine does. Fails with `NoKey`, or a fault of the store, and then changes nothing.
 pub fn revoke_key<S: Shelves>(shelves: &mut S, key: &str) -> Result<(), CommandRefusal>
-    ensures { Registers
-        (S.shown shelves.old) (S.shown shelves.new) (S.failure_count shelves.old) (S.failure_count shelves.new)
+    ensures { Registers (S.shown shelves.old) (S.shown shelves.new)
         (λ w. key_revoked w key.now) (λ w. after_key_revoke w key.now (key_revoked w key.now)) result }
 {
     let told = shelves.key_revoke(key);

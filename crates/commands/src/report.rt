@@ -21,9 +21,8 @@ pub fn print_inventory<S: Outlines, O: Write>(
     key: &str,
     output: &mut O,
 ) -> Result<bool, CommandRefusal>
-    ensures { spec.PrintsInventory
-        (S.shown shelves.old) (S.shown shelves.new) (S.failure_count shelves.old) (S.failure_count shelves.new)
-        key.now (O.contents output.old) (O.contents output.new) result }
+    ensures { spec.PrintsInventory (S.shown shelves.old) (S.shown shelves.new) key.now
+        (O.contents output.old) (O.contents output.new) result }
 {
     let told = inventory(alloc, shelves, key);
     print(inventory_told(told), output)
@@ -38,9 +37,8 @@ pub fn print_requirements<S: Shelves, O: Write>(
     version: &Named,
     output: &mut O,
 ) -> Result<bool, CommandRefusal>
-    ensures { spec.PrintsRequirements
-        (S.shown shelves.old) (S.shown shelves.new) (S.failure_count shelves.old) (S.failure_count shelves.new)
-        version.now (O.contents output.old) (O.contents output.new) result }
+    ensures { spec.PrintsRequirements (S.shown shelves.old) (S.shown shelves.new) version.now
+        (O.contents output.old) (O.contents output.new) result }
 {
     let told = requirements(alloc, shelves, version.key, version.path, version.version);
     print(requirements_told(told), output)

@@ -3,7 +3,7 @@ ghost use Rattle.std.specs.Prelude.{◌≡◌, IfOk};
 ghost use Rattle.std.specs.FinMap as map;
 ghost use Rattle.modver.specs.Reading.{version_of};
 ghost use Rattle.world.specs.Forms.{path_of};
-ghost use Rattle.world.specs.Store.{Reads, HasCause};
+ghost use Rattle.world.specs.Store.{Reads};
 ghost use Rattle.commands.specs.Requirements as spec;
 
 use gomod::Requirement;
@@ -26,9 +26,8 @@ pub fn requirements<S: Shelves>(
     path: &str,
     version: &str,
 ) -> Result<Option<Bytes>, StoreFault>
-    ensures reads { Reads (S.shown shelves.old) (S.shown shelves.new) result
+    ensures { Reads (S.shown shelves.old) (S.shown shelves.new) result
         (λ w. spec.required_by w (map.get w.keys key.now) (path_of path.now) (version_of version.now)) }
-    ensures cause { HasCause (S.failure_count shelves.old) (S.failure_count shelves.new) result }
 {
     let Some(path) = path_of(alloc, path)? else {
         return Ok(None);
@@ -50,9 +49,8 @@ fn required_on<S: Shelves>(
     path: &ModulePath,
     version: &Version,
 ) -> Result<Option<Bytes>, StoreFault>
-    ensures reads { Reads (S.shown shelves.old) (S.shown shelves.new) result
+    ensures { Reads (S.shown shelves.old) (S.shown shelves.new) result
         (λ w. spec.required_on w shelf.now path.now version.now) }
-    ensures cause { HasCause (S.failure_count shelves.old) (S.failure_count shelves.new) result }
 {
     let heading = shelves.heading(shelf, path, version)?;
     Ok(required_in(alloc, heading)?)

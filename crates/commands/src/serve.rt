@@ -40,7 +40,7 @@ pub fn serve<S: Shelves, K: Copies<S>, O: Write>(
     control: Option<&str>,
     output: &mut O,
 ) -> Result<(), CommandRefusal>
-    ensures { ListensAs S.shown S.failure_count K.copied K.counted shelves.old shelves.new entrance connections
+    ensures { ListensAs S.shown K.copied K.counted shelves.old shelves.new entrance connections
         (option_copied control.entry) (O.contents output.old) (O.contents output.new) result }
 {
     match control {
@@ -65,7 +65,7 @@ fn serve_operators<S: Shelves, K: Copies<S>, O: Write>(
     path: &str,
     output: &mut O,
 ) -> Result<(), CommandRefusal>
-    ensures { ListensToBoth S.shown S.failure_count K.copied K.counted shelves.old shelves.new entrance connections
+    ensures { ListensToBoth S.shown K.copied K.counted shelves.old shelves.new entrance connections
         (O.contents output.old) (O.contents output.new) result }
 {
     let Some(since) = time_now(rt) else {

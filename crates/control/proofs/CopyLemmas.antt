@@ -1,5 +1,5 @@
 -- The line that orders a copy.
-use Rattle.std.proofs.Common.{◌≡◌, ◌≢◌, ℕ, List, true, false, Option, Some, None, Result, Ok, Err, MatchOption, sym, ap, ◌∙◌, subst}
+use Rattle.std.proofs.Common.{◌≡◌, ◌≢◌, ℕ, List, true, Option, Some, None, Result, Ok, Err, MatchOption, sym, ap, ◌∙◌, subst}
 use Rattle.std.specs.Prelude.{codes, option_copied, IfOk, IfErr}
 use Rattle.std.proofs.lemmas.Bool.{false≢true}
 use denote.Ref.{Bor}

@@ -20,7 +20,7 @@ told_unless told (Ok done) = Ok told
 told_unless told (Err e) = Err e
 
 module _ (copied : List ℕ → Result (Unit {0}) CopyRefusal → Type 0) (pinged : Result Health StoreFault → Type 0) (old new : Shown)
-    (before now : ℕ) (u u' : Option (List ℕ)) where
+    (u u' : Option (List ℕ)) where
   was_heard : (got : List ℕ) → ReadsLine u u' got → (heard : Heard) → IsHeardIn got heard → IsHeard u u' heard
   was_heard got reads (Carried order told) sent = (got, reads, sent)
   was_heard got reads (Copied path told) sent = (got, reads, sent)
@@ -30,8 +30,8 @@ module _ (copied : List ℕ → Result (Unit {0}) CopyRefusal → Type 0) (pinge
   was_heard got reads NoMemory never = absurd never
 
   -- the line that was read
-  pub hears_line : (got : List ℕ) (told : Told) → ReadsLine u u' got → Heeds copied pinged old new before now got told
-      → Hears copied pinged old new before now u u' told
+  pub hears_line : (got : List ℕ) (told : Told) → ReadsLine u u' got → Heeds copied pinged old new got told
+      → Hears copied pinged old new u u' told
   hears_line got told reads heeds = record {
     heard = heeds.heard;
     from = was_heard got reads heeds.heard heeds.from;
@@ -41,12 +41,12 @@ module _ (copied : List ℕ → Result (Unit {0}) CopyRefusal → Type 0) (pinge
   }
 
   module _ (w w' : Option (List ℕ)) where
-    pub obeys_told : (told : Told) (result : Result (Unit {0}) Io) → Hears copied pinged old new before now u u' told → Writes w w' (line_told told) result
-        → Obeys copied pinged old new before now u u' w w' (told_unless told result)
+    pub obeys_told : (told : Told) (result : Result (Unit {0}) Io) → Hears copied pinged old new u u' told → Writes w w' (line_told told) result
+        → Obeys copied pinged old new u u' w w' (told_unless told result)
     obeys_told told (Ok done) hears writes = (hears, writes)
     obeys_told told (Err io.Write) hears writes = (told, hears, writes.1)
     obeys_told told (Err io.Read) hears (wrong, part) = cc
 
-    pub obeys_unread : (e : Io) → e ≡ io.Read → GoesThroughTurns old new before now [] false → Keeps w w'
-        → Obeys copied pinged old new before now u u' w w' (Err e)
-    obeys_unread e is through keeps = subst (λ x. Obeys copied pinged old new before now u u' w w' (Err x)) (sym is) (through, keeps)
+    pub obeys_unread : (e : Io) → e ≡ io.Read → GoesThroughTurns old new [] false → Keeps w w'
+        → Obeys copied pinged old new u u' w w' (Err e)
+    obeys_unread e is through keeps = subst (λ x. Obeys copied pinged old new u u' w w' (Err x)) (sym is) (through, keeps)

@@ -1,12 +1,10 @@
 -- Peers and operators learn nothing about the messages of others, because the callers of a store don't.
-use Rattle.std.proofs.Common.{◌≡◌, ℕ, List, [], ◌∷◌, Result, Ok, Err, refl, ◌∙◌, sym, ap, subst}
+use Rattle.std.proofs.Common.{◌≡◌, ℕ, List, [], ◌∷◌, Ok, Err, refl, ◌∙◌, sym, ap, subst}
 use Rattle.std.specs.Prelude.{map}
 use Rattle.world.specs.World.{World, IsWorld, chain}
 use Rattle.world.specs.Store.{Shown}
-use Rattle.shelf.specs.declared.ask.Event.{Event}
 use Rattle.shelf.specs.declared.reply.Answer.{Answer}
 use Rattle.shelf.specs.declared.reply.Answer.TheVariants.{Replied, Failed}
-use Rattle.shelf.specs.declared.reply.Reply.{Reply}
 use Rattle.shelf.specs.declared.reply.Reply.TheVariants.{Registry}
 use Rattle.shelf.specs.Isolation.{kept, marked}
 use Rattle.shelf.specs.Machine.{Run}

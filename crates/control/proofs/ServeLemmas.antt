@@ -13,7 +13,7 @@ use Rattle.engine.specs.declared.fault.Io.{Io}
 use Rattle.engine.specs.declared.fault.Io.TheVariants as io
 use Rattle.socket.specs.Connections.{Come, exchanges_of}
 use Rattle.control.specs.Copying.{AllRead, GoesOnRead}
-use Rattle.control.specs.Health.{Answered, AreBelow, IsPinged, tally_of, with_one}
+use Rattle.control.specs.Health.{Answered, AreBelow, tally_of, with_one}
 use Rattle.control.specs.Hearing.{Heard, Carried, Copied, Pinged, Stop, NoOrder, NoMemory, Obeys}
 use Rattle.control.specs.Told.{line_told}
 use Rattle.control.specs.Turns.{Asked, messages, world_at, GoesThroughTurns, GoesOn}
@@ -32,11 +32,11 @@ use Rattle.control.proofs.TurnLemmas.{turns_none, turns_asked, turns_more, messa
 -- ---- one connection
 
 -- a store that goes through what came first from a peer goes through at most one turn
-pub turns_first : (old new : Shown) (before now : ℕ) (first : Option First) → GoesThrough old new before now (exchanges_of first)
-    → GoesThroughTurns old new before now (map Asked (exchanges_of first)) false
-turns_first old new before now None through = turns_asked old new before now [] (omega arith) through
-turns_first old new before now (Some (Message x)) through = turns_asked old new before now (x ∷ []) (omega arith) through
-turns_first old new before now (Some (Closes closing)) through = turns_asked old new before now [] (omega arith) through
+pub turns_first : (old new : Shown) (first : Option First) → GoesThrough old new (exchanges_of first)
+    → GoesThroughTurns old new (map Asked (exchanges_of first)) false
+turns_first old new None through = turns_asked old new [] (omega arith) through
+turns_first old new (Some (Message x)) through = turns_asked old new (x ∷ []) (omega arith) through
+turns_first old new (Some (Closes closing)) through = turns_asked old new [] (omega arith) through
 
 first_message : (first : Option First) → messages (map Asked (exchanges_of first)) ≤ 1
 first_message None = omega arith
@@ -53,11 +53,11 @@ no_message (Some NoOrder) = refl
 no_message (Some NoMemory) = refl
 
 module _ {O : Type 0} (heeded told : O → Option (List ℕ)) (copied : List ℕ → Result (Unit {0}) CopyRefusal → Type 0)
-    (pinged : Result Health StoreFault → Type 0) (old new : Shown) (before now : ℕ) where
+    (pinged : Result Health StoreFault → Type 0) (old new : Shown) where
   -- an operator was obeyed
   pub obeyed_one : (operator after : O) (result : Result Told Io)
-      → Obeys copied pinged old new before now (heeded operator) (heeded after) (told operator) (told after) result
-      → ObeysOne heeded told copied pinged operator old new before now
+      → Obeys copied pinged old new (heeded operator) (heeded after) (told operator) (told after) result
+      → ObeysOne heeded told copied pinged operator old new
   obeyed_one operator after (Ok outcome) obeys = record {
     audience = record { before = operator; after = after; heard = Some obeys.0.heard };
     begins = refl;
@@ -81,10 +81,10 @@ module _ {O : Type 0} (heeded told : O → Option (List ℕ)) (copied : List ℕ
   }
 
 -- a peer was answered
-pub answered_one : {P : Type 0} (unread written : P → Option (List ℕ)) (old new : Shown) (before now : ℕ) (peer after : P) (told : Answered)
-    → ServesFirst old new before now (unread peer) (unread after) (written peer) (written after) told
-    → AnswersOne unread written peer old new before now told
-answered_one unread written old new before now peer after (Ok status) (first, takes, through, is, ended) = record {
+pub answered_one : {P : Type 0} (unread written : P → Option (List ℕ)) (old new : Shown) (peer after : P) (told : Answered)
+    → ServesFirst old new (unread peer) (unread after) (written peer) (written after) told
+    → AnswersOne unread written peer old new told
+answered_one unread written old new peer after (Ok status) (first, takes, through, is, ended) = record {
   answers = record {
     visit = record { before = peer; after = after; first = Some first };
     begins = refl;
@@ -93,7 +93,7 @@ answered_one unread written old new before now peer after (Ok status) (first, ta
   };
   counts = is;
 }
-answered_one unread written old new before now peer after (Err io.Read) (got, consumed, unfinished, through, kept) = record {
+answered_one unread written old new peer after (Err io.Read) (got, consumed, unfinished, through, kept) = record {
   answers = record {
     visit = record { before = peer; after = after; first = None };
     begins = refl;
@@ -102,7 +102,7 @@ answered_one unread written old new before now peer after (Err io.Read) (got, co
   };
   counts = refl;
 }
-answered_one unread written old new before now peer after (Err io.Write) (first, takes, through, ended) = record {
+answered_one unread written old new peer after (Err io.Write) (first, takes, through, ended) = record {
   answers = record {
     visit = record { before = peer; after = after; first = Some first };
     begins = refl;
@@ -162,12 +162,12 @@ module _ {P O : Type 0} where
   )
 
   module _ (heeded told : O → Option (List ℕ)) (unread written : P → Option (List ℕ)) where
-    module _ (waiting left rest : Option (List (Caller P O))) (old mid new : Shown) (before between now n m : ℕ)
-        (first : ServesEach heeded told unread written waiting left old mid before between n) where
+    module _ (waiting left rest : Option (List (Caller P O))) (old mid new : Shown) (n m : ℕ)
+        (first : ServesEach heeded told unread written waiting left old mid n) where
       -- serving one more caller after others serves each of them
       each_push : (call : Call P O) → Come left rest (caller_of call ∷ []) → IsCallThere heeded told unread written call
-          → GoesThroughTurns mid new between now (turns_of call) (read_by call) → n + peers (call ∷ []) ≤ m
-          → ServesEach heeded told unread written waiting rest old new before now m
+          → GoesThroughTurns mid new (turns_of call) (read_by call) → n + peers (call ∷ []) ≤ m
+          → ServesEach heeded told unread written waiting rest old new m
       each_push call comes there through few = record {
         calls = first.calls ++ call ∷ [];
         few = omega (arith, peers_last first.calls call, first.few, few);
@@ -175,14 +175,14 @@ module _ {P O : Type 0} where
             (then_come waiting left rest (map caller_of first.calls) (caller_of call ∷ []) first.came comes);
         there = All-push (IsCallThere heeded told unread written) first.calls call first.there there;
         through = rw (with_last first.calls call, read_last first.calls call)
-            (turns_more old mid new before between now (turns_with first.calls) (read_with first.calls) first.through (turns_of call) (read_by call) through);
+            (turns_more old mid new (turns_with first.calls) (read_with first.calls) first.through (turns_of call) (read_by call) through);
       }
 
     -- if nobody came, and more connections count, those who came before were served
-    each_wider : (waiting left rest : Option (List (Caller P O))) (old new : Shown) (before now n m : ℕ) → Come left rest []
-        → ServesEach heeded told unread written waiting left old new before now n → n ≤ m
-        → ServesEach heeded told unread written waiting rest old new before now m
-    each_wider waiting left rest old new before now n m comes first few = record {
+    each_wider : (waiting left rest : Option (List (Caller P O))) (old new : Shown) (n m : ℕ) → Come left rest []
+        → ServesEach heeded told unread written waiting left old new n → n ≤ m
+        → ServesEach heeded told unread written waiting rest old new m
+    each_wider waiting left rest old new n m comes first few = record {
       calls = first.calls;
       few = omega (arith, first.few, few);
       came = same_come waiting left rest (map caller_of first.calls) first.came comes;
@@ -190,10 +190,10 @@ module _ {P O : Type 0} where
       through = first.through;
     }
 
-    module _ {S : Type 0} (shown : S → Shown) (failures : S → ℕ) (copied : S → S → List ℕ → Result (Unit {0}) CopyRefusal → Type 0)
+    module _ {S : Type 0} (shown : S → Shown) (copied : S → S → List ℕ → Result (Unit {0}) CopyRefusal → Type 0)
         (counted : S → S → ℕ → Type 0) (since : List ℕ) where
       abbrev Each : Option (List (Caller P O)) → Option (List (Caller P O)) → S → S → ℕ → Type 0
-      Each waiting left old new n = ReadsEach heeded told unread written shown failures copied counted waiting left old new since n
+      Each waiting left old new n = ReadsEach heeded told unread written shown copied counted waiting left old new since n
 
       -- the callers up to a moment, with the counts of their connections
       pub record UpTo (waiting left : Option (List (Caller P O))) (old new : S) (n : ℕ) (tally : Tally) : Type 0 where
@@ -217,7 +217,7 @@ module _ {P O : Type 0} where
             few = omega arith;
             came = none_come waiting;
             there = All-nil (IsCallThere heeded told unread written);
-            through = turns_none (shown store) (failures store);
+            through = turns_none (shown store);
           };
           reads = λ h w stands. tt;
           tallies = tt;
@@ -227,27 +227,27 @@ module _ {P O : Type 0} where
 
       module _ (waiting left rest : Option (List (Caller P O))) (old mid new : S) (n m : ℕ) (tally : Tally) (first : UpTo waiting left old mid n tally) where
         reads_push : (call : Call P O) → Come left rest (caller_of call ∷ []) → IsCallThere heeded told unread written call
-            → GoesThroughTurns (shown mid) (shown new) (failures mid) (failures new) (turns_of call) (read_by call)
-            → ((shown new).is_honest → (w : World) → (shown mid).stands w → AllRead shown failures copied counted w (steps_of call))
+            → GoesThroughTurns (shown mid) (shown new) (turns_of call) (read_by call)
+            → ((shown new).is_honest → (w : World) → (shown mid).stands w → AllRead shown copied counted w (steps_of call))
             → IsTallied since first.reads.each.calls call
             → n + peers (call ∷ []) ≤ m → Each waiting rest old new m
         unfolding each_push
         reads_push call comes there through reads tallied few = record {
-          each = each_push waiting left rest (shown old) (shown mid) (shown new) (failures old) (failures mid) (failures new) n m first.reads.each
+          each = each_push waiting left rest (shown old) (shown mid) (shown new) n m first.reads.each
               call comes there through few;
           reads = λ h w stands.
               let honest = through.runs.honest h in
               let calls = first.reads.each.calls in
               let more = reads h _ (first.reads.each.through.runs.at honest w stands).ends in
-              subst (AllRead shown failures copied counted w) (sym (steps_last calls call))
-              (read_then shown failures copied counted w (steps_with calls) (steps_of call) (first.reads.reads honest w stands)
-              (subst (λ ts. AllRead shown failures copied counted (world_at w ts) (steps_of call)) (sym (turns_of_steps calls)) more));
+              subst (AllRead shown copied counted w) (sym (steps_last calls call))
+              (read_then shown copied counted w (steps_with calls) (steps_of call) (first.reads.reads honest w stands)
+              (subst (λ ts. AllRead shown copied counted (world_at w ts) (steps_of call)) (sym (turns_of_steps calls)) more));
           tallies = tallied_push since [] first.reads.each.calls call first.reads.tallies tallied;
         }
 
         -- a peer more
         pub each_peer : (peer : P) (answered : Answered) → Come left rest (Peer peer ∷ [])
-            → AnswersOne unread written peer (shown mid) (shown new) (failures mid) (failures new) answered → n + 1 ≤ m
+            → AnswersOne unread written peer (shown mid) (shown new) answered → n + 1 ≤ m
             → UpTo waiting rest old new m (with_one tally answered)
         unfolding each_push reads_push
         each_peer peer answered comes next few =
@@ -258,15 +258,15 @@ module _ {P O : Type 0} where
               reads = reads_push call
                   (subst (λ p. Come left rest (Peer p ∷ [])) (sym next.answers.begins) comes)
                   (next.answers.there, next.counts)
-                  (turns_first (shown mid) (shown new) (failures mid) (failures new) visit.first next.answers.through)
-                  (λ h w stands. no_reads shown failures copied counted w (exchanges_of visit.first)) tt (omega (arith, few));
+                  (turns_first (shown mid) (shown new) visit.first next.answers.through)
+                  (λ h w stands. no_reads shown copied counted w (exchanges_of visit.first)) tt (omega (arith, few));
               is = ap (λ t. with_one t answered) first.is ∙ tally_push since (answered_with calls) answered
                   ∙ ap (tally_of since) (sym (answered_last calls call));
             }
 
         -- one more operator is served
         pub each_operator : (operator : O) → Come left rest (Operator operator ∷ [])
-            → ObeysOneBy heeded told shown failures copied counted tally operator mid new
+            → ObeysOneBy heeded told shown copied counted tally operator mid new
             → n ≤ m → UpTo waiting rest old new m tally
         unfolding each_push reads_push
         each_operator operator comes next few =
@@ -276,9 +276,9 @@ module _ {P O : Type 0} where
               reads = reads_push call
                   (subst (λ o. Come left rest (Operator o ∷ [])) (sym next.begins) comes)
                   next.there next.through
-                  (λ h w stands. read_heard shown failures copied counted tally mid new h w stands next.audience.heard next.came)
+                  (λ h w stands. read_heard shown copied counted tally mid new h w stands next.audience.heard next.came)
                   (subst (λ t. TellsTally t next.audience.heard) first.is
-                  (tells_tally (copied mid new) tally (failures mid) (failures new) (counted mid new) next.audience.heard next.came))
+                  (tells_tally (copied mid new) tally (shown mid).failures (shown new).failures (counted mid new) next.audience.heard next.came))
                   (omega (arith, few));
               is = first.is ∙ ap (tally_of since) (sym (answered_last calls call ∙ append-nil (answered_with calls)));
             }
@@ -289,7 +289,7 @@ module _ {P O : Type 0} where
       unfolding each_wider
       each_same waiting left rest old new n m tally comes first few = record {
         reads = record {
-          each = each_wider waiting left rest (shown old) (shown new) (failures old) (failures new) n m comes first.reads.each few;
+          each = each_wider waiting left rest (shown old) (shown new) n m comes first.reads.each few;
           reads = first.reads.reads;
           tallies = first.reads.tallies;
         };
@@ -312,7 +312,7 @@ module _ {P O : Type 0} where
 
       -- one run of the machine
       pub each_goes : (waiting left : Option (List (Caller P O))) (old new : S) (n m : ℕ) (tally : Tally) → UpTo waiting left old new n tally → n ≤ m
-          → GoesOn (shown old) (shown new) (failures old) (failures new) m
+          → GoesOn (shown old) (shown new) m
       each_goes waiting left old new n m tally all few = record {
         turns = turns_with all.reads.each.calls;
         read = read_with all.reads.each.calls;
@@ -322,7 +322,7 @@ module _ {P O : Type 0} where
 
       -- one run with the copies and the pings that were answered in it
       pub each_read : (waiting left : Option (List (Caller P O))) (old new : S) (n : ℕ) → Each waiting left old new n
-          → GoesOnRead shown failures copied counted old new n
+          → GoesOnRead shown copied counted old new n
       each_read waiting left old new n all = record {
         steps = steps_with all.each.calls;
         few = subst (λ ts. messages ts ≤ n) (sym (turns_of_steps all.each.calls)) (omega (arith, one_each all.each.calls, all.each.few));

@@ -3,17 +3,15 @@ use Rattle.std.specs.Prelude.{◌||◌}
 use Rattle.std.proofs.Common.{◌≡◌, ℕ, Bool, true, false, List, [], ◌∷◌, ◌++◌, map, refl, sym, ap, ◌∙◌, subst, Option, Some, None, Result, Ok, Err, append_assoc, append-nil}
 use Rattle.world.specs.World.{World}
 use Rattle.world.specs.Store.{Shown}
-use Rattle.world.specs.declared.registry.StoreFault.{StoreFault}
 use Rattle.engine.specs.Exchange.{Exchange}
 use Rattle.socket.specs.Connections.{exchanges_of}
 use Rattle.control.specs.Copying.{Step, Turned, Copied, Counted, turns_in, has_read, AllRead}
 use Rattle.control.specs.Health.{IsPinged}
 use Rattle.control.specs.Hearing.{Heard, Carried, Pinged, Stop, NoOrder, NoMemory}
 use Rattle.control.specs.Hearing as hearing
-use Rattle.control.specs.Turns.{Turn, Asked, world_at}
+use Rattle.control.specs.Turns.{Asked, world_at}
 use Rattle.control.specs.Visits.{Call, OfPeer, OfOperator, CameIf, turns_if, turns_of, turns_with, read_if, read_by, read_with, steps_if, steps_of, steps_with}
 use Rattle.control.specs.declared.copies.CopyRefusal.{CopyRefusal}
-use Rattle.control.specs.declared.health.Health.{Health}
 use Rattle.control.specs.declared.tally.Tally.{Tally}
 use Rattle.control.proofs.CrashLemmas.{world_step}
 
@@ -102,27 +100,27 @@ module _ {P O : Type 0} where
 
 -- ---- what came of the copies and the pings
 
-module _ {S : Type 0} (shown : S → Shown) (failures : S → ℕ) (copied : S → S → List ℕ → Result (Unit {0}) CopyRefusal → Type 0)
+module _ {S : Type 0} (shown : S → Shown) (copied : S → S → List ℕ → Result (Unit {0}) CopyRefusal → Type 0)
     (counted : S → S → ℕ → Type 0) where
-  pub read_then : (w : World) (xs ys : List Step) → AllRead shown failures copied counted w xs → AllRead shown failures copied counted (world_at w (turns_in xs)) ys
-      → AllRead shown failures copied counted w (xs ++ ys)
+  pub read_then : (w : World) (xs ys : List Step) → AllRead shown copied counted w xs → AllRead shown copied counted (world_at w (turns_in xs)) ys
+      → AllRead shown copied counted w (xs ++ ys)
   read_then w [] ys all more = more
   read_then w (Turned t ∷ xs) ys all more =
       read_then (world_at w (t ∷ [])) xs ys all
-      (subst (λ v. AllRead shown failures copied counted v ys) (sym (world_step w t (turns_in xs))) more)
+      (subst (λ v. AllRead shown copied counted v ys) (sym (world_step w t (turns_in xs))) more)
   read_then w (Copied path told ∷ xs) ys all more = (all.0, read_then w xs ys all.1 more)
   read_then w (Counted (Ok health) ∷ xs) ys all more = (all.0, read_then w xs ys all.1 more)
   read_then w (Counted (Err fault) ∷ xs) ys all more = read_then w xs ys all more
 
   -- messages are none
-  pub no_reads : (w : World) (xs : List Exchange) → AllRead shown failures copied counted w (map (λ x. Turned (Asked x)) xs)
+  pub no_reads : (w : World) (xs : List Exchange) → AllRead shown copied counted w (map (λ x. Turned (Asked x)) xs)
   no_reads w [] = tt
   no_reads w (x ∷ xs) = no_reads (world_at w (Asked x ∷ [])) xs
 
   -- an operator's line may be one
   pub read_heard : (tally : Tally) (old new : S) → (shown new).is_honest → (w : World) → (shown old).stands w → (heard : Option Heard)
-      → CameIf (copied old new) (IsPinged tally (failures old) (failures new) (counted old new)) heard
-      → AllRead shown failures copied counted w (steps_if heard)
+      → CameIf (copied old new) (IsPinged tally (shown old).failures (shown new).failures (counted old new)) heard
+      → AllRead shown copied counted w (steps_if heard)
   read_heard tally old new h w stands None came = tt
   read_heard tally old new h w stands (Some (Carried order told)) came = tt
   read_heard tally old new h w stands (Some (hearing.Copied path told)) came =

@@ -1,14 +1,12 @@
 -- The counts of those who came.
-use Rattle.std.proofs.Common.{◌≡◌, ℕ, ◌+◌, ◌<◌, ◌≤◌, List, [], ◌∷◌, ◌++◌, length, refl, sym, ap, ◌∙◌, subst, Option, Some, None, Result, Ok, Err, arith, append_assoc, append-nil}
+use Rattle.std.proofs.Common.{◌≡◌, ℕ, ◌+◌, ◌<◌, List, [], ◌∷◌, ◌++◌, length, refl, sym, ap, subst, Option, Some, None, Result, Ok, Err, arith, append_assoc, append-nil}
 use Rattle.std.specs.Prelude.{Bool, cond, count_by}
 use Rattle.std.proofs.lemmas.List.{length-append}
 use Rattle.std.proofs.lemmas.List.Sums.{sum_by_push, count_by-le-length}
-use Rattle.world.specs.declared.registry.StoreFault.{StoreFault}
 use Rattle.control.specs.Health.{Answered, AreBelow, IsPinged, is_of_class, is_unanswered, one_if, tally_of, with_one}
 use Rattle.control.specs.Hearing.{Heard, Carried, Copied, Pinged, Stop, NoOrder, NoMemory}
 use Rattle.control.specs.Visits.{Call, OfPeer, OfOperator, AllTallied, CameIf, IsTallied, TellsTally, answered_with, peers}
 use Rattle.control.specs.declared.copies.CopyRefusal.{CopyRefusal}
-use Rattle.control.specs.declared.health.Health.{Health}
 use Rattle.control.specs.declared.tally.Tally.{Tally}
 
 -- ---- one connection more

@@ -1,9 +1,9 @@
 -- A store goes through turns: none, one, and more after others.
 use Rattle.std.specs.Prelude.{◌||◌}
-use Rattle.std.proofs.Common.{◌≡◌, ℕ, ◌+◌, ◌≤◌, Bool, true, false, List, [], ◌∷◌, ◌++◌, length, map, refl, sym, subst, ap, ◌∙◌, inl, inr, Result, Ok, Err, arith, append-nil}
+use Rattle.std.proofs.Common.{◌≡◌, ◌+◌, ◌≤◌, Bool, true, false, List, [], ◌∷◌, ◌++◌, length, map, refl, sym, subst, ap, ◌∙◌, inl, inr, Result, Ok, Err, arith, append-nil}
 use Rattle.std.proofs.lemmas.List.{map-append}
 use Rattle.world.specs.World.{World}
-use Rattle.world.specs.Store.{Shown, Does, DoesAt, HasCause}
+use Rattle.world.specs.Store.{Shown, Does, DoesAt}
 use Rattle.world.specs.declared.registry.Registered.{Registered}
 use Rattle.world.specs.declared.registry.StoreFault.{StoreFault}
 use Rattle.shelf.specs.Machine.{after, reply_to}
@@ -24,8 +24,8 @@ use Rattle.control.proofs.CrashLemmas.{leaves_kept, leaves_more, world_step}
 -- ---- none
 
 -- an unchanged store goes through no turns
-pub turns_none : (shown : Shown) (count : ℕ) → GoesThroughTurns shown shown count count [] false
-turns_none shown count = record {
+pub turns_none : (shown : Shown) → GoesThroughTurns shown shown [] false
+turns_none shown = record {
   runs = record {
     honest = λ h. h;
     at = λ h w stands. runs_none shown w stands;
@@ -38,8 +38,8 @@ turns_none shown count = record {
 }
 
 -- an unchanged store was only read
-pub read_none : (shown : Shown) (count : ℕ) → IsOnlyRead shown shown count count
-read_none shown count = record {
+pub read_none : (shown : Shown) → IsOnlyRead shown shown
+read_none shown = record {
   honest = λ h. h;
   stays = λ h w stands. stands;
   left = λ h w x y stands was. was;
@@ -56,8 +56,8 @@ read_runs old new w stands left = record {
 }
 
 -- a store that was only read goes through no turns
-pub turns_read : (old new : Shown) (before now : ℕ) → IsOnlyRead old new before now → GoesThroughTurns old new before now [] true
-turns_read old new before now read = record {
+pub turns_read : (old new : Shown) → IsOnlyRead old new → GoesThroughTurns old new [] true
+turns_read old new read = record {
   runs = record {
     honest = read.honest;
     at = λ h w stands. read_runs old new w (read.stays h w stands) (λ x y was. read.left h w x y stands was);
@@ -87,9 +87,9 @@ stands_next true true old mid on some = on some.0 some.1
 -- ---- one
 
 -- a store that goes through the messages of one connection goes through their turns
-pub turns_asked : (old new : Shown) (before now : ℕ) (xs : List Exchange) → length xs ≤ 1 → GoesThrough old new before now xs
-    → GoesThroughTurns old new before now (map Asked xs) false
-turns_asked old new before now [] few through = record {
+pub turns_asked : (old new : Shown) (xs : List Exchange) → length xs ≤ 1 → GoesThrough old new xs
+    → GoesThroughTurns old new (map Asked xs) false
+turns_asked old new [] few through = record {
   runs = through.runs;
   left = through.left;
   settled = λ h w stands calm was. through.settled h w stands tt was;
@@ -97,7 +97,7 @@ turns_asked old new before now [] few through = record {
   no_fewer = through.no_fewer;
   device = through.device;
 }
-turns_asked old new before now (x ∷ []) few through = record {
+turns_asked old new (x ∷ []) few through = record {
   runs = through.runs;
   left = through.left;
   settled = λ h w stands calm was. through.settled h w stands calm was;
@@ -105,7 +105,7 @@ turns_asked old new before now (x ∷ []) few through = record {
   no_fewer = through.no_fewer;
   device = through.device;
 }
-turns_asked old new before now (x ∷ y ∷ more) few through = absurd (omega (arith, few))
+turns_asked old new (x ∷ y ∷ more) few through = absurd (omega (arith, few))
 
 module _ (old new : Shown) (w : World) where
   -- what was done for an order is what the machine does for its event
@@ -123,40 +123,37 @@ module _ (old new : Shown) (w : World) where
     answer = ap Registry so.2.answer ∙ sym so.1;
     ok = does.ok;
     err = tt;
-    left = does.left;
-    kept = does.kept;
-    settled = does.settled;
-    failed = tt;
+    crash = record { either = does.crash.either; alone = does.crash.alone; settled = does.crash.settled; failed = tt };
   }
 
 -- a store that carried out an order goes through one turn
-pub turns_ordered : (old new : Shown) (before now : ℕ) (o : Order) (told : Result Registered StoreFault)
-    → Does old new told (λ w. outcome_in w o) (λ w. after w (event_of o)) → HasCause before now told
-    → GoesThroughTurns old new before now (Ordered o told ∷ []) false
-turns_ordered old new before now o (Ok r) does cause = record {
+pub turns_ordered : (old new : Shown) (o : Order) (told : Result Registered StoreFault)
+    → Does old new told (λ w. outcome_in w o) (λ w. after w (event_of o))
+    → GoesThroughTurns old new (Ordered o told ∷ []) false
+turns_ordered old new o (Ok r) does = record {
   runs = record {
     honest = λ h. does.honest h;
     at = λ h w stands. runs_replied old new w (event_of o) (Registry r) (replied old new w o r (does.at h w stands tt));
   };
-  left = λ h w stands was. (does.at h w stands tt).left was;
-  settled = λ h w stands calm was. (does.at h w stands tt).kept was;
+  left = λ h w stands was. (does.at h w stands tt).crash.either was;
+  settled = λ h w stands calm was. (does.at h w stands tt).crash.alone was;
   untouched = λ none. cc;
-  no_fewer = cause.no_fewer;
+  no_fewer = does.cause.no_fewer;
   device = λ met. elim met [ inl same ↦ cc | inr never ↦ absurd never ];
 }
-turns_ordered old new before now o (Err fault) does cause = record {
+turns_ordered old new o (Err fault) does = record {
   runs = record {
     honest = λ h. does.honest h;
     at = λ h w stands. runs_failed old new w (event_of o) fault (outcome_in w o) (does.at h w stands tt);
   };
-  left = λ h w stands was. (does.at h w stands tt).left was;
+  left = λ h w stands was. (does.at h w stands tt).crash.either was;
   settled = λ h w stands calm was. elim calm.0 [
     | inl never ↦ absurd never
-    | inr idle ↦ subst (λ x. new.leaves w x) idle ((does.at h w stands tt).left was)
+    | inr idle ↦ subst (λ x. new.leaves w x) idle ((does.at h w stands tt).crash.either was)
   ];
   untouched = λ none. cc;
-  no_fewer = cause.no_fewer;
-  device = λ met. elim met [ inl same ↦ cause.device cc | inr never ↦ absurd never ];
+  no_fewer = does.cause.no_fewer;
+  device = λ met. elim met [ inl same ↦ does.cause.device cc | inr never ↦ absurd never ];
 }
 
 -- ---- more after others
@@ -175,9 +172,9 @@ messages_append [] us = omega arith
 messages_append (Asked x ∷ ts) us = let e = messages_append ts us in omega (arith, e)
 messages_append (Ordered o told ∷ ts) us = messages_append ts us
 
-module _ (old mid new : Shown) (before between now : ℕ) (ts : List Turn) (b : Bool) (first : GoesThroughTurns old mid before between ts b) where
+module _ (old mid new : Shown) (ts : List Turn) (b : Bool) (first : GoesThroughTurns old mid ts b) where
   -- a crash after more turns leaves one of two worlds
-  leaves_after : (us : List Turn) (c : Bool) → GoesThroughTurns mid new between now us c → new.is_honest → (w : World) → old.stands w → old.leaves w w
+  leaves_after : (us : List Turn) (c : Bool) → GoesThroughTurns mid new us c → new.is_honest → (w : World) → old.stands w → old.leaves w w
       → LeavesTwo new w (ts ++ us)
   leaves_after [] c next h w stands was =
       let honest = next.runs.honest h in
@@ -195,7 +192,7 @@ module _ (old mid new : Shown) (before between now : ℕ) (ts : List Turn) (b : 
         (world_more w _ (map turn_event ts) (map turn_event us) (map turn_answer ts) (map turn_answer us) (first.runs.at h w stands).run)
 
     -- a store that goes through some turns and then through more goes through all of them
-    pub turns_more : GoesThroughTurns mid new between now us c → GoesThroughTurns old new before now (ts ++ us) (b || c)
+    pub turns_more : GoesThroughTurns mid new us c → GoesThroughTurns old new (ts ++ us) (b || c)
     turns_more next = record {
       runs = rw (map-append turn_event ts us, map-append turn_answer ts us)
           (runs_joined old mid new (map turn_event ts) (map turn_event us) (map turn_answer ts) (map turn_answer us) first.runs next.runs);

@@ -8,11 +8,11 @@ use Rattle.control.specs.declared.copies.CopyRefusal.{CopyRefusal}
 use Rattle.control.specs.declared.health.Health.{Health}
 
 -- A store was only read: it stands for the worlds that it stood for, and a crash leaves nothing that it did not leave before.
-pub record IsOnlyRead (old new : Shown) (before now : ℕ) : Type 0 where
+pub record IsOnlyRead (old new : Shown) : Type 0 where
   pub honest : new.is_honest → old.is_honest
   pub stays : new.is_honest → (w : World) → old.stands w → new.stands w
   pub left : new.is_honest → (w x y : World) → old.stands w → old.leaves x y → new.leaves x y
-  pub no_fewer : before ≤ now
+  pub no_fewer : old.failures ≤ new.failures
 
 -- what happened to a store that is served: a turn of the machine; or a copy to a path, or a ping, which is none
 pub data Step : Type 0 where
@@ -34,7 +34,7 @@ has_read (Turned t ∷ steps) = has_read steps
 has_read (Copied path told ∷ steps) = true
 has_read (Counted told ∷ steps) = true
 
-module _ {S : Type 0} (shown : S → Shown) (failures : S → ℕ) (copied : S → S → List ℕ → Result (Unit {0}) CopyRefusal → Type 0)
+module _ {S : Type 0} (shown : S → Shown) (copied : S → S → List ℕ → Result (Unit {0}) CopyRefusal → Type 0)
     (counted : S → S → ℕ → Type 0) where
   -- the copy was made of a store that stood for this world, and this came of it
   pub record IsCopied (w : World) (path : List ℕ) (told : Result (Unit {0}) CopyRefusal) : Type 0 where
@@ -50,7 +50,7 @@ module _ {S : Type 0} (shown : S → Shown) (failures : S → ℕ) (copied : S �
     pub source_new : S
     pub honest : (shown source_new).is_honest
     pub stands : (shown source).stands w
-    pub failures_now : health.store_failures ≡ failures source_new
+    pub failures_now : health.store_failures ≡ (shown source_new).failures
     pub came : counted source source_new health.versions
 
   -- so it is of each copy and each ping, with the machine's world at its moment
@@ -65,5 +65,5 @@ module _ {S : Type 0} (shown : S → Shown) (failures : S → ℕ) (copied : S �
   pub record GoesOnRead (old new : S) (most : ℕ) : Type 0 where
     pub steps : List Step
     pub few : messages (turns_in steps) ≤ most
-    pub through : GoesThroughTurns (shown old) (shown new) (failures old) (failures new) (turns_in steps) (has_read steps)
+    pub through : GoesThroughTurns (shown old) (shown new) (turns_in steps) (has_read steps)
     pub reads : (shown new).is_honest → (w : World) → (shown old).stands w → AllRead w steps

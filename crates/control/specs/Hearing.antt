@@ -97,48 +97,46 @@ module _ (copied : List ℕ → Result (Unit {0}) CopyRefusal → Type 0) (pinge
   CameOf NoMemory = Unit {0}
 
   -- what the bytes order was done, and this came of it
-  pub record Heeds (old new : Shown) (before now : ℕ) (got : List ℕ) (told : Told) : Type 0 where
+  pub record Heeds (old new : Shown) (got : List ℕ) (told : Told) : Type 0 where
     pub heard : Heard
     pub from : IsHeardIn got heard
     pub tells : told ≡ told_heard heard
-    pub through : GoesThroughTurns old new before now (turns_heard heard) (is_read heard)
+    pub through : GoesThroughTurns old new (turns_heard heard) (is_read heard)
     pub came : CameOf heard
 
   -- A line was read, what it orders was done, and this came of it.
-  pub record Hears (old new : Shown) (before now : ℕ) (unread unread_new : Option (List ℕ)) (told : Told) : Type 0 where
+  pub record Hears (old new : Shown) (unread unread_new : Option (List ℕ)) (told : Told) : Type 0 where
     pub heard : Heard
     pub from : IsHeard unread unread_new heard
     pub tells : told ≡ told_heard heard
-    pub through : GoesThroughTurns old new before now (turns_heard heard) (is_read heard)
+    pub through : GoesThroughTurns old new (turns_heard heard) (is_read heard)
     pub came : CameOf heard
 
   -- so it was, or a read failed, and nothing was done
-  abbrev pub HearsOrFails : Shown → Shown → ℕ → ℕ → Option (List ℕ) → Option (List ℕ) → Result Told Io → Type 0
-  HearsOrFails old new before now unread unread_new (Ok told) = Hears old new before now unread unread_new told
-  HearsOrFails old new before now unread unread_new (Err e) = (e ≡ io.Read) × GoesThroughTurns old new before now [] false
+  abbrev pub HearsOrFails : Shown → Shown → Option (List ℕ) → Option (List ℕ) → Result Told Io → Type 0
+  HearsOrFails old new unread unread_new (Ok told) = Hears old new unread unread_new told
+  HearsOrFails old new unread unread_new (Err e) = (e ≡ io.Read) × GoesThroughTurns old new [] false
 
   -- A line was read, what it orders was done, and what came of it was written, or a beginning of that where a write failed. Or a read
   -- failed, and nothing was done, and nothing written.
   abbrev pub Obeys :
-      Shown → Shown → ℕ → ℕ → Option (List ℕ) → Option (List ℕ) → Option (List ℕ) → Option (List ℕ) → Result Told Io → Type 0
-  Obeys old new before now unread unread_new written written_new (Ok told) =
-      Hears old new before now unread unread_new told × Appends written written_new (line_told told)
-  Obeys old new before now unread unread_new written written_new (Err io.Read) =
-      GoesThroughTurns old new before now [] false × Keeps written written_new
-  Obeys old new before now unread unread_new written written_new (Err io.Write) =
-      (told : Told) × Hears old new before now unread unread_new told × WritesBeginning written written_new (line_told told)
+      Shown → Shown → Option (List ℕ) → Option (List ℕ) → Option (List ℕ) → Option (List ℕ) → Result Told Io → Type 0
+  Obeys old new unread unread_new written written_new (Ok told) =
+      Hears old new unread unread_new told × Appends written written_new (line_told told)
+  Obeys old new unread unread_new written written_new (Err io.Read) =
+      GoesThroughTurns old new [] false × Keeps written written_new
+  Obeys old new unread unread_new written written_new (Err io.Write) =
+      (told : Told) × Hears old new unread unread_new told × WritesBeginning written written_new (line_told told)
 
 -- So it was between two stores, by what is known of copies and counts, with the tally of the moment.
-module _ {S : Type 0} (shown : S → Shown) (failures : S → ℕ) (copied : S → S → List ℕ → Result (Unit {0}) CopyRefusal → Type 0)
+module _ {S : Type 0} (shown : S → Shown) (copied : S → S → List ℕ → Result (Unit {0}) CopyRefusal → Type 0)
     (counted : S → S → ℕ → Type 0) (tally : Tally) (old new : S) where
   abbrev pub HeedsBy : List ℕ → Told → Type 0
-  HeedsBy = Heeds (copied old new) (IsPinged tally (failures old) (failures new) (counted old new))
-      (shown old) (shown new) (failures old) (failures new)
+  HeedsBy = Heeds (copied old new) (IsPinged tally (shown old).failures (shown new).failures (counted old new)) (shown old) (shown new)
 
   abbrev pub HearsBy : Option (List ℕ) → Option (List ℕ) → Result Told Io → Type 0
-  HearsBy = HearsOrFails (copied old new) (IsPinged tally (failures old) (failures new) (counted old new))
-      (shown old) (shown new) (failures old) (failures new)
+  HearsBy =
+      HearsOrFails (copied old new) (IsPinged tally (shown old).failures (shown new).failures (counted old new)) (shown old) (shown new)
 
   abbrev pub ObeysBy : Option (List ℕ) → Option (List ℕ) → Option (List ℕ) → Option (List ℕ) → Result Told Io → Type 0
-  ObeysBy = Obeys (copied old new) (IsPinged tally (failures old) (failures new) (counted old new))
-      (shown old) (shown new) (failures old) (failures new)
+  ObeysBy = Obeys (copied old new) (IsPinged tally (shown old).failures (shown new).failures (counted old new)) (shown old) (shown new)

@@ -42,14 +42,10 @@ pub record AreTwoRuns (old new old_too new_too : Shown) (w x : World) (s : List 
   pub honest : new.is_honest
   pub honest_too : new_too.is_honest
   pub agree : Agree w x (chain (world_at w full) s)
-  pub before : ℕ
-  pub now : ℕ
-  pub before_too : ℕ
-  pub now_too : ℕ
   pub read : Bool
   pub read_too : Bool
-  pub through : GoesThroughTurns old new before now full read
-  pub through_too : GoesThroughTurns old_too new_too before_too now_too purged read_too
+  pub through : GoesThroughTurns old new full read
+  pub through_too : GoesThroughTurns old_too new_too purged read_too
 
 -- The texts written for the kept turns are equal, and the stores stand for worlds that agree again.
 pub record AreAnsweredAlike (new new_too : Shown) (w x : World) (s : List ℕ) (full purged : List Turn) : Type 0 where

@@ -16,9 +16,9 @@ IsLineFor health told = (told ≡ told_of_ping (Ok health)) ⊎ (told ≡ told_o
 
 -- The store was only read, and this was told.
 pub record Pings
-    {S : Type 0} (shown : S → Shown) (failures : S → ℕ) (counted : S → S → ℕ → Type 0) (tally : Tally) (old new : S) (told : Told)
+    {S : Type 0} (shown : S → Shown) (counted : S → S → ℕ → Type 0) (tally : Tally) (old new : S) (told : Told)
     : Type 0 where
   pub heard : Result Health StoreFault
-  pub reads : IsOnlyRead (shown old) (shown new) (failures old) (failures new)
-  pub came : IsPinged tally (failures old) (failures new) (counted old new) heard
+  pub reads : IsOnlyRead (shown old) (shown new)
+  pub came : IsPinged tally (shown old).failures (shown new).failures (counted old new) heard
   pub tells : told ≡ told_of_ping heard

@@ -74,9 +74,8 @@ abbrev pub StandsIf : Bool → Shown → Type 0
 StandsIf false shown = Unit {0}
 StandsIf true shown = (w : World) × shown.stands w
 
--- From old to new the store went through the turns, with these counts of device failures before and now, and was read for copies
--- between them or was not.
-pub record GoesThroughTurns (old new : Shown) (before now : ℕ) (turns : List Turn) (read : Bool) : Type 0 where
+-- From old to new the store went through the turns, and was read for copies between them or was not.
+pub record GoesThroughTurns (old new : Shown) (turns : List Turn) (read : Bool) : Type 0 where
   -- in one run of the machine the messages were answered and the orders carried out
   pub runs : Runs old new (map turn_event turns) (map turn_answer turns)
   -- if a crash before the turns could leave only the first world, a crash now leaves one of two worlds, as `LeavesTwo` says
@@ -86,13 +85,13 @@ pub record GoesThroughTurns (old new : Shown) (before now : ℕ) (turns : List T
       → new.leaves (world_at w turns) (world_at w turns)
   -- without turns nothing changes
   pub untouched : turns ≡ [] → StandsIf read old → new.is_honest → (w x : World) → old.leaves w x → new.leaves w x
-  -- a failed device is told only where one failed
-  pub no_fewer : before ≤ now
-  pub device : MetDevice (map turn_answer turns) → GrewOrFull before now
+  -- the count of failures never falls, and a `Device` fault is met only if it grew or is full
+  pub no_fewer : old.failures ≤ new.failures
+  pub device : MetDevice (map turn_answer turns) → GrewOrFull old.failures new.failures
 
 -- the store went through turns with at most this many messages
-pub record GoesOn (old new : Shown) (before now most : ℕ) : Type 0 where
+pub record GoesOn (old new : Shown) (most : ℕ) : Type 0 where
   pub turns : List Turn
   pub read : Bool
   pub few : messages turns ≤ most
-  pub through : GoesThroughTurns old new before now turns read
+  pub through : GoesThroughTurns old new turns read

@@ -124,9 +124,9 @@ AllTallied since before [] = Unit {0}
 AllTallied since before (call ∷ calls) = IsTallied since before call × AllTallied since (before ++ call ∷ []) calls
 
 -- A peer was answered, and its connection counts as what became of it.
-pub record AnswersOne {P : Type 0} (unread written : P → Option (List ℕ)) (peer : P) (old new : Shown) (before now : ℕ)
+pub record AnswersOne {P : Type 0} (unread written : P → Option (List ℕ)) (peer : P) (old new : Shown)
     (answered : Answered) : Type 0 where
-  pub answers : socket.Answers unread written peer old new before now
+  pub answers : socket.Answers unread written peer old new
   pub counts : CountsAs answers.visit.first answered
 
 module _ {O : Type 0} (heeded told : O → Option (List ℕ)) where
@@ -141,20 +141,20 @@ module _ {O : Type 0} (heeded told : O → Option (List ℕ)) where
 
   -- this operator was obeyed, and the store went through its order
   pub record ObeysOne (copied : List ℕ → Result (Unit {0}) CopyRefusal → Type 0) (pinged : Result Health StoreFault → Type 0)
-      (operator : O) (old new : Shown) (before now : ℕ) : Type 0 where
+      (operator : O) (old new : Shown) : Type 0 where
     pub audience : Audience O
     pub begins : audience.before ≡ operator
     pub there : IsToldThere audience.before audience.after audience.heard
-    pub through : GoesThroughTurns old new before now (turns_if audience.heard) (read_if audience.heard)
+    pub through : GoesThroughTurns old new (turns_if audience.heard) (read_if audience.heard)
     pub came : CameIf copied pinged audience.heard
 
   -- so it was between two stores, by what is known of copies and counts, with the tally of the moment
-  abbrev pub ObeysOneBy : {S : Type 0} (shown : S → Shown) (failures : S → ℕ)
+  abbrev pub ObeysOneBy : {S : Type 0} (shown : S → Shown)
       (copied : S → S → List ℕ → Result (Unit {0}) CopyRefusal → Type 0) (counted : S → S → ℕ → Type 0) (tally : Tally)
       (operator : O) (old new : S) → Type 0
-  ObeysOneBy shown failures copied counted tally operator old new =
-      ObeysOne (copied old new) (IsPinged tally (failures old) (failures new) (counted old new)) operator
-      (shown old) (shown new) (failures old) (failures new)
+  ObeysOneBy shown copied counted tally operator old new =
+      ObeysOne (copied old new)
+      (IsPinged tally (shown old).failures (shown new).failures (counted old new)) operator (shown old) (shown new)
 
   module _ {P : Type 0} (unread written : P → Option (List ℕ)) where
     abbrev pub IsCallThere : Call P O → Type 0
@@ -163,20 +163,20 @@ module _ {O : Type 0} (heeded told : O → Option (List ℕ)) where
 
     -- The callers were served one after another, each once, and at most as many peers as there are connections. What a peer sent
     -- was answered to that peer, and the outcome of an operator's order went to that operator.
-    pub record ServesEach (waiting left : Option (List (Caller P O))) (old new : Shown) (before now connections : ℕ) : Type 0 where
+    pub record ServesEach (waiting left : Option (List (Caller P O))) (old new : Shown) (connections : ℕ) : Type 0 where
       pub calls : List (Call P O)
       pub few : peers calls ≤ connections
       pub came : Come waiting left (map caller_of calls)
       pub there : All IsCallThere calls
-      pub through : GoesThroughTurns old new before now (turns_with calls) (read_with calls)
+      pub through : GoesThroughTurns old new (turns_with calls) (read_with calls)
 
     -- So it was. Each copy that was ordered was made of the machine's world at its moment, and each ping was told what was counted in it,
     -- and how the connections before it were answered.
     pub record ReadsEach
-        {S : Type 0} (shown : S → Shown) (failures : S → ℕ) (copied : S → S → List ℕ → Result (Unit {0}) CopyRefusal → Type 0)
+        {S : Type 0} (shown : S → Shown) (copied : S → S → List ℕ → Result (Unit {0}) CopyRefusal → Type 0)
         (counted : S → S → ℕ → Type 0)
         (waiting left : Option (List (Caller P O))) (old new : S) (since : List ℕ) (connections : ℕ) : Type 0 where
-      pub each : ServesEach waiting left (shown old) (shown new) (failures old) (failures new) connections
+      pub each : ServesEach waiting left (shown old) (shown new) connections
       pub reads : (shown new).is_honest → (w : World) → (shown old).stands w
-          → AllRead shown failures copied counted w (steps_with each.calls)
+          → AllRead shown copied counted w (steps_with each.calls)
       pub tallies : AllTallied since [] each.calls

@@ -45,7 +45,7 @@ pub trait Operator {
         shelves: &mut S,
         copies: &mut K,
     ) -> Result<Told, Io>
-        ensures { ObeysBy S.shown S.failure_count K.copied K.counted tally.now shelves.old shelves.new
+        ensures { ObeysBy S.shown K.copied K.counted tally.now shelves.old shelves.new
             (unread self.old) (unread self.new) (written self.old) (written self.new) result };
 }
 

@@ -1,6 +1,6 @@
 //! Carrying an order out.
 ghost use Rattle.shelf.specs.Machine.{after};
-ghost use Rattle.world.specs.Store.{Does, HasCause};
+ghost use Rattle.world.specs.Store.{Does};
 ghost use Rattle.control.specs.Order.{event_of, outcome_in};
 
 use crate::order::Order;
@@ -15,7 +15,6 @@ pub(crate) fn carry_out<S: Shelves>(
 ) -> Result<Registered, StoreFault>
     ensures does { Does (S.shown shelves.old) (S.shown shelves.new) result
         (λ w. outcome_in w order.now) (λ w. after w (event_of order.now)) }
-    ensures cause { HasCause (S.failure_count shelves.old) (S.failure_count shelves.new) result }
 {
     match order {
         Order::TeamAdd { name, group } => shelves.team_add(name, *group),

@@ -31,15 +31,13 @@ pub trait Copies<S: Shelves> {
     /// Fails with `NotEmpty` if the file has more than an empty store, or belongs to the served store; with `Device` if it can't be
     /// opened or a disk failed; and with `Memory` if memory ran out.
     fn copy(&mut self, shelves: &mut S, path: &str) -> Result<(), CopyRefusal>
-        ensures reads { IsOnlyRead (S.shown shelves.old) (S.shown shelves.new)
-            (S.failure_count shelves.old) (S.failure_count shelves.new) }
+        ensures reads { IsOnlyRead (S.shown shelves.old) (S.shown shelves.new) }
         ensures came { copied shelves.old shelves.new path.now result };
 
     /// Returns how many versions the served store keeps at this moment. The served store is only read. Fails with `Device` if a disk
     /// failed, and with `Memory` if memory ran out.
     fn versions(&mut self, shelves: &mut S) -> Result<u64, StoreFault>
-        ensures reads { IsOnlyRead (S.shown shelves.old) (S.shown shelves.new)
-            (S.failure_count shelves.old) (S.failure_count shelves.new) }
-        ensures cause { HasCause (S.failure_count shelves.old) (S.failure_count shelves.new) result }
+        ensures reads { IsOnlyRead (S.shown shelves.old) (S.shown shelves.new) }
+        ensures cause { HasCause (S.shown shelves.old) (S.shown shelves.new) result }
         ensures counted { IfOk result (λ n. counted shelves.old shelves.new n) };
 }

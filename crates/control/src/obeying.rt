@@ -32,7 +32,7 @@ pub fn obey<R: Read, W: Write, S: Shelves, K: Copies<S>>(
     shelves: &mut S,
     copies: &mut K,
 ) -> Result<Told, Io>
-    ensures { ObeysBy S.shown S.failure_count K.copied K.counted tally.now shelves.old shelves.new
+    ensures { ObeysBy S.shown K.copied K.counted tally.now shelves.old shelves.new
         (R.remaining reader.old) (R.remaining reader.new) (W.contents writer.old) (W.contents writer.new) result }
 {
     match hear(alloc, reader, tally, shelves, copies) {
@@ -52,7 +52,7 @@ fn hear<R: Read, S: Shelves, K: Copies<S>>(
     shelves: &mut S,
     copies: &mut K,
 ) -> Result<Told, Io>
-    ensures { HearsBy S.shown S.failure_count K.copied K.counted tally.now shelves.old shelves.new
+    ensures { HearsBy S.shown K.copied K.counted tally.now shelves.old shelves.new
         (R.remaining reader.old) (R.remaining reader.new) result }
 {
     match read_line(alloc, reader) {
@@ -70,7 +70,7 @@ fn heed<S: Shelves, K: Copies<S>>(
     shelves: &mut S,
     copies: &mut K,
 ) -> Told
-    ensures { HeedsBy S.shown S.failure_count K.copied K.counted tally.now shelves.old shelves.new got.now result }
+    ensures { HeedsBy S.shown K.copied K.counted tally.now shelves.old shelves.new got.now result }
 {
     if is_stop(got) {
         return Told::Outcome(Outcome::Stopping);

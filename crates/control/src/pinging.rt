@@ -19,7 +19,7 @@ pub(crate) fn ping<S: Shelves, K: Copies<S>>(
     shelves: &mut S,
     copies: &mut K,
 ) -> Told
-    ensures { Pings S.shown S.failure_count K.counted tally.now shelves.old shelves.new result }
+    ensures { Pings S.shown K.counted tally.now shelves.old shelves.new result }
 {
     match copies.versions(shelves) {
         Ok(versions) => tell(

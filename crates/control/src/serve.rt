@@ -39,16 +39,13 @@ pub fn serve_both<
     connections: u32,
 )
     // One run of the machine: its events are the messages, at most one on each connection, and the orders.
-    ensures goes { GoesOn
-        (S.shown shelves.old) (S.shown shelves.new) (S.failure_count shelves.old) (S.failure_count shelves.new)
-        connections }
+    ensures goes { GoesOn (S.shown shelves.old) (S.shown shelves.new) connections }
     // Each message is answered on the connection that it came over, and the outcome of each order is told on its own.
     ensures each { ServesEach O.unread O.written P.unread P.written (L.waiting callers.old) (L.waiting callers.new)
-        (S.shown shelves.old) (S.shown shelves.new) (S.failure_count shelves.old) (S.failure_count shelves.new)
-        connections }
+        (S.shown shelves.old) (S.shown shelves.new) connections }
     // Each copy is made of the machine's world at its moment, between two of its events. Each ping is told the versions that were
     // counted so, and the counts of the connections that were taken before it.
-    ensures reads { ReadsEach O.unread O.written P.unread P.written S.shown S.failure_count K.copied K.counted
+    ensures reads { ReadsEach O.unread O.written P.unread P.written S.shown K.copied K.counted
         (L.waiting callers.old) (L.waiting callers.new) shelves.old shelves.new since connections }
 {
     let mut routes = RouteTable::new(alloc);
@@ -81,8 +78,7 @@ fn answer_on<C: Clock, P: Peer, S: Shelves>(
     peer: &mut P,
     shelves: &mut S,
 ) -> Result<Option<u16>, Io>
-    ensures { AnswersOne P.unread P.written peer.old (S.shown shelves.old) (S.shown shelves.new)
-        (S.failure_count shelves.old) (S.failure_count shelves.new) result }
+    ensures { AnswersOne P.unread P.written peer.old (S.shown shelves.old) (S.shown shelves.new) result }
 {
     let answered = peer.answer(alloc, clock, routes, shelves);
     if let Ok(Some(status)) = answered {
@@ -100,8 +96,7 @@ fn obey_on<C: Clock, O: Operator, S: Shelves, K: Copies<S>>(
     shelves: &mut S,
     copies: &mut K,
 ) -> bool
-    ensures { ObeysOneBy O.unread O.written S.shown S.failure_count K.copied K.counted tally.now
-        operator.old shelves.old shelves.new }
+    ensures { ObeysOneBy O.unread O.written S.shown K.copied K.counted tally.now operator.old shelves.old shelves.new }
 {
     let told = operator.obeyed(alloc, clock, tally, shelves, copies);
     is_stopping(told)

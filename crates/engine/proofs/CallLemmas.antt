@@ -59,10 +59,10 @@ record CameToTheEnd (messages : List Request) (end : End) (xs : List Exchange) (
   wrote : out ≡ concat (map text_of xs) ++ end_bytes end
 
 -- a call that returned `Ok` and did not close with the 503 answered each message of its stream
-came_to_the_end : (old new : Shown) (before now : ℕ) (bytes : List ℕ) (unread written written_new : Option (List ℕ)) (messages : List Request) (end : End)
-    → IsStream bytes messages end → (call : Serves old new before now (Some bytes) unread written written_new (Ok tt))
+came_to_the_end : (old new : Shown) (bytes : List ℕ) (unread written written_new : Option (List ℕ)) (messages : List Request) (end : End)
+    → IsStream bytes messages end → (call : Serves old new (Some bytes) unread written written_new (Ok tt))
     → call.ends.1.0 ≢ Some Unavailable → CameToTheEnd messages end call.exchanges call.out
-came_to_the_end old new before now bytes unread written written_new messages end stream call other =
+came_to_the_end old new bytes unread written written_new messages end stream call other =
     let at = closed call.rest call.ends.1.0 call.ends.1.1 other in
     let reads = subst (λ all. ReadsMessages all (map message_of call.exchanges) call.rest) call.ends.0 call.reads in
     let same = stream_unique bytes (map message_of call.exchanges) messages at.0 end (call.rest, reads, at.1) stream in
@@ -104,9 +104,9 @@ calls_tell_alike old new old_too new_too sound w x later s events answers messag
     let marks : List Bool = kept_for w ss messages in
     let full = calls.full in
     let purged = calls.purged in
-    let first = came_to_the_end old new _ _ (concat calls.pieces ++ calls.rest) _ _ _ messages end
+    let first = came_to_the_end old new (concat calls.pieces ++ calls.rest) _ _ _ messages end
     (messages_make_a_stream calls.pieces messages calls.rest end calls.are calls.ends) full other in
-    let second = came_to_the_end old_too new_too _ _ (concat (marked marks calls.pieces) ++ calls.rest) _ _ _ (marked marks messages) end
+    let second = came_to_the_end old_too new_too (concat (marked marks calls.pieces) ++ calls.rest) _ _ _ (marked marks messages) end
     (messages_make_a_stream (marked marks calls.pieces) (marked marks messages) calls.rest end (marked_messages marks calls.pieces messages calls.are) calls.ends) purged other_too in
     let kept_alike = texts_kept w ss messages full.exchanges [] (sym first.all ∙ sym (append-nil (map message_of full.exchanges))) in
     let run = full.through.runs.at calls.honest w calls.stands in
@@ -139,10 +139,10 @@ input_begins bytes (Some left) xs input rest out (Err io.Read) (consumed, waits,
 input_begins bytes unread xs input rest out (Err io.Write) (tells, broken) = ([], sym tells ∙ sym (append-nil input))
 
 -- the messages that a call answered are the first of its stream
-first_messages : (old new : Shown) (before now : ℕ) (bytes : List ℕ) (unread written written_new : Option (List ℕ)) (result : Result (Unit {0}) Io)
-    (messages : List Request) (end : End) → IsStream bytes messages end → (call : Serves old new before now (Some bytes) unread written written_new result)
+first_messages : (old new : Shown) (bytes : List ℕ) (unread written written_new : Option (List ℕ)) (result : Result (Unit {0}) Io)
+    (messages : List Request) (end : End) → IsStream bytes messages end → (call : Serves old new (Some bytes) unread written written_new result)
     → (left : List Request) × (messages ≡ map message_of call.exchanges ++ left)
-first_messages old new before now bytes unread written written_new result messages end stream call =
+first_messages old new bytes unread written written_new result messages end stream call =
     let begins = input_begins bytes unread call.exchanges call.input call.rest call.out result call.ends in
     let reads = ReadsMessages-append call.input (map message_of call.exchanges) call.rest begins.0 call.reads in
     stream_begins bytes (map message_of call.exchanges) messages (call.rest ++ begins.0) end
@@ -174,9 +174,9 @@ calls_tell_alike_as_far old new old_too new_too sound w x later s events answers
     let marks : List Bool = kept_for w ss messages in
     let full = calls.full in
     let purged = calls.purged in
-    let first = first_messages old new _ _ (concat calls.pieces ++ calls.rest) _ _ _ result messages end
+    let first = first_messages old new (concat calls.pieces ++ calls.rest) _ _ _ result messages end
     (messages_make_a_stream calls.pieces messages calls.rest end calls.are calls.ends) full in
-    let second = first_messages old_too new_too _ _ (concat (marked marks calls.pieces) ++ calls.rest) _ _ _ result_too (marked marks messages) end
+    let second = first_messages old_too new_too (concat (marked marks calls.pieces) ++ calls.rest) _ _ _ result_too (marked marks messages) end
     (messages_make_a_stream (marked marks calls.pieces) (marked marks messages) calls.rest end (marked_messages marks calls.pieces messages calls.are) calls.ends) purged in
     let cut = either_ends w ss full.exchanges purged.exchanges first.0 second.0 (ap (λ ms. marked (kept_for w ss ms) ms) (sym first.1) ∙ second.1) in
     let same = texts_kept w ss messages full.exchanges first.0 first.1 in

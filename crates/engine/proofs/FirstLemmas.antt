@@ -1,6 +1,6 @@
 -- The first turn of a stream.
-use Rattle.std.proofs.Common.{◌≡◌, ℕ, List, [], ◌++◌, Option, Some, None, Result, Ok, Err, inl, inr, refl, sym, ap, ◌∙◌, subst, IfOk, IfErr}
-use Rattle.std.specs.Io.KnownBytes.{Consumes, Keeps, Appends}
+use Rattle.std.proofs.Common.{◌≡◌, ℕ, List, [], ◌++◌, Option, None, Result, Ok, Err, inl, inr, refl, sym, ap, ◌∙◌, subst, IfOk, IfErr}
+use Rattle.std.specs.Io.KnownBytes.{Consumes, Keeps}
 use Rattle.std.proofs.KnownBytes.{Appends-kept, Keeps-trans}
 use Rattle.framing.specs.Message.{ReadsMessage}
 use Rattle.framing.specs.Framing.{Framing, IsUnfinished}
@@ -9,7 +9,6 @@ use Rattle.world.specs.Store.{Shown}
 use Rattle.engine.specs.First.{First, Answers, Closes, IsFirst, TakesFirst, ServesFirst, first_bytes, first_status}
 use Rattle.engine.specs.Served.{IsClosing, Tells}
 use Rattle.engine.specs.Turn.{IsNext, TakesNext, Turns, EndsBy, IsClosed, turn_of, turn_status}
-use Rattle.engine.specs.Written.{WritesBeginning}
 use Rattle.engine.specs.declared.fault.Io.{Io}
 use Rattle.engine.specs.declared.fault.Io.TheVariants as io
 use Rattle.engine.specs.declared.session.Turn.{Turn}
@@ -52,19 +51,19 @@ status_of_turn (Answers x) = refl
 status_of_turn (Closes closing) = refl
 
 -- the first turn of a stream and `end_turn` make what `answer_one` promises
-pub first_turned : (old new : Shown) (before now : ℕ) (u u' w w' w'' : Option (List ℕ)) (held held_new : Framing) (turned : Result Turn Io)
-    (result : Result (Option ℕ) Io) → held.held ≡ [] → Turns old new before now u u' w w' held held_new turned → Keeps w' w'' → EndsBy turned result
-    → ServesFirst old new before now u u' w w'' result
-first_turned old new before now u u' w w' w'' held held_new (Ok turned) (Ok status) none (first, next, through, is, appends) keeps ends =
+pub first_turned : (old new : Shown) (u u' w w' w'' : Option (List ℕ)) (held held_new : Framing) (turned : Result Turn Io)
+    (result : Result (Option ℕ) Io) → held.held ≡ [] → Turns old new u u' w w' held held_new turned → Keeps w' w'' → EndsBy turned result
+    → ServesFirst old new u u' w w'' result
+first_turned old new u u' w w' w'' held held_new (Ok turned) (Ok status) none (first, next, through, is, appends) keeps ends =
     (first, first_next held held_new u u' first none next, through, ends ∙ ap turn_status is ∙ status_of_turn first, Appends-kept w w' w'' (first_bytes first) appends keeps)
-first_turned old new before now u u' w w' w'' held held_new (Ok turned) (Err io.Read) none turns keeps ends = cc
-first_turned old new before now u u' w w' w'' held held_new (Ok turned) (Err io.Write) none (first, next, through, is, appends) keeps ends =
+first_turned old new u u' w w' w'' held held_new (Ok turned) (Err io.Read) none turns keeps ends = cc
+first_turned old new u u' w w' w'' held held_new (Ok turned) (Err io.Write) none (first, next, through, is, appends) keeps ends =
     (first, first_next held held_new u u' first none next, through, inr (Appends-kept w w' w'' (first_bytes first) appends keeps))
-first_turned old new before now u u' w w' w'' held held_new (Err io.Read) result none (bytes, consumed, waits, through, unwritten) keeps ends =
-    subst (ServesFirst old new before now u u' w w'') (sym ends)
+first_turned old new u u' w w' w'' held held_new (Err io.Read) result none (bytes, consumed, waits, through, unwritten) keeps ends =
+    subst (ServesFirst old new u u' w w'') (sym ends)
     (bytes, consumed, subst (λ (held : List ℕ). IsUnfinished (held ++ bytes)) none waits, through, Keeps-trans w w' w'' unwritten keeps)
-first_turned old new before now u u' w w' w'' held held_new (Err io.Write) result none (first, next, through, (begun, begins, appends)) keeps ends =
-    subst (ServesFirst old new before now u u' w w'') (sym ends)
+first_turned old new u u' w w' w'' held held_new (Err io.Write) result none (first, next, through, (begun, begins, appends)) keeps ends =
+    subst (ServesFirst old new u u' w w'') (sym ends)
     (first, first_next held held_new u u' first none next, through, inl (begun, begins, Appends-kept w w' w'' begun appends keeps))
 
 -- what holds of a turn that closed the stream holds of a result without a status

@@ -1,15 +1,14 @@
 -- Reading until the next message is whole.
 use Rattle.std.proofs.Common.{◌≡◌, ℕ, ◌<◌, ◌≤◌, ◌+◌, List, [], ◌++◌, Option, Some, None, Ok, Err, length, refl, sym, ap, ◌∙◌, subst, arith, append_assoc, append-nil}
-use Rattle.std.specs.Io.KnownBytes.{Consumes}
 use Rattle.std.proofs.KnownBytes.{Consumes-nil, Consumes-trans, Consumes-kept}
 use Rattle.framing.specs.Message.{ReadsMessage}
 use Rattle.framing.specs.Framing.{Framing, IsUnfinished, view}
 use Rattle.framing.specs.declared.message.Message.{Message}
 use Rattle.wire.specs.declared.reply.Fixed.{Fixed}
-use Rattle.engine.specs.First.{Answers, Closes}
+use Rattle.engine.specs.First.{Answers}
 use Rattle.engine.specs.Served.{IsClosing}
 use Rattle.engine.specs.Exchange.{Exchange}
-use Rattle.engine.specs.Turn.{StaysNear, ReadsOn, Takes, work, ReadSoFar, TakesNext, Comes}
+use Rattle.engine.specs.Turn.{StaysNear, ReadsOn, Takes, ReadSoFar, TakesNext, Comes}
 use Rattle.engine.specs.declared.fault.Io.{Io}
 use Rattle.engine.specs.declared.fault.Io.TheVariants as io
 use Rattle.engine.specs.declared.incoming.Incoming.TheVariants as incoming

@@ -43,10 +43,10 @@ abbrev IsRepliedInEach : Shown → Shown → Option (List ℕ) → Option (List 
 IsRepliedInEach old new written written_new m status =
     new.is_honest → (w : World) → old.stands w → IsReplied new written written_new w m status
 
-module _ (old new : Shown) (before now : ℕ) (u u' written written_new : Option (List ℕ)) where
+module _ (old new : Shown) (u u' written written_new : Option (List ℕ)) where
   -- a message that was answered with another status than 503 was replied to
   outcome_replied : (m : Request) (outcome : Outcome) (status : ℕ) → let first = Answers (record { message = m; outcome = outcome }) in
-      GoesThrough old new before now (first_exchanges first) → Some status ≡ first_status first → Appends written written_new (first_bytes first)
+      GoesThrough old new (first_exchanges first) → Some status ≡ first_status first → Appends written written_new (first_bytes first)
       → status ≢ 503 → IsRepliedInEach old new written written_new m status
   outcome_replied m Unserved status through is appends other honest w stands = absurd (other (some_inside status 503 is))
   outcome_replied m (Met fault) status through is appends other honest w stands = absurd (other (some_inside status 503 is))
@@ -60,7 +60,7 @@ module _ (old new : Shown) (before now : ℕ) (u u' written written_new : Option
 
   -- the first message of a known input was replied to, if the status is not 503
   first_replied : (first : First) (input : List ℕ) (m : Request) (rest : List ℕ) (status : ℕ) → u ≡ Some input → TakesFirst u u' first
-      → GoesThrough old new before now (first_exchanges first) → Some status ≡ first_status first → Appends written written_new (first_bytes first)
+      → GoesThrough old new (first_exchanges first) → Some status ≡ first_status first → Appends written written_new (first_bytes first)
       → ReadsMessage input m rest → status ≢ 503 → IsRepliedInEach old new written written_new m status
   first_replied (Answers x) input m rest status known takes through is appends reads other =
       let same : takes.input ≡ input = rw known at takes.tells in
@@ -71,16 +71,16 @@ module _ (old new : Shown) (before now : ℕ) (u u' written written_new : Option
       absurd (other (closed_by_503 closing input m rest status reads (subst (λ bytes. IsClosing bytes closing) same takes.stands) is))
 
   message_replied : (input : List ℕ) (m : Request) (rest : List ℕ) (status : ℕ) → u ≡ Some input
-      → ServesFirst old new before now u u' written written_new (Ok (Some status)) → ReadsMessage input m rest → status ≢ 503
+      → ServesFirst old new u u' written written_new (Ok (Some status)) → ReadsMessage input m rest → status ≢ 503
       → IsRepliedInEach old new written written_new m status
   message_replied input m rest status known (first, takes, through, is, appends) reads other =
       first_replied first input m rest status known takes through is appends reads other
 
   -- `answer_one` answers a message by the shelf of its key alone, unless it writes a 503
   pub alike : ((w : World) → old.stands w → IsWorld w) → (result : Result (Option ℕ) Io)
-      → ServesFirst old new before now u u' written written_new result → AnswersByItsShelf old new u written written_new result
+      → ServesFirst old new u u' written written_new result → AnswersByItsShelf old new u written written_new result
   alike sound result serves input m rest status known reads ended other honest w x s t k stands is_world low seen has key =
-      let replied = message_replied input m rest status known (subst (ServesFirst old new before now u u' written written_new) ended serves) reads other honest w stands in
+      let replied = message_replied input m rest status known (subst (ServesFirst old new u u' written written_new) ended serves) reads other honest w stands in
       let same = blind w x s t k (ask_of m) (sound w stands) is_world low seen has key in
       record {
         bytes = subst (λ r. Appends written written_new (bytes_of m (Replied r))) same.0 replied.bytes;
@@ -94,9 +94,9 @@ module _ (old new : Shown) (before now : ℕ) (u u' written written_new : Option
 pub two_answers_are_alike : (old new old_too new_too : Shown) → ((w : World) → old.stands w → IsWorld w)
     → ((w : World) → old_too.stands w → IsWorld w) → TwoAnswersAreAlike old new old_too new_too
 two_answers_are_alike old new old_too new_too sound sound_too w x s m written written_new written_too written_too_new status status_too two other other_too =
-    let replied = message_replied old new two.before two.now (Some two.input) two.unread written written_new two.input m two.rest status refl
+    let replied = message_replied old new (Some two.input) two.unread written written_new two.input m two.rest status refl
     two.serves two.reads other two.honest w two.stands in
-    let replied_too = message_replied old_too new_too two.before_too two.now_too (Some two.input) two.unread_too written_too written_too_new two.input m two.rest status_too refl
+    let replied_too = message_replied old_too new_too (Some two.input) two.unread_too written_too written_too_new two.input m two.rest status_too refl
     two.serves_too two.reads other_too two.honest_too x two.stands_too in
     let same = blind w x s two.shelf two.key (ask_of m) (sound w two.stands) (sound_too x two.stands_too) two.low two.sees_it two.belongs_to_it two.asks_with in
     record {

@@ -1,5 +1,5 @@
 -- The end of `answer_all`, from what was answered so far.
-use Rattle.std.proofs.Common.{◌≡◌, ℕ, inl, inr, List, [], ◌∷◌, ◌++◌, Option, Some, None, Result, Ok, Err, refl, sym, ap, ◌∙◌, subst, IfErr}
+use Rattle.std.proofs.Common.{◌≡◌, ℕ, inl, inr, List, [], ◌∷◌, ◌++◌, Option, Some, None, Result, Ok, Err, refl, sym, ap, ◌∙◌, IfErr}
 use Rattle.std.specs.Io.KnownBytes.{Consumes, Appends, Keeps}
 use Rattle.std.proofs.KnownBytes.{Appends-trans, Appends-kept, Consumes-trans, Consumes-nil}
 use Rattle.framing.specs.Framing.{Framing}
@@ -29,10 +29,10 @@ Tells_after None new got more x tells = tt
 Tells_after (Some xs) None got more x tells = absurd x
 Tells_after (Some xs) (Some ys) got more x tells = ap (λ rest. got ++ rest) tells ∙ sym x
 
-module _ (old new : Shown) (before now : ℕ) (u u' w₀ w₁ w₂ : Option (List ℕ)) (input rest : List ℕ) where
+module _ (old new : Shown) (u u' w₀ w₁ w₂ : Option (List ℕ)) (input rest : List ℕ) where
   -- a call that answered the messages at the front and wrote what closes the stream, or failed at it, does as `Serves` says
-  pub served : (closing : Option Fixed) (result : Result (Unit {0}) Io) → Answered old new before now w₀ w₁ input rest → Tells u input
-      → IsClosing rest closing → Delivers w₁ w₂ (closing_bytes closing) result → Serves old new before now u u' w₀ w₂ result
+  pub served : (closing : Option Fixed) (result : Result (Unit {0}) Io) → Answered old new w₀ w₁ input rest → Tells u input
+      → IsClosing rest closing → Delivers w₁ w₂ (closing_bytes closing) result → Serves old new u u' w₀ w₂ result
   served closing (Ok tt) far tells closes delivers = record {
     exchanges = far.exchanges;
     input = input;
@@ -66,7 +66,7 @@ module _ (old new : Shown) (before now : ℕ) (u u' w₀ w₁ w₂ : Option (Lis
   }
 
   -- a call whose last answer was cut short does as `Serves` says
-  pub served_cut : CutShort old new before now w₀ w₁ input rest → Tells u input → Serves old new before now u u' w₀ w₁ (Err io.Write)
+  pub served_cut : CutShort old new w₀ w₁ input rest → Tells u input → Serves old new u u' w₀ w₁ (Err io.Write)
   served_cut far tells = record {
     exchanges = far.first ++ far.last ∷ [];
     input = input;
@@ -78,11 +78,11 @@ module _ (old new : Shown) (before now : ℕ) (u u' w₀ w₁ w₂ : Option (Lis
     ends = (tells, inl (far.first, far.last, far.front, refl, far.begins, refl));
   }
 
-pub so_far_none : (shown : Shown) (count : ℕ) (u w : Option (List ℕ)) → SoFar shown shown count count u u w w (record { held = []; failure = None })
-so_far_none shown count u w = record {
+pub so_far_none : (shown : Shown) (u w : Option (List ℕ)) → SoFar shown shown u u w w (record { held = []; failure = None })
+so_far_none shown u w = record {
   got = [];
   consumed = Consumes-nil u;
-  answered = answered_none shown count w [];
+  answered = answered_none shown w [];
   sound = refl;
 }
 
@@ -93,48 +93,48 @@ delivered w w' w'' text (Ok u) appends keeps which = Appends-kept w w' w'' text 
 delivered w w' w'' text (Err e) appends keeps which = (which, inr (Appends-kept w w' w'' text appends keeps))
 
 module _
-    (old mid : Shown) (before between : ℕ) (u₀ u₁ w₀ w₁ : Option (List ℕ)) (framing : Framing)
-    (far : SoFar old mid before between u₀ u₁ w₀ w₁ framing) (new : Shown) (now : ℕ) (u₂ w₂ : Option (List ℕ)) (next : Framing) where
+    (old mid : Shown) (u₀ u₁ w₀ w₁ : Option (List ℕ)) (framing : Framing)
+    (far : SoFar old mid u₀ u₁ w₀ w₁ framing) (new : Shown) (u₂ w₂ : Option (List ℕ)) (next : Framing) where
   -- what was answered before, if more bytes come
-  with_more : (more : List ℕ) → Answered old mid before between w₀ w₁ (far.got ++ more) (framing.held ++ more)
-  with_more more = answered_before old mid before between w₀ w₁ far.got framing.held more far.answered
+  with_more : (more : List ℕ) → Answered old mid w₀ w₁ (far.got ++ more) (framing.held ++ more)
+  with_more more = answered_before old mid w₀ w₁ far.got framing.held more far.answered
 
   -- what was answered before, if more bytes come and no message is answered more
-  with_nothing : (more : List ℕ) → GoesThrough mid new between now [] → Answered old new before now w₀ w₁ (far.got ++ more) (framing.held ++ more)
+  with_nothing : (more : List ℕ) → GoesThrough mid new [] → Answered old new w₀ w₁ (far.got ++ more) (framing.held ++ more)
   with_nothing more through = answered_more
-      old mid new before between now w₀ w₁ w₁ (far.got ++ more) (framing.held ++ more) (framing.held ++ more)
-      (with_more more) (answered_nothing mid new between now w₁ (framing.held ++ more) through)
+      old mid new w₀ w₁ w₁ (far.got ++ more) (framing.held ++ more) (framing.held ++ more)
+      (with_more more) (answered_nothing mid new w₁ (framing.held ++ more) through)
 
   -- after a turn that answered a message, one more is answered
-  pub went_on : (status : ℕ) → Turns mid new between now u₁ u₂ w₁ w₂ framing next (Ok (turn.Answered status))
-      → SoFar old new before now u₀ u₂ w₀ w₂ next
+  pub went_on : (status : ℕ) → Turns mid new u₁ u₂ w₁ w₂ framing next (Ok (turn.Answered status))
+      → SoFar old new u₀ u₂ w₀ w₂ next
   went_on status (Closes closing, takes, through, is, appends) = cc
   went_on status (Answers x, takes, through, is, appends) = record {
     got = far.got ++ takes.bytes;
     consumed = Consumes-trans u₀ u₁ u₂ far.got takes.bytes far.consumed takes.consumed;
     answered = answered_more
-        old mid new before between now w₀ w₁ w₂ (far.got ++ takes.bytes) (framing.held ++ takes.bytes) next.held (with_more takes.bytes)
-        (answered_one mid new between now w₁ w₂ (framing.held ++ takes.bytes) next.held x takes.stands.0 through appends);
+        old mid new w₀ w₁ w₂ (far.got ++ takes.bytes) (framing.held ++ takes.bytes) next.held (with_more takes.bytes)
+        (answered_one mid new w₁ w₂ (framing.held ++ takes.bytes) next.held x takes.stands.0 through appends);
     sound = takes.stands.1;
   }
 
   closed_by : (closing : Option Fixed) (w₃ : Option (List ℕ)) (result : Result (Unit {0}) Io) → TakesNext framing next u₁ u₂ (Closes closing)
-      → GoesThrough mid new between now [] → Delivers w₁ w₃ (closing_bytes closing) result → Serves old new before now u₀ u₂ w₀ w₃ result
+      → GoesThrough mid new [] → Delivers w₁ w₃ (closing_bytes closing) result → Serves old new u₀ u₂ w₀ w₃ result
   closed_by closing w₃ result takes through delivers =
       let (all, tells, closes) = takes.stands in
-      served old new before now u₀ u₂ w₀ w₁ w₃ (far.got ++ all) (framing.held ++ all) closing result (with_nothing all through)
+      served old new u₀ u₂ w₀ w₁ w₃ (far.got ++ all) (framing.held ++ all) closing result (with_nothing all through)
       (Tells_after u₀ u₁ far.got all far.consumed tells) closes delivers
 
   -- a call does as `Serves` says if its last turn closed the stream and it flushed, or failed at it
   pub closed : (closing : Option Fixed) (w₃ : Option (List ℕ)) (result : Result (Unit {0}) Io)
-      → Turns mid new between now u₁ u₂ w₁ w₂ framing next (Ok (turn.Closed closing)) → Keeps w₂ w₃ → IfErr result (λ e. e ≡ io.Write)
-      → Serves old new before now u₀ u₂ w₀ w₃ result
+      → Turns mid new u₁ u₂ w₁ w₂ framing next (Ok (turn.Closed closing)) → Keeps w₂ w₃ → IfErr result (λ e. e ≡ io.Write)
+      → Serves old new u₀ u₂ w₀ w₃ result
   closed closing w₃ result (Answers x, takes, through, is, appends) keeps which = cc
   closed closing w₃ result (Closes by, takes, through, is, appends) keeps which =
       closed_by by w₃ result takes through (delivered w₁ w₂ w₃ (closing_bytes by) result appends keeps which)
 
   -- a call whose last turn failed does as `Serves` says
-  pub failed : (e : Io) → Turns mid new between now u₁ u₂ w₁ w₂ framing next (Err e) → Serves old new before now u₀ u₂ w₀ w₂ (Err e)
+  pub failed : (e : Io) → Turns mid new u₁ u₂ w₁ w₂ framing next (Err e) → Serves old new u₀ u₂ w₀ w₂ (Err e)
   failed io.Read (bytes, consumed, waits, through, keeps) =
       let all = with_nothing bytes through in
       record {
@@ -151,8 +151,8 @@ module _
   failed io.Write (Answers x, takes, through, begun) =
       let bytes = takes.bytes in
       let more = left_of u₂ in
-      served_cut old new before now u₀ u₂ w₀ w₂ w₂ ((far.got ++ bytes) ++ more) (next.held ++ more)
-      (cut_before old new before now w₀ w₂ (far.got ++ bytes) next.held more
-      (cut_more old mid new before between now w₀ w₁ w₂ (far.got ++ bytes) (framing.held ++ bytes) next.held (with_more bytes)
-      (cut_one mid new between now w₁ w₂ (framing.held ++ bytes) next.held x takes.stands.0 through begun)))
+      served_cut old new u₀ u₂ w₀ w₂ w₂ ((far.got ++ bytes) ++ more) (next.held ++ more)
+      (cut_before old new w₀ w₂ (far.got ++ bytes) next.held more
+      (cut_more old mid new w₀ w₁ w₂ (far.got ++ bytes) (framing.held ++ bytes) next.held (with_more bytes)
+      (cut_one mid new w₁ w₂ (framing.held ++ bytes) next.held x takes.stands.0 through begun)))
       (Tells_after u₀ u₂ (far.got ++ bytes) more (Consumes-trans u₀ u₁ u₂ far.got bytes far.consumed takes.consumed) (Tells_left u₂))

@@ -1,5 +1,5 @@
 -- A store goes through messages: none, one, and more after others.
-use Rattle.std.proofs.Common.{◌≡◌, ℕ, ◌≤◌, List, [], ◌∷◌, ◌++◌, map, Option, refl, sym, subst, ap, ◌∙◌, inl, inr, Result, Ok, Err, arith, append-nil}
+use Rattle.std.proofs.Common.{◌≡◌, ℕ, List, [], ◌∷◌, ◌++◌, map, Option, refl, sym, subst, ap, ◌∙◌, inl, inr, Result, Ok, Err, arith, append-nil}
 use Rattle.std.proofs.lemmas.List.{map-append}
 use Rattle.modver.specs.SemanticVersion.{SemanticVersion}
 use Rattle.framing.specs.Message.{Request}
@@ -9,7 +9,7 @@ use Rattle.shelf.specs.declared.reply.Reply.TheVariants.{GoMod, Info, Versions, 
 use Rattle.world.specs.declared.registry.StoreFault.{StoreFault}
 use Rattle.world.specs.World.{World}
 use Rattle.shelf.specs.Machine.{ask_reply, after_ask, reply_to, after, HasBody}
-use Rattle.world.specs.Store.{Shown, Does, DoesAt, HasCause, GrewOrFull}
+use Rattle.world.specs.Store.{Shown, Does, DoesAt}
 use Rattle.shelf.proofs.Changes.{bodies_change_nothing}
 use Rattle.engine.specs.Ask.{ask_of, sum_of}
 use Rattle.engine.specs.Ask.{event_of as event_of_message}
@@ -18,21 +18,12 @@ use Rattle.engine.specs.Reply.{IsComposed, IsOutcome}
 use Rattle.engine.specs.Store.{GoesThrough, LeavesTwo, AllCalm, world_at}
 use Rattle.engine.proofs.CrashLemmas.{leaves_kept, leaves_more, world_step}
 use Rattle.engine.proofs.RunLemmas.{world_more, met_either}
-use Rattle.shelf.proofs.Runs.{runs_none, runs_unasked, runs_failed, runs_replied, runs_lost, runs_joined}
+use Rattle.shelf.proofs.Runs.{runs_none, runs_unasked, runs_failed, runs_replied, runs_lost, runs_joined, grown_more, grown_before}
 
 calm_parts : (w : World) (xs ys : List Exchange) → AllCalm w (xs ++ ys) → AllCalm w xs × AllCalm (world_at w xs) ys
 calm_parts w [] ys all = (tt, all)
 calm_parts w (x ∷ xs) ys all =
     let parts = calm_parts (world_at w (x ∷ [])) xs ys all.1 in ((all.0, parts.0), subst (λ v. AllCalm v ys) (world_step w x xs) parts.1)
-
--- if the count of failures grew or is full at one of two moments, it grew or is full after both
-grown_first : (before mid now : ℕ) → GrewOrFull before mid → mid ≤ now → GrewOrFull before now
-grown_first before mid now (inl grew) more = inl (omega arith)
-grown_first before mid now (inr full) more = inr (omega arith)
-
-grown_next : (before mid now : ℕ) → before ≤ mid → GrewOrFull mid now → GrewOrFull before now
-grown_next before mid now less (inl grew) = inl (omega arith)
-grown_next before mid now less (inr full) = inr full
 
 -- a reply whose body is composed has a body
 composed_body : (sum : Option (List ℕ × SemanticVersion)) (r : Reply) → IsComposed sum r → HasBody r
@@ -45,8 +36,8 @@ composed_body sum other composed = absurd composed
 -- ---- none
 
 -- an unchanged store goes through no messages
-pub through_none : (shown : Shown) (count : ℕ) → GoesThrough shown shown count count []
-through_none shown count = record {
+pub through_none : (shown : Shown) → GoesThrough shown shown []
+through_none shown = record {
   runs = record {
     honest = λ h. h;
     at = λ h w stands. runs_none shown w stands;
@@ -61,9 +52,9 @@ through_none shown count = record {
 -- ---- one
 
 -- an unchanged store goes through a message that the machine did not see
-pub through_unasked : (shown : Shown) (count : ℕ) (m : Request) → ((w x : World) → shown.leaves w w → shown.leaves w x)
-    → GoesThrough shown shown count count (record { message = m; outcome = Unserved } ∷ [])
-through_unasked shown count m wider = record {
+pub through_unasked : (shown : Shown) (m : Request) → ((w x : World) → shown.leaves w w → shown.leaves w x)
+    → GoesThrough shown shown (record { message = m; outcome = Unserved } ∷ [])
+through_unasked shown m wider = record {
   runs = record {
     honest = λ h. h;
     at = λ h w stands. runs_unasked shown w _ _ stands;
@@ -75,7 +66,7 @@ through_unasked shown count m wider = record {
   device = λ met. elim met [ inl is ↦ cc | inr never ↦ absurd never ];
 }
 
-module _ (old new : Shown) (before now : ℕ) (m : Request) (ask : Ask) (is : ask ≡ ask_of m) where
+module _ (old new : Shown) (m : Request) (ask : Ask) (is : ask ≡ ask_of m) where
   -- the step does in each world what it does for the event of the message
   asked : new.is_honest → (w : World) → old.stands w → (answer : Result Reply StoreFault)
       → Does {T = Reply} old new answer (λ w. ask_reply w ask) (λ w. after_ask w ask)
@@ -84,34 +75,34 @@ module _ (old new : Shown) (before now : ℕ) (m : Request) (ask : Ask) (is : as
 
   -- the store goes through a message at which it met a fault
   pub through_met : (fault : StoreFault) → Does {T = Reply} old new (Err fault) (λ w. ask_reply w ask) (λ w. after_ask w ask)
-      → HasCause {T = Reply} before now (Err fault) → GoesThrough old new before now (record { message = m; outcome = Met fault } ∷ [])
-  through_met fault does cause = record {
+      → GoesThrough old new (record { message = m; outcome = Met fault } ∷ [])
+  through_met fault does = record {
     runs = record {
       honest = λ h. does.honest h;
       at = λ h w stands. runs_failed old new w _ fault _ (asked h w stands (Err fault) does);
     };
-    left = λ h w stands was. subst (λ x. new.leaves w x) (ap (after_ask w) is) ((does.at h w stands tt).left was);
+    left = λ h w stands was. subst (λ x. new.leaves w x) (ap (after_ask w) is) ((does.at h w stands tt).crash.either was);
     settled = λ h w stands calm was. elim calm.0 [
       | inl never ↦ absurd never
-      | inr idle ↦ subst (λ x. new.leaves w x) (ap (after_ask w) is ∙ idle) ((does.at h w stands tt).left was)
+      | inr idle ↦ subst (λ x. new.leaves w x) (ap (after_ask w) is ∙ idle) ((does.at h w stands tt).crash.either was)
     ];
     untouched = λ none. cc;
-    no_fewer = cause.no_fewer;
-    device = λ met. elim met [ inl same ↦ cause.device cc | inr never ↦ absurd never ];
+    no_fewer = does.cause.no_fewer;
+    device = λ met. elim met [ inl same ↦ does.cause.device cc | inr never ↦ absurd never ];
   }
 
   -- the store goes through a message that got a reply
   pub through_reply : (reply : Reply) → Does {T = Reply} old new (Ok reply) (λ w. ask_reply w ask) (λ w. after_ask w ask)
-      → HasCause {T = Reply} before now (Ok reply) → GoesThrough old new before now (record { message = m; outcome = Served reply } ∷ [])
-  through_reply reply does cause = record {
+      → GoesThrough old new (record { message = m; outcome = Served reply } ∷ [])
+  through_reply reply does = record {
     runs = record {
       honest = λ h. does.honest h;
       at = λ h w stands. runs_replied old new w _ reply (asked h w stands (Ok reply) does);
     };
-    left = λ h w stands was. subst (λ x. new.leaves w x) (ap (after_ask w) is) ((does.at h w stands tt).left was);
-    settled = λ h w stands calm was. kept w ((does.at h w stands tt).kept was);
+    left = λ h w stands was. subst (λ x. new.leaves w x) (ap (after_ask w) is) ((does.at h w stands tt).crash.either was);
+    settled = λ h w stands calm was. kept w ((does.at h w stands tt).crash.alone was);
     untouched = λ none. cc;
-    no_fewer = cause.no_fewer;
+    no_fewer = does.cause.no_fewer;
     device = λ met. elim met [ inl same ↦ cc | inr never ↦ absurd never ];
   }
     where
@@ -120,16 +111,16 @@ module _ (old new : Shown) (before now : ℕ) (m : Request) (ask : Ask) (is : as
 
   -- the store goes through a message whose reply had a body that memory ran out for: the world is unchanged
   pub through_unshown : (reply : Reply) → HasBody reply → Does {T = Reply} old new (Ok reply) (λ w. ask_reply w ask) (λ w. after_ask w ask)
-      → HasCause {T = Reply} before now (Ok reply) → GoesThrough old new before now (record { message = m; outcome = Unserved } ∷ [])
-  through_unshown reply body does cause = record {
+      → GoesThrough old new (record { message = m; outcome = Unserved } ∷ [])
+  through_unshown reply body does = record {
     runs = record {
       honest = λ h. does.honest h;
       at = λ h w stands. runs_lost old new w _ reply _ _ (asked h w stands (Ok reply) does) (ap (after_ask w) (sym is) ∙ same h w stands);
     };
-    left = λ h w stands was. subst (λ x. new.leaves w x) (ap (after_ask w) is) ((does.at h w stands tt).left was);
+    left = λ h w stands was. subst (λ x. new.leaves w x) (ap (after_ask w) is) ((does.at h w stands tt).crash.either was);
     settled = λ h w stands calm was. kept h w stands was;
     untouched = λ none. cc;
-    no_fewer = cause.no_fewer;
+    no_fewer = does.cause.no_fewer;
     device = λ met. elim met [ inl other ↦ cc | inr never ↦ absurd never ];
   }
     where
@@ -137,18 +128,18 @@ module _ (old new : Shown) (before now : ℕ) (m : Request) (ask : Ask) (is : as
       same h w stands = bodies_change_nothing w ask (subst HasBody (does.at h w stands tt).answer body)
 
       kept : new.is_honest → (w : World) → old.stands w → old.leaves w w → new.leaves w w
-      kept h w stands was = subst (λ x. new.leaves x x) (same h w stands) ((does.at h w stands tt).kept was)
+      kept h w stands was = subst (λ x. new.leaves x x) (same h w stands) ((does.at h w stands tt).crash.alone was)
 
   -- the store goes through a message with the outcome that fits the machine's answer
   pub through_asked : (answer : Result Reply StoreFault) (outcome : Outcome) → IsOutcome (sum_of m) answer outcome
-      → Does {T = Reply} old new answer (λ w. ask_reply w ask) (λ w. after_ask w ask) → HasCause {T = Reply} before now answer
-      → GoesThrough old new before now (record { message = m; outcome = outcome } ∷ [])
-  through_asked (Ok reply) (Served r) same does cause = rw same (through_reply reply does cause)
-  through_asked (Ok reply) Unserved composed does cause = through_unshown reply (composed_body (sum_of m) reply composed) does cause
-  through_asked (Ok reply) (Met f) wrong does cause = absurd wrong
-  through_asked (Err fault) (Met f) same does cause = rw same (through_met fault does cause)
-  through_asked (Err fault) Unserved wrong does cause = absurd wrong
-  through_asked (Err fault) (Served r) wrong does cause = absurd wrong
+      → Does {T = Reply} old new answer (λ w. ask_reply w ask) (λ w. after_ask w ask)
+      → GoesThrough old new (record { message = m; outcome = outcome } ∷ [])
+  through_asked (Ok reply) (Served r) same does = rw same (through_reply reply does)
+  through_asked (Ok reply) Unserved composed does = through_unshown reply (composed_body (sum_of m) reply composed) does
+  through_asked (Ok reply) (Met f) wrong does = absurd wrong
+  through_asked (Err fault) (Met f) same does = rw same (through_met fault does)
+  through_asked (Err fault) Unserved wrong does = absurd wrong
+  through_asked (Err fault) (Served r) wrong does = absurd wrong
 
 -- ---- more after others
 
@@ -156,9 +147,9 @@ none_of : (xs ys : List Exchange) → xs ++ ys ≡ [] → (xs ≡ []) × (ys ≡
 none_of [] ys e = (refl, e)
 none_of (x ∷ xs) ys e = cc
 
-module _ (old mid new : Shown) (before between now : ℕ) (xs : List Exchange) (first : GoesThrough old mid before between xs) where
+module _ (old mid new : Shown) (xs : List Exchange) (first : GoesThrough old mid xs) where
   -- a crash after more messages leaves one of two worlds
-  leaves_after : (ys : List Exchange) → GoesThrough mid new between now ys → new.is_honest → (w : World) → old.stands w → old.leaves w w
+  leaves_after : (ys : List Exchange) → GoesThrough mid new ys → new.is_honest → (w : World) → old.stands w → old.leaves w w
       → LeavesTwo new w (xs ++ ys)
   leaves_after [] next h w stands was =
       subst (LeavesTwo new w) (sym (append-nil xs))
@@ -174,7 +165,7 @@ module _ (old mid new : Shown) (before between now : ℕ) (xs : List Exchange) (
         (world_more w _ (map event_of xs) (map event_of ys) (map answer_of xs) (map answer_of ys) (first.runs.at h w stands).run)
 
     -- a store that goes through some messages and then through more goes through all of them
-    pub through_more : GoesThrough mid new between now ys → GoesThrough old new before now (xs ++ ys)
+    pub through_more : GoesThrough mid new ys → GoesThrough old new (xs ++ ys)
     through_more next = record {
       runs = rw (map-append event_of xs ys, map-append answer_of xs ys)
           (runs_joined old mid new (map event_of xs) (map event_of ys) (map answer_of xs) (map answer_of ys) first.runs next.runs);
@@ -192,7 +183,7 @@ module _ (old mid new : Shown) (before between now : ℕ) (xs : List Exchange) (
       device = λ met.
           let either = met_either (map answer_of xs) (map answer_of ys) (rw (map-append answer_of xs ys) at met) in
           elim either [
-            | inl earlier ↦ grown_first _ _ _ (first.device earlier) next.no_fewer
-            | inr later ↦ grown_next _ _ _ first.no_fewer (next.device later)
+            | inl earlier ↦ grown_more _ _ _ (first.device earlier) next.no_fewer
+            | inr later ↦ grown_before _ _ _ first.no_fewer (next.device later)
           ];
     }

@@ -47,19 +47,15 @@ pub record AreTwoCalls
   pub rest : List ℕ
   pub are : AreMessages pieces messages
   pub ends : Ends rest end
-  pub before : ℕ
-  pub now : ℕ
-  pub before_too : ℕ
-  pub now_too : ℕ
   pub unread : Option (List ℕ)
   pub unread_too : Option (List ℕ)
   pub written : Option (List ℕ)
   pub written_new : Option (List ℕ)
   pub written_too : Option (List ℕ)
   pub written_too_new : Option (List ℕ)
-  pub full : Serves old new before now (Some (concat pieces ++ rest)) unread written written_new result
+  pub full : Serves old new (Some (concat pieces ++ rest)) unread written written_new result
   pub purged :
-      Serves old_too new_too before_too now_too (Some (concat (marked (kept_for w ss messages) pieces) ++ rest)) unread_too
+      Serves old_too new_too (Some (concat (marked (kept_for w ss messages) pieces) ++ rest)) unread_too
       written_too written_too_new result_too
 
 -- Two calls, one for these messages and one for the marked ones, wrote an equal text for each message and equal bytes for the

@@ -66,13 +66,13 @@ Ended unread unread_new exchanges input rest out (Err io.Write) = Tells unread i
 -- The messages at the front of the input were answered one after another, as the machine answers them, and then the call ended
 -- as `Ended` says.
 pub record Serves
-    (old new : Shown) (before now : ℕ) (unread unread_new written written_new : Option (List ℕ))
+    (old new : Shown) (unread unread_new written written_new : Option (List ℕ))
     (result : Result (Unit {0}) Io) : Type 0 where
   pub exchanges : List Exchange
   pub input : List ℕ
   pub rest : List ℕ
   pub out : List ℕ
   pub reads : ReadsMessages input (map message_of exchanges) rest
-  pub through : GoesThrough old new before now exchanges
+  pub through : GoesThrough old new exchanges
   pub appended : Appends written written_new out
   pub ends : Ended unread unread_new exchanges input rest out result

@@ -1,5 +1,5 @@
 -- What a store goes through while messages are answered.
-use Rattle.std.specs.Prelude.{◌≡◌, ℕ, ◌≤◌, ◌⊎◌, List, [], ◌∷◌, map}
+use Rattle.std.specs.Prelude.{◌≡◌, ◌≤◌, ◌⊎◌, List, [], ◌∷◌, map}
 use Rattle.shelf.specs.Machine.{after, world_after, MetDevice}
 use Rattle.world.specs.World.{World}
 use Rattle.world.specs.Store.{Shown, GrewOrFull}
@@ -25,8 +25,8 @@ LeavesTwo shown w [] = shown.leaves w w
 LeavesTwo shown w (x ∷ []) = shown.leaves w (after w (event_of x))
 LeavesTwo shown w (x ∷ y ∷ more) = IsCalm w x → LeavesTwo shown (world_at w (x ∷ [])) (y ∷ more)
 
--- From old to new the store went through the exchanges, and counted this many device failures before and now.
-pub record GoesThrough (old new : Shown) (before now : ℕ) (exchanges : List Exchange) : Type 0 where
+-- From old to new the store went through the exchanges.
+pub record GoesThrough (old new : Shown) (exchanges : List Exchange) : Type 0 where
   -- the messages were answered in a run of the machine
   pub runs : Runs old new (map event_of exchanges) (map answer_of exchanges)
   -- if a crash before the messages could leave only the first world, a crash now leaves one of two worlds, as `LeavesTwo` says
@@ -36,6 +36,6 @@ pub record GoesThrough (old new : Shown) (before now : ℕ) (exchanges : List Ex
       → new.leaves (world_at w exchanges) (world_at w exchanges)
   -- without messages nothing changes
   pub untouched : exchanges ≡ [] → new.is_honest → (w x : World) → old.leaves w x → new.leaves w x
-  -- the count never falls, and a `Device` fault is met only if it grew or is full
-  pub no_fewer : before ≤ now
-  pub device : MetDevice (map answer_of exchanges) → GrewOrFull before now
+  -- the count of failures never falls, and a `Device` fault is met only if it grew or is full
+  pub no_fewer : old.failures ≤ new.failures
+  pub device : MetDevice (map answer_of exchanges) → GrewOrFull old.failures new.failures

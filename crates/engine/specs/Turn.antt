@@ -104,16 +104,16 @@ IsClosed (turn.Closed closing) = Unit {0}
 -- The next message was answered as the machine answers it, or the stream was closed without one. Or a read failed before, and
 -- nothing was done; or a write failed, and a beginning was written.
 abbrev pub Turns :
-    Shown → Shown → ℕ → ℕ → Option (List ℕ) → Option (List ℕ) → Option (List ℕ) → Option (List ℕ) → Framing → Framing
+    Shown → Shown → Option (List ℕ) → Option (List ℕ) → Option (List ℕ) → Option (List ℕ) → Framing → Framing
     → Result Turn Io → Type 0
-Turns old new before now unread unread_new written written_new held held_new (Ok turn) =
-    (first : First) × TakesNext held held_new unread unread_new first × GoesThrough old new before now (first_exchanges first)
+Turns old new unread unread_new written written_new held held_new (Ok turn) =
+    (first : First) × TakesNext held held_new unread unread_new first × GoesThrough old new (first_exchanges first)
     × (turn ≡ turn_of first) × Appends written written_new (first_bytes first)
-Turns old new before now unread unread_new written written_new held held_new (Err io.Read) =
-    (bytes : List ℕ) × Consumes unread unread_new bytes × IsUnfinished (held.held ++ bytes) × GoesThrough old new before now []
+Turns old new unread unread_new written written_new held held_new (Err io.Read) =
+    (bytes : List ℕ) × Consumes unread unread_new bytes × IsUnfinished (held.held ++ bytes) × GoesThrough old new []
     × Keeps written written_new
-Turns old new before now unread unread_new written written_new held held_new (Err io.Write) =
-    (first : First) × TakesNext held held_new unread unread_new first × GoesThrough old new before now (first_exchanges first)
+Turns old new unread unread_new written written_new held held_new (Err io.Write) =
+    (first : First) × TakesNext held held_new unread unread_new first × GoesThrough old new (first_exchanges first)
     × WritesBeginning written written_new (first_bytes first)
 
 -- the result of `end_turn`: the status of the turn, `Io::Write` if the flush failed, or the error of the turn
@@ -124,29 +124,29 @@ EndsBy (Err e) result = result ≡ Err e
 
 -- the messages at the front of the input were answered, and rest follows them
 pub record Answered
-    (old new : Shown) (before now : ℕ) (written written_new : Option (List ℕ)) (input rest : List ℕ) : Type 0 where
+    (old new : Shown) (written written_new : Option (List ℕ)) (input rest : List ℕ) : Type 0 where
   pub exchanges : List Exchange
   pub reads : ReadsMessages input (map message_of exchanges) rest
-  pub through : GoesThrough old new before now exchanges
+  pub through : GoesThrough old new exchanges
   pub appended : Appends written written_new (texts_of exchanges)
 
 -- the messages at the front of the input were answered, the last with only a beginning of its answer, and rest follows them
 pub record CutShort
-    (old new : Shown) (before now : ℕ) (written written_new : Option (List ℕ)) (input rest : List ℕ) : Type 0 where
+    (old new : Shown) (written written_new : Option (List ℕ)) (input rest : List ℕ) : Type 0 where
   pub first : List Exchange
   pub last : Exchange
   pub front : List ℕ
   pub reads : ReadsMessages input (map message_of (first ++ last ∷ [])) rest
-  pub through : GoesThrough old new before now (first ++ last ∷ [])
+  pub through : GoesThrough old new (first ++ last ∷ [])
   pub begins : IsBeginning front (text_of last)
   pub appended : Appends written written_new (texts_of first ++ front)
 
 -- what was read so far is the answered messages and what the framer holds
 pub record SoFar
-    (old new : Shown) (before now : ℕ) (unread unread_new written written_new : Option (List ℕ)) (framing : Framing) : Type 0 where
+    (old new : Shown) (unread unread_new written written_new : Option (List ℕ)) (framing : Framing) : Type 0 where
   pub got : List ℕ
   pub consumed : Consumes unread unread_new got
-  pub answered : Answered old new before now written written_new got framing.held
+  pub answered : Answered old new written written_new got framing.held
   pub sound : framing.failure ≡ None
 
 -- the writer got the whole text and was flushed, or a write or the flush failed

@@ -28,14 +28,10 @@ pub record AreTwoAnswers
   pub input : List ℕ
   pub rest : List ℕ
   pub reads : ReadsMessage input m rest
-  pub before : ℕ
-  pub now : ℕ
-  pub before_too : ℕ
-  pub now_too : ℕ
   pub unread : Option (List ℕ)
   pub unread_too : Option (List ℕ)
-  pub serves : ServesFirst old new before now (Some input) unread written written_new (Ok (Some status))
-  pub serves_too : ServesFirst old_too new_too before_too now_too (Some input) unread_too written_too written_too_new (Ok (Some status_too))
+  pub serves : ServesFirst old new (Some input) unread written written_new (Ok (Some status))
+  pub serves_too : ServesFirst old_too new_too (Some input) unread_too written_too written_too_new (Ok (Some status_too))
 
 -- Both wrote the same text and returned the same status. The stores stand for the worlds after the request, and these are the
 -- same to s again.

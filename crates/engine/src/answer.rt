@@ -25,7 +25,6 @@ pub fn answer_all<R: Read, W: Write, S: Shelves>(
     shelves: &mut S,
 ) -> Result<(), Io>
     ensures { Serves (S.shown shelves.old) (S.shown shelves.new)
-        (S.failure_count shelves.old) (S.failure_count shelves.new)
         (R.remaining reader.old) (R.remaining reader.new) (W.contents writer.old) (W.contents writer.new) result }
 {
     let mut routes = RouteTable::new(alloc);
@@ -49,7 +48,6 @@ pub fn answer_one<R: Read, W: Write, S: Shelves>(
     shelves: &mut S,
 ) -> Result<Option<u16>, Io>
     ensures serves { ServesFirst (S.shown shelves.old) (S.shown shelves.new)
-        (S.failure_count shelves.old) (S.failure_count shelves.new)
         (R.remaining reader.old) (R.remaining reader.new) (W.contents writer.old) (W.contents writer.new) result }
     // An empty input and a failed read leave the shelves untouched.
     ensures empty { IfOk result (λ status. status ≡ None → shelves.new ≡ shelves.old) }

@@ -108,7 +108,6 @@ impl Session {
     ) -> Result<Turn, Io>
         requires { self.old.framer.failure ≡ None }
         ensures turns { Turns (S.shown shelves.old) (S.shown shelves.new)
-            (S.failure_count shelves.old) (S.failure_count shelves.new)
             (R.remaining reader.old) (R.remaining reader.new) (W.contents writer.old) (W.contents writer.new)
             self.old.framer self.new.framer result }
         // A turn that closed the stream and a failed read leave the shelves untouched.

@@ -40,7 +40,7 @@ impl Outline {
 /// A store of shelves that tells outlines.
 pub trait Outlines: Shelves {
     ghost use Rattle.modver.specs.SemanticVersion.{version_text};
-    ghost use Rattle.world.specs.Store.{Reads, HasCause};
+    ghost use Rattle.world.specs.Store.{Reads};
     ghost use Rattle.outline.specs.Outline.{outline};
 
     /// The outline of what the shelf sees of the version; None if it sees no entry of it.
@@ -53,8 +53,7 @@ pub trait Outlines: Shelves {
         version: &Version,
     ) -> Result<Option<Outline>, StoreFault>
         ensures reads { Reads (Self.shown self.old) (Self.shown self.new) result
-            (λ w. outline w shelf.now path.now (version_text version.now)) }
-        ensures cause { HasCause (Self.failure_count self.old) (Self.failure_count self.new) result };
+            (λ w. outline w shelf.now path.now (version_text version.now)) };
 }
 
 impl Outlines for MapShelves {

@@ -7,21 +7,20 @@ use Rattle.statements.specs.Counted.{versions_in}
 use Rattle.store.specs.Extracted.{IsRead}
 use Rattle.control.specs.Copying.{IsOnlyRead}
 
-pub only_read : (old new : Shown) (before now : ℕ) → IsRead old new → before ≤ now → IsOnlyRead old new before now
-only_read old new before now read no_fewer = record {
+pub only_read : (old new : Shown) → IsRead old new → old.failures ≤ new.failures → IsOnlyRead old new
+only_read old new read no_fewer = record {
   honest = read.honest;
   stays = read.stays;
   left = read.left;
   no_fewer = no_fewer;
 }
 
-pub count_reads : (old new : Shown) (before now : ℕ) (told : Result ℕ StoreFault) (value : World → ℕ) → Reads old new told value → before ≤ now
-    → IsOnlyRead old new before now
-count_reads old new before now told value reads no_fewer = record {
+pub count_reads : (old new : Shown) (told : Result ℕ StoreFault) (value : World → ℕ) → Reads old new told value → IsOnlyRead old new
+count_reads old new told value reads = record {
   honest = reads.honest;
   stays = λ h w stands. (reads.at h w stands).stays;
   left = λ h w x y stands was. (reads.at h w stands).left x y was;
-  no_fewer = no_fewer;
+  no_fewer = reads.cause.no_fewer;
 }
 
 pub count_tells : (old new : Shown) (told : Result ℕ StoreFault) → Reads old new told versions_in

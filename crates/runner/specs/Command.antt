@@ -4,7 +4,6 @@ use Rattle.sqlite_wal.specs.Recovery.{Image}
 use Rattle.sqlite.specs.State.{State}
 use Rattle.world.specs.Store.{Shown}
 use Rattle.setup.specs.declared.refusal.Refusal.{Refusal as Unopened}
-use Rattle.control.specs.declared.order.Order.{Order}
 use Rattle.commands.specs.Opening.{AnsweredFor}
 use Rattle.commands.specs.Order.{CopiesThere, OrdersThere, StopsThere}
 use Rattle.commands.specs.Ping.{PingsThere}
@@ -39,16 +38,10 @@ module _ (unread unread_new written written_new : Option (List ℕ)) (result : R
     pub answers : AnsweredFor team key unread unread_new written written_new ended
     pub tells : result ≡ acceptance ended
 
-  -- an order was sent to a running `serve`, or could not be, no store was opened, and nothing was read or written
-  pub record OrdersAlone (order : Order) : Type 0 where
+  -- this was done, the result says how it ended, and nothing was read or written
+  pub record EndsAlone (done : Result (Unit {0}) CommandRefusal → Type 0) : Type 0 where
     pub ended : Result (Unit {0}) CommandRefusal
-    pub orders : OrdersThere order ended
-    pub tells : TellsAlone (acceptance ended)
-
-  -- a running `serve` was ordered to copy its store, or could not be, no store was opened, and nothing was read or written
-  pub record CopiesAlone (path : List ℕ) : Type 0 where
-    pub ended : Result (Unit {0}) CommandRefusal
-    pub copies : CopiesThere path ended
+    pub does : done ended
     pub tells : TellsAlone (acceptance ended)
 
   -- a running `serve` was asked for its health, which was printed, no store was opened, and nothing was read
@@ -56,20 +49,14 @@ module _ (unread unread_new written written_new : Option (List ℕ)) (result : R
     pub pings : PingsThere written written_new result
     pub input : unread_new ≡ unread
 
-  -- a running `serve` was to end, no store was opened, and nothing was read or written
-  pub record StopsAlone : Type 0 where
-    pub ended : Result (Unit {0}) CommandRefusal
-    pub stops : StopsThere ended
-    pub tells : TellsAlone (acceptance ended)
-
-module _ {S : Type 0} (shown : S → Shown) (failures : S → ℕ) (copied : Copied S) (held : Image) where
+module _ {S : Type 0} (shown : S → Shown) (copied : Copied S) (held : Image) where
   -- the store of files that held this was opened, and the action was done on it
   pub record ActsOpened
       (unread unread_new written written_new : Option (List ℕ)) (action : Action) (result : Result Bool CommandRefusal) : Type 0 where
     pub begun : S
     pub ended : S
-    pub begins : HasBegun shown failures held begun
-    pub acts : Acts shown failures copied (CountsIn shown)
+    pub begins : HasBegun shown held begun
+    pub acts : Acts shown copied (CountsIn shown)
         (record { store = begun; unread = unread; written = written })
         (record { store = ended; unread = unread_new; written = written_new }) result action
 
@@ -86,33 +73,25 @@ module _ {S : Type 0} (shown : S → Shown) (failures : S → ℕ) (copied : Cop
       TellsAlone unread unread_new written written_new result (Err NotEmpty)
       ⊎ ((opened : Result Bool CommandRefusal) × ActsOnFile unread unread_new written written_new Open opened × (result ≡ made opened))
 
-module _ {C S F : Type 0} (state_of : C → State) (shown : S → Shown) (failures : S → ℕ) (held : Image)
-    (shown_too : F → Shown) (failures_too : F → ℕ) (held_too : Image)
+module _ {C S F : Type 0} (state_of : C → State) (shown : S → Shown) (held : Image) (shown_too : F → Shown) (held_too : Image)
     (unread unread_new written written_new : Option (List ℕ)) (result : Result Bool CommandRefusal) where
-  -- some teams' part of the store of a file was put into that of another, or was not, and nothing was read or written
-  pub record ExtractsAlone (teams : List (List ℕ)) : Type 0 where
-    pub ended : Result (Unit {0}) CommandRefusal
-    pub extracts : ExtractsFile shown failures held shown_too failures_too held_too teams ended
-    pub tells : TellsAlone unread unread_new written written_new result (acceptance ended)
-
-  -- what an older file has was put into the store of another, or was not, and nothing was read or written
-  pub record MigratesAlone : Type 0 where
-    pub ended : Result (Unit {0}) CommandRefusal
-    pub migrates : MigratesFile state_of held shown_too failures_too held_too ended
-    pub tells : TellsAlone unread unread_new written written_new result (acceptance ended)
+  -- the command did this, and read and wrote nothing
+  abbrev pub Alone : (Result (Unit {0}) CommandRefusal → Type 0) → Type 0
+  Alone = EndsAlone unread unread_new written written_new result
 
   -- what a copy does that is ordered while the store is served, into a file that held what the second file of the command holds
   abbrev pub copies : Copied S
-  copies = CopiesFile shown failures shown_too failures_too held_too
+  copies = CopiesFile shown shown_too held_too
 
-  -- What each kind of command does, if its first file and the log held this, and its second file that.
+  -- What each kind of command does, if its first file and the log held this, and its second file that. The last four open no store:
+  -- they send a line to a running `serve`, or can't.
   abbrev pub Runs : Command → Type 0
-  Runs (command.Init db) = Inits shown failures copies held unread unread_new written written_new result
+  Runs (command.Init db) = Inits shown copies held unread unread_new written written_new result
   Runs (command.AnswerInMemory team key) = AnswersInMemory unread unread_new written written_new result team.now key.now
-  Runs (command.OnStore db action) = ActsOnFile shown failures copies held unread unread_new written written_new action result
-  Runs (command.Extract db teams to) = ExtractsAlone (each (λ team. team.now) teams.now)
-  Runs (command.Migrate from to) = MigratesAlone
-  Runs (command.Order control order) = OrdersAlone unread unread_new written written_new result order
-  Runs (command.Copy control to) = CopiesAlone unread unread_new written written_new result to.now
+  Runs (command.OnStore db action) = ActsOnFile shown copies held unread unread_new written written_new action result
+  Runs (command.Extract db teams to) = Alone (ExtractsFile shown held shown_too held_too (each (λ team. team.now) teams.now))
+  Runs (command.Migrate from to) = Alone (MigratesFile state_of held shown_too held_too)
+  Runs (command.Order control order) = Alone (OrdersThere order)
+  Runs (command.Copy control to) = Alone (CopiesThere to.now)
   Runs (command.Ping control) = PingsAlone unread unread_new written written_new result
-  Runs (command.Stop control) = StopsAlone unread unread_new written written_new result
+  Runs (command.Stop control) = Alone StopsThere

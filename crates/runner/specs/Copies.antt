@@ -29,12 +29,13 @@ copied (Err why) = Err (uncopied why)
 abbrev pub CountsIn : {S : Type 0} → (S → Shown) → S → S → ℕ → Type 0
 CountsIn shown old new count = (shown new).is_honest → (w : World) → (shown old).stands w → count ≡ versions_in w
 
-module _ {S F : Type 0} (shown : S → Shown) (failures : S → ℕ) (shown_too : F → Shown) (failures_too : F → ℕ) where
+module _ {S F : Type 0} (shown : S → Shown) (shown_too : F → Shown) where
   -- an open store was made a copy of the served one, or it was not, and the result says why
   pub record CopiesInto (source source_new : S) (fresh fresh_new : F) (result : Result (Unit {0}) CopyRefusal) : Type 0 where
     pub told : Result (Unit {0}) Unopened
     pub copies : CopiesAll (shown source) (shown source_new) (shown_too fresh) (shown_too fresh_new) told
-    pub cause : HasCauseInEither (failures source) (failures source_new) (failures_too fresh) (failures_too fresh_new) told
+    pub cause : HasCauseInEither (shown source).failures (shown source_new).failures
+        (shown_too fresh).failures (shown_too fresh_new).failures told
     pub ends : result ≡ copied told
 
   module _ (held : Image) where
@@ -42,7 +43,7 @@ module _ {S F : Type 0} (shown : S → Shown) (failures : S → ℕ) (shown_too 
     pub record CopiesOpened (source source_new : S) (result : Result (Unit {0}) CopyRefusal) : Type 0 where
       pub fresh : F
       pub fresh_new : F
-      pub begins : HasBegun shown_too failures_too held fresh
+      pub begins : HasBegun shown_too held fresh
       pub copies : CopiesInto source source_new fresh fresh_new result
 
     -- nothing was done with the served store: the file is its own, or its store was not opened, and the result says why

@@ -1,5 +1,5 @@
 -- Opening a store, and why a command is refused whose store is not opened.
-use Rattle.std.specs.Prelude.{ℕ, ◌≡◌}
+use Rattle.std.specs.Prelude.{◌≡◌}
 use Rattle.sqlite_wal.specs.Recovery.{Image}
 use Rattle.world.specs.Store.{Shown}
 use Rattle.world.specs.World.{World}
@@ -25,7 +25,7 @@ unmade other = other
 
 -- A store that was just opened over files that held this. If its disk was honest, it stands for a world, and a crash leaves only that
 -- world. If the files held a store's world, or no database yet, it is the world that they held.
-pub record HasBegun {S : Type 0} (shown : S → Shown) (failures : S → ℕ) (held : Image) (store : S) : Type 0 where
+pub record HasBegun {S : Type 0} (shown : S → Shown) (held : Image) (store : S) : Type 0 where
   pub world : (shown store).is_honest → (w : World) × BeginsAt (shown store) w
   pub found : (shown store).is_honest → (w : World) → HoldsStore held w → BeginsAt (shown store) w
-  pub none_failed : failures store ≡ 0
+  pub none_failed : (shown store).failures ≡ 0

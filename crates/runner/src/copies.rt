@@ -32,8 +32,8 @@ impl<'a, S: Alter, U: Start + Copy> Copies<SqlShelves<S>> for FileCopies<'a, U> 
     ghost use Rattle.sqlite_wal.specs.Files.{image_at};
     ghost use Rattle.runner.specs.Copies.{CopiesFile, CountsIn};
 
-    ghost copied = { CopiesFile ⟦<SqlShelves<S> as Shelves>⟧.shown ⟦<SqlShelves<S> as Shelves>⟧.failure_count
-        ⟦<FileShelves<U> as Shelves>⟧.shown ⟦<FileShelves<U> as Shelves>⟧.failure_count (image_at U.Start) };
+    ghost copied = { CopiesFile ⟦<SqlShelves<S> as Shelves>⟧.shown ⟦<FileShelves<U> as Shelves>⟧.shown
+        (image_at U.Start) };
 
     ghost counted = { CountsIn ⟦<SqlShelves<S> as Shelves>⟧.shown };
 
@@ -56,11 +56,8 @@ fn copy_to<S: Alter, U: Start>(
     target: U,
 ) -> Result<(), CopyRefusal>
     ensures reads { IsOnlyRead
-        (⟦<SqlShelves<S> as Shelves>⟧.shown source.old) (⟦<SqlShelves<S> as Shelves>⟧.shown source.new)
-        (⟦<SqlShelves<S> as Shelves>⟧.failure_count source.old)
-        (⟦<SqlShelves<S> as Shelves>⟧.failure_count source.new) }
-    ensures came { CopiesFile ⟦<SqlShelves<S> as Shelves>⟧.shown ⟦<SqlShelves<S> as Shelves>⟧.failure_count
-        ⟦<FileShelves<U> as Shelves>⟧.shown ⟦<FileShelves<U> as Shelves>⟧.failure_count (image_at U.Start)
+        (⟦<SqlShelves<S> as Shelves>⟧.shown source.old) (⟦<SqlShelves<S> as Shelves>⟧.shown source.new) }
+    ensures came { CopiesFile ⟦<SqlShelves<S> as Shelves>⟧.shown ⟦<FileShelves<U> as Shelves>⟧.shown (image_at U.Start)
         source.old source.new to.now result }
 {
     if is_served(rt, db, to) {
@@ -98,8 +95,7 @@ fn copy_into<S: Alter, F: Alter>(
     source: &mut SqlShelves<S>,
     fresh: &mut SqlShelves<F>,
 ) -> Result<(), CopyRefusal>
-    ensures { CopiesInto ⟦<SqlShelves<S> as Shelves>⟧.shown ⟦<SqlShelves<S> as Shelves>⟧.failure_count
-        ⟦<SqlShelves<F> as Shelves>⟧.shown ⟦<SqlShelves<F> as Shelves>⟧.failure_count
+    ensures { CopiesInto ⟦<SqlShelves<S> as Shelves>⟧.shown ⟦<SqlShelves<F> as Shelves>⟧.shown
         source.old source.new fresh.old fresh.new result }
 {
     match source.copy(fresh) {
@@ -124,11 +120,9 @@ fn uncopied(refusal: Unopened) -> CopyRefusal
 /// Counts the versions of the served store.
 fn count_in<S: Alter>(served: &mut SqlShelves<S>) -> Result<u64, StoreFault>
     ensures reads { IsOnlyRead
-        (⟦<SqlShelves<S> as Shelves>⟧.shown served.old) (⟦<SqlShelves<S> as Shelves>⟧.shown served.new)
-        (⟦<SqlShelves<S> as Shelves>⟧.failure_count served.old)
-        (⟦<SqlShelves<S> as Shelves>⟧.failure_count served.new) }
-    ensures cause { HasCause (⟦<SqlShelves<S> as Shelves>⟧.failure_count served.old)
-        (⟦<SqlShelves<S> as Shelves>⟧.failure_count served.new) result }
+        (⟦<SqlShelves<S> as Shelves>⟧.shown served.old) (⟦<SqlShelves<S> as Shelves>⟧.shown served.new) }
+    ensures cause { HasCause
+        (⟦<SqlShelves<S> as Shelves>⟧.shown served.old) (⟦<SqlShelves<S> as Shelves>⟧.shown served.new) result }
     ensures counted { IfOk result (λ n. CountsIn ⟦<SqlShelves<S> as Shelves>⟧.shown served.old served.new n) }
 {
     served.versions_kept()

@@ -26,8 +26,7 @@ pub(crate) fn extract_file<T: Start, U: Start>(
     target: U,
 ) -> Result<(), CommandRefusal>
     ensures { ExtractsFile
-        ⟦<FileShelves<T> as Shelves>⟧.shown ⟦<FileShelves<T> as Shelves>⟧.failure_count (image_at T.Start)
-        ⟦<FileShelves<U> as Shelves>⟧.shown ⟦<FileShelves<U> as Shelves>⟧.failure_count (image_at U.Start)
+        ⟦<FileShelves<T> as Shelves>⟧.shown (image_at T.Start) ⟦<FileShelves<U> as Shelves>⟧.shown (image_at U.Start)
         (each (λ team. team.now) teams.now) result }
 {
     if is_empty_file(rt, db) && is_same_file(rt, db, to) {
@@ -53,8 +52,7 @@ fn extract_to<S: Alter, U: Start>(
     to: &str,
     target: U,
 ) -> Result<(), CommandRefusal>
-    ensures { Fills ⟦<SqlShelves<S> as Shelves>⟧.shown ⟦<SqlShelves<S> as Shelves>⟧.failure_count
-        ⟦<FileShelves<U> as Shelves>⟧.shown ⟦<FileShelves<U> as Shelves>⟧.failure_count
+    ensures { Fills ⟦<SqlShelves<S> as Shelves>⟧.shown ⟦<FileShelves<U> as Shelves>⟧.shown
         source.old source.new (image_at U.Start) (each (λ team. team.now) teams.now) result }
 {
     if is_same_file(rt, db, to) {
@@ -75,8 +73,7 @@ fn extract_part<S: Alter, F: Alter>(
     teams: &[&str],
     fresh: &mut SqlShelves<F>,
 ) -> Result<(), CommandRefusal>
-    ensures { ExtractsPart ⟦<SqlShelves<S> as Shelves>⟧.shown ⟦<SqlShelves<S> as Shelves>⟧.failure_count
-        ⟦<SqlShelves<F> as Shelves>⟧.shown ⟦<SqlShelves<F> as Shelves>⟧.failure_count
+    ensures { ExtractsPart ⟦<SqlShelves<S> as Shelves>⟧.shown ⟦<SqlShelves<F> as Shelves>⟧.shown
         source.old source.new fresh.old fresh.new (each (λ team. team.now) teams.now) result }
 {
     match source.extract_teams(teams, fresh) {

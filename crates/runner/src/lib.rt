@@ -111,8 +111,7 @@ pub fn run<T: Start, U: Start + Copy, I: Read, O: Write>(
     output: &mut O,
 ) -> Result<bool, CommandRefusal>
     ensures { Runs (state ⟦<FileStore<FileFrom<T>> as Store>⟧)
-        ⟦<FileShelves<T> as Shelves>⟧.shown ⟦<FileShelves<T> as Shelves>⟧.failure_count (image_at T.Start)
-        ⟦<FileShelves<U> as Shelves>⟧.shown ⟦<FileShelves<U> as Shelves>⟧.failure_count (image_at U.Start)
+        ⟦<FileShelves<T> as Shelves>⟧.shown (image_at T.Start) ⟦<FileShelves<U> as Shelves>⟧.shown (image_at U.Start)
         (I.remaining input.old) (I.remaining input.new) (O.contents output.old) (O.contents output.new)
         result command.now }
 {
@@ -145,9 +144,8 @@ fn init<T: Start, U: Start + Copy, I: Read, O: Write>(
     input: &mut I,
     output: &mut O,
 ) -> Result<bool, CommandRefusal>
-    ensures { Inits ⟦<FileShelves<T> as Shelves>⟧.shown ⟦<FileShelves<T> as Shelves>⟧.failure_count
-        (CopiesFile ⟦<FileShelves<T> as Shelves>⟧.shown ⟦<FileShelves<T> as Shelves>⟧.failure_count
-        ⟦<FileShelves<U> as Shelves>⟧.shown ⟦<FileShelves<U> as Shelves>⟧.failure_count (image_at U.Start))
+    ensures { Inits ⟦<FileShelves<T> as Shelves>⟧.shown
+        (CopiesFile ⟦<FileShelves<T> as Shelves>⟧.shown ⟦<FileShelves<U> as Shelves>⟧.shown (image_at U.Start))
         (image_at T.Start) (I.remaining input.old) (I.remaining input.new)
         (O.contents output.old) (O.contents output.new) result }
 {
@@ -195,10 +193,8 @@ fn on_file<T: Start, U: Start + Copy, I: Read, O: Write>(
     input: &mut I,
     output: &mut O,
 ) -> Result<bool, CommandRefusal>
-    ensures { ActsOnFile
-        ⟦<FileShelves<T> as Shelves>⟧.shown ⟦<FileShelves<T> as Shelves>⟧.failure_count
-        (CopiesFile ⟦<FileShelves<T> as Shelves>⟧.shown ⟦<FileShelves<T> as Shelves>⟧.failure_count
-        ⟦<FileShelves<U> as Shelves>⟧.shown ⟦<FileShelves<U> as Shelves>⟧.failure_count (image_at U.Start))
+    ensures { ActsOnFile ⟦<FileShelves<T> as Shelves>⟧.shown
+        (CopiesFile ⟦<FileShelves<T> as Shelves>⟧.shown ⟦<FileShelves<U> as Shelves>⟧.shown (image_at U.Start))
         (image_at T.Start) (I.remaining input.old) (I.remaining input.new)
         (O.contents output.old) (O.contents output.new)
         action.now result }

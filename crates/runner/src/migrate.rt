@@ -34,7 +34,7 @@ pub(crate) fn migrate_file<T: Start, U: Start>(
     target: U,
 ) -> Result<(), CommandRefusal>
     ensures { MigratesFile (state ⟦<FileStore<FileFrom<T>> as Store>⟧) (image_at T.Start)
-        ⟦<FileShelves<U> as Shelves>⟧.shown ⟦<FileShelves<U> as Shelves>⟧.failure_count (image_at U.Start) result }
+        ⟦<FileShelves<U> as Shelves>⟧.shown (image_at U.Start) result }
 {
     if !names_no_file(from) && has_no_bytes(rt, from) {
         return migrate_nothing(rt, from, to, target);
@@ -71,8 +71,7 @@ fn migrate_nothing<U: Start>(
     to: &str,
     target: U,
 ) -> Result<(), CommandRefusal>
-    ensures { MigratesEmpty ⟦<FileShelves<U> as Shelves>⟧.shown ⟦<FileShelves<U> as Shelves>⟧.failure_count
-        (image_at U.Start) result }
+    ensures { MigratesEmpty ⟦<FileShelves<U> as Shelves>⟧.shown (image_at U.Start) result }
 {
     let Ok(mut none) = Connection::open_in_memory(rt.alloc()) else {
         return Err(open_refusal(Unopened::Memory));
@@ -90,7 +89,7 @@ fn migrate_to<S: Alter, U: Start>(
     to: &str,
     target: U,
 ) -> Result<(), CommandRefusal>
-    ensures { MigratesTo (state S.Store) ⟦<FileShelves<U> as Shelves>⟧.shown ⟦<FileShelves<U> as Shelves>⟧.failure_count
+    ensures { MigratesTo (state S.Store) ⟦<FileShelves<U> as Shelves>⟧.shown
         old.old old.new (image_at U.Start) result }
 {
     if is_one_file(rt, from, to) {
@@ -110,7 +109,7 @@ fn migrate_into<S: Alter, F: Alter>(
     old: &mut Connection<S>,
     fresh: &mut SqlShelves<F>,
 ) -> Result<(), CommandRefusal>
-    ensures { MigratesInto (state S.Store) ⟦<SqlShelves<F> as Shelves>⟧.shown ⟦<SqlShelves<F> as Shelves>⟧.failure_count
+    ensures { MigratesInto (state S.Store) ⟦<SqlShelves<F> as Shelves>⟧.shown
         old.old old.new fresh.old fresh.new result }
 {
     match migrate(old, fresh) {

@@ -10,9 +10,9 @@ use Rattle.statements.specs.Calls.{LeavesOnly}
 abbrev pub LeavesEither : State → World → World → Type 0
 LeavesEither s w x = LeavesOnly s (λ y. (y ≡ w) ⊎ (y ≡ x))
 
--- what is known of a store from what its connection shows
+-- what is known of a store from what its connection shows, before it counts a failure
 abbrev pub shown_of : State → Shown
-shown_of s = record { stands = StandsFor s; is_honest = HasCleanDisk s; leaves = LeavesEither s }
+shown_of s = record { stands = StandsFor s; is_honest = HasCleanDisk s; leaves = LeavesEither s; failures = 0 }
 
 -- each disk below has returned what was written, the store stands for the world, and a crash leaves that world alone
 pub record BeginsAt (s : Shown) (w : World) : Type 0 where

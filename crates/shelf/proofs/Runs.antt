@@ -1,5 +1,5 @@
 -- A run goes on by one event, or by another run.
-use Rattle.std.proofs.Common.{◌≡◌, ℕ, ◌+◌, ◌<◌, List, [], ◌∷◌, ◌++◌, length, get_or, take, refl, sym, subst, ◌∙◌, inl, inr, ◌⊎◌, ◌≤◌, Ok, Err, arith}
+use Rattle.std.proofs.Common.{◌≡◌, ℕ, ◌+◌, ◌<◌, List, [], ◌∷◌, ◌++◌, length, get_or, take, refl, sym, subst, ◌∙◌, inl, inr, ◌⊎◌, Ok, Err}
 use Rattle.std.proofs.lemmas.List.{take_more}
 use Rattle.shelf.specs.declared.ask.Event.{Event}
 use Rattle.shelf.specs.declared.reply.Answer.{Answer}
@@ -9,7 +9,8 @@ use Rattle.world.specs.declared.registry.StoreFault.{StoreFault}
 use Rattle.world.specs.declared.registry.StoreFault.TheVariants.{Device}
 use Rattle.shelf.specs.declared.reply.Reply.{Reply}
 use Rattle.shelf.specs.Machine.{reply_to, after, Run, AnsweredOrIdle, MetDevice, world_after}
-use Rattle.world.specs.Store.{Shown, DoesAt, GrewOrFull}
+use Rattle.world.specs.Store.{Shown, DoesAt}
+pub use Rattle.world.proofs.Causes.{grown_more, grown_before}
 use Rattle.shelf.specs.Runs.{Runs, RunsAt, AllKeep, Settles, IsPending, MayLeave}
 
 pub run_more : (old mid new : World) (events more : List Event) (answers last : List Answer) → Run old events answers mid → Run mid more last new → Run old (events ++ more) (answers ++ last) new
@@ -36,15 +37,6 @@ met_before [] a (inl here) = inr here
 met_before [] a (inr never) = absurd never
 met_before (b ∷ answers) a (inl here) = inl (inl here)
 met_before (b ∷ answers) a (inr later) = elim (met_before answers a later) [ inl x ↦ inl (inr x) | inr x ↦ inr x ]
-
--- the count of failures only grows
-pub grown_more : (before mid now : ℕ) → GrewOrFull before mid → mid ≤ now → GrewOrFull before now
-grown_more before mid now (inl grew) more = inl (omega arith)
-grown_more before mid now (inr full) more = inr (omega arith)
-
-pub grown_before : (before mid now : ℕ) → before ≤ mid → GrewOrFull mid now → GrewOrFull before now
-grown_before before mid now less (inl grew) = inl (omega arith)
-grown_before before mid now less (inr full) = inr full
 
 -- ---- the world at the end
 
@@ -153,12 +145,12 @@ module _ (old new : Shown) (w : World) (e : Event) where
   runs_replied r does = record {
     run = (does.answer, refl);
     ends = does.ok;
-    left = λ idle was. does.kept was;
+    left = λ idle was. does.crash.alone was;
     settled = λ settles. elim settles [
-      | inl moved ↦ elim does.settled [ inl alone ↦ alone | inr same ↦ absurd (moved.0 same.0) ]
+      | inl moved ↦ elim does.crash.settled [ inl alone ↦ alone | inr same ↦ absurd (moved.0 same.0) ]
       | inr never ↦ absurd never
     ];
-    beside = λ x was. elim does.settled [
+    beside = λ x was. elim does.crash.settled [
       | inl alone ↦ (after w e, alone, inl refl)
       | inr same ↦ (x, subst (λ v. new.leaves v x) (sym same.0) (same.1 w x was), inr (inr (refl, (same.0, tt))))
     ];
@@ -170,9 +162,9 @@ module _ (old new : Shown) (w : World) (e : Event) where
   runs_failed fault value does = record {
     run = refl;
     ends = does.err;
-    left = λ idle was. subst (λ x. new.leaves w x) idle.0 (does.left was);
+    left = λ idle was. subst (λ x. new.leaves w x) idle.0 (does.crash.either was);
     settled = λ never. absurd never;
-    beside = λ x was. elim does.failed [
+    beside = λ x was. elim does.crash.failed [
       | inl two ↦ (after w e, two, inr (inl (inl (refl, tt))))
       | inr none ↦ (x, none w x was, inr (inr (refl, tt)))
     ];
@@ -184,9 +176,9 @@ module _ (old new : Shown) (w : World) (e : Event) where
   runs_lost told value fault does same = record {
     run = refl;
     ends = subst new.stands same does.ok;
-    left = λ idle was. subst (λ x. new.leaves x x) same (does.kept was);
+    left = λ idle was. subst (λ x. new.leaves x x) same (does.crash.alone was);
     settled = λ never. absurd never;
-    beside = λ x was. elim does.settled [
+    beside = λ x was. elim does.crash.settled [
       | inl alone ↦ (w, subst (λ v. new.leaves v v) same alone, inl refl)
       | inr still ↦ (x, still.1 w x was, inr (inr (refl, tt)))
     ];

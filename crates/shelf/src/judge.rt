@@ -2,7 +2,7 @@
 ghost use Rattle.std.specs.Prelude.{◌≡◌, IfOk, Some};
 ghost use Rattle.shelf.specs.Machine as spec;
 ghost use Rattle.shelf.specs.Machine.{decision, standing_of, shelf_decision};
-ghost use Rattle.world.specs.Store.{Reads, HasCause};
+ghost use Rattle.world.specs.Store.{Reads};
 
 use crate::ask::Publish;
 use crate::decide::{decide_by_shelf, gomod_refusal, refusal};
@@ -25,7 +25,6 @@ pub fn judge<S: Shelves>(
 ) -> Result<Decision, StoreFault>
     ensures reads { Reads (S.shown shelves.old) (S.shown shelves.new) result
         (λ w. decision w (Some holder.now) publish.now) }
-    ensures cause { HasCause (S.failure_count shelves.old) (S.failure_count shelves.new) result }
 {
     if let Some(refused) = own_refusal(alloc, publish, holder.right)? {
         return Ok(refused);
@@ -69,7 +68,6 @@ fn judge_by_shelf<S: Shelves>(
 ) -> Result<Decision, StoreFault>
     ensures reads { Reads (S.shown shelves.old) (S.shown shelves.new) result
         (λ w. shelf_decision w shelf.now publish.now) }
-    ensures cause { HasCause (S.failure_count shelves.old) (S.failure_count shelves.new) result }
 {
     let standing = compare(shelves, shelf, publish)?;
     let count = shelves.count(shelf, &publish.path)?;
@@ -85,7 +83,6 @@ fn compare<S: Shelves>(
 ) -> Result<Standing, StoreFault>
     ensures reads { Reads (S.shown shelves.old) (S.shown shelves.new) result
         (λ w. standing_of w shelf.now publish.now) }
-    ensures cause { HasCause (S.failure_count shelves.old) (S.failure_count shelves.new) result }
 {
     let Some(entry) = publish.entry() else {
         return Ok(Standing::Absent);

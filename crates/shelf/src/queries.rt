@@ -3,7 +3,7 @@ ghost use Rattle.std.specs.Prelude.{◌≡◌};
 ghost use Rattle.std.specs.FinMap as map;
 ghost use Rattle.shelf.specs.Machine as spec;
 ghost use Rattle.shelf.specs.Machine.{keyed_reply, query_reply};
-ghost use Rattle.world.specs.Store.{Reads, HasCause};
+ghost use Rattle.world.specs.Store.{Reads};
 
 use crate::ask::Query;
 use crate::listed::listed;
@@ -26,7 +26,6 @@ pub fn answer_query<S: Shelves>(
 ) -> Result<Reply, StoreFault>
     ensures reads { Reads (S.shown shelves.old) (S.shown shelves.new) result
         (λ w. keyed_reply w (map.get w.keys key.now) query.now) }
-    ensures cause { HasCause (S.failure_count shelves.old) (S.failure_count shelves.new) result }
 {
     let Some(holder) = shelves.key(key)? else {
         return Ok(Reply::NotFound);
@@ -42,7 +41,6 @@ fn answer_from<S: Shelves>(
     query: &Query,
 ) -> Result<Reply, StoreFault>
     ensures reads { Reads (S.shown shelves.old) (S.shown shelves.new) result (λ w. query_reply w shelf.now query.now) }
-    ensures cause { HasCause (S.failure_count shelves.old) (S.failure_count shelves.new) result }
 {
     match query {
         Query::GoMod { path, version } => Ok(gomod_reply(shelves.heading(shelf, path, version)?)),
@@ -63,7 +61,6 @@ fn answer_info<S: Shelves>(
 ) -> Result<Reply, StoreFault>
     ensures reads { Reads (S.shown shelves.old) (S.shown shelves.new) result
         (λ w. query_reply w shelf.now (Query.Info path.now version)) }
-    ensures cause { HasCause (S.failure_count shelves.old) (S.failure_count shelves.new) result }
 {
     let heading = shelves.heading(shelf, path, &version)?;
     Ok(info_reply(version, heading))
@@ -120,7 +117,6 @@ fn answer_latest<S: Shelves>(
 ) -> Result<Reply, StoreFault>
     ensures reads { Reads (S.shown shelves.old) (S.shown shelves.new) result
         (λ w. query_reply w shelf.now (Query.Latest path.now)) }
-    ensures cause { HasCause (S.failure_count shelves.old) (S.failure_count shelves.new) result }
 {
     let Some(version) = shelves.latest(shelf, path)? else {
         return Ok(Reply::NotFound);

@@ -3,7 +3,7 @@ ghost use Rattle.std.specs.Prelude.{◌≡◌, ◌≤◌, [], ◌∷◌, IfOk, O
 ghost use Rattle.shelf.specs.Machine.{reply_to, after, Run, MetDevice};
 ghost use Rattle.shelf.specs.Runs.{Runs};
 ghost use Rattle.world.specs.InMemory.{IsJust};
-ghost use Rattle.world.specs.Store.{Does, HasCause, GrewOrFull};
+ghost use Rattle.world.specs.Store.{Does, GrewOrFull};
 ghost use Rattle.world.specs.World.{only_common};
 
 use crate::ask::Event;
@@ -19,7 +19,6 @@ use world::shelves::Shelves;
 pub fn apply<S: Shelves>(alloc: Global, shelves: &mut S, event: &Event) -> Result<Reply, StoreFault>
     ensures does { Does (S.shown shelves.old) (S.shown shelves.new) result
         (λ w. reply_to w event.now) (λ w. after w event.now) }
-    ensures cause { HasCause (S.failure_count shelves.old) (S.failure_count shelves.new) result }
 {
     match event {
         Event::Asked(ask) => step(alloc, shelves, ask),
@@ -50,9 +49,9 @@ fn named(name: &Option<Text>) -> Option<&str>
 /// Carries out one event and returns its reply or its fault.
 fn answer<S: Shelves>(alloc: Global, shelves: &mut S, event: &Event) -> Answer
     ensures runs { Runs (S.shown shelves.old) (S.shown shelves.new) (event.now ∷ []) (result ∷ []) }
-    ensures no_fewer { S.failure_count shelves.old ≤ S.failure_count shelves.new }
+    ensures no_fewer { (S.shown shelves.old).failures ≤ (S.shown shelves.new).failures }
     ensures device { result ≡ Answer.Failed StoreFault.Device
-        → GrewOrFull (S.failure_count shelves.old) (S.failure_count shelves.new) }
+        → GrewOrFull (S.shown shelves.old).failures (S.shown shelves.new).failures }
 {
     match apply(alloc, shelves, event) {
         Ok(reply) => Answer::Replied(reply),
@@ -69,9 +68,10 @@ pub fn run<S: Shelves>(
 ) -> Result<Vec<Answer>, AllocError>
     ensures runs { IfOk result (λ answers. Runs (S.shown shelves.old) (S.shown shelves.new) events.now answers.items) }
     // The count of failures never falls. An answer reports a failed device only if the count grew or cannot grow.
-    ensures no_fewer { S.failure_count shelves.old ≤ S.failure_count shelves.new }
+    ensures no_fewer { (S.shown shelves.old).failures ≤ (S.shown shelves.new).failures }
     ensures device { IfOk result
-        (λ answers. MetDevice answers.items → GrewOrFull (S.failure_count shelves.old) (S.failure_count shelves.new)) }
+        (λ answers. MetDevice answers.items
+        → GrewOrFull (S.shown shelves.old).failures (S.shown shelves.new).failures) }
     ensures err { OnErr result (shelves.new ≡ shelves.old) }
 {
     let mut answers = Vec::with_capacity(alloc, events.len())?;

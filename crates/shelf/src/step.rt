@@ -1,7 +1,7 @@
 //! The machine over any store.
 ghost use Rattle.shelf.specs.Machine.{ask_reply, after_ask};
 ghost use Rattle.shelf.specs.Publishing.{AnswersPut, PublishesTo, CarriesOut, StoresFor};
-ghost use Rattle.world.specs.Store.{Does, HasCause};
+ghost use Rattle.world.specs.Store.{Does};
 
 use crate::ask::{Ask, Publish};
 use crate::judge::judge;
@@ -16,7 +16,6 @@ use world::shelves::Shelves;
 pub fn step<S: Shelves>(alloc: Global, shelves: &mut S, ask: &Ask) -> Result<Reply, StoreFault>
     ensures does { Does (S.shown shelves.old) (S.shown shelves.new) result
         (λ w. ask_reply w ask.now) (λ w. after_ask w ask.now) }
-    ensures cause { HasCause (S.failure_count shelves.old) (S.failure_count shelves.new) result }
 {
     match ask {
         Ask::Unreadable => Ok(Reply::NotFound),
@@ -38,7 +37,6 @@ fn answer_publish<S: Shelves>(
     publish: &Publish,
 ) -> Result<Decision, StoreFault>
     ensures does { AnswersPut (S.shown shelves.old) (S.shown shelves.new) result key.now publish.now }
-    ensures cause { HasCause (S.failure_count shelves.old) (S.failure_count shelves.new) result }
 {
     let Some(holder) = shelves.key(key)? else {
         return Ok(Decision::NotFound);
@@ -55,7 +53,6 @@ fn publish_to<S: Shelves>(
     publish: &Publish,
 ) -> Result<Decision, StoreFault>
     ensures does { PublishesTo (S.shown shelves.old) (S.shown shelves.new) result holder.now publish.now }
-    ensures cause { HasCause (S.failure_count shelves.old) (S.failure_count shelves.new) result }
 {
     let decision = judge(alloc, shelves, holder, publish)?;
     carry_out(shelves, holder, publish, decision)?;
@@ -70,7 +67,6 @@ fn carry_out<S: Shelves>(
     decision: Decision,
 ) -> Result<(), StoreFault>
     ensures does { CarriesOut (S.shown shelves.old) (S.shown shelves.new) result holder.now publish.now decision }
-    ensures cause { HasCause (S.failure_count shelves.old) (S.failure_count shelves.new) result }
 {
     if decision == Decision::Published {
         return store(shelves, holder, publish);
@@ -81,7 +77,6 @@ fn carry_out<S: Shelves>(
 /// Stores a publish that passed the checks. Fails only if the store fails.
 fn store<S: Shelves>(shelves: &mut S, holder: &Holder, publish: &Publish) -> Result<(), StoreFault>
     ensures does { StoresFor (S.shown shelves.old) (S.shown shelves.new) result holder.now publish.now }
-    ensures cause { HasCause (S.failure_count shelves.old) (S.failure_count shelves.new) result }
 {
     let Some(entry) = publish.entry() else {
         return Ok(());

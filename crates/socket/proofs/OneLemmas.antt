@@ -1,9 +1,9 @@
 -- What a store goes through on one more connection.
-use Rattle.std.proofs.Common.{ℕ, ◌+◌, ◌≤◌, ◌≡◌, refl, sym, ap, ◌∙◌, subst, List, [], ◌∷◌, ◌++◌, length, map, Option, Some, None, Result, Ok, Err, inl, inr, arith, append_assoc, append-nil}
+use Rattle.std.proofs.Common.{ℕ, ◌+◌, ◌≤◌, ◌≡◌, refl, sym, ap, ◌∙◌, subst, List, [], ◌∷◌, ◌++◌, length, map, Option, Some, None, Result, Ok, Err, inr, arith, append_assoc, append-nil}
 use Rattle.std.proofs.lemmas.List.{length-append, map-append}
 use Rattle.std.proofs.lemmas.List.Elements.{All-nil, All-push}
 use Rattle.world.specs.Store.{Shown}
-use Rattle.engine.specs.First.{First, Answers as Message, Closes, first_exchanges, ServesFirst}
+use Rattle.engine.specs.First.{First, Answers as Message, Closes, ServesFirst}
 use Rattle.engine.specs.Store.{GoesThrough}
 use Rattle.engine.specs.declared.fault.Io.{Io}
 use Rattle.engine.specs.declared.fault.Io.TheVariants as io
@@ -51,43 +51,43 @@ same_come waiting left rest first one two = subst (Come waiting rest) (append-ni
 
 module _ {P : Type 0} (unread written : P → Option (List ℕ)) where
   -- a peer whose first message was served as `ServesFirst` says was answered
-  pub answered : (old new : Shown) (before now : ℕ) (peer after : P) (status : Result (Option ℕ) Io)
-      → ServesFirst old new before now (unread peer) (unread after) (written peer) (written after) status
-      → Answers unread written peer old new before now
-  answered old new before now peer after (Ok status) (first, takes, through, is, ended) = record {
+  pub answered : (old new : Shown) (peer after : P) (status : Result (Option ℕ) Io)
+      → ServesFirst old new (unread peer) (unread after) (written peer) (written after) status
+      → Answers unread written peer old new
+  answered old new peer after (Ok status) (first, takes, through, is, ended) = record {
     visit = record { before = peer; after = after; first = Some first };
     begins = refl;
     there = (takes, inr ended);
     through = through;
   }
-  answered old new before now peer after (Err io.Read) (got, consumed, unfinished, through, kept) = record {
+  answered old new peer after (Err io.Read) (got, consumed, unfinished, through, kept) = record {
     visit = record { before = peer; after = after; first = None };
     begins = refl;
     there = kept;
     through = through;
   }
-  answered old new before now peer after (Err io.Write) (first, takes, through, ended) = record {
+  answered old new peer after (Err io.Write) (first, takes, through, ended) = record {
     visit = record { before = peer; after = after; first = Some first };
     begins = refl;
     there = (takes, ended);
     through = through;
   }
 
-  pub each_none : (waiting : Option (List P)) (shown : Shown) (count : ℕ)
-      → AnswersEach unread written waiting waiting shown shown count count 0
-  each_none waiting shown count = record {
+  pub each_none : (waiting : Option (List P)) (shown : Shown)
+      → AnswersEach unread written waiting waiting shown shown 0
+  each_none waiting shown = record {
     visits = [];
     few = omega arith;
     came = none_come waiting;
     there = All-nil (IsAnsweredThere unread written);
-    through = through_none shown count;
+    through = through_none shown;
   }
 
-  module _ (waiting left rest : Option (List P)) (old mid new : Shown) (before between now n : ℕ)
-      (first : AnswersEach unread written waiting left old mid before between n) where
+  module _ (waiting left rest : Option (List P)) (old mid new : Shown) (n : ℕ)
+      (first : AnswersEach unread written waiting left old mid n) where
     -- answering one more peer after others answers each of them
-    pub each_more : (peer : P) → Come left rest (peer ∷ []) → Answers unread written peer mid new between now
-        → AnswersEach unread written waiting rest old new before now (n + 1)
+    pub each_more : (peer : P) → Come left rest (peer ∷ []) → Answers unread written peer mid new
+        → AnswersEach unread written waiting rest old new (n + 1)
     each_more peer comes next = record {
       visits = first.visits ++ next.visit ∷ [];
       few = omega (arith, length-append first.visits (next.visit ∷ []), first.few);
@@ -95,14 +95,14 @@ module _ {P : Type 0} (unread written : P → Option (List ℕ)) where
           (then_come waiting left rest (map peer_of first.visits) (next.visit.before ∷ []) first.came
           (subst (λ p. Come left rest (p ∷ [])) (sym next.begins) comes));
       there = All-push (IsAnsweredThere unread written) first.visits next.visit first.there next.there;
-      through = subst (GoesThrough old new before now) (sym (with_last first.visits next.visit))
-          (through_more old mid new before between now (exchanges_with first.visits) first.through (exchanges_of next.visit.first) next.through);
+      through = subst (GoesThrough old new) (sym (with_last first.visits next.visit))
+          (through_more old mid new (exchanges_with first.visits) first.through (exchanges_of next.visit.first) next.through);
     }
 
   -- a failed accept counts, and answers nobody
-  pub each_same : (waiting left rest : Option (List P)) (old new : Shown) (before now n : ℕ) → Come left rest []
-      → AnswersEach unread written waiting left old new before now n → AnswersEach unread written waiting rest old new before now (n + 1)
-  each_same waiting left rest old new before now n comes first = record {
+  pub each_same : (waiting left rest : Option (List P)) (old new : Shown) (n : ℕ) → Come left rest []
+      → AnswersEach unread written waiting left old new n → AnswersEach unread written waiting rest old new (n + 1)
+  each_same waiting left rest old new n comes first = record {
     visits = first.visits;
     few = omega (arith, first.few);
     came = same_come waiting left rest (map peer_of first.visits) first.came comes;

@@ -8,10 +8,10 @@ use Rattle.engine.specs.Store.{GoesThrough}
 use Rattle.engine.specs.Written.{WritesBeginning}
 
 -- The store went through a run of messages, at most as many as there are connections.
-pub record GoesThroughMost (old new : Shown) (before now connections : ℕ) : Type 0 where
+pub record GoesThroughMost (old new : Shown) (connections : ℕ) : Type 0 where
   pub exchanges : List Exchange
   pub few : length exchanges ≤ connections
-  pub through : GoesThrough old new before now exchanges
+  pub through : GoesThrough old new exchanges
 
 -- if the peers that wait are known, they are these and then those that are left
 abbrev pub Come : {P : Type 0} → Option (List P) → Option (List P) → List P → Type 0
@@ -58,17 +58,17 @@ module _ {P : Type 0} (unread written : P → Option (List ℕ)) where
   IsAnsweredThere visit = IsBetween visit.before visit.after visit.first
 
   -- this peer was visited, and the store went through its message
-  pub record Answers (peer : P) (old new : Shown) (before now : ℕ) : Type 0 where
+  pub record Answers (peer : P) (old new : Shown) : Type 0 where
     pub visit : Visit P
     pub begins : visit.before ≡ peer
     pub there : IsAnsweredThere visit
-    pub through : GoesThrough old new before now (exchanges_of visit.first)
+    pub through : GoesThrough old new (exchanges_of visit.first)
 
   -- The peers that came were answered one after another, each once, and at most as many as there are connections. What a peer
   -- sent was answered to that peer.
-  pub record AnswersEach (waiting left : Option (List P)) (old new : Shown) (before now connections : ℕ) : Type 0 where
+  pub record AnswersEach (waiting left : Option (List P)) (old new : Shown) (connections : ℕ) : Type 0 where
     pub visits : List (Visit P)
     pub few : length visits ≤ connections
     pub came : Come waiting left (map peer_of visits)
     pub there : All IsAnsweredThere visits
-    pub through : GoesThrough old new before now (exchanges_with visits)
+    pub through : GoesThrough old new (exchanges_with visits)

@@ -43,7 +43,6 @@ pub fn answer_in_time<C: Clock, R: BoundRead + Drop, W: BoundWrite + Drop, S: Sh
     shelves: &mut S,
 ) -> Answered<R, W>
     ensures serves { ServesFirst (S.shown shelves.old) (S.shown shelves.new)
-        (S.failure_count shelves.old) (S.failure_count shelves.new)
         (R.remaining reader) (R.remaining result.reader) (W.contents writer) (W.contents result.writer) result.status }
     // An empty input and a failed read leave the shelves untouched.
     ensures empty { IfOk result.status (λ status. status ≡ None → shelves.new ≡ shelves.old) }
@@ -84,7 +83,6 @@ pub trait Peer {
         shelves: &mut S,
     ) -> Result<Option<u16>, Io>
         ensures { ServesFirst (S.shown shelves.old) (S.shown shelves.new)
-            (S.failure_count shelves.old) (S.failure_count shelves.new)
             (unread self.old) (unread self.new) (written self.old) (written self.new) result };
 
     /// Ends the connection after a reply with this status.

@@ -21,13 +21,10 @@ pub fn serve_on<C: Clock, P: Peer + Drop, L: Listener<P>, S: Shelves>(
     shelves: &mut S,
     connections: u32,
 )
-    ensures most { GoesThroughMost (S.shown shelves.old) (S.shown shelves.new)
-        (S.failure_count shelves.old) (S.failure_count shelves.new)
-        connections }
+    ensures most { GoesThroughMost (S.shown shelves.old) (S.shown shelves.new) connections }
     // Each message is answered on the connection that it came over, and at most one on each.
     ensures each { AnswersEach P.unread P.written (L.waiting listener.old) (L.waiting listener.new)
-        (S.shown shelves.old) (S.shown shelves.new)
-        (S.failure_count shelves.old) (S.failure_count shelves.new) connections }
+        (S.shown shelves.old) (S.shown shelves.new) connections }
 {
     let mut routes = RouteTable::new(alloc);
     for _ in 0..connections {

@@ -1,5 +1,5 @@
 -- The number of all versions that is cached from a count.
-use Rattle.std.proofs.Common.{◌≡◌, ◌<◌, ◌∙◌, ℕ, Option, Some, sym, ap, min, arith}
+use Rattle.std.proofs.Common.{◌≡◌, ◌<◌, ◌∙◌, ℕ, Option, Some, ap, min, arith}
 use Rattle.std.specs.FinMap as map
 use Rattle.world.specs.World.{World}
 use Rattle.statements.specs.Counted.{most_counted, versions_in}

@@ -77,10 +77,10 @@ on_err_both A (Ok u) b a = tt
 on_err_both A (Err e) b a = (a, b)
 
 -- a fill holds with what the stores cache too, if the source caches what it did, and the fresh store nothing
-pub fills_kept : (There : World → Type 0) (next : World → World) (a a_new b b_new : State) (kept kept_new old new : Kept) (r : Result (Unit {0}) Refusal) → kept_new ≡ kept
+pub fills_kept : (There : World → Type 0) (next : World → World) (a a_new b b_new : State) (kept kept_new old new : Kept) (n n_new m m_new : ℕ) (r : Result (Unit {0}) Refusal) → kept_new ≡ kept
     → IsNothing new → FillsBy There next (shown_of a) (shown_of a_new) (shown_of b) (shown_of b_new) r
-    → FillsBy There next (shown_with a kept) (shown_with a_new kept_new) (shown_with b old) (shown_with b_new new) r
-fills_kept There next a a_new b b_new kept kept_new old new r same none does = record {
+    → FillsBy There next (shown_with a kept n) (shown_with a_new kept_new n_new) (shown_with b old m) (shown_with b_new new m_new) r
+fills_kept There next a a_new b b_new kept kept_new old new n n_new m m_new r same none does = record {
   reads = record {
     honest = does.reads.honest;
     stays = λ h w so. (does.reads.stays h w so.0, subst (AreKept w) (sym same) so.1);

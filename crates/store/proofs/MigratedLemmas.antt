@@ -103,9 +103,9 @@ world_of db x w (inl was) = was.1.is
 world_of db x w (inr rest) = absurd (true≢false rest.0)
 
 -- a change from x to w, done if the result is Ok, migrates the store as `MigratesAt` says, with nothing cached after
-at_end : (db : Database) (old new : State) (kept kept_new : Kept) (x w : World) (r : Result (Unit {0}) Refusal) → IsNothing kept_new → HasCleanDisk new → StandsFor old x
-    → IsOldOr db x (is_ok r) w → ChangesAt old new (is_ok r) x w → Tells x r → MigratesAt db (shown_with old kept) (shown_with new kept_new) x r
-at_end db old new kept kept_new x w (Ok u) none clean stands was change tells = record {
+at_end : (db : Database) (old new : State) (kept kept_new : Kept) (n n_new : ℕ) (x w : World) (r : Result (Unit {0}) Refusal) → IsNothing kept_new → HasCleanDisk new → StandsFor old x
+    → IsOldOr db x (is_ok r) w → ChangesAt old new (is_ok r) x w → Tells x r → MigratesAt db (shown_with old kept n) (shown_with new kept_new n_new) x r
+at_end db old new kept kept_new n n_new x w (Ok u) none clean stands was change tells = record {
   tells = tells;
   world = w;
   was = was;
@@ -114,7 +114,7 @@ at_end db old new kept kept_new x w (Ok u) none clean stands was change tells = 
   left = λ only. change.left clean stands.0 (narrow old x only);
   kept = λ only db may. let it = change.kept refl clean stands.0 db may in (it.0, it.1, inl it.2);
 }
-at_end db old new kept kept_new x w (Err e) none clean stands was change tells = record {
+at_end db old new kept kept_new n n_new x w (Err e) none clean stands was change tells = record {
   tells = tells;
   world = w;
   was = was;
@@ -125,13 +125,13 @@ at_end db old new kept kept_new x w (Err e) none clean stands was change tells =
 }
 
 -- the result of the call follows from the outcome of the rows, and the fresh store caches nothing
-module _ (s t f g : State) (kept kept_new : Kept) (rows : Result Migrated CopyError) (r : Result (Unit {0}) Refusal) (moved : MigratesRows s t f g rows) (none : IsNothing kept_new)
+module _ (s t f g : State) (kept kept_new : Kept) (n n_new : ℕ) (rows : Result Migrated CopyError) (r : Result (Unit {0}) Refusal) (moved : MigratesRows s t f g rows) (none : IsNothing kept_new)
     (done : is_whole rows ≡ is_ok r) (full : r ≡ Err refusal.NotEmpty → rows ≡ Ok NotEmpty) (tells : (x : World) → IfOk rows (IsMigrated x) → Tells x r) where
   spared : (r ≡ Err refusal.NotEmpty) ⊎ IsForeign s.now → Spares f g
   spared unfit = moved.spares (elim unfit [ inl e ↦ inl (full e) | inr foreign ↦ inr foreign ])
 
   -- a migration of the rows is a migration by the call
-  pub migrated : Migrates s t (shown_with f kept) (shown_with g kept_new) r
+  pub migrated : Migrates s t (shown_with f kept n) (shown_with g kept_new n_new) r
   migrated = record {
     clean = moved.clean;
     reads = λ ready. subst (IsReadBy s t) done (moved.reads ready);
@@ -144,7 +144,7 @@ module _ (s t f g : State) (kept kept_new : Kept) (rows : Result Migrated CopyEr
     };
     at = λ clean good ready x so.
         let it = moved.at clean good ready x so.0 in
-        at_end s.now f g kept kept_new x it.0 r none good so.0 (subst (λ b. IsOldOr s.now x b it.0) done it.1) (subst (λ b. ChangesAt f g b x it.0) done it.2)
+        at_end s.now f g kept kept_new n n_new x it.0 r none good so.0 (subst (λ b. IsOldOr s.now x b it.0) done it.1) (subst (λ b. ChangesAt f g b x it.0) done it.2)
         (tells x (moved.told good x so.0));
   }
 

@@ -1,6 +1,6 @@
 -- Opening the tables of a connection.
 use Rattle.std.proofs.Common.{◌≡◌, ◌⊎◌, refl, sym, ap, subst, ◌∙◌, inl, inr, IsTrue, true≢false, arith}
-use Rattle.std.specs.Prelude.{Option, Some, None, IsSome, IsSomeAnd, List, [], ◌∷◌}
+use Rattle.std.specs.Prelude.{ℕ, Option, Some, None, IsSome, IsSomeAnd, List, [], ◌∷◌}
 use Rattle.std.specs.List.{AllZip}
 use Rattle.sqlite.specs.Order.{Row}
 use Rattle.sqlite_wal.specs.Recovery.{Image}
@@ -99,8 +99,8 @@ left_of_no_store image None none = absurd none
 left_of_no_store image (Some it) none = λ clean. no_database_is_no_store image (none clean)
 
 -- a store begins at a world with what it caches too, if it caches nothing
-pub begins_empty : (s : State) (kept : Kept) (w : World) → IsNothing kept → BeginsAt (shown_of s) w → BeginsAt (shown_with s kept) w
-begins_empty s kept w none it = record { honest = it.honest; stands = (it.stands, nothing_kept w kept none); left = it.left }
+pub begins_empty : (s : State) (kept : Kept) (count : ℕ) (w : World) → IsNothing kept → BeginsAt (shown_of s) w → BeginsAt (shown_with s kept count) w
+begins_empty s kept count w none it = record { honest = it.honest; stands = (it.stands, nothing_kept w kept none); left = it.left }
 
 -- ---- why an opening is refused
 

@@ -3,6 +3,7 @@ pub use Rattle.setup.specs.Opened
 pub use Rattle.setup.specs.Extracted
 pub use Rattle.setup.specs.Parts
 pub mod Shown
+pub mod Counted
 pub mod Restart
 pub mod Migrated
 pub mod Older

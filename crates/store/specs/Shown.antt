@@ -1,4 +1,5 @@
 -- What is known of a store.
+use Rattle.std.specs.Prelude.{ℕ}
 use Rattle.sqlite.specs.State.{State, HasCleanDisk}
 use Rattle.world.specs.Store.{Shown}
 use Rattle.tables.specs.Means.{StandsFor}
@@ -6,6 +7,12 @@ use Rattle.kept.specs.declared.kept.Kept.{Kept}
 use Rattle.kept.specs.Kept.{AreKept}
 pub use Rattle.setup.specs.Shown.{LeavesEither, shown_of, BeginsAt}
 
--- what is known of a store from what its connection shows, and from what it caches, which is true in each world that it stands for
-abbrev pub shown_with : State → Kept → Shown
-shown_with s kept = record { stands = λ w. StandsFor s w × AreKept w kept; is_honest = HasCleanDisk s; leaves = LeavesEither s }
+-- What is known of a store from what its connection shows, from what it caches, which is true in each world that it stands for, and
+-- from how many failures it has counted.
+abbrev pub shown_with : State → Kept → ℕ → Shown
+shown_with s kept failures = record {
+  stands = λ w. StandsFor s w × AreKept w kept;
+  is_honest = HasCleanDisk s;
+  leaves = LeavesEither s;
+  failures = failures;
+}

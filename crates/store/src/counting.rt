@@ -3,10 +3,10 @@
 ghost use Rattle.std.specs.Prelude.{◌≡◌, ◌<◌, Some};
 ghost use Rattle.sqlite.specs.Held.{state};
 ghost use Rattle.statements.specs.Counted.{most_counted, versions_in};
-ghost use Rattle.world.specs.Store.{HasCause, Reads};
+ghost use Rattle.world.specs.Store.{Reads};
 ghost use Rattle.store.specs.Shown.{shown_with};
 
-use crate::store::{SqlShelves, fault};
+use crate::store::{SqlShelves, counted};
 use sqlite::Alter;
 use statements::entries::count_versions;
 use world::registry::StoreFault;
@@ -19,20 +19,15 @@ impl<S: Alter> SqlShelves<S> {
     /// row of `version` otherwise, without its zip.
     /// Fails with `Device` if a disk failed, and with `Memory` if memory ran out.
     pub fn versions_kept(&mut self) -> Result<u64, StoreFault>
-        ensures reads { Reads (shown_with (state S.Store self.old.conn) self.old.kept)
-            (shown_with (state S.Store self.new.conn) self.new.kept) result versions_in }
-        ensures cause { HasCause self.old.failures self.new.failures result }
+        ensures reads { Reads (shown_with (state S.Store self.old.conn) self.old.kept self.old.failures)
+            (shown_with (state S.Store self.new.conn) self.new.kept self.new.failures) result versions_in }
     {
         if let Some(total) = self.kept.total {
             return Ok(total.min(MOST_COUNTED));
         }
-        match count_versions(&mut self.conn) {
-            Ok(count) => {
-                self.kept.total = exact(count);
-                Ok(count)
-            }
-            Err(error) => Err(fault(&mut self.failures, error)),
-        }
+        let count = counted(&mut self.failures, count_versions(&mut self.conn))?;
+        self.kept.total = exact(count);
+        Ok(count)
     }
 }
 

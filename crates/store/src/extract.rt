@@ -40,10 +40,10 @@ impl<S: Alter> SqlShelves<S> {
         team: &str,
         fresh: &mut SqlShelves<F>,
     ) -> Result<(), Refusal>
-        ensures extracts { Extracts (shown_with (state S.Store self.old.conn) self.old.kept)
-            (shown_with (state S.Store self.new.conn) self.new.kept)
-            (shown_with (state F.Store fresh.old.conn) fresh.old.kept)
-            (shown_with (state F.Store fresh.new.conn) fresh.new.kept) team.now result }
+        ensures extracts { Extracts (shown_with (state S.Store self.old.conn) self.old.kept self.old.failures)
+            (shown_with (state S.Store self.new.conn) self.new.kept self.new.failures)
+            (shown_with (state F.Store fresh.old.conn) fresh.old.kept fresh.old.failures)
+            (shown_with (state F.Store fresh.new.conn) fresh.new.kept fresh.new.failures) team.now result }
         ensures cause { HasCauseInEither self.old.failures self.new.failures
             fresh.old.failures fresh.new.failures result }
     {
@@ -64,10 +64,10 @@ impl<S: Alter> SqlShelves<S> {
         fresh: &mut SqlShelves<F>,
     ) -> Result<(), Refusal>
         ensures extracts { ExtractsTeams (each (λ team. team.now) teams.now)
-            (shown_with (state S.Store self.old.conn) self.old.kept)
-            (shown_with (state S.Store self.new.conn) self.new.kept)
-            (shown_with (state F.Store fresh.old.conn) fresh.old.kept)
-            (shown_with (state F.Store fresh.new.conn) fresh.new.kept) result }
+            (shown_with (state S.Store self.old.conn) self.old.kept self.old.failures)
+            (shown_with (state S.Store self.new.conn) self.new.kept self.new.failures)
+            (shown_with (state F.Store fresh.old.conn) fresh.old.kept fresh.old.failures)
+            (shown_with (state F.Store fresh.new.conn) fresh.new.kept fresh.new.failures) result }
         ensures cause { HasCauseInEither self.old.failures self.new.failures
             fresh.old.failures fresh.new.failures result }
     {
@@ -81,10 +81,10 @@ impl<S: Alter> SqlShelves<S> {
     /// failed and with `Memory` if memory ran out. Then both stores are as they were; the source always is. After `NotEmpty`, a
     /// crash leaves nothing in the fresh store that it did not leave before.
     pub fn copy<F: Alter>(&mut self, fresh: &mut SqlShelves<F>) -> Result<(), Refusal>
-        ensures copies { CopiesAll (shown_with (state S.Store self.old.conn) self.old.kept)
-            (shown_with (state S.Store self.new.conn) self.new.kept)
-            (shown_with (state F.Store fresh.old.conn) fresh.old.kept)
-            (shown_with (state F.Store fresh.new.conn) fresh.new.kept) result }
+        ensures copies { CopiesAll (shown_with (state S.Store self.old.conn) self.old.kept self.old.failures)
+            (shown_with (state S.Store self.new.conn) self.new.kept self.new.failures)
+            (shown_with (state F.Store fresh.old.conn) fresh.old.kept fresh.old.failures)
+            (shown_with (state F.Store fresh.new.conn) fresh.new.kept fresh.new.failures) result }
         ensures cause { HasCauseInEither self.old.failures self.new.failures
             fresh.old.failures fresh.new.failures result }
     {
@@ -97,10 +97,10 @@ impl<S: Alter> SqlShelves<S> {
         wanted: Wanted<'_>,
         fresh: &mut SqlShelves<F>,
     ) -> Result<(), Refusal>
-        ensures fills { Fills wanted.entry (shown_with (state S.Store self.old.conn) self.old.kept)
-            (shown_with (state S.Store self.new.conn) self.new.kept)
-            (shown_with (state F.Store fresh.old.conn) fresh.old.kept)
-            (shown_with (state F.Store fresh.new.conn) fresh.new.kept) result }
+        ensures fills { Fills wanted.entry (shown_with (state S.Store self.old.conn) self.old.kept self.old.failures)
+            (shown_with (state S.Store self.new.conn) self.new.kept self.new.failures)
+            (shown_with (state F.Store fresh.old.conn) fresh.old.kept fresh.old.failures)
+            (shown_with (state F.Store fresh.new.conn) fresh.new.kept fresh.new.failures) result }
         ensures cause { HasCauseInEither self.old.failures self.new.failures
             fresh.old.failures fresh.new.failures result }
     {

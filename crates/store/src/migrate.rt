@@ -79,8 +79,8 @@ pub fn migrate<S: Alter, F: Alter>(
     fresh: &mut SqlShelves<F>,
 ) -> Result<(), Refusal>
     ensures migrates { Migrates (state S.Store old.old) (state S.Store old.new)
-        (shown_with (state F.Store fresh.old.conn) fresh.old.kept)
-        (shown_with (state F.Store fresh.new.conn) fresh.new.kept) result }
+        (shown_with (state F.Store fresh.old.conn) fresh.old.kept fresh.old.failures)
+        (shown_with (state F.Store fresh.new.conn) fresh.new.kept fresh.new.failures) result }
     ensures cause { HasCauseInOne
         (state S.Store old.old) (state S.Store old.new) fresh.old.failures fresh.new.failures result }
 {

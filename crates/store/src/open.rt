@@ -24,7 +24,8 @@ pub type FileShelves<T> = SqlShelves<FileStore<FileFrom<T>>>;
 impl SqlShelves<MemStore> {
     /// Opens a store in memory that has only the shelf `common`. Fails only with `Memory`, if memory runs out.
     pub fn open_memory(alloc: Global) -> Result<SqlShelves<MemStore>, Refusal>
-        ensures begins { IfOk result (λ s. BeginsAt (shown_with (state over_memory s.conn) s.kept) only_common) }
+        ensures begins { IfOk result
+            (λ s. BeginsAt (shown_with (state over_memory s.conn) s.kept s.failures) only_common) }
         ensures none_failed { IfOk result (λ s. s.failures ≡ 0) }
         ensures refused { IfErr result (λ refusal. refusal ≡ Refusal.Memory) }
     {
@@ -72,9 +73,9 @@ impl<T: Start> SqlShelves<FileStore<FileFrom<T>>> {
     ) -> Result<FileShelves<T>, (Refusal, Option<Leftover<FileFrom<T>>>)>
         ensures memory { path.now ≡ codes ":memory:" → IsErrAnd result (λ e. e.0 ≡ Refusal.Device) }
         ensures begins { IfOk result (λ s. HasCleanDisk (file_state s.conn)
-            → (w : _) × BeginsAt (shown_with (file_state s.conn) s.kept) w) }
+            → (w : _) × BeginsAt (shown_with (file_state s.conn) s.kept s.failures) w) }
         ensures found { IfOk result (λ s. HasCleanDisk (file_state s.conn) → (w : _)
-            → HoldsStore (image_at T.Start) w → BeginsAt (shown_with (file_state s.conn) s.kept) w) }
+            → HoldsStore (image_at T.Start) w → BeginsAt (shown_with (file_state s.conn) s.kept s.failures) w) }
         ensures refused { IfErr result (λ e. IsOfOpening e.0) }
         // `BadSchema` says that the files hold no store, if the disk has returned what was written.
         ensures bad { IfErr result (λ e. e.0 ≡ Refusal.BadSchema
@@ -96,7 +97,7 @@ impl SqlShelves<FileStore<File>> {
     pub fn open_file(rt: &HostRuntime, path: &str) -> Result<FileShelves<Unknown>, Refusal>
         ensures memory { path.now ≡ codes ":memory:" → result ≡ Err Refusal.Device }
         ensures begins { IfOk result (λ s. HasCleanDisk (file_state s.conn)
-            → (w : _) × BeginsAt (shown_with (file_state s.conn) s.kept) w) }
+            → (w : _) × BeginsAt (shown_with (file_state s.conn) s.kept s.failures) w) }
         ensures refused { IfErr result IsOfOpening }
         ensures none_failed { IfOk result (λ s. s.failures ≡ 0) }
     {

@@ -3,9 +3,10 @@
 ghost use Rattle.std.specs.Prelude.{◌≡◌, ◌≤◌, ◌⊎◌, IfOk, IfErr, IsTrue};
 ghost use Rattle.sqlite.specs.Held.{state};
 ghost use Rattle.sqlite_trees.specs.View.{doubt};
-ghost use Rattle.world.specs.Store.{GrewOrFull, HasCause, Reads};
+ghost use Rattle.world.specs.Store.{GrewOrFull, Reads};
 ghost use Rattle.world.specs.Versions.{versions_of};
 ghost use Rattle.world.specs.World.{group_of, view};
+ghost use Rattle.store.specs.Counted.{IsCounted};
 ghost use Rattle.store.specs.Shown.{shown_with};
 ghost use Rattle.kept.specs.Kept.{IsNothing};
 ghost use Rattle.outline.specs.Seen.{seen_heading};
@@ -57,7 +58,7 @@ pub struct SqlShelves<S: Alter> {
     pub(crate) alloc: Global,
 }
 
-/// Counts a failure that is no want of memory.
+/// Returns the fault for an error, and counts a failure that is no want of memory.
 pub(crate) fn fault(failures: &mut u64, error: Error) -> StoreFault
     ensures no_fewer { failures.old ≤ failures.new }
     ensures device { result ≡ StoreFault.Device → GrewOrFull failures.old failures.new }
@@ -71,12 +72,20 @@ pub(crate) fn fault(failures: &mut u64, error: Error) -> StoreFault
     }
 }
 
+/// Returns the answer, or the fault for an error. Counts a failure that is no want of memory.
+pub(crate) fn counted<T>(failures: &mut u64, given: Result<T, Error>) -> Result<T, StoreFault>
+    ensures { IsCounted failures.old failures.new given result }
+{
+    match given {
+        Ok(answer) => Ok(answer),
+        Err(error) => Err(fault(failures, error)),
+    }
+}
+
 impl<S: Alter> Shelves for SqlShelves<S> {
     ghost use Rattle.std.proofs.Common.{inl, inr};
 
-    ghost shown = { λ s. shown_with (state S.Store s.conn) s.kept };
-
-    ghost failure_count = { λ s. s.failures };
+    ghost shown = { λ s. shown_with (state S.Store s.conn) s.kept s.failures };
 
     ghost sound = { λ s w stands. stands.0.1 };
 
@@ -91,13 +100,9 @@ impl<S: Alter> Shelves for SqlShelves<S> {
         if let Some(holder) = self.kept.keys.holder(self.alloc, key) {
             return Ok(Some(holder));
         }
-        match find_key(&mut self.conn, key) {
-            Ok(found) => {
-                self.kept.keys.keep_holder(self.alloc, key, found.as_ref());
-                Ok(found)
-            }
-            Err(error) => Err(fault(&mut self.failures, error)),
-        }
+        let found = counted(&mut self.failures, find_key(&mut self.conn, key))?;
+        self.kept.keys.keep_holder(self.alloc, key, found.as_ref());
+        Ok(found)
     }
 
     fn entry(
@@ -143,16 +148,9 @@ impl<S: Alter> Shelves for SqlShelves<S> {
     ) -> Result<Standing, StoreFault> {
         let group = self.group_of(shelf)?;
         let chain = Chain::new(shelf, group.as_ref());
-        match find_standing(
-            &mut self.conn,
-            chain.as_slice(),
-            path.as_str(),
-            version.as_str(),
-            entry,
-        ) {
-            Ok(standing) => Ok(standing),
-            Err(error) => Err(fault(&mut self.failures, error)),
-        }
+        let (shelves, path, version) = (chain.as_slice(), path.as_str(), version.as_str());
+        let standing = find_standing(&mut self.conn, shelves, path, version, entry);
+        counted(&mut self.failures, standing)
     }
 
     fn versions(&mut self, shelf: &str, path: &ModulePath) -> Result<Versions, StoreFault> {
@@ -186,25 +184,20 @@ impl<S: Alter> Shelves for SqlShelves<S> {
     fn paths(&mut self, shelf: &str) -> Result<TextSet, StoreFault> {
         let group = self.group_of(shelf)?;
         let chain = Chain::new(shelf, group.as_ref());
-        match find_paths(self.alloc, &mut self.conn, chain.as_slice()) {
-            Ok(paths) => Ok(paths),
-            Err(error) => Err(fault(&mut self.failures, error)),
-        }
+        let paths = find_paths(self.alloc, &mut self.conn, chain.as_slice());
+        counted(&mut self.failures, paths)
     }
 
     fn count(&mut self, shelf: &str, path: &ModulePath) -> Result<u64, StoreFault> {
         if let Some(count) = self.kept.counts.get(shelf, path.as_str()) {
             return Ok(count);
         }
-        match count_entries(&mut self.conn, shelf, path.as_str()) {
-            Ok(count) => {
-                self.kept
-                    .counts
-                    .keep(self.alloc, shelf, path.as_str(), count);
-                Ok(count)
-            }
-            Err(error) => Err(fault(&mut self.failures, error)),
-        }
+        let count = count_entries(&mut self.conn, shelf, path.as_str());
+        let count = counted(&mut self.failures, count)?;
+        self.kept
+            .counts
+            .keep(self.alloc, shelf, path.as_str(), count);
+        Ok(count)
     }
 
     fn insert(
@@ -214,23 +207,14 @@ impl<S: Alter> Shelves for SqlShelves<S> {
         version: &Version,
         entry: &EntryRef,
     ) -> Result<(), StoreFault> {
-        match add_entry(
-            self.alloc,
-            &mut self.conn,
-            shelf,
-            path.as_str(),
-            version,
-            entry,
-        ) {
-            Ok(()) => {
-                self.kept.counts.raise(self.alloc, shelf, path.as_str());
-                self.kept.total = raised(self.kept.total);
-                self.kept.lists.forget(self.alloc, path.as_str());
-                self.kept.headings = Headings::no_headings(); // The entry can hide another from its shelf.
-                Ok(())
-            }
-            Err(error) => Err(fault(&mut self.failures, error)),
-        }
+        let path = path.as_str();
+        let added = add_entry(self.alloc, &mut self.conn, shelf, path, version, entry);
+        counted(&mut self.failures, added)?;
+        self.kept.counts.raise(self.alloc, shelf, path);
+        self.kept.total = raised(self.kept.total);
+        self.kept.lists.forget(self.alloc, path);
+        self.kept.headings = Headings::no_headings(); // The entry can hide another from its shelf.
+        Ok(())
     }
 
     fn team_add(&mut self, name: &str, group: Option<&str>) -> Result<Registered, StoreFault> {
@@ -240,38 +224,29 @@ impl<S: Alter> Shelves for SqlShelves<S> {
         // What was asked of this name before lacks what the group of the team has.
         self.kept.lists = Lists::no_lists();
         self.kept.headings = Headings::no_headings();
-        match add_team(&mut self.conn, name, group) {
-            Ok(registered) => Ok(registered),
-            Err(error) => Err(fault(&mut self.failures, error)),
-        }
+        counted(&mut self.failures, add_team(&mut self.conn, name, group))
     }
 
     fn group_add(&mut self, name: &str) -> Result<Registered, StoreFault> {
         if !is_team_name(name) {
             return Ok(Registered::Name);
         }
-        match add_group(&mut self.conn, name) {
-            Ok(registered) => Ok(registered),
-            Err(error) => Err(fault(&mut self.failures, error)),
-        }
+        counted(&mut self.failures, add_group(&mut self.conn, name))
     }
 
     fn key_add(&mut self, shelf: &str, key: &str, right: Right) -> Result<Registered, StoreFault> {
         if !is_key(key) {
             return Ok(Registered::Name);
         }
-        match add_key(&mut self.conn, shelf, key, right) {
-            Ok(registered) => Ok(registered),
-            Err(error) => Err(fault(&mut self.failures, error)),
-        }
+        counted(
+            &mut self.failures,
+            add_key(&mut self.conn, shelf, key, right),
+        )
     }
 
     fn key_revoke(&mut self, key: &str) -> Result<Registered, StoreFault> {
         self.kept.keys = Keys::no_keys();
-        match revoke_key(&mut self.conn, key) {
-            Ok(registered) => Ok(registered),
-            Err(error) => Err(fault(&mut self.failures, error)),
-        }
+        counted(&mut self.failures, revoke_key(&mut self.conn, key))
     }
 }
 
@@ -284,15 +259,9 @@ impl<S: Alter> Outlines for SqlShelves<S> {
     ) -> Result<Option<Outline>, StoreFault> {
         let group = self.group_of(shelf)?;
         let chain = Chain::new(shelf, group.as_ref());
-        match find_outline(
-            &mut self.conn,
-            chain.as_slice(),
-            path.as_str(),
-            version.as_str(),
-        ) {
-            Ok(found) => Ok(found),
-            Err(error) => Err(fault(&mut self.failures, error)),
-        }
+        let (shelves, path, version) = (chain.as_slice(), path.as_str(), version.as_str());
+        let found = find_outline(&mut self.conn, shelves, path, version);
+        counted(&mut self.failures, found)
     }
 }
 
@@ -344,22 +313,20 @@ impl<S: Alter> SqlShelves<S> {
 
     /// The group of a shelf, if it has one. Copies the kept name if there is one, and queries the tables otherwise.
     fn group_of(&mut self, shelf: &str) -> Result<Option<Text>, StoreFault>
-        ensures reads { Reads (shown_with (state S.Store self.old.conn) self.old.kept)
-            (shown_with (state S.Store self.new.conn) self.new.kept) result (λ w. group_of w shelf.now) }
-        ensures cause { HasCause self.old.failures self.new.failures result }
+        ensures reads { Reads (shown_with (state S.Store self.old.conn) self.old.kept self.old.failures)
+            (shown_with (state S.Store self.new.conn) self.new.kept self.new.failures) result
+            (λ w. group_of w shelf.now) }
     {
         if let Some(group) = self.kept.groups.get(shelf) {
             return Ok(copied(self.alloc, group.as_ref())?);
         }
-        match find_shelf(&mut self.conn, shelf) {
-            Ok(Some(parent)) => {
-                let group = group_in(parent);
-                self.kept.groups.keep(self.alloc, shelf, group.as_ref());
-                Ok(group)
-            }
-            Ok(None) => Ok(None),
-            Err(error) => Err(fault(&mut self.failures, error)),
-        }
+        let found = counted(&mut self.failures, find_shelf(&mut self.conn, shelf))?;
+        let Some(parent) = found else {
+            return Ok(None);
+        };
+        let group = group_in(parent);
+        self.kept.groups.keep(self.alloc, shelf, group.as_ref());
+        Ok(group)
     }
 
     /// Returns what a shelf sees of a version without its zip, with the shelf that its entry stands on. Takes what is cached if there
@@ -370,57 +337,48 @@ impl<S: Alter> SqlShelves<S> {
         path: &str,
         version: &str,
     ) -> Result<Option<SeenHeading>, StoreFault>
-        ensures reads { Reads (shown_with (state S.Store self.old.conn) self.old.kept)
-            (shown_with (state S.Store self.new.conn) self.new.kept) result
+        ensures reads { Reads (shown_with (state S.Store self.old.conn) self.old.kept self.old.failures)
+            (shown_with (state S.Store self.new.conn) self.new.kept self.new.failures) result
             (λ w. seen_heading (view w shelf.now path.now version.now)) }
-        ensures cause { HasCause self.old.failures self.new.failures result }
     {
         if let Some(seen) = self.kept.headings.seen(self.alloc, shelf, path, version) {
             return Ok(Some(seen));
         }
         let group = self.group_of(shelf)?;
         let chain = Chain::new(shelf, group.as_ref());
-        match find_seen(&mut self.conn, chain.as_slice(), path, version) {
-            Ok(seen) => {
-                self.kept
-                    .headings
-                    .keep_seen(self.alloc, shelf, path, version, seen.as_ref());
-                Ok(seen)
-            }
-            Err(error) => Err(fault(&mut self.failures, error)),
-        }
+        let seen = find_seen(&mut self.conn, chain.as_slice(), path, version);
+        let seen = counted(&mut self.failures, seen)?;
+        self.kept
+            .headings
+            .keep_seen(self.alloc, shelf, path, version, seen.as_ref());
+        Ok(seen)
     }
 
     /// What a shelf sees of a version. Queries the tables.
     fn find(&mut self, shelf: &str, path: &str, version: &str) -> Result<Option<Seen>, StoreFault>
-        ensures reads { Reads (shown_with (state S.Store self.old.conn) self.old.kept)
-            (shown_with (state S.Store self.new.conn) self.new.kept) result
+        ensures reads { Reads (shown_with (state S.Store self.old.conn) self.old.kept self.old.failures)
+            (shown_with (state S.Store self.new.conn) self.new.kept self.new.failures) result
             (λ w. view w shelf.now path.now version.now) }
-        ensures cause { HasCause self.old.failures self.new.failures result }
     {
         let group = self.group_of(shelf)?;
         let chain = Chain::new(shelf, group.as_ref());
-        match find_entry(self.alloc, &mut self.conn, chain.as_slice(), path, version) {
-            Ok(found) => Ok(found),
-            Err(error) => Err(fault(&mut self.failures, error)),
-        }
+        let found = find_entry(self.alloc, &mut self.conn, chain.as_slice(), path, version);
+        counted(&mut self.failures, found)
     }
 
     /// The versions of a path that a shelf sees, in ascending precedence. Takes the cached list if there is one, and
     /// queries the tables otherwise.
     fn take_versions(&mut self, shelf: &str, path: &str) -> Result<Versions, StoreFault>
-        ensures reads { Reads (shown_with (state S.Store self.old.conn) self.old.kept)
-            (shown_with (state S.Store self.new.conn) self.new.kept) result (λ w. versions_of w shelf.now path.now) }
-        ensures cause { HasCause self.old.failures self.new.failures result }
+        ensures reads { Reads (shown_with (state S.Store self.old.conn) self.old.kept self.old.failures)
+            (shown_with (state S.Store self.new.conn) self.new.kept self.new.failures) result
+            (λ w. versions_of w shelf.now path.now) }
     {
         if let Some(versions) = self.kept.lists.take_versions(shelf, path) {
             return Ok(versions);
         }
         let group = self.group_of(shelf)?;
         let chain = Chain::new(shelf, group.as_ref());
-        match find_versions(self.alloc, &mut self.conn, chain.as_slice(), path) {
-            Ok(versions) => Ok(versions),
-            Err(error) => Err(fault(&mut self.failures, error)),
-        }
+        let versions = find_versions(self.alloc, &mut self.conn, chain.as_slice(), path);
+        counted(&mut self.failures, versions)
     }
 }

@@ -1,4 +1,5 @@
 pub mod OnlyCommon
+pub mod Causes
 pub mod MapsDone
 pub mod MapsTexts
 pub mod MapsNested

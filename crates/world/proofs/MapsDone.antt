@@ -1,16 +1,21 @@
 -- A change of a store in memory, which stands for one world.
-use Rattle.std.proofs.Common.{◌≡◌, ◌⊎◌, ◌∙◌, ℕ, List, true, false, refl, Ok, inl, inr, Option}
+use Rattle.std.proofs.Common.{◌≡◌, ◌⊎◌, ◌∙◌, ℕ, List, true, false, refl, Ok, inl, inr, Option, arith}
 use Rattle.std.specs.FinMap as map
 use Rattle.world.specs.declared.registry.Registered.TheVariants.{Done}
 use Rattle.world.specs.World.{World, IsWorld, is_team_name, is_key}
 use Rattle.world.specs.Registry.{lacks_group, team_added, group_added, key_added, key_revoked}
-use Rattle.world.specs.Store.{DoesAt, ReadsAt}
+use Rattle.world.specs.Store.{DoesAt, ReadsAt, HasCause}
 use Rattle.world.specs.InMemory.{in_memory}
+use Rattle.world.proofs.Causes.{answers}
 
 -- what a crash leaves is of the same world
 still : {old new x y : World} → new ≡ old → (old ≡ x) ⊎ (old ≡ y) → (new ≡ x) ⊎ (new ≡ y)
 still same (inl e) = inl (same ∙ e)
 still same (inr e) = inr (same ∙ e)
+
+-- no device fails
+pub no_fault : {T : Type 0} (old new : World) (x : T) → HasCause (in_memory old) (in_memory new) (Ok x)
+no_fault old new x = answers (in_memory old) (in_memory new) x (omega arith)
 
 -- the answer is the value, and the store holds the next world
 pub done : {T : Type 0} (old new w : World) (x value : T) (next : World) → x ≡ value → new ≡ next → IsWorld next → DoesAt (in_memory old) (in_memory new) w (Ok x) value next
@@ -18,10 +23,7 @@ done old new w x value next answer same is = record {
   answer = answer;
   ok = (same, is);
   err = tt;
-  left = λ _. inr same;
-  kept = λ _. inl same;
-  settled = inl (inl same);
-  failed = tt;
+  crash = record { either = λ _. inr same; alone = λ _. inl same; settled = inl (inl same); failed = tt };
 }
 
 -- the answer is the value, and nothing changes

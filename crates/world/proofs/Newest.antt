@@ -7,6 +7,7 @@ use Rattle.world.specs.Latest.{AllOf, highest, module_of, highest_left, latest_b
 use Rattle.world.specs.Store.{Shown, Reads}
 use Rattle.world.specs.Versions.{versions_of}
 use Rattle.world.specs.World.{World, IsWorld, heading}
+use Rattle.world.proofs.Causes.{answers, in_turn}
 use Rattle.world.proofs.SeenVersions.{versions_fit}
 
 -- in a world
@@ -37,6 +38,7 @@ module _ (old mid : Shown) (sound : (w : World) → old.stands w → IsWorld w) 
           stays = told.stays;
           left = told.left;
         };
+    cause = answers old mid None read.cause.no_fewer;
   }
 
   -- the latest version, if the go.mod of the highest was read after them
@@ -53,4 +55,5 @@ module _ (old mid : Shown) (sound : (w : World) → old.stands w → IsWorld w) 
           stays = seen.stays;
           left = λ x y was. seen.left x y (told.left x y was);
         };
+    cause = in_turn old mid new vs (Ok v) read.cause (answers mid new v then.cause.no_fewer);
   }

@@ -1,5 +1,5 @@
 -- The path and the version of an entry read.
-use Rattle.std.proofs.Common.{ℕ, List, cond, ap, Some, None}
+use Rattle.std.proofs.Common.{cond, ap, Some, None}
 use Rattle.std.specs.Prelude.{is_ok}
 use Rattle.modver.proofs.Readings.{version-of}
 use Rattle.world.specs.declared.entry.Place.{Place}

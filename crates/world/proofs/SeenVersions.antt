@@ -1,6 +1,6 @@
 -- The versions of a path that a shelf sees are those at which it sees an entry, and each fits the path.
-use Rattle.std.proofs.Common.{◌≡◌, ℕ, List, [], ◌∷◌, true, refl, ◌∙◌, sym, ap, subst, inl, inr, ◌⊎◌, ◌++◌, false, Option, Some, None}
-use Rattle.std.specs.Prelude.{◌↔◌, ◌||◌, Contains, is_some}
+use Rattle.std.proofs.Common.{◌≡◌, ℕ, List, [], ◌∷◌, true, refl, ◌∙◌, sym, ap, subst, inl, inr, Option, Some, None}
+use Rattle.std.specs.Prelude.{◌↔◌, Contains, is_some}
 use Rattle.std.specs.Option.{option_or}
 use Rattle.std.specs.declared.cmp.Ordering.TheVariants.{Less}
 use Rattle.std.specs.FinMap as map

@@ -1,10 +1,10 @@
 -- Which shelves a shelf sees.
-use Rattle.std.proofs.Common.{◌≡◌, ℕ, List, [], ◌∷◌, Bool, true, false, cond, refl, sym, ap, subst, inl, inr, ◌⊎◌, ◌∙◌, Option, Some, None}
+use Rattle.std.proofs.Common.{◌≡◌, ℕ, List, [], ◌∷◌, true, false, cond, refl, sym, ap, subst, inl, inr, ◌⊎◌, ◌∙◌, Option, Some, None}
 use Rattle.std.specs.Prelude.{bytes_eq, ◌||◌, is_some}
 use Rattle.std.specs.FinMap as map
 use Rattle.std.proofs.lemmas.Bool.{true≢false, or_cases, or_left, or_right}
 use Rattle.world.specs.World.{World, IsWorld, common, group_in, group_of, above, chain, is_among, sees}
-use Rattle.world.proofs.Orders.{text_self, text_same, text_apart}
+use Rattle.world.proofs.Orders.{text_self, text_same}
 
 pub sees_itself : (w : World) (s : List ℕ) → sees w s s ≡ true
 sees_itself w s = ap (λ b. b || is_among (above (group_of w s)) s) (text_self s)

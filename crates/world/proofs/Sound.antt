@@ -14,7 +14,7 @@ use Rattle.world.specs.declared.entry.Holder.{Holder}
 use Rattle.world.specs.declared.entry.Right.{Right}
 use Rattle.world.specs.declared.registry.Registered.{Registered}
 use Rattle.world.specs.declared.registry.Registered.TheVariants.{Done, Name, Taken, NoTeam, NoGroup}
-use Rattle.world.specs.World.{World, IsWorld, IsEntry, common, is_team_name, is_key, version_limit, text_cmp, count, with_entry, with_key, without_key, with_shelf, with_team, with_group}
+use Rattle.world.specs.World.{World, IsWorld, IsEntry, common, is_team_name, is_key, version_limit, text_cmp, count, with_entry, with_key, without_key, with_shelf}
 use Rattle.world.specs.Registry.{is_top, is_group, lacks_group, team_added, group_added, key_added, after_team_add, after_group_add, after_key_add, after_key_revoke}
 use Rattle.world.specs.Store.{IsRoomFor}
 use Rattle.world.proofs.Orders.{texts_total, texts_exact, places_total, places_exact, text_same, get_elsewhere}

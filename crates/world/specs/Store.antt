@@ -15,33 +15,50 @@ pub record Shown : Type 1 where
   pub is_honest : Type 0
   -- whatever a crash at this moment leaves stands for the first world or for the second
   pub leaves : World → World → Type 0
+  -- how often a device has failed; the count stays once it cannot grow
+  pub failures : ℕ
 
 -- a crash leaves nothing that it did not leave before
 abbrev pub AddsNothing : Shown → Shown → Type 0
 AddsNothing old new = (x y : World) → old.leaves x y → new.leaves x y
 
--- In this world, a call returns the value and leads to the next world, or fails and changes nothing.
--- If a crash before the call left this world alone, a crash after it leaves one of the two worlds, and after Ok the next one
--- alone. Whatever a crash left before: after Ok it leaves the next world alone, or the call changed nothing and added nothing
--- to what a crash leaves; after a failure it leaves one of the two worlds, or the call added nothing to what a crash leaves.
+-- the count of failures grew, or has reached its last value
+abbrev pub GrewOrFull : ℕ → ℕ → Type 0
+GrewOrFull before now = (before < now) ⊎ (2 ^ 64 - 1 ≤ now)
+
+-- the count of failures never falls, and a call fails with `Device` only if it grew or has reached its last value
+pub record HasCause {T : Type 0} (old new : Shown) (result : Result T StoreFault) : Type 0 where
+  pub no_fewer : old.failures ≤ new.failures
+  pub device : IsErrOf result Device → GrewOrFull old.failures new.failures
+
+-- what a crash leaves once a call has ended that leads from the world w to the next one
+pub record AfterCrash {T : Type 0} (old new : Shown) (w : World) (result : Result T StoreFault) (next : World) : Type 0 where
+  -- if a crash before the call left w alone, one after it leaves w or the next world
+  pub either : old.leaves w w → new.leaves w next
+  -- and after Ok the next world alone
+  pub alone : old.leaves w w → OnOk result (new.leaves next next)
+  -- whatever a crash left before, after Ok it leaves the next world alone, or the call changed nothing and added nothing to it
+  pub settled : OnOk result (new.leaves next next ⊎ ((next ≡ w) × AddsNothing old new))
+  -- whatever a crash left before, after a failure it leaves w or the next world, or the call added nothing to it
+  pub failed : OnErr result (new.leaves w next ⊎ AddsNothing old new)
+
+-- in this world, a call returns the value and leads to the next world, or fails and changes nothing, and a crash may follow
 pub record DoesAt {T : Type 0} (old new : Shown) (w : World) (result : Result T StoreFault) (value : T) (next : World) : Type 0 where
   pub answer : IfOk result (λ x. x ≡ value)
   pub ok : OnOk result (new.stands next)
   pub err : OnErr result (new.stands w)
-  pub left : old.leaves w w → new.leaves w next
-  pub kept : old.leaves w w → OnOk result (new.leaves next next)
-  pub settled : OnOk result (new.leaves next next ⊎ ((next ≡ w) × AddsNothing old new))
-  pub failed : OnErr result (new.leaves w next ⊎ AddsNothing old new)
+  pub crash : AfterCrash old new w result next
 
 -- If the disks are honest up to the end of the call, they were honest before it, and the call does this in each world that
--- the store stood for and that fits.
+-- the store stood for and that fits. Honest or not, a fault has a cause.
 pub record DoesWhere {T : Type 0} (fits : World → Type 0) (old new : Shown)
     (result : Result T StoreFault) (value : World → T) (next : World → World) : Type 0 where
   pub honest : new.is_honest → old.is_honest
   pub at : new.is_honest → (w : World) → old.stands w → fits w → DoesAt old new w result (value w) (next w)
+  pub cause : HasCause old new result
 
 -- If the disks are honest, then in each world that the store stood for the call returns this value and makes this next world,
--- or fails and leaves the world.
+-- or fails and leaves the world. A fault has a cause.
 abbrev pub Does : {T : Type 0} → Shown → Shown → Result T StoreFault → (World → T) → (World → World) → Type 0
 Does old new result value next = DoesWhere (λ _. Unit {0}) old new result value next
 
@@ -52,10 +69,11 @@ pub record ReadsAt {T : Type 0} (old new : Shown) (w : World) (result : Result T
   pub left : AddsNothing old new
 
 -- If the disks are honest, then in each world that the store stood for the call returns this value or fails, and changes
--- nothing.
+-- nothing. Honest or not, a fault has a cause.
 pub record Reads {T : Type 0} (old new : Shown) (result : Result T StoreFault) (value : World → T) : Type 0 where
   pub honest : new.is_honest → old.is_honest
   pub at : new.is_honest → (w : World) → old.stands w → ReadsAt old new w result (value w)
+  pub cause : HasCause old new result
 
 -- the entry may be put there: its shelf exists, the place is free, the shelf has fewer versions of the path than the limit,
 -- and the entry may stand at the place
@@ -64,12 +82,3 @@ pub record IsRoomFor (w : World) (q : Place) (e : Entry) : Type 0 where
   pub free : map.get w.entries q ≡ None
   pub room : count w q.shelf q.path < version_limit
   pub entry : IsEntry q e
-
--- the count of failures grew, or has reached its last value
-abbrev pub GrewOrFull : ℕ → ℕ → Type 0
-GrewOrFull before now = (before < now) ⊎ (2 ^ 64 - 1 ≤ now)
-
--- the count of failures never falls, and a call fails with `Device` only if it grew or has reached its last value
-pub record HasCause {T : Type 0} (before now : ℕ) (result : Result T StoreFault) : Type 0 where
-  pub no_fewer : before ≤ now
-  pub device : IsErrOf result Device → GrewOrFull before now

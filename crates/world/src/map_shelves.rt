@@ -270,11 +270,9 @@ impl Shelves for MapShelves {
     ghost use Rattle.std.proofs.Common.{inl, inr};
     ghost use Rattle.world.specs.InMemory.{in_memory};
     ghost use Rattle.world.specs.Registry.{key_revoked, after_key_revoke};
-    ghost use Rattle.world.specs.Store.{Does, Reads, HasCause};
+    ghost use Rattle.world.specs.Store.{Does, Reads};
 
     ghost shown = { in_memory };
-
-    ghost failure_count = { λ m. 0 };
 
     ghost sound = { λ m w stands. stands.1 };
 
@@ -322,7 +320,6 @@ impl Shelves for MapShelves {
     ) -> Result<Standing, StoreFault>
         ensures reads { Reads (in_memory self.old) (in_memory self.new) result
             (λ w. standing w shelf.now path.now (version_text version.now) entry.now) }
-        ensures cause { HasCause 0 0 result }
         ensures answers { IsOk result }
     {
         match self.seen(shelf, path, version) {
@@ -355,7 +352,6 @@ impl Shelves for MapShelves {
     /// Returns how many versions of the path stand on the shelf. Never fails, and allocates nothing.
     fn count(&mut self, shelf: &str, path: &ModulePath) -> Result<u64, StoreFault>
         ensures reads { Reads (in_memory self.old) (in_memory self.new) result (λ w. count w shelf.now path.now) }
-        ensures cause { HasCause 0 0 result }
         ensures answers { IsOk result }
     {
         Ok(self.entries.count(shelf, path.as_str()) as u64)
@@ -422,7 +418,6 @@ impl Shelves for MapShelves {
     fn key_revoke(&mut self, key: &str) -> Result<Registered, StoreFault>
         ensures does { Does (in_memory self.old) (in_memory self.new) result
             (λ w. key_revoked w key.now) (λ w. after_key_revoke w key.now (key_revoked w key.now)) }
-        ensures cause { HasCause 0 0 result }
         ensures answers { IsOk result }
     {
         if !self.keys.contains_key(key) {

@@ -33,7 +33,8 @@ fn is_same(left: &EntryRef, right: &EntryRef) -> bool
     left.gomod == right.gomod && left.zip == right.zip && is_same_time(left.time, right.time)
 }
 
-fn is_same_time(left: Option<TimeText>, right: Option<TimeText>) -> bool
+/// Whether both are None or the same text. Allocates nothing.
+pub fn is_same_time(left: Option<TimeText>, right: Option<TimeText>) -> bool
     ensures { result ≡ spec.same_time left right }
 {
     match (left, right) {

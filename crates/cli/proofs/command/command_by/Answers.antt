@@ -2,55 +2,36 @@ use Rattle.std.proofs.Common.{inl, inr, refl}
 use Rattle.clap.specs.Values.{kind_of}
 use Rattle.clap.specs.declared.error.kind.ErrorKind.TheVariants.{MissingSubcommand}
 use Rattle.cli.proofs.command.command_by.Goals as goal
-use Rattle.cli.proofs.command.command_by.Goals.{in-Ok+in-Some-1, in-Ok+in-None-1, in-Err, in-Some, in-None}
+
+pub returns-in-Err : goal.returns-in-Err
+returns-in-Err g c = record {
+  ended = c.show.result;
+  errors_run = _;
+  runs = inr (record { kind = kind_of c.in-Err.error; ends = c.show.ensures.ends; idle = refl; input = refl; silent = c.show.ensures.silent });
+  says = c.end.ensures.says;
+  tells = c.end.ensures.status;
+}
+
+pub returns-in_default : goal.returns-in_default
+returns-in_default g c = record {
+  ended = _;
+  errors_run = _;
+  runs = inr (record { kind = MissingSubcommand; ends = refl; idle = refl; input = refl; silent = tt });
+  says = c.end-in_default.ensures.says;
+  tells = c.end-in_default.ensures.status;
+}
 
 pub returns : goal.returns
 returns g c = record {
-  ended = c.match-matches_of.exit;
-  errors_run = g.E.Write.contents c.match-matches_of.errors;
-  runs = elim c.match-matches_of.branch [
-    | in-Ok+in-Some-1 w ↦ rw (w.runner-is, w.input-is, w.output-is, w.errors-is, w.exit-is) (
-        elim w.match-command_of.branch [
-          | in-Some v ↦ rw (v.runner-is, v.input-is, v.output-is, v.errors-is, v.exit-is) (inl (record {
-            command = v.in-Some.command;
-            told = v.run.result;
-            tells = v.tell_new_store.ensures;
-            runs = v.run.ensures;
-            ends = v.of_command.ensures;
-          }))
-          | in-None v ↦ rw (v.runner-is, v.input-is, v.output-is, v.errors-is, v.exit-is) (inr (record {
-            kind = MissingSubcommand;
-            ends = refl;
-            idle = refl;
-            input = refl;
-            silent = tt;
-          }))
-        ])
-    | in-Ok+in-None-1 w ↦ rw (w.runner-is, w.input-is, w.output-is, w.errors-is, w.exit-is) (
-        elim w.match-command_of.branch [
-          | in-Some v ↦ rw (v.runner-is, v.input-is, v.output-is, v.errors-is, v.exit-is) (inl (record {
-            command = v.in-Some.command;
-            told = v.run.result;
-            tells = v.tell_new_store.ensures;
-            runs = v.run.ensures;
-            ends = v.of_command.ensures;
-          }))
-          | in-None v ↦ rw (v.runner-is, v.input-is, v.output-is, v.errors-is, v.exit-is) (inr (record {
-            kind = MissingSubcommand;
-            ends = refl;
-            idle = refl;
-            input = refl;
-            silent = tt;
-          }))
-        ])
-    | in-Err w ↦ rw (w.runner-is, w.input-is, w.output-is, w.errors-is, w.exit-is) (inr (record {
-      kind = kind_of w.in-Err.error;
-      ends = w.show-exit.ensures.ends;
-      idle = refl;
-      input = refl;
-      silent = w.show-exit.ensures.silent;
-    }))
-  ];
-  says = c.tell.ensures;
-  tells = c.status.ensures;
+  ended = c.of_command.result;
+  errors_run = _;
+  runs = inl (record {
+    command = c.in-Some.command;
+    told = c.run-told.result;
+    tells = c.tell_new_store.ensures;
+    runs = c.run-told.ensures;
+    ends = c.of_command.ensures;
+  });
+  says = c.end-2.ensures.says;
+  tells = c.end-2.ensures.status;
 }

@@ -12,19 +12,17 @@ returns-in-Some g c =
     let told = g.F.Sources.told c.args.sources.now in
     let key = c.args.key.now in
     let here = g.S.Shelves.shown c.args.shelves.now in
-    let count = g.S.Shelves.failure_count c.args.shelves.now in
     let written = g.O.Write.contents c.args.output.now in
     let list = g.L.Read.remaining c.args.list in
-    closed told key here here count count list written written _ [] 0 c.in-Some.closing _ c.close.result tt (nothing_done told key here count)
+    closed told key here here list written written _ [] 0 c.in-Some.closing _ c.close.result tt (nothing_done told key here)
     (inr (refl, refl, c.in-Some.ensures list c.open-reader.ensures)) refl (appends_none written) c.close.ensures
 
 pub loop-number-init : goal.loop-number-init
 loop-number-init g c =
-    let here = g.S.Shelves.shown c.args.shelves.now in
-    let count = g.S.Shelves.failure_count c.args.shelves.now in (
+    let here = g.S.Shelves.shown c.args.shelves.now in (
       [],
       record {
-        through = nothing_done (g.F.Sources.told c.args.sources.now) c.args.key.now here count;
+        through = nothing_done (g.F.Sources.told c.args.sources.now) c.args.key.now here;
         read = c.in_default.ensures (g.L.Read.remaining c.args.list) c.open-reader.ensures;
         printed = appends_none (g.O.Write.contents c.args.output.now);
         accepted = refl;
@@ -36,7 +34,7 @@ pub returns-in-Err : goal.returns-in-Err
 returns-in-Err g c =
     let (turns, so) = c.loop-number.invariant in
     let (t, takes, is, front) = c.in-Err.ensures (g.L.Read.remaining c.args.list) (spec.rows_of turns) so.read in
-    broken_off (g.F.Sources.told c.args.sources.now) c.args.key.now _ _ _ _ (g.L.Read.remaining c.args.list) _ _ _ turns _ _ _ t _
+    broken_off (g.F.Sources.told c.args.sources.now) c.args.key.now _ _ (g.L.Read.remaining c.args.list) _ _ _ turns _ _ t _
     (are_first g.L.Read.remaining (g.L.Read.remaining c.args.list) (turns ++ t ∷ []) c.import_next.new.reader
     (subst (λ rows. HasRead g.L.Read.remaining (g.L.Read.remaining c.args.list) rows c.import_next.new.reader) (rows_more turns t) takes.read))
     so.through takes.through so.printed so.count is front
@@ -50,8 +48,8 @@ returns-in-Ok-Over g c =
     let first = g.O.Write.contents c.args.output.now in
     let idle = rw c.in-Ok-Over.field-0-is at (c.in-Ok-Over.ensures list (spec.rows_of turns) so.read) in
     let printed = subst (λ w. Appends first w (spec.lines_from 1 turns)) (sym idle.output) so.printed in
-    closed told key _ _ _ _ list first _ _ turns c.loop-number.number c.in-Ok-Over.closing c.loop-number.accepted c.close-in-Ok-Over.result
-    (are_first g.L.Read.remaining list turns _ so.read) (through_idle told key _ _ _ _ _ _ turns so.through idle.through) (inl (so.count, idle.closing)) so.accepted printed c.close-in-Ok-Over.ensures
+    closed told key _ _ list first _ _ turns c.loop-number.number c.in-Ok-Over.closing c.loop-number.accepted c.close-in-Ok-Over.result
+    (are_first g.L.Read.remaining list turns _ so.read) (through_idle told key _ _ _ turns so.through idle.through) (inl (so.count, idle.closing)) so.accepted printed c.close-in-Ok-Over.ensures
 
 pub loop-number-preserved : goal.loop-number-preserved
 loop-number-preserved g c =
@@ -62,7 +60,7 @@ loop-number-preserved g c =
     let (t, takes, is, more) = rw c.in-Ok-Row.field-0-is at (c.in-Ok-Row.ensures list (spec.rows_of turns) so.read) in (
       turns ++ t ∷ [],
       record {
-        through = through_more told key _ _ _ _ _ _ turns t so.through takes.through;
+        through = through_more told key _ _ _ turns t so.through takes.through;
         read = subst (λ rows. HasRead g.L.Read.remaining list rows c.import_next.new.reader) (rows_more turns t) takes.read;
         printed = lines_more _ _ _ c.loop-number.number turns t so.count so.printed more;
         accepted = c.both-accepted.ensures ∙ ap (λ b. b && c.in-Ok-Row.accepts) so.accepted ∙ ap (λ b. list_all spec.is_accepted turns && b) is ∙ sym (all_more turns t);
@@ -74,5 +72,5 @@ pub returns : goal.returns
 returns g c =
     let (turns, so) = c.loop-number.invariant in
     let n : ℕ = 18446744073709551615 in
-    closed (g.F.Sources.told c.args.sources.now) c.args.key.now _ _ _ _ (g.L.Read.remaining c.args.list) _ _ _ turns n Unread c.loop-number.accepted c.close-2.result
+    closed (g.F.Sources.told c.args.sources.now) c.args.key.now _ _ (g.L.Read.remaining c.args.list) _ _ _ turns n Unread c.loop-number.accepted c.close-2.result
     (are_first g.L.Read.remaining (g.L.Read.remaining c.args.list) turns _ so.read) so.through (inl (omega (arith, so.count), tt)) so.accepted so.printed c.close-2.ensures

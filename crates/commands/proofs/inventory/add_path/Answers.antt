@@ -1,4 +1,3 @@
-use Rattle.std.proofs.Common.{arith}
 use Rattle.std.proofs.lemmas.List.{at_drop_more}
 use Rattle.commands.specs.InventoryLines.{lines_at, lines_of_path}
 use Rattle.commands.specs.Lines.{text_in}
@@ -15,5 +14,4 @@ loop-version-preserved g c =
       between = c.in_ok-add_version.ensures.between;
       gathers = gathered_next (λ w. lines_at w s p) (text_in c.args.lines.now) (λ w. lines_of_path w s p) _ _ _ _ _ _ c.version-item.result _ _
           (at_drop_more (λ rest. rest) vs at c.version-item.result c.loop-version-test.true) c.version-item.is c.loop-version.invariant.gathers c.in_ok-add_version.ensures.adds;
-      no_fewer = omega (arith, c.loop-version.invariant.no_fewer, c.in_ok-add_version.ensures.cause.no_fewer);
     }

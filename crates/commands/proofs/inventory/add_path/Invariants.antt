@@ -1,4 +1,4 @@
-use Rattle.std.proofs.Common.{◌≤◌, drop}
+use Rattle.std.proofs.Common.{drop}
 use Rattle.commands.specs.InventoryLines.{lines_at, lines_of_path}
 use Rattle.commands.specs.Lines.{IsBetweenLines, text_in}
 use Rattle.commands.proofs.Gathered.{Keeps, Gathers}
@@ -12,5 +12,4 @@ invariant-loop-version g l =
       between : IsBetweenLines l.lines;
       gathers : Keeps (s.shown l.fn.shelves) (s.shown l.shelves)
           (Gathers (λ w. lines_at w l.shelf l.path) (text_in l.fn.lines) (λ w. lines_of_path w l.shelf l.path) (text_in l.lines) (drop l.version-index l.version-items));
-      no_fewer : s.failure_count l.fn.shelves ≤ s.failure_count l.shelves;
     }

@@ -1,4 +1,3 @@
-use Rattle.std.proofs.Common.{◌≤◌}
 use Rattle.std.specs.Prelude.{map as each, string_bytes}
 use Rattle.commands.specs.InventoryLines.{lines_of_text, lines_seen}
 use Rattle.commands.specs.Lines.{IsBetweenLines, text_in}
@@ -13,5 +12,4 @@ invariant-loop-text g l =
       between : IsBetweenLines l.lines;
       gathers : Keeps (s.shown l.fn.shelves) (s.shown l.shelves)
           (Gathers (λ w. lines_of_text w l.shelf) (text_in l.fn.lines) (λ w. lines_seen w l.shelf) (text_in l.lines) (each string_bytes l.text-iterator));
-      no_fewer : s.failure_count l.fn.shelves ≤ s.failure_count l.shelves;
     }

@@ -10,7 +10,7 @@ returns-then-is_stop g c = record {
   heard = Stop;
   from = c.is_stop.ensures.0 c.if-is_stop.true;
   tells = refl;
-  through = turns_none _ _;
+  through = turns_none _;
   came = tt;
 }
 
@@ -19,7 +19,7 @@ returns-then-is_ping g c = record {
   heard = Pinged c.ping.ensures.heard;
   from = c.is_ping.ensures.0 c.if-is_ping.true;
   tells = c.ping.ensures.tells;
-  through = turns_read _ _ _ _ c.ping.ensures.reads;
+  through = turns_read _ _ c.ping.ensures.reads;
   came = c.ping.ensures.came;
 }
 
@@ -28,7 +28,7 @@ returns-in-Some g c = record {
   heard = Copied c.in-Some.path.now c.copy.result;
   from = c.in-Some.ensures;
   tells = ap spoken.Outcome c.outcome_of_copy.ensures;
-  through = turns_read _ _ _ _ c.copy.ensures.reads;
+  through = turns_read _ _ c.copy.ensures.reads;
   came = c.copy.ensures.came;
 }
 
@@ -37,7 +37,7 @@ returns-in-Some-order_in g c = record {
   heard = Carried c.in-Some-order_in.order c.carry_out.result;
   from = c.in-Some-order_in.ensures;
   tells = ap spoken.Outcome c.outcome_of.ensures;
-  through = turns_ordered _ _ _ _ _ _ c.carry_out.ensures.does c.carry_out.ensures.cause;
+  through = turns_ordered _ _ _ _ c.carry_out.ensures.does;
   came = tt;
 }
 
@@ -51,6 +51,6 @@ returns-in-None g c = record {
     rw c.in_default.is at c.copy_in.ensures,
   );
   tells = refl;
-  through = turns_none _ _;
+  through = turns_none _;
   came = tt;
 }

@@ -3,7 +3,7 @@ use Rattle.control.proofs.PingLemmas.{pings_counted}
 use Rattle.control.proofs.pinging.ping.Goals as goal
 
 pub returns-in-Ok : goal.returns-in-Ok
-returns-in-Ok g c = pings_counted _ _ g.K.Copies.counted c.args.tally.now c.args.shelves.now c.versions.new.shelves _ _
+returns-in-Ok g c = pings_counted _ g.K.Copies.counted c.args.tally.now c.args.shelves.now c.versions.new.shelves _ _
     c.in-Ok.ensures.reads (refl, c.failures.ensures, c.in-Ok.ensures.counted) c.tell.ensures
 
 pub returns-in-Err : goal.returns-in-Err

@@ -1,10 +1,10 @@
-use Rattle.std.proofs.Common.{arith, ◌∙◌}
+use Rattle.std.proofs.Common.{arith}
 use Rattle.control.proofs.ServeLemmas.{each_below, each_zero, each_peer, each_operator, each_same, each_most, each_goes}
 use Rattle.control.proofs.serve.serve_both.Goals as goal
 use Rattle.control.proofs.serve.serve_both.Goals.{in-Ok-Operator+else-obey_on, in-Ok-Peer, in-Err}
 
 pub loop-init : goal.loop-init
-loop-init g c = record { some = omega arith; all = each_zero _ _ _ _ _ _ _ _ _ _ _ _ _ (omega arith) c.new-tally.ensures }
+loop-init g c = record { some = omega arith; all = each_zero _ _ _ _ _ _ _ _ _ _ _ _ (omega arith) c.new-tally.ensures }
 
 pub loop-preserved : goal.loop-preserved
 loop-preserved g c =
@@ -13,50 +13,50 @@ loop-preserved g c =
     elim c.match-next.branch [
       | in-Ok-Operator+else-obey_on w ↦ rw (w.left-is, w.shelves-is, w.tally-is) (record {
         some = kept.some;
-        all = each_operator _ _ _ _ _ _ _ _ _ _ _ _ _ _ _ _ _ _ kept.all _ (rw w.in-Ok-Operator.field-0-is at w.in-Ok-Operator.ensures) w.obey_on.ensures (omega arith);
+        all = each_operator _ _ _ _ _ _ _ _ _ _ _ _ _ _ _ _ _ kept.all _ (rw w.in-Ok-Operator.field-0-is at w.in-Ok-Operator.ensures) w.obey_on.ensures (omega arith);
       })
       | in-Ok-Peer w ↦ rw (w.left-is, w.shelves-is, w.tally-is, w.count.ensures) (record {
         some = omega (arith, kept.some);
-        all = each_peer _ _ _ _ _ _ _ _ _ _ _ _ _ _ _ _ _ _ kept.all _ _ (rw w.in-Ok-Peer.field-0-is at w.in-Ok-Peer.ensures) w.answer_on.ensures (omega (arith, kept.some, left_is));
+        all = each_peer _ _ _ _ _ _ _ _ _ _ _ _ _ _ _ _ _ kept.all _ _ (rw w.in-Ok-Peer.field-0-is at w.in-Ok-Peer.ensures) w.answer_on.ensures (omega (arith, kept.some, left_is));
       })
       | in-Err w ↦ rw (w.left-is, w.shelves-is, w.tally-is) (record {
         some = omega (arith, kept.some);
-        all = each_same _ _ _ _ _ _ _ _ _ _ _ _ _ _ _ _ _ w.in-Err.ensures kept.all (omega (arith, kept.some, left_is));
+        all = each_same _ _ _ _ _ _ _ _ _ _ _ _ _ _ _ _ w.in-Err.ensures kept.all (omega (arith, kept.some, left_is));
       })
     ]
 
 pub count-requires : goal.count-requires
 count-requires g c =
-    each_below _ _ _ _ _ _ _ _ _ _ _ _ _ _ _ c.loop.invariant.all _ (omega (arith, c.loop.invariant.some, c.if-left-eq0.false, c.ranges.connections))
+    each_below _ _ _ _ _ _ _ _ _ _ _ _ _ _ c.loop.invariant.all _ (omega (arith, c.loop.invariant.some, c.if-left-eq0.false, c.ranges.connections))
 
 pub returns-then-left-eq0-clause-goes : goal.returns-then-left-eq0-clause-goes
-returns-then-left-eq0-clause-goes g c = each_goes _ _ _ _ _ _ _ _ _ _ _ _ _ _ _ _ c.loop.invariant.all (omega arith)
+returns-then-left-eq0-clause-goes g c = each_goes _ _ _ _ _ _ _ _ _ _ _ _ _ _ _ c.loop.invariant.all (omega arith)
 
 pub returns-then-left-eq0-clause-each : goal.returns-then-left-eq0-clause-each
-returns-then-left-eq0-clause-each g c = (each_most _ _ _ _ _ _ _ _ _ _ _ _ _ _ c.args.connections _ c.loop.invariant.all (omega arith)).each
+returns-then-left-eq0-clause-each g c = (each_most _ _ _ _ _ _ _ _ _ _ _ _ _ c.args.connections _ c.loop.invariant.all (omega arith)).each
 
 pub returns-then-left-eq0-clause-reads : goal.returns-then-left-eq0-clause-reads
-returns-then-left-eq0-clause-reads g c = each_most _ _ _ _ _ _ _ _ _ _ _ _ _ _ _ _ c.loop.invariant.all (omega arith)
+returns-then-left-eq0-clause-reads g c = each_most _ _ _ _ _ _ _ _ _ _ _ _ _ _ _ c.loop.invariant.all (omega arith)
 
 pub returns-then-obey_on-clause-goes : goal.returns-then-obey_on-clause-goes
-returns-then-obey_on-clause-goes g c = each_goes _ _ _ _ _ _ _ _ _ _ _ _ _ c.args.connections _ _
-    (each_operator _ _ _ _ _ _ _ _ _ _ _ _ _ _ _ _ _ _ c.loop.invariant.all
+returns-then-obey_on-clause-goes g c = each_goes _ _ _ _ _ _ _ _ _ _ _ _ c.args.connections _ _
+    (each_operator _ _ _ _ _ _ _ _ _ _ _ _ _ _ _ _ _ c.loop.invariant.all
     _ (rw c.in-Ok-Operator.field-0-is at c.in-Ok-Operator.ensures) c.obey_on.ensures (omega (arith, c.loop.invariant.some)))
     (omega arith)
 
 pub returns-then-obey_on-clause-each : goal.returns-then-obey_on-clause-each
-returns-then-obey_on-clause-each g c = (each_operator _ _ _ _ _ _ _ _ _ _ _ _ _ _ _ _ c.args.connections _ c.loop.invariant.all
+returns-then-obey_on-clause-each g c = (each_operator _ _ _ _ _ _ _ _ _ _ _ _ _ _ _ c.args.connections _ c.loop.invariant.all
     _ (rw c.in-Ok-Operator.field-0-is at c.in-Ok-Operator.ensures) c.obey_on.ensures (omega (arith, c.loop.invariant.some))).reads.each
 
 pub returns-then-obey_on-clause-reads : goal.returns-then-obey_on-clause-reads
-returns-then-obey_on-clause-reads g c = (each_operator _ _ _ _ _ _ _ _ _ _ _ _ _ _ _ _ _ _ c.loop.invariant.all
+returns-then-obey_on-clause-reads g c = (each_operator _ _ _ _ _ _ _ _ _ _ _ _ _ _ _ _ _ c.loop.invariant.all
     _ (rw c.in-Ok-Operator.field-0-is at c.in-Ok-Operator.ensures) c.obey_on.ensures (omega (arith, c.loop.invariant.some))).reads
 
 pub returns-clause-goes : goal.returns-clause-goes
-returns-clause-goes g c = each_goes _ _ _ _ _ _ _ _ _ _ _ _ _ _ _ _ c.loop.invariant.all (omega arith)
+returns-clause-goes g c = each_goes _ _ _ _ _ _ _ _ _ _ _ _ _ _ _ c.loop.invariant.all (omega arith)
 
 pub returns-clause-each : goal.returns-clause-each
-returns-clause-each g c = (each_most _ _ _ _ _ _ _ _ _ _ _ _ _ _ c.args.connections _ c.loop.invariant.all (omega arith)).each
+returns-clause-each g c = (each_most _ _ _ _ _ _ _ _ _ _ _ _ _ c.args.connections _ c.loop.invariant.all (omega arith)).each
 
 pub returns-clause-reads : goal.returns-clause-reads
-returns-clause-reads g c = each_most _ _ _ _ _ _ _ _ _ _ _ _ _ _ _ _ c.loop.invariant.all (omega arith)
+returns-clause-reads g c = each_most _ _ _ _ _ _ _ _ _ _ _ _ _ _ _ c.loop.invariant.all (omega arith)

@@ -4,13 +4,13 @@ use Rattle.runner.proofs.CopyLemmas.{only_read}
 use Rattle.runner.proofs.copies.copy_to.Goals as goal
 
 pub returns-then-is_served-clause-reads : goal.returns-then-is_served-clause-reads
-returns-then-is_served-clause-reads g c = read_none _ _
+returns-then-is_served-clause-reads g c = read_none _
 
 pub returns-in-Err-clause-reads : goal.returns-in-Err-clause-reads
-returns-in-Err-clause-reads g c = read_none _ _
+returns-in-Err-clause-reads g c = read_none _
 
 pub returns-clause-reads : goal.returns-clause-reads
-returns-clause-reads g c = only_read _ _ _ _ c.copy_into-told.ensures.copies.reads c.copy_into-told.ensures.cause.no_fewer
+returns-clause-reads g c = only_read _ _ c.copy_into-told.ensures.copies.reads c.copy_into-told.ensures.cause.no_fewer
 
 pub returns-clause-came : goal.returns-clause-came
 returns-clause-came g c = inl (record {

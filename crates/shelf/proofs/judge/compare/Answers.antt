@@ -5,15 +5,18 @@ use Rattle.world.specs.Store.{ReadsAt}
 use Rattle.shelf.specs.Machine.{offered, standing_if}
 use Rattle.shelf.proofs.judge.compare.Goals as goal
 
-pub returns-clause-reads : goal.returns-clause-reads
-returns-clause-reads g c =
+pub returns : goal.returns
+returns g c =
     let shown = g.S.Shelves.shown in
     let p = c.args.publish.now in
     let read = c.compare.ensures.reads in
     let handed : offered p ≡ Some c.in-Some.entry = sym c.entry.ensures ∙ c.in-Some.is in
     record {
-      honest = read.honest;
-      at = λ honest w stands.
-          subst (λ o. ReadsAt (shown c.args.shelves.now) (shown c.compare.new.self) w c.compare.result (standing_if (entry_seen w c.args.shelf.now p.path (version_text p.version)) o)) (sym handed)
-          (read.at honest w stands);
+      reads = record {
+        honest = read.honest;
+        at = λ honest w stands.
+            subst (λ o. ReadsAt (shown c.args.shelves.now) (shown c.compare.new.self) w c.compare.result (standing_if (entry_seen w c.args.shelf.now p.path (version_text p.version)) o)) (sym handed)
+            (read.at honest w stands);
+        cause = read.cause;
+      };
     }

@@ -11,8 +11,8 @@ invariant-loop-event g l =
     let s = g.S.Shelves in
     record {
       runs : Runs (s.shown l.fn.shelves) (s.shown l.shelves) (take l.event-index l.events) l.answers.items;
-      no_fewer : s.failure_count l.fn.shelves ≤ s.failure_count l.shelves;
-      device : MetDevice l.answers.items → GrewOrFull (s.failure_count l.fn.shelves) (s.failure_count l.shelves);
+      no_fewer : (s.shown l.fn.shelves).failures ≤ (s.shown l.shelves).failures;
+      device : MetDevice l.answers.items → GrewOrFull (s.shown l.fn.shelves).failures (s.shown l.shelves).failures;
       count : vec_len l.answers ≡ l.event-index;
       room : length l.events ≤ vec_capacity l.answers;
     }

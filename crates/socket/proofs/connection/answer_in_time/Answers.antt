@@ -6,10 +6,10 @@ use Rattle.socket.proofs.connection.answer_in_time.Goals as goal
 
 pub returns-clause-serves : goal.returns-clause-serves
 returns-clause-serves g c = rw (c.into_inner.ensures, c.into_inner-2.ensures) (first_turned
-    _ _ _ _ _ _ _ _ _ c.new-session.result.framer c.turn-turned.new.self.framer c.turn-turned.result _
+    _ _ _ _ _ _ _ c.new-session.result.framer c.turn-turned.new.self.framer c.turn-turned.result _
     (ap (λ (f : Framing). f.held) c.new-session.ensures)
     (rw (c.new-request.ensures, c.new-reply.ensures) at c.turn-turned.ensures.turns)
     c.end_turn-status.ensures.bytes c.end_turn-status.ensures.ends)
 
 pub returns-clause-isolated : goal.returns-clause-isolated
-returns-clause-isolated g c = alike _ _ _ _ _ _ _ _ (g.met.S.Shelves.sound c.args.shelves.now) _ (returns-clause-serves g c)
+returns-clause-isolated g c = alike _ _ _ _ _ _ (g.met.S.Shelves.sound c.args.shelves.now) _ (returns-clause-serves g c)

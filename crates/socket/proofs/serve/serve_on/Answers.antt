@@ -5,13 +5,13 @@ use Rattle.socket.proofs.serve.serve_on.Goals as goal
 use Rattle.socket.proofs.serve.serve_on.Goals.{in-Ok, in-Err}
 
 pub loop-init : goal.loop-init
-loop-init g c = each_none _ _ _ _ _
+loop-init g c = each_none _ _ _ _
 
 pub loop-preserved : goal.loop-preserved
 loop-preserved g c = elim c.match-accept.branch [
-  | in-Ok w ↦ rw w.shelves-is (each_more _ _ _ _ _ _ _ _ _ _ _ _ c.loop.invariant _ w.in-Ok.ensures
-      (answered g.P.Peer.unread g.P.Peer.written _ _ _ _ w.in-Ok.peer w.answer.new.self _ w.answer.ensures))
-  | in-Err w ↦ rw w.shelves-is (each_same _ _ _ _ _ _ _ _ _ _ w.in-Err.ensures c.loop.invariant)
+  | in-Ok w ↦ rw w.shelves-is (each_more _ _ _ _ _ _ _ _ _ c.loop.invariant _ w.in-Ok.ensures
+      (answered g.P.Peer.unread g.P.Peer.written _ _ w.in-Ok.peer w.answer.new.self _ w.answer.ensures))
+  | in-Err w ↦ rw w.shelves-is (each_same _ _ _ _ _ _ _ _ w.in-Err.ensures c.loop.invariant)
 ]
 
 pub returns-clause-most : goal.returns-clause-most

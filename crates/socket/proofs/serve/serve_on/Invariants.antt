@@ -8,4 +8,4 @@ invariant-loop g l =
     let p = g.P.Peer in
     let waiting = g.L.Listener.waiting in
     AnswersEach p.unread p.written (waiting l.fn.listener) (waiting l.listener) (s.shown l.fn.shelves) (s.shown l.shelves)
-    (s.failure_count l.fn.shelves) (s.failure_count l.shelves) l.counter
+    l.counter

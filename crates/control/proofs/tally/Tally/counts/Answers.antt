@@ -1,4 +1,4 @@
-use Rattle.std.proofs.Common.{append_assoc, rules}
+use Rattle.std.proofs.Common.{append_assoc}
 use Rattle.control.proofs.tally.Tally.counts.Goals as goal
 
 pub returns : goal.returns

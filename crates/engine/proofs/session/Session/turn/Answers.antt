@@ -12,13 +12,13 @@ use Rattle.engine.proofs.session.Session.turn.Goals as goal
 pub returns-in_err-message-clause-turns : goal.returns-in_err-message-clause-turns
 returns-in_err-message-clause-turns g c =
     let returned = err_from_is_err_and c.from_residual.result c.from_residual.ensures.1 in
-    rw (returned.1, returned.2) (turned_unread _ _ _ _ _ _ _ c.args.self.now.reads c.next_message.new.reads _ _ c.in_err-message.ensures refl)
+    rw (returned.1, returned.2) (turned_unread _ _ _ _ _ _ c.args.self.now.reads c.next_message.new.reads _ _ c.in_err-message.ensures refl)
 
 pub returns-in_default-clause-turns : goal.returns-in_default-clause-turns
 returns-in_default-clause-turns g c =
     let x : Exchange = record { message = view c.in-Message.message; outcome = Unserved } in
-    turned_message _ _ _ _ _ _ _ _ _ _ _ _ c.in-Message.message x _ refl (rw c.in-Message.is at c.in_ok-message.ensures)
-    (through_unasked _ _ _ (g.met.S.Shelves.wider c.args.shelves.now)) c.answer_with.ensures.bytes c.answer_with.ensures.turn
+    turned_message _ _ _ _ _ _ _ _ _ _ c.in-Message.message x _ refl (rw c.in-Message.is at c.in_ok-message.ensures)
+    (through_unasked _ _ (g.met.S.Shelves.wider c.args.shelves.now)) c.answer_with.ensures.bytes c.answer_with.ensures.turn
 
 pub returns-in-Ok-clause-turns : goal.returns-in-Ok-clause-turns
 returns-in-Ok-clause-turns g c =
@@ -29,11 +29,10 @@ returns-in-Ok-clause-turns g c =
     let (outcome, is, shown) = c.page_of_answer-page.ensures in
     let x : Exchange = record { message = m; outcome = outcome } in
     let is_one = subst (λ at. IsOutcome at c.step-answer.result outcome) sum is in
-    let step = c.step-answer.ensures in
-    turned_page _ _ _ _ _ _ _ _ _ _ _ _ c.in-Message.message x c.page_of_answer-page.result _ refl (rw c.in-Message.is at c.in_ok-message.ensures)
-    (through_asked _ _ _ _ m asking.ask ask c.step-answer.result outcome is_one step.does step.cause)
+    turned_page _ _ _ _ _ _ _ _ _ _ c.in-Message.message x c.page_of_answer-page.result _ refl (rw c.in-Message.is at c.in_ok-message.ensures)
+    (through_asked _ _ m asking.ask ask c.step-answer.result outcome is_one c.step-answer.ensures.does)
     (shown ∙ ap (λ at. answer_page at (answer_to outcome)) sum) c.answer_with-in-Message.ensures.bytes c.answer_with-in-Message.ensures.turn
 
 pub returns-in-End-clause-turns : goal.returns-in-End-clause-turns
 returns-in-End-clause-turns g c = turned_end
-    _ _ _ _ _ _ c.args.self.now.reads c.next_message.new.reads _ _ c.in-End.closing _ (rw c.in-End.is at c.in_ok-message.ensures) c.close_by.ensures.bytes c.close_by.ensures.turn
+    _ _ _ _ _ _ c.args.self.now.reads c.next_message.new.reads _ c.in-End.closing _ (rw c.in-End.is at c.in_ok-message.ensures) c.close_by.ensures.bytes c.close_by.ensures.turn

@@ -1,16 +1,20 @@
-use Rattle.std.proofs.Common.{sym, ap, ◌∙◌, Ok, Some, None}
+use Rattle.std.proofs.Common.{sym, ap, ◌∙◌, Some, None}
 use Rattle.modver.specs.SemanticVersion.{version_text}
 use Rattle.world.specs.World.{view}
 use Rattle.outline.specs.Outline.{in_outline}
 use Rattle.outline.proofs.Outlined.{reads_outlined}
 use Rattle.outline.proofs.outlines.MapShelvesOutlines.outline.Goals as goal
 
-pub returns-in-None-clause-reads : goal.returns-in-None-clause-reads
-returns-in-None-clause-reads c =
-    reads_outlined _ _ _ (Ok None) (λ w. view w c.args.shelf.now c.args.path.now (version_text c.args.version.now))
-    (λ w told. ap in_outline (sym c.in-None.is ∙ told)) c.in_ok-entry.ensures.reads
+pub returns-in-None : goal.returns-in-None
+returns-in-None c =
+    record {
+      reads = reads_outlined _ _ _ None (λ w. view w c.args.shelf.now c.args.path.now (version_text c.args.version.now))
+          (λ w told. ap in_outline (sym c.in-None.is ∙ told)) c.in_ok-entry.ensures.reads;
+    }
 
-pub returns-in-Some-clause-reads : goal.returns-in-Some-clause-reads
-returns-in-Some-clause-reads c =
-    reads_outlined _ _ _ (Ok (Some c.of.result)) (λ w. view w c.args.shelf.now c.args.path.now (version_text c.args.version.now))
-    (λ w told. ap Some c.of.ensures ∙ ap in_outline (sym c.in-Some.is ∙ told)) c.in_ok-entry.ensures.reads
+pub returns-in-Some : goal.returns-in-Some
+returns-in-Some c =
+    record {
+      reads = reads_outlined _ _ _ (Some c.of.result) (λ w. view w c.args.shelf.now c.args.path.now (version_text c.args.version.now))
+          (λ w told. ap Some c.of.ensures ∙ ap in_outline (sym c.in-Some.is ∙ told)) c.in_ok-entry.ensures.reads;
+    }

@@ -10,7 +10,7 @@ use Rattle.store.proofs.open.SqlShelves+FileStore+FileFrom+T.open_from.Goals as 
 pub returns-in-Ok-clause-begins : goal.returns-in-Ok-clause-begins
 returns-in-Ok-clause-begins g c clean =
     let it = c.in-Ok.ensures.opens clean in
-    (it.world, begins_empty (file_state c.in-Ok.shelves.conn) c.in-Ok.shelves.kept it.world c.in-Ok.ensures.none_kept it.begins)
+    (it.world, begins_empty (file_state c.in-Ok.shelves.conn) c.in-Ok.shelves.kept _ it.world c.in-Ok.ensures.none_kept it.begins)
 
 pub returns-in-Ok-clause-found : goal.returns-in-Ok-clause-found
 returns-in-Ok-clause-found g c clean w held =
@@ -18,7 +18,7 @@ returns-in-Ok-clause-found g c clean w held =
     let new = file_state c.in-Ok.shelves.conn in
     let was = was_clean old new c.in-Ok.ensures.clean clean in
     let opened = c.in_ok-conn.ensures.opened was in
-    begins_empty new c.in-Ok.shelves.kept w c.in-Ok.ensures.none_kept
+    begins_empty new c.in-Ok.shelves.kept _ w c.in-Ok.ensures.none_kept
     (begins_store old new _ opened.1 opened.0.is_open opened.0.clean (c.in_ok-conn.ensures.found was) (c.in-Ok.ensures.opens clean) w held)
 
 pub returns-in-Err-clause-bad : goal.returns-in-Err-clause-bad

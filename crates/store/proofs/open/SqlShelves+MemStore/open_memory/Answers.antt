@@ -7,7 +7,7 @@ use Rattle.store.proofs.open.SqlShelves+MemStore.open_memory.Goals as goal
 pub returns-in-Ok-adopt-clause-begins : goal.returns-in-Ok-adopt-clause-begins
 returns-in-Ok-adopt-clause-begins c =
     let new = state over_memory c.in-Ok-adopt.shelves.conn in
-    begins_empty new c.in-Ok-adopt.shelves.kept _ c.in-Ok-adopt.ensures.none_kept
+    begins_empty new c.in-Ok-adopt.shelves.kept _ _ c.in-Ok-adopt.ensures.none_kept
     (begins_first (state over_memory c.in-Ok.conn) new c.in-Ok.ensures.empty.2 (c.in-Ok-adopt.ensures.opens (memory_is_clean c.in-Ok-adopt.shelves.conn)))
 
 pub returns-clause-refused : goal.returns-clause-refused

@@ -1,22 +1,19 @@
-use Rattle.std.proofs.Common.{◌≡◌, ◌∷◌, map, Ok, Err, rules}
+use Rattle.std.proofs.Common.{◌≡◌, ◌∷◌, map, rules}
 use Rattle.sqlite.specs.Held.{state}
 use Rattle.world.specs.World.{above, first_on}
 use Rattle.store.proofs.StoreLemmas.{reads_along, reads_failed}
 use Rattle.store.proofs.store.SqlShelves.find.Goals as goal
 
-pub returns-in-Ok-clause-reads : goal.returns-in-Ok-clause-reads
-returns-in-Ok-clause-reads g c =
+pub returns : goal.returns
+returns g c =
     let along : map (λ s. s.now) c.as_slice.result.now ≡ c.args.shelf.now ∷ above c.in_ok-group.group = search rules in
-    reads_along _ (state g.S.Store c.group_of.new.self.conn) (state g.S.Store c.find_entry.new.conn) c.group_of.new.self.kept c.args.shelf.now _ _ (Ok c.in-Ok.found)
-    (λ w ss. first_on w ss c.args.path.now c.args.version.now)
-    along c.in_ok-group.ensures.reads c.find_entry.ensures.spares c.in-Ok.ensures.answer
+    record {
+      reads = reads_along _ (state g.S.Store c.group_of.new.self.conn)
+          (state g.S.Store c.find_entry-found.new.conn) c.group_of.new.self.kept c.group_of.new.self.failures _ c.args.shelf.now _ _ c.find_entry-found.result c.counted.result
+          (λ w ss. first_on w ss c.args.path.now c.args.version.now)
+          along c.in_ok-group.ensures.reads c.find_entry-found.ensures.spares c.counted.ensures c.find_entry-found.ensures.answer;
+    }
 
-pub returns-clause-reads : goal.returns-clause-reads
-returns-clause-reads g c =
-    let along : map (λ s. s.now) c.as_slice.result.now ≡ c.args.shelf.now ∷ above c.in_ok-group.group = search rules in
-    reads_along _ (state g.S.Store c.group_of.new.self.conn) (state g.S.Store c.find_entry.new.conn) c.group_of.new.self.kept c.args.shelf.now _ _ (Err c.fault.result)
-    (λ w ss. first_on w ss c.args.path.now c.args.version.now)
-    along c.in_ok-group.ensures.reads c.find_entry.ensures.spares (λ _ _ _. tt)
-
-pub returns-in_err-group-clause-reads : goal.returns-in_err-group-clause-reads
-returns-in_err-group-clause-reads g c = reads_failed _ _ _ c.from_residual.result _ _ c.from_residual.ensures.0 c.in_err-group.ensures.reads
+pub returns-in_err-group : goal.returns-in_err-group
+returns-in_err-group g c =
+    record { reads = reads_failed _ _ _ c.from_residual.result _ _ c.from_residual.ensures c.in_err-group.ensures.reads }

@@ -2,9 +2,9 @@ use Rattle.std.proofs.Common.{◌∙◌, ◌++◌, List, ap, option_copied}
 use Rattle.std.specs.FinMap as map
 use Rattle.modver.specs.SemanticVersion.{SemanticVersion}
 use Rattle.world.specs.Lines.{in_order}
-use Rattle.world.specs.Versions.{by_precedence, named, named_on, versions_of}
+use Rattle.world.specs.Versions.{by_precedence, named, named_on}
 use Rattle.world.specs.Visible.{versions_among}
-use Rattle.world.specs.World.{World, above, group_of}
+use Rattle.world.specs.World.{World, above}
 use Rattle.world.proofs.SeenVersions.{on_chain}
 use Rattle.world.proofs.map_shelves.MapShelves.versions_seen.Goals as goal
 

@@ -6,7 +6,7 @@ use Rattle.world.specs.declared.registry.Registered.TheVariants.{Done}
 use Rattle.world.specs.World.{World, text_cmp, without_key}
 use Rattle.world.specs.Registry.{key_revoked, after_key_revoke}
 use Rattle.world.proofs.Sound.{sound_revoke}
-use Rattle.world.proofs.MapsDone.{done, key_gone}
+use Rattle.world.proofs.MapsDone.{done, key_gone, no_fault}
 use Rattle.world.proofs.map_shelves.MapShelvesShelves.key_revoke.Goals as goal
 
 pub returns-clause-does : goal.returns-clause-does
@@ -22,4 +22,5 @@ returns-clause-does c = record {
       done _ _ w Done (key_revoked w k) (after_key_revoke w k (key_revoked w k)) (sym gone)
       (ap inside c.remove.ensures.rest ∙ ap (λ x. without_key x k) same ∙ ap (λ (r : Registered). after_key_revoke w k r) (sym gone))
       (sound_revoke w k _ is.1);
+  cause = no_fault _ _ _;
 }

@@ -1,7 +1,7 @@
 use Rattle.std.proofs.Common.{◌≡◌, ◌∙◌, ap, sym}
 use Rattle.world.specs.Versions.{versions_of}
 use Rattle.world.specs.World.{World}
-use Rattle.world.proofs.MapsDone.{told_of}
+use Rattle.world.proofs.MapsDone.{told_of, no_fault}
 use Rattle.world.proofs.map_shelves.MapShelvesShelves.versions.Goals as goal
 
 pub invariant_of-self : goal.invariant_of-self
@@ -14,12 +14,15 @@ invariant_of-self c =
     let kept = rw (c.as_str-2.ensures.value, c.as_slice.ensures) at c.keep_copy.ensures in
     kept was c.self.invariant (found ∙ ap (λ (x : World). versions_of x s p) (sym same))
 
-pub returns-clause-reads : goal.returns-clause-reads
-returns-clause-reads c = record {
-  honest = λ h. h;
-  at = λ _ w is.
-      let s = c.args.shelf.now in
-      let p = c.args.path.now in
-      let found = rw c.as_str.ensures.value at c.in_ok-found.ensures.found in
-      told_of c.args.self.now _ w _ (versions_of w s p) (c.self.view_is ∙ c.take_versions.ensures.stays) is (found ∙ ap (λ (x : World). versions_of x s p) is.0);
+pub returns : goal.returns
+returns c = record {
+  reads = record {
+    honest = λ h. h;
+    at = λ _ w is.
+        let s = c.args.shelf.now in
+        let p = c.args.path.now in
+        let found = rw c.as_str.ensures.value at c.in_ok-found.ensures.found in
+        told_of c.args.self.now _ w _ (versions_of w s p) (c.self.view_is ∙ c.take_versions.ensures.stays) is (found ∙ ap (λ (x : World). versions_of x s p) is.0);
+    cause = no_fault _ _ _;
+  };
 }

@@ -11,7 +11,7 @@ use world::standing::Standing;
 
 /// Returns the outcome of the checks of a publish, in their order. The checks take the right of the key (None for an unknown key),
 /// the go.mod as it was read, how the entry compares with what the shelf sees, and how many versions of the path stand on the
-/// shelf. It needs a go.mod that was read; [`refusal`] has the checks that come before that. Allocates nothing.
+/// shelf. It needs a go.mod that was read; [`request_refusal`] has the checks that come before that. Allocates nothing.
 pub fn decide(
     publish: &Publish,
     right: Option<Right>,
@@ -21,7 +21,7 @@ pub fn decide(
 ) -> Decision
     ensures { result ≡ spec.decided publish.now right (Some gomod.now) standing count }
 {
-    if let Some(refused) = refusal(publish, right) {
+    if let Some(refused) = request_refusal(publish, right) {
         return refused;
     }
     if let Some(refused) = gomod_refusal(publish, gomod) {
@@ -54,17 +54,24 @@ fn told(misfit: Misfit) -> Decision
 
 /// Returns the answer of the first check that fails among those of the publish alone, or None if all pass. Allocates nothing.
 /// None of these checks looks at a store, so a publish by a reader reads no entry and no count.
-pub fn refusal(publish: &Publish, right: Option<Right>) -> Option<Decision>
+pub fn request_refusal(publish: &Publish, right: Option<Right>) -> Option<Decision>
     ensures { result ≡ spec.first_failing (spec.request_checks publish.now right) }
 {
     well_formed(publish);
     let Some(right) = right else {
         return Some(Decision::NotFound);
     };
-    if right == Right::Reads {
+    if !may_publish(right) {
         return Some(Decision::Forbidden);
     }
     entry_refusal(publish)
+}
+
+/// Whether a key with this right may publish.
+fn may_publish(right: Right) -> bool
+    ensures { result ≡ spec.may_publish (Some right) }
+{
+    right == Right::Publishes
 }
 
 /// Returns the answer of the first check of the entry and of the given time that fails, or None if all pass.

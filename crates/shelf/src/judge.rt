@@ -5,7 +5,7 @@ ghost use Rattle.shelf.specs.Machine.{decision, standing_of, shelf_decision};
 ghost use Rattle.world.specs.Store.{Reads};
 
 use crate::ask::Publish;
-use crate::decide::{decide_by_shelf, gomod_refusal, refusal};
+use crate::decide::{decide_by_shelf, gomod_refusal, request_refusal};
 use crate::reply::Decision;
 use std::alloc::{AllocError, Global};
 use world::entry::{Holder, Right};
@@ -41,7 +41,7 @@ fn own_refusal(
 ) -> Result<Option<Decision>, AllocError>
     ensures { IfOk result (λ r. r ≡ spec.own_refusal publish.now right) }
 {
-    if let Some(refused) = refusal(publish, Some(right)) {
+    if let Some(refused) = request_refusal(publish, Some(right)) {
         return Ok(Some(refused));
     }
     match read_gomod(alloc, publish)? {

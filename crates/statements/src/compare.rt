@@ -1,4 +1,4 @@
-//! Compares a given entry with the one in the tables. The stored zip is compared piece by piece and never joined in memory.
+//! Compares the bytes of a given entry with those in the tables. The stored zip is compared piece by piece and never joined in memory.
 
 ghost use Rattle.std.specs.Prelude.{◌≡◌, map as each, option_map, IfOk};
 ghost use Rattle.sqlite.specs.Held.{state};
@@ -11,23 +11,13 @@ use crate::entries::row_seen;
 use crate::pieces::has_zip;
 use sqlite::{Alter, Connection, Error};
 use world::entry::{EntryRef, Heading};
-use world::standing::{Standing, standing_to};
+use world::standing::{Standing, is_same_time};
 
 /// Reports whether an entry has the go.mod and the time of a heading.
 fn has_heading(heading: &Heading, entry: &EntryRef) -> bool
     ensures { result ≡ same_heading heading.now entry.now }
 {
-    let there = EntryRef {
-        gomod: heading.gomod.as_slice(),
-        zip: &[],
-        time: heading.time,
-    };
-    let here = EntryRef {
-        gomod: entry.gomod,
-        zip: &[],
-        time: entry.time,
-    };
-    standing_to(&there, &here) == Standing::Same
+    heading.gomod.as_slice() == entry.gomod && is_same_time(heading.time, entry.time)
 }
 
 /// Returns how an entry compares with that of the version on the first of these shelves that has it: `Same` or `Other`, or

@@ -1,4 +1,5 @@
-//! The zip of a version in pieces, a row of `piece` for each. All pieces have one size, but the last may be shorter.
+//! The zip of a version in pieces, a row of `piece` for each, which are written, read, and compared with other bytes. All pieces have
+//! one size, but the last may be shorter.
 
 ghost use Rattle.std.specs.Prelude.{◌≡◌, ◌≤◌, [], ◌∷◌, pos, bytes_eq, IfOk, OnOk, is_ok, IsTrue};
 ghost use Rattle.sqlite.specs.declared.types.Value.TheVariants.{Int, Blob};

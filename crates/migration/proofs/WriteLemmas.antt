@@ -45,7 +45,7 @@ written format old read start last true fills clean late ready begun =
 pub migrates_nothing : (format : Format) (s f : State) → Migrates format s s f f false
 migrates_nothing format s f = record {
   clean = omega arith;
-  reads = λ ready. record { left = λ _ db may. may; kept = λ clean. inl (unchanged_itself s (ready clean).0); same = λ clean _. unchanged_itself s (ready clean).0 };
+  reads = λ ready. record { left = λ _ db may. may; outcome = λ clean. inl (unchanged_itself s (ready clean).0); same = λ clean _. unchanged_itself s (ready clean).0 };
   clean_too = omega arith;
   at = λ clean good ready opened stands. (
     only_common,
@@ -53,7 +53,7 @@ migrates_nothing format s f = record {
     record {
       world = λ holds. holds;
       left = λ _ _ only db may. let it = only db may in (it.0, it.1, inl it.2);
-      kept = λ done. absurd (true≢false (sym done));
+      alone = λ done. absurd (true≢false (sym done));
       failed = λ _ _ _. inr (λ db may. may);
     },
   );

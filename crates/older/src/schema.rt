@@ -7,7 +7,7 @@ ghost use Rattle.older.specs.Schemas.{shelf_table, keyless_table, body_table, sc
 use sqlite_schema::schema::{Index, Kind, Schema, Table};
 use tables::schema::{
     are_name_indexes, are_place_indexes, has_first_key, has_no_terms, has_version_key,
-    is_access_table, is_bare, is_column, is_index, is_meta_table, is_piece_table, is_place,
+    is_access_table, is_bare, is_column, is_index, is_meta_table, is_piece_table, is_position,
     is_reference, is_version_table,
 };
 
@@ -28,7 +28,7 @@ fn is_shelf_table(table: &Table) -> bool
     is_shaped
         && is_bare(table, "shelf", 2)
         && table.key.is_none()
-        && is_place(table.primary.as_slice(), 1)
+        && is_position(table.primary.as_slice(), 1)
         && has_first_key(table.uniques.as_slice(), table.orders.as_slice())
         && has_no_terms(&table.checks)
         && table.references.is_empty()
@@ -80,7 +80,7 @@ fn is_keyless_table(table: &Table) -> bool
     is_shaped
         && is_bare(table, "version", 6)
         && table.key == Some(0)
-        && is_place(table.primary.as_slice(), 0)
+        && is_position(table.primary.as_slice(), 0)
         && has_version_key(table.uniques.as_slice(), table.orders.as_slice())
         && has_no_terms(&table.checks)
         && is_reference(table.references.as_slice(), 2, "shelf", "name")
@@ -98,7 +98,7 @@ fn is_body_table(table: &Table) -> bool
     is_shaped
         && is_bare(table, "body", 8)
         && table.key == Some(0)
-        && is_place(table.primary.as_slice(), 0)
+        && is_position(table.primary.as_slice(), 0)
         && table.uniques.is_empty()
         && table.orders.is_empty()
         && has_no_terms(&table.checks)

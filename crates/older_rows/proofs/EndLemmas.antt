@@ -23,7 +23,7 @@ use Rattle.tables.specs.Means.{Means as Today, StandFor, Tabulates, IsShelf as I
 use Rattle.tables.specs.Schema.{store_schema, piece_table}
 use Rattle.tables.proofs.Ascending.{has_permuted}
 use Rattle.tables.proofs.OneWorld.{same_got, texts_same, rights_same}
-use Rattle.tables.proofs.RowFits.{time_told}
+use Rattle.tables.proofs.RowFits.{time_read}
 use Rattle.tables.proofs.WorldFits.{world_fits}
 use Rattle.tables.proofs.WorldOf.{world_of, fit_means, fit_world}
 use Rattle.statements.specs.Rows.{IsElseSame, version_read, piece_read}
@@ -93,7 +93,7 @@ module _ (old db after : Trees) (was : HasEntries Two old db) (sound : IsSound s
   one_shelf : (row : Row) (x y : List ℕ × Option (List ℕ)) → IsShelfToday row x → IsShelfToday row y → y ≡ x
   one_shelf row x y one two =
       let name = texts_same (column row 1) x.0 y.0 one.0 two.0 in
-      let parent : y.1 ≡ x.1 = time_told (column row 2) y.1 two.1 ∙ sym (time_told (column row 2) x.1 one.1) in
+      let parent : y.1 ≡ x.1 = time_read (column row 2) y.1 two.1 ∙ sym (time_read (column row 2) x.1 one.1) in
       λ i. (name i, parent i)
 
   one_access : (row : Row) (x y : List ℕ × Holder) → IsAccess row x → IsAccess row y → y ≡ x

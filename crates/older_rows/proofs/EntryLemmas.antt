@@ -48,7 +48,7 @@ use Rattle.older_rows.specs.Entries.{ShowsEntry, ShowsZip, ShowsKeys, IsFitRow, 
 use Rattle.older_rows.specs.Visits.{Visits}
 
 abbrev pub Puts : EntryRows → Row → Trees → EntryRows → Trees → Type 0
-Puts kept row db next after = (next.format ≡ kept.format) × PutsEntry kept.format kept.last kept.many row db after next.last next.many
+Puts so_far row db next after = (next.format ≡ so_far.format) × PutsEntry so_far.format so_far.last so_far.many row db after next.last next.many
 
 -- ---- places
 
@@ -105,14 +105,14 @@ abbrev Keeps : EntryRows → Row → EntryRows → Type 0
 Keeps x row next = (next.last ≡ Some (place_in row)) × (next.many ≡ run_with x.last x.many (place_in row))
 
 -- rows that are visited pass the test of a walk: each shows a place that may follow the last one
-passed : (kept : EntryRows) (db : Trees) (rows : List Row) (end : EntryRows) (after : Trees) → Visits Puts kept db rows end after → Pass Fits Keeps kept rows end
-passed kept db [] end after same = same.0
-passed kept db (row ∷ rows) end after visited =
+passed : (so_far : EntryRows) (db : Trees) (rows : List Row) (end : EntryRows) (after : Trees) → Visits Puts so_far db rows end after → Pass Fits Keeps so_far rows end
+passed so_far db [] end after same = same.0
+passed so_far db (row ∷ rows) end after visited =
     let it = visited.2.1 in
     let at = sym (place_is row it.place it.entry it.fits.shows) in (
-      (placed row it.place it.entry it.fits.shows, subst (MayFollow kept.last kept.many) at it.follows),
+      (placed row it.place it.entry it.fits.shows, subst (MayFollow so_far.last so_far.many) at it.follows),
       visited.0,
-      (it.last_is ∙ ap Some at, it.many_is ∙ ap (run_with kept.last kept.many) at),
+      (it.last_is ∙ ap Some at, it.many_is ∙ ap (run_with so_far.last so_far.many) at),
       passed visited.0 visited.1 rows end after visited.3,
     )
 
@@ -241,15 +241,22 @@ module _ (format : Format) (x : World) (db after : Trees) (done : List Row) (row
   is_fresh : are_fresh (db 6) (new ∷ []) ≡ true
   is_fresh = ap (λ n. are_fresh (db 6) (version_row n q e ∷ [])) (sym adds.number) ∙ adds.added.version.fresh
 
-  kept_row : (r : Row) → Has (db 6) r → Has (after 6) r
-  kept_row r there = subst (λ l. Has l r) (sym rows_are) (put_all_keeps (new ∷ []) (db 6) r is_fresh there)
+  stays_there : (r : Row) → Has (db 6) r → Has (after 6) r
+  stays_there r there = subst (λ l. Has l r) (sym rows_are) (put_all_keeps (new ∷ []) (db 6) r is_fresh there)
 
   new_row : Has (after 6) new
   new_row = subst (λ l. Has l new) (sym rows_are) (put_all_adds (new ∷ []) (db 6) new is_fresh (inl refl))
 
   still : (r : Row) → IsIn format x db r → IsIn format next after r
   still r it =
-      record { id = it.id; place = it.place; entry = it.entry; fits = it.fits; holds = put_keeps places_total places_exact x.entries q e free it.place it.entry it.holds; there = kept_row _ it.there }
+      record {
+        id = it.id;
+        place = it.place;
+        entry = it.entry;
+        fits = it.fits;
+        holds = put_keeps places_total places_exact x.entries q e free it.place it.entry it.holds;
+        there = stays_there _ it.there;
+      }
 
   own : IsIn format next after row
   own = record { id = id; place = q; entry = e; fits = fits; holds = get_put places_total x.entries q e; there = new_row }
@@ -301,9 +308,9 @@ pub record Entered (format : Format) (x y : World) (after : Trees) (rows : List 
 
 -- if the rows that remain are visited, the tables come to stand for a world with the entries of all rows
 entered : (format : Format) (done rows : List Row) → Rises (done ++ rows) → ((s p : List ℕ) → many_on s p (done ++ rows) ≤ version_limit)
-    → (kept end : EntryRows) (db after : Trees) → kept.format ≡ format → Visits Puts kept db rows end after
+    → (so_far end : EntryRows) (db after : Trees) → so_far.format ≡ format → Visits Puts so_far db rows end after
     → (x : World) → IsWorld x → StandFor db x → Shows format x db done → (y : World) × Entered format x y after (done ++ rows)
-entered format done [] up small kept end db after own same x is stand shows =
+entered format done [] up small so_far end db after own same x is stand shows =
     let all = append-nil done in (
       x,
       record {
@@ -314,7 +321,7 @@ entered format done [] up small kept end db after own same x is stand shows =
         shows = subst (λ l. Shows format x after l) (sym all) (subst (λ t. Shows format x t done) (sym same.1) shows);
       },
     )
-entered format done (row ∷ rows) up small kept end db after own visited x is stand shows =
+entered format done (row ∷ rows) up small so_far end db after own visited x is stand shows =
     let put = visited.2.1 in
     let fits : IsFitRow format row put.id put.place put.entry = subst (λ f. IsFitRow f row put.id put.place put.entry) own put.fits in
     let mid = visited.1 in

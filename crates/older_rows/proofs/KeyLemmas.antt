@@ -22,20 +22,20 @@ use Rattle.older_rows.specs.Visits.{Visits}
 use Rattle.older_rows.specs.Registry.{IsGoodKey, IsKeyRow, HasShelves, HasRegistry, PutsKeys}
 use Rattle.older_rows.proofs.ListedLemmas.{key_columns}
 
--- what a visit of a row of `access` does, whatever is kept
+-- what a visit of a row of `access` does, whatever was noted
 abbrev pub Puts : {X : Type 0} → X → Row → Trees → X → Trees → Type 0
-Puts kept row db next after = IsKeyRow row db after
+Puts so_far row db next after = IsKeyRow row db after
 
-passed : {X : Type 0} (kept : X) (db : Trees) (rows : List Row) (end : X) (after : Trees)
-    → Visits Puts kept db rows end after → Pass (λ _ row. IsKeyShown row) (λ t row u. PutsKey row t u) db rows after
-passed kept db [] end after same = same.1
-passed kept db (r ∷ rows) end after visited =
+passed : {X : Type 0} (so_far : X) (db : Trees) (rows : List Row) (end : X) (after : Trees)
+    → Visits Puts so_far db rows end after → Pass (λ _ row. IsKeyShown row) (λ t row u. PutsKey row t u) db rows after
+passed so_far db [] end after same = same.1
+passed so_far db (r ∷ rows) end after visited =
     let it = visited.2 in ((it.0.0, it.0.1), visited.1, it.1, passed visited.0 visited.1 rows end after visited.3)
 
-good : {X : Type 0} (kept : X) (db : Trees) (rows : List Row) (end : X) (after : Trees) → Visits Puts kept db rows end after → (row : Row) → Has rows row → IsGoodKey row
-good kept db [] end after same row there = absurd there
-good kept db (r ∷ rows) end after visited row (inl here) = subst IsGoodKey (sym here) visited.2.0
-good kept db (r ∷ rows) end after visited row (inr later) = good visited.0 visited.1 rows end after visited.3 row later
+good : {X : Type 0} (so_far : X) (db : Trees) (rows : List Row) (end : X) (after : Trees) → Visits Puts so_far db rows end after → (row : Row) → Has rows row → IsGoodKey row
+good so_far db [] end after same row there = absurd there
+good so_far db (r ∷ rows) end after visited row (inl here) = subst IsGoodKey (sym here) visited.2.0
+good so_far db (r ∷ rows) end after visited row (inr later) = good visited.0 visited.1 rows end after visited.3 row later
 
 abbrev IsAmong : List Row → List ℕ × Holder → Type 0
 IsAmong rows it = IsOfAny rows (λ row. ShowsKey row it)
@@ -73,9 +73,9 @@ module _ (x y : World) (rows : List Row) (adds : AddsKeys (IsAmong rows) x y) (i
     few = λ s p. subst (λ m. map.len (map.retain_keys m (λ q. bytes_eq q.shelf s && bytes_eq q.path p)) ≤ version_limit) (sym adds.entries) (is.few s p);
   }
 
-module _ {X : Type 0} (old : Trees) (kept end : X) (db after : Trees) (rows : List Row) (found : AreFound (old 4) [] key_columns [] rows) (visited : Visits Puts kept db rows end after) where
+module _ {X : Type 0} (old : Trees) (so_far end : X) (db after : Trees) (rows : List Row) (found : AreFound (old 4) [] key_columns [] rows) (visited : Visits Puts so_far db rows end after) where
   each_good : (row : Row) → Has rows row → IsGoodKey row
-  each_good = good kept db rows end after visited
+  each_good = good so_far db rows end after visited
 
   -- the old rows of `access` are the keys of y
   access_is : (x y : World) → AddsKeys (IsAmong rows) x y → x.keys ≡ map.empty → IsWorld x → Tabulates IsAccess (old 4) (λ it. map.get y.keys it.0 ≡ Some it.1)
@@ -94,7 +94,7 @@ module _ {X : Type 0} (old : Trees) (kept end : X) (db after : Trees) (rows : Li
   -- a walk over `access` adds the old keys to a world with the old shelves
   pub puts_keys : PutsKeys old db after
   puts_keys was =
-      let passes = keys_passed db after was.world rows was.stands (passed kept db rows end after visited) in
+      let passes = keys_passed db after was.world rows was.stands (passed so_far db rows end after visited) in
       let y = passes.0 in
       let adds = put_all was.world y rows passes.1 in
       record {

@@ -23,9 +23,9 @@ use Rattle.older_rows.specs.Registry.{IsCommonRow, IsTeamRow, HasShelves, PutsSh
 use Rattle.older_rows.proofs.ListedLemmas.{shelf_columns}
 
 abbrev pub Puts : ShelfRows → Row → Trees → ShelfRows → Trees → Type 0
-Puts kept row db next after =
-    (IsCommonRow row db after × ((next.names ≡ kept.names) × (next.has_common ≡ true)))
-    ⊎ (IsTeamRow kept.names row db after next.names × (next.has_common ≡ kept.has_common))
+Puts so_far row db next after =
+    (IsCommonRow row db after × ((next.names ≡ so_far.names) × (next.has_common ≡ true)))
+    ⊎ (IsTeamRow so_far.names row db after next.names × (next.has_common ≡ so_far.has_common))
 
 -- ---- a world of common and these teams
 
@@ -42,15 +42,15 @@ record HasTeams (names : Names) (x : World) : Type 0 where
 abbrev Shelf : Type 0
 Shelf = List ℕ × Option (List ℕ)
 
-shelf_parts : (a b : Shelf) → a ≡ b → (a.0 ≡ b.0) × (a.1 ≡ b.1)
-shelf_parts a b e = (ap (λ (p : Shelf). p.0) e, ap (λ (p : Shelf). p.1) e)
+shelf_fields : (a b : Shelf) → a ≡ b → (a.0 ≡ b.0) × (a.1 ≡ b.1)
+shelf_fields a b e = (ap (λ (p : Shelf). p.0) e, ap (λ (p : Shelf). p.1) e)
 
 -- a world of `common` alone has no teams
 no_teams : (names : Names) → names ≡ set.empty → HasTeams names only_common
 no_teams names none = record {
   is = only_common_stands;
   each = λ s o at. elim (put_splits texts_total texts_exact map.empty common None (s, o) at) [
-    | inl here ↦ inl (shelf_parts (s, o) (common, None) here)
+    | inl here ↦ inl (shelf_fields (s, o) (common, None) here)
     | inr before ↦ absurd (none_in_empty text_cmp s o before)
   ];
   noted = λ s there. absurd (no_text s (ap (λ (n : Names). set.contains n s) (sym none) ∙ there));
@@ -79,7 +79,7 @@ module _ (names : Names) (x : World) (has : HasTeams names x) (name : List ℕ) 
     is = shelf_stands x name (Some common) (ap is_some free) has.is good (λ g same. let e : common ≡ g = cc same in subst (λ t. map.get x.shelves t ≡ Some None) e has.is.has_common);
     each = λ s o at. elim (put_splits texts_total texts_exact x.shelves name (Some common) (s, o) at) [
       | inl here
-          ↦ (let it = shelf_parts (s, o) (name, Some common) here in inr (ap (λ (n : Names). set.contains n s) is ∙ (ap (set.contains (set.insert names name)) it.0 ∙ text_put names name), it.1))
+          ↦ (let it = shelf_fields (s, o) (name, Some common) here in inr (ap (λ (n : Names). set.contains n s) is ∙ (ap (set.contains (set.insert names name)) it.0 ∙ text_put names name), it.1))
       | inr before ↦ elim (has.each s o before) [
         | inl top ↦ inl top
         | inr team ↦ inr (ap (λ (n : Names). set.contains n s) is ∙ still names name s team.0, team.1)
@@ -96,38 +96,38 @@ module _ (names : Names) (x : World) (has : HasTeams names x) (name : List ℕ) 
 -- ---- the rows, one after another
 
 -- a team that is noted stays noted
-grown : (kept : ShelfRows) (db : Trees) (rows : List Row) (end : ShelfRows) (after : Trees)
-    → Visits Puts kept db rows end after → (s : List ℕ) → set.contains kept.names s ≡ true → set.contains end.names s ≡ true
-grown kept db [] end after same s there = ap (λ (x : ShelfRows). set.contains x.names s) same.0 ∙ there
-grown kept db (r ∷ rows) end after visited s there = grown visited.0 visited.1 rows end after visited.3 s (elim visited.2 [
+grown : (so_far : ShelfRows) (db : Trees) (rows : List Row) (end : ShelfRows) (after : Trees)
+    → Visits Puts so_far db rows end after → (s : List ℕ) → set.contains so_far.names s ≡ true → set.contains end.names s ≡ true
+grown so_far db [] end after same s there = ap (λ (x : ShelfRows). set.contains x.names s) same.0 ∙ there
+grown so_far db (r ∷ rows) end after visited s there = grown visited.0 visited.1 rows end after visited.3 s (elim visited.2 [
   | inl top ↦ ap (λ (n : Names). set.contains n s) top.1.0 ∙ there
-  | inr team ↦ ap (λ (n : Names). set.contains n s) team.0.noted ∙ still kept.names team.0.name s there
+  | inr team ↦ ap (λ (n : Names). set.contains n s) team.0.noted ∙ still so_far.names team.0.name s there
 ])
 
 -- the tables stand for a world of the teams that have come
-stood : (kept : ShelfRows) (db : Trees) (rows : List Row) (end : ShelfRows) (after : Trees) → Visits Puts kept db rows end after → (x : World) → HasTeams kept.names x → StandFor db x
+stood : (so_far : ShelfRows) (db : Trees) (rows : List Row) (end : ShelfRows) (after : Trees) → Visits Puts so_far db rows end after → (x : World) → HasTeams so_far.names x → StandFor db x
     → (y : World) × HasTeams end.names y × StandFor after y
-stood kept db [] end after same x has stand = (x, subst (λ (k : ShelfRows). HasTeams k.names x) (sym same.0) has, subst (λ t. StandFor t x) (sym same.1) stand)
-stood kept db (r ∷ rows) end after visited x has stand = elim visited.2 [
+stood so_far db [] end after same x has stand = (x, subst (λ (k : ShelfRows). HasTeams k.names x) (sym same.0) has, subst (λ t. StandFor t x) (sym same.1) stand)
+stood so_far db (r ∷ rows) end after visited x has stand = elim visited.2 [
   | inl top ↦ stood visited.0 visited.1 rows end after visited.3 x (subst (λ (n : Names). HasTeams n x) (sym top.1.0) has) (subst (λ t. StandFor t x) (sym top.0.1) stand)
   | inr team ↦
       let it = team.0 in
-      stood visited.0 visited.1 rows end after visited.3 (with_shelf x it.name (Some common)) (one_team kept.names x has it.name it.good it.new visited.0.names it.noted)
-      (it.puts x stand (free kept.names x has it.name it.good it.new))
+      stood visited.0 visited.1 rows end after visited.3 (with_shelf x it.name (Some common)) (one_team so_far.names x has it.name it.good it.new visited.0.names it.noted)
+      (it.puts x stand (free so_far.names x has it.name it.good it.new))
 ]
 
 -- a row is of common, or of a team that is noted at the end
 abbrev IsNoted : Names → Row → Type 0
 IsNoted names row = (column row 0 ≡ Text common) ⊎ ((name : List ℕ) × (column row 0 ≡ Text name) × (is_team_name name ≡ true) × (set.contains names name ≡ true))
 
-noted_all : (kept : ShelfRows) (db : Trees) (rows : List Row) (end : ShelfRows) (after : Trees) → Visits Puts kept db rows end after → (row : Row) → Has rows row → IsNoted end.names row
-noted_all kept db [] end after same row there = absurd there
-noted_all kept db (r ∷ rows) end after visited row (inr later) = noted_all visited.0 visited.1 rows end after visited.3 row later
-noted_all kept db (r ∷ rows) end after visited row (inl here) = subst (IsNoted end.names) (sym here) (elim visited.2 [
+noted_all : (so_far : ShelfRows) (db : Trees) (rows : List Row) (end : ShelfRows) (after : Trees) → Visits Puts so_far db rows end after → (row : Row) → Has rows row → IsNoted end.names row
+noted_all so_far db [] end after same row there = absurd there
+noted_all so_far db (r ∷ rows) end after visited row (inr later) = noted_all visited.0 visited.1 rows end after visited.3 row later
+noted_all so_far db (r ∷ rows) end after visited row (inl here) = subst (IsNoted end.names) (sym here) (elim visited.2 [
   | inl top ↦ inl top.0.0
   | inr team ↦
       let it = team.0 in
-      inr (it.name, it.shows, it.good, grown visited.0 visited.1 rows end after visited.3 it.name (ap (λ (n : Names). set.contains n it.name) it.noted ∙ text_put kept.names it.name))
+      inr (it.name, it.shows, it.good, grown visited.0 visited.1 rows end after visited.3 it.name (ap (λ (n : Names). set.contains n it.name) it.noted ∙ text_put so_far.names it.name))
 ])
 
 -- a row shows this name
@@ -135,24 +135,24 @@ abbrev HasRow : List Row → List ℕ → Type 0
 HasRow rows s = (row : Row) × Has rows row × (column row 0 ≡ Text s)
 
 -- a team that is noted at the end was noted at the start, or a row shows it
-came : (kept : ShelfRows) (db : Trees) (rows : List Row) (end : ShelfRows) (after : Trees) → Visits Puts kept db rows end after
-    → (s : List ℕ) → set.contains end.names s ≡ true → (set.contains kept.names s ≡ true) ⊎ HasRow rows s
-came kept db [] end after same s there = inl (ap (λ (x : ShelfRows). set.contains x.names s) (sym same.0) ∙ there)
-came kept db (r ∷ rows) end after visited s there = elim (came visited.0 visited.1 rows end after visited.3 s there) [
+came : (so_far : ShelfRows) (db : Trees) (rows : List Row) (end : ShelfRows) (after : Trees) → Visits Puts so_far db rows end after
+    → (s : List ℕ) → set.contains end.names s ≡ true → (set.contains so_far.names s ≡ true) ⊎ HasRow rows s
+came so_far db [] end after same s there = inl (ap (λ (x : ShelfRows). set.contains x.names s) (sym same.0) ∙ there)
+came so_far db (r ∷ rows) end after visited s there = elim (came visited.0 visited.1 rows end after visited.3 s there) [
   | inr later ↦ inr (later.0, inr later.1, later.2)
   | inl noted ↦ elim visited.2 [
     | inl top ↦ inl (ap (λ (n : Names). set.contains n s) (sym top.1.0) ∙ noted)
-    | inr team ↦ elim (text_splits kept.names team.0.name s (ap (λ (n : Names). set.contains n s) (sym team.0.noted) ∙ noted)) [
+    | inr team ↦ elim (text_splits so_far.names team.0.name s (ap (λ (n : Names). set.contains n s) (sym team.0.noted) ∙ noted)) [
       | inl here ↦ inr (r, inl refl, team.0.shows ∙ ap Text (sym here))
       | inr before ↦ inl before
     ]
   ]
 ]
 
-top_came : (kept : ShelfRows) (db : Trees) (rows : List Row) (end : ShelfRows) (after : Trees)
-    → Visits Puts kept db rows end after → end.has_common ≡ true → (kept.has_common ≡ true) ⊎ HasRow rows common
-top_came kept db [] end after same has = inl (ap (λ (x : ShelfRows). x.has_common) (sym same.0) ∙ has)
-top_came kept db (r ∷ rows) end after visited has = elim (top_came visited.0 visited.1 rows end after visited.3 has) [
+top_came : (so_far : ShelfRows) (db : Trees) (rows : List Row) (end : ShelfRows) (after : Trees)
+    → Visits Puts so_far db rows end after → end.has_common ≡ true → (so_far.has_common ≡ true) ⊎ HasRow rows common
+top_came so_far db [] end after same has = inl (ap (λ (x : ShelfRows). x.has_common) (sym same.0) ∙ has)
+top_came so_far db (r ∷ rows) end after visited has = elim (top_came visited.0 visited.1 rows end after visited.3 has) [
   | inr later ↦ inr (later.0, inr later.1, later.2)
   | inl noted ↦ elim visited.2 [
     | inl top ↦ inr (r, inl refl, top.0.0)
@@ -170,10 +170,10 @@ apart false h = refl
 parent_common : (s : List ℕ) → is_team_name s ≡ true → parent_of s ≡ Some common
 parent_common s good = ap (λ b. cond b None (Some common)) (apart (bytes_eq s common) (and_parts _ _ good).1)
 
-module _ (old : Trees) (kept end : ShelfRows) (db after : Trees) (rows : List Row) (new : kept.names ≡ set.empty) (unseen : kept.has_common ≡ false) (has : end.has_common ≡ true)
-    (found : AreFound (old 2) [] shelf_columns [] rows) (visited : Visits Puts kept db rows end after) where
+module _ (old : Trees) (so_far end : ShelfRows) (db after : Trees) (rows : List Row) (new : so_far.names ≡ set.empty) (unseen : so_far.has_common ≡ false) (has : end.has_common ≡ true)
+    (found : AreFound (old 2) [] shelf_columns [] rows) (visited : Visits Puts so_far db rows end after) where
   of_row : (y : World) → HasTeams end.names y → (row : Row) → Has (old 2) row → (it : List ℕ × Option (List ℕ)) × IsShelf row it × (map.get y.shelves it.0 ≡ Some it.1)
-  of_row y teams row there = elim (noted_all kept db rows end after visited _ (found.complete row there refl)) [
+  of_row y teams row there = elim (noted_all so_far db rows end after visited _ (found.complete row there refl)) [
     | inl top ↦ ((common, None), (top, refl), teams.is.has_common)
     | inr team ↦ ((team.0, Some common), (team.1, sym (parent_common team.0 team.2)), teams.noted team.0 team.3)
   ]
@@ -184,11 +184,11 @@ module _ (old : Trees) (kept end : ShelfRows) (db after : Trees) (rows : List Ro
   -- each shelf of the world has a row, and its parent is the one that its name determines
   of_shelf : (y : World) → HasTeams end.names y → (it : List ℕ × Option (List ℕ)) → map.get y.shelves it.0 ≡ Some it.1 → (row : Row) × Has (old 2) row × IsShelf row it
   of_shelf y teams it at = elim (teams.each it.0 it.1 at) [
-    | inl top ↦ elim (top_came kept db rows end after visited has) [
+    | inl top ↦ elim (top_came so_far db rows end after visited has) [
       | inl before ↦ absurd (true≢false (sym before ∙ unseen))
       | inr came ↦ (let row = row_of common came in (row.0, row.1, (row.2 ∙ ap Text (sym top.0), top.1 ∙ ap parent_of (sym top.0))))
     ]
-    | inr team ↦ elim (came kept db rows end after visited it.0 team.0) [
+    | inr team ↦ elim (came so_far db rows end after visited it.0 team.0) [
       | inl before ↦ absurd (no_text it.0 (ap (λ (n : Names). set.contains n it.0) (sym new) ∙ before))
       | inr came ↦
           let row = row_of it.0 came in
@@ -201,5 +201,5 @@ module _ (old : Trees) (kept end : ShelfRows) (db after : Trees) (rows : List Ro
 
   pub puts_shelves : PutsShelves old db after
   puts_shelves blank =
-      let it = stood kept db rows end after visited only_common (no_teams kept.names new) blank in
+      let it = stood so_far db rows end after visited only_common (no_teams so_far.names new) blank in
       record { world = it.0; is = it.1.is; shelves = record { each = of_row it.0 it.1; found = of_shelf it.0 it.1 }; keys = it.1.keys; entries = it.1.entries; stands = it.2 }

@@ -10,7 +10,7 @@ use Rattle.sqlite.specs.State.{State, HasCleanDisk, IsUnchanged, IsRolledBack, S
 use Rattle.sqlite.proofs.Callers.{IsPlain, never_commits, command_of, reads_as, unchanged_then}
 use Rattle.sqlite.proofs.StateLemmas.{survives_then, survives_weaker}
 use Rattle.tables.proofs.FailureLemmas.{was_clean}
-use Rattle.tables.proofs.WalkLemmas.{kept_then}
+use Rattle.tables.proofs.WalkLemmas.{outcome_then}
 use Rattle.statements.specs.Extract.{IsReadBy, Then}
 use Rattle.statements.specs.Rows.{Filling, GoesOn}
 use Rattle.statements.proofs.GoingLemmas.{goes_on_itself, goes_on_then, stays_quiet}
@@ -34,15 +34,15 @@ module _ (schema : Schema) (sql : List ℕ) (plain : IsPlain (understood schema 
 -- a store is only read if nothing is committed and it is unchanged, or rolled back by a call that is not done
 pub quiet_read : (old new : State) (done : Bool) → Survives old new (λ _. ⊥) → (HasCleanDisk new → IsUnchanged old new ⊎ IsRolledBack old new)
     → (HasCleanDisk new → IsTrue done → IsUnchanged old new) → IsReadBy old new done
-quiet_read old new done survives kept same = record {
+quiet_read old new done survives outcome same = record {
   left = λ clean db may. elim (survives.crash clean db may) [ inl was ↦ was | inr none ↦ absurd none ];
-  kept = kept;
+  outcome = outcome;
   same = same;
 }
 
 -- what is read by a call of either outcome is read by a call that is not done
-pub read_part : (old new : State) (done : Bool) → IsReadBy old new done → IsReadBy old new false
-read_part old new done read = record { left = read.left; kept = read.kept; same = λ _ all. absurd (true≢false (sym all)) }
+pub read_not_done : (old new : State) (done : Bool) → IsReadBy old new done → IsReadBy old new false
+read_not_done old new done read = record { left = read.left; outcome = read.outcome; same = λ _ all. absurd (true≢false (sym all)) }
 
 -- the rows so far, and one step more
 module _ (old mid new : State) (first : Survives old mid (λ _. ⊥)) (same : HasCleanDisk mid → IsUnchanged old mid) (next : Survives mid new (λ _. ⊥)) where
@@ -58,13 +58,13 @@ module _ (old mid new : State) (first : Survives old mid (λ _. ⊥)) (same : Ha
   -- a step that failed
   pub failed_read : (HasCleanDisk new → IsUnchanged mid new ⊎ IsRolledBack mid new) → IsReadBy old new false
   failed_read step =
-      quiet_read old new false then_survives (λ clean. kept_then old mid new (same (was_clean mid new next.clean clean)) (step clean)) (λ _ done. absurd (true≢false (sym done)))
+      quiet_read old new false then_survives (λ clean. outcome_then old mid new (same (was_clean mid new next.clean clean)) (step clean)) (λ _ done. absurd (true≢false (sym done)))
 
 module _ {X : Type 0} (Puts : X → Row → Trees → X → Trees → Type 0) where
-  pub one_more : (start : X) (db : Trees) (rows : List Row) (kept : X) (mid : Trees) (row : Row) (next : X) (after : Trees)
-      → Visits Puts start db rows kept mid → Puts kept row mid next after → Visits Puts start db (rows ++ row ∷ []) next after
-  one_more start db [] kept mid row next after same puts = (next, after, subst (λ x. Puts x row db next after) same.0 (subst (λ t. Puts kept row t next after) same.1 puts), (refl, refl))
-  one_more start db (r ∷ rows) kept mid row next after visited puts = (visited.0, visited.1, visited.2, one_more visited.0 visited.1 rows kept mid row next after visited.3 puts)
+  pub one_more : (start : X) (db : Trees) (rows : List Row) (so_far : X) (mid : Trees) (row : Row) (next : X) (after : Trees)
+      → Visits Puts start db rows so_far mid → Puts so_far row mid next after → Visits Puts start db (rows ++ row ∷ []) next after
+  one_more start db [] so_far mid row next after same puts = (next, after, subst (λ x. Puts x row db next after) same.0 (subst (λ t. Puts so_far row t next after) same.1 puts), (refl, refl))
+  one_more start db (r ∷ rows) so_far mid row next after visited puts = (visited.0, visited.1, visited.2, one_more visited.0 visited.1 rows so_far mid row next after visited.3 puts)
 
 -- ---- one walk after another
 
@@ -84,7 +84,7 @@ module _ (format : Format) (P Q : Trees → Trees → Trees → Type 0) (s t u a
         let late = λ (clean : HasCleanDisk u). was_clean t u q.clean clean in
         record {
           left = λ clean db may. first.left (late clean) db (next.left clean db may);
-          kept = λ clean. kept_then s t u (first.same (late clean) refl) (next.kept clean);
+          outcome = λ clean. outcome_then s t u (first.same (late clean) refl) (next.outcome clean);
           same = λ clean all. unchanged_then s t u (first.same (late clean) refl) (next.same clean all);
         };
     survives = λ clean ready. stays_quiet s t u (p.survives (was_clean t u q.clean clean) ready) (q.survives clean (still_ready ready));
@@ -117,27 +117,27 @@ if_done (Err e) f it = tt
 
 module _ (format : Format) (Makes : Trees → Trees → Trees → Type 0) (s t a b : State) (up : doubt s.is_clean ≤ doubt t.is_clean) where
   -- a walk moves what it makes if it reads the old store, goes on in the fresh one, and is done only if each row was visited
-  pub moves_part : (whole done : Bool) → (IsTrue done → IsTrue whole) → (s.now.schema ≡ schema_of format → IsReadBy s t whole)
+  pub moves_less : (whole done : Bool) → (IsTrue done → IsTrue whole) → (s.now.schema ≡ schema_of format → IsReadBy s t whole)
       → (s.now.schema ≡ schema_of format → Survives s t (λ _. ⊥)) → GoesOn a b whole
       → (HasCleanDisk t → HasCleanDisk b → s.now.schema ≡ schema_of format → Filling a → IsTrue done → Makes s.now.trees a.now.trees b.now.trees × Filling b) → Moves format Makes s t a b done
-  moves_part whole done less read survives goes makes =
+  moves_less whole done less read survives goes makes =
       let has = λ (ready : IsReadyAs format s) (clean : HasCleanDisk t). (ready (was_clean s t up clean)).1 in
       record {
         clean = up;
         reads = λ ready. record {
           left = λ clean. (read (has ready clean)).left clean;
-          kept = λ clean. (read (has ready clean)).kept clean;
+          outcome = λ clean. (read (has ready clean)).outcome clean;
           same = λ clean all. (read (has ready clean)).same clean (less all);
         };
         survives = λ clean ready. survives (has ready clean);
-        goes_on = record { survives = goes.survives; kept = goes.kept; inside = λ clean is all. goes.inside clean is (less all) };
+        goes_on = record { survives = goes.survives; commit = goes.commit; inside = λ clean is all. goes.inside clean is (less all) };
         makes = λ clean good ready filling all. makes clean good (has ready clean) filling all;
       }
 
   pub moves_of : {E : Type 0} (r : Result Bool E) → (s.now.schema ≡ schema_of format → IsReadBy s t (is_ok r)) → (s.now.schema ≡ schema_of format → Survives s t (λ _. ⊥)) → GoesOn a b (is_ok r)
       → (HasCleanDisk t → HasCleanDisk b → s.now.schema ≡ schema_of format → Filling a → IfOk r (λ all. IsTrue all → Makes s.now.trees a.now.trees b.now.trees × Filling b))
       → Moves format Makes s t a b (is_done r)
-  moves_of r read survives goes makes = moves_part (is_ok r) (is_done r) (done_ok r) read survives goes (λ clean good has filling all. when_done r all (makes clean good has filling))
+  moves_of r read survives goes makes = moves_less (is_ok r) (is_done r) (done_ok r) read survives goes (λ clean good has filling all. when_done r all (makes clean good has filling))
 
 -- a walk that makes P makes each Q that P implies
 pub moves_weaker : (format : Format) (P Q : Trees → Trees → Trees → Type 0) (s t a b : State) (done : Bool)
@@ -167,7 +167,7 @@ unchanged_itself s is = (record { was_open = is; is_open = is; now_is = refl; co
 pub moves_nothing : (format : Format) (Makes : Trees → Trees → Trees → Type 0) (s a : State) → ((old db : Trees) → Makes old db db) → Moves format Makes s s a a true
 moves_nothing format Makes s a makes = record {
   clean = omega arith;
-  reads = λ ready. record { left = λ _ db may. may; kept = λ clean. inl (unchanged_itself s (ready clean).0); same = λ clean _. unchanged_itself s (ready clean).0 };
+  reads = λ ready. record { left = λ _ db may. may; outcome = λ clean. inl (unchanged_itself s (ready clean).0); same = λ clean _. unchanged_itself s (ready clean).0 };
   survives = λ _ _. (goes_on_itself s).survives;
   goes_on = goes_on_itself a;
   makes = λ _ _ _ filling _. (makes s.now.trees a.now.trees, filling);

@@ -156,8 +156,8 @@ few_pairs : (bodies : List Row) → length bodies < 2 ^ 64 → (row : Row) → l
 few_pairs bodies few row =
     let each = singles (λ b. [] ∷ row ∷ b ∷ []) (bodies_of row bodies) in
     let some = nulls (filter (goes_with row) bodies) in
-    let kept = length-filter_both (goes_with row) (λ b. not (goes_with row b)) (λ _. refl) bodies in
-    omega (arith, each, some, kept, few)
+    let both = length-filter_both (goes_with row) (λ b. not (goes_with row b)) (λ _. refl) bodies in
+    omega (arith, each, some, both, few)
 
 module _ (db : Database) (has : db.schema ≡ schema_1) (h : ShowsTooMany One one_text db) where
   not_both : length (db.trees 6) < 2 ^ 64 → length (db.trees 8) < 2 ^ 64 → ⊥

@@ -24,7 +24,7 @@ use Rattle.older_rows.specs.declared.pieces.ZipRows.{ZipRows}
 use Rattle.older_rows.specs.Visits.{Visits}
 
 abbrev pub Puts : ZipRows → Row → Trees → ZipRows → Trees → Type 0
-Puts kept row db next after = IsPieceRow row × (MayGoOn kept.last (piece_in row) × ((next.last ≡ Some (piece_in row)) × PutsPiece row db after))
+Puts so_far row db next after = IsPieceRow row × (MayGoOn so_far.last (piece_in row) × ((next.last ≡ Some (piece_in row)) × PutsPiece row db after))
 
 -- ---- a row that is put in is put in at some place
 
@@ -60,9 +60,9 @@ abbrev cut : Row → Row
 cut row = column row 0 ∷ column row 1 ∷ column row 2 ∷ []
 
 -- what is read from the fresh rows is what was read before and the rows that were put in, in some order
-put_pieces : (kept end : ZipRows) (db after : Trees) (rows : List Row) → Visits Puts kept db rows end after → IsPermutation (map cut rows ++ map piece_shown (db 8)) (map piece_shown (after 8))
-put_pieces kept end db after [] same = subst (λ t. IsPermutation (map piece_shown (db 8)) (map piece_shown (t 8))) (sym same.1) (IsPermutation-refl _)
-put_pieces kept end db after (row ∷ rows) visited =
+put_pieces : (so_far end : ZipRows) (db after : Trees) (rows : List Row) → Visits Puts so_far db rows end after → IsPermutation (map cut rows ++ map piece_shown (db 8)) (map piece_shown (after 8))
+put_pieces so_far end db after [] same = subst (λ t. IsPermutation (map piece_shown (db 8)) (map piece_shown (t 8))) (sym same.1) (IsPermutation-refl _)
+put_pieces so_far end db after (row ∷ rows) visited =
     let put = visited.2.1.1.1 in
     let one : IsPermutation (cut row ∷ map piece_shown (db 8)) (map piece_shown (visited.1 8)) = subst
     (λ l. IsPermutation (cut row ∷ map piece_shown (db 8)) (map piece_shown l)) (sym put.put.rows) (IsPermutation-map piece_shown _ _ (one_permuted (piece_of put.id row) (db 8) put.put.fresh)) in
@@ -71,21 +71,21 @@ put_pieces kept end db after (row ∷ rows) visited =
     (IsPermutation-trans _ _ _ (IsPermutation-append_right (map cut rows) _ _ one) rest)
 
 -- no other table is changed
-pub else_same : (kept end : ZipRows) (db after : Trees) (rows : List Row) → Visits Puts kept db rows end after → IsElseSame piece_table db after
-else_same kept end db after [] same = subst (IsElseSame piece_table db) (sym same.1) (else_itself piece_table db)
-else_same kept end db after (row ∷ rows) visited = else_then piece_table db visited.1 after visited.2.1.1.1.put.tables (else_same visited.0 end visited.1 after rows visited.3)
+pub else_same : (so_far end : ZipRows) (db after : Trees) (rows : List Row) → Visits Puts so_far db rows end after → IsElseSame piece_table db after
+else_same so_far end db after [] same = subst (IsElseSame piece_table db) (sym same.1) (else_itself piece_table db)
+else_same so_far end db after (row ∷ rows) visited = else_then piece_table db visited.1 after visited.2.1.1.1.put.tables (else_same visited.0 end visited.1 after rows visited.3)
 
 abbrev pub FirstOf : {A : Type 0} → (A → Row → Type 0) → Type 0
 FirstOf {A} P = A
 
 -- what the visitor keeps, as today's test keeps it
 abbrev pub tested : ZipRows → FirstOf PieceFits
-tested kept = record { last = kept.last }
+tested so_far = record { last = so_far.last }
 
 -- each passes today's test after those before it
-pub passed : (kept end : ZipRows) (db after : Trees) (rows : List Row) → Visits Puts kept db rows end after → Pass PieceFits PieceKeeps (tested kept) rows (tested end)
-passed kept end db after [] same = ap tested same.0
-passed kept end db after (row ∷ rows) visited = let it = visited.2 in ((it.0, it.1.0), tested visited.0, it.1.1.0, passed visited.0 end visited.1 after rows visited.3)
+pub passed : (so_far end : ZipRows) (db after : Trees) (rows : List Row) → Visits Puts so_far db rows end after → Pass PieceFits PieceKeeps (tested so_far) rows (tested end)
+passed so_far end db after [] same = ap tested same.0
+passed so_far end db after (row ∷ rows) visited = let it = visited.2 in ((it.0, it.1.0), tested visited.0, it.1.1.0, passed visited.0 end visited.1 after rows visited.3)
 
 -- ---- fit pieces in another order
 
@@ -109,8 +109,8 @@ cut_shown [] = refl
 cut_shown (r ∷ rows) = ap (λ l. piece_shown r ∷ l) (cut_shown rows)
 
 -- if there were no pieces, what is read from the fresh rows is what is read from the old ones, in some order
-pub same_pieces_read : (old db after : Trees) (kept end : ZipRows) (rows : List Row) → IsPermutation (map piece_shown (old 8)) rows
-    → db 8 ≡ [] → Visits Puts kept db rows end after → IsPermutation (map piece_shown (old 8)) (map piece_shown (after 8))
-same_pieces_read old db after kept end rows listed none visited =
-    let put = subst (λ l. IsPermutation l (map piece_shown (after 8))) (ap (λ l. map cut rows ++ map piece_shown l) none ∙ append-nil (map cut rows)) (put_pieces kept end db after rows visited) in
+pub same_pieces_read : (old db after : Trees) (so_far end : ZipRows) (rows : List Row) → IsPermutation (map piece_shown (old 8)) rows
+    → db 8 ≡ [] → Visits Puts so_far db rows end after → IsPermutation (map piece_shown (old 8)) (map piece_shown (after 8))
+same_pieces_read old db after so_far end rows listed none visited =
+    let put = subst (λ l. IsPermutation l (map piece_shown (after 8))) (ap (λ l. map cut rows ++ map piece_shown l) none ∙ append-nil (map cut rows)) (put_pieces so_far end db after rows visited) in
     IsPermutation-trans _ _ _ (subst (λ l. IsPermutation l (map cut rows)) (cut_shown (old 8)) (IsPermutation-map cut _ _ listed)) put

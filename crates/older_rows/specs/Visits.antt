@@ -12,19 +12,19 @@ use Rattle.older.specs.Schemas.{schema_of}
 use Rattle.statements.specs.Extract.{IsReadBy}
 use Rattle.statements.specs.Rows.{Filling, GoesOn}
 
--- for each row in turn, `Puts` relates what is kept and the tables before it to those after it
+-- for each row in turn, `Puts` relates the visitor and the tables before it to those after it
 abbrev pub Visits : {X : Type 0} → (X → Row → Trees → X → Trees → Type 0) → X → Trees → List Row → X → Trees → Type 0
-Visits Puts kept db [] end after = (end ≡ kept) × (after ≡ db)
-Visits {X} Puts kept db (row ∷ rows) end after =
-    (next : X) × (mid : Trees) × Puts kept row db next mid × Visits Puts next mid rows end after
+Visits Puts so_far db [] end after = (end ≡ so_far) × (after ≡ db)
+Visits {X} Puts so_far db (row ∷ rows) end after =
+    (next : X) × (mid : Trees) × Puts so_far row db next mid × Visits Puts next mid rows end after
 
 -- Each row that a query showed of the old tables of a format was visited in turn, and the fresh store may be filled further.
 abbrev pub IsFilledBy : {X : Type 0} → Format → List ℕ → (X → Row → Trees → X → Trees → Type 0)
     → State → X → State → X → State → Type 0
-IsFilledBy format sql Puts old kept fresh end filled =
+IsFilledBy format sql Puts old so_far fresh end filled =
     Filling filled
     × ((rows : List Row) × Reads (command_of (understood (schema_of format) sql)) old.now [] rows
-    × Visits Puts kept fresh.now.trees rows end filled.now.trees)
+    × Visits Puts so_far fresh.now.trees rows end filled.now.trees)
 
 -- the connection is open and its tables are those of the format, if the disk has returned what was written
 abbrev pub IsReadyAs : Format → State → Type 0

@@ -133,8 +133,8 @@ impl EntryRows {
 }
 
 impl Visit for EntryRows {
-    ghost Puts = { λ kept row db next after. (next.format ≡ kept.format)
-        × PutsEntry kept.format kept.last kept.many row db after next.last next.many };
+    ghost Puts = { λ so_far row db next after. (next.format ≡ so_far.format)
+        × PutsEntry so_far.format so_far.last so_far.many row db after next.last next.many };
 
     fn visit<F: Alter>(&mut self, tx: &mut Transaction<'_, F>, row: &Row) -> Result<bool, Error> {
         let Some(keyed) = fit_row(self.alloc, self.format, row)? else {

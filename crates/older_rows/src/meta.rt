@@ -22,8 +22,8 @@ struct MetaRows {
 }
 
 impl Visit for MetaRows {
-    ghost Puts = { λ kept row db next after. NamesSchema kept.number row
-        × ((next.number ≡ kept.number) × ((next.has_row ≡ true) × (after ≡ db))) };
+    ghost Puts = { λ so_far row db next after. NamesSchema so_far.number row
+        × ((next.number ≡ so_far.number) × ((next.has_row ≡ true) × (after ≡ db))) };
 
     fn visit<F: Alter>(&mut self, _tx: &mut Transaction<'_, F>, row: &Row) -> Result<bool, Error> {
         if text_at(row, 0)? != Some("schema") || int_at(row, 1)? != Some(self.number) {

@@ -23,7 +23,7 @@ struct ZipRows {
 }
 
 impl Visit for ZipRows {
-    ghost Puts = { λ kept row db next after. IsPieceRow row × (MayGoOn kept.last (piece_in row)
+    ghost Puts = { λ so_far row db next after. IsPieceRow row × (MayGoOn so_far.last (piece_in row)
         × ((next.last ≡ Some (piece_in row)) × PutsPiece row db after)) };
 
     fn visit<F: Alter>(&mut self, tx: &mut Transaction<'_, F>, row: &Row) -> Result<bool, Error> {

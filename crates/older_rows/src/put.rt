@@ -43,7 +43,7 @@ pub(crate) struct Keyed<'r> {
 pub(crate) fn put_team<F: Alter>(tx: &mut Transaction<'_, F>, name: &str) -> Result<(), Error>
     ensures same_reference { tx.new.conn.ghost_name ≡ tx.old.conn.ghost_name }
     ensures survives { Survives (state F.Store tx.old.conn.now) (state F.Store tx.new.conn.now) (λ _. ⊥) }
-    ensures kept { Honestly (state F.Store tx.old.conn.now) (state F.Store tx.new.conn.now) (λ old new.
+    ensures commit { Honestly (state F.Store tx.old.conn.now) (state F.Store tx.new.conn.now) (λ old new.
         IsTrue old.in_transaction → KeepsCommit old new) }
     ensures inside { Honestly (state F.Store tx.old.conn.now) (state F.Store tx.new.conn.now) (λ old new.
         IsTrue old.in_transaction → OnOk result (IsTrue new.in_transaction)) }
@@ -81,7 +81,7 @@ fn put_version<'p, F: Alter>(
     requires keys { (order.now ≡ order_key_at version.now) × (rank.now ≡ rank_key_at version.now) }
     ensures same_reference { tx.new.conn.ghost_name ≡ tx.old.conn.ghost_name }
     ensures survives { Survives (state F.Store tx.old.conn.now) (state F.Store tx.new.conn.now) (λ _. ⊥) }
-    ensures kept { Honestly (state F.Store tx.old.conn.now) (state F.Store tx.new.conn.now) (λ old new.
+    ensures commit { Honestly (state F.Store tx.old.conn.now) (state F.Store tx.new.conn.now) (λ old new.
         IsTrue old.in_transaction → KeepsCommit old new) }
     ensures inside { Honestly (state F.Store tx.old.conn.now) (state F.Store tx.new.conn.now) (λ old new.
         IsTrue old.in_transaction → OnOk result (IsTrue new.in_transaction)) }

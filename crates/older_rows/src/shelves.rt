@@ -26,9 +26,9 @@ struct ShelfRows {
 }
 
 impl Visit for ShelfRows {
-    ghost Puts = { λ kept row db next after.
-        (IsCommonRow row db after × ((next.names ≡ kept.names) × (next.has_common ≡ true)))
-        ⊎ (IsTeamRow kept.names row db after next.names × (next.has_common ≡ kept.has_common)) };
+    ghost Puts = { λ so_far row db next after.
+        (IsCommonRow row db after × ((next.names ≡ so_far.names) × (next.has_common ≡ true)))
+        ⊎ (IsTeamRow so_far.names row db after next.names × (next.has_common ≡ so_far.has_common)) };
 
     fn visit<F: Alter>(&mut self, tx: &mut Transaction<'_, F>, row: &Row) -> Result<bool, Error> {
         let Some(name) = text_at(row, 0)? else {

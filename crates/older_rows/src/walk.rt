@@ -19,16 +19,16 @@ use older::schema::Format;
 use sqlite::{Alter, Connection, Error, ErrorCode, Row, Transaction};
 use statements::extract_rows::CopyError;
 
-/// Visits the rows of a table, and may keep something of those before.
+/// Visits the rows of a table, and may note something of those before.
 pub(crate) trait Visit {
-    /// How a row changes what is kept, and the fresh tables.
+    /// How a row changes the visitor, and the fresh tables.
     ghost Puts: { Self → Shown → Trees → Self → Trees → Type 0 };
 
     /// Tests a row and puts it into the fresh tables. Returns false if no world has such a row.
     fn visit<F: Alter>(&mut self, tx: &mut Transaction<'_, F>, row: &Row) -> Result<bool, Error>
         ensures same_reference { tx.new.conn.ghost_name ≡ tx.old.conn.ghost_name }
         ensures survives { Survives (state F.Store tx.old.conn.now) (state F.Store tx.new.conn.now) (λ _. ⊥) }
-        ensures kept { Honestly (state F.Store tx.old.conn.now) (state F.Store tx.new.conn.now) (λ old new.
+        ensures commit { Honestly (state F.Store tx.old.conn.now) (state F.Store tx.new.conn.now) (λ old new.
             IsTrue old.in_transaction → KeepsCommit old new) }
         ensures inside { Honestly (state F.Store tx.old.conn.now) (state F.Store tx.new.conn.now) (λ old new.
             IsTrue old.in_transaction → OnOk result (IsTrue new.in_transaction)) }
@@ -60,7 +60,7 @@ fn visit_each<S: Alter, F: Alter, V: Visit>(
     ensures puts { HasCleanDisk (state S.Store source.new) → HasCleanDisk (state F.Store tx.new.conn.now)
         → (state S.Store source.old).now.schema ≡ schema_of format → Filling (state F.Store tx.old.conn.now)
         → IfOk result (λ visited. IfOk visited (λ all. IsTrue all → IsFilledBy format sql.now
-        (λ kept row db next after. V.Puts kept row db next after) (state S.Store source.old)
+        (λ so_far row db next after. V.Puts so_far row db next after) (state S.Store source.old)
         visitor.old (state F.Store tx.old.conn.now) visitor.new (state F.Store tx.new.conn.now))) }
     ensures cause { HonestlyOver (schema_of format) (state S.Store source.old) (state S.Store source.new) (λ old new.
         IfErr result (HasReasonAs format old new)) }
@@ -102,7 +102,7 @@ pub(crate) fn visit_rows<S: Alter, F: Alter, V: Visit>(
     ensures puts { HasCleanDisk (state S.Store source.new) → HasCleanDisk (state F.Store tx.new.conn.now)
         → (state S.Store source.old).now.schema ≡ schema_of format → Filling (state F.Store tx.old.conn.now)
         → IfOk result (λ all. IsTrue all → IsFilledBy format sql.now
-        (λ kept row db next after. V.Puts kept row db next after) (state S.Store source.old)
+        (λ so_far row db next after. V.Puts so_far row db next after) (state S.Store source.old)
         visitor.old (state F.Store tx.old.conn.now) visitor.new (state F.Store tx.new.conn.now)) }
     ensures cause { FailsAs format (state S.Store source.old) (state S.Store source.new) result }
 {

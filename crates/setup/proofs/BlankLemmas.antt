@@ -146,6 +146,6 @@ module _ (x : World) (is : IsWorld x) (one : HasOtherShelf x → ⊥) (two : Has
       λ i. record { keys = keys i; shelves = shelves i; entries = entries i }
 
 -- a store that has no other shelf and no key has `common` alone exactly if it has no entry
-pub blank_told : (x : World) → IsWorld x → (HasOtherShelf x → ⊥) → (HasKey x → ⊥) → (found : Bool) → Decides found (HasEntry x) → Decides (not found) (x ≡ only_common)
-blank_told x is one two true told = refused (more_entries x (told.0 refl))
-blank_told x is one two false told = passed (common_alone x is one two (λ e. true≢false (sym (told.1 e))))
+pub blank_decides : (x : World) → IsWorld x → (HasOtherShelf x → ⊥) → (HasKey x → ⊥) → (found : Bool) → Decides found (HasEntry x) → Decides (not found) (x ≡ only_common)
+blank_decides x is one two true answer = refused (more_entries x (answer.0 refl))
+blank_decides x is one two false answer = passed (common_alone x is one two (λ e. true≢false (sym (answer.1 e))))

@@ -32,9 +32,9 @@ use Rattle.setup.proofs.PartLemmas.{is_there, has_there, parent_at, key_at, entr
 use Rattle.statements.proofs.CopyKeyLemmas.{keys_of_none, keys_of_more}
 use Rattle.statements.proofs.RowLemmas.{puts_along, of_as, same_pieces}
 
-kept_in : {X : Type 0} (b : Bool) (o : Option X) (x : X) → b ≡ true → o ≡ Some x → cond b o None ≡ Some x
-kept_in true o x h e = e
-kept_in false o x h e = absurd (true≢false (sym h))
+picked_in : {X : Type 0} (b : Bool) (o : Option X) (x : X) → b ≡ true → o ≡ Some x → cond b o None ≡ Some x
+picked_in true o x h e = e
+picked_in false o x h e = absurd (true≢false (sym h))
 
 -- ---- the keys of some shelves
 
@@ -101,7 +101,7 @@ module _ (w x y : World) (ss : List (List ℕ)) (alone : HasAlone w ss x) (adds 
       same_got y.keys (part_of w ss).keys k
       (λ h at. elim ((adds.keys (k, h)).0 at) [
         | inl none ↦ absurd (none_in_empty text_cmp k h (sym (ap (λ m. map.get m k) alone.1) ∙ none))
-        | inr on ↦ key_at w ss k ∙ kept_in (is_held ss (map.get w.keys k)) (map.get w.keys k) h (ap (is_held ss) on.2.0 ∙ (ap (is_among ss) on.2.1 ∙ is_there ss on.0 on.1)) on.2.0
+        | inr on ↦ key_at w ss k ∙ picked_in (is_held ss (map.get w.keys k)) (map.get w.keys k) h (ap (is_held ss) on.2.0 ∙ (ap (is_among ss) on.2.1 ∙ is_there ss on.0 on.1)) on.2.0
       ])
       (λ h at. let it = held_key w ss k h at in (adds.keys (k, h)).1 (inr (h.shelf, has_there ss h.shelf it.1, (it.0, refl)))))
 
@@ -142,8 +142,8 @@ module _ (w : World) (ss : List (List ℕ)) (source db mid after : Trees) (means
   pieces_copied s seen one two zip there at number are = same_pieces one two (source 8) (after 8) zip
       (λ b here tied.
       let from = (piece_from b here).2 in
-      let kept = has_filtered (is_of from.0) (source 8) from.3.0 from.3.1 in
-      (from.3.0, kept.0, of_number one two from.3.0 number (of_as two from.3.0 b (sym from.3.2) tied), from.3.2))
+      let passed = has_filtered (is_of from.0) (source 8) from.3.0 from.3.1 in
+      (from.3.0, passed.0, of_number one two from.3.0 number (of_as two from.3.0 b (sym from.3.2) tied), from.3.2))
       (λ a here tied.
       let b = (pieces.rows (piece_read a)).1 (inr (s, seen, (one, there, at, (a, has_kept (is_of one) (source 8) a here tied, refl)))) in
       (b.0, b.1, of_as two b.0 a (sym b.2) (of_number two one a (sym number) tied), sym b.2))
@@ -173,7 +173,7 @@ module _ (w : World) (ss : List (List ℕ)) (source db mid after : Trees) (means
         let seen : is_among ss it.0.0.shelf ≡ true = ap (is_among ss) own ∙ is_there ss from.0 from.1 in (
           it.0,
           version_copied from.0 from.1 from.2.0.0 row it.0 from.2.0.1 at from.2.0.2 it.1,
-          entry_at w ss it.0.0 ∙ kept_in (is_among ss it.0.0.shelf) (map.get w.entries it.0.0) it.0.1 seen it.2,
+          entry_at w ss it.0.0 ∙ picked_in (is_among ss it.0.0.shelf) (map.get w.entries it.0.0) it.0.1 seen it.2,
         );
     found = λ it holds.
         let held = held_entry w ss it.0 it.1 holds in

@@ -45,11 +45,11 @@ module _ (old new : State) where
 -- ---- why an opening is refused
 
 -- if running out of memory is refused with `Memory`, `Device` says that something hindered the call
-pub told_device : (old new : State) (e : Error) (r : Refusal) → (e ≡ SqliteFailure code.OutOfMemory → r ≡ refusal.Memory) → IsExcused old new e → r ≡ refusal.Device → IsHindered old new
-told_device old new e r memory (inl wanted) device = absurd (let d : refusal.Memory ≡ refusal.Device = sym (memory wanted) ∙ device in cc)
-told_device old new e r memory (inr hindered) device = hindered
+pub device_hindered : (old new : State) (e : Error) (r : Refusal) → (e ≡ SqliteFailure code.OutOfMemory → r ≡ refusal.Memory) → IsExcused old new e → r ≡ refusal.Device → IsHindered old new
+device_hindered old new e r memory (inl wanted) device = absurd (let d : refusal.Memory ≡ refusal.Device = sym (memory wanted) ∙ device in cc)
+device_hindered old new e r memory (inr hindered) device = hindered
 
-pub told_reason : (old new : State) (e : Error) (r : Refusal) → (e ≡ SqliteFailure code.OutOfMemory → r ≡ refusal.Memory)
+pub device_reason : (old new : State) (e : Error) (r : Refusal) → (e ≡ SqliteFailure code.OutOfMemory → r ≡ refusal.Memory)
     → HasReason old new e → r ≡ refusal.Device → IsHindered old new ⊎ IsVast old.now
-told_reason old new e r memory (inl excused) device = inl (told_device old new e r memory excused device)
-told_reason old new e r memory (inr vast) device = inr vast
+device_reason old new e r memory (inl excused) device = inl (device_hindered old new e r memory excused device)
+device_reason old new e r memory (inr vast) device = inr vast

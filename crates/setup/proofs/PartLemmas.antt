@@ -332,7 +332,7 @@ got_some [] i d e within = absurd (omega (arith, within))
 got_some (x ∷ xs) zero d e within = refl
 got_some (x ∷ xs) (suc i) d e within = got_some xs i d e (omega (arith, within))
 
--- the name at a place within the list is among the names
+-- the name at an index within the list is among the names
 pub has_named : {X : Type 0} (f : X → List ℕ) (xs : List X) (i : ℕ) (d : X) → i < length xs → Has (each f xs) (f (get_or xs i d))
 has_named f xs i d within = mapped_has f xs (get_or xs i d) (has_at xs i (get_or xs i d) within (got_some xs i d (get_or xs i d) within))
 

@@ -37,7 +37,7 @@ pub spared_at : (a b : State) (x next : World) → Spares a b → ChangesAt a b 
 spared_at a b x next spares = record {
   world = spares.stays x;
   left = λ clean stands only db may. let it = only db (spares.left clean x stands db may) in (it.0, it.1, inl it.2);
-  kept = λ done. absurd (true≢false (sym done));
+  alone = λ done. absurd (true≢false (sym done));
   failed = λ _ clean stands. inr (spares.left clean x stands);
 }
 
@@ -46,7 +46,7 @@ spared_at a b x next spares = record {
 pub puts_if : {A E : Type 0} (r : Result A E) (name : List ℕ) (parent : Option (List ℕ)) (a b : State) → Survives a b (λ _. ⊥) → (HasCleanDisk b → IsTrue a.in_transaction → KeepsCommit a b)
     → (HasCleanDisk b → IsTrue a.in_transaction → OnOk r (IsTrue b.in_transaction))
     → (HasCleanDisk b → Filling a → OnOk r (PutsShelf name parent a.now.trees b.now.trees × Filling b)) → Puts (PutsShelf name parent) a b (is_ok r)
-puts_if r name parent a b survives kept inside puts = record { goes_on = goes_on_if r a b survives kept inside; makes = λ clean filling done. when_ok r done (puts clean filling) }
+puts_if r name parent a b survives commit inside puts = record { goes_on = goes_on_if r a b survives commit inside; makes = λ clean filling done. when_ok r done (puts clean filling) }
 
 pub puts_none : (a : State) → Puts (PutsShelves []) a a true
 puts_none a = record { goes_on = goes_on_itself a; makes = λ _ filling _. (refl, filling) }
@@ -73,7 +73,7 @@ puts_failed (Err e) P Q R a b c failed p q = record { goes_on = goes_on_then a b
 pub puts_copied : (P : Trees → Trees → Type 0) (s a b : State) (done : Bool) → Puts P a b done → Copies (λ _. P) s s a b done
 puts_copied P s a b done p = record {
   clean = omega arith;
-  reads = λ ready. let read = (copies_none s a).reads ready in record { left = read.left; kept = read.kept; same = λ clean _. read.same clean refl };
+  reads = λ ready. let read = (copies_none s a).reads ready in record { left = read.left; outcome = read.outcome; same = λ clean _. read.same clean refl };
   goes_on = p.goes_on;
   makes = λ clean good ready w means filling all. p.makes good filling all;
 }

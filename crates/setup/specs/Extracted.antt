@@ -53,7 +53,7 @@ pub record ExtractsAt (old new : Shown) (w x : World) (team : List ℕ) (result 
   pub ok : OnOk result (new.stands (part w team))
   pub err : OnErr result (new.stands x)
   pub left : old.leaves x x → new.leaves x (part w team)
-  pub kept : old.leaves x x → OnOk result (new.leaves (part w team) (part w team))
+  pub alone : old.leaves x x → OnOk result (new.leaves (part w team) (part w team))
 
 -- the refusal is that there is no such team, or that the fresh store has more than `common`
 abbrev pub IsUnfit : Result (Unit {0}) Refusal → Type 0

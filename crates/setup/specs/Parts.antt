@@ -147,7 +147,7 @@ pub record FillsAt (old new : Shown) (There : Type 0) (next x : World) (result :
   pub ok : OnOk result (new.stands next)
   pub err : OnErr result (new.stands x)
   pub left : old.leaves x x → new.leaves x next
-  pub kept : old.leaves x x → OnOk result (new.leaves next next)
+  pub alone : old.leaves x x → OnOk result (new.leaves next next)
 
 -- For each world of the source and each of the fresh store, `FillsAt` holds, if the disks have returned what was written. The
 -- source is only read, and so is the fresh store if `IsUnfit` holds of the result.

@@ -23,7 +23,7 @@ fn find_tables<S: Alter>(alloc: Global, conn: &mut Connection<S>) -> Result<(), 
     ensures refused { IfErr result IsOfOpening }
     ensures opens { Honestly (state S.Store conn.old) (state S.Store conn.new) (λ old new.
         IsSettled old → OnOk result (Opens old new)) }
-    ensures kept { Honestly (state S.Store conn.old) (state S.Store conn.new) (λ old new.
+    ensures same { Honestly (state S.Store conn.old) (state S.Store conn.new) (λ old new.
         IsSettled old → IsTrue new.is_open → OnErr result (new.now ≡ old.now)) }
     ensures left { Honestly (state S.Store conn.old) (state S.Store conn.new) (λ old new.
         (db : _) → new.may_leave db → OnErr result (old.may_leave db)) }
@@ -50,7 +50,7 @@ fn make_tables<S: Alter>(conn: &mut Connection<S>) -> Result<(), Refusal>
     ensures refused { IfErr result IsOfOpening }
     ensures opens { Honestly (state S.Store conn.old) (state S.Store conn.new)
         (λ old new. OnOk result (Opens old new)) }
-    ensures kept { Honestly (state S.Store conn.old) (state S.Store conn.new) (λ old new.
+    ensures same { Honestly (state S.Store conn.old) (state S.Store conn.new) (λ old new.
         IsTrue new.is_open → OnErr result (new.now ≡ old.now)) }
     ensures left { Honestly (state S.Store conn.old) (state S.Store conn.new) LeavesFirst }
     ensures failed { IfErr result (λ e. e ≢ Refusal.BadSchema) }
@@ -73,7 +73,7 @@ pub fn open_tables<S: Alter>(alloc: Global, conn: &mut Connection<S>) -> Result<
     ensures refused { IfErr result IsOfOpening }
     ensures opens { Honestly (state S.Store conn.old) (state S.Store conn.new) (λ old new.
         OnOk result (Opens old new)) }
-    ensures kept { Honestly (state S.Store conn.old) (state S.Store conn.new) (λ old new.
+    ensures same { Honestly (state S.Store conn.old) (state S.Store conn.new) (λ old new.
         IsTrue new.is_open → OnErr result (new.now ≡ old.now)) }
     ensures left { Honestly (state S.Store conn.old) (state S.Store conn.new) (λ old new.
         OnErr result (LeavesFirst old new)) }

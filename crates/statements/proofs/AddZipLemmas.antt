@@ -15,7 +15,7 @@ use Rattle.tables.specs.Pieces.{piece_size, begin, HasPiece, piece}
 use Rattle.tables.specs.Means.{IsEachPieceOnce}
 use Rattle.statements.specs.Rows.{AddsRows, IsElseSame, PutsPiece, piece_of, piece_read}
 use Rattle.statements.specs.Added.{AddsZip, piece_values}
-use Rattle.statements.proofs.RowLemmas.{adds_one, adds_none, adds_then, adds_as, else_itself, else_then, read_parts}
+use Rattle.statements.proofs.RowLemmas.{adds_one, adds_none, adds_then, adds_as, else_itself, else_then, read_columns}
 use Rattle.statements.proofs.TabulateLemmas.{put_apart}
 
 -- ---- the pieces of the bytes that remain
@@ -77,7 +77,7 @@ module _ (id : ℤ) (zip : List ℕ) (k : ℕ) (db mid after : Trees) (so_far : 
   -- no row so far has the number of the next piece
   apart_so_far : ((row : Row) → Has (db 8) row → column row 1 ≢ Int id) → (row : Row) → Has (mid 8) row → column new 1 ≡ column row 1 → column new 2 ≡ column row 2 → ⊥
   apart_so_far apart row there one two = elim ((so_far.pieces (piece_read row)).0 (row, there, refl)) [
-    | inl was ↦ apart was.0 was.1 (sym (read_parts row was.0 was.2).0 ∙ sym one)
+    | inl was ↦ apart was.0 was.1 (sym (read_columns row was.0 was.2).0 ∙ sym one)
     | inr it ↦ (let same : it.0 ≡ k = pos_same (int_same (sym (ap (λ (r : Row). column r 1) it.3) ∙ sym two)) in let below = it.1 in omega (arith, same, below))
   ]
 

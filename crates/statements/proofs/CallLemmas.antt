@@ -16,22 +16,22 @@ use Rattle.sqlite.proofs.Callers.{IsPlain, command_of, never_commits, first_as, 
 use Rattle.world.specs.World.{World}
 use Rattle.tables.specs.Schema.{store_schema}
 use Rattle.tables.specs.Means.{Holds, Stands, StandFor}
-use Rattle.tables.proofs.FailureLemmas.{Kept, was_clean, failed_query}
+use Rattle.tables.proofs.FailureLemmas.{IsUnchangedOrUndone, was_clean, failed_query}
 use Rattle.statements.specs.Calls.{Spares, Selects}
 
-kept_open : (old new : State) → Kept old new → IsTrue new.is_open → IsTrue old.is_open
-kept_open old new (inl same) shown = same.0.was_open
-kept_open old new (inr back) shown = back.was_open shown
+open_before : (old new : State) → IsUnchangedOrUndone old new → IsTrue new.is_open → IsTrue old.is_open
+open_before old new (inl same) shown = same.0.was_open
+open_before old new (inr back) shown = back.was_open shown
 
 -- an open connection that is unchanged or rolled back holds the world that it held
-kept_holds : (old new : State) (w : World) → Kept old new → IsTrue new.is_open → Holds old w → Holds new w
-kept_holds old new w (inl same) shown h = record {
+holds_still : (old new : State) (w : World) → IsUnchangedOrUndone old new → IsTrue new.is_open → Holds old w → Holds new w
+holds_still old new w (inl same) shown h = record {
   schema = ap (λ (d : Database). d.schema) same.0.now_is ∙ h.schema;
   settled = same.0.now_is ∙ (h.settled ∙ sym same.0.committed_is);
   autocommit = same.0.mode ∙ h.autocommit;
   trees = subst (λ (d : Database). StandFor d.trees w) (sym same.0.now_is) h.trees;
 }
-kept_holds old new w (inr back) shown h =
+holds_still old new w (inr back) shown h =
     let now : new.now ≡ old.now = (back.undone shown).0 ∙ sym h.settled in
     record {
       schema = ap (λ (d : Database). d.schema) now ∙ h.schema;
@@ -40,9 +40,9 @@ kept_holds old new w (inr back) shown h =
       trees = subst (λ (d : Database). StandFor d.trees w) (sym now) h.trees;
     }
 
-pub kept_stands : (old new : State) (w : World) → doubt old.is_clean ≤ doubt new.is_clean → (HasCleanDisk new → Kept old new) → Stands old w → Stands new w
-kept_stands old new w up kept h clean shown =
-    let k = kept clean in kept_holds old new w k shown (h (was_clean old new up clean) (kept_open old new k shown))
+pub stands_still : (old new : State) (w : World) → doubt old.is_clean ≤ doubt new.is_clean → (HasCleanDisk new → IsUnchangedOrUndone old new) → Stands old w → Stands new w
+stands_still old new w up outcome h clean shown =
+    let k = outcome clean in holds_still old new w k shown (h (was_clean old new up clean) (open_before old new k shown))
 
 -- ---- a query that has no RETURNING
 
@@ -58,12 +58,12 @@ module _ (sql : List ℕ) (params : Row) (old new : State) (plain : IsPlain (und
   row_unchanged row (inl h) = h.1
   row_unchanged row (inr h) = shown_unchanged h.0 h.1
 
-  pub row_kept : (r : Result Row Error) → QueriesRow sql params old new r → Kept old new
+  pub row_outcome : (r : Result Row Error) → QueriesRow sql params old new r → IsUnchangedOrUndone old new
   unfolding QueriesRow
-  row_kept (Ok row) (inl h) = inl h.1
-  row_kept (Ok row) (inr h) = inl (shown_unchanged h.0 h.1)
-  row_kept (Err e) (inl h) = failed_query sql params old new e h
-  row_kept (Err e) (inr h) = inl (shown_unchanged [] h.1)
+  row_outcome (Ok row) (inl h) = inl h.1
+  row_outcome (Ok row) (inr h) = inl (shown_unchanged h.0 h.1)
+  row_outcome (Err e) (inl h) = failed_query sql params old new e h
+  row_outcome (Err e) (inr h) = inl (shown_unchanged [] h.1)
 
   no_rows_read : (limit : Option ℕ) (command : Command) (db : Database) (values : Row) → RefusesToRead limit command db values QueryReturnedNoRows → ⊥
   no_rows_read limit (Select q names) db values (inl h) = let e = h.0 in cc
@@ -110,10 +110,10 @@ spares_then a b c p q = record {
 }
 
 -- a call that only prepares, or fails
-pub quiet_spares : (old new : State) → Survives old new (λ _. ⊥) → (HasCleanDisk new → Kept old new) → Spares old new
-quiet_spares old new survives kept = record {
+pub quiet_spares : (old new : State) → Survives old new (λ _. ⊥) → (HasCleanDisk new → IsUnchangedOrUndone old new) → Spares old new
+quiet_spares old new survives outcome = record {
   clean = survives.clean;
-  stays = λ w h. kept_stands old new w survives.clean kept h;
+  stays = λ w h. stands_still old new w survives.clean outcome h;
   left = λ clean w h db may. elim (survives.crash clean db may) [ inl was ↦ was | inr none ↦ absurd none ];
 }
 
@@ -130,15 +130,15 @@ module _ (sql : List ℕ) (params : Row) (plain : IsPlain (understood store_sche
   mid_spares : Spares old mid
   mid_spares = quiet_spares old mid quiet (λ clean. inl (prepared clean))
 
-  last_spares : (HasCleanDisk new → IsPlain (understood mid.now.schema sql) → Kept mid new) → Spares mid new
-  last_spares kept = record {
+  last_spares : (HasCleanDisk new → IsPlain (understood mid.now.schema sql) → IsUnchangedOrUndone mid new) → Spares mid new
+  last_spares outcome = record {
     clean = survives.clean;
-    stays = λ w h clean shown. let was = mid_holds w h clean in kept_holds mid new w (kept clean (mid_plain w was)) shown was;
+    stays = λ w h clean shown. let was = mid_holds w h clean in holds_still mid new w (outcome clean (mid_plain w was)) shown was;
     left = λ clean w h db may. elim (survives.crash clean db may) [ inl was ↦ was | inr commits ↦ absurd (never_commits sql params mid db (mid_plain w (mid_holds w h clean)) commits) ];
   }
 
   pub row_spares : (r : Result Row Error) → (HasCleanDisk new → QueriesRow sql params mid new r) → Spares old new
-  row_spares r ran = spares_then old mid new mid_spares (last_spares (λ clean plain. row_kept sql params mid new plain r (ran clean)))
+  row_spares r ran = spares_then old mid new mid_spares (last_spares (λ clean plain. row_outcome sql params mid new plain r (ran clean)))
 
   -- a query that is prepared and then asked for all its rows spares the store
   pub rows_spares : {X : Type 0} (r : Result X Error) (items : X → List Row) → (HasCleanDisk new → IfOk r (λ rows. Shown sql params mid new (items rows)))

@@ -17,7 +17,7 @@ spared old new next s = record {
   at = λ w. record {
     world = s.stays w;
     left = λ clean stands only db may. let it = only db (s.left clean w stands db may) in (it.0, it.1, inl it.2);
-    kept = λ done. absurd (true≢false (sym done));
+    alone = λ done. absurd (true≢false (sym done));
     failed = λ _ clean stands. inr (s.left clean w stands);
   };
 }
@@ -30,8 +30,8 @@ refused old new next law s same = record {
   at = λ w. record {
     world = λ stands clean shown. subst (Holds new) (sym (same clean w stands).1) (s.stays w stands clean shown);
     left = λ clean stands only db may. let it = only db (s.left clean w stands db may) in (it.0, it.1, inl it.2);
-    kept = λ _ clean stands. let it = same clean w stands in subst (λ x. LeavesOnly new (λ y. y ≡ x)) (sym it.1) (open_leaves new w (λ db. law db it.0) (s.stays w stands clean it.0));
-    failed = λ part. absurd (true≢false part);
+    alone = λ _ clean stands. let it = same clean w stands in subst (λ x. LeavesOnly new (λ y. y ≡ x)) (sym it.1) (open_leaves new w (λ db. law db it.0) (s.stays w stands clean it.0));
+    failed = λ unfinished. absurd (true≢false unfinished);
   };
 }
 
@@ -49,8 +49,8 @@ spares_changes a b c done next s up then = record {
   at = λ w. record {
     world = λ stands clean. (then w clean stands).world (s.stays w stands) clean;
     left = λ clean stands only. (then w clean stands).left clean (s.stays w stands) (λ db may. only db (s.left (was_clean b c up clean) w stands db may));
-    kept = λ done clean stands. (then w clean stands).kept done clean (s.stays w stands);
-    failed = λ part clean stands. no_more a b c w (next w) s up clean stands ((then w clean stands).failed part clean (s.stays w stands));
+    alone = λ done clean stands. (then w clean stands).alone done clean (s.stays w stands);
+    failed = λ unfinished clean stands. no_more a b c w (next w) s up clean stands ((then w clean stands).failed unfinished clean (s.stays w stands));
   };
 }
 
@@ -58,8 +58,8 @@ pub spares_at : (a b c : State) (done : Bool) (w next : World) → Spares a b �
 spares_at a b c done w next s up then = record {
   world = λ stands. then.world (s.stays w stands);
   left = λ clean stands only. then.left clean (s.stays w stands) (λ db may. only db (s.left (was_clean b c up clean) w stands db may));
-  kept = λ done clean stands. then.kept done clean (s.stays w stands);
-  failed = λ part clean stands. no_more a b c w next s up clean stands (then.failed part clean (s.stays w stands));
+  alone = λ done clean stands. then.alone done clean (s.stays w stands);
+  failed = λ unfinished clean stands. no_more a b c w next s up clean stands (then.failed unfinished clean (s.stays w stands));
 }
 
 pub not_ok : {A E : Type 0} (r : Result A E) → IsErr r → is_ok r ≡ false

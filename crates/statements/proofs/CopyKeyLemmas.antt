@@ -39,7 +39,7 @@ use Rattle.tables.proofs.ValueLemmas.{equals_text, equals_itself, fresh_before}
 use Rattle.statements.proofs.DifferLemmas.{differ_is}
 use Rattle.statements.proofs.LookupLemmas.{asks, all_found, begun_found}
 use Rattle.statements.proofs.RowLemmas.{adds_of_none, adds_of_more}
-use Rattle.tables.proofs.FitTests.{at_place}
+use Rattle.tables.proofs.FitTests.{at_index}
 use Rattle.tables.proofs.OneWorld.{texts_same, rights_same}
 use Rattle.tables.proofs.Maps.{put_keeps, put_splits}
 use Rattle.statements.proofs.AddKeyLemmas.{terms, added, key_params, key_means}
@@ -84,7 +84,7 @@ module _ (shelf : List ℕ) (db : Database) (w : World) (means : Means db.trees 
 pub keys_fit : (shelf : List ℕ) (db : Database) (w : World) (rows : List Row) (row : Row) → Means db.trees w → ReadsFirst (asks keys_on_query) db (Text shelf ∷ []) (rows ++ row ∷ []) → IsKeyShown row
 keys_fit shelf db w rows row means first =
     let begun = begun_found (Text shelf ∷ []) db 4 by_shelf shown [] (λ _. refl) (rows ++ row ∷ []) first in
-    let it = key_found shelf db w means _ begun.1 row (at_place rows begun.0 row) in
+    let it = key_found shelf db w means _ begun.1 row (at_index rows begun.0 row) in
     (it.0, it.1)
 
 -- ---- a row shows one key
@@ -158,8 +158,8 @@ token_alone : (after : Trees) → IsSound store_schema after → (new other : Ro
     → column new 1 ≡ Text token → column other 1 ≡ Text token → rowid other ≡ Int m → rowid new ≡ Int n → equal Binary (Int m) (Int n) ≡ false → ⊥
 unfolding first_key
 token_alone after sound new other token m n here there is also number own apart =
-    let kept = keeps_at Unique store_schema after access_table new (sound.obeys.rules Unique) (inr (inr (inl refl))) here in
-    let alone : not (clashes plain (1 ∷ []) (after 4) new) ≡ true = (and_parts _ _ kept).0 in
+    let obeyed = keeps_at Unique store_schema after access_table new (sound.obeys.rules Unique) (inr (inr (inl refl))) here in
+    let alone : not (clashes plain (1 ∷ []) (after 4) new) ≡ true = (and_parts _ _ obeyed).0 in
     let equals : equal Binary (column other 1) (column new 1) ≡ true = rw (is, also) (equals_itself token) in
     let apart_too : differ (rowid other) (rowid new) ≡ true = rw (number, own) (differ_is (Int m) (Int n) refl refl ∙ ap not apart) in
     let clash : clashes plain (1 ∷ []) (after 4) new ≡ true = some_from _ (after 4) other there (and_from _ _ (and_from _ _ equals refl) apart_too) in

@@ -30,7 +30,7 @@ use Rattle.tables.specs.Schema.{store_schema, version_table, piece_table}
 use Rattle.tables.specs.Means.{Means, IsAt, IsEachPlaceOnce, IsEachPieceOnce, is_of}
 use Rattle.tables.specs.Walks.{Pass}
 use Rattle.tables.proofs.ValueLemmas.{equals_text, equals_itself, equals_own, fresh_before}
-use Rattle.tables.proofs.FitTests.{at_place}
+use Rattle.tables.proofs.FitTests.{at_index}
 use Rattle.statements.specs.Lookup.{lookup}
 use Rattle.statements.specs.Pairs.{pairs}
 use Rattle.statements.specs.Rows.{Filling, PutsPiece, piece_of, piece_read, AddsRows, PutsRows, PutsVersion, version_of, version_read}
@@ -58,7 +58,7 @@ pub versions_fit : (shelf : List ℕ) (db : Database) (w : World) (rows : List R
     → ReadsFirst (asks versions_on_query) db (Text shelf ∷ []) (rows ++ row ∷ []) → IsVersionShown row
 versions_fit shelf db w rows row means first =
     let begun = begun_found (Text shelf ∷ []) db 6 by_shelf version_shown [] (λ _. refl) (rows ++ row ∷ []) first in
-    let from = begun.1.sound row (at_place rows begun.0 row) in
+    let from = begun.1.sound row (at_index rows begun.0 row) in
     let it = means.entries.each from.0 from.1 in
     let shows : ShowsVersion (version_read from.0) it.0.0 (heading_of it.0.1) = record {
       shelf = it.1.place.0;
@@ -107,8 +107,8 @@ place_alone : (after : Trees) → IsSound store_schema after → (new other : Ro
     → Has (after 6) other → IsAt new q → IsAt other q → differ (rowid other) (rowid new) ≡ true → ⊥
 unfolding first_key
 place_alone after sound new other q here there at also apart =
-    let kept = keeps_at Unique store_schema after version_table new (sound.obeys.rules Unique) (inr (inr (inr (inl refl)))) here in
-    let alone : not (clashes plain (2 ∷ 3 ∷ 4 ∷ []) (after 6) new) ≡ true = (and_parts _ _ kept).0 in
+    let obeyed = keeps_at Unique store_schema after version_table new (sound.obeys.rules Unique) (inr (inr (inr (inl refl)))) here in
+    let alone : not (clashes plain (2 ∷ 3 ∷ 4 ∷ []) (after 6) new) ≡ true = (and_parts _ _ obeyed).0 in
     let one : equal Binary (column other 2) (column new 2) ≡ true = rw (at.0, also.0) (equals_itself q.shelf) in
     let two : equal Binary (column other 3) (column new 3) ≡ true = rw (at.1, also.1) (equals_itself q.path) in
     let three : equal Binary (column other 4) (column new 4) ≡ true = rw (at.2, also.2) (equals_itself q.version) in
@@ -120,8 +120,8 @@ piece_alone : (after : Trees) → IsSound store_schema after → (new other : Ro
     → column new 1 ≡ column other 1 → column new 2 ≡ column other 2 → differ (rowid other) (rowid new) ≡ true → ⊥
 unfolding first_key
 piece_alone after sound new other version number here there of_version numbered same also apart =
-    let kept = keeps_at Unique store_schema after piece_table new (sound.obeys.rules Unique) (inr (inr (inr (inr (inl refl))))) here in
-    let alone : not (clashes plain (1 ∷ 2 ∷ []) (after 8) new) ≡ true = (and_parts _ _ kept).0 in
+    let obeyed = keeps_at Unique store_schema after piece_table new (sound.obeys.rules Unique) (inr (inr (inr (inr (inl refl))))) here in
+    let alone : not (clashes plain (1 ∷ 2 ∷ []) (after 8) new) ≡ true = (and_parts _ _ obeyed).0 in
     let one : equal Binary (column other 1) (column new 1) ≡ true = rw (← same, of_version) (equals_own (Int version) refl) in
     let two : equal Binary (column other 2) (column new 2) ≡ true = rw (← also, numbered) (equals_own (Int number) refl) in
     let clash : clashes plain (1 ∷ 2 ∷ []) (after 8) new ≡ true = some_from _ (after 8) other there (and_from _ _ (and_from _ _ one (and_from _ _ two refl)) apart) in
@@ -226,8 +226,8 @@ pieces_copied Fits shelf db fresh after rows read passed =
           let parts = and_parts _ _ from.4 in
           (from.0, from.2, equals_text (column from.0 2) shelf (and_parts _ _ parts.1).0, (from.1, has_kept (is_of from.0) (db.trees 8) from.1 from.3 parts.0, it.2 ∙ ap piece_cut from.5)))
           (λ values on.
-          let kept = has_filtered (is_of on.0) (db.trees 8) on.3.0 on.3.1 in
-          (piece_read on.3.0, found.complete on.0 on.3.0 on.1 kept.0 (and_from _ _ kept.1 (and_from _ _ (ap (λ v. equal Binary v (Text shelf)) on.2 ∙ equals_itself shelf) refl)), on.3.2))
+          let passed = has_filtered (is_of on.0) (db.trees 8) on.3.0 on.3.1 in
+          (piece_read on.3.0, found.complete on.0 on.3.0 on.1 passed.0 (and_from _ _ passed.1 (and_from _ _ (ap (λ v. equal Binary v (Text shelf)) on.2 ∙ equals_itself shelf) refl)), on.3.2))
           puts.rows;
       apart = puts.apart;
       tables = puts.tables;

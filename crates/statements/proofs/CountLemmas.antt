@@ -153,9 +153,9 @@ module _ (s p : List ℕ) (w : World) (db : Trees) (means : Means db w) where
 abbrev pub count_all : Query
 count_all = counting 6 []
 
-kept_all : (params : Row) (rows : List Row) → filter (passes [] params) rows ≡ rows
-kept_all params [] = refl
-kept_all params (row ∷ rows) = ap (λ (l : List Row). row ∷ l) (kept_all params rows)
+all_pass : (params : Row) (rows : List Row) → filter (passes [] params) rows ≡ rows
+all_pass params [] = refl
+all_pass params (row ∷ rows) = ap (λ (l : List Row). row ∷ l) (all_pass params rows)
 
 module _ (w : World) (db : Trees) (means : Means db w) where
   each_at : (row : Row) → Has (db 6) row → (q : Place) × IsAt row q × (map.contains_key w.entries q ≡ true)
@@ -178,6 +178,6 @@ module _ (w : World) (db : Trees) (means : Means db w) where
       let counted = row_counted 6 [] (overlay base.trees []) [] row got.0 answer in
       let value : pos n ≡ pos (min (length (filter (passes [] []) (base.trees 6))) most) = let e = sym shown ∙ counted in cc in
       let number : n ≡ min (length (filter (passes [] []) (base.trees 6))) most = cc in
-      let many : length (filter (passes [] []) (base.trees 6)) ≡ map.len w.entries = ap length (kept_all [] (base.trees 6))
+      let many : length (filter (passes [] []) (base.trees 6)) ≡ map.len w.entries = ap length (all_pass [] (base.trees 6))
       ∙ subst (λ (t : Trees). length (t 6) ≡ map.len w.entries) (sym has_db) rows_of_all in
       number ∙ ap (λ k. min k most) many

@@ -13,11 +13,11 @@ use Rattle.tables.specs.Means.{Means, Stands}
 use Rattle.tables.specs.Schema.{store_schema}
 use Rattle.tables.specs.Walks.{Looks}
 use Rattle.tables.proofs.FailureLemmas.{was_clean}
-use Rattle.tables.proofs.WalkLemmas.{unchanged_schema, kept_then}
+use Rattle.tables.proofs.WalkLemmas.{unchanged_schema, outcome_then}
 use Rattle.statements.specs.Calls.{Spares}
 use Rattle.statements.specs.Rows.{Filling, GoesOn}
 use Rattle.statements.specs.Extract.{IsReady, IsReadBy, Copies, PutsShelf, Then, Along}
-use Rattle.statements.proofs.CallLemmas.{kept_stands}
+use Rattle.statements.proofs.CallLemmas.{stands_still}
 use Rattle.statements.proofs.ChangeLemmas.{when_ok}
 use Rattle.statements.proofs.GoingLemmas.{goes_on_itself, goes_on_then}
 
@@ -43,7 +43,7 @@ module _ (sql : List ℕ) (params : Row) (plain : IsPlain (understood store_sche
 -- `GoesOn` holds of a call, done if it returns Ok, that commits nothing and leaves the transaction open when it returns Ok
 pub goes_on_if : {A E : Type 0} (r : Result A E) (a b : State) → Survives a b (λ _. ⊥) → (HasCleanDisk b → IsTrue a.in_transaction → KeepsCommit a b)
     → (HasCleanDisk b → IsTrue a.in_transaction → OnOk r (IsTrue b.in_transaction)) → GoesOn a b (is_ok r)
-goes_on_if r a b survives kept inside = record { survives = survives; kept = kept; inside = λ clean is done. when_ok r done (inside clean is) }
+goes_on_if r a b survives commit inside = record { survives = survives; commit = commit; inside = λ clean is done. when_ok r done (inside clean is) }
 
 -- a call copies what it makes if it only looks at the source, leaves it unchanged when it returns Ok, and goes on inside the transaction
 pub copied : {A E : Type 0} (r : Result A E) (Makes : Trees → Trees → Trees → Type 0) (s t a b : State)
@@ -56,7 +56,7 @@ copied r Makes s t a b looks same goes_on makes =
       clean = looks.clean;
       reads = λ ready. record {
         left = λ clean. looks.left clean (has ready clean);
-        kept = λ clean. looks.kept clean (has ready clean);
+        outcome = λ clean. looks.outcome clean (has ready clean);
         same = λ clean done. when_ok r done (same clean (has ready clean));
       };
       goes_on = goes_on;
@@ -69,7 +69,7 @@ unchanged_itself s is = (record { was_open = is; is_open = is; now_is = refl; co
 untouched : (s : State) (done : Bool) → IsReady s → IsReadBy s s done
 untouched s done ready = record {
   left = λ _ db may. may;
-  kept = λ clean. inl (unchanged_itself s (ready clean).0);
+  outcome = λ clean. inl (unchanged_itself s (ready clean).0);
   same = λ clean _. unchanged_itself s (ready clean).0;
 }
 
@@ -86,10 +86,10 @@ copies_none s a = record {
 pub put_copied : {A E : Type 0} (r : Result A E) (name : List ℕ) (parent : Option (List ℕ)) (s a b : State) → Survives a b (λ _. ⊥) → (HasCleanDisk b → IsTrue a.in_transaction → KeepsCommit a b)
     → (HasCleanDisk b → IsTrue a.in_transaction → OnOk r (IsTrue b.in_transaction))
     → (HasCleanDisk b → Filling a → OnOk r (PutsShelf name parent a.now.trees b.now.trees × Filling b)) → Copies (λ _. PutsShelf name parent) s s a b (is_ok r)
-put_copied r name parent s a b survives kept inside puts = record {
+put_copied r name parent s a b survives commit inside puts = record {
   clean = omega arith;
   reads = untouched s (is_ok r);
-  goes_on = goes_on_if r a b survives kept inside;
+  goes_on = goes_on_if r a b survives commit inside;
   makes = λ clean good ready w means filling done. when_ok r done (puts good filling);
 }
 
@@ -107,7 +107,7 @@ module _ (P Q : Trees → Trees → Trees → Type 0) (s t u a b c : State) (don
         let late = λ (clean : HasCleanDisk u). was_clean t u q.clean clean in
         record {
           left = λ clean db may. first.left (late clean) db (next.left clean db may);
-          kept = λ clean. kept_then s t u (first.same (late clean) refl) (next.kept clean);
+          outcome = λ clean. outcome_then s t u (first.same (late clean) refl) (next.outcome clean);
           same = λ clean all. unchanged_then s t u (first.same (late clean) refl) (next.same clean all);
         };
     goes_on = goes_on_then a b c done p.goes_on q.goes_on;
@@ -135,9 +135,9 @@ along_more P [] e w x z it = (z, subst (λ u. P e w u z) (sym it.1) it.2, refl)
 along_more P (d ∷ es) e w x z it = (it.1.0, it.1.1, along_more P es e w it.1.0 z (it.0, it.1.2, it.2))
 
 -- a copy that failed is a copy that makes anything, because `makes` speaks only of copies that were done
-pub copies_part : {A E : Type 0} (r : Result A E) (P Q : Trees → Trees → Trees → Type 0) (s t a b : State) → IsErr r → Copies P s t a b false → Copies Q s t a b (is_ok r)
-copies_part (Ok x) P Q s t a b failed p = absurd (true≢false (sym failed))
-copies_part (Err e) P Q s t a b failed p = record {
+pub failed_copies : {A E : Type 0} (r : Result A E) (P Q : Trees → Trees → Trees → Type 0) (s t a b : State) → IsErr r → Copies P s t a b false → Copies Q s t a b (is_ok r)
+failed_copies (Ok x) P Q s t a b failed p = absurd (true≢false (sym failed))
+failed_copies (Err e) P Q s t a b failed p = record {
   clean = p.clean;
   reads = p.reads;
   goes_on = p.goes_on;
@@ -148,7 +148,7 @@ copies_part (Err e) P Q s t a b failed p = record {
 pub read_spares : (s t : State) (done : Bool) → doubt s.is_clean ≤ doubt t.is_clean → IsReadBy s t done → Spares s t
 read_spares s t done up read = record {
   clean = up;
-  stays = λ w stands. kept_stands s t w up read.kept stands;
+  stays = λ w stands. stands_still s t w up read.outcome stands;
   left = λ clean w stands. read.left clean;
 }
 

@@ -68,14 +68,14 @@ module _ (p : Place) (db : Database) (w : World) (means : Means db.trees w) wher
       let it = means.entries.each found.0 found.1 in
       let at = passes_at found.0 found.2 in
       let same : it.0.0 ≡ p = same_place found.0 it.0.0 p it.1.place at in
-      let kept : map.get w.entries p ≡ Some it.0.1 = subst (λ q. map.get w.entries q ≡ Some it.0.1) same it.2 in
+      let holds : map.get w.entries p ≡ Some it.0.1 = subst (λ q. map.get w.entries q ≡ Some it.0.1) same it.2 in
       let shelves : p.shelf ≡ v.shelf = let e = sym (ap (λ (r : Row). column r 1) found.3 ∙ at.0) ∙ shelf in cc in
       let mods : v.heading.gomod ≡ it.0.1.gomod = let e = sym gomod ∙ (ap (λ (r : Row). column r 3) found.3 ∙ it.1.gomod) in cc in
       let times = same_time v.heading.time it.0.1.time (sym time ∙ (ap (λ (r : Row). column r 2) found.3 ∙ it.1.time)) in
       let number : rowid found.0 ≡ Int v.id = sym (ap (λ (r : Row). column r 0) found.3) ∙ id in
       record {
         entry = it.0.1;
-        is = ap (λ o. option_or (seen_at o p.shelf) None) kept ∙ ap (seen_at (Some it.0.1)) shelves;
+        is = ap (λ o. option_or (seen_at o p.shelf) None) holds ∙ ap (seen_at (Some it.0.1)) shelves;
         heading = λ i. record { gomod = mods i; time = times i };
         zip = subst (λ n. ArePieces (filter (λ row. equal Binary (column row 1) n) (db.trees 8)) it.0.1.zip) number it.1.zip;
       }

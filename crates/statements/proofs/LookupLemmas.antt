@@ -49,16 +49,16 @@ answer_found tree filter project order db params out answer =
     let test = passes filter params in
     let env = λ (r : Row). params ∷ r ∷ [] in
     let all = matches db filter (inner tree end) (params ∷ []) in
-    let kept : answer.kept ≡ map (output q) all = answer.distinct ∙ ap (map (output q)) answer.grouped in
+    let listed : answer.kept ≡ map (output q) all = answer.distinct ∙ ap (map (output q)) answer.grouped in
     record {
       sound = λ x h.
           let o = has_mapped (λ (k : Output). k.1) answer.ordered x (subst (λ l. Has l x) answer.shown h) in
-          let e = has_mapped (output q) all o.0 (subst (λ l. Has l o.0) kept (has_permuted answer.kept answer.ordered o.0 answer.same o.1)) in
+          let e = has_mapped (output q) all o.0 (subst (λ l. Has l o.0) listed (has_permuted answer.kept answer.ordered o.0 answer.same o.1)) in
           let r = has_matched test env (db tree) e.0 e.1 in
           (r.0, r.1, r.2, o.2 ∙ ap (λ (k : Output). k.1) (e.2 ∙ ap (output q) r.3));
       complete = λ r h passes.
           let o = output q (env r) in
-          let there = subst (λ l. Has l o) (sym kept) (mapped_has (output q) all (env r) (matched_has test env (db tree) r h passes)) in
+          let there = subst (λ l. Has l o) (sym listed) (mapped_has (output q) all (env r) (matched_has test env (db tree) r h passes)) in
           subst (λ l. Has l o.1) (sym answer.shown) (mapped_has (λ (k : Output). k.1) answer.ordered o (has_permuted answer.ordered answer.kept o (IsPermutation-sym _ _ answer.same) there));
     }
 

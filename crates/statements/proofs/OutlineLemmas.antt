@@ -48,8 +48,8 @@ module _ (id : ℤ) (db : Database) where
   pub none_shown : Picks last_query (zip_params id) db None → (zip : List ℕ) → IsZip db.trees id zip → ¬ HasPiece zip 0
   none_shown picked zip is has =
       let from = is.found 0 has in
-      let kept = has_filtered (is_of_number id) (db.trees 8) from.0 from.1 in
-      true≢false (sym (and_from _ _ kept.1 refl) ∙ found None picked from.0 kept.0)
+      let passed = has_filtered (is_of_number id) (db.trees 8) from.0 from.1 in
+      true≢false (sym (and_from _ _ passed.1 refl) ∙ found None picked from.0 passed.0)
 
 -- ---- lengths
 

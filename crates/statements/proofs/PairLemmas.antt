@@ -24,18 +24,18 @@ answer_paired t u filter project db params out answer =
     let test = λ (r b : Row). passes_both filter params r b in
     let each = λ (r : Row). flat_map (λ b. cond (test r b) (env r b ∷ []) []) (db u) in
     let all = matches db filter (inner t (inner u end)) (params ∷ []) in
-    let kept : answer.kept ≡ map (output q) all = answer.distinct ∙ ap (map (output q)) answer.grouped in
+    let listed : answer.kept ≡ map (output q) all = answer.distinct ∙ ap (map (output q)) answer.grouped in
     record {
       sound = λ x h.
           let o = has_mapped (λ (k : Output). k.1) answer.ordered x (subst (λ l. Has l x) answer.shown h) in
-          let e = has_mapped (output q) all o.0 (subst (λ l. Has l o.0) kept (has_permuted answer.kept answer.ordered o.0 answer.same o.1)) in
+          let e = has_mapped (output q) all o.0 (subst (λ l. Has l o.0) listed (has_permuted answer.kept answer.ordered o.0 answer.same o.1)) in
           let r = flat_has each (db t) e.0 e.1 in
           let b = has_matched (test r.0) (env r.0) (db u) e.0 r.2 in
           (r.0, b.0, r.1, b.1, b.2, o.2 ∙ ap (λ (k : Output). k.1) (e.2 ∙ ap (output q) b.3));
       complete = λ r b here there passed.
           let o = output q (env r b) in
           let found = has_flat each (db t) r (env r b) here (matched_has (test r) (env r) (db u) b there passed) in
-          let at = subst (λ l. Has l o) (sym kept) (mapped_has (output q) all (env r b) found) in
+          let at = subst (λ l. Has l o) (sym listed) (mapped_has (output q) all (env r b) found) in
           subst (λ l. Has l o.1) (sym answer.shown) (mapped_has (λ (k : Output). k.1) answer.ordered o (has_permuted answer.ordered answer.kept o (IsPermutation-sym _ _ answer.same) at));
     }
 

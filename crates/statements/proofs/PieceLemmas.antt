@@ -64,8 +64,8 @@ module _ (id : ℤ) (n : ℕ) (db : Database) where
       (subst (HasPiece zip) same own.2, ap (λ (r : Row). column r 0) it.3 ∙ (own.1.bytes ∙ ap (λ m. Blob (piece zip m)) same))
   piece_shown None picked = λ zip is has.
       let from = is.found n has in
-      let kept = has_filtered (is_of_number id) (db.trees 8) from.0 from.1 in
-      true≢false (sym (passes_number from.0 kept.1 from.2.number) ∙ found None picked from.0 kept.0)
+      let passed = has_filtered (is_of_number id) (db.trees 8) from.0 from.1 in
+      true≢false (sym (passes_number from.0 passed.1 from.2.number) ∙ found None picked from.0 passed.0)
 
 -- ---- a zip, piece by piece
 

@@ -98,8 +98,8 @@ left_if (id ∷ ids) rows x h lacks = left_if ids (without_rowid id rows) x (has
 not_left : (ids : List ℤ) (rows : List Row) (x : Row) (id : ℤ) → Has ids id → has_rowid id x ≡ true → Has (without_all rows ids) x → ⊥
 not_left [] rows x id none is h = none
 not_left (i ∷ ids) rows x id (inl same) is h =
-    let kept = has_filtered (λ y. not (has_rowid i y)) rows x (without_all_has ids (without_rowid i rows) x h) in
-    true≢false (sym kept.1 ∙ ap not (ap (λ j. has_rowid j x) (sym same) ∙ is))
+    let left = has_filtered (λ y. not (has_rowid i y)) rows x (without_all_has ids (without_rowid i rows) x h) in
+    true≢false (sym left.1 ∙ ap not (ap (λ j. has_rowid j x) (sym same) ∙ is))
 not_left (i ∷ ids) rows x id (inr later) is h = not_left ids (without_rowid i rows) x id later is h
 
 same_number : (m n : ℤ) → is_eq (value_cmp (Int m) (Int n)) ≡ true → m ≡ n
@@ -152,9 +152,9 @@ module _ (w : World) (token : List ℕ) where
           let other : eq_by_cmp text_cmp it.0.0 token ≡ false = false_from_ne_true _ (λ tie. other_key row left (it.1.0 ∙ ap Text (tells_apart texts_exact it.0.0 token tie))) in
           (it.0, it.1, map.get-remove texts_total w.keys token it.0.0 ∙ (ap (λ b. cond b None (map.get w.keys it.0.0)) other ∙ it.2));
       found = λ x holds.
-          let kept = gone (eq_by_cmp text_cmp x.0 token) (map.get w.keys x.0) x.1 (sym (map.get-remove texts_total w.keys token x.0) ∙ holds) in
-          let it = access.found x kept.1 in
-          (it.0, is_left it.0 x.0 it.1 it.2.0 (λ same. true≢false (sym (ap (λ k. eq_by_cmp text_cmp k token) same ∙ ap is_eq (tied_itself texts_total token)) ∙ kept.0)), it.2);
+          let left = gone (eq_by_cmp text_cmp x.0 token) (map.get w.keys x.0) x.1 (sym (map.get-remove texts_total w.keys token x.0) ∙ holds) in
+          let it = access.found x left.1 in
+          (it.0, is_left it.0 x.0 it.1 it.2.0 (λ same. true≢false (sym (ap (λ k. eq_by_cmp text_cmp k token) same ∙ ap is_eq (tied_itself texts_total token)) ∙ left.0)), it.2);
     }
 
     numbered_left : IsNumbered (without_all rows (ids_of out))

@@ -106,14 +106,14 @@ puts_along table read Once IsOf (e ∷ es) source db after it =
 -- ---- pieces
 
 -- two rows of `piece` that read alike have equal versions, numbers and bytes
-pub read_parts : (a b : Row) → piece_read a ≡ piece_read b → (column a 1 ≡ column b 1) × (column a 2 ≡ column b 2) × (column a 3 ≡ column b 3)
-read_parts a b same = (ap (λ (r : Row). column r 0) same, ap (λ (r : Row). column r 1) same, ap (λ (r : Row). column r 2) same)
+pub read_columns : (a b : Row) → piece_read a ≡ piece_read b → (column a 1 ≡ column b 1) × (column a 2 ≡ column b 2) × (column a 3 ≡ column b 3)
+read_columns a b same = (ap (λ (r : Row). column r 0) same, ap (λ (r : Row). column r 1) same, ap (λ (r : Row). column r 2) same)
 
 pub piece_as : (zip : List ℕ) (a b : Row) (n : ℕ) → piece_read a ≡ piece_read b → IsPiece zip b n → IsPiece zip a n
-piece_as zip a b n same is = let it = read_parts a b same in record { number = it.1 ∙ is.number; bytes = it.2 ∙ is.bytes }
+piece_as zip a b n same is = let it = read_columns a b same in record { number = it.1 ∙ is.number; bytes = it.2 ∙ is.bytes }
 
 pub of_as : (version a b : Row) → piece_read a ≡ piece_read b → is_of version b ≡ true → is_of version a ≡ true
-of_as version a b same is = ap (λ v. equal Binary v (rowid version)) (read_parts a b same).0 ∙ is
+of_as version a b same is = ap (λ v. equal Binary v (rowid version)) (read_columns a b same).0 ∙ is
 
 -- rows of a version that read like the pieces of a zip are the pieces of that zip
 pub same_pieces : (one two : Row) (rows more : List Row) (zip : List ℕ)
@@ -122,14 +122,14 @@ pub same_pieces : (one two : Row) (rows more : List Row) (zip : List ℕ)
     → ArePieces (filter (is_of one) rows) zip → ArePieces (filter (is_of two) more) zip
 same_pieces one two rows more zip back there are = record {
   each = λ b h.
-      let kept = has_filtered (is_of two) more b h in
-      let a = back b kept.0 kept.1 in
+      let passed = has_filtered (is_of two) more b h in
+      let a = back b passed.0 passed.1 in
       let it = are.each a.0 (has_kept (is_of one) rows a.0 a.1 a.2) in
       (it.0, piece_as zip b a.0 it.0 a.3 it.1, it.2);
   found = λ n has.
       let a = are.found n has in
-      let kept = has_filtered (is_of one) rows a.0 a.1 in
-      let b = there a.0 kept.0 kept.1 in
+      let passed = has_filtered (is_of one) rows a.0 a.1 in
+      let b = there a.0 passed.0 passed.1 in
       (b.0, has_kept (is_of two) more b.0 b.1 b.2, piece_as zip b.0 a.0 n b.3 a.2);
 }
 

@@ -196,19 +196,19 @@ rows_at rows at row shelves more s within is shows made lists =
 -- ---- what a list keeps of its fields
 
 -- the names of the shelves are distinct, and the set has them and `common`
-abbrev pub AreKept : List Shelf → set.FinSet text_cmp → Type 0
-AreKept shelves names = AreNew (common ∷ []) (names_of shelves) × AreNames names (names_of shelves)
+abbrev pub AreListed : List Shelf → set.FinSet text_cmp → Type 0
+AreListed shelves names = AreNew (common ∷ []) (names_of shelves) × AreNames names (names_of shelves)
 
-pub kept_first : (shelves : List Shelf) (names before : set.FinSet text_cmp) (text : List ℕ) → shelves ≡ []
-    → names ≡ set.insert before text → before ≡ set.empty → text ≡ common → AreKept shelves names
-kept_first shelves names before text none made first is =
+pub first_listed : (shelves : List Shelf) (names before : set.FinSet text_cmp) (text : List ℕ) → shelves ≡ []
+    → names ≡ set.insert before text → before ≡ set.empty → text ≡ common → AreListed shelves names
+first_listed shelves names before text none made first is =
     let whole : names ≡ set.insert set.empty common = made ∙ (λ i. set.insert (first i) (is i)) in
     let start : AreNames names [] = subst (λ n. AreNames n []) (sym whole) of_common in
-    subst (λ l. AreKept l names) (sym none) (tt, start)
+    subst (λ l. AreListed l names) (sym none) (tt, start)
 
-pub kept_more : (shelves longer : List Shelf) (one : Shelf) (names more : set.FinSet text_cmp) (text : List ℕ) → AreKept shelves names → set.contains names one.name ≡ false
-    → longer ≡ shelves ++ one ∷ [] → more ≡ set.insert names text → text ≡ one.name → AreKept longer more
-kept_more shelves longer one names more text are free is made same =
+pub more_listed : (shelves longer : List Shelf) (one : Shelf) (names more : set.FinSet text_cmp) (text : List ℕ) → AreListed shelves names → set.contains names one.name ≡ false
+    → longer ≡ shelves ++ one ∷ [] → more ≡ set.insert names text → text ≡ one.name → AreListed longer more
+more_listed shelves longer one names more text are free is made same =
     let whole : more ≡ set.insert names one.name = made ∙ ap (set.insert names) same in
     let still : AreNames more (names_of (shelves ++ one ∷ [])) = subst (λ n. AreNames n (names_of (shelves ++ one ∷ []))) (sym whole) (still_names shelves one names are.1 free) in
-    subst (λ l. AreKept l more) (sym is) (still_new shelves one names are.1 free are.0, still)
+    subst (λ l. AreListed l more) (sym is) (still_new shelves one names are.1 free are.0, still)

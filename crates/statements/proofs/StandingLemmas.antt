@@ -37,13 +37,13 @@ module _ (db : Trees) (seen : Option Seen) (row : VersionRow) (e : Entry) (it : 
 
   pub standing_whole : (same : Bool) → same_heading row.heading e ≡ true → same ≡ bytes_eq it.entry.zip e.zip → cond same Same Other ≡ standing_to (entry_in seen) e
   standing_whole same headed zips =
-      let told = by_zips (bytes_eq it.entry.gomod e.gomod) (bytes_eq it.entry.zip e.zip) (same_time it.entry.time e.time) (sym heads ∙ headed) in
-      ap (λ b. cond b Same Other) (zips ∙ sym told) ∙ standing_is
+      let decided = by_zips (bytes_eq it.entry.gomod e.gomod) (bytes_eq it.entry.zip e.zip) (same_time it.entry.time e.time) (sym heads ∙ headed) in
+      ap (λ b. cond b Same Other) (zips ∙ sym decided) ∙ standing_is
 
   pub standing_other : same_heading row.heading e ≡ false → Other ≡ standing_to (entry_in seen) e
   standing_other headed =
-      let told = not_same (bytes_eq it.entry.gomod e.gomod) (bytes_eq it.entry.zip e.zip) (same_time it.entry.time e.time) (sym heads ∙ headed) in
-      ap (λ b. cond b Same Other) (sym told) ∙ standing_is
+      let decided = not_same (bytes_eq it.entry.gomod e.gomod) (bytes_eq it.entry.zip e.zip) (same_time it.entry.time e.time) (sym heads ∙ headed) in
+      ap (λ b. cond b Same Other) (sym decided) ∙ standing_is
 
 pub standing_lacks : (seen : Option Seen) (e : Entry) → seen ≡ None → Absent ≡ standing_to (entry_in seen) e
 standing_lacks seen e none = sym (ap (λ o. standing_to (entry_in o) e) none)

@@ -59,20 +59,20 @@ module _ {S : Type 0} (g : Ghosts S) (h : Held S) (last exit : State) (w next : 
         let holds = λ (clean : HasCleanDisk exit) (stands : Stands old w).
         let it = made (late clean) stands in
         let end = shown clean in
-        let kept : Holds exit next = record {
+        let held : Holds exit next = record {
           schema = ap (λ (d : Database). d.schema) end.now_is ∙ it.schema;
           settled = end.now_is ∙ sym end.committed_is;
           autocommit = end.mode;
           trees = subst (λ (d : Database). StandFor d.trees next) (sym end.now_is) it.trees;
-        } in kept in
+        } in held in
         record {
           world = λ stands clean _. holds clean stands;
           left = λ clean stands only db may. elim (left_by (λ t. t ≡ last.now.trees) ends clean db may) [
             | inl first ↦ (let it = only db first in (it.0, it.1, inl it.2))
             | inr made_so ↦ (next, subst (λ t. StandFor t next) (sym made_so) (made (late clean) stands).trees, inr refl)
           ];
-          kept = λ _ clean stands. open_leaves exit next (λ db. settled db (shown clean).is_open) (holds clean stands);
-          failed = λ part. absurd (true≢false part);
+          alone = λ _ clean stands. open_leaves exit next (λ db. settled db (shown clean).is_open) (holds clean stands);
+          failed = λ unfinished. absurd (true≢false unfinished);
         }
 
     -- a transaction that was rolled back is a change that was not done
@@ -93,13 +93,13 @@ module _ {S : Type 0} (g : Ghosts S) (h : Held S) (last exit : State) (w next : 
             trees = subst (λ (d : Database). StandFor d.trees w) (sym now) holds.trees;
           };
       left = leaves;
-      kept = λ done. absurd (true≢false (sym done));
-      failed = λ _ clean stands. inl (leaves clean stands (alone clean stands));
+      alone = λ done. absurd (true≢false (sym done));
+      failed = λ _ clean stands. inl (leaves clean stands (old_alone clean stands));
     }
       where
         -- the connection was open, so a crash left what it showed
-        alone : HasCleanDisk exit → Stands old w → LeavesOnly old (λ x. x ≡ w)
-        alone clean stands =
+        old_alone : HasCleanDisk exit → Stands old w → LeavesOnly old (λ x. x ≡ w)
+        old_alone clean stands =
             let was = was_clean begun last quiet.clean (was_clean last exit up clean) in
             open_leaves old w (λ db. law db (opened was)) (stands was (opened was))
 
@@ -113,14 +113,14 @@ module _ {S : Type 0} (g : Ghosts S) (h : Held S) (last exit : State) (w next : 
         (lost : is_whole ≡ false → Survives last exit (λ _. ⊥)) (keeps : HasCleanDisk last → KeepsCommit begun last)
         (made : HasCleanDisk last → Stands old w → IsTrue is_whole → Writing last next) where
       not_whole : is_whole ≡ false → ChangesAt old exit false w next
-      not_whole part = undone_to keeps (lost part).clean (λ clean _. undone clean part) (λ _. ⊥) (λ _ _ _ none. absurd none) (lost part)
+      not_whole unfinished = undone_to keeps (lost unfinished).clean (λ clean _. undone clean unfinished) (λ _. ⊥) (λ _ _ _ none. absurd none) (lost unfinished)
 
       -- `commit_if` ended it
       pub ended_by : (HasCleanDisk exit → IsTrue is_whole → Shows last exit last.now last.now false)
           → ((db : Trees) → IsTrue exit.is_open → exit.may_leave db → db ≡ exit.committed.trees) → ChangesAt old exit is_whole w next
       ended_by shown settled = elim (true_or_false is_whole) [
         | inl all ↦ subst (λ b. ChangesAt old exit b w next) (sym all) (committed_to settled (λ late stands. made late stands all) (ends all) (λ clean. shown clean all))
-        | inr part ↦ subst (λ b. ChangesAt old exit b w next) (sym part) (not_whole part)
+        | inr unfinished ↦ subst (λ b. ChangesAt old exit b w next) (sym unfinished) (not_whole unfinished)
       ]
 
       -- `commit_if` failed
@@ -130,7 +130,7 @@ module _ {S : Type 0} (g : Ghosts S) (h : Held S) (last exit : State) (w next : 
             let late = was_clean last exit (ends all).clean in
             undone_to keeps (ends all).clean (λ clean stands. commit_failed last exit x (made (late clean) stands all).inside (fails clean all))
             (λ db. db ≡ last.now.trees) (λ clean stands db at. subst (λ t. StandFor t next) (sym at) (made (late clean) stands all).trees) (ends all))
-        | inr part ↦ not_whole part
+        | inr unfinished ↦ not_whole unfinished
       ]
 
 -- once the rows of an entry are added inside a transaction, its tables stand for the world with the entry

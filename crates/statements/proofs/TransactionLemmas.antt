@@ -46,9 +46,9 @@ module _ (id : ℤ) (p : Place) (e : Entry) (rows pieces more : List Row) (adds 
   pieces_new : ((b : Row) → Has pieces b → is_of row b ≡ false) → ArePieces (filter (is_of row) more) e.zip
   pieces_new none = record {
     each = λ b h.
-        let kept = has_filtered (is_of row) more b h in
-        elim ((adds (piece_read b)).0 (b, kept.0, refl)) [
-          | inl was ↦ absurd (true≢false (sym (of_as row was.0 b (sym was.2) kept.1) ∙ none was.0 was.1))
+        let passed = has_filtered (is_of row) more b h in
+        elim ((adds (piece_read b)).0 (b, passed.0, refl)) [
+          | inl was ↦ absurd (true≢false (sym (of_as row was.0 b (sym was.2) passed.1) ∙ none was.0 was.1))
           | inr new ↦ (let it = ap (λ (r : Row). column r 1) new.2 in let bytes = ap (λ (r : Row). column r 2) new.2 in (new.0, record { number = it; bytes = bytes }, new.1))
         ];
     found = λ n has.
@@ -61,8 +61,8 @@ module _ (id : ℤ) (p : Place) (e : Entry) (rows pieces more : List Row) (adds 
   }
 
 module _ (w : World) (p : Place) (e : Entry) (unused : map.get w.entries p ≡ None) where
-  kept : (y : Place × Entry) → map.get w.entries y.0 ≡ Some y.1 → map.get (with_entry w p e).entries y.0 ≡ Some y.1
-  kept y is = put_keeps places_total places_exact w.entries p e unused y.0 y.1 is
+  still_there : (y : Place × Entry) → map.get w.entries y.0 ≡ Some y.1 → map.get (with_entry w p e).entries y.0 ≡ Some y.1
+  still_there y is = put_keeps places_total places_exact w.entries p e unused y.0 y.1 is
 
   split : (y : Place × Entry) → map.get (with_entry w p e).entries y.0 ≡ Some y.1 → (y ≡ (p, e)) ⊎ (map.get w.entries y.0 ≡ Some y.1)
   split y is = put_splits places_total places_exact w.entries p e y is
@@ -109,7 +109,7 @@ module _ (w : World) (p : Place) (e : Entry) (unused : map.get w.entries p ≡ N
         shelves = rw (a.zip.tables.1.0 (λ f. omega (arith, f)), a.version.tables.1.0 (λ f. omega (arith, f))) means.shelves;
         access = rw (a.zip.tables.1.1.0 (λ f. omega (arith, f)), a.version.tables.1.1.0 (λ f. omega (arith, f))) means.access;
         numbered = rw (a.zip.tables.1.1.0 (λ f. omega (arith, f)), a.version.tables.1.1.0 (λ f. omega (arith, f))) means.numbered;
-        entries = rw (rows, a.version.rows) (tabulates_put (IsVersion (after 8)) (db 6) row (p, e) _ _ a.version.fresh new_is kept (get_put places_total w.entries p e) split wider);
+        entries = rw (rows, a.version.rows) (tabulates_put (IsVersion (after 8)) (db 6) row (p, e) _ _ a.version.fresh new_is still_there (get_put places_total w.entries p e) split wider);
         names = rw (a.zip.tables.1.0 (λ f. omega (arith, f)), a.version.tables.1.0 (λ f. omega (arith, f))) means.names;
         tokens = rw (a.zip.tables.1.1.0 (λ f. omega (arith, f)), a.version.tables.1.1.0 (λ f. omega (arith, f))) means.tokens;
         places = rw (rows, a.version.rows) (put_apart (λ a b. (q : Place) → IsAt a q → IsAt b q → ⊥)

@@ -173,13 +173,13 @@ one_more rows row text old mid new shows made adds t = (to t, from t)
       ]
     ]
 
-    kept : (t : List ℕ) → set.contains mid t ≡ true → set.contains new t ≡ true
-    kept t h = subst (λ s. set.contains s t ≡ true) (sym made) (still mid text t h)
+    stays : (t : List ℕ) → set.contains mid t ≡ true → set.contains new t ≡ true
+    stays t h = subst (λ s. set.contains s t ≡ true) (sym made) (still mid text t h)
 
     from : (t : List ℕ) → (set.contains old t ≡ true) ⊎ IsShown (rows ++ row ∷ []) t → set.contains new t ≡ true
-    from t (inl before) = kept t ((adds t).1 (inl before))
+    from t (inl before) = stays t ((adds t).1 (inl before))
     from t (inr shown) = elim (has_either rows (row ∷ []) shown.0 shown.1) [
-      | inl was ↦ kept t ((adds t).1 (inr (shown.0, was, shown.2)))
+      | inl was ↦ stays t ((adds t).1 (inr (shown.0, was, shown.2)))
       | inr (inl last) ↦ (let same : text ≡ t = let e = sym shows ∙ (ap (λ (r : Row). column r 0) (sym last) ∙ shown.2) in cc in
           subst (λ s. set.contains s t ≡ true) (sym made) (subst (λ x. set.contains (set.insert mid text) x ≡ true) same (text_put mid text)))
       | inr (inr none) ↦ absurd none

@@ -20,18 +20,18 @@ use Rattle.world.specs.World.{World}
 use Rattle.tables.specs.Schema.{store_schema}
 use Rattle.tables.specs.Means.{Holds, Stands, StandFor, Means}
 use Rattle.statements.specs.Calls.{LeavesOnly, ChangesAt}
-use Rattle.tables.proofs.FailureLemmas.{Kept, not_run, was_clean}
-use Rattle.statements.proofs.CallLemmas.{kept_stands}
+use Rattle.tables.proofs.FailureLemmas.{IsUnchangedOrUndone, not_run, was_clean}
+use Rattle.statements.proofs.CallLemmas.{stands_still}
 
-ran_alone : (sql : List ℕ) (params : Row) (old new : State) (e : Error) (c : Compiled) → RunsAlone false old new sql c params (Err e) → Kept old new
+ran_alone : (sql : List ℕ) (params : Row) (old new : State) (e : Error) (c : Compiled) → RunsAlone false old new sql c params (Err e) → IsUnchangedOrUndone old new
 ran_alone sql params old new e c h = go (shows_rows false c) h
   where
-    go : (b : Bool) → MatchBool b ((◌≡◌ {A = Result ℕ Error} (Err e) (Err ExecuteReturnedResults)) × IsUnchanged old new) (RunsCommand old new sql c params (Err e)) → Kept old new
+    go : (b : Bool) → MatchBool b ((◌≡◌ {A = Result ℕ Error} (Err e) (Err ExecuteReturnedResults)) × IsUnchanged old new) (RunsCommand old new sql c params (Err e)) → IsUnchangedOrUndone old new
     go true h = inl h.1
     go false (inl h) = inl h.1
     go false (inr h) = inr h.3
 
-pub failed_execute : (sql : List ℕ) (params : Row) (old new : State) (e : Error) → Executes sql params old new (Err e) → Kept old new
+pub failed_execute : (sql : List ℕ) (params : Row) (old new : State) (e : Error) → Executes sql params old new (Err e) → IsUnchangedOrUndone old new
 unfolding ExecutesIn
 failed_execute sql params old new e (inl h) = not_run old new sql params e h
 failed_execute sql params old new e (inr h) = ran_alone sql (timed params h.0.formats h.1.now) old new e h.0 h.2
@@ -114,9 +114,9 @@ module _ (sql : List ℕ) (params : Row) (command : Command) (is : command_of (u
       record {
         world = λ stands clean shown. written_holds w next (held clean stands) (turns (held clean stands)) count (ran clean);
         left = λ clean stands only. written_leaves w next (held clean stands) (turns (held clean stands)) survives clean only;
-        kept = λ _ clean stands. open_leaves new next
+        alone = λ _ clean stands. open_leaves new next
             (λ db. law db (written_open w (held clean stands) count (ran clean))) (written_holds w next (held clean stands) (turns (held clean stands)) count (ran clean));
-        failed = λ part. absurd (true≢false part);
+        failed = λ unfinished. absurd (true≢false unfinished);
       }
 
   -- a statement that failed is a change that was not done
@@ -126,9 +126,9 @@ module _ (sql : List ℕ) (params : Row) (command : Command) (is : command_of (u
   failed_changes law opened w next turns survives e ran =
       let held = λ (clean : HasCleanDisk new) (stands : Stands old w). let was = was_clean old new survives.clean clean in stands was (opened was) in
       record {
-        world = λ stands. kept_stands old new w survives.clean (λ clean. failed_execute sql params old new e (ran clean)) stands;
+        world = λ stands. stands_still old new w survives.clean (λ clean. failed_execute sql params old new e (ran clean)) stands;
         left = λ clean stands only. written_leaves w next (held clean stands) (turns (held clean stands)) survives clean only;
-        kept = λ done. absurd (true≢false (sym done));
+        alone = λ done. absurd (true≢false (sym done));
         failed = λ _ clean stands.
             let h = held clean stands in
             let early = opened (was_clean old new survives.clean clean) in

@@ -22,12 +22,12 @@ use Rattle.world.specs.World.{World}
 use Rattle.tables.specs.Schema.{store_schema}
 use Rattle.tables.specs.Means.{Stands}
 use Rattle.tables.specs.Pieces.{begin, HasPiece, piece}
-use Rattle.tables.proofs.FailureLemmas.{Kept, was_clean}
-use Rattle.tables.proofs.FitTests.{at_place}
+use Rattle.tables.proofs.FailureLemmas.{IsUnchangedOrUndone, was_clean}
+use Rattle.tables.proofs.FitTests.{at_index}
 use Rattle.tables.proofs.ListingLemmas.{by_piece}
 use Rattle.statements.specs.Calls.{Spares}
 use Rattle.statements.specs.Reading.{IsZip}
-use Rattle.statements.proofs.CallLemmas.{kept_stands}
+use Rattle.statements.proofs.CallLemmas.{stands_still}
 use Rattle.statements.proofs.LookupLemmas.{ordered, asks, all_found, begun_found}
 use Rattle.statements.proofs.PieceLemmas.{next_piece, no_more, bytes_same}
 
@@ -89,7 +89,7 @@ module _ (id : ℤ) (db : Database) where
       → IsShownAs row n bytes → IsZip db.trees id zip → bytes ≡ piece zip n
   row_shown rows row n bytes zip first shows is =
       let begun = begun_found (zip_params id) db 8 of_version shown by_piece (λ _. refl) (rows ++ row ∷ []) first in
-      let it = begun.1.sound row (at_place rows begun.0 row) in
+      let it = begun.1.sound row (at_index rows begun.0 row) in
       let own = is.each it.0 (has_kept (is_of_number id) (db.trees 8) it.0 it.1 (and_parts _ _ it.2).0) in
       let same : own.0 ≡ n = int_same (sym own.1.number ∙ (sym (ap (λ (r : Row). column r 0) it.3) ∙ shows.0)) in
       bytes_same (sym shows.1 ∙ (ap (λ (r : Row). column r 1) it.3 ∙ (own.1.bytes ∙ ap (λ m. Blob (piece zip m)) same)))
@@ -99,8 +99,8 @@ module _ (id : ℤ) (db : Database) where
   none_left rows n zip all below is has =
       let found = all_found (zip_params id) db 8 of_version shown by_piece (λ _. refl) rows all in
       let from = is.found n has in
-      let kept = has_filtered (is_of_number id) (db.trees 8) from.0 from.1 in
-      let it = below _ (found.complete from.0 kept.0 (and_from _ _ kept.1 refl)) in
+      let passed = has_filtered (is_of_number id) (db.trees 8) from.0 from.1 in
+      let it = below _ (found.complete from.0 passed.0 (and_from _ _ passed.1 refl)) in
       let same : it.0 ≡ n = int_same (sym it.2 ∙ from.2.number) in
       let low = it.1 in
       omega (arith, same, low)
@@ -125,9 +125,9 @@ module _ (sql : List ℕ) (params : Row) (plain : IsPlain (understood store_sche
   pub plain_then : (w : World) → Stands old w → HasCleanDisk new → IsPlain (understood old.now.schema sql)
   plain_then w stands clean = let was = was_clean old new survives.clean clean in subst (λ s. IsPlain (understood s sql)) (sym (stands was (opened was)).schema) plain
 
-  pub asked_spares : (HasCleanDisk new → IsPlain (understood old.now.schema sql) → Kept old new) → Spares old new
-  asked_spares kept = record {
+  pub asked_spares : (HasCleanDisk new → IsPlain (understood old.now.schema sql) → IsUnchangedOrUndone old new) → Spares old new
+  asked_spares outcome = record {
     clean = survives.clean;
-    stays = λ w stands. kept_stands old new w survives.clean (λ clean. kept clean (plain_then w stands clean)) stands;
+    stays = λ w stands. stands_still old new w survives.clean (λ clean. outcome clean (plain_then w stands clean)) stands;
     left = λ clean w stands db may. elim (survives.crash clean db may) [ inl was ↦ was | inr commits ↦ absurd (never_commits sql params old db (plain_then w stands clean) commits) ];
   }

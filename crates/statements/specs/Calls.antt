@@ -45,10 +45,10 @@ LeavesNoMore old new = (db : Trees) → new.may_leave db → old.may_leave db
 pub record ChangesAt (old new : State) (done : Bool) (w next : World) : Type 0 where
   pub world : Stands old w → Stands new (if done then next else w)
   pub left : HasCleanDisk new → Stands old w → LeavesOnly old (λ x. x ≡ w) → LeavesOnly new (λ x. (x ≡ w) ⊎ (x ≡ next))
-  pub kept : IsTrue done → HasCleanDisk new → Stands old w → LeavesOnly new (λ x. x ≡ next)
+  pub alone : IsTrue done → HasCleanDisk new → Stands old w → LeavesOnly new (λ x. x ≡ next)
   pub failed : done ≡ false → HasCleanDisk new → Stands old w → LeavesOnly new (λ x. (x ≡ w) ⊎ (x ≡ next)) ⊎ LeavesNoMore old new
 
--- a call turned each world that the tables stood for into its next world, or kept it
+-- a call turned each world that the tables stood for into its next world, or left it as it was
 pub record Changes (old new : State) (done : Bool) (next : World → World) : Type 0 where
   pub clean : doubt old.is_clean ≤ doubt new.is_clean
   pub at : (w : World) → ChangesAt old new done w (next w)

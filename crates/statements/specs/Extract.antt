@@ -28,7 +28,7 @@ IsReady s = HasCleanDisk s → IsTrue s.is_open × (s.now.schema ≡ store_schem
 -- did not leave before.
 pub record IsReadBy (old new : State) (done : Bool) : Type 0 where
   pub left : HasCleanDisk new → (db : Trees) → new.may_leave db → old.may_leave db
-  pub kept : HasCleanDisk new → IsUnchanged old new ⊎ IsRolledBack old new
+  pub outcome : HasCleanDisk new → IsUnchanged old new ⊎ IsRolledBack old new
   pub same : HasCleanDisk new → IsTrue done → IsUnchanged old new
 
 -- Rows of a source are put into a fresh store inside a transaction of it. If the call is done, `Makes` relates the tables of

@@ -1,4 +1,4 @@
--- How long a zip is, told by one of its pieces.
+-- How long a zip is, found from one of its pieces.
 use Rattle.std.specs.Prelude.{ℕ, ◌+◌, ◌≡◌, List, Option, Some, None, length}
 use Rattle.tables.specs.Pieces.{HasPiece, piece}
 use Rattle.statements.specs.declared.outlines.Piece.{Piece}

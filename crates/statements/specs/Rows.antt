@@ -30,7 +30,7 @@ pub record Writing (s : State) (x : World) : Type 0 where
 -- Nothing is committed, and if the disk has returned what was written, a call that is done leaves the transaction open.
 pub record GoesOn (old new : State) (done : Bool) : Type 0 where
   pub survives : Survives old new (λ _. ⊥)
-  pub kept : HasCleanDisk new → IsTrue old.in_transaction → KeepsCommit old new
+  pub commit : HasCleanDisk new → IsTrue old.in_transaction → KeepsCommit old new
   pub inside : HasCleanDisk new → IsTrue old.in_transaction → IsTrue done → IsTrue new.in_transaction
 
 -- ---- one row

@@ -237,7 +237,7 @@ fn insert_version<'p, S: Alter>(
 ) -> Result<i64, Error>
     ensures same_reference { tx.new.conn.ghost_name ≡ tx.old.conn.ghost_name }
     ensures survives { Survives (state S.Store tx.old.conn.now) (state S.Store tx.new.conn.now) (λ _. ⊥) }
-    ensures kept { Honestly (state S.Store tx.old.conn.now) (state S.Store tx.new.conn.now) (λ old new.
+    ensures commit { Honestly (state S.Store tx.old.conn.now) (state S.Store tx.new.conn.now) (λ old new.
         IsTrue old.in_transaction → KeepsCommit old new) }
     ensures inside { Honestly (state S.Store tx.old.conn.now) (state S.Store tx.new.conn.now) (λ old new.
         IsTrue old.in_transaction → OnOk result (IsTrue new.in_transaction)) }

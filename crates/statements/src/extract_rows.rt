@@ -50,7 +50,7 @@ pub trait RowSink {
     fn put<F: Alter>(&self, tx: &mut Transaction<'_, F>, row: &Row) -> Result<(), Error>
         ensures same_reference { tx.new.conn.ghost_name ≡ tx.old.conn.ghost_name }
         ensures survives { Survives (state F.Store tx.old.conn.now) (state F.Store tx.new.conn.now) (λ _. ⊥) }
-        ensures kept { Honestly (state F.Store tx.old.conn.now) (state F.Store tx.new.conn.now) (λ old new.
+        ensures commit { Honestly (state F.Store tx.old.conn.now) (state F.Store tx.new.conn.now) (λ old new.
             IsTrue old.in_transaction → KeepsCommit old new) }
         ensures inside { Honestly (state F.Store tx.old.conn.now) (state F.Store tx.new.conn.now) (λ old new.
             IsTrue old.in_transaction → OnOk result (IsTrue new.in_transaction)) }
@@ -77,7 +77,7 @@ pub(crate) fn hand_on<S: Alter, F: Alter, T: RowSink>(
         old.now.schema ≡ store_schema → OnOk result (IsUnchanged old new)) }
     ensures same_reference { tx.new.conn.ghost_name ≡ tx.old.conn.ghost_name }
     ensures survives { Survives (state F.Store tx.old.conn.now) (state F.Store tx.new.conn.now) (λ _. ⊥) }
-    ensures kept { Honestly (state F.Store tx.old.conn.now) (state F.Store tx.new.conn.now) (λ old new.
+    ensures commit { Honestly (state F.Store tx.old.conn.now) (state F.Store tx.new.conn.now) (λ old new.
         IsTrue old.in_transaction → KeepsCommit old new) }
     ensures inside { Honestly (state F.Store tx.old.conn.now) (state F.Store tx.new.conn.now) (λ old new.
         IsTrue old.in_transaction → OnOk result (IsTrue new.in_transaction)) }

@@ -19,7 +19,7 @@ pub fn commit_if<S: Alter>(tx: Transaction<'_, S>, is_whole: bool) -> Result<(),
         → IsRolledBack (state S.Store tx.entry.conn.now) (state S.Store tx.exit.0.now) }
     ensures whole_survives { IsTrue is_whole → Survives (state S.Store tx.entry.conn.now) (state S.Store tx.exit.0.now)
         (λ db. db ≡ (state S.Store tx.entry.conn.now).now.trees) }
-    ensures part_is_lost { is_whole ≡ false
+    ensures unfinished_is_lost { is_whole ≡ false
         → Survives (state S.Store tx.entry.conn.now) (state S.Store tx.exit.0.now) (λ _. ⊥) }
 {
     if !is_whole {

@@ -56,14 +56,14 @@ fills_at old new There next x (Ok u) clean stands is change tells = record {
   ok = (change.world stands.0, is);
   err = tt;
   left = λ only. change.left clean stands.0 (narrow old x only);
-  kept = λ only db may. let it = change.kept refl clean stands.0 db may in (it.0, it.1, inl it.2);
+  alone = λ only db may. let it = change.alone refl clean stands.0 db may in (it.0, it.1, inl it.2);
 }
 fills_at old new There next x (Err e) clean stands is change tells = record {
   tells = tells;
   ok = tt;
   err = (change.world stands.0, stands.1);
   left = λ only. change.left clean stands.0 (narrow old x only);
-  kept = λ _. tt;
+  alone = λ _. tt;
 }
 
 -- ---- with what the stores cache
@@ -99,7 +99,7 @@ fills_kept There next a a_new b b_new kept kept_new old new n n_new m m_new r sa
         ok = on_ok_both (StandsFor b_new (next w)) r (nothing_kept (next w) new none) it.ok;
         err = on_err_both (StandsFor b_new x) r (nothing_kept x new none) it.err;
         left = it.left;
-        kept = it.kept;
+        alone = it.alone;
       };
 }
 
@@ -134,6 +134,6 @@ extracts_one source source_new fresh fresh_new t r does = record {
         ok = subst (λ p. OnOk r (fresh_new.stands p)) same it.ok;
         err = it.err;
         left = λ only. subst (fresh_new.leaves x) same (it.left only);
-        kept = λ only. subst (λ p. OnOk r (fresh_new.leaves p p)) same (it.kept only);
+        alone = λ only. subst (λ p. OnOk r (fresh_new.leaves p p)) same (it.alone only);
       };
 }

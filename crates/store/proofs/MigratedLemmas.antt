@@ -31,7 +31,7 @@ use Rattle.setup.specs.declared.refusal.Refusal.{Refusal}
 use Rattle.setup.specs.declared.refusal.Refusal.TheVariants as refusal
 use Rattle.setup.proofs.PutLemmas.{spared_at}
 use Rattle.kept.proofs.KeptLemmas.{nothing_kept}
-use Rattle.setup.proofs.OpenLemmas.{told_device}
+use Rattle.setup.proofs.OpenLemmas.{device_hindered}
 use Rattle.store.proofs.StoreLemmas.{narrow}
 
 -- ---- the rows
@@ -41,7 +41,7 @@ pub unwritten : (s f g : State) (r : Result Migrated CopyError) → is_whole r �
     → IfErr r (HasOlderReason s s) → MigratesRows s s f g r
 unwritten s f g r part spares told cause = record {
   clean = omega arith;
-  reads = λ ready. record { left = λ _ db may. may; kept = λ clean. inl (unchanged_itself s (ready clean)); same = λ clean _. unchanged_itself s (ready clean) };
+  reads = λ ready. record { left = λ _ db may. may; outcome = λ clean. inl (unchanged_itself s (ready clean)); same = λ clean _. unchanged_itself s (ready clean) };
   clean_too = spares.clean;
   spares = λ _. spares;
   told = told;
@@ -96,7 +96,7 @@ module _ (format : Format) (s t f m g : State) (r : Result Migrated CopyError) (
 
 -- a store that was only read shows what it showed, if nothing was uncommitted
 same_tables : (s t : State) (done : Bool) → IsReadBy s t done → HasCleanDisk t → IsSettled s → IsTrue t.is_open → t.now ≡ s.now
-same_tables s t done read clean settled opened = elim (read.kept clean) [ inl same ↦ same.0.now_is | inr undone ↦ (undone.undone opened).0 ∙ sym (settled.committed (undone.was_open opened)) ]
+same_tables s t done read clean settled opened = elim (read.outcome clean) [ inl same ↦ same.0.now_is | inr undone ↦ (undone.undone opened).0 ∙ sym (settled.committed (undone.was_open opened)) ]
 
 world_of : (db : Database) (x w : World) → IsOldOr db x true w → IsWorld w
 world_of db x w (inl was) = was.1.is
@@ -112,7 +112,7 @@ at_end db old new kept kept_new n n_new x w (Ok u) none clean stands was change 
   ok = ((change.world stands.0, world_of db x w was), nothing_kept w kept_new none);
   err = tt;
   left = λ only. change.left clean stands.0 (narrow old x only);
-  kept = λ only db may. let it = change.kept refl clean stands.0 db may in (it.0, it.1, inl it.2);
+  kept = λ only db may. let it = change.alone refl clean stands.0 db may in (it.0, it.1, inl it.2);
 }
 at_end db old new kept kept_new n n_new x w (Err e) none clean stands was change tells = record {
   tells = tells;
@@ -193,5 +193,5 @@ pub older_device : (s t : State) (e : Error) (r : Refusal) (count : ℕ) → (e 
 older_device s t e r count memory reason = record { no_fewer = omega arith; device = λ clean same. inl (go (reason clean) (device_is r same)) }
   where
     go : HasOlderReason s t (Source e) → r ≡ refusal.Device → IsHindered s t ⊎ IsVastOlder s.now
-    go (inl excused) is = inl (told_device s t e r memory excused is)
+    go (inl excused) is = inl (device_hindered s t e r memory excused is)
     go (inr vast) is = inr vast

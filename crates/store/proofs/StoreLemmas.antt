@@ -104,8 +104,8 @@ module _ {T : Type 0} (old new : State) (kept after : Kept) (before now : ℕ) w
         err = tt;
         crash = record {
           either = λ only. change.left clean stands.0 (narrow old w only);
-          alone = λ only db may. let it = change.kept refl clean stands.0 db may in (it.0, it.1, inl it.2);
-          settled = inl (λ db may. let it = change.kept refl clean stands.0 db may in (it.0, it.1, inl it.2));
+          alone = λ only db may. let it = change.alone refl clean stands.0 db may in (it.0, it.1, inl it.2);
+          settled = inl (λ db may. let it = change.alone refl clean stands.0 db may in (it.0, it.1, inl it.2));
           failed = tt;
         };
       }

@@ -234,7 +234,7 @@ module _ (schema : Schema) (sql text : List ℕ) (table : Table) (is : command_o
 
 -- ---- a row is put in
 
-module _ (sql : List ℕ) (at : ℕ) (table : Table) (place : slice_get store_schema.tables at ≡ Some table) (uncounted : table.is_counted ≡ false)
+module _ (sql : List ℕ) (at : ℕ) (table : Table) (listed : slice_get store_schema.tables at ≡ Some table) (uncounted : table.is_counted ≡ false)
     (terms : List Term) (width : ℕ) (source : Row) (single : value_rows (stamped table []) width (length terms / width) terms ≡ source ∷ [])
     (idle : (row : Row) → works store_schema Enforced 0 table.tree [] (row ∷ []) ≡ [])
     (given : (limit : Option ℕ) (db : Database) (e : Error) → RefusesSource limit db (stamped table []) (Values terms width) e → IsSome limit)
@@ -244,7 +244,7 @@ module _ (sql : List ℕ) (at : ℕ) (table : Table) (place : slice_get store_sc
       → IsPuttable table old.now.trees row → ExecutesIn true sql [] old new (Err e) → IsExcused old new e
   put_excused old new e has row casts it h =
       let limited =
-      insert_stops old.step_limit table uncounted terms width source single idle (given old.step_limit) at place old.now row casts it has (statement_of sql (understood store_schema sql)) in
+      insert_stops old.step_limit table uncounted terms width source single idle (given old.step_limit) at listed old.now row casts it has (statement_of sql (understood store_schema sql)) in
       elim (stopped_as sql old new store_schema has (Insert at (Values terms width)) is plain alone refl e h) [
         | inl excused ↦ excused
         | inr (inl (inl misplaced)) ↦ absurd (well_placed old (Insert at (Values terms width)) e tt misplaced)
@@ -287,8 +287,8 @@ module _ {S : Type 0} (g : Ghosts S) (old new : Held S) (e : Error) where
       let it : other ≡ e = cc in
       elim stops [
         | inl step ↦ inl (subst₂ (λ t x. ExecutesIn true t [] (state g old) (state g new) (Err x)) a it step.runs)
-        | inr (why, inl (ends, kept)) ↦ absurd (never_ends (subst (λ t. EndsScope 0 t [] (state g old)) a ends))
-        | inr (why, inr (outside, kept)) ↦ absurd (true≢false (sym inside ∙ outside))
+        | inr (why, inl (ends, stays)) ↦ absurd (never_ends (subst (λ t. EndsScope 0 t [] (state g old)) a ends))
+        | inr (why, inr (outside, stays)) ↦ absurd (true≢false (sym inside ∙ outside))
       ]
     where
       never_ends : EndsScope 0 first [] (state g old) → ⊥

@@ -283,7 +283,7 @@ module _ {S : Type 0} (g : Ghosts S) (old new : Held S) where
   pub all_made : KeepsCommit (state g old) (state g new) → IsTrue new.in_transaction → (state g old).now.schema ≡ no_schema
       → ExecutesAllInside g 0 text1 old new (Ok tt) → IsMade (state g old) (state g new)
   unfolding ExecutesAllInside
-  all_made kept inside has run =
+  all_made keeps inside has run =
       let a = turn g old new text1 first1 text2 (lit< tt) cut1.0 cut1.1 (length text1 - 1) run in
       let A = makes schema0 schema1 first1 (record meta_table { tree = 0 }) make1.0 make1.1 make1.2 make1.3 refl (state g old) (state g a.0) a.1 has a.2 in
       let b = turn g a.0 new text2 first2 text3 (lit< tt) cut2.0 cut2.1 (length text1 - 2) a.3 in
@@ -311,13 +311,13 @@ module _ {S : Type 0} (g : Ghosts S) (old new : Held S) where
         sound = subst (λ h. IsDatabase (state g h).now) (sym same) L.5;
         means = subst (λ h. Means (state g h).now.trees only_common) (sym same) (means (state g l.0).now.trees rows);
         is_open = shown;
-        was_open = kept.was_open shown;
-        committed = kept.committed shown;
+        was_open = keeps.was_open shown;
+        committed = keeps.committed shown;
         inside = inside;
       }
 
   pub made_if : (r : Result (Unit {0}) Error) → ExecutesAllInside g 0 text1 old new r → KeepsCommit (state g old) (state g new)
       → OnOk r ((state g new).in_transaction ≡ (state g old).in_transaction) → IsTrue old.in_transaction
       → (state g old).now.schema ≡ no_schema → OnOk r (IsMade (state g old) (state g new))
-  made_if (Err e) run kept same inside has = tt
-  made_if (Ok u) run kept same inside has = all_made kept (same ∙ inside) has run
+  made_if (Err e) run keeps same inside has = tt
+  made_if (Ok u) run keeps same inside has = all_made keeps (same ∙ inside) has run

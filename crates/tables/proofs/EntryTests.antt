@@ -29,7 +29,7 @@ entry_timed q e is = timed is.version.0 (class_of is.version.0) e.time refl is.t
 
 -- if there is a fitting version, the entry may stand there on any shelf, and the text names that version
 pub fitting_some : (p v : List ℕ) (e : Entry) (x : SemanticVersion) → Some x ≡ fitting_version p v e → ((s : List ℕ) → IsEntry (place s p v) e) × (version_of v ≡ Some x)
-fitting_some p v e x told = let it = picked (is_entry p v e) (version_of v) told in (λ s. (entry_exact s p v e).0 it.0, it.1)
+fitting_some p v e x found = let it = picked (is_entry p v e) (version_of v) found in (λ s. (entry_exact s p v e).0 it.0, it.1)
   where
     picked : (b : Bool) (o : Option SemanticVersion) → Some x ≡ cond b o None → (b ≡ true) × (o ≡ Some x)
     picked true o is = (refl, sym is)
@@ -37,10 +37,10 @@ fitting_some p v e x told = let it = picked (is_entry p v e) (version_of v) told
 
 -- if there is no fitting version, the entry may not stand there
 pub fitting_none : (p v : List ℕ) (e : Entry) → None ≡ fitting_version p v e → (s : List ℕ) → IsEntry (place s p v) e → ⊥
-fitting_none p v e told s is =
+fitting_none p v e found s is =
     let passes : is_entry p v e ≡ true = (entry_exact s p v e).1 is in
     let named : version_of v ≡ Some is.version.0 = (version-of v is.version.0).1 is.version.1 in
-    let both : ◌≡◌ {A = Option SemanticVersion} None (Some is.version.0) = told ∙ (ap (λ b. cond b (version_of v) None) passes ∙ named) in
+    let both : ◌≡◌ {A = Option SemanticVersion} None (Some is.version.0) = found ∙ (ap (λ b. cond b (version_of v) None) passes ∙ named) in
     absurd (cc)
 
 -- an entry that may stand there may stand with another zip that is no longer than a zip may be

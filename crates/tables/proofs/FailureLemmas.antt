@@ -12,23 +12,23 @@ use Rattle.sqlite.specs.Steps.{FailsToCommit}
 pub was_clean : (old new : State) → doubt old.is_clean ≤ doubt new.is_clean → HasCleanDisk new → HasCleanDisk old
 was_clean old new up clean = omega arith
 
-abbrev pub Kept : State → State → Type 0
-Kept old new = IsUnchanged old new ⊎ IsRolledBack old new
+abbrev pub IsUnchangedOrUndone : State → State → Type 0
+IsUnchangedOrUndone old new = IsUnchanged old new ⊎ IsRolledBack old new
 
-failed : (old new : State) (big : Type 0) (e : Error) → Fails old new big e → Kept old new
+failed : (old new : State) (big : Type 0) (e : Error) → Fails old new big e → IsUnchangedOrUndone old new
 failed old new big e h = inr h.3
 
-pub not_run : (old new : State) (sql : List ℕ) (params : Row) (e : Error) → IsNotRun old new sql params e → Kept old new
+pub not_run : (old new : State) (sql : List ℕ) (params : Row) (e : Error) → IsNotRun old new sql params e → IsUnchangedOrUndone old new
 unfolding IsNotRun
 not_run old new sql params e (inl h) = inl h.1
 not_run old new sql params e (inr h) = failed old new _ e h
 
-failed_show : (sql : List ℕ) (old new : State) (e : Error) (c : Compiled) (params : Row) (what : Option Returning) → FailsToShow old new sql c params e what → Kept old new
+failed_show : (sql : List ℕ) (old new : State) (e : Error) (c : Compiled) (params : Row) (what : Option Returning) → FailsToShow old new sql c params e what → IsUnchangedOrUndone old new
 failed_show sql old new e c params None it = inl it.3
 failed_show sql old new e c params (Some what) (inl refused) = inl refused.1
 failed_show sql old new e c params (Some what) (inr fails) = failed old new _ e fails
 
-pub failed_query : (sql : List ℕ) (params : Row) (old new : State) (e : Error) → FailsToQuery sql params old new e → Kept old new
+pub failed_query : (sql : List ℕ) (params : Row) (old new : State) (e : Error) → FailsToQuery sql params old new e → IsUnchangedOrUndone old new
 unfolding FailsToQuery
 failed_query sql params old new e (inl h) = not_run old new sql params e h
 failed_query sql params old new e (inr h) = failed_show sql old new e h.0 (timed params h.0.formats h.1.now) h.0.returning h.2

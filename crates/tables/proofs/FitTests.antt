@@ -48,9 +48,9 @@ use Rattle.tables.proofs.RunLemmas.{adjacent_apart, last_of, many_on, many_more,
 
 -- ---- a walk as a test
 
-pub told : (old new : State) (b : Bool) (P : Trees → Type 0) → Looks old new → (HasCleanDisk new → old.now.schema ≡ store_schema → IsUnchanged old new)
+pub answered : (old new : State) (b : Bool) (P : Trees → Type 0) → Looks old new → (HasCleanDisk new → old.now.schema ≡ store_schema → IsUnchanged old new)
     → (HasCleanDisk new → old.now.schema ≡ store_schema → Decides b (P old.now.trees)) → Tests old new (Ok b) P
-told old new b P looks same answer = record { looks = looks; same = same; answer = answer }
+answered old new b P looks same answer = record { looks = looks; same = same; answer = answer }
 
 pub no_answer : (old new : State) (e : Error) (P : Trees → Type 0) → Looks old new → Tests old new (Err e) P
 no_answer old new e P looks = record { looks = looks; same = λ _ _. tt; answer = λ _ _. tt }
@@ -65,8 +65,8 @@ passed a = (λ _. a, λ _. refl)
 pub walked : {X : Type 0} (Fits : X → Row → Type 0) (Keeps : X → Row → X → Type 0) (sql : List ℕ) (old new : State) (result : Result Bool Error) (start end : X) (P : Trees → Type 0) → Looks old new
     → (HasCleanDisk new → old.now.schema ≡ store_schema → OnOk result (IsUnchanged old new)) → (HasCleanDisk new → old.now.schema ≡ store_schema → IfOk result (Walks Fits Keeps sql old.now start end))
     → (Walks Fits Keeps sql old.now start end true → P old.now.trees) → (Walks Fits Keeps sql old.now start end false → P old.now.trees → ⊥) → Tests old new result P
-walked Fits Keeps sql old new (Ok true) start end P looks same answer yes' no' = told old new true P looks same (λ clean has. passed (yes' (answer clean has)))
-walked Fits Keeps sql old new (Ok false) start end P looks same answer yes' no' = told old new false P looks same (λ clean has. refused (no' (answer clean has)))
+walked Fits Keeps sql old new (Ok true) start end P looks same answer yes' no' = answered old new true P looks same (λ clean has. passed (yes' (answer clean has)))
+walked Fits Keeps sql old new (Ok false) start end P looks same answer yes' no' = answered old new false P looks same (λ clean has. refused (no' (answer clean has)))
 walked Fits Keeps sql old new (Err e) start end P looks same answer yes' no' = no_answer old new e P looks
 
 pub pass_each : {X : Type 0} (Fits : X → Row → Type 0) (Keeps : X → Row → X → Type 0) (start : X) (rows : List Row) (end : X)
@@ -75,11 +75,11 @@ pass_each {X} Fits Keeps start [] end p row there = absurd there
 pass_each {X} Fits Keeps start (r ∷ rows) end p row (inl same) = (start, subst (Fits start) (sym same) p.0)
 pass_each {X} Fits Keeps start (r ∷ rows) end p row (inr later) = pass_each Fits Keeps p.1 rows end p.3 row later
 
--- a row that is listed at this place
-pub at_place : (rows tail : List Row) (row : Row) → Has ((rows ++ row ∷ []) ++ tail) row
-at_place rows tail row = has_left (rows ++ row ∷ []) tail row (has_right rows (row ∷ []) row (inl refl))
+-- a row that is listed at this index
+pub at_index : (rows tail : List Row) (row : Row) → Has ((rows ++ row ∷ []) ++ tail) row
+at_index rows tail row = has_left (rows ++ row ∷ []) tail row (has_right rows (row ∷ []) row (inl refl))
 
--- each row before the row at this place stands in the relation to it
+-- each row before the row at this index stands in the relation to it
 after_all : (P : Row → Row → Type 0) (rows tail : List Row) (row r : Row) → IsAscending P ((rows ++ row ∷ []) ++ tail) → Has rows r → P r row
 after_all P rows tail row r up there = across P rows (row ∷ tail) (subst (IsAscending P) (append_assoc rows (row ∷ []) tail) up) r row there (inl refl)
 
@@ -117,7 +117,7 @@ module _ (db : Database) (start end : MetaRows) where
   meta_false w fit =
       let first = first_listed meta_rows_text _ _ _ _ meta_rows_is db (w.0 ++ w.1 ∷ []) w.3 in
       let same = meta_listed db.trees _ first.1 in
-      w.5 (fit.each w.1 (has_permuted _ _ w.1 same (at_place w.0 first.0 w.1)))
+      w.5 (fit.each w.1 (has_permuted _ _ w.1 same (at_index w.0 first.0 w.1)))
 
 -- ---- access: rows in the order of a key, each with a key of its own
 
@@ -155,13 +155,13 @@ module _ {T K : Type 0} {R : K → K → Ordering} (total : IsTotalOrder R) (exa
       }
 
   -- if a row did not pass, the rows are not all of this form with a key of its own each
-  once_false : (start kept : T) → last start ≡ None → (rows : List Row) (row : Row) (tail all : List Row) → IsPermutation all ((rows ++ row ∷ []) ++ tail)
-      → Pass OnceFits OnceKeeps start rows kept → (OnceFits kept row → ⊥) → Fit.AreOnce IsRow key all → ⊥
-  once_false start kept new rows row tail all same p unfit fit =
+  once_false : (start noted : T) → last start ≡ None → (rows : List Row) (row : Row) (tail all : List Row) → IsPermutation all ((rows ++ row ∷ []) ++ tail)
+      → Pass OnceFits OnceKeeps start rows noted → (OnceFits noted row → ⊥) → Fit.AreOnce IsRow key all → ⊥
+  once_false start noted new rows row tail all same p unfit fit =
       let once = ascends_permuted KeysApart turned all _ same fit.once in
       unfit (
-        fit.each row (has_permuted all _ row same (at_place rows tail row)),
-        λ is. elim (last_of OnceFits OnceKeeps last key (λ x row next keeps. keeps) start rows kept p (key row) is) [
+        fit.each row (has_permuted all _ row same (at_index rows tail row)),
+        λ is. elim (last_of OnceFits OnceKeeps last key (λ x row next keeps. keeps) start rows noted p (key row) is) [
           | inl old ↦ absurd (let e = sym new ∙ old in cc)
           | inr it ↦ after_all KeysApart rows tail row it.0 once it.1 it.2
         ],
@@ -433,7 +433,7 @@ module _ (db : Database) (start end : EntryRows) where
       let same = entries_listed db.trees _ first.1 in
       let once = ascends_permuted PlacesApart places_turned _ _ same fit.once in
       let few = λ (s p : List ℕ). subst (λ n. n ≤ version_limit) (sym (filter_permuted (λ row. Fit.is_on s p (Fit.place_in row)) _ _ same)) (fit.few s p) in
-      w.5 (fit.each w.1 (has_permuted _ _ w.1 same (at_place w.0 first.0 w.1)), follows w first.0 once few w.2.last refl)
+      w.5 (fit.each w.1 (has_permuted _ _ w.1 same (at_index w.0 first.0 w.1)), follows w first.0 once few w.2.last refl)
     where
       follows : (w : Walks EntryFits EntryKeeps entry_rows_text db start end false) (tail : List Row)
           → IsAscending PlacesApart ((w.0 ++ w.1 ∷ []) ++ tail) → ((s p : List ℕ) → many_on s p ((w.0 ++ w.1 ∷ []) ++ tail) ≤ version_limit)

@@ -24,7 +24,7 @@ use Rattle.sqlite.proofs.Callers.{one_step}
 use Rattle.tables.specs.Schema.{store_schema}
 pub use Rattle.tables.specs.Inserted.{Inserted}
 
--- a part that gave a value did not stop on the way
+-- a step that gave a value did not stop on the way
 pub went : {B E R : Type 0} {b : B} {Stops : E → Type 0} → ((stop : E) × Stops stop × (Ok b ≡ Err stop)) ⊎ R → R
 went (inl stopped) = absurd (let e = stopped.2 in cc)
 went (inr on) = on
@@ -83,9 +83,9 @@ module _ (limit : Option ℕ) (table : Table) (uncounted : table.is_counted ≡ 
     pub inserted : (at : ℕ) → slice_get store_schema.tables at ≡ Some table → (db : Database) (text : List ℕ) (tally : Tally) (after : Database) → db.schema ≡ store_schema
         → Does limit enforced params db text None (Insert at (Values terms width)) (Ok (tally, after))
         → (after.schema ≡ store_schema) × Inserted db.trees after.trees table (new_row db.trees) × (tally.last ≡ Some (id_in (rowid (new_row db.trees))))
-    inserted at place db text tally after has h =
+    inserted at listed db text tally after has h =
         let does = subst (λ s. Does limit enforced params (record db { schema = s }) text None (Insert at (Values terms width)) (Ok (tally, after))) has h in
-        concluded at db.trees tally after (rw place at does)
+        concluded at db.trees tally after (rw listed at does)
 
 -- ---- values that a column takes as they are
 

@@ -50,8 +50,8 @@ pub is_listing : (from : Join) (project : List Term) (order : List (Term × Key)
     → IsAnswer (listing from project order) db [] out → IsListing (listing from project order) db out
 is_listing from project order db out answer =
     let q = listing from project order in
-    let kept : answer.kept ≡ map (output q) (matches db [] from ([] ∷ [])) = answer.distinct ∙ ap (map (output q)) answer.grouped in
-    record { ordered = answer.ordered; same = subst (λ l. IsPermutation l answer.ordered) kept answer.same; sorted = answer.sorted; shown = answer.shown }
+    let listed : answer.kept ≡ map (output q) (matches db [] from ([] ∷ [])) = answer.distinct ∙ ap (map (output q)) answer.grouped in
+    record { ordered = answer.ordered; same = subst (λ l. IsPermutation l answer.ordered) listed answer.same; sorted = answer.sorted; shown = answer.shown }
 
 -- ---- the statements
 
@@ -197,11 +197,11 @@ listed_with q db out it o there =
     let e = has_mapped (output q) (matches db q.filter q.from ([] ∷ [])) o (has_permuted (map (output q) (matches db q.filter q.from ([] ∷ []))) it.ordered o it.same there) in
     (e.0, e.2)
 
--- where the key can be told from what is shown, the rows come in its order
+-- where what is shown has the key, the rows come in its order
 pub listed_in_order : (q : Query) (db : Trees) (out : List Row) → IsListing q db out → (key : Row → Row) → ((env : Env) → (output q env).0 ≡ key (output q env).1)
     → Adjacent (λ a b. is_lt (key_cmp 0 (map (λ k. k.1) q.order) (key b) (key a)) ≡ false) out
-listed_in_order q db out it key told =
-    let keyed = λ (o : Output) (there : Has it.ordered o). (let e = listed_with q db out it o there in ap (λ (x : Output). x.0) e.1 ∙ (told e.0 ∙ ap (λ (x : Output). key x.1) (sym e.1))) in
+listed_in_order q db out it key shown_key =
+    let keyed = λ (o : Output) (there : Has it.ordered o). (let e = listed_with q db out it o there in ap (λ (x : Output). x.0) e.1 ∙ (shown_key e.0 ∙ ap (λ (x : Output). key x.1) (sym e.1))) in
     subst (Adjacent (λ a b. is_lt (key_cmp 0 (map (λ k. k.1) q.order) (key b) (key a)) ≡ false)) (sym it.shown)
     (adjacent_map _ (λ (o : Output). o.1) it.ordered
     (adjacent_among _ _ it.ordered

@@ -16,7 +16,7 @@ use Rattle.tables.specs.Pieces.{begin, piece, HasPiece}
 use Rattle.tables.specs.Means.{Tabulates, IsAccess, IsVersion, IsShelf, ArePieces, is_of}
 use Rattle.tables.specs.Laws.{StandForOne}
 use Rattle.tables.proofs.PieceLemmas.{no_piece, same_zip}
-use Rattle.tables.proofs.RowFits.{time_told}
+use Rattle.tables.proofs.RowFits.{time_read}
 use Rattle.tables.proofs.CountedRows.{same_place}
 
 -- where a row is of one thing alone, the things of a table are the same however they are named
@@ -64,8 +64,8 @@ one_access row x y one two =
     λ i. (key i, record { shelf = shelf i; right = right i })
 
 -- rows that are the pieces of two zips tell the same pieces
-piece_told : (rows : List Row) (a b : List ℕ) → ArePieces rows a → ArePieces rows b → (n : ℕ) → HasPiece a n → HasPiece b n × (piece a n ≡ piece b n)
-piece_told rows a b one two n has =
+same_piece : (rows : List Row) (a b : List ℕ) → ArePieces rows a → ArePieces rows b → (n : ℕ) → HasPiece a n → HasPiece b n × (piece a n ≡ piece b n)
+same_piece rows a b one two n has =
     let from = one.found n has in
     let to = two.each from.0 from.1 in
     let number : to.0 ≡ n = ints_same (column from.0 2) n to.0 from.2.number to.1.number in
@@ -76,8 +76,8 @@ one_zip : (rows : List Row) (a b : List ℕ) → ArePieces rows a → ArePieces 
 one_zip rows a b one two = same_zip a b (λ n. go n (nat_lt (begin n) (length a)) (nat_lt (begin n) (length b)) refl refl)
   where
     go : (n : ℕ) (p q : Bool) → nat_lt (begin n) (length a) ≡ p → nat_lt (begin n) (length b) ≡ q → piece a n ≡ piece b n
-    go n true q in_a in_b = (piece_told rows a b one two n (ltb-true (begin n) (length a) in_a)).1
-    go n false true in_a in_b = sym (piece_told rows b a two one n (ltb-true (begin n) (length b) in_b)).1
+    go n true q in_a in_b = (same_piece rows a b one two n (ltb-true (begin n) (length a) in_a)).1
+    go n false true in_a in_b = sym (same_piece rows b a two one n (ltb-true (begin n) (length b) in_b)).1
     go n false false in_a in_b = no_piece a n (ltb-false (begin n) (length a) in_a) ∙ sym (no_piece b n (ltb-false (begin n) (length b) in_b))
 
 one_version : (pieces : List Row) (row : Row) (x y : Place × Entry) → IsVersion pieces row x → IsVersion pieces row y → y ≡ x
@@ -85,13 +85,13 @@ one_version pieces row x y one two =
     let place = same_place row y.0 x.0 two.place one.place in
     let gomod = blobs_same (column row 6) x.1.gomod y.1.gomod one.gomod two.gomod in
     let zip = one_zip (filter (is_of row) pieces) y.1.zip x.1.zip two.zip one.zip in
-    let time : y.1.time ≡ x.1.time = time_told (column row 5) y.1.time two.time ∙ sym (time_told (column row 5) x.1.time one.time) in
+    let time : y.1.time ≡ x.1.time = time_read (column row 5) y.1.time two.time ∙ sym (time_read (column row 5) x.1.time one.time) in
     λ i. (place i, record { gomod = gomod i; zip = zip i; time = time i })
 
 one_shelf : (row : Row) (x y : List ℕ × Option (List ℕ)) → IsShelf row x → IsShelf row y → y ≡ x
 one_shelf row x y one two =
     let name = texts_same (column row 1) x.0 y.0 one.0 two.0 in
-    let parent : y.1 ≡ x.1 = time_told (column row 2) y.1 two.1 ∙ sym (time_told (column row 2) x.1 one.1) in
+    let parent : y.1 ≡ x.1 = time_read (column row 2) y.1 two.1 ∙ sym (time_read (column row 2) x.1 one.1) in
     λ i. (name i, parent i)
 
 -- tables mean at most one world

@@ -26,7 +26,7 @@ use Rattle.tables.proofs.Texts.{piece_rows_text}
 use Rattle.tables.proofs.Ascending.{has_permuted, Steps, Adjacent, adjacent_both, adjacent_among, ascends, ascends_permuted, front_ascends, across, apart_below}
 use Rattle.tables.proofs.ListingLemmas.{all_listed, first_listed, piece_rows_is, pieces_listed, pieces_in_order, number_columns}
 use Rattle.tables.proofs.RunLemmas.{adjacent_follow, pass_at, last_row}
-use Rattle.tables.proofs.FitTests.{not_itself, pass_each, at_place}
+use Rattle.tables.proofs.FitTests.{not_itself, pass_each, at_index}
 
 abbrev pub PieceFits : PieceRows → Row → Type 0
 PieceFits rows row = IsPieceRow row × MayGoOn rows.last (piece_in row)
@@ -157,7 +157,7 @@ module _ (db : Database) (start end : PieceRows) (new : start.last ≡ None) whe
     | inr (b, here, was) ↦ (b, here, goes_on (piece_in b) row n (subst (λ l. MayGoOn l (piece_in row)) was it.1.1) is)
   ]
     where
-      it : (kept : PieceRows) × PieceFits kept row × ((kept ≡ start) ⊎ ((r : Row) × Has rows r × (kept.last ≡ Some (piece_in r))))
+      it : (so_far : PieceRows) × PieceFits so_far row × ((so_far ≡ start) ⊎ ((r : Row) × Has rows r × (so_far.last ≡ Some (piece_in r))))
       it = pass_at PieceFits PieceKeeps (λ (x : PieceRows). x.last) piece_in (λ x row next keeps. keeps) start rows end p row there
 
   -- if each row of `piece` passed, the rows of the table fit
@@ -281,7 +281,7 @@ module _ (db : Database) (start end : PieceRows) (new : start.last ≡ None) whe
       let each = λ (r : Row) (there : Has long r). fit.pieces.each r (has_permuted here long r same there) in
       let apart = ascending_adjacent Apart long (ascends_permuted Apart turned here long same fit.pieces.once) in
       let up = rise long each (pieces_in_order db.trees long first.1) apart in
-      let there = has_permuted here long row same (at_place rows tail row) in
+      let there = has_permuted here long row same (at_index rows tail row) in
       let before : (n : ℕ) → nat_in (column row 1) ≡ n + 1 → (other : Row) × Has long other × (piece_in other ≡ full_piece (int_in (column row 0)) n) = λ n is. let it = fit.before row n there is in
       (it.0, has_permuted long here it.0 back it.1, it.2) in
       let may : MayGoOn w.2.last (piece_in row) = elim (last_row PieceFits PieceKeeps (λ (x : PieceRows). x.last) piece_in (λ x row next keeps. keeps) start rows w.2 w.4) [

@@ -86,6 +86,6 @@ module _ (limit : Option ℕ) (table : Table) (uncounted : table.is_counted ≡ 
   pub insert_stops : (at : ℕ) → slice_get store_schema.tables at ≡ Some table → (db : Database) (row : Row)
       → with_rowid Chosen (db.trees table.tree) (cast_row table (drop 0 source)) ≡ row → IsPuttable table db.trees row → db.schema ≡ store_schema
       → (text : List ℕ) (stop : Option Error) → Does limit enforced [] db text None (Insert at (Values terms width)) (Err stop) → IsSome limit
-  insert_stops at place db row is it has text stop h =
+  insert_stops at listed db row is it has text stop h =
       let does = subst (λ s. Does limit enforced [] (record db { schema = s }) text None (Insert at (Values terms width)) (Err stop)) has h in
-      concluded_stops db.trees row is it at stop (rw place at does)
+      concluded_stops db.trees row is it at stop (rw listed at does)

@@ -57,9 +57,9 @@ time_in (Real x) = None
 time_in (Text t) = Some t
 time_in (Blob b) = None
 
-pub time_told : (v : Value) (time : Option (List ℕ)) → v ≡ or_null Text time → time ≡ time_in v
-time_told v None is = ap time_in (sym is)
-time_told v (Some t) is = ap time_in (sym is)
+pub time_read : (v : Value) (time : Option (List ℕ)) → v ≡ or_null Text time → time ≡ time_in v
+time_read v None is = ap time_in (sym is)
+time_read v (Some t) is = ap time_in (sym is)
 
 -- what a row shows of a shelf it shows of one
 text_one : (v : Value) (s t : List ℕ) → v ≡ Text s → v ≡ Text t → s ≡ t
@@ -67,25 +67,25 @@ text_one v s t one two = let e = sym one ∙ two in cc
 
 pub shelf_one : (row : Row) (name : List ℕ) (parent : Option (List ℕ)) → column row 0 ≡ Text name → column row 1 ≡ or_null Text parent → IsShelfRow row → IsNamed name parent
 shelf_one row name parent first second fits =
-    subst₂ IsNamed (text_one (column row 0) fits.0 name fits.2 first) (time_told (column row 1) fits.1 fits.3 ∙ sym (time_told (column row 1) parent second)) fits.4
+    subst₂ IsNamed (text_one (column row 0) fits.0 name fits.2 first) (time_read (column row 1) fits.1 fits.3 ∙ sym (time_read (column row 1) parent second)) fits.4
 
 pub same_entry : (row : Row) (d e : Entry) → ShowsFiles row d → ShowsFiles row e → d ≡ e
 same_entry row d e one two =
     let gomod : d.gomod ≡ e.gomod = let f = sym one.gomod ∙ two.gomod in cc in
     let zip : d.zip ≡ e.zip = one.zip ∙ sym two.zip in
-    let time : d.time ≡ e.time = time_told (column row 3) d.time one.time ∙ sym (time_told (column row 3) e.time two.time) in
+    let time : d.time ≡ e.time = time_read (column row 3) d.time one.time ∙ sym (time_read (column row 3) e.time two.time) in
     λ i. record { gomod = gomod i; zip = zip i; time = time i }
 
--- where the files of a row are those of an entry that may stand there, the last columns tell whether the row shows it with its keys
-pub keys_told : (row : Row) (p v : List ℕ) (e : Entry) (x : SemanticVersion) (r : Result Bool Error) → ShowsFiles row e → Some x ≡ fitting_version p v e
+-- where the files of a row are those of an entry that may stand there, the test of the last columns decides whether the row shows it with its keys
+pub keys_decide : (row : Row) (p v : List ℕ) (e : Entry) (x : SemanticVersion) (r : Result Bool Error) → ShowsFiles row e → Some x ≡ fitting_version p v e
     → IfOk r (λ b. Decides b ((column row 5 ≡ Blob (order_key_of x)) × (column row 6 ≡ Blob (rank_key_of x)))) → IfOk r (λ b. Decides b (ShowsAt row p v))
-keys_told row p v e x (Err _) files fits told = tt
-keys_told row p v e x (Ok b) files fits told =
+keys_decide row p v e x (Err _) files fits answer = tt
+keys_decide row p v e x (Ok b) files fits answer =
     let it = fitting_some p v e x fits in
     let order = ap Blob (order_at v x it.1) in
     let rank = ap Blob (rank_at v x it.1) in (
-      λ t. record { entry = e; files = files; keys = record { order = (told.0 t).0 ∙ sym order; rank = (told.0 t).1 ∙ sym rank }; may = it.0 },
-      λ at. told.1 (at.keys.order ∙ order, at.keys.rank ∙ rank),
+      λ t. record { entry = e; files = files; keys = record { order = (answer.0 t).0 ∙ sym order; rank = (answer.0 t).1 ∙ sym rank }; may = it.0 },
+      λ at. answer.1 (at.keys.order ∙ order, at.keys.rank ∙ rank),
     )
 
 -- where they are those of none, the row shows none
@@ -97,7 +97,7 @@ no_time row p v none at = none at.entry.time at.files.time (entry_timed (place [
 
 -- the row shows no entry that may stand at its place, whatever its shelf is
 pub none_shown : (row : Row) (p v : List ℕ) (b : Bool) → column row 1 ≡ Text p → column row 2 ≡ Text v → b ≡ false → Decides b (ShowsAt row p v) → IsEntryRow row → ⊥
-none_shown row p v b path version is_none told fits =
+none_shown row p v b path version is_none answer fits =
     let q : Place = fits.0 in
     let e : Entry = fits.1 in
     let is : IsEntry q e = fits.2.may in
@@ -106,4 +106,4 @@ none_shown row p v b path version is_none told fits =
     let anywhere : (s : List ℕ)
     → IsEntry (place s q.path q.version) e = λ s. record { path = is.path; version = is.version; fits = is.fits; gomod = is.gomod; zip = is.zip; time = is.time; reads = is.reads } in
     let at : ShowsAt row q.path q.version = record { entry = e; files = fits.2.files; keys = fits.2.keys; may = anywhere } in
-    true≢false (sym (told.1 (subst₂ (ShowsAt row) one two at)) ∙ is_none)
+    true≢false (sym (answer.1 (subst₂ (ShowsAt row) one two at)) ∙ is_none)

@@ -20,7 +20,7 @@ use Rattle.tables.proofs.Ascending.{Adjacent, Steps, across, filter_push}
 
 -- ---- one after another
 
--- what is kept of the rows so far is the key of the last one, and no row has that key
+-- what is noted of the rows so far is the key of the last one, and no row has that key
 module _ {X K : Type 0} (Fits : X → Row → Type 0) (Keeps : X → Row → X → Type 0) (last : X → Option K)
     (key : Row → K) (noted : (x : X) (row : Row) (next : X) → Keeps x row next → last next ≡ Some (key row)) where
   module _ (P : K → K → Type 0) (follows : (x : X) (row : Row) (k : K) → Fits x row → last x ≡ Some k → P k (key row)) where
@@ -37,7 +37,7 @@ module _ {X K : Type 0} (Fits : X → Row → Type 0) (Keeps : X → Row → X �
 
   -- a row fits after the one before it, or it is the first
   pub pass_at : (x : X) (rows : List Row) (end : X) → Pass Fits Keeps x rows end → (row : Row) → Has rows row
-      → (kept : X) × Fits kept row × ((kept ≡ x) ⊎ ((r : Row) × Has rows r × (last kept ≡ Some (key r))))
+      → (so_far : X) × Fits so_far row × ((so_far ≡ x) ⊎ ((r : Row) × Has rows r × (last so_far ≡ Some (key r))))
   pass_at x [] end passed row there = absurd there
   pass_at x (r ∷ rows) end passed row (inl same) = (x, subst (Fits x) (sym same) passed.0, inl refl)
   pass_at x (r ∷ rows) end passed row (inr later) =
@@ -48,7 +48,7 @@ module _ {X K : Type 0} (Fits : X → Row → Type 0) (Keeps : X → Row → X �
       ] in
       (it.0, it.1, from)
 
-  -- what is kept in the end is that of the last row, if there is one
+  -- what is noted in the end is that of the last row, if there is one
   pub last_row : (x : X) (rows : List Row) (end : X) → Pass Fits Keeps x rows end → ((rows ≡ []) × (end ≡ x)) ⊎ ((front : List Row) × (r : Row) × (rows ≡ front ++ r ∷ []) × (last end ≡ Some (key r)))
   last_row x [] end passed = inl (refl, passed)
   last_row x (r ∷ rows) end passed = elim (last_row passed.1 rows end passed.3) [

@@ -32,7 +32,7 @@ pub made6 : fold created no_schema (meta_table ∷ shelf_table ∷ access_table 
 unfolding everything
 made6 = refl
 
--- a list of eight is that of what stands in its places
+-- a list of eight is that of what stands at its indexes
 eight : (xs : List Column) (i s p v t g o r : Column) → 8 ≤ length xs → length xs < 9
     → i ≡ get_or xs 0 i → s ≡ get_or xs 1 s → p ≡ get_or xs 2 p → v ≡ get_or xs 3 v → t ≡ get_or xs 4 t → g ≡ get_or xs 5 g → o ≡ get_or xs 6 o → r ≡ get_or xs 7 r
     → xs ≡ i ∷ s ∷ p ∷ v ∷ t ∷ g ∷ o ∷ r ∷ []
@@ -47,16 +47,16 @@ eight (x0 ∷ x1 ∷ x2 ∷ x3 ∷ x4 ∷ x5 ∷ x6 ∷ []) i s p v t g o r long
 eight (x0 ∷ x1 ∷ x2 ∷ x3 ∷ x4 ∷ x5 ∷ x6 ∷ x7 ∷ []) i s p v t g o r long short ei es ep ev et eg eo er = λ j. sym ei j ∷ sym es j ∷ sym ep j ∷ sym ev j ∷ sym et j ∷ sym eg j ∷ sym eo j ∷ sym er j ∷ []
 eight (x0 ∷ x1 ∷ x2 ∷ x3 ∷ x4 ∷ x5 ∷ x6 ∷ x7 ∷ x8 ∷ rest) i s p v t g o r long short ei es ep ev et eg eo er = absurd (omega (arith, short))
 
--- where the first four are those of the schema, the others tell
-pub columns_told : (xs : List Column) (i s p v t g o r : Column) → 8 ≤ length xs → length xs < 9
+-- where the first four are those of the schema, the test of the others decides
+pub columns_decide : (xs : List Column) (i s p v t g o r : Column) → 8 ≤ length xs → length xs < 9
     → i ≡ get_or xs 0 i → s ≡ get_or xs 1 s → p ≡ get_or xs 2 p → v ≡ get_or xs 3 v → t ≡ get_or xs 4 t → g ≡ get_or xs 5 g → o ≡ get_or xs 6 o → r ≡ get_or xs 7 r
     → (i ≡ optional (codes "id") Integer) × (s ≡ given (codes "shelf") Text) × (p ≡ given (codes "path") Text) × (v ≡ given (codes "version") Text)
     → (b : Bool) → Decides b ((t ≡ optional (codes "time") Text) × (g ≡ given (codes "mod") Blob) × (o ≡ given (codes "order_key") Blob) × (r ≡ given (codes "rank_key") Blob))
     → Decides b (xs ≡ version_columns)
-columns_told xs i s p v t g o r long short ei es ep ev et eg eo er place b told =
+columns_decide xs i s p v t g o r long short ei es ep ev et eg eo er first_four b answer =
     let all = eight xs i s p v t g o r long short ei es ep ev et eg eo er in (
-      λ h. let other = told.0 h in all ∙ (λ j. place.0 j ∷ place.1 j ∷ place.2 j ∷ place.3 j ∷ other.0 j ∷ other.1 j ∷ other.2 j ∷ other.3 j ∷ []),
-      λ is. told.1 (
+      λ h. let other = answer.0 h in all ∙ (λ j. first_four.0 j ∷ first_four.1 j ∷ first_four.2 j ∷ first_four.3 j ∷ other.0 j ∷ other.1 j ∷ other.2 j ∷ other.3 j ∷ []),
+      λ is. answer.1 (
         et ∙ ap (λ l. get_or l 4 t) is,
         eg ∙ ap (λ l. get_or l 5 g) is,
         eo ∙ ap (λ l. get_or l 6 o) is,

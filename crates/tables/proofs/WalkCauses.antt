@@ -33,7 +33,7 @@ use Rattle.tables.specs.Causes.{IsExcused, IsVast, HasReason}
 use Rattle.tables.proofs.Texts.{meta_rows_text, shelf_rows_text, key_rows_text, number_rows_text, entry_rows_text, piece_rows_text}
 use Rattle.tables.proofs.FailureLemmas.{was_clean}
 use Rattle.tables.proofs.Ascending.{has_permuted}
-use Rattle.tables.proofs.FitTests.{at_place}
+use Rattle.tables.proofs.FitTests.{at_index}
 use Rattle.tables.proofs.WalkLemmas.{unchanged_schema, some_walked}
 use Rattle.tables.proofs.CauseLemmas.{unrun, IsOnItsWay, excused_since, on_its_way}
 use Rattle.tables.proofs.ListingLemmas.{listing, listed_rows, first_listed, IsListing, of_table, shelf_columns, shelf_names, by_name, entry_columns, entry_names, piece_columns}
@@ -66,9 +66,9 @@ module _ (sql : List ℕ) (width : ℕ) (it : IsWalkable sql width) (plain : IsP
     too_many rows begins many = (rows, some_walked sql plain unlisted old mid mid has same rows begins, many)
 
 -- an error that is handed on
-pub told_error : {X E : Type 0} (P : E → Type 0) (r : Result X E) (e : E) → IsErrAnd r (λ x. x ≡ e) → P e → IfErr r P
-told_error P (Ok x) e same h = tt
-told_error P (Err x) e same h = subst P (sym same) h
+pub error_says : {X E : Type 0} (P : E → Type 0) (r : Result X E) (e : E) → IsErrAnd r (λ x. x ≡ e) → P e → IfErr r P
+error_says P (Ok x) e same h = tt
+error_says P (Err x) e same h = subst P (sym same) h
 
 pub excused_same : {S : Type 0} (g : Ghosts S) (old : State) (x y : Held S) (e : Error) (Q : Type 0) → x ≡ y → IsExcused old (state g x) e → IsExcused old (state g y) e ⊎ Q
 excused_same g old x y e Q same h = inl (subst (λ z. IsExcused old (state g z) e) same h)
@@ -101,7 +101,7 @@ module _ (sql : List ℕ) (from : Join) (project : List Term) (order : List (Ter
       wide : (db : Database) (rows : List Row) (row : Row) → ReadsFirst (command_of (understood store_schema sql)) db [] (rows ++ row ∷ []) → length row ≡ length project
       wide db rows row h =
           let first = first_listed sql from project order names is db (rows ++ row ∷ []) h in
-          listed_width from project order (overlay db.trees []) ((rows ++ row ∷ []) ++ first.0) first.1 row (at_place rows first.0 row)
+          listed_width from project order (overlay db.trees []) ((rows ++ row ∷ []) ++ first.0) first.1 row (at_index rows first.0 row)
 
   -- if the query shows more rows than a walk counts, the join has that many
   many_listed : (db : Database) → ShowsTooMany sql db → 2 ^ 128 ≤ length (map (eval_all project) (matches (overlay db.trees []) [] from ([] ∷ []))) + 1

@@ -16,9 +16,9 @@ use Rattle.tables.proofs.FailureLemmas.{was_clean}
 pub unchanged_schema : (a b : State) → IsUnchanged a b → a.now.schema ≡ store_schema → b.now.schema ≡ store_schema
 unchanged_schema a b same has = ap (λ (d : Database). d.schema) same.0.now_is ∙ has
 
-pub kept_then : (a b c : State) → IsUnchanged a b → IsUnchanged b c ⊎ IsRolledBack b c → IsUnchanged a c ⊎ IsRolledBack a c
-kept_then a b c p (inl q) = inl (unchanged_then a b c p q)
-kept_then a b c p (inr q) = inr (record {
+pub outcome_then : (a b c : State) → IsUnchanged a b → IsUnchanged b c ⊎ IsRolledBack b c → IsUnchanged a c ⊎ IsRolledBack a c
+outcome_then a b c p (inl q) = inl (unchanged_then a b c p q)
+outcome_then a b c p (inr q) = inr (record {
   was_open = λ shown. p.0.was_open;
   undone = λ shown. ((q.undone shown).0 ∙ p.0.committed_is, (q.undone shown).1 ∙ p.0.committed_is);
   autocommit = q.autocommit;
@@ -36,10 +36,10 @@ commits_nothing sql old new plain survives has =
 
 pub quiet_looks : (old new : State) → doubt old.is_clean ≤ doubt new.is_clean → (old.now.schema ≡ store_schema → Survives old new (λ _. ⊥))
     → (HasCleanDisk new → old.now.schema ≡ store_schema → IsUnchanged old new ⊎ IsRolledBack old new) → Looks old new
-quiet_looks old new up survives kept = record {
+quiet_looks old new up survives outcome = record {
   clean = up;
   left = λ clean has db may. elim ((survives has).crash clean db may) [ inl was ↦ was | inr none ↦ absurd none ];
-  kept = kept;
+  outcome = outcome;
   limit = λ clean has. (survives has).limit;
   counts = λ clean has. (survives has).counts;
 }
@@ -51,9 +51,9 @@ then_survives old mid new first next has = survives_then old mid new _ _ (λ _. 
 pub moved_looks : (old mid new : State) → doubt old.is_clean ≤ doubt mid.is_clean
     → (old.now.schema ≡ store_schema → Survives old mid (λ _. ⊥)) → (HasCleanDisk mid → old.now.schema ≡ store_schema → IsUnchanged old mid)
     → Survives mid new (λ _. ⊥) → (HasCleanDisk new → IsUnchanged mid new ⊎ IsRolledBack mid new) → Looks old new
-moved_looks old mid new up first same next kept =
+moved_looks old mid new up first same next outcome =
     quiet_looks old new (let e = next.clean in omega (arith, up, e)) (then_survives old mid new first next)
-    (λ clean has. kept_then old mid new (same (was_clean mid new next.clean clean) has) (kept clean))
+    (λ clean has. outcome_then old mid new (same (was_clean mid new next.clean clean) has) (outcome clean))
 
 pub failed_or_same : (mid new : State) (e : Error) → Fails mid new ⊥ e ⊎ IsUnchanged mid new → IsUnchanged mid new ⊎ IsRolledBack mid new
 failed_or_same mid new e (inl fails) = inr fails.3
@@ -72,15 +72,16 @@ module _ (sql : List _) (plain : IsPlain (understood store_schema sql)) (unliste
       (begins_as sql [] mid mid store_schema (unchanged_schema old mid same has) _ refl plain unlisted rows begins)
 
 module _ {X : Type 0} (Fits : X → Row → Type 0) (Keeps : X → Row → X → Type 0) where
-  pub one_more : (start : X) (rows : List Row) (kept : X) (row : Row) (next : X) → Pass Fits Keeps start rows kept → Fits kept row → Keeps kept row next → Pass Fits Keeps start (rows ++ row ∷ []) next
-  one_more start [] kept row next same fits keeps = subst (λ x. Pass Fits Keeps x (row ∷ []) next) same (fits, next, keeps, refl)
-  one_more start (r ∷ rows) kept row next passed fits keeps = (passed.0, passed.1, passed.2, one_more passed.1 rows kept row next passed.3 fits keeps)
+  pub one_more : (start : X) (rows : List Row) (so_far : X) (row : Row) (next : X) → Pass Fits Keeps start rows so_far
+      → Fits so_far row → Keeps so_far row next → Pass Fits Keeps start (rows ++ row ∷ []) next
+  one_more start [] so_far row next same fits keeps = subst (λ x. Pass Fits Keeps x (row ∷ []) next) same (fits, next, keeps, refl)
+  one_more start (r ∷ rows) so_far row next passed fits keeps = (passed.0, passed.1, passed.2, one_more passed.1 rows so_far row next passed.3 fits keeps)
 
 -- ---- one test after the other
 
--- a test that failed, of a part
+-- a test that failed, of less
 pub fails_for : (a b : State) (P Q : Trees → Type 0) → ((db : Trees) → Q db → P db) → Tests a b (Ok false) P → Tests a b (Ok false) Q
-fails_for a b P Q part t = record { looks = t.looks; same = t.same; answer = λ clean has. (λ h. absurd (true≢false (sym h)), λ whole. (t.answer clean has).1 (part _ whole)) }
+fails_for a b P Q less t = record { looks = t.looks; same = t.same; answer = λ clean has. (λ h. absurd (true≢false (sym h)), λ whole. (t.answer clean has).1 (less _ whole)) }
 
 -- a test that was not made
 pub errs_for : (a b : State) (e : Error) (P Q : Trees → Type 0) → Tests a b (Err e) P → Tests a b (Err e) Q
@@ -95,7 +96,7 @@ looks_then : (a b c : State) → Looks a b → (HasCleanDisk b → a.now.schema 
 looks_then a b c p same q = record {
   clean = omega (arith, p.clean, q.clean);
   left = λ clean has db may. let was = was_clean b c q.clean clean in p.left was has db (q.left clean (unchanged_schema a b (same was has) has) db may);
-  kept = λ clean has. let was = was_clean b c q.clean clean in let s = same was has in kept_then a b c s (q.kept clean (unchanged_schema a b s has));
+  outcome = λ clean has. let was = was_clean b c q.clean clean in let s = same was has in outcome_then a b c s (q.outcome clean (unchanged_schema a b s has));
   limit = λ clean has. let was = was_clean b c q.clean clean in q.limit clean (unchanged_schema a b (same was has) has) ∙ p.limit was has;
   counts = λ clean has. let was = was_clean b c q.clean clean in let first = p.counts was has in let next = q.counts clean (unchanged_schema a b (same was has) has) in omega (arith, first, next);
 }

@@ -22,7 +22,7 @@ use Rattle.tables.specs.Fit.{IsMetaFit, AreShelvesFit, AreKeysFit, AreNumbersFit
 use Rattle.tables.proofs.AsciiLemmas.{shelf_utf8}
 use Rattle.tables.proofs.CountedRows.{all_counted}
 use Rattle.tables.proofs.EntryTests.{with_zip}
-use Rattle.tables.proofs.RowFits.{time_in, time_told}
+use Rattle.tables.proofs.RowFits.{time_in, time_read}
 use Rattle.tables.proofs.PieceLemmas.{piece_some, piece_most, piece_full, piece_before}
 use Rattle.tables.proofs.SoundLemmas.{piece_number, piece_version, one_version}
 use Rattle.tables.proofs.WorldOf.{length_mapped, held_text}
@@ -77,7 +77,7 @@ module _ (db : Trees) (w : World) (sound : IsSound store_schema db) (means : Mea
         let from = has_mapped shelf_shown (db 2) row there in
         let it = means.shelves.each from.0 from.1 in
         let own : column from.0 2 ≡ Text parent = ap (λ (r : Row). column r 1) (sym from.2) ∙ shown in
-        let same : it.0.1 ≡ Some parent = time_told (column from.0 2) it.0.1 it.1.1 ∙ ap time_in own in
+        let same : it.0.1 ≡ Some parent = time_read (column from.0 2) it.0.1 it.1.1 ∙ ap time_in own in
         top_row parent (is.parents it.0.0 parent (it.2 ∙ ap Some same));
   }
 

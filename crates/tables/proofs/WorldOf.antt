@@ -27,8 +27,8 @@ use Rattle.tables.specs.Fit.{shelf_shown, name_shown, number_shown, IsShelfName,
 use Rattle.tables.proofs.Ascending.{ascending_from_map, one_by_key}
 use Rattle.tables.proofs.EntryTests.{with_zip}
 use Rattle.tables.proofs.ZipOf.{zip_of, zip_pieces, zip_small}
-use Rattle.tables.proofs.RowMapLemmas.{made_of, made_from, made_has, entries_of, len_part}
-use Rattle.tables.proofs.RowFits.{time_in, time_told}
+use Rattle.tables.proofs.RowMapLemmas.{made_of, made_from, made_has, entries_of, len_some}
+use Rattle.tables.proofs.RowFits.{time_in, time_read}
 use Rattle.tables.proofs.SoundLemmas.{access_row, key_shelf, version_shelf}
 
 -- ---- lists
@@ -109,7 +109,7 @@ module _ (db : Trees) (sound : IsSound store_schema db) (fit : AreFit db) where
   shelf_row row there = fit.shelves.shelves.each (shelf_shown row) (mapped_has shelf_shown (db 2) row there)
 
   shelf_is : (row : Row) → Has (db 2) row → IsShelf row (shelf_of row, parent_of row)
-  shelf_is row there = let it = shelf_row row there in (held_text (column row 1) it.0 it.2, it.3 ∙ ap (or_null Text) (time_told (column row 2) it.1 it.3))
+  shelf_is row there = let it = shelf_row row there in (held_text (column row 1) it.0 it.2, it.3 ∙ ap (or_null Text) (time_read (column row 2) it.1 it.3))
 
   shelf_got : (row : Row) → Has (db 2) row → map.get shelves_of (shelf_of row) ≡ Some (parent_of row)
   shelf_got row there = made_has texts_total texts_exact shelf_of parent_of (db 2) (one_by_key shelf_of (db 2) names_once) row there
@@ -173,7 +173,7 @@ module _ (db : Trees) (sound : IsSound store_schema db) (fit : AreFit db) where
       let shows = it.2 in
       record {
         place = (held_text (column row 2) it.0.shelf shows.shelf, held_text (column row 3) it.0.path shows.path, held_text (column row 4) it.0.version shows.version);
-        time = shows.files.time ∙ ap (or_null Text) (time_told (column row 5) it.1.time shows.files.time);
+        time = shows.files.time ∙ ap (or_null Text) (time_read (column row 5) it.1.time shows.files.time);
         gomod = held_blob (column row 6) it.1.gomod shows.files.gomod;
         keys = subst (HasKeys row) (ap text_in (sym shows.version)) (record { order = shows.keys.order; rank = shows.keys.rank });
         zip = zip_pieces db fit.pieces row;
@@ -185,7 +185,7 @@ module _ (db : Trees) (sound : IsSound store_schema db) (fit : AreFit db) where
       let shows = it.2 in
       let zip = zip_of (db 8) row in
       let q : it.0 ≡ place_of row = λ i. record { shelf = ap text_in (sym shows.shelf) i; path = ap text_in (sym shows.path) i; version = ap text_in (sym shows.version) i } in
-      let e : record it.1 { zip = zip } ≡ entry_of (db 8) row = λ i. record { gomod = ap blob_in (sym shows.files.gomod) i; zip = zip; time = time_told (column row 5) it.1.time shows.files.time i } in
+      let e : record it.1 { zip = zip } ≡ entry_of (db 8) row = λ i. record { gomod = ap blob_in (sym shows.files.gomod) i; zip = zip; time = time_read (column row 5) it.1.time shows.files.time i } in
       subst₂ IsEntry q e (with_zip it.0 it.1 zip shows.may (zip_small db fit.pieces row))
 
   -- ---- the world
@@ -234,10 +234,10 @@ module _ (db : Trees) (sound : IsSound store_schema db) (fit : AreFit db) where
   few_at : (s p : List ℕ) → count (world_of db) s p ≤ version_limit
   unfolding world_of
   few_at s p =
-      let part = len_part places_total places_exact (is_on s p) (entries_of places_total places_exact place_of (entry_of (db 8)) (db 6)) in
+      let some = len_some places_total places_exact (is_on s p) (entries_of places_total places_exact place_of (entry_of (db 8)) (db 6)) in
       let rows = length_mapped (λ (e : Place × Entry). is_on s p e.0) (λ row. (place_of row, entry_of (db 8) row)) (db 6) in
       let shows = length_mapped (λ row. is_on s p (place_in row)) entry_shown (db 6) in
-      omega (arith, part, rows, shows, fit.entries.few s p)
+      omega (arith, some, rows, shows, fit.entries.few s p)
 
   -- what is made of tables whose rows fit is a world
   pub fit_world : IsWorld (world_of db)

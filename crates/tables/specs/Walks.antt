@@ -23,7 +23,7 @@ use Rattle.tables.specs.Fit.{is_on}
 pub record Looks (old new : State) : Type 0 where
   pub clean : doubt old.is_clean ≤ doubt new.is_clean
   pub left : HasCleanDisk new → old.now.schema ≡ store_schema → (db : Trees) → new.may_leave db → old.may_leave db
-  pub kept : HasCleanDisk new → old.now.schema ≡ store_schema → IsUnchanged old new ⊎ IsRolledBack old new
+  pub outcome : HasCleanDisk new → old.now.schema ≡ store_schema → IsUnchanged old new ⊎ IsRolledBack old new
   pub limit : HasCleanDisk new → old.now.schema ≡ store_schema → new.step_limit ≡ old.step_limit
   pub counts : HasCleanDisk new → old.now.schema ≡ store_schema → old.faults ≤ new.faults
 
@@ -34,17 +34,17 @@ pub record Tests (old new : State) (result : Result Bool Error) (P : Trees → T
   pub answer : HasCleanDisk new → old.now.schema ≡ store_schema → IfOk result (λ b. Decides b (P old.now.trees))
 
 module _ {X : Type 0} (Fits : X → Row → Type 0) (Keeps : X → Row → X → Type 0) where
-  -- each row fits, given what is kept of those before it
+  -- each row fits, given what is noted of those before it
   abbrev pub Pass : X → List Row → X → Type 0
-  Pass kept [] end = end ≡ kept
-  Pass kept (r ∷ rows) end = Fits kept r × (next : X) × Keeps kept r next × Pass next rows end
+  Pass noted [] end = end ≡ noted
+  Pass noted (r ∷ rows) end = Fits noted r × (next : X) × Keeps noted r next × Pass next rows end
 
   -- for true, each row that the query shows fits; for false, one of them does not, after rows that do
   abbrev pub Walks : List ℕ → Database → X → X → Bool → Type 0
   Walks sql db start end true = (rows : List Row) × Reads (command_of (understood store_schema sql)) db [] rows × Pass start rows end
   Walks sql db start end false =
-      (rows : List Row) × (row : Row) × (kept : X) × ReadsFirst (command_of (understood store_schema sql)) db [] (rows ++ row ∷ [])
-      × Pass start rows kept × (Fits kept row → ⊥)
+      (rows : List Row) × (row : Row) × (noted : X) × ReadsFirst (command_of (understood store_schema sql)) db [] (rows ++ row ∷ [])
+      × Pass start rows noted × (Fits noted row → ⊥)
 
 -- ---- the queries that a walk can use
 

@@ -18,7 +18,7 @@ use sqlite::{Alter, Connection, Error, ErrorCode, Transaction};
 fn create_tables<S: Alter>(tx: &mut Transaction<'_, S>) -> Result<(), Error>
     ensures same_reference { tx.new.conn.ghost_name ≡ tx.old.conn.ghost_name }
     ensures survives { Survives (state S.Store tx.old.conn.now) (state S.Store tx.new.conn.now) (λ _. ⊥) }
-    ensures kept { Honestly (state S.Store tx.old.conn.now) (state S.Store tx.new.conn.now) KeepsCommit }
+    ensures commit { Honestly (state S.Store tx.old.conn.now) (state S.Store tx.new.conn.now) KeepsCommit }
     ensures inside { Honestly (state S.Store tx.old.conn.now) (state S.Store tx.new.conn.now) (λ old new.
         OnOk result (new.in_transaction ≡ old.in_transaction)) }
     ensures made { Honestly (state S.Store tx.old.conn.now) (state S.Store tx.new.conn.now) (λ old new.

@@ -479,7 +479,7 @@ pub fn stand_for_world<S: Alter>(alloc: Global, conn: &mut Connection<S>) -> Res
         IfOk result (λ b. IsTrue b → IsUnchanged old new × StandsForSome old.now)) }
     ensures none { Honestly (state S.Store conn.old) (state S.Store conn.new) (λ old _.
         IfOk result (λ b. b ≡ false → StandsForNone old.now)) }
-    ensures kept { Honestly (state S.Store conn.old) (state S.Store conn.new) (λ old new.
+    ensures same { Honestly (state S.Store conn.old) (state S.Store conn.new) (λ old new.
         IsSettled old → IsTrue new.is_open → new.now ≡ old.now) }
     ensures left { Honestly (state S.Store conn.old) (state S.Store conn.new) (λ old new.
         (db : _) → new.may_leave db → old.may_leave db) }

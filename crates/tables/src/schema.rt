@@ -39,12 +39,12 @@ pub fn is_column(column: &Column, name: &str, kind: Kind, not_null: bool) -> boo
         && column.collation == Collation::Binary
 }
 
-/// Whether these places are just this one.
-pub fn is_place(places: &[usize], place: usize) -> bool
-    ensures { Decides result (places.now ≡ place ∷ []) }
+/// Whether these positions are just this one.
+pub fn is_position(positions: &[usize], position: usize) -> bool
+    ensures { Decides result (positions.now ≡ position ∷ []) }
 {
-    match places {
-        [only] => *only == place,
+    match positions {
+        [only] => *only == position,
         _ => false,
     }
 }
@@ -68,7 +68,7 @@ pub fn has_first_key(uniques: &[Items<usize>], orders: &[Order]) -> bool
     ensures { Decides result ((uniques.now ≡ (1 ∷ []) ∷ []) × (orders.now ≡ plain ∷ [])) }
 {
     match (uniques, orders) {
-        ([unique], [order]) => is_place(unique.as_slice(), 1) && *order == Order::PLAIN,
+        ([unique], [order]) => is_position(unique.as_slice(), 1) && *order == Order::PLAIN,
         _ => false,
     }
 }
@@ -87,7 +87,7 @@ fn is_shelf_table(table: &Table) -> bool
         && is_named(&table.name, "shelf")
         && table.tree == 2
         && table.key.is_none()
-        && is_place(table.primary.as_slice(), 1)
+        && is_position(table.primary.as_slice(), 1)
         && has_first_key(table.uniques.as_slice(), table.orders.as_slice())
         && has_no_terms(&table.checks)
         && is_reference(table.references.as_slice(), 2, "shelf", "name")
@@ -107,9 +107,9 @@ pub fn is_bare(table: &Table, name: &str, tree: u32) -> bool
         && !table.is_counted
 }
 
-/// Whether there is one reference, from this place to this column of this table, with no action and not deferred.
-pub fn is_reference(references: &[Reference], place: usize, parent: &str, column: &str) -> bool
-    ensures { Decides result (references.now ≡ refers place parent.now column.now ∷ []) }
+/// Whether there is one reference, from the column at this position to this column of this table, with no action and not deferred.
+pub fn is_reference(references: &[Reference], position: usize, parent: &str, column: &str) -> bool
+    ensures { Decides result (references.now ≡ refers position parent.now column.now ∷ []) }
 {
     let [reference] = references else {
         return false;
@@ -117,7 +117,7 @@ pub fn is_reference(references: &[Reference], place: usize, parent: &str, column
     let [parent_column] = reference.parent_columns.as_slice() else {
         return false;
     };
-    is_place(reference.columns.as_slice(), place)
+    is_position(reference.columns.as_slice(), position)
         && is_named(&reference.parent, parent)
         && is_named(parent_column, column)
         && reference.on_delete == Action::NoAction
@@ -139,7 +139,7 @@ pub fn is_meta_table(table: &Table) -> bool
     is_shaped
         && is_bare(table, "meta", 0)
         && table.key.is_none()
-        && is_place(table.primary.as_slice(), 1)
+        && is_position(table.primary.as_slice(), 1)
         && has_first_key(table.uniques.as_slice(), table.orders.as_slice())
         && has_no_terms(&table.checks)
         && table.references.is_empty()
@@ -196,7 +196,7 @@ pub fn is_version_table(table: &Table) -> bool
     are_version_columns(table.columns.as_slice())
         && is_bare(table, "version", 6)
         && table.key == Some(0)
-        && is_place(table.primary.as_slice(), 0)
+        && is_position(table.primary.as_slice(), 0)
         && has_version_key(table.uniques.as_slice(), table.orders.as_slice())
         && has_no_terms(&table.checks)
         && is_reference(table.references.as_slice(), 2, "shelf", "name")
@@ -214,7 +214,7 @@ pub fn is_index(index: &Index, name: &str, tree: u32, table: u32, columns: &[usi
         && index.is_unique
 }
 
-/// Whether the node at this place is `publish = VALUE`.
+/// Whether the node at this index is `publish = VALUE`.
 fn is_equation(nodes: &[Op], at: usize, value: i64) -> bool
     ensures { (depth : ℕ) → Decides result
         (term_to nodes.now (suc (suc depth)) at ≡ op2 (Compare Eq Binary) (col 1 3) (lit (Int value))) }
@@ -227,7 +227,7 @@ fn is_equation(nodes: &[Op], at: usize, value: i64) -> bool
         && matches!(nodes.get(*right), Some(Op::Literal(Value::Int(n))) if *n == value)
 }
 
-/// Whether the node at this place is `publish = 0 OR publish = 1`.
+/// Whether the node at this index is `publish = 0 OR publish = 1`.
 fn is_either(nodes: &[Op], at: usize) -> bool
     ensures { (depth : ℕ) → Decides result (term_to nodes.now (suc (suc (suc depth))) at ≡ is_flag) }
 {
@@ -269,13 +269,13 @@ pub fn is_access_table(table: &Table) -> bool
     is_shaped
         && is_bare(table, "access", 4)
         && table.key.is_none()
-        && is_place(table.primary.as_slice(), 1)
+        && is_position(table.primary.as_slice(), 1)
         && has_first_key(table.uniques.as_slice(), table.orders.as_slice())
         && is_flag_check(&table.checks)
         && is_reference(table.references.as_slice(), 2, "shelf", "name")
 }
 
-/// Whether the node at this place is `number >= 0`.
+/// Whether the node at this index is `number >= 0`.
 fn is_lower_bound(nodes: &[Op], at: usize) -> bool
     ensures { (depth : ℕ) → Decides result (term_to nodes.now (suc (suc depth)) at ≡ is_from_zero) }
 {

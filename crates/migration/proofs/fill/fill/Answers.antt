@@ -1,7 +1,7 @@
 use Rattle.std.proofs.Common.{true, false, Err, sym, subst}
 use Rattle.sqlite.specs.Held.{state}
 use Rattle.statements.specs.Extract.{Then}
-use Rattle.tables.proofs.WalkCauses.{told_error}
+use Rattle.tables.proofs.WalkCauses.{error_says}
 use Rattle.older_rows.specs.Entered.{PutsEntries, PutsZips}
 use Rattle.older_rows.specs.Registry.{IsNamed, PutsShelves, PutsKeys}
 use Rattle.older_rows.specs.Visits.{Moves, is_done}
@@ -81,7 +81,7 @@ returns-in_err-put_entries-clause-moves g c =
 
 pub returns-in_err-names_schema-clause-cause : goal.returns-in_err-names_schema-clause-cause
 returns-in_err-names_schema-clause-cause g c clean has =
-    told_error _ c.from_residual.result c.in_err-names_schema.field-0.0 c.from_residual.ensures.1 (c.in_err-names_schema.ensures.cause clean has)
+    error_says _ c.from_residual.result c.in_err-names_schema.field-0.0 c.from_residual.ensures.1 (c.in_err-names_schema.ensures.cause clean has)
 
 pub returns-in_err-put_shelves-clause-cause : goal.returns-in_err-put_shelves-clause-cause
 returns-in_err-put_shelves-clause-cause g c clean has =
@@ -93,7 +93,7 @@ returns-in_err-put_shelves-clause-cause g c clean has =
     let t1 = state g.F.Store c.names_schema.new.tx.conn.now in
     let one : Moves f (IsNamed f) s0 s1 t0 t1 true = rw c.if-not-branch.false at c.in_ok-names_schema.ensures.moves in
     let failed = c.from_residual-in_err-put_shelves in
-    told_error _ failed.result c.in_err-put_shelves.field-0.0 failed.ensures.1
+    error_says _ failed.result c.in_err-put_shelves.field-0.0 failed.ensures.1
     (fails_then f (IsNamed f) s0 s1 s2 t0 t1 one c.put_shelves.ensures.moves.clean (Err _) c.in_err-put_shelves.ensures.cause clean has)
 
 pub returns-in_err-put_keys-clause-cause : goal.returns-in_err-put_keys-clause-cause
@@ -110,7 +110,7 @@ returns-in_err-put_keys-clause-cause g c clean has =
     let two : Moves f PutsShelves s1 s2 t1 t2 true = rw c.if-not-branch-2.false at c.in_ok-put_shelves.ensures.moves in
     let both = moves_then f (IsNamed f) PutsShelves s0 s1 s2 t0 t1 t2 true one two in
     let failed = c.from_residual-in_err-put_keys in
-    told_error _ failed.result c.in_err-put_keys.field-0.0 failed.ensures.1
+    error_says _ failed.result c.in_err-put_keys.field-0.0 failed.ensures.1
     (fails_then f (Then (IsNamed f) PutsShelves) s0 s2 s3 t0 t2 both c.put_keys.ensures.moves.clean (Err _) c.in_err-put_keys.ensures.cause clean has)
 
 pub returns-in_err-put_entries-clause-cause : goal.returns-in_err-put_entries-clause-cause
@@ -131,7 +131,7 @@ returns-in_err-put_entries-clause-cause g c clean has =
     let three : Moves f PutsKeys s2 s3 t2 t3 true = rw c.if-not-branch-3.false at c.in_ok-put_keys.ensures.moves in
     let keyed = moves_then f (Then (IsNamed f) PutsShelves) PutsKeys s0 s2 s3 t0 t2 t3 true both three in
     let failed = c.from_residual-in_err-put_entries in
-    told_error _ failed.result c.in_err-put_entries.field-0.0 failed.ensures.1
+    error_says _ failed.result c.in_err-put_entries.field-0.0 failed.ensures.1
     (fails_then f (Then (Then (IsNamed f) PutsShelves) PutsKeys) s0 s3 s4 t0 t3 keyed c.put_entries.ensures.moves.clean (Err _) c.in_err-put_entries.ensures.cause clean has)
 
 pub returns-clause-cause : goal.returns-clause-cause

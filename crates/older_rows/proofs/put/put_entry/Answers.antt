@@ -12,7 +12,7 @@ returns-in_err-put_version-clause-goes_on g c =
     let old = state g.F.Store c.args.tx.now.conn.now in
     let new = state g.F.Store c.put_version.new.tx.conn.now in
     let put = c.put_version.ensures in
-    let done : GoesOn old new false = record { survives = put.survives; kept = put.kept; inside = λ _ _ all. absurd (true≢false (sym all)) } in
+    let done : GoesOn old new false = record { survives = put.survives; commit = put.commit; inside = λ _ _ all. absurd (true≢false (sym all)) } in
     subst (GoesOn old new) (sym (not_ok c.from_residual.result c.from_residual.ensures.0)) done
 
 pub returns-clause-goes_on : goal.returns-clause-goes_on
@@ -21,7 +21,7 @@ returns-clause-goes_on g c =
     let mid = state g.F.Store c.put_version.new.tx.conn.now in
     let new = state g.F.Store c.insert_zip.new.tx.conn.now in
     let put = c.in_ok-put_version.ensures in
-    goes_on_then old mid new _ (record { survives = put.survives; kept = put.kept; inside = λ clean is _. put.inside clean is }) c.insert_zip.ensures.goes_on
+    goes_on_then old mid new _ (record { survives = put.survives; commit = put.commit; inside = λ clean is _. put.inside clean is }) c.insert_zip.ensures.goes_on
 
 pub returns-clause-adds : goal.returns-clause-adds
 returns-clause-adds g c clean filling =

@@ -4,12 +4,12 @@ use Rattle.sqlite.specs.Held.{state}
 use Rattle.sqlite.specs.Listing.{understood}
 use Rattle.sqlite.proofs.Callers.{IsPlain, given_begin, begun_plain, unchanged_then}
 use Rattle.tables.proofs.FailureLemmas.{was_clean, failed_query}
-use Rattle.tables.proofs.WalkCauses.{excused_same, told_error}
+use Rattle.tables.proofs.WalkCauses.{excused_same, error_says}
 use Rattle.tables.proofs.WalkLemmas.{failed_or_same}
 use Rattle.older.specs.Schemas.{schema_of}
 use Rattle.statements.specs.Extract.{IsReadBy}
 use Rattle.statements.proofs.ChangeLemmas.{not_ok}
-use Rattle.statements.proofs.GoingLemmas.{goes_on_itself, goes_on_then, stays_quiet, commit_kept}
+use Rattle.statements.proofs.GoingLemmas.{goes_on_itself, goes_on_then, stays_quiet, commit_then}
 use Rattle.older_rows.proofs.CauseLemmas.{query_excused, next_excused, too_vast}
 use Rattle.older_rows.proofs.WalkLemmas.{commits_nothing, all_shown, quiet_read, then_survives, moved_read, failed_read, one_more}
 use Rattle.older_rows.proofs.walk.visit_each.Goals as goal
@@ -22,24 +22,24 @@ returns-in_err-rows-clause-reads g c has =
     let new = state g.S.Store c.query.follows.lender-at-none in
     let held = c.query.follows.holds-at-none in
     let sql = c.args.sql.now in
-    let kept : Survives old new (CommitsShowing sql [] old) = search rules in
+    let survives : Survives old new (CommitsShowing sql [] old) = search rules in
     subst (IsReadBy old new) (sym (not_ok c.from_residual.result c.from_residual.ensures.0))
-    (quiet_read old new false (commits_nothing (schema_of c.args.format) sql c.requires.plain old new kept has)
+    (quiet_read old new false (commits_nothing (schema_of c.args.format) sql c.requires.plain old new survives has)
     (λ clean. let h = rw c.in_err-rows.was at held in failed_query sql [] old new _ (h.err clean)) (λ _ done. absurd (true≢false (sym done))))
 
 pub returns-in_err-rows-clause-survives : goal.returns-in_err-rows-clause-survives
 returns-in_err-rows-clause-survives g c has =
     let old = state g.S.Store c.args.source.now in
     let new = state g.S.Store c.query.follows.lender-at-none in
-    let kept : Survives old new (CommitsShowing c.args.sql.now [] old) = search rules in
-    commits_nothing (schema_of c.args.format) c.args.sql.now c.requires.plain old new kept has
+    let survives : Survives old new (CommitsShowing c.args.sql.now [] old) = search rules in
+    commits_nothing (schema_of c.args.format) c.args.sql.now c.requires.plain old new survives has
 
 pub returns-in_err-rows-clause-cause : goal.returns-in_err-rows-clause-cause
 returns-in_err-rows-clause-cause g c clean has =
     let old = state g.S.Store c.args.source.now in
     let new = state g.S.Store c.query.follows.lender-at-none in
     let held = rw c.in_err-rows.was at c.query.follows.holds-at-none in
-    told_error _ c.from_residual.result c.in_err-rows.field-0.0 c.from_residual.ensures.1
+    error_says _ c.from_residual.result c.in_err-rows.field-0.0 c.from_residual.ensures.1
     (inl (query_excused c.args.format c.args.sql.now c.requires.walkable c.requires.plain c.requires.tables old new _ has (held.err clean)))
 
 -- ---- the rows
@@ -65,7 +65,7 @@ rows-init g c =
 pub rows-preserved : goal.rows-preserved
 rows-preserved g c =
     let moved = c.next.follows.holds-at-none in
-    let kept = c.rows.invariant in
+    let so_far = c.rows.invariant in
     let sql = c.args.sql.now in
     let old = state g.S.Store c.args.source.now in
     let mid = state g.S.Store c.rows.rows.conn.now in
@@ -78,20 +78,20 @@ rows-preserved g c =
     let row = c.in-Some.row.now in
     let fits : IsTrue c.in-Ok-true.field-0 = search rules in
     let still =
-    λ (clean : HasCleanDisk new) (has : old.now.schema ≡ _). unchanged_then old mid new (kept.3 (was_clean mid new moved.survives.clean clean) has) (rw c.in_ok-row.was at (moved.same clean)) in (
-      moved.same_reference ∙ kept.0,
-      omega (arith, kept.1, moved.survives.clean),
-      λ has. then_survives old mid new (kept.2 has) (λ clean. kept.3 clean has) moved.survives,
+    λ (clean : HasCleanDisk new) (has : old.now.schema ≡ _). unchanged_then old mid new (so_far.3 (was_clean mid new moved.survives.clean clean) has) (rw c.in_ok-row.was at (moved.same clean)) in (
+      moved.same_reference ∙ so_far.0,
+      omega (arith, so_far.1, moved.survives.clean),
+      λ has. then_survives old mid new (so_far.2 has) (λ clean. so_far.3 clean has) moved.survives,
       still,
-      put.same_reference ∙ kept.4,
-      goes_on_then begun at end true kept.5 (record { survives = put.survives; kept = put.kept; inside = λ clean is _. put.inside clean is }),
+      put.same_reference ∙ so_far.4,
+      goes_on_then begun at end true so_far.5 (record { survives = put.survives; commit = put.commit; inside = λ clean is _. put.inside clean is }),
       λ clean good has filling.
-          let was = kept.6 (was_clean mid new moved.survives.clean clean) (was_clean at end put.survives.clean good) has filling in
+          let was = so_far.6 (was_clean mid new moved.survives.clean clean) (was_clean at end put.survives.clean good) has filling in
           let given = (rw (c.in_ok-row.was, c.in-Some.is) at (moved.ok clean)) sql [] was.1 was.2 in
           let one = put.puts good was.0 fits in
           (one.1, was.1 ++ row ∷ [], given, one_more g.V.Visit.Puts _ begun.now.trees was.1 _ at.now.trees row _ end.now.trees was.3 one.0),
       λ clean has.
-          let was = kept.7 (was_clean mid new moved.survives.clean clean) has in
+          let was = so_far.7 (was_clean mid new moved.survives.clean clean) has in
           let given = (rw (c.in_ok-row.was, c.in-Some.is) at (moved.ok clean)) sql [] was.0 was.1 in
           (was.0 ++ row ∷ [], given, omega (arith, was.2, length-append was.0 (row ∷ []))),
     )
@@ -109,7 +109,7 @@ returns-in_err-row-clause-cause g c clean has =
     let was = c.rows.invariant.7 before has in
     let same : now ≡ c.source-in_err-row-1.given.0 = search rules in
     let failed = (rw c.in_err-row.was at (moved.err late)) c.args.sql.now [] was.0 was.1 in
-    told_error _ c.from_residual-in_err-row.result c.in_err-row.field-0.0 c.from_residual-in_err-row.ensures.1
+    error_says _ c.from_residual-in_err-row.result c.in_err-row.field-0.0 c.from_residual-in_err-row.ensures.1
     (excused_same g.S.Store old now c.source-in_err-row-1.given.0 _ _ same
     (next_excused c.args.format c.args.sql.now c.requires.walkable c.requires.plain c.requires.tables old mid has
     (c.rows.invariant.3 before has) (state g.S.Store now) _ (c.rows.invariant.2 has) failed))

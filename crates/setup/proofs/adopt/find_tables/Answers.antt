@@ -1,5 +1,5 @@
 use Rattle.sqlite.specs.Held.{state}
-use Rattle.setup.proofs.OpenLemmas.{tables_found, told_reason}
+use Rattle.setup.proofs.OpenLemmas.{tables_found, device_reason}
 use Rattle.setup.proofs.adopt.find_tables.Goals as goal
 
 pub returns-in-Ok-true-clause-opens : goal.returns-in-Ok-true-clause-opens
@@ -10,4 +10,4 @@ returns-in-Ok-true-clause-opens g c clean settled =
 
 pub returns-in-Err-clause-device : goal.returns-in-Err-clause-device
 returns-in-Err-clause-device g c clean =
-    told_reason (state g.S.Store c.args.conn.now) (state g.S.Store c.stand_for_world.new.conn) c.in-Err.error c.open_refusal.result c.open_refusal.ensures.memory (c.in-Err.ensures.cause clean)
+    device_reason (state g.S.Store c.args.conn.now) (state g.S.Store c.stand_for_world.new.conn) c.in-Err.error c.open_refusal.result c.open_refusal.ensures.memory (c.in-Err.ensures.cause clean)

@@ -2,7 +2,7 @@ use Rattle.std.proofs.Common.{refl, inl}
 use Rattle.sqlite.specs.Held.{state}
 use Rattle.world.specs.World.{only_common}
 use Rattle.world.proofs.OnlyCommon.{only_common_stands}
-use Rattle.setup.proofs.OpenLemmas.{begins_at, told_device}
+use Rattle.setup.proofs.OpenLemmas.{begins_at, device_hindered}
 use Rattle.setup.proofs.adopt.make_tables.Goals as goal
 
 pub returns-in-Ok-clause-opens : goal.returns-in-Ok-clause-opens
@@ -18,4 +18,4 @@ returns-in-Ok-clause-opens g c clean =
 
 pub returns-in-Err-clause-device : goal.returns-in-Err-clause-device
 returns-in-Err-clause-device g c clean outside =
-    told_device (state g.S.Store c.args.conn.now) (state g.S.Store c.create.new.conn) c.in-Err.error c.open_refusal.result c.open_refusal.ensures.memory (c.in-Err.ensures.cause clean outside)
+    device_hindered (state g.S.Store c.args.conn.now) (state g.S.Store c.create.new.conn) c.in-Err.error c.open_refusal.result c.open_refusal.ensures.memory (c.in-Err.ensures.cause clean outside)

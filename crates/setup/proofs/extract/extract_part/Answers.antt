@@ -49,11 +49,11 @@ returns-in_ok-write_part-in-Fit-clause-changes g c clean good w x sw sx =
     let next = what c.args.wanted w in
     let late = was_clean source (state g.S.Store c.write_part.new.source) c.write_part.ensures.clean clean in
     let late_too = was_clean mid new c.write_part.ensures.clean_too good in
-    let told = c.in_ok-judged.ensures.verdict late late_too w x sw sx in
-    let fit = subst (IsJudged w x c.args.wanted) c.in-Fit.is told.0 in
+    let verdict = c.in_ok-judged.ensures.verdict late late_too w x sw sx in
+    let fit = subst (IsJudged w x c.args.wanted) c.in-Fit.is verdict.0 in
     let still = c.judge.ensures.spares.stays w sw.0 in
     let ready = stands_ready source w (λ clean. c.in_ok-judged.ensures.ready clean w sw.0 (ap is_fit c.in-Fit.is)) still in
-    let change = c.in_ok-write_part-in-Fit.ensures.changes ready (λ _. told.1 (ap is_fit c.in-Fit.is)) clean w still sw.1 fit.1 in
+    let change = c.in_ok-write_part-in-Fit.ensures.changes ready (λ _. verdict.1 (ap is_fit c.in-Fit.is)) clean w still sw.1 fit.1 in
     spares_at old mid new true x next c.judge.ensures.spares_too c.write_part.ensures.clean_too (subst₂ (λ (u v : World). ChangesAt mid new true u v) (sym fit.3) fit.2 change)
 
 pub returns-in_err-write_part-in-Fit-clause-reads : goal.returns-in_err-write_part-in-Fit-clause-reads
@@ -71,10 +71,10 @@ returns-in_err-write_part-in-Fit-clause-changes g c clean good w x sw sx =
     let next = what c.args.wanted w in
     let late = was_clean source (state g.S.Store c.write_part.new.source) c.write_part.ensures.clean clean in
     let late_too = was_clean mid new c.write_part.ensures.clean_too good in
-    let told = c.in_ok-judged.ensures.verdict late late_too w x sw sx in
-    let fit = subst (IsJudged w x c.args.wanted) c.in-Fit.is told.0 in
+    let verdict = c.in_ok-judged.ensures.verdict late late_too w x sw sx in
+    let fit = subst (IsJudged w x c.args.wanted) c.in-Fit.is verdict.0 in
     let still = c.judge.ensures.spares.stays w sw.0 in
     let ready = stands_ready source w (λ clean. c.in_ok-judged.ensures.ready clean w sw.0 (ap is_fit c.in-Fit.is)) still in
-    let change = c.in_err-write_part-in-Fit.ensures.changes ready (λ _. told.1 (ap is_fit c.in-Fit.is)) clean w still sw.1 fit.1 in
+    let change = c.in_err-write_part-in-Fit.ensures.changes ready (λ _. verdict.1 (ap is_fit c.in-Fit.is)) clean w still sw.1 fit.1 in
     subst (λ b. ChangesAt old new b x next) (sym (not_written c.from_residual-in_err-write_part-in-Fit.result c.from_residual-in_err-write_part-in-Fit.ensures.0))
     (spares_at old mid new false x next c.judge.ensures.spares_too c.write_part.ensures.clean_too (subst₂ (λ (u v : World). ChangesAt mid new false u v) (sym fit.3) fit.2 change))

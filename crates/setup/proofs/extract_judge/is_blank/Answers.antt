@@ -2,7 +2,7 @@ use Rattle.std.proofs.Common.{sym, ◌∙◌, true≢false}
 use Rattle.sqlite.specs.Held.{state}
 use Rattle.tables.proofs.FailureLemmas.{was_clean}
 use Rattle.tables.proofs.FitTests.{refused}
-use Rattle.setup.proofs.BlankLemmas.{more_shelves, more_keys, blank_told}
+use Rattle.setup.proofs.BlankLemmas.{more_shelves, more_keys, blank_decides}
 use Rattle.statements.proofs.CallLemmas.{spares_then}
 use Rattle.setup.proofs.extract_judge.is_blank.Goals as goal
 
@@ -37,4 +37,4 @@ returns-clause-answer g c clean x stands is =
     let first = c.in_ok-has_other_shelf.ensures.answer before x stands in
     let second = c.in_ok-has_key.ensures.answer late x one in
     let third = c.in_ok-found.ensures.answer clean x (c.has_key.ensures.spares.stays x one) in
-    (third.0, blank_told x is (λ o. true≢false (sym (first.1.1 o) ∙ c.if-branch.false)) (λ k. true≢false (sym (second.1.1 k) ∙ c.if-branch-2.false)) c.in_ok-found.found third.1)
+    (third.0, blank_decides x is (λ o. true≢false (sym (first.1.1 o) ∙ c.if-branch.false)) (λ k. true≢false (sym (second.1.1 k) ∙ c.if-branch-2.false)) c.in_ok-found.found third.1)

@@ -2,7 +2,7 @@ use Rattle.std.proofs.Common.{true, false, Result, Err, is_ok, refl}
 use Rattle.sqlite.specs.declared.error.Error.{Error}
 use Rattle.sqlite.specs.Held.{state}
 use Rattle.setup.specs.Parts.{MakesPart}
-use Rattle.statements.proofs.ExtractLemmas.{copies_then, copies_weaker, copies_part}
+use Rattle.statements.proofs.ExtractLemmas.{copies_then, copies_weaker, failed_copies}
 use Rattle.setup.proofs.PutLemmas.{puts_copied}
 use Rattle.setup.proofs.FilledLemmas.{makes_part}
 use Rattle.setup.proofs.extract_part.fill.Goals as goal
@@ -10,17 +10,17 @@ use Rattle.setup.proofs.extract_part.fill.Goals as goal
 pub returns-in-Err-clause-fills : goal.returns-in-Err-clause-fills
 returns-in-Err-clause-fills g c =
     let failed : Result (Unit {0}) Error = Err c.in-Err.error in
-    copies_part failed _ (MakesPart c.args.shelves.now) _ _ _ _ refl (puts_copied _ (state g.S.Store c.args.source.now) _ _ false c.in-Err.ensures.puts)
+    failed_copies failed _ (MakesPart c.args.shelves.now) _ _ _ _ refl (puts_copied _ (state g.S.Store c.args.source.now) _ _ false c.in-Err.ensures.puts)
 
 pub returns-in_err-copy_along-clause-fills : goal.returns-in_err-copy_along-clause-fills
 returns-in_err-copy_along-clause-fills g c =
-    copies_part c.from_residual.result _ (MakesPart c.args.shelves.now) _ _ _ _ c.from_residual.ensures.0
+    failed_copies c.from_residual.result _ (MakesPart c.args.shelves.now) _ _ _ _ c.from_residual.ensures.0
     (copies_then _ _ _ _ _ _ _ _ false (puts_copied _ (state g.S.Store c.args.source.now) _ _ true c.in-Ok.ensures.puts) c.in_err-copy_along.ensures.copies)
 
 pub returns-in_err-copy_along-2-clause-fills : goal.returns-in_err-copy_along-2-clause-fills
 returns-in_err-copy_along-2-clause-fills g c =
     let second = copies_then _ _ _ _ _ _ _ _ true (puts_copied _ (state g.S.Store c.args.source.now) _ _ true c.in-Ok.ensures.puts) c.in_ok-copy_along.ensures.copies in
-    copies_part c.from_residual-in_err-copy_along-2.result _ (MakesPart c.args.shelves.now) _ _ _ _ c.from_residual-in_err-copy_along-2.ensures.0
+    failed_copies c.from_residual-in_err-copy_along-2.result _ (MakesPart c.args.shelves.now) _ _ _ _ c.from_residual-in_err-copy_along-2.ensures.0
     (copies_then _ _ _ _ _ _ _ _ false second c.in_err-copy_along-2.ensures.copies)
 
 pub returns-clause-fills : goal.returns-clause-fills

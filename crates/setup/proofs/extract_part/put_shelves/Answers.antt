@@ -10,11 +10,11 @@ loop-shelf-init g c = (refl, puts_none (state g.F.Store c.args.tx.now.conn.now))
 
 pub loop-shelf-preserved : goal.loop-shelf-preserved
 loop-shelf-preserved g c =
-    let kept = c.loop-shelf.invariant in
+    let so_far = c.loop-shelf.invariant in
     let step = c.in_ok-put_listed.ensures in (
-      step.same_reference ∙ kept.0,
+      step.same_reference ∙ so_far.0,
       rw (take_more c.args.shelves.now c.loop-shelf.shelf-index c.shelf-item.result c.loop-shelf-test.true
-          ∙ ap (λ (s : Shelf). take c.loop-shelf.shelf-index c.args.shelves.now ++ s ∷ []) (sym c.shelf-item.is)) (puts_then _ _ _ _ _ kept.1 step.puts),
+          ∙ ap (λ (s : Shelf). take c.loop-shelf.shelf-index c.args.shelves.now ++ s ∷ []) (sym c.shelf-item.is)) (puts_then _ _ _ _ _ so_far.1 step.puts),
     )
 
 pub returns-in_err-put_listed-clause-puts : goal.returns-in_err-put_listed-clause-puts

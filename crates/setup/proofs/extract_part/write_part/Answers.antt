@@ -37,8 +37,8 @@ returns-in-Ok-clause-changes g c =
     (begins_writing g.F.Store h last (state g.F.Store end) only_common next opened (was_clean start last quiet.clean late) blank) in
     let ends = rw c.is_ok.ensures.value at c.in-Ok.ensures in
     let done : ChangesAt (state g.F.Store h) (state g.F.Store end) (is_ok written) only_common next =
-    ended_by g.F.Store h last (state g.F.Store end) only_common next opened (g.met.F.Store.settled h.store) quiet (is_ok written) ends.undone ends.whole_survives ends.part_is_lost
-    (λ late. fills.goes_on.kept late refl) made
+    ended_by g.F.Store h last (state g.F.Store end) only_common next opened (g.met.F.Store.settled h.store) quiet (is_ok written) ends.undone ends.whole_survives ends.unfinished_is_lost
+    (λ late. fills.goes_on.commit late refl) made
     ends.committed (λ db shown may. g.met.F.Store.settled end.store db shown may) in
     subst (λ x. ChangesAt (state g.F.Store h) (state g.F.Store x) (is_ok written) only_common next) same done
 
@@ -61,7 +61,7 @@ returns-in-Err-clause-changes g c =
     (begins_writing g.F.Store h last (state g.F.Store end) only_common next opened (was_clean start last quiet.clean late) blank) in
     let ends = rw c.is_ok.ensures.value at c.in-Err.ensures in
     let done : ChangesAt (state g.F.Store h) (state g.F.Store end) false only_common next =
-    failed_by g.F.Store h last (state g.F.Store end) only_common next opened (g.met.F.Store.settled h.store) quiet (is_ok written) ends.undone ends.whole_survives ends.part_is_lost
-    (λ late. fills.goes_on.kept late refl) made
+    failed_by g.F.Store h last (state g.F.Store end) only_common next opened (g.met.F.Store.settled h.store) quiet (is_ok written) ends.undone ends.whole_survives ends.unfinished_is_lost
+    (λ late. fills.goes_on.commit late refl) made
     _ ends.failed in
     subst (λ x. ChangesAt (state g.F.Store h) (state g.F.Store x) false only_common next) same done

@@ -29,8 +29,8 @@ returns-clause-changes g c opened w unused =
     (λ filling. when_ok written whole (add late filling)) in
     let ends = rw c.is_ok.ensures.value at c.in_ok-commit_if.ensures in
     let done : ChangesAt (state g.S.Store h) (state g.S.Store end) (is_ok written) w next =
-    ended_by g.S.Store h last (state g.S.Store end) w next opened (g.met.S.Store.settled h.store) goes_on.survives (is_ok written) ends.undone ends.whole_survives ends.part_is_lost
-    (λ clean. goes_on.kept clean refl) made
+    ended_by g.S.Store h last (state g.S.Store end) w next opened (g.met.S.Store.settled h.store) goes_on.survives (is_ok written) ends.undone ends.whole_survives ends.unfinished_is_lost
+    (λ clean. goes_on.commit clean refl) made
     ends.committed (λ db shown may. g.met.S.Store.settled end.store db shown may) in
     let same : end ≡ c.conn-1.given.0 = search rules in
     subst (λ x. ChangesAt (state g.S.Store h) (state g.S.Store x) (is_ok written) w next) same done
@@ -53,8 +53,8 @@ returns-in_err-commit_if-clause-changes g c opened w unused =
     (λ filling. when_ok written whole (add late filling)) in
     let ends = rw c.is_ok.ensures.value at c.in_err-commit_if.ensures in
     let done : ChangesAt (state g.S.Store h) (state g.S.Store end) false w next =
-    failed_by g.S.Store h last (state g.S.Store end) w next opened (g.met.S.Store.settled h.store) goes_on.survives (is_ok written) ends.undone ends.whole_survives ends.part_is_lost
-    (λ clean. goes_on.kept clean refl) made
+    failed_by g.S.Store h last (state g.S.Store end) w next opened (g.met.S.Store.settled h.store) goes_on.survives (is_ok written) ends.undone ends.whole_survives ends.unfinished_is_lost
+    (λ clean. goes_on.commit clean refl) made
     _ ends.failed in
     let same : end ≡ c.conn-1.given.0 = search rules in
     subst (λ b. ChangesAt (state g.S.Store h) (state g.S.Store c.conn-1.given.0) b w next) (sym (not_ok c.from_residual.result c.from_residual.ensures.0))

@@ -28,12 +28,12 @@ hand_on-requires-clause-fits g c db w rows row means first =
 pub returns-clause-copies : goal.returns-clause-copies
 unfolding understood everything
 returns-clause-copies g c =
-    let told = c.hand_on.ensures in
+    let handed = c.hand_on.ensures in
     let source = state g.S.Store c.args.source.now in
     let fresh = state g.F.Store c.args.tx.now.conn.now in
     let done = state g.F.Store c.hand_on.new.tx.conn.now in
-    copied c.hand_on.result (OfWorlds (CopiesKeys c.args.shelf.now)) source (state g.S.Store c.hand_on.new.source) fresh done told.looks told.same
-    (goes_on_if c.hand_on.result fresh done told.survives told.kept told.inside)
+    copied c.hand_on.result (OfWorlds (CopiesKeys c.args.shelf.now)) source (state g.S.Store c.hand_on.new.source) fresh done handed.looks handed.same
+    (goes_on_if c.hand_on.result fresh done handed.survives handed.commit handed.inside)
     (λ clean good has w means filling.
     let read = λ (rows : List Row). subst (λ v. Reads (asks keys_on_query) source.now (bound_value v ∷ []) rows) c.params-to_sql.ensures in
     on_weaker c.hand_on.result
@@ -43,4 +43,4 @@ returns-clause-copies g c =
           (passed.0, keys_copied c.args.shelf.now source.now v x passed.0 it.1.0 meant (read it.1.0 it.1.1) passed.1, passed.2)),
       it.0,
     ))
-    (told.puts clean good has w means filling))
+    (handed.puts clean good has w means filling))

@@ -8,7 +8,7 @@ use Rattle.tables.specs.Walks.{Looks}
 use Rattle.tables.proofs.FailureLemmas.{was_clean, failed_query}
 use Rattle.tables.proofs.WalkLemmas.{quiet_looks, moved_looks, then_survives, failed_or_same, one_more}
 use Rattle.statements.proofs.ExtractLemmas.{commits_nothing, all_shown, some_shown}
-use Rattle.statements.proofs.GoingLemmas.{goes_on_itself, goes_on_then, stays_quiet, commit_kept}
+use Rattle.statements.proofs.GoingLemmas.{goes_on_itself, goes_on_then, stays_quiet, commit_then}
 use Rattle.statements.proofs.extract_rows.hand_on.Goals as goal
 
 pub returns-in_err-rows-clause-looks : goal.returns-in_err-rows-clause-looks
@@ -18,8 +18,9 @@ returns-in_err-rows-clause-looks g c =
     let held = c.query.follows.holds-at-none in
     let sql = c.args.sql.now in
     let params = bound c.args.params.now in
-    let kept : Survives old new (CommitsShowing sql params old) = search rules in
-    quiet_looks old new kept.clean (commits_nothing sql params old new c.requires.plain kept) (λ clean _. let h = rw c.in_err-rows.was at held in failed_query sql params old new _ (h.err clean))
+    let survives : Survives old new (CommitsShowing sql params old) = search rules in
+    quiet_looks old new survives.clean (commits_nothing sql params old new c.requires.plain survives)
+    (λ clean _. let h = rw c.in_err-rows.was at held in failed_query sql params old new _ (h.err clean))
 
 pub rows-init : goal.rows-init
 rows-init g c =
@@ -55,8 +56,8 @@ returns-in_err-row-clause-same_reference g c = c.rows.invariant.4
 pub returns-in_err-row-clause-survives : goal.returns-in_err-row-clause-survives
 returns-in_err-row-clause-survives g c = c.rows.invariant.5.survives
 
-pub returns-in_err-row-clause-kept : goal.returns-in_err-row-clause-kept
-returns-in_err-row-clause-kept g c = c.rows.invariant.5.kept
+pub returns-in_err-row-clause-commit : goal.returns-in_err-row-clause-commit
+returns-in_err-row-clause-commit g c = c.rows.invariant.5.commit
 
 pub returns-in_default-clause-looks : goal.returns-in_default-clause-looks
 returns-in_default-clause-looks g c =
@@ -84,8 +85,8 @@ returns-in_default-clause-same_reference g c = c.rows.invariant.4
 pub returns-in_default-clause-survives : goal.returns-in_default-clause-survives
 returns-in_default-clause-survives g c = c.rows.invariant.5.survives
 
-pub returns-in_default-clause-kept : goal.returns-in_default-clause-kept
-returns-in_default-clause-kept g c = c.rows.invariant.5.kept
+pub returns-in_default-clause-commit : goal.returns-in_default-clause-commit
+returns-in_default-clause-commit g c = c.rows.invariant.5.commit
 
 pub returns-in_default-clause-inside : goal.returns-in_default-clause-inside
 returns-in_default-clause-inside g c clean is = c.rows.invariant.5.inside clean is refl
@@ -124,14 +125,15 @@ pub returns-in-Err-clause-survives : goal.returns-in-Err-clause-survives
 returns-in-Err-clause-survives g c =
     stays_quiet (state g.F.Store c.args.tx.now.conn.now) (state g.F.Store c.rows.tx.conn.now) (state g.F.Store c.put.new.tx.conn.now) c.rows.invariant.5.survives c.put.ensures.survives
 
-pub returns-in-Err-clause-kept : goal.returns-in-Err-clause-kept
-returns-in-Err-clause-kept g c =
-    commit_kept (state g.F.Store c.args.tx.now.conn.now) (state g.F.Store c.rows.tx.conn.now) (state g.F.Store c.put.new.tx.conn.now) c.rows.invariant.5 c.put.ensures.survives.clean c.put.ensures.kept
+pub returns-in-Err-clause-commit : goal.returns-in-Err-clause-commit
+returns-in-Err-clause-commit g c =
+    commit_then (state g.F.Store c.args.tx.now.conn.now) (state g.F.Store c.rows.tx.conn.now)
+    (state g.F.Store c.put.new.tx.conn.now) c.rows.invariant.5 c.put.ensures.survives.clean c.put.ensures.commit
 
 pub rows-preserved : goal.rows-preserved
 rows-preserved g c =
     let moved = c.next.follows.holds-at-none in
-    let kept = c.rows.invariant in
+    let so_far = c.rows.invariant in
     let sql = c.args.sql.now in
     let params = bound c.args.params.now in
     let old = state g.S.Store c.args.source.now in
@@ -144,15 +146,15 @@ rows-preserved g c =
     let put = c.in-Ok.ensures in
     let row = c.in-Some.row.now in
     let still =
-    λ (clean : HasCleanDisk new) (has : old.now.schema ≡ _). unchanged_then old mid new (kept.3 (was_clean mid new moved.survives.clean clean) has) (rw c.in_ok-row.was at (moved.same clean)) in (
-      moved.same_reference ∙ kept.0,
-      omega (arith, kept.1, moved.survives.clean),
-      then_survives old mid new kept.2 moved.survives,
+    λ (clean : HasCleanDisk new) (has : old.now.schema ≡ _). unchanged_then old mid new (so_far.3 (was_clean mid new moved.survives.clean clean) has) (rw c.in_ok-row.was at (moved.same clean)) in (
+      moved.same_reference ∙ so_far.0,
+      omega (arith, so_far.1, moved.survives.clean),
+      then_survives old mid new so_far.2 moved.survives,
       still,
-      put.same_reference ∙ kept.4,
-      goes_on_then begun at end true kept.5 (record { survives = put.survives; kept = put.kept; inside = λ clean is _. put.inside clean is }),
+      put.same_reference ∙ so_far.4,
+      goes_on_then begun at end true so_far.5 (record { survives = put.survives; commit = put.commit; inside = λ clean is _. put.inside clean is }),
       λ clean good has w means filling.
-          let was = kept.6 (was_clean mid new moved.survives.clean clean) (was_clean at end put.survives.clean good) has w means filling in
+          let was = so_far.6 (was_clean mid new moved.survives.clean clean) (was_clean at end put.survives.clean good) has w means filling in
           let given = (rw (c.in_ok-row.was, c.in-Some.is) at (moved.ok clean)) sql params was.1 was.2 in
           let rows = was.1 ++ row ∷ [] in
           let fits = c.requires.fits old.now w was.1 row means
@@ -175,5 +177,5 @@ returns-clause-same_reference g c = c.rows.invariant.4
 pub returns-clause-survives : goal.returns-clause-survives
 returns-clause-survives g c = c.rows.invariant.5.survives
 
-pub returns-clause-kept : goal.returns-clause-kept
-returns-clause-kept g c = c.rows.invariant.5.kept
+pub returns-clause-commit : goal.returns-clause-commit
+returns-clause-commit g c = c.rows.invariant.5.commit

@@ -33,7 +33,7 @@ returns-clause-answer g c clean w stands zip is =
     let range : SFits w64 c.args.id = search rules in
     let id = to_z-of_z {w = w64} {z = c.args.id} range in
     let found = rw id at (c.in_ok-last.ensures.answer was w stands) in
-    let told = rw id at (c.in_ok-ends_with.ensures.answer clean w (c.find_last.ensures.spares.stays w stands)) in
+    let ends = rw id at (c.in_ok-ends_with.ensures.answer clean w (c.find_last.ensures.spares.stays w stands)) in
     let own = subst (λ (d : Database). IsZip d.trees c.args.id zip) (sym same) is in
     let size = subst (IsFound zip) c.in-Some.is (found zip is) in
-    whole_length zip c.in-Some.last size (told c.if-not-branch.false zip own size)
+    whole_length zip c.in-Some.last size (ends c.if-not-branch.false zip own size)

@@ -81,11 +81,11 @@ returns-in_default-clause-answer g c clean w stands =
     let late : HasCleanDisk new = search rules in
     let early = was_clean mid new moved.survives.clean late in
     let was = rw id at (c.loop-number.invariant.2 early w stands) in
-    let kept = rw c.in_ok-row.was at (moved.same late) in
+    let unmoved = rw c.in_ok-row.was at (moved.same late) in
     let shown = (rw (c.in_ok-row.was, c.in_default.is) at (moved.ok late)) zip_text (zip_params c.args.id) was.1 was.2 in
-    let has = (c.loop-number.invariant.1.stays w stands early kept.0.was_open).schema in
+    let has = (c.loop-number.invariant.1.stays w stands early unmoved.0.was_open).schema in
     let same : now ≡ c.conn-in_default-1.given.0 = search rules in (
-      subst (λ h. IsTrue (state g.S.Store h).is_open) same kept.0.is_open,
+      subst (λ h. IsTrue (state g.S.Store h).is_open) same unmoved.0.is_open,
       λ zip is. c.new.ensures ∙ (was.4 zip is ∙ whole_zip c.args.id old mid new has was.0 was.1 c.loop-number.number zip shown was.3 is),
     )
 
@@ -111,7 +111,7 @@ pub loop-number-preserved : goal.loop-number-preserved
 loop-number-preserved g c =
     let moved = c.next.follows.holds-at-none in
     let now = c.next.follows.lender-at-none.conn.now in
-    let kept = c.loop-number.invariant in
+    let so_far = c.loop-number.invariant in
     let old = state g.S.Store c.args.conn.now in
     let mid = state g.S.Store c.loop-number.rows.conn.now in
     let new = state g.S.Store now in
@@ -120,11 +120,11 @@ loop-number-preserved g c =
     let row = c.in-Some.row.now in
     let bytes = c.in_ok-piece_in.field-0.now in
     let unchanged = λ (clean : HasCleanDisk new). rw c.in_ok-row.was at (moved.same clean) in
-    let spares = spares_then old mid new kept.1 (quiet_spares mid new moved.survives (λ clean. inl (unchanged clean))) in (
-      moved.same_reference ∙ kept.0,
+    let spares = spares_then old mid new so_far.1 (quiet_spares mid new moved.survives (λ clean. inl (unchanged clean))) in (
+      moved.same_reference ∙ so_far.0,
       spares,
       λ clean w stands.
-          let was = kept.2 (was_clean mid new moved.survives.clean clean) w stands in
+          let was = so_far.2 (was_clean mid new moved.survives.clean clean) w stands in
           let same = (unchanged clean).0.now_is ∙ was.0 in
           let has = (spares.stays w stands clean (unchanged clean).0.is_open).schema in
           let given = (rw (c.in_ok-row.was, c.in-Some.is) at (moved.ok clean)) zip_text (zip_params id) was.1 was.2 in

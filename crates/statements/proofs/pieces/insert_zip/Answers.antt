@@ -21,10 +21,10 @@ returns-then-is_empty-clause-adds g c clean filling =
     let zip = c.args.zip.now in
     let rest = c.loop-number.rest.now in
     let n = c.loop-number.number in
-    let kept = c.loop-number.invariant in
-    let was = kept.3 clean filling in
+    let so_far = c.loop-number.invariant in
+    let was = so_far.3 clean filling in
     let range : SFits w64 c.args.id = search rules in
-    let all = none_left zip rest n kept.2 (is_none rest (sym c.is_empty.ensures ∙ c.if-is_empty.true)) in (
+    let all = none_left zip rest n so_far.2 (is_none rest (sym c.is_empty.ensures ∙ c.if-is_empty.true)) in (
       subst (λ m. AddsZip m zip start.now.trees at.now.trees) (to_z-of_z {w = w64} {z = c.args.id} range) (zip_added (to_z w64 (of_z w64 c.args.id)) zip n start.now.trees at.now.trees all was.0),
       was.1,
     )
@@ -35,7 +35,7 @@ returns-in_err-insert_piece-clause-goes_on g c =
     let at = state g.S.Store c.loop-number.tx.conn.now in
     let end = state g.S.Store c.insert_piece.new.tx.conn.now in
     let put = c.insert_piece.ensures in
-    let last : GoesOn at end false = record { survives = put.survives; kept = put.kept; inside = λ _ _ all. absurd (true≢false (sym all)) } in
+    let last : GoesOn at end false = record { survives = put.survives; commit = put.commit; inside = λ _ _ all. absurd (true≢false (sym all)) } in
     subst (GoesOn start end) (sym (not_ok c.from_residual.result c.from_residual.ensures.0)) (goes_on_then start at end false c.loop-number.invariant.1 last)
 
 pub loop-number-preserved : goal.loop-number-preserved
@@ -47,15 +47,15 @@ loop-number-preserved g c =
     let zip = c.args.zip.now in
     let rest = c.loop-number.rest.now in
     let n = c.loop-number.number in
-    let kept = c.loop-number.invariant in (
-      put.same_reference ∙ kept.0,
-      goes_on_then start at end true kept.1 (record { survives = put.survives; kept = put.kept; inside = λ clean is _. put.inside clean is }),
-      c.split_at.ensures.back ∙ (ap (λ k. drop k rest) c.min.ensures ∙ rest_cut zip rest n kept.2),
+    let so_far = c.loop-number.invariant in (
+      put.same_reference ∙ so_far.0,
+      goes_on_then start at end true so_far.1 (record { survives = put.survives; commit = put.commit; inside = λ clean is _. put.inside clean is }),
+      c.split_at.ensures.back ∙ (ap (λ k. drop k rest) c.min.ensures ∙ rest_cut zip rest n so_far.2),
       λ clean filling.
-          let was = kept.3 (was_clean at end put.survives.clean clean) filling in
-          let has = some_left zip rest n kept.2 (is_some rest (sym c.is_empty.ensures ∙ c.if-is_empty.false)) in
+          let was = so_far.3 (was_clean at end put.survives.clean clean) filling in
+          let has = some_left zip rest n so_far.2 (is_some rest (sym c.is_empty.ensures ∙ c.if-is_empty.false)) in
           let range : SFits w64 c.from.result = search rules in
-          let bytes : c.split_at.result.0.now ≡ piece zip n = c.split_at.ensures.front ∙ (ap (λ k. take k rest) c.min.ensures ∙ piece_cut zip rest n kept.2) in
+          let bytes : c.split_at.result.0.now ≡ piece zip n = c.split_at.ensures.front ∙ (ap (λ k. take k rest) c.min.ensures ∙ piece_cut zip rest n so_far.2) in
           let it = rw (to_z-of_z {w = w64} {z = c.from.result} range, c.from.ensures, bytes) at (put.puts clean was.1) in
           (adds_piece (to_z w64 (of_z w64 c.args.id)) zip n start.now.trees at.now.trees end.now.trees was.0 has it.0, it.1),
     )

@@ -14,9 +14,9 @@ returns-in-Err-clause-changes g c opened w free =
     let new = state g.S.Store c.execute.new.self in
     let name = c.args.name.now in
     let parent : Option (List ℕ) = option_copied c.args.parent in
-    let told = rw (c.params-to_sql.ensures, c.params-to_sql-2.ensures, parent_bound c.args.parent) at c.in-Err.ensures in
+    let ran = rw (c.params-to_sql.ensures, c.params-to_sql-2.ensures, parent_bound c.args.parent) at c.in-Err.ensures in
     failed_changes _ (shelf_params name parent) shelf_insert refl (refl, refl) (inserting 1 _) old new (g.met.S.Store.settled c.args.conn.now.store) opened w
-    (with_shelf w name parent) (add_shelf_turns name parent w free old) told.survives c.in-Err.error told.runs
+    (with_shelf w name parent) (add_shelf_turns name parent w free old) ran.survives c.in-Err.error ran.runs
 
 pub returns-in-Ok-clause-changes : goal.returns-in-Ok-clause-changes
 unfolding understood everything
@@ -25,7 +25,7 @@ returns-in-Ok-clause-changes g c opened w free =
     let new = state g.S.Store c.execute.new.self in
     let name = c.args.name.now in
     let parent : Option (List ℕ) = option_copied c.args.parent in
-    let told = rw (c.params-to_sql.ensures, c.params-to_sql-2.ensures, parent_bound c.args.parent) at c.in-Ok.ensures in
+    let ran = rw (c.params-to_sql.ensures, c.params-to_sql-2.ensures, parent_bound c.args.parent) at c.in-Ok.ensures in
     done_changes _ (shelf_params name parent) shelf_insert refl (refl, refl) (inserting 1 _) old new
     (g.met.S.Store.settled c.execute.new.self.store) opened w (with_shelf w name parent) (add_shelf_turns name parent w free old)
-    told.survives c.in-Ok.field-0 told.runs
+    ran.survives c.in-Ok.field-0 ran.runs

@@ -14,9 +14,9 @@ returns-in-Err-clause-changes g c opened w =
     let old = state g.S.Store c.args.conn.now in
     let new = state g.S.Store c.execute.new.self in
     let token = c.args.token.now in
-    let told = rw c.params-to_sql.ensures at c.in-Err.ensures in
+    let ran = rw c.params-to_sql.ensures at c.in-Err.ensures in
     failed_changes _ (revoke_params token) (Delete 2 keys_of) refl (refl, refl) (deleting 2 keys_of) old new
-    (g.met.S.Store.settled c.args.conn.now.store) opened w (without_key w token) (revoke_turns w token old) told.survives c.in-Err.error told.runs
+    (g.met.S.Store.settled c.args.conn.now.store) opened w (without_key w token) (revoke_turns w token old) ran.survives c.in-Err.error ran.runs
 
 pub returns-in-Ok-clause-changes : goal.returns-in-Ok-clause-changes
 unfolding understood everything
@@ -24,7 +24,7 @@ returns-in-Ok-clause-changes g c opened w =
     let old = state g.S.Store c.args.conn.now in
     let new = state g.S.Store c.execute.new.self in
     let token = c.args.token.now in
-    let told = rw c.params-to_sql.ensures at c.in-Ok.ensures in
+    let ran = rw c.params-to_sql.ensures at c.in-Ok.ensures in
     done_changes _ (revoke_params token) (Delete 2 keys_of) refl (refl, refl) (deleting 2 keys_of) old new
     (g.met.S.Store.settled c.execute.new.self.store) opened w (without_key w token) (revoke_turns w token old)
-    told.survives c.in-Ok.field-0 told.runs
+    ran.survives c.in-Ok.field-0 ran.runs

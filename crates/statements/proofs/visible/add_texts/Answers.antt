@@ -80,9 +80,9 @@ returns-in_default-clause-adds g c clean w stands =
     let late : HasCleanDisk new = search rules in
     let early = was_clean mid new moved.survives.clean late in
     let was = c.loop.invariant.2 early w stands in
-    let kept = rw c.in_ok-row.was at (moved.same late) in
+    let unmoved = rw c.in_ok-row.was at (moved.same late) in
     let shown = (rw (c.in_ok-row.was, c.in_default.is) at (moved.ok late)) sql params was.2 was.3 in
-    let has = (c.loop.invariant.1.stays w stands early kept.0.was_open).schema in (
+    let has = (c.loop.invariant.1.stays w stands early unmoved.0.was_open).schema in (
       was.1,
       record {
         rows = was.2;
@@ -112,17 +112,17 @@ pub loop-preserved : goal.loop-preserved
 loop-preserved g c =
     let moved = c.next.follows.holds-at-none in
     let now = c.next.follows.lender-at-none.conn.now in
-    let kept = c.loop.invariant in
+    let so_far = c.loop.invariant in
     let old = state g.S.Store c.args.conn.now in
     let mid = state g.S.Store c.loop.rows.conn.now in
     let new = state g.S.Store now in
     let row = c.in-Some.row.now in
     let unchanged = λ (clean : HasCleanDisk new). rw c.in_ok-row.was at (moved.same clean) in
-    let spares = spares_then old mid new kept.1 (quiet_spares mid new moved.survives (λ clean. inl (unchanged clean))) in (
-      moved.same_reference ∙ kept.0,
+    let spares = spares_then old mid new so_far.1 (quiet_spares mid new moved.survives (λ clean. inl (unchanged clean))) in (
+      moved.same_reference ∙ so_far.0,
       spares,
       λ clean w stands.
-          let was = kept.2 (was_clean mid new moved.survives.clean clean) w stands in
+          let was = so_far.2 (was_clean mid new moved.survives.clean clean) w stands in
           let given = (rw (c.in_ok-row.was, c.in-Some.is) at (moved.ok clean)) c.args.sql.now (bound c.args.params.now) was.2 was.3 in (
             (unchanged clean).0.now_is ∙ was.0,
             was.1,

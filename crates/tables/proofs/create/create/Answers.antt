@@ -13,7 +13,7 @@ returns-in_err-commit-clause-unmade g c clean shown =
     let late : HasCleanDisk (state g.S.Store end) = subst (λ x. HasCleanDisk (state g.S.Store x)) (sym same) clean in
     let open_end : IsTrue (state g.S.Store end).is_open = subst (λ x. IsTrue (state g.S.Store x).is_open) (sym same) shown in
     let begun = c.transaction-tx.ensures.begun in
-    let keeps = rw begun at c.create_tables.ensures.kept in
+    let keeps = rw begun at c.create_tables.ensures.commit in
     let inside = rw begun at c.in_ok-create_tables.ensures.inside in
     let mid = was_clean (state g.S.Store last) (state g.S.Store end) c.commit.ensures.survives.clean late in
     let undone = undone_now (state g.S.Store (record h { in_transaction = true })) (state g.S.Store last)

@@ -3,8 +3,8 @@ use Rattle.tables.proofs.Texts.{meta_rows_text}
 use Rattle.sqlite.specs.Held.{state}
 use Rattle.tables.specs.declared.fit.MetaRows.{MetaRows}
 use Rattle.tables.proofs.ListingLemmas.{meta_rows_plain, meta_rows_tables}
-use Rattle.tables.proofs.FitTests.{told, refused, meta_true, meta_false}
-use Rattle.tables.proofs.WalkCauses.{meta_walkable, meta_vast, walk_reason, told_error}
+use Rattle.tables.proofs.FitTests.{answered, refused, meta_true, meta_false}
+use Rattle.tables.proofs.WalkCauses.{meta_walkable, meta_vast, walk_reason, error_says}
 use Rattle.tables.proofs.fit.has_schema.Goals as goal
 
 abbrev start : MetaRows
@@ -22,17 +22,17 @@ rows_pass-requires-clause-walkable g c = meta_walkable
 pub returns-then-not-branch-clause-tests : goal.returns-then-not-branch-clause-tests
 returns-then-not-branch-clause-tests g c =
     let old = state g.S.Store c.args.conn.now in
-    told old (state g.S.Store c.rows_pass.new.conn) false _ c.rows_pass.ensures.looks c.in_ok-rows_pass.ensures.same
+    answered old (state g.S.Store c.rows_pass.new.conn) false _ c.rows_pass.ensures.looks c.in_ok-rows_pass.ensures.same
     (λ clean has. refused (meta_false old.now start c.rows_pass.new.test (rw c.if-not-branch.true at (c.in_ok-rows_pass.ensures.answer clean has))))
 
 pub returns-clause-tests : goal.returns-clause-tests
 returns-clause-tests g c =
     let old = state g.S.Store c.args.conn.now in
-    told old (state g.S.Store c.rows_pass.new.conn) c.rows_pass.new.test.has_row _ c.rows_pass.ensures.looks c.in_ok-rows_pass.ensures.same
+    answered old (state g.S.Store c.rows_pass.new.conn) c.rows_pass.new.test.has_row _ c.rows_pass.ensures.looks c.in_ok-rows_pass.ensures.same
     (λ clean has. meta_true old.now start c.rows_pass.new.test refl (rw c.if-not-branch.false at (c.in_ok-rows_pass.ensures.answer clean has)))
 
 pub returns-in_err-rows_pass-clause-cause : goal.returns-in_err-rows_pass-clause-cause
 returns-in_err-rows_pass-clause-cause g c clean has =
     let old = state g.S.Store c.args.conn.now in
-    told_error _ c.from_residual.result c.in_err-rows_pass.field-0.0 c.from_residual.ensures.1
+    error_says _ c.from_residual.result c.in_err-rows_pass.field-0.0 c.from_residual.ensures.1
     (walk_reason meta_rows_text old (state g.S.Store c.rows_pass.new.conn) (Err _) (meta_vast old.now has) (c.in_err-rows_pass.ensures.cause clean has))

@@ -5,9 +5,9 @@ use Rattle.world.specs.World.{text_cmp}
 use Rattle.tables.specs.Fit.{AreShelvesFit, shelf_shown}
 use Rattle.tables.proofs.Texts.{shelf_rows_text}
 use Rattle.tables.proofs.ListingLemmas.{shelf_rows_plain, shelf_rows_tables}
-use Rattle.tables.proofs.FitTests.{told, refused, shelves_true, shelves_false}
+use Rattle.tables.proofs.FitTests.{answered, refused, shelves_true, shelves_false}
 use Rattle.tables.proofs.Maps.{no_text}
-use Rattle.tables.proofs.WalkCauses.{shelf_walkable, shelf_vast, walk_reason, told_error}
+use Rattle.tables.proofs.WalkCauses.{shelf_walkable, shelf_vast, walk_reason, error_says}
 use Rattle.tables.proofs.fit.has_shelves.Goals as goal
 
 none_of : (s : set.FinSet text_cmp) → s ≡ set.empty → (u : List ℕ) → set.contains s u ≡ true → ⊥
@@ -25,19 +25,19 @@ rows_pass-requires-clause-walkable g c = shelf_walkable
 pub returns-then-not-branch-clause-tests : goal.returns-then-not-branch-clause-tests
 returns-then-not-branch-clause-tests g c =
     let old = state g.S.Store c.args.conn.now in
-    told old (state g.S.Store c.rows_pass.new.conn) false _ c.rows_pass.ensures.looks c.in_ok-rows_pass.ensures.same
+    answered old (state g.S.Store c.rows_pass.new.conn) false _ c.rows_pass.ensures.looks c.in_ok-rows_pass.ensures.same
     (λ clean has. refused
     (shelves_false old.now _ c.rows_pass.new.test (none_of _ c.new.ensures) (none_of _ c.new-2.ensures) refl (rw c.if-not-branch.true at (c.in_ok-rows_pass.ensures.answer clean has))))
 
 pub returns-clause-tests : goal.returns-clause-tests
 returns-clause-tests g c =
     let old = state g.S.Store c.args.conn.now in
-    told old (state g.S.Store c.rows_pass.new.conn) c.are_whole.result _ c.rows_pass.ensures.looks c.in_ok-rows_pass.ensures.same
+    answered old (state g.S.Store c.rows_pass.new.conn) c.are_whole.result _ c.rows_pass.ensures.looks c.in_ok-rows_pass.ensures.same
     (λ clean has. subst (λ b. Decides b (AreShelvesFit (map shelf_shown (old.now.trees 2)))) (sym c.are_whole.ensures)
     (shelves_true old.now _ c.rows_pass.new.test (none_of _ c.new.ensures) (none_of _ c.new-2.ensures) (rw c.if-not-branch.false at (c.in_ok-rows_pass.ensures.answer clean has))))
 
 pub returns-in_err-rows_pass-clause-cause : goal.returns-in_err-rows_pass-clause-cause
 returns-in_err-rows_pass-clause-cause g c clean has =
     let old = state g.S.Store c.args.conn.now in
-    told_error _ c.from_residual.result c.in_err-rows_pass.field-0.0 c.from_residual.ensures.1
+    error_says _ c.from_residual.result c.in_err-rows_pass.field-0.0 c.from_residual.ensures.1
     (walk_reason shelf_rows_text old (state g.S.Store c.rows_pass.new.conn) (Err _) (shelf_vast old.now has) (c.in_err-rows_pass.ensures.cause clean has))

@@ -4,7 +4,7 @@ use Rattle.sqlite.specs.Tree.{Trees}
 use Rattle.tables.specs.Walks.{Tests}
 use Rattle.tables.specs.Fit.{shelf_shown, IsMetaFit, AreShelvesFit, AreKeysFit, AreNumbersFit, AreEntriesFit, ArePiecesFit, AreFit, meta_shown, name_shown, number_shown, entry_shown, piece_shown}
 use Rattle.tables.proofs.WalkLemmas.{tests_same, then_tests}
-use Rattle.tables.proofs.WalkCauses.{then_reason, told_error}
+use Rattle.tables.proofs.WalkCauses.{then_reason, error_says}
 use Rattle.tables.proofs.fit.is_fit.Goals as goal
 
 abbrev Named : Trees → Type 0
@@ -65,7 +65,7 @@ returns-in_err-has_shelves-clause-cause g c clean has =
     let second = state g.S.Store c.has_schema.new.conn in
     let third = state g.S.Store c.has_shelves.new.conn in
     let named : Tests first second (Ok true) Named = rw c.if-not-branch.false at c.in_ok-has_schema.ensures.tests in
-    told_error _ c.from_residual-in_err-has_shelves.result c.in_err-has_shelves.field-0.0 c.from_residual-in_err-has_shelves.ensures.1
+    error_says _ c.from_residual-in_err-has_shelves.result c.in_err-has_shelves.field-0.0 c.from_residual-in_err-has_shelves.ensures.1
     (then_reason first second third Named named c.has_shelves.ensures.tests.looks.clean clean has (Err _) c.in_err-has_shelves.ensures.cause)
 
 pub returns-in_err-has_keys-clause-cause : goal.returns-in_err-has_keys-clause-cause
@@ -77,7 +77,7 @@ returns-in_err-has_keys-clause-cause g c clean has =
     let named : Tests first second (Ok true) Named = rw c.if-not-branch.false at c.in_ok-has_schema.ensures.tests in
     let shelved : Tests second third (Ok true) Shelved = rw c.if-not-branch-2.false at c.in_ok-has_shelves.ensures.tests in
     let two = then_tests first second third (Ok true) Named Shelved named shelved in
-    told_error _ c.from_residual-in_err-has_keys.result c.in_err-has_keys.field-0.0 c.from_residual-in_err-has_keys.ensures.1
+    error_says _ c.from_residual-in_err-has_keys.result c.in_err-has_keys.field-0.0 c.from_residual-in_err-has_keys.ensures.1
     (then_reason first third fourth TwoFit two c.has_keys.ensures.tests.looks.clean clean has (Err _) c.in_err-has_keys.ensures.cause)
 
 pub returns-in_err-has_numbers-clause-cause : goal.returns-in_err-has_numbers-clause-cause
@@ -92,7 +92,7 @@ returns-in_err-has_numbers-clause-cause g c clean has =
     let keyed : Tests third fourth (Ok true) Keyed = rw c.if-not-branch-3.false at c.in_ok-has_keys.ensures.tests in
     let two = then_tests first second third (Ok true) Named Shelved named shelved in
     let three = then_tests first third fourth (Ok true) TwoFit Keyed two keyed in
-    told_error _ c.from_residual-in_err-has_numbers.result c.in_err-has_numbers.field-0.0 c.from_residual-in_err-has_numbers.ensures.1
+    error_says _ c.from_residual-in_err-has_numbers.result c.in_err-has_numbers.field-0.0 c.from_residual-in_err-has_numbers.ensures.1
     (then_reason first fourth fifth ThreeFit three c.has_numbers.ensures.tests.looks.clean clean has (Err _) c.in_err-has_numbers.ensures.cause)
 
 pub returns-in_err-has_entries-clause-cause : goal.returns-in_err-has_entries-clause-cause
@@ -110,7 +110,7 @@ returns-in_err-has_entries-clause-cause g c clean has =
     let two = then_tests first second third (Ok true) Named Shelved named shelved in
     let three = then_tests first third fourth (Ok true) TwoFit Keyed two keyed in
     let four = then_tests first fourth fifth (Ok true) ThreeFit Numbered three numbered in
-    told_error _ c.from_residual-in_err-has_entries.result c.in_err-has_entries.field-0.0 c.from_residual-in_err-has_entries.ensures.1
+    error_says _ c.from_residual-in_err-has_entries.result c.in_err-has_entries.field-0.0 c.from_residual-in_err-has_entries.ensures.1
     (then_reason first fifth sixth FourFit four c.has_entries.ensures.tests.looks.clean clean has (Err _) c.in_err-has_entries.ensures.cause)
 
 pub returns-clause-cause : goal.returns-clause-cause

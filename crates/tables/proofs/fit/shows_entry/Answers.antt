@@ -1,6 +1,6 @@
 use Rattle.std.proofs.Common.{[], refl, sym, ◌∙◌, true≢false}
 use Rattle.world.specs.declared.entry.Entry.{Entry}
-use Rattle.tables.proofs.RowFits.{keys_told, none_fits, no_time}
+use Rattle.tables.proofs.RowFits.{keys_decide, none_fits, no_time}
 use Rattle.tables.proofs.fit.shows_entry.Goals as goal
 
 pub returns-in_default-2-clause-verdict : goal.returns-in_default-2-clause-verdict
@@ -11,7 +11,7 @@ returns-in_default-2-clause-verdict c =
 pub returns-in-Some-3-clause-verdict : goal.returns-in-Some-3-clause-verdict
 returns-in-Some-3-clause-verdict c =
     let e : Entry = record { gomod = c.in-Some.gomod.now; zip = []; time = c.in-Some-2.time } in
-    keys_told c.args.row.now c.args.path.now c.args.version.now e c.in-Some-3.version c.shows_keys.result
+    keys_decide c.args.row.now c.args.path.now c.args.version.now e c.in-Some-3.version c.shows_keys.result
     (record { time = rw c.in-Some-2.is at c.in_ok-time.ensures.found; gomod = rw c.in-Some.is at c.in_ok-gomod.ensures.found; zip = refl })
     (sym c.in-Some-3.is ∙ c.in_ok-version.ensures) c.shows_keys.ensures.verdict
 

@@ -6,7 +6,7 @@ use Rattle.sqlite.proofs.Callers.{IsPlain, given_begin, begun_plain, unchanged_t
 use Rattle.tables.specs.Walks.{Looks}
 use Rattle.tables.proofs.FailureLemmas.{was_clean, failed_query}
 use Rattle.tables.proofs.WalkLemmas.{commits_nothing, quiet_looks, moved_looks, then_survives, failed_or_same, all_walked, some_walked, one_more}
-use Rattle.tables.proofs.WalkCauses.{query_excused, next_excused, given_wide, too_many, excused_same, told_error}
+use Rattle.tables.proofs.WalkCauses.{query_excused, next_excused, given_wide, too_many, excused_same, error_says}
 use Rattle.tables.proofs.walk.rows_pass.Goals as goal
 
 pub returns-in_err-rows-clause-looks : goal.returns-in_err-rows-clause-looks
@@ -15,8 +15,8 @@ returns-in_err-rows-clause-looks g c =
     let new = state g.S.Store c.query.follows.lender-at-none in
     let held = c.query.follows.holds-at-none in
     let sql = c.args.sql.now in
-    let kept : Survives old new (CommitsShowing sql [] old) = search rules in
-    quiet_looks old new kept.clean (commits_nothing sql old new c.requires.plain kept) (λ clean _. let h = rw c.in_err-rows.was at held in failed_query sql [] old new _ (h.err clean))
+    let survives : Survives old new (CommitsShowing sql [] old) = search rules in
+    quiet_looks old new survives.clean (commits_nothing sql old new c.requires.plain survives) (λ clean _. let h = rw c.in_err-rows.was at held in failed_query sql [] old new _ (h.err clean))
 
 pub rows-init : goal.rows-init
 rows-init g c =
@@ -120,17 +120,17 @@ returns-then-not-branch-clause-answer g c clean has =
 pub rows-preserved : goal.rows-preserved
 rows-preserved g c =
     let moved = c.next.follows.holds-at-none in
-    let kept = c.rows.invariant in
+    let so_far = c.rows.invariant in
     let old = state g.S.Store c.args.conn.now in
     let mid = state g.S.Store c.rows.rows.conn.now in
     let now = c.next.follows.lender-at-none.conn.now in
     let new = state g.S.Store now in
     let good = rw c.if-not-branch.false at c.in_ok-passes.ensures.verdict in (
-      moved.same_reference ∙ kept.0,
-      omega (arith, kept.1, moved.survives.clean),
-      then_survives old mid new kept.2 moved.survives,
+      moved.same_reference ∙ so_far.0,
+      omega (arith, so_far.1, moved.survives.clean),
+      then_survives old mid new so_far.2 moved.survives,
       λ clean has.
-          let was = kept.3 (was_clean mid new moved.survives.clean clean) has in
+          let was = so_far.3 (was_clean mid new moved.survives.clean clean) has in
           let given = (rw (c.in_ok-row.was, c.in-Some.is) at (moved.ok clean)) c.args.sql.now [] was.0 was.1 in
           let same = rw c.in_ok-row.was at (moved.same clean) in (
             was.0 ++ c.in-Some.row.now ∷ [],
@@ -154,7 +154,7 @@ returns-in_err-rows-clause-cause g c clean has =
     let old = state g.S.Store c.args.conn.now in
     let new = state g.S.Store c.query.follows.lender-at-none in
     let held = rw c.in_err-rows.was at c.query.follows.holds-at-none in
-    told_error _ c.from_residual.result c.in_err-rows.field-0.0 c.from_residual.ensures.1
+    error_says _ c.from_residual.result c.in_err-rows.field-0.0 c.from_residual.ensures.1
     (inl (query_excused c.args.sql.now _ c.requires.walkable c.requires.plain c.requires.tables old new _ has (held.err clean)))
 
 pub returns-in_err-row-clause-cause : goal.returns-in_err-row-clause-cause
@@ -165,7 +165,7 @@ returns-in_err-row-clause-cause g c clean has =
     let was = c.rows.invariant.3 (omega (arith, moved.survives.clean)) has in
     let same : now ≡ c.conn-in_err-row-1.given.0 = search rules in
     let failed = (rw c.in_err-row.was at (moved.err late)) c.args.sql.now [] was.0 was.1 in
-    told_error _ c.from_residual-in_err-row.result c.in_err-row.field-0.0 c.from_residual-in_err-row.ensures.1
+    error_says _ c.from_residual-in_err-row.result c.in_err-row.field-0.0 c.from_residual-in_err-row.ensures.1
     (excused_same g.S.Store (state g.S.Store c.args.conn.now) now c.conn-in_err-row-1.given.0 _ _ same
     (next_excused c.args.sql.now _ c.requires.walkable c.requires.plain c.requires.tables (state g.S.Store c.args.conn.now)
     (state g.S.Store c.rows.rows.conn.now) has was.3 (state g.S.Store now) _ (c.rows.invariant.2 has) failed))
@@ -180,7 +180,7 @@ returns-in_err-passes-clause-cause g c clean has =
     let at = unchanged_then (state g.S.Store c.args.conn.now) (state g.S.Store c.rows.rows.conn.now) (state g.S.Store now) was.3 (rw c.in_ok-row.was at (moved.same late)) in
     let wide = given_wide c.args.sql.now _ c.requires.walkable c.requires.plain c.requires.tables (state g.S.Store c.args.conn.now) (state g.S.Store now) has
     at was.0 c.in-Some.row.now (given_begin g.S.Store c.args.sql.now [] now _ given) in
-    told_error _ c.from_residual-in_err-passes.result c.in_err-passes.field-0.0 c.from_residual-in_err-passes.ensures.1 (inl (inl (c.in_err-passes.ensures.memory wide)))
+    error_says _ c.from_residual-in_err-passes.result c.in_err-passes.field-0.0 c.from_residual-in_err-passes.ensures.1 (inl (inl (c.in_err-passes.ensures.memory wide)))
 
 pub returns-clause-cause : goal.returns-clause-cause
 returns-clause-cause g c clean has =

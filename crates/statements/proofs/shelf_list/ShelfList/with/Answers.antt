@@ -2,7 +2,7 @@ use Rattle.std.proofs.Common.{◌≡◌, ◌∙◌, ◌++◌, ◌∷◌, [], tru
 use Rattle.std.specs.Prelude.{string_bytes}
 use Rattle.std.specs.FinSet as set
 use Rattle.statements.specs.Shelves.{added}
-use Rattle.statements.proofs.ShelfListLemmas.{added_none, added_one, kept_more}
+use Rattle.statements.proofs.ShelfListLemmas.{added_none, added_one, more_listed}
 use Rattle.statements.proofs.shelf_list.ShelfList.with.Goals as goal
 
 pub returns-then-contains : goal.returns-then-contains
@@ -13,7 +13,7 @@ returns-then-contains c =
 pub invariant_of-self : goal.invariant_of-self
 invariant_of-self c =
     let free : set.contains c.self.inside.names c.args.shelf.name ≡ false = ap (set.contains c.self.inside.names) (sym c.as_str.ensures) ∙ (sym c.contains.ensures ∙ c.if-contains.false) in
-    kept_more c.self.inside.shelves.items c.push.new.self.items c.args.shelf c.self.inside.names c.insert.new.self (string_bytes c.in_ok-name.name) c.self.invariant free
+    more_listed c.self.inside.shelves.items c.push.new.self.items c.args.shelf c.self.inside.names c.insert.new.self (string_bytes c.in_ok-name.name) c.self.invariant free
     c.in_ok-push.ensures.items c.in_ok-insert.ensures.ok (c.in_ok-name.ensures.ok ∙ c.as_str-2.ensures)
 
 pub returns : goal.returns

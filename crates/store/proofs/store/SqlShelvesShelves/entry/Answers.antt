@@ -53,7 +53,7 @@ returns g c =
     let v = version_text c.args.version.now in
     let read = rw (c.as_str.ensures.value, c.as_str-2.ensures.value) at c.in_ok-seen.ensures.reads in
     let then = rw (c.as_str-6.ensures.value, c.as_str-7.ensures.value) at c.in_ok-found.ensures.reads in
-    let kept = rw (c.as_str-8.ensures.value, c.as_str-9.ensures.value) at c.keep_seen-seen.ensures.kept in
+    let kept = rw (c.as_str-8.ensures.value, c.as_str-9.ensures.value) at c.keep_seen-seen.ensures.zips in
     record {
       reads = record {
         honest = λ h. read.honest (then.honest h);

@@ -106,8 +106,9 @@ fn is_encoded(bytes: &[u8], headers: &[HeaderSpan]) -> bool
     }
 }
 
-/// Returns what the bytes begin with if their head is whole.
-fn judge(bytes: &[u8], headers: &[HeaderSpan], spans: RequestSpans) -> Front
+/// Returns what the bytes begin with if their head is whole: the head, or its failure if it is malformed, or if it or its body is
+/// too long.
+fn within_limits(bytes: &[u8], headers: &[HeaderSpan], spans: RequestSpans) -> Front
     requires room { length headers.now ≡ 64 }
     requires within { IsRequestWithin bytes.now headers.now spans }
     requires whole { IsRequestOf bytes.now headers.now spans }
@@ -133,7 +134,7 @@ pub(crate) fn front_of(bytes: &[u8], headers: &mut [HeaderSpan]) -> Front
         return Front::Unfinished;
     }
     match parse_request(bytes, headers) {
-        Ok(Status::Complete(spans)) => judge(bytes, headers, spans),
+        Ok(Status::Complete(spans)) => within_limits(bytes, headers, spans),
         Ok(Status::Partial) if bytes.len() < HEAD_LIMIT => Front::Unfinished,
         Ok(Status::Partial) => Front::Failed(Bad::BadRequest),
         Err(_) => Front::Failed(Bad::BadRequest),

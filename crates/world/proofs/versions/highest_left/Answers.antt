@@ -1,4 +1,4 @@
-use Rattle.std.proofs.Common.{◌≡◌, subst, sym, ◌∙◌, Some, None, rules}
+use Rattle.std.proofs.Common.{◌≡◌, subst, ◌∙◌, Some, None, rules}
 use Rattle.latest.specs.Latest.{NamesTop, unretracted}
 use Rattle.world.proofs.Tops.{lent_at, names_highest_left}
 use Rattle.world.proofs.versions.highest_left.Goals as goal

@@ -31,7 +31,8 @@ pub record HasCause {T : Type 0} (old new : Shown) (result : Result T StoreFault
   pub no_fewer : old.failures ≤ new.failures
   pub device : IsErrOf result Device → GrewOrFull old.failures new.failures
 
--- what a crash leaves once a call has ended that leads from the world w to the next one
+-- What a crash leaves once a call has ended that leads from the world w to the next one. A crash within a call is one after a call
+-- whose disk fails from there on, and which so fails itself.
 pub record AfterCrash {T : Type 0} (old new : Shown) (w : World) (result : Result T StoreFault) (next : World) : Type 0 where
   -- if a crash before the call left w alone, one after it leaves w or the next world
   pub either : old.leaves w w → new.leaves w next

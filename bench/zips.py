@@ -3,8 +3,8 @@
 
 Build the program first (`./goshelf --version`); nginx and cc are on the path. With --program FILE, once or more, it measures these programs
 beside each other. Each request has a connection of its own, by a client in C, so that it is no bottleneck. What is fetched first are other
-versions each time, of a store that was opened anew; nginx's files are in the system's memory. --rounds N makes N turns (9); with --quick
-there are a tenth of the requests.
+versions each time, of a store that was opened anew; nginx's files are in the system's memory. That store has 93 MiB. With --beyond N it has
+N more versions of 16 MiB, which nobody fetches. --rounds N makes N turns (9); with --quick there are a tenth of the requests.
 """
 
 import argparse
@@ -20,25 +20,32 @@ from serve import KEY, PROGRAM, ask, client_in, fetched, resident, start_nginx, 
 SIZES = ((1_024, 1_000, 4_000), (65_536, 100, 2_000), (1_048_576, 20, 300), (16_777_216, 4, 30))
 
 
-def target(size, n):
-    return f"/k/{KEY}/example.com/z{size}/@v/v1.0.{n}.zip"
+def target(size, n, name="z"):
+    return f"/k/{KEY}/example.com/{name}{size}/@v/v1.0.{n}.zip"
 
 
 def content(size, n):
     return bytes([n % 255 + 1]) * size
 
 
-def filled(program, file):
-    """Makes a store with all versions."""
+def publish(port, size, n, name="z"):
+    gomod = f"module example.com/{name}{size}\n".encode()
+    target_of_all = target(size, n, name).removesuffix(".zip")
+    status, _ = ask(port, "PUT", target_of_all, gomod + content(size, n), {"Mod-Length": str(len(gomod))})
+    if status != 201:
+        sys.exit(f"a publish was answered {status}")
+
+
+def filled(program, file, beyond):
+    """Makes a store with all versions, and so many more of the largest size."""
     for words in (["team-add", "--team", "alpha"], ["key-add", "--shelf", "alpha", "--key", KEY]):
         subprocess.run([program, *words, "--db", file], check=True)
     child, port = started(program, file)
     for size, count, _ in SIZES:
-        gomod = f"module example.com/z{size}\n".encode()
         for n in range(count):
-            status, _ = ask(port, "PUT", target(size, n).removesuffix(".zip"), gomod + content(size, n), {"Mod-Length": str(len(gomod))})
-            if status != 201:
-                sys.exit(f"a publish was answered {status}")
+            publish(port, size, n)
+    for n in range(beyond):
+        publish(port, SIZES[-1][0], n, "more")
     stopped(child)
 
 
@@ -76,6 +83,7 @@ def options():
     parser = argparse.ArgumentParser(description=__doc__, formatter_class=argparse.RawDescriptionHelpFormatter)
     parser.add_argument("--program", action="append")
     parser.add_argument("--rounds", type=int, default=9)
+    parser.add_argument("--beyond", type=int, default=0)
     parser.add_argument("--quick", action="store_true")
     return parser.parse_args()
 
@@ -86,7 +94,7 @@ def main():
     with tempfile.TemporaryDirectory(prefix="goshelf-zips-") as folder:
         client, stores = client_in(folder), [f"{folder}/store{at}.db" for at in range(len(programs))]
         for program, file in zip(programs, stores):
-            filled(program, file)
+            filled(program, file, words.beyond)
         write_files(folder)
         theirs, port = start_nginx(folder)
         ours, peaks, beside = [[] for _ in programs], [0] * len(programs), []

@@ -4,7 +4,8 @@
 Build the program first (`cd crates/bench_leaves && rt run -- gomod 0 </dev/null`). It does the same work in rounds, and each
 line tells what a round costs in processor time, beside a run with no rounds, which only makes the input ready. Of a
 go.mod it also tells how many times dearer the text is than one half as long, and the status is 1 where that is more
-than 2.5 times. With --quick the inputs are a tenth as long.
+than 2.5 times. With --quick the inputs are a tenth as long. With --gomods it measures one round alone of the worst go.mod files
+that bench/kept.py makes, with the choice of the latest among few or many versions, the best of nine; --program FILE names the program.
 """
 
 import os
@@ -13,6 +14,9 @@ import subprocess
 import sys
 import tempfile
 
+sys.path.insert(0, os.path.dirname(os.path.abspath(__file__)))
+from kept import VERSIONS, gomod_of, gomods
+
 ROOT = os.path.dirname(os.path.dirname(os.path.abspath(__file__)))
 PROGRAM = os.path.join(ROOT, "crates", "bench_leaves", "out", "bench_leaves")
 HOSTS = ["github.com", "github.com", "github.com", "golang.org/x", "google.golang.org", "gitlab.com", "k8s.io"]
@@ -20,12 +24,12 @@ WORDS = "api auth cloud client config core data event go grpc http kit log metri
 TWICE_COSTS_AT_MOST = 2.5
 
 
-def run(what, rounds, text):
+def run(what, rounds, text, program=PROGRAM):
     """The processor seconds of a run, and the number that it prints."""
     with tempfile.TemporaryFile() as source, tempfile.TemporaryFile() as target:
         source.write(text)
         source.seek(0)
-        child = subprocess.Popen([PROGRAM, what, str(rounds)], stdin=source, stdout=target)
+        child = subprocess.Popen([program, what, str(rounds)], stdin=source, stdout=target)
         _, status, usage = os.wait4(child.pid, 0)
         if status != 0:
             sys.exit(f"the program ended with wait status {status}")
@@ -127,7 +131,22 @@ def measure_gomod(name, size, make):
     return times <= TWICE_COSTS_AT_MOST
 
 
+def measure_worst(program):
+    """What the worst go.mod files cost that are read once, and searched for the latest of one version or of many."""
+    for name, keyword, entries, version in gomods():
+        gomod, count = gomod_of(entries, keyword)
+        for many in (1, VERSIONS) if version else (1,):
+            names = [version(n) for n in range(many - 1)]
+            names.sort(key=lambda it: it if "-" in it else [int(part) for part in it[1:].split(".")])
+            text = gomod + lines(many, lambda n: ["===", *names][n]) + b"v1.0.0\n"
+            idle, once = (min(run("latest", rounds, text, program)[0] for _ in range(9)) for rounds in (0, 1))
+            print(f"{count:,} {name}, {many:,} version{'s' * (many > 1)}: {(once - idle) * 1e3:.0f} ms", flush=True)
+
+
 def main():
+    program = sys.argv[sys.argv.index("--program") + 1] if "--program" in sys.argv else PROGRAM
+    if "--gomods" in sys.argv:
+        return measure_worst(program)
     scale = 10 if "--quick" in sys.argv else 1
     if not os.path.exists(PROGRAM):
         sys.exit("build the program first: cd crates/bench_leaves && rt run -- gomod 0 </dev/null")

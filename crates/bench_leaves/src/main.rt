@@ -5,6 +5,7 @@
 //! | `paths` | a path a line | checks each | how many are module paths |
 //! | `versions` | a version a line | sorts them by rank | comparisons |
 //! | `gomod` | a go.mod | reads it | its requirements, none where it does not read |
+//! | `latest` | a go.mod, a line `===`, a version a line | reads it, chooses among the versions | the index of the latest |
 //!
 //! With no rounds it makes its input ready alone, and prints 0.
 #![tactic(auto)]
@@ -13,6 +14,7 @@ ghost use Rattle.std.specs.Prelude.{◌≡◌, count_by, is_ok};
 ghost use Rattle.modpath.specs.Path.{path_check};
 
 use gomod::GoMod;
+use latest::latest_of;
 use modpath::check;
 use modver::{Version, rank_compare};
 use std::alloc::{AllocError, Global};
@@ -25,6 +27,7 @@ enum Work<'a> {
     Paths(Vec<&'a str>),
     Versions(Vec<Version>),
     GoMod(&'a str),
+    Latest(&'a str, Vec<Version>),
 }
 
 impl<'a> Work<'a> {
@@ -34,6 +37,10 @@ impl<'a> Work<'a> {
             "paths" => Ok(Some(Work::Paths(text.lines().collect(alloc)?))),
             "versions" => Ok(Some(Work::Versions(versions(alloc, text)?))),
             "gomod" => Ok(Some(Work::GoMod(text))),
+            "latest" => match text.split_once("\n===\n") {
+                Some((text, lines)) => Ok(Some(Work::Latest(text, versions(alloc, lines)?))),
+                None => Ok(None),
+            },
             _ => Ok(None),
         }
     }
@@ -44,6 +51,7 @@ impl<'a> Work<'a> {
             Work::Paths(paths) => Ok(module_paths(paths.as_slice())),
             Work::Versions(versions) => comparisons(alloc, versions.as_slice()),
             Work::GoMod(text) => Ok(requirements(alloc, text)),
+            Work::Latest(text, versions) => latest_index(alloc, text, versions.as_slice()),
         }
     }
 }
@@ -82,6 +90,14 @@ fn requirements(alloc: Global, text: &str) -> usize {
     match GoMod::read(alloc, text.as_bytes()) {
         Ok(module) => module.required().len(),
         Err(_) => 0,
+    }
+}
+
+/// The index of the latest of some versions by a go.mod, 0 where there is none.
+fn latest_index(alloc: Global, text: &str, versions: &[Version]) -> Result<usize, AllocError> {
+    match GoMod::read(alloc, text.as_bytes()) {
+        Ok(module) => Ok(latest_of(alloc, versions, &module)?.unwrap_or(0)),
+        Err(_) => Ok(0),
     }
 }
 

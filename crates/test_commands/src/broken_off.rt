@@ -1,14 +1,13 @@
 //! Imports that break off: the list cannot be read on, or a line cannot be printed.
 use crate::calls::{imported, seen_by};
-use crate::doubles::{Sink, Source};
 use crate::in_memory::put;
-use crate::rows::{first_lines, newlines};
 use commands::memory::shelves_with;
 use commands::sources::{FilesInMemory, Sources};
 use outline::outlines::Outlines;
 use std::alloc::{AllocError, Global};
 use std::io::Read;
 use std::test::Fail;
+use test_support::doubles::{Sink, Source};
 
 const KEY: &str = "alphakey00000001";
 
@@ -16,6 +15,25 @@ fn files(alloc: Global) -> Result<FilesInMemory, AllocError> {
     let mut files = FilesInMemory::new(alloc);
     put(alloc, &mut files, "i.mod | module example.com/i;\nempty |")?;
     Ok(files)
+}
+
+/// Returns the first lines of a text, `count` at most.
+fn first_lines(alloc: Global, text: &str, count: usize) -> Result<String, AllocError> {
+    let mut first = String::new(alloc);
+    for line in text.lines().take(count) {
+        first.push_str(line)?;
+        first.push('\n')?;
+    }
+    Ok(first)
+}
+
+/// Returns how many newlines are among the first bytes, `first` at most.
+fn newlines(bytes: &[u8], first: usize) -> usize {
+    bytes
+        .iter()
+        .take(first)
+        .filter(|byte| **byte == b'\n')
+        .count()
 }
 
 /// Three rows, the lines that are printed for them, and what the shelf sees afterwards.
@@ -76,8 +94,9 @@ fn left_unread(alloc: Global, lines: usize) -> Result<String, AllocError> {
 
 /// Reports whether that is left if the list cannot be read on after this many reads.
 fn stays<F: Sources>(alloc: Global, files: &F, reads: usize) -> Result<bool, Fail> {
-    let list = Source { rest: LIST, reads };
-    let left = left(alloc, list, files, Sink::new(alloc, usize::MAX, true))?;
+    let mut list = Source::new(LIST, 1);
+    list.reads = reads;
+    let left = left(alloc, list, files, Sink::new(alloc, usize::MAX))?;
     let wanted = left_unread(alloc, newlines(LIST, reads))?;
     Ok(left.as_str() == wanted.as_str())
 }
@@ -99,7 +118,7 @@ const BAD_LINES: &str = "1 201 published\n2 201 published\n3 bad row\n";
 
 /// Reports whether, with room for this much only, the beginning of the lines is printed, and the row is done whose line breaks off.
 fn breaks_off<F: Sources>(alloc: Global, files: &F, room: usize) -> Result<bool, Fail> {
-    let left = left(alloc, BAD, files, Sink::new(alloc, room, true))?;
+    let left = left(alloc, BAD, files, Sink::new(alloc, room))?;
     let printed = BAD_LINES.get(..room).ok_or("no such place")?;
     let rows = newlines(BAD_LINES.as_bytes(), room)
         .saturating_add(1)
@@ -119,7 +138,9 @@ fn a_row_whose_line_breaks_off_is_done(rt: HostRuntime) -> Result<(), Fail> {
 
 /// Reports whether the first row is the last that is done if its line is not flushed.
 fn stops_unflushed<F: Sources>(alloc: Global, files: &F) -> Result<bool, Fail> {
-    let left = left(alloc, BAD, files, Sink::new(alloc, usize::MAX, false))?;
+    let mut output = Sink::new(alloc, usize::MAX);
+    output.flushes = false;
+    let left = left(alloc, BAD, files, output)?;
     let wanted = left_after(alloc, "1 201 published\n", "io", 1)?;
     Ok(left.as_str() == wanted.as_str())
 }

@@ -1,6 +1,4 @@
 //! The commands over any store and any files, and their answers as texts.
-use crate::doubles::Sink;
-use crate::rows::{column, with_lines};
 use commands::import::{Ending, import};
 use commands::inventory::inventory;
 use commands::refusal::CommandRefusal;
@@ -13,6 +11,8 @@ use std::alloc::Global;
 use std::io::Read;
 use std::str::from_utf8;
 use std::test::Fail;
+use test_support::doubles::Sink;
+use test_support::rows::{part, with_lines};
 use world::shelves::Shelves;
 
 /// Returns the first row of a script that is answered otherwise, or the empty text if each row has its own answer. A row is a
@@ -39,7 +39,7 @@ fn holds<S: Outlines, F: Sources>(
     files: &F,
     row: &str,
 ) -> Result<bool, Fail> {
-    let wanted = with_lines(alloc, column(row, 3))?;
+    let wanted = with_lines(alloc, part(row, 3))?;
     Ok(answered(alloc, shelves, files, row)?.as_str() == wanted.as_str())
 }
 
@@ -50,8 +50,8 @@ fn answered<S: Outlines, F: Sources>(
     files: &F,
     row: &str,
 ) -> Result<String, Fail> {
-    let (key, asked) = (column(row, 1), column(row, 2));
-    match column(row, 0) {
+    let (key, asked) = (part(row, 1), part(row, 2));
+    match part(row, 0) {
         "import" => import_file(alloc, shelves, files, key, asked),
         "inventory" => seen_by(alloc, shelves, key),
         "requires" => required(alloc, shelves, key, asked),
@@ -81,7 +81,7 @@ fn import_file<S: Shelves, F: Sources>(
     name: &str,
 ) -> Result<String, Fail> {
     let list = files.bytes(name, 4096)?;
-    let output = Sink::new(alloc, usize::MAX, true);
+    let output = Sink::new(alloc, usize::MAX);
     imported(alloc, shelves, files, key, list.as_slice(), output)
 }
 

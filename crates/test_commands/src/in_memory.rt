@@ -1,14 +1,14 @@
 //! Files in memory.
-use crate::rows::{column, with_lines};
 use commands::sources::{FilesInMemory, Sources};
 use std::alloc::{AllocError, Global};
 use std::str::from_utf8;
 use std::test::Fail;
+use test_support::rows::{part, with_lines};
 
 /// Puts files, one a line: a name and its text, in which `;` is a newline.
 pub fn put(alloc: Global, files: &mut FilesInMemory, table: &str) -> Result<(), AllocError> {
     for row in table.lines() {
-        put_file(alloc, files, column(row, 0), column(row, 1))?;
+        put_file(alloc, files, part(row, 0), part(row, 1))?;
     }
     Ok(())
 }
@@ -33,9 +33,9 @@ fn told<F: Sources>(alloc: Global, files: &F, name: &str, most: u32) -> Result<S
 
 /// Reports whether a row's name has the bytes, or the fault, that the row says.
 fn is_told<F: Sources>(alloc: Global, files: &F, row: &str) -> Result<bool, Fail> {
-    let most = column(row, 1).parse::<u32>()?;
-    let wanted = with_lines(alloc, column(row, 2))?;
-    Ok(told(alloc, files, column(row, 0), most)?.as_str() == wanted.as_str())
+    let most = part(row, 1).parse::<u32>()?;
+    let wanted = with_lines(alloc, part(row, 2))?;
+    Ok(told(alloc, files, part(row, 0), most)?.as_str() == wanted.as_str())
 }
 
 /// Puts the file of a row with two columns and returns true. For a row with three, reports whether its name has what it says.
@@ -43,7 +43,7 @@ fn holds(alloc: Global, files: &mut FilesInMemory, row: &str) -> Result<bool, Fa
     if row.split('|').count() == 3 {
         return is_told(alloc, files, row);
     }
-    put_file(alloc, files, column(row, 0), column(row, 1))?;
+    put_file(alloc, files, part(row, 0), part(row, 1))?;
     Ok(true)
 }
 

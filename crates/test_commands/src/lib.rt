@@ -9,10 +9,6 @@ mod broken_off;
 #[cfg(test)]
 mod calls;
 #[cfg(test)]
-mod doubles;
-#[cfg(test)]
 mod in_memory;
-#[cfg(test)]
-mod rows;
 #[cfg(test)]
 mod scripts;

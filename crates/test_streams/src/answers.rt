@@ -1,9 +1,10 @@
 //! Answers to streams, with readers and writers that cut them and fail.
-use crate::doubles::{Sink, Source, shelves};
+use crate::shelves::shelves;
 use crate::stream::{ANSWER_ENDS, ANSWERS, BAD_REQUEST, ENDS, STREAM, TOOLCHAIN};
 use engine::{Io, answer_all, answer_one};
 use std::alloc::{AllocError, Global};
 use std::test::Fail;
+use test_support::doubles::{Sink, Source};
 
 /// Answers a stream from shelves that have no entry.
 fn serve(alloc: Global, reader: &mut Source, writer: &mut Sink) -> Result<(), Io> {

@@ -1,5 +1,5 @@
 //! Connections of this process to itself.
-use crate::doubles::shelves;
+use crate::shelves::shelves;
 use socket::serve_on;
 use std::io::{Read, Write};
 use std::net::{Shutdown, TcpListener, TcpStream};

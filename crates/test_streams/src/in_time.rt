@@ -1,6 +1,6 @@
 //! A peer's time, measured by a clock of the test.
 use crate::connections::{PUBLISHED, PUT};
-use crate::doubles::{Sink, shelves};
+use crate::shelves::shelves;
 use engine::Io;
 use socket::{Answered, BoundRead, BoundWrite, answer_in_time};
 use std::alloc::Global;
@@ -8,6 +8,7 @@ use std::cell::Cell;
 use std::io::{self, Chain, Read, Write};
 use std::test::Fail;
 use std::time::{Clock, Duration};
+use test_support::doubles::Sink;
 use wire::RouteTable;
 
 /// A clock that goes on by `step` milliseconds each time it is read.

@@ -7,9 +7,9 @@ mod answers;
 #[cfg(test)]
 mod connections;
 #[cfg(test)]
-mod doubles;
-#[cfg(test)]
 mod in_time;
+#[cfg(test)]
+mod shelves;
 #[cfg(test)]
 mod stream;
 #[cfg(test)]

@@ -1,11 +1,11 @@
 //! Readers and writers that fail at each of their calls in turn: what was written, and what the shelves have afterwards.
 //!
 //! This is shown over shelves in maps only, because no part of it depends on where the shelves are kept.
-use crate::doubles::{Sink, Source, shelves};
+use crate::shelves::shelves;
 use engine::{Io, answer_all};
 use std::alloc::Global;
-use std::io::ErrorKind;
 use std::test::Fail;
+use test_support::doubles::{Sink, Source};
 use world::shelves::Shelves;
 
 /// A run, one step a line: a message, its reply, and how the reply to `LIST` ends after the step. `^` is CR LF, and `$` is LF.
@@ -85,8 +85,7 @@ fn is_read_up_to(alloc: Global, stream: &[u8], piece: usize, reads: usize) -> Re
         }
     }
     let mut reader = Source::new(stream, piece);
-    reader.reads = reads as u64;
-    reader.failure = ErrorKind::ConnectionReset;
+    reader.reads = reads;
     let is_so = fails_with(alloc, &mut reader, written.as_str(), list.as_str())?;
     Ok(is_so && reader.rest.len() == stream.len().saturating_sub(given))
 }

@@ -1,5 +1,5 @@
 //! Requests and the bytes of their replies, as rows of scripts. (RFC 9112; Go Modules Reference, "GOPROXY protocol".)
-use crate::rows::{column, with_lines};
+use crate::rows::{part, with_lines};
 use engine::answer_all;
 use std::alloc::{AllocError, Global};
 use std::test::Fail;
@@ -212,11 +212,6 @@ GET A -/modules | 200 OK | plain | example.com/h;
 GET M -/gosum/example.com/g/@v/v1.0.0 | 200 OK | plain | example.com/g v1.0.0/go.mod h1:OJ1klDEevVKLkxk3UnEX/d9Uk3DpmjQKYxb0X6M2RS0=;
 GET A -/gosum/example.com/g/@v/v1.0.0 | 404 Not Found | plain | not found;
 ";
-
-/// Returns a column of a row, without spaces around it.
-fn part(row: &str, place: usize) -> &str {
-    column(row, place).trim()
-}
 
 /// Returns the key that a letter stands for.
 fn key_of(letter: &str) -> &'static str {

@@ -8,6 +8,11 @@ pub fn column(row: &str, place: usize) -> &str {
     row.split('|').nth(place).unwrap_or("")
 }
 
+/// Returns a column of a row without the spaces around it.
+pub fn part(row: &str, place: usize) -> &str {
+    column(row, place).trim()
+}
+
 /// Returns the call in a row: what stands before its answer.
 pub fn call_of(row: &str) -> &str {
     match row.split_once(" = ") {

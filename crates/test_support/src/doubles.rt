@@ -1,44 +1,23 @@
-//! Readers and writers that fail, and shelves to answer from.
+//! A reader and a writer that fail.
 use std::alloc::Global;
 use std::io;
 use std::io::{Error, ErrorKind, Read, Write};
-use world::entry::Right;
-use world::map_shelves::MapShelves;
-use world::registry::StoreFault;
-use world::shelves::Shelves;
 
-/// Adds the teams alpha and beta and the keys of the tests, and returns the shelves.
-fn registered<S: Shelves + Drop>(mut shelves: S) -> Result<S, StoreFault> {
-    shelves.team_add("alpha", None)?;
-    shelves.team_add("beta", None)?;
-    shelves.key_add("alpha", "alphakey00000001", Right::Publishes)?;
-    shelves.key_add("alpha", "alphareader00001", Right::Reads)?;
-    shelves.key_add("beta", "betakey000000001", Right::Publishes)?;
-    shelves.key_add("common", "commonkey0000001", Right::Publishes)?;
-    Ok(shelves)
-}
-
-/// Returns shelves in maps: `common`, alpha and beta, with their keys.
-pub fn shelves(alloc: Global) -> Result<MapShelves, StoreFault> {
-    registered(MapShelves::new(alloc)?)
-}
-
-/// Gives its bytes in pieces. The read after `reads` others fails.
+/// Gives its bytes in pieces. The read after `reads` others fails, and the reads after it give the rest.
 #[derive(Drop)]
 pub struct Source<'a> {
     pub rest: &'a [u8],
     pub piece: usize,
-    pub reads: u64,
-    pub failure: ErrorKind,
+    pub reads: usize,
 }
 
 impl<'a> Source<'a> {
+    /// Returns a reader that does not fail.
     pub fn new(rest: &'a [u8], piece: usize) -> Source<'a> {
         Source {
             rest,
             piece,
-            reads: u64::MAX,
-            failure: ErrorKind::Interrupted,
+            reads: usize::MAX,
         }
     }
 }
@@ -46,8 +25,8 @@ impl<'a> Source<'a> {
 impl<'a> Read for Source<'a> {
     fn read(&mut self, buf: &mut [u8]) -> io::Result<usize> {
         if self.reads == 0 {
-            self.reads = u64::MAX;
-            return Err(Error::from(self.failure));
+            self.reads = usize::MAX;
+            return Err(Error::from(ErrorKind::ConnectionReset));
         }
         self.reads -= 1;
         let n = self.rest.len().min(self.piece).min(buf.len());
@@ -64,21 +43,24 @@ pub struct Sink {
     pub taken: Vec<u8>,
     pub piece: usize,
     pub room: usize,
-    pub interrupts: bool,
     pub flushes: bool,
+    /// Whether the next write is interrupted.
+    pub interrupts: bool,
+    /// How many writes took bytes.
     pub writes: u64,
     /// Whether nothing was taken since the last flush.
     pub is_flushed: bool,
 }
 
 impl Sink {
+    /// Returns a writer that takes `room` bytes, in pieces of 7.
     pub fn new(alloc: Global, room: usize) -> Sink {
         Sink {
             taken: Vec::new(alloc),
             piece: 7,
             room,
-            interrupts: true,
             flushes: true,
+            interrupts: true,
             writes: 0,
             is_flushed: true,
         }

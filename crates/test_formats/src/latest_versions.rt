@@ -1,12 +1,13 @@
 //! The highest version, and the latest. (Go Modules Reference, "GOPROXY protocol", on `@latest`.)
 use crate::rows::{bytes, column, named, versions_of};
 use gomod::GoMod;
-use latest::{latest, top};
+use latest::{latest, latest_of, top};
 use std::alloc::Global;
 use std::test::Fail;
 
 /// - `top`: versions, and the index of the highest, or `-` if there is none.
-/// - `latest`: versions, a go.mod, and the index of the highest that it does not retract, or `-` if there is none.
+/// - `latest`: versions, a go.mod, and the index of the highest that it does not retract, or `-` if there is none. `latest` and
+///   `latest_of` return the same one.
 pub const ROWS: &str = "\
 top||-
 top|v1.0.0-rc.10 v1.0.0 v1.0.0-rc.2|1
@@ -30,5 +31,9 @@ pub fn given(alloc: Global, row: &str) -> Result<String, Fail> {
         return Ok(named(alloc, top(list.as_slice()))?);
     }
     let gomod = GoMod::read(alloc, &bytes(alloc, column(row, 2))?)?;
-    Ok(named(alloc, latest(list.as_slice(), &gomod))?)
+    let found = latest_of(alloc, list.as_slice(), &gomod)?;
+    if found != latest(list.as_slice(), &gomod) {
+        return Ok(String::from_str(alloc, "two answers")?);
+    }
+    Ok(named(alloc, found)?)
 }

@@ -232,7 +232,7 @@ fn described<'a>(alloc: Global) -> Command<'a> {
 }
 
 /// Returns a command without its options, as help shows it. A command with forms shows its help, as bad usage, if no option follows.
-fn told<'a>(alloc: Global, row: &CommandRow) -> Command<'a> {
+fn bare<'a>(alloc: Global, row: &CommandRow) -> Command<'a> {
     let command = Command::new(alloc, row.name)
         .about(row.about)
         .after_help(row.example);
@@ -244,7 +244,7 @@ fn told<'a>(alloc: Global, row: &CommandRow) -> Command<'a> {
 
 /// Returns a command with its options.
 fn command<'a>(alloc: Global, row: &CommandRow) -> Result<Command<'a>, AllocError> {
-    let mut command = told(alloc, row);
+    let mut command = bare(alloc, row);
     for option in row.options {
         command = command.arg(argument(alloc, option)?)?;
     }

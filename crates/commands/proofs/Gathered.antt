@@ -1,4 +1,4 @@
--- Gathering a list from a store, part by part.
+-- Gathering a list from a store, piece by piece.
 use Rattle.std.proofs.Common.{◌≡◌, ◌≤◌, ◌++◌, ◌∷◌, List, Ok, ◌∙◌, ap, subst, append_assoc, arith}
 use Rattle.std.specs.List.{flat_map}
 use Rattle.world.specs.Store.{Shown}
@@ -22,23 +22,23 @@ module _ {X T : Type 0} (f : World → X → List T) (before : List T) (goal : W
   abbrev pub Gathers : List T → List X → World → Type 0
   Gathers items rest w = items ++ flat_map (f w) rest ≡ before ++ goal w
 
-  -- if the items of one more part were added, gathering goes on
+  -- if the items of one more piece were added, gathering goes on
   pub gathered_more : (a b c : Shown) (items more : List T) (x : X) (rest : List X)
       → Keeps a b (Gathers items (x ∷ rest)) → Adds b c items more (Ok tt) (λ w. f w x) → Keeps a c (Gathers more rest)
   gathered_more a b c items more x rest far adds = record {
     honest = λ h. far.honest (adds.honest h);
     at = λ h w stands.
         let was = far.at (adds.honest h) w stands in
-        let told = adds.at h w was.stays in
+        let added = adds.at h w was.stays in
         record {
-          holds = ap (λ l. l ++ flat_map (f w) rest) told.answer ∙ append_assoc items (f w x) (flat_map (f w) rest) ∙ was.holds;
-          stays = told.stays;
-          left = λ x y before. told.left x y (was.left x y before);
+          holds = ap (λ l. l ++ flat_map (f w) rest) added.answer ∙ append_assoc items (f w x) (flat_map (f w) rest) ∙ was.holds;
+          stays = added.stays;
+          left = λ x y before. added.left x y (was.left x y before);
         };
     no_fewer = omega (arith, far.no_fewer, adds.cause.no_fewer);
   }
 
-  -- if the items of the next part of what is left were added, gathering goes on
+  -- if the items of the next piece of what is left were added, gathering goes on
   pub gathered_next : (a b c : Shown) (items more : List T) (x y : X) (left rest : List X) → left ≡ x ∷ rest → y ≡ x
       → Keeps a b (Gathers items left) → Adds b c items more (Ok tt) (λ w. f w y) → Keeps a c (Gathers more rest)
   gathered_next a b c items more x y left rest begins is far adds =

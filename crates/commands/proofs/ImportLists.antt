@@ -41,14 +41,14 @@ read_begins remaining (Some text) rows reader so = (reader_state reader, so.at.0
 
 -- ---- fields
 
--- there is a field at each place before the end
+-- there is a field at each index before the end
 pub field_is_there : (fs : List (List ℕ)) (i : ℕ) → i < length fs → None ≡ field_at fs i → ⊥
 unfolding field_at
 field_is_there [] i below none = absurd (omega arith)
 field_is_there (f ∷ fs) zero below none = cc
 field_is_there (f ∷ fs) (suc i) below none = field_is_there fs i (omega arith) none
 
--- five fields are those at the places 0 to 4
+-- five fields are those at the indices 0 to 4
 pub five_fields : (fs : List (List ℕ)) (p v t g z : List ℕ) → length fs ≡ 5 → Some p ≡ field_at fs 0 → Some v ≡ field_at fs 1 → Some t ≡ field_at fs 2
     → Some g ≡ field_at fs 3 → Some z ≡ field_at fs 4 → fs ≡ p ∷ v ∷ t ∷ g ∷ z ∷ []
 unfolding field_at

@@ -76,10 +76,10 @@ module _ (old new : Shown) (ask : Ask) where
     device = λ met. elim met [ inl e ↦ does.cause.device (cc e) | inr never ↦ absurd never ];
   }
 
-module _ (told : List ℕ → Option (Option (List ℕ))) (key : List ℕ) where
+module _ (files : List ℕ → Option (Option (List ℕ))) (key : List ℕ) where
   -- a row whose files were read is a publish of them
-  pub row_published : (old new : Shown) (l : Line) (body : Body) (answer : Fixed) → IsBodyOf told l (Ok body)
-      → Publishes old new (spec.ask_of key l body) answer → DoesRow old new told key l (outcome.Answered answer)
+  pub row_published : (old new : Shown) (l : Line) (body : Body) (answer : Fixed) → IsBodyOf files l (Ok body)
+      → Publishes old new (spec.ask_of key l body) answer → DoesRow old new files key l (outcome.Answered answer)
   row_published old new l body answer had is = record {
     done = Answers (spec.ask_of key l body) is.told;
     through = record { done = ((body, had, refl), tt); runs = is.runs; no_fewer = is.no_fewer; device = is.device };
@@ -87,14 +87,14 @@ module _ (told : List ℕ → Option (Option (List ℕ))) (key : List ℕ) where
   }
 
   -- a row that was not asked of the machine leaves the store as it was
-  pub row_without_file : (old : Shown) (l : Line) → IsBodyOf told l (Err source.NoFile) → DoesRow old old told key l outcome.NoFile
+  pub row_without_file : (old : Shown) (l : Line) → IsBodyOf files l (Err source.NoFile) → DoesRow old old files key l outcome.NoFile
   row_without_file old l none = record {
     done = HasNoFile;
     through = record { done = (none, tt); runs = runs_begun old; no_fewer = omega arith; device = λ never. absurd never };
     is = refl;
   }
 
-  pub row_unfetched : (old : Shown) (l : Line) → DoesRow old old told key l (outcome.Answered Unavailable)
+  pub row_unfetched : (old : Shown) (l : Line) → DoesRow old old files key l (outcome.Answered Unavailable)
   row_unfetched old l = record {
     done = Unfetched;
     through = record { done = (tt, tt); runs = runs_begun old; no_fewer = omega arith; device = λ never. absurd never };
@@ -102,7 +102,7 @@ module _ (told : List ℕ → Option (Option (List ℕ))) (key : List ℕ) where
   }
 
   -- an unchanged store goes through no rows
-  pub nothing_done : (old : Shown) → GoesThrough old old told key []
+  pub nothing_done : (old : Shown) → GoesThrough old old files key []
   nothing_done old = record {
     done = tt;
     runs = runs_begun old;
@@ -112,13 +112,13 @@ module _ (told : List ℕ → Option (Option (List ℕ))) (key : List ℕ) where
 
   -- ---- one more row
 
-  done_more : (turns : List Turn) (t : Turn) → spec.AreDone told key turns → spec.IsDone told key t.line t.done → spec.AreDone told key (turns ++ t ∷ [])
+  done_more : (turns : List Turn) (t : Turn) → spec.AreDone files key turns → spec.IsDone files key t.line t.done → spec.AreDone files key (turns ++ t ∷ [])
   done_more [] t done last = (last, tt)
   done_more (u ∷ turns) t done last = (done.0, done_more turns t done.1 last)
 
   -- a store that goes through rows and then through one more goes through all of them
-  pub through_more : (a b c : Shown) (turns : List Turn) (t : Turn) → GoesThrough a b told key turns
-      → GoesThrough b c told key (t ∷ []) → GoesThrough a c told key (turns ++ t ∷ [])
+  pub through_more : (a b c : Shown) (turns : List Turn) (t : Turn) → GoesThrough a b files key turns
+      → GoesThrough b c files key (t ∷ []) → GoesThrough a c files key (turns ++ t ∷ [])
   through_more a b c turns t far next = record {
     done = done_more turns t far.done next.done.0;
     runs = subst (λ es. Runs a c es (spec.answers (turns ++ t ∷ []))) (sym (events_more turns t))
@@ -133,8 +133,8 @@ module _ (told : List ℕ → Option (Option (List ℕ))) (key : List ℕ) where
   }
 
   -- a store that goes through rows and then through none goes through the rows
-  pub through_idle : (a b c : Shown) (turns : List Turn) → GoesThrough a b told key turns
-      → GoesThrough b c told key [] → GoesThrough a c told key turns
+  pub through_idle : (a b c : Shown) (turns : List Turn) → GoesThrough a b files key turns
+      → GoesThrough b c files key [] → GoesThrough a c files key turns
   through_idle a b c turns far idle = record {
     done = far.done;
     runs = subst (λ es. Runs a c es (spec.answers turns)) (append-nil (spec.events turns))
@@ -149,8 +149,8 @@ module _ (told : List ℕ → Option (Option (List ℕ))) (key : List ℕ) where
   module _ (old new : Shown) (list w0 w1 w2 : Option (List ℕ)) (turns : List Turn) where
     -- an import that did these rows and printed the line that ends it does as `Imports` says
     pub closed : (n : ℕ) (why : Closing) (accepted : Bool) (result : Result Ending Io) → spec.AreFirst list turns
-        → GoesThrough old new told key turns → spec.IsOver list turns n why → accepted ≡ list_all spec.is_accepted turns → Appends w0 w1 (spec.lines_from 1 turns)
-        → spec.Closes n why accepted w1 w2 result → Imports old new told key list w0 w2 result
+        → GoesThrough old new files key turns → spec.IsOver list turns n why → accepted ≡ list_all spec.is_accepted turns → Appends w0 w1 (spec.lines_from 1 turns)
+        → spec.Closes n why accepted w1 w2 result → Imports old new files key list w0 w2 result
     closed n why accepted (Ok e) front far over all printed closes = record {
       turns = turns;
       first = front;
@@ -166,8 +166,8 @@ module _ (told : List ℕ → Option (Option (List ℕ))) (key : List ℕ) where
 
     -- an import whose output broke off in the line of a row does as `Imports` says
     pub broken_off : (mid : Shown) (n : ℕ) (t : Turn) (e : Io) → spec.AreFirst list (turns ++ t ∷ [])
-        → GoesThrough old mid told key turns → GoesThrough mid new told key (t ∷ []) → Appends w0 w1 (spec.lines_from 1 turns) → n ≡ length turns + 1 → e ≡ io.Write
-        → PrintsFront w1 w2 (spec.line_of n t) → Imports old new told key list w0 w2 (Err e)
+        → GoesThrough old mid files key turns → GoesThrough mid new files key (t ∷ []) → Appends w0 w1 (spec.lines_from 1 turns) → n ≡ length turns + 1 → e ≡ io.Write
+        → PrintsFront w1 w2 (spec.line_of n t) → Imports old new files key list w0 w2 (Err e)
     broken_off mid n t e first far next printed count is front = record {
       turns = turns ++ t ∷ [];
       first = first;

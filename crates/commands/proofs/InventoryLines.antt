@@ -14,7 +14,7 @@ use Rattle.commands.specs.InventoryLines.{lines_of, lines_of_read, lines_of_text
 use Rattle.commands.specs.Reading.{Adds}
 
 module _ {A B C : Type 0} where
-  -- flattening twice is flattening once, part by part
+  -- flattening twice is flattening once, piece by piece
   flat_map_twice : (g : B → List C) (f : A → List B) (xs : List A) → flat_map g (flat_map f xs) ≡ flat_map (λ x. flat_map g (f x)) xs
   flat_map_twice g f [] = refl
   flat_map_twice g f (x ∷ xs) = flat_map-append g (f x) (flat_map f xs) ∙ ap (λ l. flat_map g (f x) ++ l) (flat_map_twice g f xs)
@@ -43,11 +43,11 @@ pub reads_lines : (old new : Shown) (s before after text : List ℕ) → before 
 reads_lines old new s before after text begins is adds = record {
   honest = adds.honest;
   at = λ h w stands.
-      let told = adds.at h w stands in
+      let added = adds.at h w stands in
       record {
-        answer = is ∙ told.answer ∙ ap (λ b. b ++ lines_seen w s) begins ∙ whole_text w s;
-        stays = told.stays;
-        left = told.left;
+        answer = is ∙ added.answer ∙ ap (λ b. b ++ lines_seen w s) begins ∙ whole_text w s;
+        stays = added.stays;
+        left = added.left;
       };
   cause = answers old new text adds.cause.no_fewer;
 }

@@ -21,13 +21,13 @@ same_row p v (Some seen) = refl
 module _ (old new : Shown) (s p : List ℕ) (v : SemanticVersion) (found : Option Outline) (read : Reads old new (Ok found) (λ w. outline w s p (version_text v))) (before after : List ℕ) where
   -- adding the lines of the outline adds those of the version
   adds_lines : (o : Option Outline) → found ≡ o → after ≡ before ++ lines_of (outlined p v o) → Adds old new before after (Ok tt) (λ w. lines_at w s p v)
-  adds_lines o is told = record {
+  adds_lines o is says = record {
     honest = read.honest;
     at = λ honest w stands.
         let here = read.at honest w stands in
         let row = ap (outlined p v) (sym is ∙ here.answer) ∙ same_row p v (view w s p (version_text v)) in
         record {
-          answer = told ∙ ap (λ rows. before ++ lines_of rows) row;
+          answer = says ∙ ap (λ rows. before ++ lines_of rows) row;
           stays = here.stays;
           left = here.left;
         };
@@ -41,5 +41,5 @@ module _ (old new : Shown) (s p : List ℕ) (v : SemanticVersion) (found : Optio
   -- with an outline, adding the line of its row adds those of the version
   pub adds_one : (it : Outline) (row : InventoryRow) → found ≡ Some it → row ∷ [] ≡ outlined p v (Some it)
       → after ≡ before ++ line (fields row) → Adds old new before after (Ok tt) (λ w. lines_at w s p v)
-  adds_one it row is rows told =
-      adds_lines (Some it) is (told ∙ (ap (λ l. before ++ l) (sym (append-nil (line (fields row)))) ∙ ap (λ rs. before ++ lines_of rs) rows))
+  adds_one it row is rows says =
+      adds_lines (Some it) is (says ∙ (ap (λ l. before ++ l) (sym (append-nil (line (fields row)))) ∙ ap (λ rs. before ++ lines_of rs) rows))

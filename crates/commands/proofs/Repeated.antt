@@ -41,7 +41,7 @@ use Rattle.commands.specs.ImportLine.{accepts_outcome}
 use Rattle.commands.specs.ImportList.{Line, Meets, fields_of_line}
 use Rattle.commands.specs.Publish.{accepts, answer_of, asked_at, given_time}
 use Rattle.commands.specs.Repetition.{AreRepeats, IsKnown, RepeatedImportChangesNothing}
-use Rattle.commands.specs.Sources.{IsTold}
+use Rattle.commands.specs.Sources.{IsRead}
 use Rattle.commands.specs.declared.import.Closing.{Closing}
 use Rattle.commands.specs.declared.import.Closing.TheVariants as closing
 use Rattle.commands.specs.declared.import.Ending.TheVariants.{AllIn, SomeOut}
@@ -151,7 +151,7 @@ module _ (files : List ℕ → Option (Option (List ℕ))) where
     asks : (key : List ℕ) → spec.ask_of key l body ≡ Put key p
     readable : IsReadable l
 
-  -- each row asks the publish at its place
+  -- each row asks the publish at its index
   abbrev AskEach : List Turn → List Publish → Type 0
   AskEach [] [] = Unit {0}
   AskEach [] (p ∷ ps) = ⊥
@@ -218,15 +218,15 @@ module _ (files : List ℕ → Option (Option (List ℕ))) where
 
   -- ---- the rows again
 
-  told_once : (most : ℕ) (known : Option (Option (List ℕ))) (xs ys : List ℕ) → (known ≡ None → ⊥) → IsTold most known (Ok xs) → IsTold most known (Ok ys) → xs ≡ ys
-  told_once most None xs ys known a b = absurd (known refl)
-  told_once most (Some None) xs ys known a b = absurd a
-  told_once most (Some (Some all)) xs ys known a b = a ∙ sym b
+  read_once : (most : ℕ) (known : Option (Option (List ℕ))) (xs ys : List ℕ) → (known ≡ None → ⊥) → IsRead most known (Ok xs) → IsRead most known (Ok ys) → xs ≡ ys
+  read_once most None xs ys known a b = absurd (known refl)
+  read_once most (Some None) xs ys known a b = absurd a
+  read_once most (Some (Some all)) xs ys known a b = a ∙ sym b
 
-  told_or_none : (most : ℕ) (known : Option (Option (List ℕ))) (xs : List ℕ) → (known ≡ None → ⊥) → IsTold most known (Ok xs) → IsTold most known (Err source.NoFile) → ⊥
-  told_or_none most None xs known a b = known refl
-  told_or_none most (Some None) xs known a b = a
-  told_or_none most (Some (Some all)) xs known a b = b
+  read_or_none : (most : ℕ) (known : Option (Option (List ℕ))) (xs : List ℕ) → (known ≡ None → ⊥) → IsRead most known (Ok xs) → IsRead most known (Err source.NoFile) → ⊥
+  read_or_none most None xs known a b = known refl
+  read_or_none most (Some None) xs known a b = a
+  read_or_none most (Some (Some all)) xs known a b = b
 
   abbrev body : List ℕ → List ℕ → Body
   body gomod zip = record { gomod = gomod; zip = zip }
@@ -236,15 +236,15 @@ module _ (files : List ℕ → Option (Option (List ℕ))) where
     same_body l b c readable had have =
         let (gomod, zip) = had readable in
         let (gomod_again, zip_again) = have readable in
-        ap (λ g. body g b.zip) (told_once gomod_limit (files l.gomod) b.gomod c.gomod (known l.gomod) gomod gomod_again)
-        ∙ ap (body c.gomod) (told_once zip_limit (files l.zip) b.zip c.zip (known l.zip) zip zip_again)
+        ap (λ g. body g b.zip) (read_once gomod_limit (files l.gomod) b.gomod c.gomod (known l.gomod) gomod gomod_again)
+        ∙ ap (body c.gomod) (read_once zip_limit (files l.zip) b.zip c.zip (known l.zip) zip zip_again)
 
     has_files : (l : Line) (p : Publish) → Asks l p → IsBodyOf files l (Err source.NoFile) → ⊥
     has_files l p asks (readable, none) =
         let (gomod, zip) = asks.had asks.readable in
         elim none [
-          | inl g ↦ told_or_none gomod_limit (files l.gomod) asks.body.gomod (known l.gomod) gomod g
-          | inr z ↦ told_or_none zip_limit (files l.zip) asks.body.zip (known l.zip) zip z
+          | inl g ↦ read_or_none gomod_limit (files l.gomod) asks.body.gomod (known l.gomod) gomod g
+          | inr z ↦ read_or_none zip_limit (files l.zip) asks.body.zip (known l.zip) zip z
         ]
 
     -- a row that is done again with another key asks the same publish
@@ -294,9 +294,9 @@ module _ (files : List ℕ → Option (Option (List ℕ))) where
         → (outcome_of d ≡ outcome.Answered fixed.AlreadyPublished) ⊎ (outcome_of d ≡ outcome.Answered fixed.Unavailable)
     repeat key l (Answers ask (Replied r)) p asks done (inl same) = inl (ap (λ a. outcome.Answered (spec.fixed_answer a)) same)
     repeat key l (Answers ask (Replied r)) p asks done (inr fails) = absurd fails
-    repeat key l (Answers ask (Failed fault)) p asks done told = inr refl
-    repeat key l HasNoFile p asks done told = absurd (has_files l p asks done)
-    repeat key l Unfetched p asks done told = inr refl
+    repeat key l (Answers ask (Failed fault)) p asks done got = inr refl
+    repeat key l HasNoFile p asks done got = absurd (has_files l p asks done)
+    repeat key l Unfetched p asks done got = inr refl
 
     repeats : (key : List ℕ) (us ts : List Turn) (ps : List Publish) → AskEach us ps → AreFirstOf ts us → AreDone files key ts → AllSameOrFailed (padded ps ts)
         → AreRepeats ts

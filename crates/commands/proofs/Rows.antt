@@ -184,7 +184,7 @@ rows_are_whole w s is = record { each = λ p t seen found. one_row w is s p t se
 
 -- the inventory of a key is whole
 pub tells_all : (w : World) (key text : List ℕ) → IsWorld w → Some text ≡ inventory_of w (map.get w.keys key) → TellsAll w key text
-tells_all w key text is told = by_holder (map.get w.keys key) refl told
+tells_all w key text is says = by_holder (map.get w.keys key) refl says
   where
     by_holder : (o : Option Holder) → map.get w.keys key ≡ o → Some text ≡ inventory_of w o → TellsAll w key text
     by_holder None none e = cc e

@@ -44,11 +44,11 @@ record Fits (most : ℕ) (word : List ℕ) : Type 0 where
 
 says_by : (p : ℕ → Bool) → ((b : ℕ) → p b ≡ true → is_word_byte b ≡ true) → (t : List ℕ) → list_all p t ≡ true → is_word t ≡ true
 says_by p says [] h = refl
-says_by p says (b ∷ t) h = let parts = and_parts _ _ h in and_from _ _ (says b parts.0) (says_by p says t parts.1)
+says_by p says (b ∷ t) h = let halves = and_parts _ _ h in and_from _ _ (says b halves.0) (says_by p says t halves.1)
 
 ascii_by : (p : ℕ → Bool) → ((b : ℕ) → p b ≡ true → b < 128) → (t : List ℕ) → list_all p t ≡ true → IsAscii t
 ascii_by p small [] h = IsAscii-nil
-ascii_by p small (b ∷ t) h = let parts = and_parts _ _ h in IsAscii-cons b t (small b parts.0) (ascii_by p small t parts.1)
+ascii_by p small (b ∷ t) h = let halves = and_parts _ _ h in IsAscii-cons b t (small b halves.0) (ascii_by p small t halves.1)
 
 name_byte : (c : ℕ) → (is_lower c || is_digit c || nat_eq c 45) ≡ true → c < 128
 name_byte c h = grind (arith, nat_tests)

@@ -25,11 +25,11 @@ longer [] last some = absurd (some refl)
 longer (x ∷ rest) last some = λ none. cc
 
 -- a beginning of the first of two texts is a beginning of both
-pub part_first : (a b : Option (List ℕ)) (first last : List ℕ) → WritesBeginning a b first → WritesBeginning a b (first ++ last)
-part_first a b first last (front, (rest, some, cut), did) =
+pub begins_both : (a b : Option (List ℕ)) (first last : List ℕ) → WritesBeginning a b first → WritesBeginning a b (first ++ last)
+begins_both a b first last (front, (rest, some, cut), did) =
     (front, (rest ++ last, longer rest last some, ap (λ l. l ++ last) cut ∙ append_assoc front rest last), did)
 
 -- what was written is a beginning of the text, however the write ended
 pub writes_front : {T : Type 0} (a b : Option (List ℕ)) (text : List ℕ) (result : Result T Io) → Writes a b text result → PrintsFront a b text
 writes_front a b text (Ok u) done = (text, ([], sym (append-nil text)), done)
-writes_front a b text (Err e) part = (part.1.0, (part.1.1.0, part.1.1.2), part.1.2)
+writes_front a b text (Err e) begun = (begun.1.0, (begun.1.1.0, begun.1.1.2), begun.1.2)

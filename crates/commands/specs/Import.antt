@@ -82,11 +82,11 @@ outcome_of (Answers ask answer) = outcome.Answered (fixed_answer answer)
 outcome_of HasNoFile = outcome.NoFile
 outcome_of Unfetched = outcome.Answered Unavailable
 
-module _ (told : List ℕ → Option (Option (List ℕ))) (key : List ℕ) where
+module _ (files : List ℕ → Option (Option (List ℕ))) (key : List ℕ) where
   -- this could be done with the row, by what is known of its files
   abbrev pub IsDone : Line → Done → Type 0
-  IsDone l (Answers ask answer) = (body : Body) × IsBodyOf told l (Ok body) × (ask ≡ ask_of key l body)
-  IsDone l HasNoFile = IsBodyOf told l (Err source.NoFile)
+  IsDone l (Answers ask answer) = (body : Body) × IsBodyOf files l (Ok body) × (ask ≡ ask_of key l body)
+  IsDone l HasNoFile = IsBodyOf files l (Err source.NoFile)
   IsDone l Unfetched = Unit {0}
 
   abbrev pub AreDone : List Turn → Type 0
@@ -165,8 +165,8 @@ IsOver list turns n why =
 
 -- the store went through the rows in a run of publishes
 pub record GoesThrough
-    (old new : Shown) (told : List ℕ → Option (Option (List ℕ))) (key : List ℕ) (turns : List Turn) : Type 0 where
-  pub done : AreDone told key turns
+    (old new : Shown) (files : List ℕ → Option (Option (List ℕ))) (key : List ℕ) (turns : List Turn) : Type 0 where
+  pub done : AreDone files key turns
   pub runs : Runs old new (events turns) (answers turns)
   -- the count never falls, and a `Device` fault is met only if it grew or is full
   pub no_fewer : old.failures ≤ new.failures
@@ -190,14 +190,14 @@ Ends list written written_new turns result =
 
 -- The rows at the front of the list were published one after another, and the import ended as `Ends` says.
 pub record Imports
-    (old new : Shown) (told : List ℕ → Option (Option (List ℕ))) (key : List ℕ) (list written written_new : Option (List ℕ))
+    (old new : Shown) (files : List ℕ → Option (Option (List ℕ))) (key : List ℕ) (list written written_new : Option (List ℕ))
     (result : Result Ending Io) : Type 0 where
   pub turns : List Turn
   pub first : AreFirst list turns
-  pub through : GoesThrough old new told key turns
+  pub through : GoesThrough old new files key turns
   pub ends : Ends list written written_new turns result
 
--- ---- its parts
+-- ---- its steps
 
 -- an ask was answered as the machine answers it, or met a fault
 pub record Publishes (old new : Shown) (ask : Ask) (answer : Fixed) : Type 0 where
@@ -209,9 +209,9 @@ pub record Publishes (old new : Shown) (ask : Ask) (answer : Fixed) : Type 0 whe
 
 -- a row was done, with this outcome
 pub record DoesRow
-    (old new : Shown) (told : List ℕ → Option (Option (List ℕ))) (key : List ℕ) (l : Line) (result : Outcome) : Type 0 where
+    (old new : Shown) (files : List ℕ → Option (Option (List ℕ))) (key : List ℕ) (l : Line) (result : Outcome) : Type 0 where
   pub done : Done
-  pub through : GoesThrough old new told key (record { line = l; done = done } ∷ [])
+  pub through : GoesThrough old new files key (record { line = l; done = done } ∷ [])
   pub is : result ≡ outcome_of done
 
 -- the line that ends the import, if there is one, was printed, or the output broke off
@@ -232,16 +232,16 @@ module _ {R : Type 0} (remaining : R → Option (List ℕ)) where
   FieldsRead list rows reader fields None = HasRead remaining list (rows ++ fields ∷ []) reader
   FieldsRead list rows reader fields (Some why) = IsClosing list rows why
 
-  module _ (old new : Shown) (told : List ℕ → Option (Option (List ℕ))) (key : List ℕ) (list : Option (List ℕ))
+  module _ (old new : Shown) (files : List ℕ → Option (Option (List ℕ))) (key : List ℕ) (list : Option (List ℕ))
       (rows : List (List (List ℕ))) (reader : Reader R) (n : ℕ) (written written_new : Option (List ℕ)) where
     -- a row was done after these rows
     pub record TakesTurn (t : Turn) : Type 0 where
-      pub through : GoesThrough old new told key (t ∷ [])
+      pub through : GoesThrough old new files key (t ∷ [])
       pub read : HasRead remaining list (rows ++ fields_of_line t.line ∷ []) reader
 
     -- no row was done
     pub record IsIdle (why : Closing) : Type 0 where
-      pub through : GoesThrough old new told key []
+      pub through : GoesThrough old new files key []
       pub closing : IsClosing list rows why
       pub output : written_new ≡ written
 

@@ -9,11 +9,11 @@ use Rattle.commands.specs.declared.refusal.CommandRefusal.{CommandRefusal}
 use Rattle.commands.specs.declared.refusal.CommandRefusal.TheVariants.{BadRow, Io}
 
 -- the result of the command, by how the import ended
-abbrev pub told : Result Ending Failure → Result Bool CommandRefusal
-told (Ok AllIn) = Ok true
-told (Ok SomeOut) = Ok false
-told (Ok ABadRow) = Err BadRow
-told (Err failure) = Err Io
+abbrev pub import_ending : Result Ending Failure → Result Bool CommandRefusal
+import_ending (Ok AllIn) = Ok true
+import_ending (Ok SomeOut) = Ok false
+import_ending (Ok ABadRow) = Err BadRow
+import_ending (Err failure) = Err Io
 
 module _ {S : Type 0} (shown : S → Shown) (old new : S) (key : List ℕ) where
   -- a list was imported whose bytes and files are not known
@@ -21,7 +21,7 @@ module _ {S : Type 0} (shown : S → Shown) (old new : S) (key : List ℕ) where
     pub list : Option (List ℕ)
     pub ended : Result Ending Failure
     pub imports : Imports (shown old) (shown new) (λ name. None) key list written written_new ended
-    pub tells : result ≡ told ended
+    pub tells : result ≡ import_ending ended
 
   -- a list was imported, or it could not be opened and nothing was done
   abbrev pub ImportsFile : Option (List ℕ) → Option (List ℕ) → Result Bool CommandRefusal → Type 0

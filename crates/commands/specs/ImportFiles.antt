@@ -5,7 +5,7 @@ use Rattle.shelf.specs.declared.ask.Body.{Body}
 use Rattle.world.specs.Forms.{path_of}
 use Rattle.world.specs.World.{gomod_limit, zip_limit}
 use Rattle.commands.specs.ImportList.{Line}
-use Rattle.commands.specs.Sources.{IsTold}
+use Rattle.commands.specs.Sources.{IsRead}
 use Rattle.commands.specs.declared.sources.SourceFault.{SourceFault}
 use Rattle.commands.specs.declared.sources.SourceFault.TheVariants.{NoFile, Memory}
 
@@ -13,13 +13,13 @@ use Rattle.commands.specs.declared.sources.SourceFault.TheVariants.{NoFile, Memo
 abbrev pub IsReadable : Line → Type 0
 IsReadable l = is_some (path_of l.path) && is_some (version_of l.version) ≡ true
 
-module _ (told : List ℕ → Option (Option (List ℕ))) (l : Line) where
+module _ (files : List ℕ → Option (Option (List ℕ))) (l : Line) where
   -- this may be read from the two files
   abbrev pub GoModIs : Result (List ℕ) SourceFault → Type 0
-  GoModIs had = IsTold gomod_limit (told l.gomod) had
+  GoModIs had = IsRead gomod_limit (files l.gomod) had
 
   abbrev pub ZipIs : Result (List ℕ) SourceFault → Type 0
-  ZipIs had = IsTold zip_limit (told l.zip) had
+  ZipIs had = IsRead zip_limit (files l.zip) had
 
   -- This may be read as the files of a row, by what is known of them. If the path or the version is invalid, they are not read.
   abbrev pub IsBodyOf : Result Body SourceFault → Type 0

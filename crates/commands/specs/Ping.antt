@@ -24,17 +24,17 @@ refusal_of outcome.Stopping = Io
 refusal_of outcome.Bad = Io
 
 -- the line of a health that was told, or why there is none
-abbrev pub health_told : Result Told Untold → Result (List ℕ) CommandRefusal
-health_told (Ok (spoken.Health line)) = Ok line
-health_told (Ok (spoken.Outcome outcome)) = Err (refusal_of outcome)
-health_told (Err why) = Err Io
+abbrev pub health_ending : Result Told Untold → Result (List ℕ) CommandRefusal
+health_ending (Ok (spoken.Health line)) = Ok line
+health_ending (Ok (spoken.Outcome outcome)) = Err (refusal_of outcome)
+health_ending (Err why) = Err Io
 
 -- the line that asks for the health was written, a line was read, and that of a health was printed
 pub record PingsOver (unread unread_new written written_new printed printed_new : Option (List ℕ)) (result : Result Bool CommandRefusal)
     : Type 0 where
   pub told : Result Told Untold
   pub asks : AsksForHealth unread unread_new written written_new told
-  pub prints : Prints printed printed_new result (health_told told)
+  pub prints : Prints printed printed_new result (health_ending told)
 
 -- so it was over a connection, or nobody listens
 abbrev pub PingsThere : Option (List ℕ) → Option (List ℕ) → Result Bool CommandRefusal → Type 0

@@ -16,7 +16,7 @@ use Rattle.commands.specs.declared.import_line.Outcome.TheVariants.{Answered}
 
 -- each file is known, or that there is none
 abbrev pub IsKnown : (List ℕ → Option (Option (List ℕ))) → Type 0
-IsKnown told = (name : List ℕ) → told name ≡ None → ⊥
+IsKnown files = (name : List ℕ) → files name ≡ None → ⊥
 
 -- the row was answered `200 already published` or 503
 abbrev pub IsRepeat : Turn → Type 0

@@ -16,18 +16,18 @@ use Rattle.commands.specs.declared.refusal.CommandRefusal.TheVariants.{NoKey, De
 use Rattle.commands.specs.declared.report.Named.{Named}
 
 -- the inventory, or the refusal if there is none
-abbrev pub inventory_told : Result (List ℕ) InventoryFault → Result (List ℕ) CommandRefusal
-inventory_told (Ok text) = Ok text
-inventory_told (Err why.NoKey) = Err NoKey
-inventory_told (Err why.Device) = Err Device
-inventory_told (Err why.Memory) = Err Memory
+abbrev pub inventory_ending : Result (List ℕ) InventoryFault → Result (List ℕ) CommandRefusal
+inventory_ending (Ok text) = Ok text
+inventory_ending (Err why.NoKey) = Err NoKey
+inventory_ending (Err why.Device) = Err Device
+inventory_ending (Err why.Memory) = Err Memory
 
 -- the lines of what a version requires, or the refusal if there are none
-abbrev pub requirements_told : Result (Option (List ℕ)) StoreFault → Result (List ℕ) CommandRefusal
-requirements_told (Ok (Some lines)) = Ok lines
-requirements_told (Ok None) = Err NotFound
-requirements_told (Err fault.Device) = Err Device
-requirements_told (Err fault.Memory) = Err Memory
+abbrev pub requirements_ending : Result (Option (List ℕ)) StoreFault → Result (List ℕ) CommandRefusal
+requirements_ending (Ok (Some lines)) = Ok lines
+requirements_ending (Ok None) = Err NotFound
+requirements_ending (Err fault.Device) = Err Device
+requirements_ending (Err fault.Memory) = Err Memory
 
 -- the text was printed, or the output failed; if there is no text, the result is the refusal, and nothing is printed
 abbrev pub Prints : Option (List ℕ) → Option (List ℕ) → Result Bool CommandRefusal → Result (List ℕ) CommandRefusal → Type 0
@@ -40,7 +40,7 @@ pub record PrintsInventory
     (old new : Shown) (key : List ℕ) (written written_new : Option (List ℕ)) (result : Result Bool CommandRefusal) : Type 0 where
   pub told : Result (List ℕ) InventoryFault
   pub inventories : Inventories old new key told
-  pub prints : Prints written written_new result (inventory_told told)
+  pub prints : Prints written written_new result (inventory_ending told)
 
 -- what a version requires was read, which changes nothing, and printed
 pub record PrintsRequirements
@@ -48,4 +48,4 @@ pub record PrintsRequirements
   pub told : Result (Option (List ℕ)) StoreFault
   pub reads : Reads old new told
       (λ w. required_by w (map.get w.keys version.key.now) (path_of version.path.now) (version_of version.version.now))
-  pub prints : Prints written written_new result (requirements_told told)
+  pub prints : Prints written written_new result (requirements_ending told)

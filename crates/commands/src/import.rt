@@ -69,7 +69,7 @@ pub fn import<S: Shelves, L: Read + Drop, F: Sources, O: Write>(
     sources: &F,
     output: &mut O,
 ) -> Result<Ending, Io>
-    ensures { spec.Imports (S.shown shelves.old) (S.shown shelves.new) (F.told sources.now) key.now
+    ensures { spec.Imports (S.shown shelves.old) (S.shown shelves.new) (F.known sources.now) key.now
         (L.remaining list) (O.contents output.old) (O.contents output.new) result }
 {
     let mut reader = open(alloc, list);
@@ -136,7 +136,7 @@ fn import_next<S: Shelves, R: Read, F: Sources, O: Write>(
 ) -> Result<Step, Io>
     ensures { (list : Option (List ℕ)) (rows : List (List (List ℕ))) → HasRead R.remaining list rows reader.old
         → spec.StepIs R.remaining (S.shown shelves.old) (S.shown shelves.new)
-        (F.told sources.now) key.now list rows reader.new number
+        (F.known sources.now) key.now list rows reader.new number
         (O.contents output.old) (O.contents output.new) result }
 {
     if let Some(closing) = read_row(reader, fields) {
@@ -174,7 +174,7 @@ fn import_row<S: Shelves, F: Sources>(
     sources: &F,
 ) -> Outcome
     ensures { spec.DoesRow (S.shown shelves.old) (S.shown shelves.new)
-        (F.told sources.now) key.now (line_of_row row.now) result }
+        (F.known sources.now) key.now (line_of_row row.now) result }
 {
     match body_of(alloc, row, sources) {
         Ok(body) => Outcome::Answered(publish_row(alloc, shelves, key, row, body)),
@@ -216,7 +216,7 @@ fn time_of(time: &str) -> Option<&str>
 /// Returns the files of a row. If its path or its version is invalid, they are not read, because the row is answered 404 anyway.
 /// `NoFile` if a file can't be read, and `Memory` if memory runs out.
 fn body_of<F: Sources>(alloc: Global, row: &ImportRow, sources: &F) -> Result<Body, SourceFault>
-    ensures { IsBodyOf (F.told sources.now) (line_of_row row.now) result }
+    ensures { IsBodyOf (F.known sources.now) (line_of_row row.now) result }
 {
     if path_of(alloc, row.path)?.is_none() || version_of(alloc, row.version)?.is_none() {
         return Ok(Body {

@@ -27,12 +27,12 @@ pub fn import_file<S: Shelves, O: Write>(
         return Err(CommandRefusal::Io);
     };
     let files = SystemFiles { rt };
-    told(import(rt.alloc(), shelves, key, list, &files, output))
+    import_ending(import(rt.alloc(), shelves, key, list, &files, output))
 }
 
 /// Returns the result of the command for how the import ended.
-fn told(ended: Result<Ending, Io>) -> Result<bool, CommandRefusal>
-    ensures { result ≡ spec.told ended }
+fn import_ending(ended: Result<Ending, Io>) -> Result<bool, CommandRefusal>
+    ensures { result ≡ spec.import_ending ended }
 {
     match ended {
         Ok(Ending::AllIn) => Ok(true),

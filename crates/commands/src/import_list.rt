@@ -82,12 +82,12 @@ pub fn row_of(fields: &StringRecord) -> Option<ImportRow<'_>>
     })
 }
 
-/// Returns the field at a place.
-fn field(fields: &StringRecord, place: usize) -> &str
-    requires { place < length (fields_of fields.now) }
-    ensures { Some result.now ≡ field_at (fields_of fields.now) place }
+/// Returns the field at an index.
+fn field(fields: &StringRecord, index: usize) -> &str
+    requires { index < length (fields_of fields.now) }
+    ensures { Some result.now ≡ field_at (fields_of fields.now) index }
 {
-    match fields.get(place) {
+    match fields.get(index) {
         Some(field) => field,
         None => unreachable!(),
     }

@@ -37,12 +37,12 @@ pub fn ping_over<R: Read, W: Write, O: Write>(
         (W.contents writer.old) (W.contents writer.new) (O.contents output.old) (O.contents output.new) result }
 {
     let told = ask_for_health(alloc, reader, writer);
-    print_health(health_told(told), output)
+    print_health(health_ending(told), output)
 }
 
 /// The line of the health that was told, or why there is none.
-fn health_told(told: Result<Told, Untold>) -> Result<Text, CommandRefusal>
-    ensures { result ≡ spec.health_told told }
+fn health_ending(told: Result<Told, Untold>) -> Result<Text, CommandRefusal>
+    ensures { result ≡ spec.health_ending told }
 {
     match told {
         Ok(Told::Health(line)) => Ok(line),

@@ -25,7 +25,7 @@ pub fn print_inventory<S: Outlines, O: Write>(
         (O.contents output.old) (O.contents output.new) result }
 {
     let told = inventory(alloc, shelves, key);
-    print(inventory_told(told), output)
+    print(inventory_ending(told), output)
 }
 
 /// Prints what the go.mod of a version requires, and returns true. `NotFound` if the path or the version is invalid, there is no
@@ -41,7 +41,7 @@ pub fn print_requirements<S: Shelves, O: Write>(
         (O.contents output.old) (O.contents output.new) result }
 {
     let told = requirements(alloc, shelves, version.key, version.path, version.version);
-    print(requirements_told(told), output)
+    print(requirements_ending(told), output)
 }
 
 /// A version, in the words of a command line.
@@ -53,8 +53,8 @@ pub struct Named<'a> {
 }
 
 /// Returns the inventory, or the refusal if there is none.
-fn inventory_told(told: Result<Bytes, InventoryFault>) -> Result<Bytes, CommandRefusal>
-    ensures { result ≡ spec.inventory_told told }
+fn inventory_ending(told: Result<Bytes, InventoryFault>) -> Result<Bytes, CommandRefusal>
+    ensures { result ≡ spec.inventory_ending told }
 {
     match told {
         Ok(text) => Ok(text),
@@ -65,8 +65,8 @@ fn inventory_told(told: Result<Bytes, InventoryFault>) -> Result<Bytes, CommandR
 }
 
 /// Returns the lines of what a version requires, or the refusal if there are none.
-fn requirements_told(told: Result<Option<Bytes>, StoreFault>) -> Result<Bytes, CommandRefusal>
-    ensures { result ≡ spec.requirements_told told }
+fn requirements_ending(told: Result<Option<Bytes>, StoreFault>) -> Result<Bytes, CommandRefusal>
+    ensures { result ≡ spec.requirements_ending told }
 {
     match told {
         Ok(Some(lines)) => Ok(lines),

@@ -30,16 +30,16 @@ impl From<AllocError> for SourceFault {
 /// A source of files.
 pub trait Sources {
     ghost use Rattle.std.specs.Prelude.{ℕ, List, Option, ◌<◌, ◌^◌};
-    ghost use Rattle.commands.specs.Sources.{IsTold};
+    ghost use Rattle.commands.specs.Sources.{IsRead};
 
     /// The file of a name, or that there is no such file, if that is known.
-    ghost told: { Self → List ℕ → Option (Option (List ℕ)) };
+    ghost known: { Self → List ℕ → Option (Option (List ℕ)) };
 
     /// Returns the bytes of a file, at most `most` and one more, so that the caller sees that a text is too long. `NoFile` if there
     /// is no such file or it can't be read, and `Memory` if memory runs out.
     fn bytes(&self, name: &str, most: u64) -> Result<Bytes, SourceFault>
         requires { most < 2 ^ 63 }
-        ensures { IsTold most (told self.now name.now) result };
+        ensures { IsRead most (known self.now name.now) result };
 }
 
 /// The files of the system, whose bytes are not known.
@@ -51,7 +51,7 @@ pub struct SystemFiles<'a> {
 impl<'a> Sources for SystemFiles<'a> {
     ghost use Rattle.std.specs.Prelude.{None};
 
-    ghost told = { λ files name. None };
+    ghost known = { λ files name. None };
 
     fn bytes(&self, name: &str, most: u64) -> Result<Bytes, SourceFault> {
         match read_file(self.rt, name, most) {
@@ -74,7 +74,7 @@ impl Model for FilesInMemory {
     ghost use Rattle.std.specs.FinMap as map;
     ghost use Rattle.std.specs.Coded.{coded_list, coded_ℕ};
     ghost use Rattle.world.specs.World.{text_cmp};
-    ghost use Rattle.world.specs.Kept.{by_text};
+    ghost use Rattle.world.specs.FinMaps.{by_text};
 
     ghost Value = { map.FinMap text_cmp (List ℕ) };
 
@@ -114,9 +114,9 @@ impl FilesInMemory {
 }
 
 impl Sources for FilesInMemory {
-    ghost use Rattle.commands.specs.Sources.{tells};
+    ghost use Rattle.commands.specs.Sources.{known_in};
 
-    ghost told = { tells };
+    ghost known = { known_in };
 
     fn bytes(&self, name: &str, most: u64) -> Result<Bytes, SourceFault> {
         match self.get(name) {

@@ -37,12 +37,12 @@ pub no_words_copied : (line : List ℕ) → HasNoWords line → CopiesNothing li
 no_words_copied line none path = none (copy_words path)
 
 copies_nothing : (line : List ℕ) (s : Said) → IsTextOf line s → SaysNoCopy s → CopiesNothing line
-copies_nothing line s told none path says = none path (one_saying line s (copy_words path) told says)
+copies_nothing line s given none path says = none path (one_saying line s (copy_words path) given says)
 
-pub copy_told : (line : List ℕ) (s : Said) → IsTextOf line s → (r : Option (Bor (List ℕ))) → MatchOption r (SaysNoCopy s) (λ p. s ≡ copy_words p.now)
+pub copy_read : (line : List ℕ) (s : Said) → IsTextOf line s → (r : Option (Bor (List ℕ))) → MatchOption r (SaysNoCopy s) (λ p. s ≡ copy_words p.now)
     → MatchOption r (CopiesNothing line) (λ p. IsTextOf line (copy_words p.now))
-copy_told line s told None none = copies_nothing line s told none
-copy_told line s told (Some p) same = subst (IsTextOf line) same told
+copy_read line s given None none = copies_nothing line s given none
+copy_read line s given (Some p) same = subst (IsTextOf line) same given
 
 -- ---- which bytes order a copy
 

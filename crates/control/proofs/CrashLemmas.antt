@@ -7,11 +7,11 @@ use Rattle.engine.specs.Exchange.{Outcome, Unserved, Met, Served}
 use Rattle.control.specs.Turns.{Turn, Asked, Ordered, LeavesTwo, AllCalm, world_at}
 
 -- if each crash that may leave a world before may also leave it now, `LeavesTwo` still holds
-pub leaves_kept : (mid new : Shown) → ((w x : World) → mid.leaves w x → new.leaves w x) → (w : World) (ts : List Turn)
+pub leaves_still : (mid new : Shown) → ((w x : World) → mid.leaves w x → new.leaves w x) → (w : World) (ts : List Turn)
     → LeavesTwo mid w ts → LeavesTwo new w ts
-leaves_kept mid new kept w [] leaves = kept w w leaves
-leaves_kept mid new kept w (t ∷ []) leaves = kept w _ leaves
-leaves_kept mid new kept w (t ∷ u ∷ more) leaves = λ calm. leaves_kept mid new kept (world_at w (t ∷ [])) (u ∷ more) (leaves calm)
+leaves_still mid new still w [] leaves = still w w leaves
+leaves_still mid new still w (t ∷ []) leaves = still w _ leaves
+leaves_still mid new still w (t ∷ u ∷ more) leaves = λ calm. leaves_still mid new still (world_at w (t ∷ [])) (u ∷ more) (leaves calm)
 
 step_asked : (w : World) (m : Request) (o : Outcome) (ts : List Turn)
     → world_at (world_at w (Asked (record { message = m; outcome = o }) ∷ [])) ts ≡ world_at w (Asked (record { message = m; outcome = o }) ∷ ts)

@@ -45,7 +45,7 @@ module _ (copied : List ℕ → Result (Unit {0}) CopyRefusal → Type 0) (pinge
         → Obeys copied pinged old new u u' w w' (told_unless told result)
     obeys_told told (Ok done) hears writes = (hears, writes)
     obeys_told told (Err io.Write) hears writes = (told, hears, writes.1)
-    obeys_told told (Err io.Read) hears (wrong, part) = cc
+    obeys_told told (Err io.Read) hears (wrong, begun) = cc
 
     pub obeys_unread : (e : Io) → e ≡ io.Read → GoesThroughTurns old new [] false → Keeps w w'
         → Obeys copied pinged old new u u' w w' (Err e)

@@ -6,7 +6,7 @@ use Rattle.world.specs.Store.{Shown}
 use Rattle.shelf.specs.declared.reply.Answer.{Answer}
 use Rattle.shelf.specs.declared.reply.Answer.TheVariants.{Replied, Failed}
 use Rattle.shelf.specs.declared.reply.Reply.TheVariants.{Registry}
-use Rattle.shelf.specs.Isolation.{kept, marked}
+use Rattle.shelf.specs.Isolation.{remaining, marked}
 use Rattle.shelf.specs.Machine.{Run}
 use Rattle.engine.specs.Happening as happened
 use Rattle.engine.specs.Happening.{Coming, Message, Command, Happening, coming_of, event_at, answer_at}
@@ -61,7 +61,7 @@ ran w new ts run =
 
 -- ---- two runs
 
--- two runs whose turns without faults are all, and the kept ones, write alike
+-- two runs whose turns without faults are all, and the remaining ones, write alike
 pub turns_are_answered_alike : (old new old_too new_too : Shown) → ((w : World) → old.stands w → IsWorld w) → TurnsAreAnsweredAlike old new old_too new_too
 turns_are_answered_alike old new old_too new_too sound w x s full purged two same =
     let ss : List (List ℕ) = chain (world_at w full) s in
@@ -73,14 +73,14 @@ turns_are_answered_alike old new old_too new_too sound w x s full purged two sam
     let text = text_to text_for in
     let came = said_of coming_of coming_at (λ t. refl) in
     let left = came purged ∙ same
-    ∙ sym (ap (marked (kept w ss (map turn_event (faultless full)))) (came full))
-    ∙ sym (ap (λ es. marked (kept w ss es) (map coming_of (happened.faultless first))) events) in
+    ∙ sym (ap (marked (remaining w ss (map turn_event (faultless full)))) (came full))
+    ∙ sym (ap (λ es. marked (remaining w ss es) (map coming_of (happened.faultless first))) events) in
     let alike = alike_by text_for w x (world_at w full) (world_at x purged) s first second (sound w two.stands) two.agree
     (ran w (world_at w full) full run.run) (ran x (world_at x purged) purged again.run) left in
     record {
       texts = sym (said_of text text_at text_is purged) ∙ alike.0
-          ∙ ap (λ es. marked (kept w ss es) (map text (happened.faultless first))) events
-          ∙ ap (marked (kept w ss (map turn_event (faultless full)))) (said_of text text_at text_is full);
+          ∙ ap (λ es. marked (remaining w ss es) (map text (happened.faultless first))) events
+          ∙ ap (marked (remaining w ss (map turn_event (faultless full)))) (said_of text text_at text_is full);
       stands = run.ends;
       stands_too = again.ends;
       agree = alike.1;

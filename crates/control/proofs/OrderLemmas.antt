@@ -36,12 +36,12 @@ longer_none verb first second no_team no_key (KeyRevoke key) e = false≢true (s
 
 -- a line whose words say no order is no order's
 pub orders_nothing : (line : List ℕ) (s : Said) → IsTextOf line s → SaysNoOrder s → OrdersNothing line
-orders_nothing line s told none order orders = none order (one_saying line s (said_in order) told orders)
+orders_nothing line s given none order orders = none order (one_saying line s (said_in order) given orders)
 
-pub order_told : (line : List ℕ) (s : Said) → IsTextOf line s → (r : Option Order) → MatchOption r (SaysNoOrder s) (λ o. s ≡ said_in o)
+pub order_read : (line : List ℕ) (s : Said) → IsTextOf line s → (r : Option Order) → MatchOption r (SaysNoOrder s) (λ o. s ≡ said_in o)
     → MatchOption r (OrdersNothing line) (λ o. Orders line o)
-order_told line s told None none = orders_nothing line s told none
-order_told line s told (Some o) same = subst (IsTextOf line) same told
+order_read line s given None none = orders_nothing line s given none
+order_read line s given (Some o) same = subst (IsTextOf line) same given
 
 -- ---- the event of an order
 

@@ -8,8 +8,8 @@ use Rattle.control.specs.declared.outcome.Outcome.{Outcome}
 use Rattle.control.specs.declared.outcome.Outcome.TheVariants as outcome
 
 -- the outcome of a line
-abbrev told_by : List ℕ → Outcome
-told_by line =
+abbrev read_as : List ℕ → Outcome
+read_as line =
     if bytes_eq line (codes "done\n") then outcome.Registered registered.Done
     else if bytes_eq line (codes "name\n") then outcome.Registered registered.Name
     else if bytes_eq line (codes "taken\n") then outcome.Registered registered.Taken
@@ -23,7 +23,7 @@ told_by line =
     else outcome.Bad
 
 -- the outcome of an outcome's line is that outcome
-tells_itself : (told : Outcome) → told_by (line_of told) ≡ told
+tells_itself : (told : Outcome) → read_as (line_of told) ≡ told
 tells_itself (outcome.Registered registered.Done) = refl
 tells_itself (outcome.Registered registered.Name) = refl
 tells_itself (outcome.Registered registered.Taken) = refl
@@ -37,4 +37,4 @@ tells_itself outcome.Stopping = refl
 tells_itself outcome.Bad = refl
 
 pub one_outcome : (one two : Outcome) → line_of one ≡ line_of two → one ≡ two
-one_outcome one two same = sym (tells_itself one) ∙ (ap told_by same ∙ tells_itself two)
+one_outcome one two same = sym (tells_itself one) ∙ (ap read_as same ∙ tells_itself two)

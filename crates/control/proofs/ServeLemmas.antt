@@ -93,11 +93,11 @@ answered_one unread written old new peer after (Ok status) (first, takes, throug
   };
   counts = is;
 }
-answered_one unread written old new peer after (Err io.Read) (got, consumed, unfinished, through, kept) = record {
+answered_one unread written old new peer after (Err io.Read) (got, consumed, unfinished, through, same) = record {
   answers = record {
     visit = record { before = peer; after = after; first = None };
     begins = refl;
-    there = kept;
+    there = same;
     through = through;
   };
   counts = refl;

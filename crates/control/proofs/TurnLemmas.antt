@@ -19,7 +19,7 @@ use Rattle.control.specs.Order.{event_of, outcome_in}
 use Rattle.control.specs.Turns.{Turn, Asked, Ordered, turn_event, turn_answer, messages, AllCalm, LeavesTwo, StandsIf, world_at, GoesThroughTurns}
 use Rattle.control.specs.declared.order.Order.{Order}
 use Rattle.control.specs.declared.order.Order.TheVariants.{TeamAdd, GroupAdd, KeyAdd, KeyRevoke}
-use Rattle.control.proofs.CrashLemmas.{leaves_kept, leaves_more, world_step}
+use Rattle.control.proofs.CrashLemmas.{leaves_still, leaves_more, world_step}
 
 -- ---- none
 
@@ -158,10 +158,10 @@ turns_ordered old new o (Err fault) does = record {
 
 -- ---- more after others
 
-calm_parts : (w : World) (ts us : List Turn) → AllCalm w (ts ++ us) → AllCalm w ts × AllCalm (world_at w ts) us
-calm_parts w [] us all = (tt, all)
-calm_parts w (t ∷ ts) us all =
-    let parts = calm_parts (world_at w (t ∷ [])) ts us all.1 in ((all.0, parts.0), subst (λ v. AllCalm v us) (world_step w t ts) parts.1)
+calm_both : (w : World) (ts us : List Turn) → AllCalm w (ts ++ us) → AllCalm w ts × AllCalm (world_at w ts) us
+calm_both w [] us all = (tt, all)
+calm_both w (t ∷ ts) us all =
+    let both = calm_both (world_at w (t ∷ [])) ts us all.1 in ((all.0, both.0), subst (λ v. AllCalm v us) (world_step w t ts) both.1)
 
 none_of : (ts us : List Turn) → ts ++ us ≡ [] → (ts ≡ []) × (us ≡ [])
 none_of [] us e = (refl, e)
@@ -180,7 +180,7 @@ module _ (old mid new : Shown) (ts : List Turn) (b : Bool) (first : GoesThroughT
       let honest = next.runs.honest h in
       let there = stands_if c mid _ ((first.runs.at honest w stands).ends) in
       subst (LeavesTwo new w) (sym (append-nil ts))
-      (leaves_kept mid new (next.untouched refl there h) w ts (first.left honest w stands was))
+      (leaves_still mid new (next.untouched refl there h) w ts (first.left honest w stands was))
   leaves_after (u ∷ us) c next h w stands was =
       let honest = next.runs.honest h in
       leaves_more new w ts u us (λ all. next.left h _ (first.runs.at honest w stands).ends (first.settled honest w stands all was))
@@ -198,16 +198,16 @@ module _ (old mid new : Shown) (ts : List Turn) (b : Bool) (first : GoesThroughT
           (runs_joined old mid new (map turn_event ts) (map turn_event us) (map turn_answer ts) (map turn_answer us) first.runs next.runs);
       left = leaves_after us c next;
       settled = λ h w stands calm was.
-          let parts = calm_parts w ts us calm in
+          let both = calm_both w ts us calm in
           let honest = next.runs.honest h in
           let there = (first.runs.at honest w stands).ends in
           subst (λ x. new.leaves x x) (same_world honest w stands)
-          (next.settled h _ there parts.1 (first.settled honest w stands parts.0 was));
+          (next.settled h _ there both.1 (first.settled honest w stands both.0 was));
       untouched = λ none some h w x was.
-          let parts = none_of ts us none in
+          let both = none_of ts us none in
           let honest = next.runs.honest h in
           let there = stands_next b c old mid (λ v stands. (_, (first.runs.at honest v stands).ends)) some in
-          next.untouched parts.1 there h w x (first.untouched parts.0 (stands_first b c old some) honest w x was);
+          next.untouched both.1 there h w x (first.untouched both.0 (stands_first b c old some) honest w x was);
       no_fewer = omega (arith, first.no_fewer, next.no_fewer);
       device = λ met.
           let either = met_either (map turn_answer ts) (map turn_answer us) (rw (map-append turn_answer ts us) at met) in

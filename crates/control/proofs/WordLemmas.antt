@@ -42,7 +42,7 @@ cut_some text x split = ((split_parts space text (Some x) split (lit< tt)).0, un
         absurd (has_space x.0.now x.1.now
         (subst (λ t. is_word t ≡ true) ((sym (append-nil word) ∙ sym is) ∙ (split_parts space text (Some x) split (lit< tt)).0) passes))
     unique word (Some rest) passes is =
-        let parts = split_after space text word rest (Some x) split (lit< tt) is (no_space word passes) in (parts.0, ap Some parts.1)
+        let halves = split_after space text word rest (Some x) split (lit< tt) is (no_space word passes) in (halves.0, ap Some halves.1)
 
 pub cut_none : (text : List ℕ) → IsSplitOnceResult space text None → IsCut text text None
 cut_none text split = (sym (append-nil text), unique)
@@ -54,9 +54,9 @@ cut_none text split = (sym (append-nil text), unique)
 -- ---- the words of a line
 
 pub no_cut : (line : List ℕ) → IsSplitOnceResult space line None → HasNoWords line
-no_cut line split s told =
-    split_after space line s.verb (s.first ++ behind s.second) None split (lit< tt) told.is
-    (no_space s.verb (both_true (is_word s.verb) _ told.words).0)
+no_cut line split s given =
+    split_after space line s.verb (s.first ++ behind s.second) None split (lit< tt) given.is
+    (no_space s.verb (both_true (is_word s.verb) _ given.words).0)
 
 module _ (line : List ℕ) (x : Bor (List ℕ) × Bor (List ℕ)) (split : IsSplitOnceResult space line (Some x))
     (first : List ℕ) (second : Option (List ℕ)) (cut : IsCut x.1.now first second) where
@@ -70,11 +70,11 @@ module _ (line : List ℕ) (x : Bor (List ℕ) × Bor (List ℕ)) (split : IsSpl
   }
 
   pub no_words : are_words read ≡ false → HasNoWords line
-  no_words fails s told =
-      let both = both_true (is_word s.verb) _ told.words in
-      let parts = split_after space line s.verb (s.first ++ behind s.second) (Some x) split (lit< tt) told.is (no_space s.verb both.0) in
-      let same = cut.1 s.first s.second (both_true (is_word s.first) _ both.1).0 parts.1 in
-      let words : are_words read ≡ true = rw (parts.0, same.0, same.1) told.words in
+  no_words fails s given =
+      let both = both_true (is_word s.verb) _ given.words in
+      let halves = split_after space line s.verb (s.first ++ behind s.second) (Some x) split (lit< tt) given.is (no_space s.verb both.0) in
+      let same = cut.1 s.first s.second (both_true (is_word s.first) _ both.1).0 halves.1 in
+      let words : are_words read ≡ true = rw (halves.0, same.0, same.1) given.words in
       false≢true (sym fails ∙ words)
 
 -- ---- a text says one thing

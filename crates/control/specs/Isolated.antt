@@ -4,7 +4,7 @@ use Rattle.world.specs.World.{World, chain}
 use Rattle.world.specs.Store.{Shown}
 use Rattle.shelf.specs.declared.reply.Answer.{Answer}
 use Rattle.shelf.specs.declared.reply.Answer.TheVariants.{Replied, Failed}
-use Rattle.shelf.specs.Isolation.{kept, marked, Agree}
+use Rattle.shelf.specs.Isolation.{remaining, marked, Agree}
 use Rattle.engine.specs.Happening.{Coming, coming_of}
 use Rattle.engine.specs.Reply.{text_of}
 use Rattle.control.specs.Outcome.{outcome_of, line_of}
@@ -29,10 +29,10 @@ abbrev pub faultless : List Turn → List Turn
 faultless [] = []
 faultless (t ∷ ts) = if_faultless t (turn_answer t) (faultless ts)
 
--- which of these are kept for a shelf: all but the messages whose key belongs, at that moment, to a shelf that it does not see at
+-- which of these remain for a shelf: all but the messages whose key belongs, at that moment, to a shelf that it does not see at
 -- the end
-abbrev pub kept_for : World → List ℕ → List Turn → List Bool
-kept_for w s turns = kept w (chain (world_at w turns) s) (map turn_event (faultless turns))
+abbrev pub remaining_for : World → List ℕ → List Turn → List Bool
+remaining_for w s turns = remaining w (chain (world_at w turns) s) (map turn_event (faultless turns))
 
 -- Two stores, each on an honest disk, went through turns, from worlds that agreed on what the shelf sees at the end of the first. Each was
 -- read in between, for a copy or a ping, or not.
@@ -47,16 +47,16 @@ pub record AreTwoRuns (old new old_too new_too : Shown) (w x : World) (s : List 
   pub through : GoesThroughTurns old new full read
   pub through_too : GoesThroughTurns old_too new_too purged read_too
 
--- The texts written for the kept turns are equal, and the stores stand for worlds that agree again.
+-- The texts written for the remaining turns are equal, and the stores stand for worlds that agree again.
 pub record AreAnsweredAlike (new new_too : Shown) (w x : World) (s : List ℕ) (full purged : List Turn) : Type 0 where
-  pub texts : map text_at (faultless purged) ≡ marked (kept_for w s full) (map text_at (faultless full))
+  pub texts : map text_at (faultless purged) ≡ marked (remaining_for w s full) (map text_at (faultless full))
   pub stands : new.stands (world_at w full)
   pub stands_too : new_too.stands (world_at x purged)
   pub agree : Agree (world_at w full) (world_at x purged) (chain (world_at w full) s)
 
--- Two such runs write alike if the turns of the second that met no fault are those of the first that are kept.
+-- Two such runs write alike if the turns of the second that met no fault are those of the first that remain.
 abbrev pub TurnsAreAnsweredAlike : Shown → Shown → Shown → Shown → Type 0
 TurnsAreAnsweredAlike old new old_too new_too =
     (w x : World) (s : List ℕ) (full purged : List Turn) → AreTwoRuns old new old_too new_too w x s full purged
-    → map coming_at (faultless purged) ≡ marked (kept_for w s full) (map coming_at (faultless full))
+    → map coming_at (faultless purged) ≡ marked (remaining_for w s full) (map coming_at (faultless full))
     → AreAnsweredAlike new new_too w x s full purged

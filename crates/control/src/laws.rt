@@ -16,7 +16,7 @@ pub fn outcome_has_a_line_of_its_own()
 
 /// Isolation also holds between two calls of [`serve_both`](crate::serve_both), over any two stores whose worlds agree on the
 /// registry and on what a shelf sees, on honest disks: if the second goes through the turns of the first without the
-/// messages of other teams, it writes the same bytes for each kept message, and the same line for each order. The messages
+/// messages of other teams, it writes the same bytes for each remaining message, and the same line for each order. The messages
 /// that a call answered 503 and the orders that met a fault are left out of it. The worlds after both agree again.
 pub fn isolation_of_turns<S: Shelves, T: Shelves>()
     ensures { (old new : S) (old_too new_too : T)

@@ -1,16 +1,16 @@
--- The front of a run, and the front of what is kept of it.
+-- The front of a run, and the front of what remains of it.
 use Rattle.std.proofs.Common.{◌≡◌, ◌⊎◌, ℕ, List, [], ◌∷◌, ◌++◌, Bool, true, false, refl, ◌∙◌, sym, ap, inl, inr}
 use Rattle.std.specs.Prelude.{map}
 use Rattle.framing.specs.Message.{Request}
 use Rattle.world.specs.World.{World}
 use Rattle.shelf.specs.declared.reply.Answer.TheVariants.{Replied, Failed}
 use Rattle.shelf.specs.Machine.{Run, after}
-use Rattle.shelf.specs.Isolation.{is_kept, kept, marked}
+use Rattle.shelf.specs.Isolation.{is_remaining, remaining, marked}
 use Rattle.engine.specs.Ask as spec
 use Rattle.engine.specs.Exchange.{Exchange, message_of, event_of, answer_of}
 use Rattle.engine.specs.Reply.{text_of}
 use Rattle.engine.specs.Calls.{NoneUnavailable}
-use Rattle.engine.proofs.PurgedLemmas.{kept_messages, kept_texts}
+use Rattle.engine.proofs.PurgedLemmas.{remaining_messages, remaining_texts}
 
 -- the front of a run is a run
 pub run_front : (w new : World) (xs more : List Exchange) → Run w (map event_of (xs ++ more)) (map answer_of (xs ++ more)) new
@@ -30,35 +30,37 @@ pub texts_front : (xs more : List Exchange) → map text_of (xs ++ more) ≡ map
 texts_front [] more = refl
 texts_front (x ∷ xs) more = ap (λ texts. text_of x ∷ texts) (texts_front xs more)
 
--- ---- what is kept
+-- ---- what remains
 
 marked_nothing : {A : Type 0} (marks : List Bool) → marked {A = A} marks [] ≡ []
 marked_nothing [] = refl
 marked_nothing (true ∷ marks) = refl
 marked_nothing (false ∷ marks) = refl
 
--- the marks of more messages keep the same texts of the first ones
+-- the marks of more messages leave the same texts of the first ones
 pub marks_front : (w : World) (ss : List (List ℕ)) (xs : List Exchange) (left : List Request)
-    → marked (kept w ss (map spec.event_of (map message_of xs ++ left))) (map text_of xs) ≡ kept_texts w ss xs
-marks_front w ss [] left = marked_nothing (kept w ss (map spec.event_of left))
+    → marked (remaining w ss (map spec.event_of (map message_of xs ++ left))) (map text_of xs) ≡ remaining_texts w ss xs
+marks_front w ss [] left = marked_nothing (remaining w ss (map spec.event_of left))
 marks_front w ss (x ∷ xs) left =
     let next = after w (event_of x) in
-    elim (is_kept w ss (event_of x))
-    as (λ b. marked (b ∷ kept next ss (map spec.event_of (map message_of xs ++ left))) (text_of x ∷ map text_of xs) ≡ marked (b ∷ kept next ss (map event_of xs)) (text_of x ∷ map text_of xs)) [
+    elim (is_remaining w ss (event_of x))
+    as (λ b. marked (b ∷ remaining next ss (map spec.event_of (map message_of xs ++ left))) (text_of x ∷ map text_of xs)
+    ≡ marked (b ∷ remaining next ss (map event_of xs)) (text_of x ∷ map text_of xs)) [
       | true ↦ ap (λ texts. text_of x ∷ texts) (marks_front next ss xs left)
       | false ↦ marks_front next ss xs left
     ]
 
--- the texts kept of more exchanges begin with those kept of the first ones
-pub kept_front : (w : World) (ss : List (List ℕ)) (xs more : List Exchange)
-    → (others : List (List ℕ)) × (kept_texts w ss (xs ++ more) ≡ kept_texts w ss xs ++ others)
-kept_front w ss [] more = (kept_texts w ss more, refl)
-kept_front w ss (x ∷ xs) more =
+-- the texts remaining of more exchanges begin with those of the first ones
+pub remaining_front : (w : World) (ss : List (List ℕ)) (xs ys : List Exchange)
+    → (others : List (List ℕ)) × (remaining_texts w ss (xs ++ ys) ≡ remaining_texts w ss xs ++ others)
+remaining_front w ss [] ys = (remaining_texts w ss ys, refl)
+remaining_front w ss (x ∷ xs) ys =
     let next = after w (event_of x) in
-    let front = kept_front next ss xs more in (
+    let front = remaining_front next ss xs ys in (
       front.0,
-      elim (is_kept w ss (event_of x))
-          as (λ b. marked (b ∷ kept next ss (map event_of (xs ++ more))) (text_of x ∷ map text_of (xs ++ more)) ≡ marked (b ∷ kept next ss (map event_of xs)) (text_of x ∷ map text_of xs) ++ front.0) [
+      elim (is_remaining w ss (event_of x))
+          as (λ b. marked (b ∷ remaining next ss (map event_of (xs ++ ys))) (text_of x ∷ map text_of (xs ++ ys))
+          ≡ marked (b ∷ remaining next ss (map event_of xs)) (text_of x ∷ map text_of xs) ++ front.0) [
             | true ↦ ap (λ texts. text_of x ∷ texts) front.1
             | false ↦ front.1
           ],
@@ -66,37 +68,38 @@ kept_front w ss (x ∷ xs) more =
 
 -- ---- if one ends before the other
 
--- the second list begins with all that is kept of the first
+-- the second list begins with all that remains of the first
 abbrev pub GoesAsFar : World → List (List ℕ) → List Exchange → List Exchange → Type 0
-GoesAsFar w ss xs ys = (front more : List Exchange) × (ys ≡ front ++ more) × (map message_of front ≡ kept_messages w ss xs)
+GoesAsFar w ss xs ys = (front more : List Exchange) × (ys ≡ front ++ more) × (map message_of front ≡ remaining_messages w ss xs)
 
--- the second list is what is kept of a front of the first
+-- the second list is what remains of a front of the first
 abbrev pub EndsBefore : World → List (List ℕ) → List Exchange → List Exchange → Type 0
-EndsBefore w ss xs ys = (front more : List Exchange) × (xs ≡ front ++ more) × (map message_of ys ≡ kept_messages w ss front)
+EndsBefore w ss xs ys = (front more : List Exchange) × (xs ≡ front ++ more) × (map message_of ys ≡ remaining_messages w ss front)
 
--- the kept messages among these, if the mark of the first is b
+-- the remaining messages among these, if the mark of the first is b
 abbrev headed : World → List (List ℕ) → Exchange → List Exchange → Bool → List Request
-headed w ss x xs b = marked (b ∷ kept (after w (event_of x)) ss (map event_of xs)) (message_of x ∷ map message_of xs)
+headed w ss x xs b = marked (b ∷ remaining (after w (event_of x)) ss (map event_of xs)) (message_of x ∷ map message_of xs)
 
--- of the exchanges with a stream and those with what is kept of it, one list ends before the other or both end together
-pub either_ends : (w : World) (ss : List (List ℕ)) (xs ys : List Exchange) (left left_too : List Request)
-    → marked (kept w ss (map spec.event_of (map message_of xs ++ left))) (map message_of xs ++ left) ≡ map message_of ys ++ left_too
+-- of the exchanges with a stream and those with what remains of it, one list ends before the other or both end together
+pub either_ends : (w : World) (ss : List (List ℕ)) (xs ys : List Exchange) (left rest : List Request)
+    → marked (remaining w ss (map spec.event_of (map message_of xs ++ left))) (map message_of xs ++ left) ≡ map message_of ys ++ rest
     → GoesAsFar w ss xs ys ⊎ EndsBefore w ss xs ys
-either_ends w ss [] ys left left_too same = inl ([], ys, refl, refl)
-either_ends w ss (x ∷ xs) [] left left_too same = inr ([], x ∷ xs, refl, refl)
-either_ends w ss (x ∷ xs) (y ∷ ys) left left_too same =
+either_ends w ss [] ys left rest same = inl ([], ys, refl, refl)
+either_ends w ss (x ∷ xs) [] left rest same = inr ([], x ∷ xs, refl, refl)
+either_ends w ss (x ∷ xs) (y ∷ ys) left rest same =
     let next = after w (event_of x) in
     let ms = map message_of xs ++ left in
-    elim (is_kept w ss (event_of x)) as (λ b. is_kept w ss (event_of x) ≡ b → marked (b ∷ kept next ss (map spec.event_of ms)) (message_of x ∷ ms) ≡ message_of y ∷ (map message_of ys ++ left_too)
+    elim (is_remaining w ss (event_of x))
+    as (λ b. is_remaining w ss (event_of x) ≡ b → marked (b ∷ remaining next ss (map spec.event_of ms)) (message_of x ∷ ms) ≡ message_of y ∷ (map message_of ys ++ rest)
     → GoesAsFar w ss (x ∷ xs) (y ∷ ys) ⊎ EndsBefore w ss (x ∷ xs) (y ∷ ys)) [
       | true ↦ λ near is.
           let first : message_of y ≡ message_of x = cc is in
-          let others : marked (kept next ss (map spec.event_of ms)) ms ≡ map message_of ys ++ left_too = cc is in
-          elim (either_ends next ss xs ys left left_too others) [
+          let others : marked (remaining next ss (map spec.event_of ms)) ms ≡ map message_of ys ++ rest = cc is in
+          elim (either_ends next ss xs ys left rest others) [
             | inl h ↦ inl (y ∷ h.0, h.1, ap (λ l. y ∷ l) h.2, (λ i. first i ∷ h.3 i) ∙ sym (ap (headed w ss x xs) near))
             | inr h ↦ inr (x ∷ h.0, h.1, ap (λ l. x ∷ l) h.2, (λ i. first i ∷ h.3 i) ∙ sym (ap (headed w ss x h.0) near))
           ]
-      | false ↦ λ far is. elim (either_ends next ss xs (y ∷ ys) left left_too is) [
+      | false ↦ λ far is. elim (either_ends next ss xs (y ∷ ys) left rest is) [
         | inl h ↦ inl (h.0, h.1, h.2, h.3 ∙ sym (ap (headed w ss x xs) far))
         | inr h ↦ inr (x ∷ h.0, h.1, ap (λ l. x ∷ l) h.2, h.3 ∙ sym (ap (headed w ss x h.0) far))
       ]

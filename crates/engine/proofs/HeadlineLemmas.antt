@@ -17,7 +17,7 @@ use Rattle.shelf.specs.declared.reply.Reply.{Reply}
 use Rattle.shelf.specs.declared.reply.Reply.TheVariants as reply
 use Rattle.shelf.specs.Machine.{Run, after_all, replies, replies_of, keyed_reply, query_reply, gomod_reply, zip_reply, info_reply, latest_reply}
 use Rattle.world.specs.Latest.{latest_of}
-use Rattle.shelf.specs.Isolation.{kept, marked, belongs, Agree}
+use Rattle.shelf.specs.Isolation.{remaining, marked, belongs, Agree}
 use Rattle.shelf.specs.Immutability.{IsOfVersion, IsFound, IsFailed}
 use Rattle.shelf.proofs.Isolated.{isolated}
 use Rattle.shelf.proofs.Latest.{latest_is_the_top, none_is_latest}
@@ -31,21 +31,21 @@ use Rattle.engine.proofs.FaultlessLemmas.{text_to, texts, events_are, faultless_
 
 -- ---- nothing about others
 
--- two runs write the same texts for what is kept, whatever text is written for what came and its answer
+-- two runs write the same texts for what remains, whatever text is written for what came and its answer
 pub alike_by : (text_for : Coming → Answer → List ℕ) (old old_too new new_too : World) (s : List ℕ) (full purged : List Happening) → IsWorld old
     → Agree old old_too (chain new s)
     → Run old (map event_at full) (map answer_at full) new → Run old_too (map event_at purged) (map answer_at purged) new_too
-    → let marks : List Bool = kept old (chain new s) (map event_at (faultless full)) in
+    → let marks : List Bool = remaining old (chain new s) (map event_at (faultless full)) in
     map coming_of (faultless purged) ≡ marked marks (map coming_of (faultless full))
     → (map (text_to text_for) (faultless purged) ≡ marked marks (map (text_to text_for) (faultless full))) × Agree new new_too (chain new s)
 alike_by text_for old old_too new new_too s full purged is agree run again same =
     let ss : List (List ℕ) = chain new s in
-    let marks : List Bool = kept old ss (map event_at (faultless full)) in
+    let marks : List Bool = remaining old ss (map event_at (faultless full)) in
     let cs : List Coming = map coming_of (faultless full) in
     let rs : List Reply = replies_of (map answer_at full) in
     let heard : List Reply = replies_of (map answer_at purged) in
     let first : (marked marks rs ≡ replies old_too (marked marks (map event_at (faultless full)))) × Agree new (after_all old_too (marked marks (map event_at (faultless full)))) ss =
-    subst (λ es. (marked (kept old ss es) rs ≡ replies old_too (marked (kept old ss es) es)) × Agree new (after_all old_too (marked (kept old ss es) es)) ss) (faultless_events full)
+    subst (λ es. (marked (remaining old ss es) rs ≡ replies old_too (marked (remaining old ss es) es)) × Agree new (after_all old_too (marked (remaining old ss es) es)) ss) (faultless_events full)
     (isolated old old_too new s (map event_at full) (map answer_at full) is agree run) in
     let second : IsExact old_too new_too (map event_at (faultless purged)) heard =
     subst (λ es. IsExact old_too new_too es heard) (faultless_events purged) (exact old_too new_too (map event_at purged) (map answer_at purged) again) in

@@ -1,4 +1,4 @@
--- The exchanges of a run, and those that are kept of them, if none of the kept ones was answered by the 503.
+-- The exchanges of a run, and those that remain of them, if none of the remaining ones was answered by the 503.
 use Rattle.std.proofs.Common.{◌≡◌, ◌≢◌, ℕ, List, [], ◌∷◌, Bool, true, false, refl, ◌∙◌, sym, ap, subst}
 use Rattle.std.specs.Prelude.{map}
 use Rattle.framing.specs.Message.{Request}
@@ -6,7 +6,7 @@ use Rattle.world.specs.World.{World, IsWorld, chain}
 use Rattle.shelf.specs.declared.reply.Answer.{Answer}
 use Rattle.shelf.specs.declared.reply.Answer.TheVariants.{Replied, Failed}
 use Rattle.shelf.specs.Machine.{Run, after}
-use Rattle.shelf.specs.Isolation.{is_kept, kept, marked, Agree, IsAnsweredIfKept, KeptAnswered, IsReplied, AllReplied}
+use Rattle.shelf.specs.Isolation.{is_remaining, remaining, marked, Agree, IsAnsweredIfItRemains, RemainingAnswered, IsReplied, AllReplied}
 use Rattle.shelf.proofs.Chains.{Later}
 use Rattle.shelf.proofs.Isolated.{purged_runs_agree_so_far}
 use Rattle.engine.specs.Ask as spec
@@ -15,15 +15,15 @@ use Rattle.engine.specs.Exchange.{Exchange, message_of, event_of, answer_of}
 use Rattle.engine.specs.Headline.{unavailable}
 use Rattle.engine.specs.Reply.{bytes_of, text_of}
 
--- which of the exchanges are kept, their messages, and their texts
-abbrev pub are_kept : World → List (List ℕ) → List Exchange → List Bool
-are_kept w ss exchanges = kept w ss (map event_of exchanges)
+-- which of the exchanges remain, their messages, and their texts
+abbrev pub which_remain : World → List (List ℕ) → List Exchange → List Bool
+which_remain w ss exchanges = remaining w ss (map event_of exchanges)
 
-abbrev pub kept_messages : World → List (List ℕ) → List Exchange → List Request
-kept_messages w ss exchanges = marked (are_kept w ss exchanges) (map message_of exchanges)
+abbrev pub remaining_messages : World → List (List ℕ) → List Exchange → List Request
+remaining_messages w ss exchanges = marked (which_remain w ss exchanges) (map message_of exchanges)
 
-abbrev pub kept_texts : World → List (List ℕ) → List Exchange → List (List ℕ)
-kept_texts w ss exchanges = marked (are_kept w ss exchanges) (map text_of exchanges)
+abbrev pub remaining_texts : World → List (List ℕ) → List Exchange → List (List ℕ)
+remaining_texts w ss exchanges = marked (which_remain w ss exchanges) (map text_of exchanges)
 
 -- the texts for messages with these answers
 abbrev texts_for : List Request → List Answer → List (List ℕ)
@@ -53,19 +53,20 @@ marked_texts (true ∷ marks) (x ∷ xs) = ap (λ ts. text_of x ∷ ts) (marked_
 marked_texts (false ∷ marks) (x ∷ xs) = marked_texts marks xs
 
 -- a message that was not answered by the 503 got a reply
-answered : (m : Request) (a : Answer) → bytes_of m a ≢ unavailable → IsAnsweredIfKept true a
+answered : (m : Request) (a : Answer) → bytes_of m a ≢ unavailable → IsAnsweredIfItRemains true a
 answered m (Replied r) other = tt
 answered m (Failed fault) other = absurd (other refl)
 
-kept_answered : (w : World) (ss : List (List ℕ)) (xs : List Exchange) → NoneUnavailable (kept_texts w ss xs)
-    → KeptAnswered w ss (map event_of xs) (map answer_of xs)
-kept_answered w ss [] none = tt
-kept_answered w ss (x ∷ xs) none =
+remaining_answered : (w : World) (ss : List (List ℕ)) (xs : List Exchange) → NoneUnavailable (remaining_texts w ss xs)
+    → RemainingAnswered w ss (map event_of xs) (map answer_of xs)
+remaining_answered w ss [] none = tt
+remaining_answered w ss (x ∷ xs) none =
     let next : World = after w (event_of x) in
-    elim (is_kept w ss (event_of x))
-    as (λ b. NoneUnavailable (marked (b ∷ are_kept next ss xs) (text_of x ∷ map text_of xs)) → IsAnsweredIfKept b (answer_of x) × KeptAnswered next ss (map event_of xs) (map answer_of xs)) [
-      | true ↦ λ n. (answered x.message (answer_of x) n.0, kept_answered next ss xs n.1)
-      | false ↦ λ n. (tt, kept_answered next ss xs n)
+    elim (is_remaining w ss (event_of x))
+    as (λ b. NoneUnavailable (marked (b ∷ which_remain next ss xs) (text_of x ∷ map text_of xs))
+    → IsAnsweredIfItRemains b (answer_of x) × RemainingAnswered next ss (map event_of xs) (map answer_of xs)) [
+      | true ↦ λ n. (answered x.message (answer_of x) n.0, remaining_answered next ss xs n.1)
+      | false ↦ λ n. (tt, remaining_answered next ss xs n)
     ] none
 
 replied : (m : Request) (a : Answer) → bytes_of m a ≢ unavailable → IsReplied a
@@ -76,23 +77,23 @@ all_replied : (xs : List Exchange) → NoneUnavailable (map text_of xs) → AllR
 all_replied [] none = tt
 all_replied (x ∷ xs) none = (replied x.message (answer_of x) none.0, all_replied xs none.1)
 
--- Two runs from worlds that agree, one over all messages and one over the kept ones, write the same texts for the kept ones if
--- none of these is the 503, and the worlds after both agree. A later world says what s sees, and so what is kept.
+-- Two runs from worlds that agree, one over all messages and one over the remaining ones, write the same texts for the remaining ones if
+-- none of these is the 503, and the worlds after both agree. A later world says what s sees, and so what remains.
 pub exchanges_alike : (old old_too new new_too later : World) (s : List ℕ) (full purged : List Exchange) → IsWorld old → Later new later → Agree old old_too (chain later s)
     → Run old (map event_of full) (map answer_of full) new → Run old_too (map event_of purged) (map answer_of purged) new_too
-    → map message_of purged ≡ kept_messages old (chain later s) full
-    → NoneUnavailable (kept_texts old (chain later s) full) → NoneUnavailable (map text_of purged)
-    → (map text_of purged ≡ kept_texts old (chain later s) full) × Agree new new_too (chain later s)
+    → map message_of purged ≡ remaining_messages old (chain later s) full
+    → NoneUnavailable (remaining_texts old (chain later s) full) → NoneUnavailable (map text_of purged)
+    → (map text_of purged ≡ remaining_texts old (chain later s) full) × Agree new new_too (chain later s)
 exchanges_alike old old_too new new_too later s full purged is then agree run again same others none =
-    let marks : List Bool = are_kept old (chain later s) full in
+    let marks : List Bool = which_remain old (chain later s) full in
     let events : map event_of purged ≡ marked marks (map event_of full) =
     events_are purged ∙ ap (λ ms. map spec.event_of ms) same ∙ sym (marked_events marks (map message_of full)) ∙ ap (marked marks) (sym (events_are full)) in
     let alike =
-    purged_runs_agree_so_far old old_too new new_too later s (map event_of full) (map answer_of full) (map answer_of purged) is then agree run (kept_answered old (chain later s) full others)
+    purged_runs_agree_so_far old old_too new new_too later s (map event_of full) (map answer_of full) (map answer_of purged) is then agree run (remaining_answered old (chain later s) full others)
     (subst (λ es. Run old_too es (map answer_of purged) new_too) events again) (all_replied purged none) in (
       texts_are purged
           ∙ ap (λ ms. texts_for ms (map answer_of purged)) same
-          ∙ ap (texts_for (kept_messages old (chain later s) full)) (sym alike.0)
+          ∙ ap (texts_for (remaining_messages old (chain later s) full)) (sym alike.0)
           ∙ sym (marked_texts marks full),
       alike.1,
     )

@@ -16,14 +16,14 @@ use Rattle.engine.specs.Ask.{event_of as event_of_message}
 use Rattle.engine.specs.Exchange.{Exchange, Outcome, Unserved, Met, Served, event_of, answer_of}
 use Rattle.engine.specs.Reply.{IsComposed, IsOutcome}
 use Rattle.engine.specs.Store.{GoesThrough, LeavesTwo, AllCalm, world_at}
-use Rattle.engine.proofs.CrashLemmas.{leaves_kept, leaves_more, world_step}
+use Rattle.engine.proofs.CrashLemmas.{leaves_still, leaves_more, world_step}
 use Rattle.engine.proofs.RunLemmas.{world_more, met_either}
 use Rattle.shelf.proofs.Runs.{runs_none, runs_unasked, runs_failed, runs_replied, runs_lost, runs_joined, grown_more, grown_before}
 
-calm_parts : (w : World) (xs ys : List Exchange) → AllCalm w (xs ++ ys) → AllCalm w xs × AllCalm (world_at w xs) ys
-calm_parts w [] ys all = (tt, all)
-calm_parts w (x ∷ xs) ys all =
-    let parts = calm_parts (world_at w (x ∷ [])) xs ys all.1 in ((all.0, parts.0), subst (λ v. AllCalm v ys) (world_step w x xs) parts.1)
+calm_both : (w : World) (xs ys : List Exchange) → AllCalm w (xs ++ ys) → AllCalm w xs × AllCalm (world_at w xs) ys
+calm_both w [] ys all = (tt, all)
+calm_both w (x ∷ xs) ys all =
+    let both = calm_both (world_at w (x ∷ [])) xs ys all.1 in ((all.0, both.0), subst (λ v. AllCalm v ys) (world_step w x xs) both.1)
 
 -- a reply whose body is composed has a body
 composed_body : (sum : Option (List ℕ × SemanticVersion)) (r : Reply) → IsComposed sum r → HasBody r
@@ -100,14 +100,14 @@ module _ (old new : Shown) (m : Request) (ask : Ask) (is : ask ≡ ask_of m) whe
       at = λ h w stands. runs_replied old new w _ reply (asked h w stands (Ok reply) does);
     };
     left = λ h w stands was. subst (λ x. new.leaves w x) (ap (after_ask w) is) ((does.at h w stands tt).crash.either was);
-    settled = λ h w stands calm was. kept w ((does.at h w stands tt).crash.alone was);
+    settled = λ h w stands calm was. still w ((does.at h w stands tt).crash.alone was);
     untouched = λ none. cc;
     no_fewer = does.cause.no_fewer;
     device = λ met. elim met [ inl same ↦ cc | inr never ↦ absurd never ];
   }
     where
-      kept : (w : World) → new.leaves (after_ask w ask) (after_ask w ask) → new.leaves (after_ask w (ask_of m)) (after_ask w (ask_of m))
-      kept w leaves = subst (λ x. new.leaves x x) (ap (after_ask w) is) leaves
+      still : (w : World) → new.leaves (after_ask w ask) (after_ask w ask) → new.leaves (after_ask w (ask_of m)) (after_ask w (ask_of m))
+      still w leaves = subst (λ x. new.leaves x x) (ap (after_ask w) is) leaves
 
   -- the store goes through a message whose reply had a body that memory ran out for: the world is unchanged
   pub through_unshown : (reply : Reply) → HasBody reply → Does {T = Reply} old new (Ok reply) (λ w. ask_reply w ask) (λ w. after_ask w ask)
@@ -118,7 +118,7 @@ module _ (old new : Shown) (m : Request) (ask : Ask) (is : ask ≡ ask_of m) whe
       at = λ h w stands. runs_lost old new w _ reply _ _ (asked h w stands (Ok reply) does) (ap (after_ask w) (sym is) ∙ same h w stands);
     };
     left = λ h w stands was. subst (λ x. new.leaves w x) (ap (after_ask w) is) ((does.at h w stands tt).crash.either was);
-    settled = λ h w stands calm was. kept h w stands was;
+    settled = λ h w stands calm was. still h w stands was;
     untouched = λ none. cc;
     no_fewer = does.cause.no_fewer;
     device = λ met. elim met [ inl other ↦ cc | inr never ↦ absurd never ];
@@ -127,8 +127,8 @@ module _ (old new : Shown) (m : Request) (ask : Ask) (is : ask ≡ ask_of m) whe
       same : new.is_honest → (w : World) → old.stands w → after_ask w ask ≡ w
       same h w stands = bodies_change_nothing w ask (subst HasBody (does.at h w stands tt).answer body)
 
-      kept : new.is_honest → (w : World) → old.stands w → old.leaves w w → new.leaves w w
-      kept h w stands was = subst (λ x. new.leaves x x) (same h w stands) ((does.at h w stands tt).crash.alone was)
+      still : new.is_honest → (w : World) → old.stands w → old.leaves w w → new.leaves w w
+      still h w stands was = subst (λ x. new.leaves x x) (same h w stands) ((does.at h w stands tt).crash.alone was)
 
   -- the store goes through a message with the outcome that fits the machine's answer
   pub through_asked : (answer : Result Reply StoreFault) (outcome : Outcome) → IsOutcome (sum_of m) answer outcome
@@ -153,7 +153,7 @@ module _ (old mid new : Shown) (xs : List Exchange) (first : GoesThrough old mid
       → LeavesTwo new w (xs ++ ys)
   leaves_after [] next h w stands was =
       subst (LeavesTwo new w) (sym (append-nil xs))
-      (leaves_kept mid new (next.untouched refl h) w xs (first.left (next.runs.honest h) w stands was))
+      (leaves_still mid new (next.untouched refl h) w xs (first.left (next.runs.honest h) w stands was))
   leaves_after (y ∷ ys) next h w stands was =
       let honest = next.runs.honest h in
       leaves_more new w xs y ys (λ all. next.left h _ (first.runs.at honest w stands).ends (first.settled honest w stands all was))
@@ -171,14 +171,14 @@ module _ (old mid new : Shown) (xs : List Exchange) (first : GoesThrough old mid
           (runs_joined old mid new (map event_of xs) (map event_of ys) (map answer_of xs) (map answer_of ys) first.runs next.runs);
       left = leaves_after ys next;
       settled = λ h w stands calm was.
-          let parts = calm_parts w xs ys calm in
+          let both = calm_both w xs ys calm in
           let honest = next.runs.honest h in
           let there = (first.runs.at honest w stands).ends in
           subst (λ x. new.leaves x x) (same_world honest w stands)
-          (next.settled h _ there parts.1 (first.settled honest w stands parts.0 was));
+          (next.settled h _ there both.1 (first.settled honest w stands both.0 was));
       untouched = λ none h w x was.
-          let parts = none_of xs ys none in
-          next.untouched parts.1 h w x (first.untouched parts.0 (next.runs.honest h) w x was);
+          let both = none_of xs ys none in
+          next.untouched both.1 h w x (first.untouched both.0 (next.runs.honest h) w x was);
       no_fewer = omega (arith, first.no_fewer, next.no_fewer);
       device = λ met.
           let either = met_either (map answer_of xs) (map answer_of ys) (rw (map-append answer_of xs ys) at met) in

@@ -9,7 +9,7 @@ use Rattle.world.specs.Store.{Shown}
 use Rattle.world.specs.World.{World, chain}
 use Rattle.shelf.specs.declared.ask.Event.{Event}
 use Rattle.shelf.specs.declared.reply.Answer.{Answer}
-use Rattle.shelf.specs.Isolation.{kept, marked, Agree}
+use Rattle.shelf.specs.Isolation.{remaining, marked, Agree}
 use Rattle.shelf.specs.Machine.{Run}
 use Rattle.engine.specs.Ask.{event_of}
 use Rattle.engine.specs.Exchange.{Exchange, message_of}
@@ -22,9 +22,9 @@ use Rattle.engine.specs.declared.fault.Io.{Io}
 abbrev pub NoneUnavailable : List (List ℕ) → Type 0
 NoneUnavailable texts = AllByRecursion (λ text. text ≢ unavailable) texts
 
--- which messages of a stream are kept for these shelves: all but those whose key belongs, at that moment, to another shelf
-abbrev pub kept_for : World → List (List ℕ) → List Request → List Bool
-kept_for w ss messages = kept w ss (map event_of messages)
+-- which messages of a stream remain for these shelves: all but those whose key belongs, at that moment, to another shelf
+abbrev pub remaining_for : World → List (List ℕ) → List Request → List Bool
+remaining_for w ss messages = remaining w ss (map event_of messages)
 
 -- the bytes written at the end of a stream: none, the 413, or the 400
 abbrev pub end_bytes : End → List ℕ
@@ -55,7 +55,7 @@ pub record AreTwoCalls
   pub written_too_new : Option (List ℕ)
   pub full : Serves old new (Some (concat pieces ++ rest)) unread written written_new result
   pub purged :
-      Serves old_too new_too (Some (concat (marked (kept_for w ss messages) pieces) ++ rest)) unread_too
+      Serves old_too new_too (Some (concat (marked (remaining_for w ss messages) pieces) ++ rest)) unread_too
       written_too written_too_new result_too
 
 -- Two calls, one for these messages and one for the marked ones, wrote an equal text for each message and equal bytes for the
@@ -74,7 +74,7 @@ pub record WriteAlike
   pub stands_too : new_too.stands world_too
   pub agree : Agree world world_too ss
 
--- If two calls both ended well, and neither wrote the 503 in place of what was left or for a kept message, they wrote alike.
+-- If two calls both ended well, and neither wrote the 503 in place of what was left or for a remaining message, they wrote alike.
 -- The shelves are those that s sees now or after any events to come, which may add it to a group, so that calls with registry
 -- commands between them may follow each other.
 abbrev pub CallsTellAlike : Shown → Shown → Shown → Shown → Type 0
@@ -82,7 +82,7 @@ CallsTellAlike old new old_too new_too =
     (w x later : World) (s : List ℕ) (events : List Event) (answers : List Answer) (messages : List Request) (end : End)
     → Run w events answers later
     → (calls : AreTwoCalls old new old_too new_too w x (chain later s) messages end (Ok tt) (Ok tt))
-    → let marks : List Bool = kept_for w (chain later s) messages in
+    → let marks : List Bool = remaining_for w (chain later s) messages in
     calls.full.ends.1.0 ≢ Some Unavailable → calls.purged.ends.1.0 ≢ Some Unavailable
     → NoneUnavailable (marked marks (map text_of calls.full.exchanges)) → NoneUnavailable (map text_of calls.purged.exchanges)
     → WriteAlike new new_too (chain later s) messages marks end calls.full.exchanges calls.purged.exchanges calls.full.out calls.purged.out
@@ -92,12 +92,12 @@ abbrev pub AgreeAsFar : List (List ℕ) → List (List ℕ) → Type 0
 AgreeAsFar one two = (more : List (List ℕ)) × ((one ≡ two ++ more) ⊎ (two ≡ one ++ more))
 
 -- However two calls ended, by a failed read or write or by the 503 in place of what was left: if none of the texts written for
--- the kept messages is the 503, those of one call begin with those of the other.
+-- the remaining messages is the 503, those of one call begin with those of the other.
 abbrev pub CallsTellAlikeAsFar : Shown → Shown → Shown → Shown → Type 0
 CallsTellAlikeAsFar old new old_too new_too =
     (w x later : World) (s : List ℕ) (events : List Event) (answers : List Answer)
     (messages : List Request) (end : End) (result result_too : Result (Unit {0}) Io)
     → Run w events answers later → (calls : AreTwoCalls old new old_too new_too w x (chain later s) messages end result result_too)
-    → let marks : List Bool = kept_for w (chain later s) messages in
+    → let marks : List Bool = remaining_for w (chain later s) messages in
     NoneUnavailable (marked marks (map text_of calls.full.exchanges)) → NoneUnavailable (map text_of calls.purged.exchanges)
     → AgreeAsFar (marked marks (map text_of calls.full.exchanges)) (map text_of calls.purged.exchanges)

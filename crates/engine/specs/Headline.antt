@@ -13,7 +13,7 @@ use Rattle.shelf.specs.declared.ask.Event.{Event}
 use Rattle.shelf.specs.declared.ask.Query.TheVariants.{Latest}
 use Rattle.shelf.specs.declared.reply.Answer.{Answer}
 use Rattle.shelf.specs.Machine.{Run}
-use Rattle.shelf.specs.Isolation.{kept, marked, belongs, Agree}
+use Rattle.shelf.specs.Isolation.{remaining, marked, belongs, Agree}
 use Rattle.shelf.specs.Immutability.{IsOfVersion}
 use Rattle.shelf.specs.PathLaws.{unretracted_versions, HasTime}
 use Rattle.engine.specs.Ask.{ask_of, query_of, target_in}
@@ -27,14 +27,14 @@ unavailable = fixed_bytes Unavailable
 
 -- ---- nothing about others
 
--- Two runs begin in worlds that agree on what s sees: one with all that came, the other with what is kept of it, without the
--- messages of others. They write the same texts for what is kept, and the worlds after both agree again. A message that a run
+-- Two runs begin in worlds that agree on what s sees: one with all that came, the other with what remains of it, without the
+-- messages of others. They write the same texts for what remains, and the worlds after both agree again. A message that a run
 -- answered 503 is left out of that run, and so is a command that met a fault.
 abbrev pub CallersAreAnsweredAlike : Type 0
 CallersAreAnsweredAlike =
     (old old_too new new_too : World) (s : List ℕ) (full purged : List Happening) → IsWorld old → Agree old old_too (chain new s)
     → Run old (map event_at full) (map answer_at full) new → Run old_too (map event_at purged) (map answer_at purged) new_too
-    → let marks : List Bool = kept old (chain new s) (map event_at (faultless full)) in
+    → let marks : List Bool = remaining old (chain new s) (map event_at (faultless full)) in
     map coming_of (faultless purged) ≡ marked marks (map coming_of (faultless full))
     → (map text_at (faultless purged) ≡ marked marks (map text_at (faultless full))) × Agree new new_too (chain new s)
 

@@ -11,7 +11,7 @@ ghost use Rattle.engine.specs.TwoStores.{TwoAnswersAreAlike};
 use world::shelves::Shelves;
 
 /// A caller gets the same bytes whether or not other teams send requests: two runs, one with the others' messages and one
-/// without, write the same text for each kept message. Registry commands may come among the messages, so that keys come and
+/// without, write the same text for each remaining message. Registry commands may come among the messages, so that keys come and
 /// go. The messages that a run answered 503 and the commands that met a fault are left out of it. The runs begin in one
 /// world, or in two that agree on the registry and on what the caller's shelf sees, and they end in worlds that agree again.
 pub fn isolation()
@@ -40,8 +40,8 @@ pub fn latest_version()
 /// registry and on what the shelf sees, on honest disks and with known bytes: if the second stream lacks the bytes of other
 /// teams' messages, the second call writes what the first writes without the texts for them, and the worlds after both agree
 /// again, so that what holds of one stream holds of many. What the shelf sees is taken from any later world, because a command
-/// between two streams may make it a member of a group. Both calls have to end well and write no 503, neither for a kept
-/// message nor in place of what is left. However they end, as far as both go they write the same texts for the kept messages,
+/// between two streams may make it a member of a group. Both calls have to end well and write no 503, neither for a remaining
+/// message nor in place of what is left. However they end, as far as both go they write the same texts for the remaining messages,
 /// if none of these is the 503.
 pub fn isolation_of_calls<S: Shelves, T: Shelves>()
     ensures whole { (old new : S) (old_too new_too : T)

@@ -22,7 +22,7 @@ impl Model for Groups {
     ghost use Rattle.std.specs.Coded.{coded_option};
     ghost use Rattle.std.specs.FinMap as map;
     ghost use Rattle.world.specs.Code.{text_code};
-    ghost use Rattle.world.specs.Kept.{by_text};
+    ghost use Rattle.world.specs.FinMaps.{by_text};
     ghost use Rattle.kept.specs.Groups.{Grouping};
 
     ghost Value = { Grouping };

@@ -11,6 +11,6 @@ pub reads_outlined : (old new : Shown) (seen : Option Seen) (out : Option Outlin
     → ((w : World) → seen ≡ value w → out ≡ in_outline (value w)) → Reads old new (Ok seen) value → Reads old new (Ok out) (λ w. in_outline (value w))
 reads_outlined old new seen out value answer read = record {
   honest = read.honest;
-  at = λ honest w stands. let told = read.at honest w stands in record { answer = answer w told.answer; stays = told.stays; left = told.left };
+  at = λ honest w stands. let given = read.at honest w stands in record { answer = answer w given.answer; stays = given.stays; left = given.left };
   cause = answers old new out read.cause.no_fewer;
 }

@@ -48,18 +48,18 @@ module _ (w : World) (ts : List (List ℕ)) (t : List ℕ) (there : Has ts t) wh
   abbrev part : World
   part = part_of w (chains w ts)
 
-  seen_kept : (s : List ℕ) → sees w t s ≡ true → is_among (chains w ts) s ≡ true
-  seen_kept s seen = chains_has w ts t s there seen
+  seen_among : (s : List ℕ) → sees w t s ≡ true → is_among (chains w ts) s ≡ true
+  seen_among s seen = chains_has w ts t s there seen
 
-  itself_kept : map.get w.shelves t ≡ map.get part.shelves t
-  itself_kept = sym (parent_at w (chains w ts) t ∙ left (is_among (chains w ts) t) (map.get w.shelves t) (seen_kept t (sees_itself w t)))
+  itself_same : map.get w.shelves t ≡ map.get part.shelves t
+  itself_same = sym (parent_at w (chains w ts) t ∙ left (is_among (chains w ts) t) (map.get w.shelves t) (seen_among t (sees_itself w t)))
 
   part_low : Low w part t
   part_low = record {
-    chains = same_chain w part t itself_kept;
-    entries = λ s seen. same_whole w part s (λ p v. sym (entry_at w (chains w ts) (place s p v) ∙ left (is_among (chains w ts) s) (map.get w.entries (place s p v)) (seen_kept s seen)));
+    chains = same_chain w part t itself_same;
+    entries = λ s seen. same_whole w part s (λ p v. sym (entry_at w (chains w ts) (place s p v) ∙ left (is_among (chains w ts) s) (map.get w.entries (place s p v)) (seen_among s seen)));
     keys = λ k h seen. (
-      (λ at. key_at w (chains w ts) k ∙ left (is_held (chains w ts) (map.get w.keys k)) (map.get w.keys k) (ap (is_held (chains w ts)) at ∙ seen_kept h.shelf seen) ∙ at),
+      (λ at. key_at w (chains w ts) k ∙ left (is_held (chains w ts) (map.get w.keys k)) (map.get w.keys k) (ap (is_held (chains w ts)) at ∙ seen_among h.shelf seen) ∙ at),
       (λ at. (held_key w (chains w ts) k h at).0),
     );
   }
@@ -70,18 +70,18 @@ record SameRegistry (w x : World) : Type 0 where
   keys : x.keys ≡ w.keys
   shelves : x.shelves ≡ w.shelves
 
-kept_stored : (w : World) (q : Place) (o : Option Entry) → SameRegistry w (stored w q o)
-kept_stored w q None = record { keys = refl; shelves = refl }
-kept_stored w q (Some e) = record { keys = refl; shelves = refl }
+same_stored : (w : World) (q : Place) (o : Option Entry) → SameRegistry w (stored w q o)
+same_stored w q None = record { keys = refl; shelves = refl }
+same_stored w q (Some e) = record { keys = refl; shelves = refl }
 
-kept_decided : (w : World) (h : Option Holder) (p : Publish) (d : Decision) → SameRegistry w (after_decision w h p d)
-kept_decided w (Some h) p Published = kept_stored w (place_of h.shelf p) (offered p)
-kept_decided w h p d = record { keys = refl; shelves = refl }
+same_decided : (w : World) (h : Option Holder) (p : Publish) (d : Decision) → SameRegistry w (after_decision w h p d)
+same_decided w (Some h) p Published = same_stored w (place_of h.shelf p) (offered p)
+same_decided w h p d = record { keys = refl; shelves = refl }
 
-kept_asked : (w : World) (a : Ask) → SameRegistry w (after_ask w a)
-kept_asked w Unreadable = record { keys = refl; shelves = refl }
-kept_asked w (Get k q) = record { keys = refl; shelves = refl }
-kept_asked w (Put k p) = kept_decided w (map.get w.keys k) p (decision w (map.get w.keys k) p)
+same_asked : (w : World) (a : Ask) → SameRegistry w (after_ask w a)
+same_asked w Unreadable = record { keys = refl; shelves = refl }
+same_asked w (Get k q) = record { keys = refl; shelves = refl }
+same_asked w (Put k p) = same_decided w (map.get w.keys k) p (decision w (map.get w.keys k) p)
 
 still_of : (w x : World) (ss : List (List ℕ)) (es : List Event) → SameRegistry w x → AllOf w ss es → AllOf x ss es
 still_of w x ss [] same of = tt
@@ -119,12 +119,12 @@ same_decision a b e = cc
 
 low_asked : (w x : World) (s : List ℕ) (a : Ask) (k : List ℕ) → key_of a ≡ Some k → map.get w.keys k ≡ map.get x.keys k
     → ask_reply w a ≡ ask_reply x a → Low w x s → Low (after_ask w a) (after_ask x a) s
-low_asked w x s Unreadable k by held told low = low
-low_asked w x s (Get j q) k by held told low = low
-low_asked w x s (Put j p) k by held told low =
+low_asked w x s Unreadable k by held alike low = low
+low_asked w x s (Get j q) k by held alike low = low
+low_asked w x s (Put j p) k by held alike low =
     let same : j ≡ k = cc in
     let both : map.get w.keys j ≡ map.get x.keys j = ap (map.get w.keys) same ∙ (held ∙ ap (map.get x.keys) (sym same)) in
-    let decided = same_decision (decision w (map.get w.keys j) p) (decision x (map.get x.keys j) p) told in
+    let decided = same_decision (decision w (map.get w.keys j) p) (decision x (map.get x.keys j) p) alike in
     subst (λ d. Low (after_ask w (Put j p)) (after_decision x (map.get x.keys j) p d) s) decided
     (subst (λ o. Low (after_ask w (Put j p)) (after_decision x o p (decision w (map.get w.keys j) p)) s) both (low_decided w x s (map.get w.keys j) p (decision w (map.get w.keys j) p) low))
 
@@ -157,17 +157,17 @@ module _ (ts : List (List ℕ)) where
       let it = of.0 in
       let by = one_sees w ts it.1.shelf are it.4 in
       let one = team_blind w x a it.0 it.1 by.0 by.1 is_w is_x low it.2 it.3 by.2 in
-      let kept = kept_asked w a in
+      let still = same_asked w a in
       let next : World = after_ask w a in
-      let again : AreTeams next ts = (are.0, λ t there. let team = are.1 t there in (team.0, ap (λ m. map.get m t) kept.shelves ∙ team.1)) in
-      let chained = chains_kept w next ts kept.shelves in
+      let again : AreTeams next ts = (are.0, λ t there. let team = are.1 t there in (team.0, ap (λ m. map.get m t) still.shelves ∙ team.1)) in
+      let chained = chains_alike w next ts still.shelves in
       let rest =
-      all_blind next (after_ask x a) es (sound w (Asked a) is_w) (sound x (Asked a) is_x) again one.1 (subst (λ ss. AllOf next ss es) (sym chained) (still_of w next (chains w ts) es kept of.1)) in
+      all_blind next (after_ask x a) es (sound w (Asked a) is_w) (sound x (Asked a) is_x) again one.1 (subst (λ ss. AllOf next ss es) (sym chained) (still_of w next (chains w ts) es still of.1)) in
       (λ i. one.0 i ∷ rest i)
     where
-      chains_kept : (w x : World) (ts : List (List ℕ)) → x.shelves ≡ w.shelves → chains x ts ≡ chains w ts
-      chains_kept w x [] same = refl
-      chains_kept w x (t ∷ ts) same = λ i. (t ∷ above (group_in (map.get (same i) t))) ++ chains_kept w x ts same i
+      chains_alike : (w x : World) (ts : List (List ℕ)) → x.shelves ≡ w.shelves → chains x ts ≡ chains w ts
+      chains_alike w x [] same = refl
+      chains_alike w x (t ∷ ts) same = λ i. (t ∷ above (group_in (map.get (same i) t))) ++ chains_alike w x ts same i
   all_blind w x (TeamAdd t group ∷ es) is_w is_x are low of = absurd (no_key of.0.0 of.0.2)
   all_blind w x (GroupAdd g ∷ es) is_w is_x are low of = absurd (no_key of.0.0 of.0.2)
   all_blind w x (KeyAdd t k right ∷ es) is_w is_x are low of = absurd (no_key of.0.0 of.0.2)
@@ -195,16 +195,16 @@ unknown_asked x k (Get j q) none by = let same : j ≡ k = cc in rw (same, none)
 unknown_asked x k (Put j p) none by =
     let same : j ≡ k = cc in subst (λ o. IsNotFound (reply.Decided (decision x o p))) (sym (ap (map.get x.keys) same ∙ none)) (unknown_put x p)
 
-kept_through : (x : World) (es : List Event) → AllAsked es → (after_all x es).keys ≡ x.keys
-kept_through x [] asked = refl
-kept_through x (Asked a ∷ es) asked = kept_through (after_ask x a) es asked ∙ (kept_asked x a).keys
-kept_through x (TeamAdd t group ∷ es) asked = absurd asked
-kept_through x (GroupAdd g ∷ es) asked = absurd asked
-kept_through x (KeyAdd t k right ∷ es) asked = absurd asked
-kept_through x (KeyRevoke k ∷ es) asked = absurd asked
+same_keys : (x : World) (es : List Event) → AllAsked es → (after_all x es).keys ≡ x.keys
+same_keys x [] asked = refl
+same_keys x (Asked a ∷ es) asked = same_keys (after_ask x a) es asked ∙ (same_asked x a).keys
+same_keys x (TeamAdd t group ∷ es) asked = absurd asked
+same_keys x (GroupAdd g ∷ es) asked = absurd asked
+same_keys x (KeyAdd t k right ∷ es) asked = absurd asked
+same_keys x (KeyRevoke k ∷ es) asked = absurd asked
 
 pub others_of_teams_are_not_found : OthersOfTeamsAreNotFound
 others_of_teams_are_not_found w ts k before a far by asked =
     let part : World = part_of w (chains w ts) in
     unknown_asked (after_all part before) k a
-    (ap (λ m. map.get m k) (kept_through part before asked) ∙ key_at w (chains w ts) k ∙ left_out (is_held (chains w ts) (map.get w.keys k)) (map.get w.keys k) far) by
+    (ap (λ m. map.get m k) (same_keys part before asked) ∙ key_at w (chains w ts) k ∙ left_out (is_held (chains w ts) (map.get w.keys k)) (map.get w.keys k) far) by

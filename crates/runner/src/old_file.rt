@@ -15,7 +15,7 @@ use std::os::unix::fs::{MetadataExt, OpenOptionsExt};
 use std::rt::HostRuntime;
 use store::refusal::Refusal;
 
-/// The place of the locks of a database, and their number of bytes.
+/// The position of the locks of a database, and their number of bytes.
 const LOCKS: (u64, u64) = (1 << 30, 512);
 
 /// The file of an older store to open.
@@ -66,18 +66,18 @@ fn find_file(rt: &HostRuntime, path: &str, to: &str) -> io::Result<OldFile> {
     // sqlite puts the log beside the file that a link leads to
     let real = match fs::canonicalize(rt, path) {
         Ok(real) => String::from_str(rt.alloc(), real.as_str())?,
-        Err(_) => return in_place(rt, path),
+        Err(_) => return original(rt, path),
     };
     // opening a pipe would wait for whoever writes to it
     if !fs::metadata(rt, real.as_str())?.is_file() {
-        return in_place(rt, path);
+        return original(rt, path);
     }
     let log = log_of(rt, real.as_str())?;
     let db = held(rt, real.as_str())?;
     let is_written = may_log(rt, log.as_str(), to)? && may_write(rt, real.as_str());
     // what sqlite refuses for its names is not copied either
     if is_written || db.metadata()?.nlink() != 1 || has_journal(rt, real.as_str())? {
-        return in_place(rt, real.as_str());
+        return original(rt, real.as_str());
     }
     copied(rt, &db, log.as_str(), to)
 }
@@ -108,7 +108,7 @@ fn log_of(rt: &HostRuntime, path: &str) -> io::Result<String> {
 
 /// Returns the file itself, to be opened where it is. Opening it makes the log if there is none now. Fails if the system does not say
 /// whether there is one, or if memory runs out.
-fn in_place(rt: &HostRuntime, path: &str) -> io::Result<OldFile> {
+fn original(rt: &HostRuntime, path: &str) -> io::Result<OldFile> {
     let log = log_of(rt, path)?;
     let log_length = match fs::symlink_metadata(rt, log.as_str()) {
         Ok(found) => Some(found.len()),

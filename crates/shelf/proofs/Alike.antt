@@ -58,9 +58,9 @@ module _ (w x : World) (s : List ℕ) (chains : chain w s ≡ chain x s) (same :
   latest_same : (p : List ℕ) → latest_of w s p ≡ latest_of x s p
   latest_same p = ap (λ vs. latest_by w s p (highest vs)) (versions_of_same p) ∙ latest_by_same p (highest (versions_of x s p))
 
-  told_of : (p : List ℕ) (v : Option SemanticVersion) → latest_reply w s p v ≡ latest_reply x s p v
-  told_of p None = refl
-  told_of p (Some v) = ap (info_reply v) (heading_same w x s p (version_text v) chains same)
+  latest_reply_same : (p : List ℕ) (v : Option SemanticVersion) → latest_reply w s p v ≡ latest_reply x s p v
+  latest_reply_same p None = refl
+  latest_reply_same p (Some v) = ap (info_reply v) (heading_same w x s p (version_text v) chains same)
 
   -- ---- a query
 
@@ -69,7 +69,7 @@ module _ (w x : World) (s : List ℕ) (chains : chain w s ≡ chain x s) (same :
   query_same (query.Zip p v) = ap zip_reply (view_same w x s p (version_text v) chains same)
   query_same (query.Info p v) = ap (info_reply v) (heading_same w x s p (version_text v) chains same)
   query_same (query.List p) = ap list_reply (versions_of_same p)
-  query_same (query.Latest p) = ap (latest_reply w s p) (latest_same p) ∙ told_of p (latest_of x s p)
+  query_same (query.Latest p) = ap (latest_reply w s p) (latest_same p) ∙ latest_reply_same p (latest_of x s p)
   query_same query.Modules = ap reply.Paths paths_same
 
 pub decision_same : (w x : World) (h : Holder) (p : Publish) → chain w h.shelf ≡ chain x h.shelf → SameSeen w x h.shelf → decision w (Some h) p ≡ decision x (Some h) p

@@ -21,7 +21,7 @@ use Rattle.shelf.specs.declared.reply.Reply.TheVariants as reply
 use Rattle.world.specs.World.{World, IsWorld, chain, common, place, is_team_name, is_key}
 use Rattle.shelf.specs.Machine.{decision, keyed_reply, after_decision, stored, offered, place_of, reply_to, after}
 use Rattle.world.specs.Registry.{is_top, lacks_group, team_added, group_added, key_added, key_revoked, after_team_add, after_group_add, after_key_add, after_key_revoke}
-use Rattle.shelf.specs.Isolation.{is_among, is_near, is_kept, Agree}
+use Rattle.shelf.specs.Isolation.{is_among, is_near, is_remaining, Agree}
 use Rattle.world.proofs.Sees.{same_chain}
 use Rattle.world.proofs.Orders.{places_total, places_exact, get_put_both, get_elsewhere}
 use Rattle.shelf.proofs.Views.{SameSeen}
@@ -64,7 +64,7 @@ one_decides : (w x : World) (ss : List (List ℕ)) (h : Holder) (p : Publish) (d
 one_decides w x ss h p Published apart agree = one_stores w x ss (place_of h.shelf p) (offered p) apart agree
 one_decides w x ss h p d apart agree = agree
 
--- ---- an event that is kept
+-- ---- an event that remains
 
 -- the replies are equal, and the worlds after agree
 pub record Alike (r r2 : Reply) (w x : World) (ss : List (List ℕ)) : Type 0 where
@@ -129,8 +129,8 @@ key_alike w x t k e f =
     ap (λ m. if not (is_key k) then Name else if not (map.contains_key m t) then NoTeam else if map.contains_key w.keys k then Taken else Done) e
     ∙ ap (λ m. if not (is_key k) then Name else if not (map.contains_key x.shelves t) then NoTeam else if map.contains_key m k then Taken else Done) f
 
--- in worlds that agree, a kept event gets equal replies and leads to worlds that agree
-pub event_alike : (w x : World) (ss : List (List ℕ)) (e : Event) → is_kept w ss e ≡ true → IsWorld w → Reaches w ss → Agree w x ss → Alike (reply_to w e) (reply_to x e) (after w e) (after x e) ss
+-- in worlds that agree, a remaining event gets equal replies and leads to worlds that agree
+pub event_alike : (w x : World) (ss : List (List ℕ)) (e : Event) → is_remaining w ss e ≡ true → IsWorld w → Reaches w ss → Agree w x ss → Alike (reply_to w e) (reply_to x e) (after w e) (after x e) ss
 event_alike w x ss (Asked Unreadable) near is all agree = record { reply = refl; worlds = agree }
 event_alike w x ss (Asked (Get k q)) near is all agree = record {
   reply = get_alike w x ss (map.get w.keys k) q near (λ h e. is.keys_stand k h e) all agree ∙ ap (λ m. keyed_reply x (map.get m k) q) agree.keys;
@@ -164,20 +164,20 @@ event_alike w x ss (KeyRevoke k) near is all agree =
       worlds = subst (λ r. Agree (after w (KeyRevoke k)) (after_key_revoke x k r) ss) same (both_revoke w x ss k (key_revoked w k) agree);
     }
 
--- worlds that agree keep the same events
-pub kept_alike : (w x : World) (ss : List (List ℕ)) (e : Event) → Agree w x ss → is_kept w ss e ≡ is_kept x ss e
-kept_alike w x ss (Asked Unreadable) agree = refl
-kept_alike w x ss (Asked (Get k q)) agree = ap (λ m. is_near ss (map.get m k)) agree.keys
-kept_alike w x ss (Asked (Put k p)) agree = ap (λ m. is_near ss (map.get m k)) agree.keys
-kept_alike w x ss e agree = refl
+-- worlds that agree leave the same events
+pub remaining_alike : (w x : World) (ss : List (List ℕ)) (e : Event) → Agree w x ss → is_remaining w ss e ≡ is_remaining x ss e
+remaining_alike w x ss (Asked Unreadable) agree = refl
+remaining_alike w x ss (Asked (Get k q)) agree = ap (λ m. is_near ss (map.get m k)) agree.keys
+remaining_alike w x ss (Asked (Put k p)) agree = ap (λ m. is_near ss (map.get m k)) agree.keys
+remaining_alike w x ss e agree = refl
 
--- ---- an event that is not kept
+-- ---- an event that is not remaining
 
 far_put : (w x : World) (ss : List (List ℕ)) (h : Option Holder) (p : Publish) (d : Decision) → is_near ss h ≡ false → Agree w x ss → Agree (after_decision w h p d) x ss
 far_put w x ss None p d far agree = absurd (true≢false far)
 far_put w x ss (Some h) p d far agree = one_decides w x ss h p d far agree
 
-pub event_far : (w x : World) (ss : List (List ℕ)) (e : Event) → is_kept w ss e ≡ false → Agree w x ss → Agree (after w e) x ss
+pub event_far : (w x : World) (ss : List (List ℕ)) (e : Event) → is_remaining w ss e ≡ false → Agree w x ss → Agree (after w e) x ss
 event_far w x ss (Asked Unreadable) far agree = agree
 event_far w x ss (Asked (Get k q)) far agree = agree
 event_far w x ss (Asked (Put k p)) far agree = far_put w x ss (map.get w.keys k) p (decision w (map.get w.keys k) p) far agree

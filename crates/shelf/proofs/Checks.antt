@@ -106,10 +106,10 @@ pub passed_before : (test : Decision → Bool) (cs ds : List (Bool × Decision))
     → unwrap_or (first_failing (cs ++ ds)) Published ≡ d → Passed cs × (unwrap_or (first_failing ds) Published ≡ d)
 passed_before test [] ds d is apart e = (tt, e)
 passed_before test (c ∷ cs) ds d is apart e =
-    let parts = or_parts (test c.1) (list_any (λ x. test x.1) cs) apart in
+    let halves = or_parts (test c.1) (list_any (λ x. test x.1) cs) apart in
     elim c.0 as (λ b. c.0 ≡ b → unwrap_or (cond b (Some c.1) (first_failing (cs ++ ds))) Published ≡ d → ((c.0 ≡ false) × Passed cs) × (unwrap_or (first_failing ds) Published ≡ d)) [
-      | true ↦ λ _ here. absurd (true≢false (sym is ∙ ap test (sym here) ∙ parts.0))
-      | false ↦ λ passes rest. let more = passed_before test cs ds d is parts.1 rest in ((passes, more.0), more.1)
+      | true ↦ λ _ here. absurd (true≢false (sym is ∙ ap test (sym here) ∙ halves.0))
+      | false ↦ λ passes rest. let more = passed_before test cs ds d is halves.1 rest in ((passes, more.0), more.1)
     ] refl e
 
 abbrev pub is_published : Decision → Bool
@@ -135,9 +135,9 @@ passing p right reading rest all =
     passed_front [] ds all = (tt, all)
     passed_front (c ∷ cs) ds all = let more = passed_front cs ds all.1 in ((all.0, more.0), more.1)
 
--- the files were told apart
-pub files_told : (p : Publish) (right : Option Right) (reading : Option Reading) → Passing p right reading → is_none p.body ≡ false
-files_told p right reading is = is.own.1.1.1.0
+-- the body splits into two files
+pub files_split : (p : Publish) (right : Option Right) (reading : Option Reading) → Passing p right reading → is_none p.body ≡ false
+files_split p right reading is = is.own.1.1.1.0
 
 -- the entry that they make may stand
 entry_form : (s : List ℕ) (p : Publish) (right : Option Right) (b : Body) → p.body ≡ Some b → Passing p right (gomod_of p) → IsEntry (place_of s p) (entry_of p b)
@@ -203,7 +203,7 @@ accepted p right reading there n e =
 pub unseen : (w : World) (h : Holder) (p : Publish) → decision w (Some h) p ≡ Published → view w h.shelf p.path (version_text p.version) ≡ None
 unseen w h p e =
     let is = accepted p (Some h.right) (gomod_of p) (standing_of w h.shelf p) (count w h.shelf p.path) e in
-    let body = body_there p.body (files_told p (Some h.right) (gomod_of p) is.passing) in
+    let body = body_there p.body (files_split p (Some h.right) (gomod_of p) is.passing) in
     let seen = entry_seen w h.shelf p.path (version_text p.version) in
     not_mapped _ _ (nothing_there seen (entry_of p body.0) (sym (ap (λ o. standing_if seen (option_map (entry_of p) o)) body.1) ∙ is.unseen))
 
@@ -249,10 +249,10 @@ outcome_of false false false = refl
 
 pub same_again : (p : Publish) (right : Option Right) (reading : Option Reading) (there : Standing) (n : ℕ) → decided p right reading there n ≡ Same → Again p right reading there
 same_again p right reading there n e =
-    let parts = passed_before is_same_answer (request_checks p right ++ gomod_checks p reading) (shelf_checks there n) Same refl refl e in
+    let halves = passed_before is_same_answer (request_checks p right ++ gomod_checks p reading) (shelf_checks there n) Same refl refl e in
     record {
-      passing = passing p right reading [] parts.0;
-      same = same_so there (only_same (is_same there) (is_other there) (nat_le version_limit n) (sym (outcome_of (is_same there) (is_other there) (nat_le version_limit n)) ∙ parts.1));
+      passing = passing p right reading [] halves.0;
+      same = same_so there (only_same (is_same there) (is_other there) (nat_le version_limit n) (sym (outcome_of (is_same there) (is_other there) (nat_le version_limit n)) ∙ halves.1));
     }
 
 -- the right of a key whose publish was accepted

@@ -15,7 +15,7 @@ use Rattle.shelf.specs.declared.ask.Query.TheVariants as query
 use Rattle.world.specs.declared.reading.Reading.{Reading}
 use Rattle.world.specs.declared.reading.Reading.TheVariants.{Module, Fault}
 use Rattle.shelf.specs.declared.reply.Reply.TheVariants as reply
-use Rattle.world.specs.GoMods.{Says, reading_of, module_told}
+use Rattle.world.specs.GoMods.{Says, reading_of, module_in}
 use Rattle.world.specs.Versions.{versions_of}
 use Rattle.world.specs.Latest.{module_of, highest_left, latest_by, latest_of, AllOf, highest, unretracted}
 use Rattle.shelf.specs.Machine.{latest_reply, info_reply, query_reply}
@@ -29,7 +29,7 @@ use Rattle.world.proofs.SeenVersions.{entry_at, seen_members, versions_fit}
 
 -- ---- what a go.mod says
 
-module_read : (r : Reading) (m : GoModule) → module_told r ≡ Some m → r ≡ Module m
+module_read : (r : Reading) (m : GoModule) → module_in r ≡ Some m → r ≡ Module m
 module_read (Module x) m e = let same : x ≡ m = cc e in ap Module same
 module_read (Fault line) m e = cc e
 
@@ -67,7 +67,7 @@ module _ (w : World) (is : IsWorld w) (s p : List ℕ) where
   highest_says top m e f =
       let is_top = top_seen top (highest_top vs top e) in
       let seen = is_top.member.1 in
-      let read : module_told (reading_of seen.0.entry.gomod) ≡ Some m = sym (ap (λ o. module_of (without_zip o)) seen.1) ∙ f in
+      let read : module_in (reading_of seen.0.entry.gomod) ≡ Some m = sym (ap (λ o. module_of (without_zip o)) seen.1) ∙ f in
       record {
         highest = top;
         top = is_top;
@@ -109,7 +109,7 @@ module _ (w : World) (is : IsWorld w) (s p : List ℕ) where
   read_there : (t : List ℕ) → IsSeen w s p t → module_of (heading w s p t) ≡ None → ⊥
   read_there t seen none =
       let reads = (entry_at w is s p t seen).reads in
-      let some : module_of (heading w s p t) ≡ Some reads.says = ap (λ o. module_of (without_zip o)) seen.1 ∙ ap module_told reads.reads in
+      let some : module_of (heading w s p t) ≡ Some reads.says = ap (λ o. module_of (without_zip o)) seen.1 ∙ ap module_in reads.reads in
       let never : None ≡ Some reads.says = sym none ∙ some in
       cc never
 

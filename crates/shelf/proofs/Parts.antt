@@ -53,18 +53,18 @@ record SameRegistry (w x : World) : Type 0 where
   keys : x.keys ≡ w.keys
   shelves : x.shelves ≡ w.shelves
 
-kept_stored : (w : World) (h : Holder) (p : Publish) (o : Option Entry) → SameRegistry w (stored w (place_of h.shelf p) o)
-kept_stored w h p None = record { keys = refl; shelves = refl }
-kept_stored w h p (Some e) = record { keys = refl; shelves = refl }
+registry_stored : (w : World) (h : Holder) (p : Publish) (o : Option Entry) → SameRegistry w (stored w (place_of h.shelf p) o)
+registry_stored w h p None = record { keys = refl; shelves = refl }
+registry_stored w h p (Some e) = record { keys = refl; shelves = refl }
 
-kept_decided : (w : World) (h : Option Holder) (p : Publish) (d : Decision) → SameRegistry w (after_decision w h p d)
-kept_decided w (Some h) p Published = kept_stored w h p (offered p)
-kept_decided w h p d = record { keys = refl; shelves = refl }
+registry_decided : (w : World) (h : Option Holder) (p : Publish) (d : Decision) → SameRegistry w (after_decision w h p d)
+registry_decided w (Some h) p Published = registry_stored w h p (offered p)
+registry_decided w h p d = record { keys = refl; shelves = refl }
 
-kept_asked : (w : World) (a : Ask) → SameRegistry w (after_ask w a)
-kept_asked w Unreadable = record { keys = refl; shelves = refl }
-kept_asked w (Get k q) = record { keys = refl; shelves = refl }
-kept_asked w (Put k p) = kept_decided w (map.get w.keys k) p (decision w (map.get w.keys k) p)
+registry_asked : (w : World) (a : Ask) → SameRegistry w (after_ask w a)
+registry_asked w Unreadable = record { keys = refl; shelves = refl }
+registry_asked w (Get k q) = record { keys = refl; shelves = refl }
+registry_asked w (Put k p) = registry_decided w (map.get w.keys k) p (decision w (map.get w.keys k) p)
 
 -- a world of the same shelves sees the same
 same_sight : (w x : World) (s t : List ℕ) → x.shelves ≡ w.shelves → sees x s t ≡ sees w s t
@@ -93,10 +93,10 @@ pub blind_throughout : IsBlindThroughout
 blind_throughout w x s [] is_w is_x low own = (refl, low)
 blind_throughout w x s (e ∷ es) is_w is_x low own =
     let one = own_blind w x s e is_w is_x low own.0 in
-    let kept : SameRegistry w (after w e) = subst (λ f. SameRegistry w (after w f)) (sym one.1) (kept_asked w one.0) in
+    let registry : SameRegistry w (after w e) = subst (λ f. SameRegistry w (after w f)) (sym one.1) (registry_asked w one.0) in
     let reply : reply_to w e ≡ reply_to x e = ap (reply_to w) one.1 ∙ one.2 ∙ ap (reply_to x) (sym one.1) in
     let after_low : Low (after w e) (after x e) s = subst (λ f. Low (after w f) (after x f) s) (sym one.1) one.3 in
-    let rest = blind_throughout (after w e) (after x e) s es (sound w e is_w) (sound x e is_x) after_low (still_own w (after w e) s es kept own.1) in
+    let rest = blind_throughout (after w e) (after x e) s es (sound w e is_w) (sound x e is_x) after_low (still_own w (after w e) s es registry own.1) in
     (ap (λ r. r ∷ replies (after w e) es) reply ∙ ap (λ rs. reply_to x e ∷ rs) rest.0, rest.1)
 
 -- ---- runs
@@ -138,20 +138,20 @@ unknown_asked x k (Get j q) none by = let same : j ≡ k = cc in rw (same, none)
 unknown_asked x k (Put j p) none by =
     let same : j ≡ k = cc in subst (λ o. IsNotFound (reply.Decided (decision x o p))) (sym (ap (map.get x.keys) same ∙ none)) (unknown_put x p)
 
-kept_through : (x : World) (es : List Event) → AllAsked es → (after_all x es).keys ≡ x.keys
-kept_through x [] asked = refl
-kept_through x (Asked a ∷ es) asked = kept_through (after_ask x a) es asked ∙ (kept_asked x a).keys
-kept_through x (TeamAdd t group ∷ es) asked = absurd asked
-kept_through x (GroupAdd g ∷ es) asked = absurd asked
-kept_through x (KeyAdd t k right ∷ es) asked = absurd asked
-kept_through x (KeyRevoke k ∷ es) asked = absurd asked
+keys_through : (x : World) (es : List Event) → AllAsked es → (after_all x es).keys ≡ x.keys
+keys_through x [] asked = refl
+keys_through x (Asked a ∷ es) asked = keys_through (after_ask x a) es asked ∙ (registry_asked x a).keys
+keys_through x (TeamAdd t group ∷ es) asked = absurd asked
+keys_through x (GroupAdd g ∷ es) asked = absurd asked
+keys_through x (KeyAdd t k right ∷ es) asked = absurd asked
+keys_through x (KeyRevoke k ∷ es) asked = absurd asked
 
 -- a run of requests alone leaves the shelves
 shelves_through : (w new : World) (es : List Event) (answers : List Answer) → AllAsked es → Run w es answers new → new.shelves ≡ w.shelves
 shelves_through w new [] [] asked run = ap (λ (x : World). x.shelves) run
 shelves_through w new [] (a ∷ answers) asked run = absurd run
 shelves_through w new (e ∷ es) [] asked run = absurd run
-shelves_through w new (Asked a ∷ es) (Replied r ∷ answers) asked run = shelves_through (after_ask w a) new es answers asked run.1 ∙ (kept_asked w a).shelves
+shelves_through w new (Asked a ∷ es) (Replied r ∷ answers) asked run = shelves_through (after_ask w a) new es answers asked run.1 ∙ (registry_asked w a).shelves
 shelves_through w new (Asked a ∷ es) (Failed fault ∷ answers) asked run = shelves_through w new es answers asked run
 shelves_through w new (TeamAdd t group ∷ es) (a ∷ answers) asked run = absurd asked
 shelves_through w new (GroupAdd g ∷ es) (a ∷ answers) asked run = absurd asked
@@ -172,4 +172,4 @@ later_than_asked w new later es answers asked run then =
 pub others_are_not_found : OthersAreNotFound
 others_are_not_found w s k before a far by asked =
     unknown_asked (after_all (part w s) before) k a
-    (ap (λ m. map.get m k) (kept_through (part w s) before asked) ∙ key_at w s k ∙ left_out (is_held (chain w s) (map.get w.keys k)) (map.get w.keys k) far) by
+    (ap (λ m. map.get m k) (keys_through (part w s) before asked) ∙ key_at w s k ∙ left_out (is_held (chain w s) (map.get w.keys k)) (map.get w.keys k) far) by

@@ -9,7 +9,7 @@ use Rattle.world.specs.declared.entry.Heading.{Heading}
 use Rattle.world.specs.declared.entry.Holder.{Holder}
 use Rattle.world.specs.declared.reading.Reading.{Reading}
 use Rattle.world.specs.declared.reading.Reading.TheVariants.{Module, Fault}
-use Rattle.world.specs.GoMods.{told, reading_by, module_told}
+use Rattle.world.specs.GoMods.{as_reading, reading_by, module_in}
 use Rattle.world.specs.Latest.{module_of, highest, highest_left}
 use Rattle.world.specs.Latest as latest
 use Rattle.world.specs.Versions.{versions_of}
@@ -75,8 +75,8 @@ module _ (w : World) (is : IsWorldBy profile_1 w) where
   abbrev Alike : Event → Type 0
   Alike e = AnswersAlike profile_1 profile_2 w e
 
-  abbrev Kept : Event → Type 0
-  Kept e = Alike e ⊎ IsUnread profile_1 w e
+  abbrev AlikeOrUnread : Event → Type 0
+  AlikeOrUnread e = Alike e ⊎ IsUnread profile_1 w e
 
   same_module : (s p t : List ℕ) → module_by profile_1 (heading w s p t) ≡ module_by profile_2 (heading w s p t)
   same_module s p t =
@@ -84,7 +84,7 @@ module _ (w : World) (is : IsWorldBy profile_1 w) where
         | None ↦ λ _. refl
         | Some e ↦ λ seen.
             let reads = (entry_by profile_1 w s p t is (e, seen)).reads in
-            ap module_told (reads.reads ∙ sym (reads_still e.entry.gomod reads.says reads.reads))
+            ap module_in (reads.reads ∙ sym (reads_still e.entry.gomod reads.says reads.reads))
       ] refl
 
   same_left : (s p : List ℕ) (o : Option SemanticVersion) → left_by profile_1 w s p o ≡ left_by profile_2 w s p o
@@ -132,7 +132,7 @@ module _ (w : World) (is : IsWorldBy profile_1 w) where
           body = b;
           asked = refl;
           handed = body;
-          unread = λ m reads. let never : Fault line ≡ Module m = sym fault ∙ ap told (reading-from_reads profile_1 b.gomod m reads) in cc never;
+          unread = λ m reads. let never : Fault line ≡ Module m = sym fault ∙ ap as_reading (reading-from_reads profile_1 b.gomod m reads) in cc never;
           line = line;
           refused =
               ap (λ o. reply.Decided (decision_by profile_1 w o p)) found
@@ -140,33 +140,33 @@ module _ (w : World) (is : IsWorldBy profile_1 w) where
               (refused_by_gomod p (Some h.right) (gomod_by profile_1 p) (standing_of w h.shelf p) (count w h.shelf p.path) (Refused (refusal.BadGoMod line)) passes failing);
         }
 
-    by_check : (line : ℕ) → reading_by profile_1 b.gomod ≡ Fault line → (o : Option Decision) → first_failing (request_checks p (Some h.right)) ≡ o → Kept (Asked (Put k p))
+    by_check : (line : ℕ) → reading_by profile_1 b.gomod ≡ Fault line → (o : Option Decision) → first_failing (request_checks p (Some h.right)) ≡ o → AlikeOrUnread (Asked (Put k p))
     by_check line fault None passes = inr (unread line fault passes)
     by_check line fault (Some d) fails = inl (refused_alike d fails)
 
-    by_reading : (r : Reading) → reading_by profile_1 b.gomod ≡ r → Kept (Asked (Put k p))
+    by_reading : (r : Reading) → reading_by profile_1 b.gomod ≡ r → AlikeOrUnread (Asked (Put k p))
     by_reading (Module m) read =
         let same : reading_by profile_1 b.gomod ≡ reading_by profile_2 b.gomod = read ∙ sym (reads_still b.gomod m read) in
         inl (alike k p (same_decision (map.get w.keys k) p (read_by profile_1 ∙ ap (λ (r : Reading). Some r) same ∙ sym (read_by profile_2))))
     by_reading (Fault line) fault = by_check line fault (first_failing (request_checks p (Some h.right))) refl
 
-  by_body : (k : List ℕ) (p : Publish) (h : Holder) → map.get w.keys k ≡ Some h → (o : Option Body) → p.body ≡ o → Kept (Asked (Put k p))
+  by_body : (k : List ℕ) (p : Publish) (h : Holder) → map.get w.keys k ≡ Some h → (o : Option Body) → p.body ≡ o → AlikeOrUnread (Asked (Put k p))
   by_body k p h found None none =
       let so : (known : Keywords) → gomod_by known p ≡ None = λ known. ap (option_map (λ (x : Body). reading_by known x.gomod)) none in
       inl (alike k p (same_decision (map.get w.keys k) p (so profile_1 ∙ sym (so profile_2))))
   by_body k p h found (Some b) body = by_reading k p h found b body (reading_by profile_1 b.gomod) refl
 
-  by_holder : (k : List ℕ) (p : Publish) (o : Option Holder) → map.get w.keys k ≡ o → Kept (Asked (Put k p))
+  by_holder : (k : List ℕ) (p : Publish) (o : Option Holder) → map.get w.keys k ≡ o → AlikeOrUnread (Asked (Put k p))
   by_holder k p None none =
       let so : (known : Keywords) → decision_by known w (map.get w.keys k) p ≡ decision_by known w None p = λ known. ap (λ o. decision_by known w o p) none in
       inl (alike k p (so profile_1 ∙ sym (so profile_2)))
   by_holder k p (Some h) found = by_body k p h found p.body refl
 
-pub answers_kept : Profile2KeepsAnswers
-answers_kept w (Asked Unreadable) is = inl (record { replies = refl; worlds = refl })
-answers_kept w (Asked (Get k q)) is = inl (record { replies = same_keyed w is (map.get w.keys k) q; worlds = refl })
-answers_kept w (Asked (Put k p)) is = by_holder w is k p (map.get w.keys k) refl
-answers_kept w (TeamAdd t group) is = inl (record { replies = refl; worlds = refl })
-answers_kept w (GroupAdd g) is = inl (record { replies = refl; worlds = refl })
-answers_kept w (KeyAdd s k right) is = inl (record { replies = refl; worlds = refl })
-answers_kept w (KeyRevoke k) is = inl (record { replies = refl; worlds = refl })
+pub answers_alike : Profile2KeepsAnswers
+answers_alike w (Asked Unreadable) is = inl (record { replies = refl; worlds = refl })
+answers_alike w (Asked (Get k q)) is = inl (record { replies = same_keyed w is (map.get w.keys k) q; worlds = refl })
+answers_alike w (Asked (Put k p)) is = by_holder w is k p (map.get w.keys k) refl
+answers_alike w (TeamAdd t group) is = inl (record { replies = refl; worlds = refl })
+answers_alike w (GroupAdd g) is = inl (record { replies = refl; worlds = refl })
+answers_alike w (KeyAdd s k right) is = inl (record { replies = refl; worlds = refl })
+answers_alike w (KeyRevoke k) is = inl (record { replies = refl; worlds = refl })

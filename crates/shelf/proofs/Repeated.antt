@@ -28,7 +28,7 @@ use Rattle.world.proofs.Orders.{text_self}
 use Rattle.shelf.proofs.Checks.{same_decided}
 use Rattle.shelf.proofs.Sound.{sound}
 use Rattle.shelf.proofs.Chains.{stands_after, stands_through}
-use Rattle.shelf.proofs.Served.{Kept, kept_first, kept_through, shelf_stands}
+use Rattle.shelf.proofs.Served.{IsServed, served_first, still_served, shelf_stands}
 
 -- ---- one publish
 
@@ -39,19 +39,19 @@ same_time_itself (Some t) = text_self t
 same_itself : (e : Entry) → same_entry e e ≡ true
 same_itself e = and_from _ _ (and_from _ _ (text_self e.gomod) (text_self e.zip)) (same_time_itself e.time)
 
-kept_is_same : (w : World) (s : List ℕ) (p : Publish) → Kept w s p → decision w (Some (record { shelf = s; right = Publishes })) p ≡ Same
-kept_is_same w s p kept =
-    let e : Entry = kept.seen.entry in
+served_is_same : (w : World) (s : List ℕ) (p : Publish) → IsServed w s p → decision w (Some (record { shelf = s; right = Publishes })) p ≡ Same
+served_is_same w s p it =
+    let e : Entry = it.seen.entry in
     let same : standing_of w s p ≡ standing.Same =
-    ap (λ o. standing_if (option_map (λ (x : Seen). x.entry) o) (offered p)) kept.is_seen ∙ ap (standing_if (Some e)) kept.is_offered ∙ ap (λ b. cond b standing.Same standing.Other) (same_itself e) in
-    same_decided p (Some Publishes) (gomod_of p) (standing_of w s p) (count w s p.path) kept.passing same
+    ap (λ o. standing_if (option_map (λ (x : Seen). x.entry) o) (offered p)) it.is_seen ∙ ap (standing_if (Some e)) it.is_offered ∙ ap (λ b. cond b standing.Same standing.Other) (same_itself e) in
+    same_decided p (Some Publishes) (gomod_of p) (standing_of w s p) (count w s p.path) it.passing same
 
 -- ---- the list for the first time
 
 -- all of these are seen by s as they were handed in
-abbrev AllKept : World → List ℕ → List Publish → Type 0
-AllKept w s [] = Unit {0}
-AllKept w s (p ∷ ps) = Kept w s p × AllKept w s ps
+abbrev AllServed : World → List ℕ → List Publish → Type 0
+AllServed w s [] = Unit {0}
+AllServed w s (p ∷ ps) = IsServed w s p × AllServed w s ps
 
 keys_stored : (w : World) (q : Place) (o : Option Entry) → (stored w q o).keys ≡ w.keys
 keys_stored w q None = refl
@@ -69,42 +69,42 @@ acceptance (reply.Decided d) is = (d, refl, is)
 acceptance r is = absurd is
 
 -- after a run that accepted each of these publishes with a key of s, s sees each as it was handed in
-all_kept : (w mid : World) (s k : List ℕ) (ps : List Publish) (answers : List Answer) → IsWorld w → belongs w k s → Run w (puts k ps) answers mid → AllAccepted answers → AllKept mid s ps
-all_kept w mid s k [] answers is own run all = tt
-all_kept w mid s k (p ∷ ps) [] is own run all = absurd run
-all_kept w mid s k (p ∷ ps) (Failed fault ∷ answers) is own run all = absurd all.0
-all_kept w mid s k (p ∷ ps) (Replied r ∷ answers) is own run all =
+all_served : (w mid : World) (s k : List ℕ) (ps : List Publish) (answers : List Answer) → IsWorld w → belongs w k s → Run w (puts k ps) answers mid → AllAccepted answers → AllServed mid s ps
+all_served w mid s k [] answers is own run all = tt
+all_served w mid s k (p ∷ ps) [] is own run all = absurd run
+all_served w mid s k (p ∷ ps) (Failed fault ∷ answers) is own run all = absurd all.0
+all_served w mid s k (p ∷ ps) (Replied r ∷ answers) is own run all =
     let e : Event = Asked (Put k p) in
     let first = acceptance r all.0 in
     let stands = (stands_after w s e (shelf_stands w s k is own)).stands in
-    let kept = kept_first w s k p first.0 own (sym first.1 ∙ run.0) first.2 in
-    (kept_through (after w e) mid s p (puts k ps) answers stands run.1 kept, all_kept (after w e) mid s k ps answers (sound w e is) (belongs_after w s k k p own) run.1 all.1)
+    let served = served_first w s k p first.0 own (sym first.1 ∙ run.0) first.2 in
+    (still_served (after w e) mid s p (puts k ps) answers stands run.1 served, all_served (after w e) mid s k ps answers (sound w e is) (belongs_after w s k k p own) run.1 all.1)
 
 all_through : (w new : World) (s : List ℕ) (ps : List Publish) (es : List Event) (answers : List Answer)
-    → map.contains_key w.shelves s ≡ true → Run w es answers new → AllKept w s ps → AllKept new s ps
-all_through w new s [] es answers stands run kept = tt
-all_through w new s (p ∷ ps) es answers stands run kept = (kept_through w new s p es answers stands run kept.0, all_through w new s ps es answers stands run kept.1)
+    → map.contains_key w.shelves s ≡ true → Run w es answers new → AllServed w s ps → AllServed new s ps
+all_through w new s [] es answers stands run served = tt
+all_through w new s (p ∷ ps) es answers stands run served = (still_served w new s p es answers stands run served.0, all_through w new s ps es answers stands run served.1)
 
 -- ---- the list again
 
 again_same : (w : World) (s k : List ℕ) (p : Publish) → map.get w.keys k ≡ Some (record { shelf = s; right = Publishes })
-    → Kept w s p → (decision w (map.get w.keys k) p ≡ Same) × (after w (Asked (Put k p)) ≡ w)
-again_same w s k p may kept =
-    let same = kept_is_same w s p kept in
+    → IsServed w s p → (decision w (map.get w.keys k) p ≡ Same) × (after w (Asked (Put k p)) ≡ w)
+again_same w s k p may served =
+    let same = served_is_same w s p served in
     (ap (λ o. decision w o p) may ∙ same, ap (λ o. after_decision w o p (decision w o p)) may ∙ ap (after_decision w (Some (record { shelf = s; right = Publishes })) p) same)
 
 again : (w new : World) (s k : List ℕ) (ps : List Publish) (answers : List Answer) → map.get w.keys k ≡ Some (record { shelf = s; right = Publishes })
-    → AllKept w s ps → Run w (puts k ps) answers new → AllSameOrFailed answers × (new ≡ w)
-again w new s k [] [] may kept run = (tt, run)
-again w new s k [] (a ∷ answers) may kept run = absurd run
-again w new s k (p ∷ ps) [] may kept run = absurd run
-again w new s k (p ∷ ps) (Failed fault ∷ answers) may kept run = let rest = again w new s k ps answers may kept.1 run in ((inr tt, rest.0), rest.1)
-again w new s k (p ∷ ps) (Replied r ∷ answers) may kept run =
-    let same = again_same w s k p may kept.0 in
-    let rest = again w new s k ps answers may kept.1 (subst (λ x. Run x (puts k ps) answers new) same.1 run.1) in
+    → AllServed w s ps → Run w (puts k ps) answers new → AllSameOrFailed answers × (new ≡ w)
+again w new s k [] [] may served run = (tt, run)
+again w new s k [] (a ∷ answers) may served run = absurd run
+again w new s k (p ∷ ps) [] may served run = absurd run
+again w new s k (p ∷ ps) (Failed fault ∷ answers) may served run = let rest = again w new s k ps answers may served.1 run in ((inr tt, rest.0), rest.1)
+again w new s k (p ∷ ps) (Replied r ∷ answers) may served run =
+    let same = again_same w s k p may served.0 in
+    let rest = again w new s k ps answers may served.1 (subst (λ x. Run x (puts k ps) answers new) same.1 run.1) in
     ((inl (ap Replied (run.0 ∙ ap reply.Decided same.0)), rest.0), rest.1)
 
 pub repeated_list_changes_nothing : RepeatedListChangesNothing
 repeated_list_changes_nothing old mid later new s k second ps events accepted told repeated is own first all between may run =
     let stands = (stands_through old mid s (puts k ps) accepted (shelf_stands old s k is own) first).stands in
-    again later new s second ps repeated may (all_through mid later s ps events told stands between (all_kept old mid s k ps accepted is own first all)) run
+    again later new s second ps repeated may (all_through mid later s ps events told stands between (all_served old mid s k ps accepted is own first all)) run

@@ -23,14 +23,14 @@ run_more old mid new (e ∷ es) more (Failed fault ∷ answers) last run next = 
 -- ---- one more answer
 
 -- an event that met a fault would have changed nothing, whether before or after
-pub idle_parts : (old mid : World) (events more : List Event) (answers last : List Answer) → Run old events answers mid
+pub idle_split : (old mid : World) (events more : List Event) (answers last : List Answer) → Run old events answers mid
     → AnsweredOrIdle old (events ++ more) (answers ++ last) → AnsweredOrIdle old events answers × AnsweredOrIdle mid more last
-idle_parts old mid [] more [] last run idle = (tt, subst (λ w. AnsweredOrIdle w more last) (sym run) idle)
-idle_parts old mid [] more (a ∷ answers) last run idle = absurd run
-idle_parts old mid (e ∷ es) more [] last run idle = absurd run
-idle_parts old mid (e ∷ es) more (Replied r ∷ answers) last run idle = idle_parts (after old e) mid es more answers last run.1 idle
-idle_parts old mid (e ∷ es) more (Failed fault ∷ answers) last run idle =
-    let parts = idle_parts old mid es more answers last run idle.1 in ((idle.0, parts.0), parts.1)
+idle_split old mid [] more [] last run idle = (tt, subst (λ w. AnsweredOrIdle w more last) (sym run) idle)
+idle_split old mid [] more (a ∷ answers) last run idle = absurd run
+idle_split old mid (e ∷ es) more [] last run idle = absurd run
+idle_split old mid (e ∷ es) more (Replied r ∷ answers) last run idle = idle_split (after old e) mid es more answers last run.1 idle
+idle_split old mid (e ∷ es) more (Failed fault ∷ answers) last run idle =
+    let halves = idle_split old mid es more answers last run idle.1 in ((idle.0, halves.0), halves.1)
 
 pub met_before : (answers : List Answer) (a : Answer) → MetDevice (answers ++ a ∷ []) → MetDevice answers ⊎ (a ≡ Failed Device)
 met_before [] a (inl here) = inr here
@@ -88,16 +88,16 @@ pending_next old mid (e ∷ es) more (Replied r ∷ answers) last x run is = pen
 pending_next old mid (e ∷ es) more (Failed fault ∷ answers) last x run is = inr (pending_next old mid es more answers last x run is)
 
 -- the last change that was answered is before or after
-settles_parts : (old mid : World) (es more : List Event) (answers last : List Answer) → Run old es answers mid
+settles_split : (old mid : World) (es more : List Event) (answers last : List Answer) → Run old es answers mid
     → Settles old (es ++ more) (answers ++ last) → (Settles old es answers × AnsweredOrIdle mid more last) ⊎ Settles mid more last
-settles_parts old mid [] more [] last run settles = inr (subst (λ w. Settles w more last) (sym run) settles)
-settles_parts old mid [] more (a ∷ answers) last run settles = absurd run
-settles_parts old mid (e ∷ es) more [] last run settles = absurd run
-settles_parts old mid (e ∷ es) more (Replied r ∷ answers) last run (inl here) =
-    let parts = idle_parts (after old e) mid es more answers last run.1 here.1 in inl (inl (here.0, parts.0), parts.1)
-settles_parts old mid (e ∷ es) more (Replied r ∷ answers) last run (inr later) =
-    elim (settles_parts (after old e) mid es more answers last run.1 later) [ inl both ↦ inl (inr both.0, both.1) | inr there ↦ inr there ]
-settles_parts old mid (e ∷ es) more (Failed fault ∷ answers) last run settles = settles_parts old mid es more answers last run settles
+settles_split old mid [] more [] last run settles = inr (subst (λ w. Settles w more last) (sym run) settles)
+settles_split old mid [] more (a ∷ answers) last run settles = absurd run
+settles_split old mid (e ∷ es) more [] last run settles = absurd run
+settles_split old mid (e ∷ es) more (Replied r ∷ answers) last run (inl here) =
+    let halves = idle_split (after old e) mid es more answers last run.1 here.1 in inl (inl (here.0, halves.0), halves.1)
+settles_split old mid (e ∷ es) more (Replied r ∷ answers) last run (inr later) =
+    elim (settles_split (after old e) mid es more answers last run.1 later) [ inl both ↦ inl (inr both.0, both.1) | inr there ↦ inr there ]
+settles_split old mid (e ∷ es) more (Failed fault ∷ answers) last run settles = settles_split old mid es more answers last run settles
 
 module _ (w : World) (es more : List Event) (answers last : List Answer) (run : Run w es answers (world_after w es answers))
     (same : world_after (world_after w es answers) more last ≡ world_after w (es ++ more) (answers ++ last)) (x y z : World) where
@@ -173,7 +173,7 @@ module _ (old new : Shown) (w : World) (e : Event) where
   -- the event was answered and changed nothing, and its answer was lost
   pub runs_lost : {T : Type 0} (x value : T) (fault : StoreFault) → DoesAt old new w (Ok x) value (after w e) → after w e ≡ w
       → RunsAt old new w (e ∷ []) (Failed fault ∷ [])
-  runs_lost told value fault does same = record {
+  runs_lost answer value fault does same = record {
     run = refl;
     ends = subst new.stands same does.ok;
     left = λ idle was. subst (λ x. new.leaves x x) same (does.crash.alone was);
@@ -199,9 +199,9 @@ module _ (old mid new : Shown) where
         run = subst (λ x. Run w (events ++ more) (answers ++ last) x) same run;
         ends = subst (λ x. new.stands x) same next.ends;
         left = λ idle was.
-            let parts = idle_parts w between events more answers last first.run idle in
-            subst (λ x. new.leaves x x) same (next.left parts.1 (first.left parts.0 was));
-        settled = λ settles. subst (λ x. new.leaves x x) same (elim (settles_parts w between events more answers last first.run settles) [
+            let halves = idle_split w between events more answers last first.run idle in
+            subst (λ x. new.leaves x x) same (next.left halves.1 (first.left halves.0 was));
+        settled = λ settles. subst (λ x. new.leaves x x) same (elim (settles_split w between events more answers last first.run settles) [
           | inl both ↦ next.left both.1 (first.settled both.0)
           | inr later ↦ next.settled later
         ]);

@@ -30,7 +30,7 @@ use Rattle.shelf.specs.Machine.{info_reply, query_reply, keyed_reply, after_deci
 use Rattle.shelf.specs.Isolation.{belongs}
 use Rattle.shelf.specs.Immutability.{IsOfVersion, IsFound, StaysServed, IsAccepted, asks_back, AcceptedIsServed}
 use Rattle.world.proofs.Orders.{places_total, get_put, text_same}
-use Rattle.shelf.proofs.Checks.{Passing, body_there, files_told, accepted, same_again, passes_again}
+use Rattle.shelf.proofs.Checks.{Passing, body_there, files_split, accepted, same_again, passes_again}
 use Rattle.shelf.proofs.Chains.{stands_after}
 use Rattle.shelf.proofs.Stays.{stays_through}
 
@@ -72,7 +72,7 @@ stays_served old mid new s k later q r events answers (Replied x) world own sing
 -- ---- what was accepted
 
 -- what was handed in is what the shelf sees
-pub record Kept (w : World) (s : List ℕ) (p : Publish) : Type 0 where
+pub record IsServed (w : World) (s : List ℕ) (p : Publish) : Type 0 where
   pub passing : Passing p (Some Publishes) (gomod_of p)
   pub seen : Seen
   pub is_seen : view w s p.path (version_text p.version) ≡ Some seen
@@ -86,12 +86,12 @@ same_times (Some t) (Some u) e = ap Some (text_same t u e)
 
 same_whole : (d e : Entry) → same_entry d e ≡ true → e ≡ d
 same_whole d e same =
-    let parts = and_parts (bytes_eq d.gomod e.gomod && bytes_eq d.zip e.zip) (same_time d.time e.time) same in
-    let files = and_parts (bytes_eq d.gomod e.gomod) (bytes_eq d.zip e.zip) parts.0 in
+    let halves = and_parts (bytes_eq d.gomod e.gomod && bytes_eq d.zip e.zip) (same_time d.time e.time) same in
+    let files = and_parts (bytes_eq d.gomod e.gomod) (bytes_eq d.zip e.zip) halves.0 in
     λ i. record {
       gomod = sym (text_same d.gomod e.gomod files.0) i;
       zip = sym (text_same d.zip e.zip files.1) i;
-      time = sym (same_times d.time e.time parts.1) i;
+      time = sym (same_times d.time e.time halves.1) i;
     }
 
 same_there : (d f : Entry) → standing_to (Some d) f ≡ standing.Same → f ≡ d
@@ -112,10 +112,10 @@ entry_is_seen None e is = cc
 entry_is_seen (Some x) e is = (x, refl, cc)
 
 -- after a publish is stored, its shelf sees it as it was handed in
-kept_published : (w : World) (h : Holder) (p : Publish) → decision w (Some h) p ≡ Published → Kept (after_decision w (Some h) p Published) h.shelf p
-kept_published w h p is =
+served_published : (w : World) (h : Holder) (p : Publish) → decision w (Some h) p ≡ Published → IsServed (after_decision w (Some h) p Published) h.shelf p
+served_published w h p is =
     let checks = accepted p (Some h.right) (gomod_of p) (standing_of w h.shelf p) _ is in
-    let there = body_there p.body (files_told p (Some h.right) (gomod_of p) checks.passing) in
+    let there = body_there p.body (files_split p (Some h.right) (gomod_of p) checks.passing) in
     let b = there.0 in
     let body = there.1 in
     let offer : offered p ≡ Some (entry_of p b) = ap (option_map (entry_of p)) body in
@@ -131,8 +131,8 @@ kept_published w h p is =
     }
 
 -- a shelf sees a publish as it was handed in if the decision on it is `Same`
-kept_same : (w : World) (h : Holder) (p : Publish) → decision w (Some h) p ≡ Same → Kept w h.shelf p
-kept_same w h p is =
+served_same : (w : World) (h : Holder) (p : Publish) → decision w (Some h) p ≡ Same → IsServed w h.shelf p
+served_same w h p is =
     let checks = same_again p (Some h.right) (gomod_of p) (standing_of w h.shelf p) _ is in
     let entry = same_offer (entry_seen w h.shelf p.path (version_text p.version)) (offered p) checks.same in
     let seen = entry_is_seen (view w h.shelf p.path (version_text p.version)) entry.0 entry.1 in
@@ -143,17 +143,17 @@ kept_same w h p is =
       is_offered = entry.2 ∙ ap Some (sym seen.2);
     }
 
-pub kept_accepted : (w : World) (h : Holder) (p : Publish) (d : Decision) → decision w (Some h) p ≡ d → IsAccepted d → Kept (after_decision w (Some h) p d) h.shelf p
-kept_accepted w h p Published is yes_it_is = kept_published w h p is
-kept_accepted w h p Same is yes_it_is = kept_same w h p is
-kept_accepted w h p d is yes_it_is = absurd yes_it_is
+pub served_accepted : (w : World) (h : Holder) (p : Publish) (d : Decision) → decision w (Some h) p ≡ d → IsAccepted d → IsServed (after_decision w (Some h) p d) h.shelf p
+served_accepted w h p Published is yes_it_is = served_published w h p is
+served_accepted w h p Same is yes_it_is = served_same w h p is
+served_accepted w h p d is yes_it_is = absurd yes_it_is
 
-pub kept_through : (w new : World) (s : List ℕ) (p : Publish) (es : List Event) (answers : List Answer) → map.contains_key w.shelves s ≡ true → Run w es answers new → Kept w s p → Kept new s p
-kept_through w new s p es answers stands run kept = record {
-  passing = kept.passing;
-  seen = kept.seen;
-  is_seen = stays_through w new s p.path (version_text p.version) es answers kept.seen stands run kept.is_seen;
-  is_offered = kept.is_offered;
+pub still_served : (w new : World) (s : List ℕ) (p : Publish) (es : List Event) (answers : List Answer) → map.contains_key w.shelves s ≡ true → Run w es answers new → IsServed w s p → IsServed new s p
+still_served w new s p es answers stands run served = record {
+  passing = served.passing;
+  seen = served.seen;
+  is_seen = stays_through w new s p.path (version_text p.version) es answers served.seen stands run served.is_seen;
+  is_offered = served.is_offered;
 }
 
 -- the decision on a publish that was made
@@ -161,15 +161,15 @@ pub decided_of : (x y : Decision) → reply.Decided x ≡ reply.Decided y → x 
 decided_of x y e = cc
 
 -- what was accepted by a key of s is what s sees after it
-pub kept_first : (w : World) (s k : List ℕ) (p : Publish) (d : Decision) → belongs w k s
-    → reply.Decided d ≡ reply.Decided (decision w (map.get w.keys k) p) → IsAccepted d → Kept (after w (Asked (Put k p))) s p
-kept_first w s k p d own told yes_it_is =
+pub served_first : (w : World) (s k : List ℕ) (p : Publish) (d : Decision) → belongs w k s
+    → reply.Decided d ≡ reply.Decided (decision w (map.get w.keys k) p) → IsAccepted d → IsServed (after w (Asked (Put k p))) s p
+served_first w s k p d own given yes_it_is =
     let h = own.0 in
-    let is : d ≡ decision w (map.get w.keys k) p = decided_of d _ told in
+    let is : d ≡ decision w (map.get w.keys k) p = decided_of d _ given in
     let is_h : decision w (Some h) p ≡ d = sym (is ∙ ap (λ o. decision w o p) own.1) in
     let after_is : after w (Asked (Put k p)) ≡ after_decision w (Some h) p d =
     ap (λ o. after_decision w o p (decision w o p)) own.1 ∙ ap (λ y. after_decision w (Some h) p y) is_h in
-    subst (λ y. Kept y s p) (sym after_is) (subst (λ t. Kept (after_decision w (Some h) p d) t p) own.2 (kept_accepted w h p d is_h yes_it_is))
+    subst (λ y. IsServed y s p) (sym after_is) (subst (λ t. IsServed (after_decision w (Some h) p d) t p) own.2 (served_accepted w h p d is_h yes_it_is))
 
 same_body : (p : Publish) (b : Body) (e : Entry) → p.body ≡ Some b → offered p ≡ Some e → e ≡ entry_of p b
 same_body p b e body offer = some_same _ _ (sym offer ∙ ap (option_map (entry_of p)) body)
@@ -177,23 +177,23 @@ same_body p b e body offer = some_same _ _ (sym offer ∙ ap (option_map (entry_
     some_same : (x y : Entry) → Some x ≡ Some y → x ≡ y
     some_same x y e = cc
 
--- if s sees a publish as it was handed in, the query for one of its parts gets the reply that has it
-answered_with : (w : World) (s : List ℕ) (p : Publish) (b : Body) (q : Query) (r : Reply) → Kept w s p → p.body ≡ Some b → asks_back p b q r → query_reply w s q ≡ r
-answered_with w s p b (query.GoMod path version) r kept body back =
-    ap (λ x. gomod_reply (heading w s x (version_text version))) back.0 ∙ ap (λ x. gomod_reply (heading w s p.path (version_text x))) back.1 ∙ ap (λ o. gomod_reply (without_zip o)) kept.is_seen
-    ∙ ap (λ (e : Entry). reply.GoMod e.gomod) (same_body p b kept.seen.entry body kept.is_offered) ∙ sym back.2
-answered_with w s p b (query.Zip path version) r kept body back =
-    ap (λ x. zip_reply (view w s x (version_text version))) back.0 ∙ ap (λ x. zip_reply (view w s p.path (version_text x))) back.1 ∙ ap zip_reply kept.is_seen
-    ∙ ap (λ (e : Entry). reply.Zip e.zip) (same_body p b kept.seen.entry body kept.is_offered) ∙ sym back.2
-answered_with w s p b (query.Info path version) r kept body back =
+-- if s sees a publish as it was handed in, the query for its go.mod, its zip or its time gets the reply that has it
+answered_with : (w : World) (s : List ℕ) (p : Publish) (b : Body) (q : Query) (r : Reply) → IsServed w s p → p.body ≡ Some b → asks_back p b q r → query_reply w s q ≡ r
+answered_with w s p b (query.GoMod path version) r served body back =
+    ap (λ x. gomod_reply (heading w s x (version_text version))) back.0 ∙ ap (λ x. gomod_reply (heading w s p.path (version_text x))) back.1 ∙ ap (λ o. gomod_reply (without_zip o)) served.is_seen
+    ∙ ap (λ (e : Entry). reply.GoMod e.gomod) (same_body p b served.seen.entry body served.is_offered) ∙ sym back.2
+answered_with w s p b (query.Zip path version) r served body back =
+    ap (λ x. zip_reply (view w s x (version_text version))) back.0 ∙ ap (λ x. zip_reply (view w s p.path (version_text x))) back.1 ∙ ap zip_reply served.is_seen
+    ∙ ap (λ (e : Entry). reply.Zip e.zip) (same_body p b served.seen.entry body served.is_offered) ∙ sym back.2
+answered_with w s p b (query.Info path version) r served body back =
     ap (λ x. info_reply version (heading w s x (version_text version))) back.0
-    ∙ ap (λ x. info_reply version (heading w s p.path (version_text x))) back.1 ∙ ap (λ o. info_reply version (without_zip o)) kept.is_seen
-    ∙ ap (λ (e : Entry). reply.Info version e.time) (same_body p b kept.seen.entry body kept.is_offered) ∙ sym back.2
-answered_with w s p b q r kept body back = absurd back
+    ∙ ap (λ x. info_reply version (heading w s p.path (version_text x))) back.1 ∙ ap (λ o. info_reply version (without_zip o)) served.is_seen
+    ∙ ap (λ (e : Entry). reply.Info version e.time) (same_body p b served.seen.entry body served.is_offered) ∙ sym back.2
+answered_with w s p b q r served body back = absurd back
 
 pub accepted_is_served : AcceptedIsServed
 accepted_is_served old mid new s k later p b d q r events answers (Failed fault) world own body yes_it_is run own_later back again = inr tt
 accepted_is_served old mid new s k later p b d q r events answers (Replied x) world own body yes_it_is run own_later back again =
     let stands = (stands_after old s (Asked (Put k p)) (shelf_stands old s k world own)).stands in
-    let kept = kept_through (after old (Asked (Put k p))) mid s p events answers stands run.1 (kept_first old s k p d own run.0 yes_it_is) in
-    inl (ap Replied (again.0 ∙ by_key mid s later q own_later ∙ answered_with mid s p b q r kept body back))
+    let served = still_served (after old (Asked (Put k p))) mid s p events answers stands run.1 (served_first old s k p d own run.0 yes_it_is) in
+    inl (ap Replied (again.0 ∙ by_key mid s later q own_later ∙ answered_with mid s p b q r served body back))

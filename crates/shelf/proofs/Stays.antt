@@ -92,9 +92,9 @@ stays_on w (u ∷ us) t p v e seen nested none found =
           let never : None ≡ Some seen = sym is_none ∙ found in
           cc
       | false ↦ λ other.
-          let kept : map.get (map.insert w.entries (place t p v) e) (place u p v) ≡ map.get w.entries (place u p v) =
+          let unchanged : map.get (map.insert w.entries (place t p v) e) (place u p v) ≡ map.get w.entries (place u p v) =
           get_elsewhere places_total places_exact w.entries (place t p v) e (place u p v) (λ i. text_apart u t other (ap (λ (q : Place). q.shelf) i)) in
-          ap (λ o. option_or (seen_at o u) (first_on (with_entry w (place t p v) e) us p v)) kept
+          ap (λ o. option_or (seen_at o u) (first_on (with_entry w (place t p v) e) us p v)) unchanged
           ∙ elim (map.get w.entries (place u p v))
           as (λ o. option_or (seen_at o u) (first_on w us p v) ≡ Some seen → option_or (seen_at o u) (first_on (with_entry w (place t p v) e) us p v) ≡ Some seen) [
             | None ↦ λ rest. stays_on w us t p v e seen nested.1 none rest

@@ -13,7 +13,7 @@ use Rattle.world.specs.declared.entry.Right.{Right}
 use Rattle.world.specs.declared.registry.Registered.{Registered}
 use Rattle.world.specs.declared.registry.Registered.TheVariants.{Done, Name, Taken, NoTeam}
 use Rattle.world.specs.Groups.{HasNoGroup}
-use Rattle.world.specs.Kept.{with_texts}
+use Rattle.world.specs.FinMaps.{with_texts}
 use Rattle.world.specs.Latest.{module_of, highest, highest_left}
 use Rattle.world.specs.Latest as latest
 use Rattle.world.specs.Lines.{in_order}
@@ -157,30 +157,30 @@ module _ (w : World) (is : IsWorld w) (none : HasNoGroup w) (names : set.FinSet 
 
     -- ---- each event
 
-    abbrev Told : Event → Type 0
-    Told e = (machine.reply_to w (event_in e) ≡ alone.reply_to u e) × IsOf (alone.after u e) (machine.after w (event_in e))
+    abbrev AsAlone : Event → Type 0
+    AsAlone e = (machine.reply_to w (event_in e) ≡ alone.reply_to u e) × IsOf (alone.after u e) (machine.after w (event_in e))
 
     -- to each event the machine replies as the one without groups, and leads to what that one leads to
-    told : (e : Event) → Told e
-    told (Asked Unreadable) = (refl, is_of)
-    told (Asked (Get k q)) = (same_keyed (map.get w.keys k) q, is_of)
-    told (Asked (Put k p)) =
+    as_alone : (e : Event) → AsAlone e
+    as_alone (Asked Unreadable) = (refl, is_of)
+    as_alone (Asked (Get k q)) = (same_keyed (map.get w.keys k) q, is_of)
+    as_alone (Asked (Put k p)) =
         let same = same_decision (map.get w.keys k) p in (
           ap (λ (d : Decision). reply.Decided d) same,
           subst (λ d. IsOf (alone.after_decision u (map.get w.keys k) p (alone.decision u (map.get w.keys k) p)) (machine.after_decision w (map.get w.keys k) p d)) (sym same)
               (of_decided (map.get w.keys k) p (alone.decision u (map.get w.keys k) p)),
         )
-    told (TeamAdd t) =
+    as_alone (TeamAdd t) =
         let same = same_team t in (
           ap (λ (r : Registered). reply.Registry r) same,
           subst (λ r. IsOf (alone.after_team_add u t (alone.team_added u t)) (registry.after_team_add w t None r)) (sym same) (of_team t (alone.team_added u t)),
         )
-    told (KeyAdd t k right) =
+    as_alone (KeyAdd t k right) =
         let same = same_key t k in (
           ap (λ (r : Registered). reply.Registry r) same,
           subst (λ r. IsOf (alone.after_key_add u t k right (alone.key_added u t k)) (registry.after_key_add w t k right r)) (sym same) (of_key t k right (alone.key_added u t k)),
         )
-    told (KeyRevoke k) = (refl, of_revoke k (registry.key_revoked w k))
+    as_alone (KeyRevoke k) = (refl, of_revoke k (registry.key_revoked w k))
 
 -- ---- the laws
 
@@ -196,7 +196,7 @@ same_record u w keys entries =
 pub replies_without_groups : RepliesWithoutGroups
 replies_without_groups u w e is of =
     subst (λ x. (machine.reply_to w (event_in e) ≡ alone.reply_to x e) × IsOf (alone.after x e) (machine.after w (event_in e)))
-    (sym (same_record u w of.keys of.entries)) (told w is of.none u.shelves of.names e)
+    (sym (same_record u w of.keys of.entries)) (as_alone w is of.none u.shelves of.names e)
 
 pub lists_without_groups : ListsWithoutGroups
 lists_without_groups u w [] is of = (refl, of)

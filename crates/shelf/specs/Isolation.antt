@@ -41,14 +41,14 @@ abbrev pub is_near_key : World → List (List ℕ) → Option (List ℕ) → Boo
 is_near_key w ss None = true
 is_near_key w ss (Some k) = is_near ss (map.get w.keys k)
 
--- whether an event is kept: it is no request with a key that belongs to another shelf than these
-abbrev pub is_kept : World → List (List ℕ) → Event → Bool
-is_kept w ss e = is_near_key w ss (asking_key e)
+-- whether an event remains after a purge: it is no request with a key that belongs to another shelf than these
+abbrev pub is_remaining : World → List (List ℕ) → Event → Bool
+is_remaining w ss e = is_near_key w ss (asking_key e)
 
--- for each event whether it is kept, in the world at its moment
-abbrev pub kept : World → List (List ℕ) → List Event → List Bool
-kept w ss [] = []
-kept w ss (e ∷ es) = is_kept w ss e ∷ kept (after w e) ss es
+-- for each event whether it remains, in the world at its moment
+abbrev pub remaining : World → List (List ℕ) → List Event → List Bool
+remaining w ss [] = []
+remaining w ss (e ∷ es) = is_remaining w ss e ∷ remaining (after w e) ss es
 
 -- the items whose mark is true
 abbrev pub marked : {A : Type 0} → List Bool → List A → List A
@@ -58,7 +58,7 @@ marked marks xs = []
 
 -- the events without the requests of other shelves than these
 abbrev pub purge : World → List (List ℕ) → List Event → List Event
-purge w ss es = marked (kept w ss es) es
+purge w ss es = marked (remaining w ss es) es
 
 -- The worlds have one registry, and equal entries on each of these shelves.
 pub record Agree (w x : World) (ss : List (List ℕ)) : Type 0 where
@@ -67,26 +67,26 @@ pub record Agree (w x : World) (ss : List (List ℕ)) : Type 0 where
   pub seen : (t : List ℕ) → is_among ss t ≡ true → (p v : List ℕ) → map.get w.entries (place t p v) ≡ map.get x.entries (place t p v)
 
 -- A shelf gets the replies that it would get without the requests made with keys of shelves that it does not see: in each run,
--- the replies to the kept events are those of the machine over the purged list, from this world or from one that agrees with it
+-- the replies to the remaining events are those of the machine over the purged list, from this world or from one that agrees with it
 -- on what the shelf sees. The worlds after them agree again.
 abbrev pub IsIsolated : Type 0
 IsIsolated =
     (old old_too new : World) (s : List ℕ) (events : List Event) (answers : List Answer) → IsWorld old → Agree old old_too (chain new s)
     → Run old events answers new → let asked : List Event = purge old (chain new s) (answered events answers) in
-    (marked (kept old (chain new s) (answered events answers)) (replies_of answers) ≡ replies old_too asked)
+    (marked (remaining old (chain new s) (answered events answers)) (replies_of answers) ≡ replies old_too asked)
     × Agree new (after_all old_too asked) (chain new s)
 
 -- ---- two runs
 
--- the event was answered, if it is kept
-abbrev pub IsAnsweredIfKept : Bool → Answer → Type 0
-IsAnsweredIfKept true (Failed fault) = ⊥
-IsAnsweredIfKept mark a = Unit {0}
+-- the event was answered, if it remains
+abbrev pub IsAnsweredIfItRemains : Bool → Answer → Type 0
+IsAnsweredIfItRemains true (Failed fault) = ⊥
+IsAnsweredIfItRemains mark a = Unit {0}
 
--- each kept event was answered
-abbrev pub KeptAnswered : World → List (List ℕ) → List Event → List Answer → Type 0
-KeptAnswered w ss (e ∷ es) (a ∷ answers) = IsAnsweredIfKept (is_kept w ss e) a × KeptAnswered (after w e) ss es answers
-KeptAnswered w ss es answers = Unit {0}
+-- each remaining event was answered
+abbrev pub RemainingAnswered : World → List (List ℕ) → List Event → List Answer → Type 0
+RemainingAnswered w ss (e ∷ es) (a ∷ answers) = IsAnsweredIfItRemains (is_remaining w ss e) a × RemainingAnswered (after w e) ss es answers
+RemainingAnswered w ss es answers = Unit {0}
 
 -- the event was answered
 abbrev pub IsReplied : Answer → Type 0
@@ -98,43 +98,44 @@ abbrev pub AllReplied : List Answer → Type 0
 AllReplied [] = Unit {0}
 AllReplied (a ∷ answers) = IsReplied a × AllReplied answers
 
--- If no kept event met a fault, purging the events gives the list that purging only the answered events gives.
+-- If no remaining event met a fault, purging the events gives the list that purging only the answered events gives.
 abbrev pub PurgeIsTheSame : Type 0
 PurgeIsTheSame =
     (old new : World) (s : List ℕ) (events : List Event) (answers : List Answer) → IsWorld old → Run old events answers new
-    → KeptAnswered old (chain new s) events answers
+    → RemainingAnswered old (chain new s) events answers
     → purge old (chain new s) events ≡ purge old (chain new s) (answered events answers)
 
--- From worlds that agree on what the shelf sees, a run over a list and a run without faults over the purged list answer the kept
+-- From worlds that agree on what the shelf sees, a run over a list and a run without faults over the purged list answer the remaining
 -- events alike, if none of these met a fault, and end in worlds that agree. Faults of the other events do not matter.
 abbrev pub PurgedRunsAgree : Type 0
 PurgedRunsAgree =
     (old old_too new new_too : World) (s : List ℕ) (events : List Event) (answers purged : List Answer) → IsWorld old
-    → Agree old old_too (chain new s) → Run old events answers new → KeptAnswered old (chain new s) events answers
+    → Agree old old_too (chain new s) → Run old events answers new → RemainingAnswered old (chain new s) events answers
     → Run old_too (purge old (chain new s) events) purged new_too → AllReplied purged
-    → (marked (kept old (chain new s) events) answers ≡ purged) × Agree new new_too (chain new s)
+    → (marked (remaining old (chain new s) events) answers ≡ purged) × Agree new new_too (chain new s)
 
 -- Two runs from one world, after which a shelf sees the same shelves and whose answered events are equal once purged, give the
--- kept events equal replies.
+-- remaining events equal replies.
 abbrev pub FaultyRunsAgree : Type 0
 FaultyRunsAgree =
     (old one two : World) (s : List ℕ) (first second : List Event) (told heard : List Answer) → IsWorld old
     → Run old first told one → Run old second heard two → chain one s ≡ chain two s
     → purge old (chain one s) (answered first told) ≡ purge old (chain two s) (answered second heard)
-    → marked (kept old (chain one s) (answered first told)) (replies_of told)
-    ≡ marked (kept old (chain two s) (answered second heard)) (replies_of heard)
+    → marked (remaining old (chain one s) (answered first told)) (replies_of told)
+    ≡ marked (remaining old (chain two s) (answered second heard)) (replies_of heard)
 
 -- ---- what is purged
 
 -- There is a mark for each event.
 abbrev pub MarksAreAsLong : Type 0
-MarksAreAsLong = (w : World) (ss : List (List ℕ)) (es : List Event) → length (kept w ss es) ≡ length es
+MarksAreAsLong = (w : World) (ss : List (List ℕ)) (es : List Event) → length (remaining w ss es) ≡ length es
 
--- Each mark says whether its event is kept in the world at its moment.
+-- Each mark says whether its event remains in the world at its moment.
 abbrev pub MarksAreAtTheirMoment : Type 0
 MarksAreAtTheirMoment =
-    (w : World) (ss : List (List ℕ)) (before : List Event) (e : Event) (rest : List Event)
-    → kept w ss (before ++ e ∷ rest) ≡ kept w ss before ++ is_kept (after_all w before) ss e ∷ kept (after (after_all w before) e) ss rest
+    (w : World) (ss : List (List ℕ)) (past : List Event) (e : Event) (rest : List Event)
+    → remaining w ss (past ++ e ∷ rest)
+    ≡ remaining w ss past ++ is_remaining (after_all w past) ss e ∷ remaining (after (after_all w past) e) ss rest
 
 -- a request with a key that belongs to another shelf than these
 abbrev pub IsOfOthers : World → List (List ℕ) → Event → Type 0
@@ -142,9 +143,9 @@ IsOfOthers w ss e = (k : List ℕ) × (h : Holder) × (asking_key e ≡ Some k) 
 
 -- An event is dropped exactly if it is a request with a key that belongs to another shelf than these.
 abbrev pub OnlyOthersGo : Type 0
-OnlyOthersGo = (w : World) (ss : List (List ℕ)) (e : Event) → (is_kept w ss e ≡ false) ↔ IsOfOthers w ss e
+OnlyOthersGo = (w : World) (ss : List (List ℕ)) (e : Event) → (is_remaining w ss e ≡ false) ↔ IsOfOthers w ss e
 
--- ---- what a shelf can tell apart
+-- ---- what a shelf can distinguish
 
 -- The worlds are the same to s: s sees the same shelves, with the same entries, and with the same keys and rights.
 pub record Low (w x : World) (s : List ℕ) : Type 0 where

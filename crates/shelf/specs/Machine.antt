@@ -135,13 +135,13 @@ gomod_checks p reading =
     ∷ []
 
 -- the answer to an entry that may not stand, by its first check that fails
-abbrev pub told : Misfit → Decision
-told misfit.TooLarge = TooLarge
-told misfit.Version = Refused refusal.MajorMismatch
-told misfit.Time = Refused refusal.TimeMismatch
-told (misfit.GoMod line) = Refused (refusal.BadGoMod line)
-told misfit.ModulePath = Refused refusal.ModulePath
-told misfit.NotBare = Refused refusal.IncompatibleGoMod
+abbrev pub decision_of : Misfit → Decision
+decision_of misfit.TooLarge = TooLarge
+decision_of misfit.Version = Refused refusal.MajorMismatch
+decision_of misfit.Time = Refused refusal.TimeMismatch
+decision_of (misfit.GoMod line) = Refused (refusal.BadGoMod line)
+decision_of misfit.ModulePath = Refused refusal.ModulePath
+decision_of misfit.NotBare = Refused refusal.IncompatibleGoMod
 
 -- the result of reading the go.mod of a publish, if its body splits into two files
 abbrev pub gomod_of : Publish → Option Reading

@@ -9,7 +9,7 @@ use Rattle.world.specs.declared.entry.Heading.{Heading}
 use Rattle.world.specs.declared.entry.Holder.{Holder}
 use Rattle.world.specs.declared.reading.Reading.{Reading}
 use Rattle.world.specs.declared.standing.Standing.TheVariants as standing
-use Rattle.world.specs.GoMods.{reading_by, module_told}
+use Rattle.world.specs.GoMods.{reading_by, module_in}
 use Rattle.world.specs.Latest.{highest, highest_left}
 use Rattle.world.specs.Versions.{versions_of}
 use Rattle.world.specs.World.{World, IsWorldBy, heading, count}
@@ -32,7 +32,7 @@ use Rattle.shelf.specs.Machine.{after, after_decision, decided, latest_reply, qu
 -- what the go.mod of a version says by these keywords, if it reads
 abbrev pub module_by : Keywords → Option Heading → Option GoModule
 module_by known None = None
-module_by known (Some shown) = module_told (reading_by known shown.gomod)
+module_by known (Some shown) = module_in (reading_by known shown.gomod)
 
 -- the highest version that the go.mod of this version, the highest, does not retract, by these keywords
 abbrev pub left_by : Keywords → World → List ℕ → List ℕ → Option SemanticVersion → Option SemanticVersion

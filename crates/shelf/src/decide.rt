@@ -35,12 +35,12 @@ pub fn gomod_refusal(publish: &Publish, gomod: &Reading) -> Option<Decision>
     ensures { result ≡ spec.first_failing (spec.gomod_checks publish.now (Some gomod.now)) }
 {
     let misfit = module_misfit(&publish.path, &publish.version, gomod)?;
-    Some(told(misfit))
+    Some(decision_of(misfit))
 }
 
 /// Returns the answer to an entry that may not stand.
-fn told(misfit: Misfit) -> Decision
-    ensures { result ≡ spec.told misfit }
+fn decision_of(misfit: Misfit) -> Decision
+    ensures { result ≡ spec.decision_of misfit }
 {
     match misfit {
         Misfit::TooLarge => Decision::TooLarge,
@@ -84,7 +84,7 @@ fn entry_refusal(publish: &Publish) -> Option<Decision>
     // An entry whose given time is malformed has the time of its stamp, or none, so no check of its time fails.
     let is_bad = is_bad_time(publish.time);
     if let Some(misfit) = own_misfit(&publish.path, &publish.version, &entry) {
-        return Some(told(misfit));
+        return Some(decision_of(misfit));
     }
     if is_bad {
         return Some(Decision::Refused(Refusal::BadTime));

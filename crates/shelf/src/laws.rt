@@ -28,8 +28,8 @@ pub fn isolation()
     ensures { IsIsolated }
 {}
 
-/// A run over all events and a run over the purged list answer the kept events alike, unless one of these met a fault, and
-/// end in worlds that agree. Two runs whose answered events are equal after the purge give the kept ones equal replies.
+/// A run over all events and a run over the purged list answer the remaining events alike, unless one of these met a fault, and
+/// end in worlds that agree. Two runs whose answered events are equal after the purge give the remaining ones equal replies.
 pub fn runs_agree()
     ensures purged { PurgedRunsAgree }
     ensures faulty { FaultyRunsAgree }
@@ -114,7 +114,7 @@ pub fn latest_version()
 /// reads by the profile in force is the machine of this crate.
 pub fn profile_2_keeps_answers()
     ensures in_force { ProfileInForceIsTheMachine }
-    ensures kept { Profile2KeepsAnswers }
+    ensures answers { Profile2KeepsAnswers }
 {}
 
 /// In a world without groups, the machine replies to an event that names no group, and to a list of such events, as a machine

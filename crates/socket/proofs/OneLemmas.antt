@@ -60,10 +60,10 @@ module _ {P : Type 0} (unread written : P → Option (List ℕ)) where
     there = (takes, inr ended);
     through = through;
   }
-  answered old new peer after (Err io.Read) (got, consumed, unfinished, through, kept) = record {
+  answered old new peer after (Err io.Read) (got, consumed, unfinished, through, same) = record {
     visit = record { before = peer; after = after; first = None };
     begins = refl;
-    there = kept;
+    there = same;
     through = through;
   }
   answered old new peer after (Err io.Write) (first, takes, through, ended) = record {

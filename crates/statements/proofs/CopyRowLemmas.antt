@@ -223,8 +223,8 @@ pieces_copied Fits shelf db fresh after rows read passed =
       rows = adds_as piece_read _ _ (fresh 8) (after 8)
           (λ values it.
           let from = found.sound it.0 it.1 in
-          let parts = and_parts _ _ from.4 in
-          (from.0, from.2, equals_text (column from.0 2) shelf (and_parts _ _ parts.1).0, (from.1, has_kept (is_of from.0) (db.trees 8) from.1 from.3 parts.0, it.2 ∙ ap piece_cut from.5)))
+          let sides = and_parts _ _ from.4 in
+          (from.0, from.2, equals_text (column from.0 2) shelf (and_parts _ _ sides.1).0, (from.1, has_kept (is_of from.0) (db.trees 8) from.1 from.3 sides.0, it.2 ∙ ap piece_cut from.5)))
           (λ values on.
           let passed = has_filtered (is_of on.0) (db.trees 8) on.3.0 on.3.1 in
           (piece_read on.3.0, found.complete on.0 on.3.0 on.1 passed.0 (and_from _ _ passed.1 (and_from _ _ (ap (λ v. equal Binary v (Text shelf)) on.2 ∙ equals_itself shelf) refl)), on.3.2))

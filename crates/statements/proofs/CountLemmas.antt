@@ -134,8 +134,8 @@ module _ (s p : List ℕ) (w : World) (db : Trees) (means : Means db w) where
 
   passes_own : (q : Place) (row : Row) → IsAt row q → is_on s p q ≡ true → passes by_path (path_params s p) row ≡ true
   passes_own q row at h =
-      let parts = and_parts _ _ h in
-      rw (at.0, at.1, text_same q.shelf s parts.0, text_same q.path p parts.1, equals_itself s, equals_itself p) refl
+      let sides = and_parts _ _ h in
+      rw (at.0, at.1, text_same q.shelf s sides.0, text_same q.path p sides.1, equals_itself s, equals_itself p) refl
 
   pub count_read : (base : Database) → base.trees ≡ db → IsWorld w → (row : Row) (n : ℕ) → Picks count_query (path_params s p) base (Some row) → column row 0 ≡ Int (pos n) → n ≡ count w s p
   count_read base has_db is row n picked shown =

@@ -28,7 +28,7 @@ use Rattle.sqlite_rules.proofs.ProbeLemmas.{mapped_has, has_mapped}
 use Rattle.tables.specs.Fit.{number_shown}
 use Rattle.tables.proofs.Ascending.{Adjacent, ascends, adjacent_among, has_permuted}
 use Rattle.tables.proofs.ListingLemmas.{listing, IsListing, is_listing, by_number, listed_rows, of_table, listed_in_order}
-use Rattle.tables.proofs.ValueLemmas.{equal_parts, int_itself, tied}
+use Rattle.tables.proofs.ValueLemmas.{equal_gives, int_itself, tied}
 use Rattle.statements.specs.Lookup.{lookup}
 use Rattle.statements.specs.Numbers.{last, first, HasNumber, IsBelowEach, LacksOrHasFirst, IsChosen}
 use Rattle.statements.proofs.LookupLemmas.{asks, Picks, picked_found}
@@ -50,7 +50,7 @@ PicksNumber q params db None = Picks q params db None
 -- ---- the last number
 
 same_int : (m n : ℤ) → equal Binary (Int m) (Int n) ≡ true → m ≡ n
-same_int m n h = int_cmp-IsAntisymmetric m n (sym (value_cmp-Int m n) ∙ tied _ (equal_parts (Int m) (Int n) h).2)
+same_int m n h = int_cmp-IsAntisymmetric m n (sym (value_cmp-Int m n) ∙ tied _ (equal_gives (Int m) (Int n) h).2)
 
 pub last_found : (db : Database) (found : Option ℤ) → PicksNumber last_query (Int last ∷ []) db found → Decides (is_some found) (HasNumber (db.trees 6) last)
 last_found db (Some n) shows =

@@ -57,9 +57,9 @@ module _ (id : ℤ) (n : ℕ) (db : Database) where
   pub piece_shown : (row : Option Row) → Picks piece_query piece_params db row → ShowsPiece db.trees id n row
   piece_shown (Some row) picked = λ zip is.
       let it = found (Some row) picked in
-      let parts = and_parts _ _ it.2 in
-      let tie : equal Binary (column it.0 2) (Int (pos n)) ≡ true = (and_parts _ _ parts.1).0 in
-      let own = is.each it.0 (has_kept (is_of_number id) (db.trees 8) it.0 it.1 parts.0) in
+      let sides = and_parts _ _ it.2 in
+      let tie : equal Binary (column it.0 2) (Int (pos n)) ≡ true = (and_parts _ _ sides.1).0 in
+      let own = is.each it.0 (has_kept (is_of_number id) (db.trees 8) it.0 it.1 sides.0) in
       let same : own.0 ≡ n = nat_of (ints_equal (pos own.0) (pos n) (ap (λ v. equal Binary v (Int (pos n))) (sym own.1.number) ∙ tie)) in
       (subst (HasPiece zip) same own.2, ap (λ (r : Row). column r 0) it.3 ∙ (own.1.bytes ∙ ap (λ m. Blob (piece zip m)) same))
   piece_shown None picked = λ zip is has.

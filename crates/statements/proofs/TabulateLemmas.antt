@@ -64,14 +64,14 @@ module _ (P : Row → Row → Type 0) (turned : (a b : Row) → P a b → P b a)
   all_put : (r : Row) (rows : List Row) → P r new → AllByRecursion (P r) rows → AllByRecursion (P r) (put_row new rows)
   all_put r rows first rest = all_from (P r) (put_row new rows) (λ x h. elim (put_has new rows x h) [ inl same ↦ subst (P r) (sym same) first | inr was ↦ all_has (P r) rows x rest was ])
 
-  abbrev placed : Ordering → Row → List Row → List Row
-  placed o r rows = match_ordering o (r ∷ put_row new rows) (new ∷ rows) (new ∷ r ∷ rows)
+  abbrev put_by : Ordering → Row → List Row → List Row
+  put_by o r rows = match_ordering o (r ∷ put_row new rows) (new ∷ rows) (new ∷ r ∷ rows)
 
   pub put_apart : (rows : List Row) → AllByRecursion (P new) rows → IsAscending P rows → IsAscending P (put_row new rows)
   put_apart [] apart up = (tt, tt)
   put_apart (r ∷ rows) apart up = go (value_cmp (rowid r) (rowid new)) (put_apart rows apart.1 up.1)
     where
-      go : (o : Ordering) → IsAscending P (put_row new rows) → IsAscending P (placed o r rows)
+      go : (o : Ordering) → IsAscending P (put_row new rows) → IsAscending P (put_by o r rows)
       go Less rest = (all_put r rows (turned new r apart.0) up.0, rest)
       go Equal rest = (apart.1, up.1)
       go Greater rest = (apart, up)

@@ -13,4 +13,4 @@ pub total_of_count : (w : World) (count : ℕ) (total : Option ℕ) → ((n : �
 total_of_count w count total exact is n kept = let it = exact n kept in below (map.len w.entries) n (it.0 ∙ is) it.1
 
 pub count_of_total : (w : World) (total : Option ℕ) (n m : ℕ) → total ≡ Some n → m ≡ min n most_counted → IsTotal w total → m ≡ versions_in w
-count_of_total w total n m kept told right = told ∙ ap (λ k. min k most_counted) (right n kept)
+count_of_total w total n m kept capped right = capped ∙ ap (λ k. min k most_counted) (right n kept)

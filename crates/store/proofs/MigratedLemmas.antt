@@ -39,25 +39,25 @@ use Rattle.store.proofs.StoreLemmas.{narrow}
 -- `MigratesRows` holds of a migration that is not whole, did not read the older store, and only read the fresh one
 pub unwritten : (s f g : State) (r : Result Migrated CopyError) → is_whole r ≡ false → Spares f g → (HasCleanDisk g → (x : World) → StandsFor f x → IfOk r (IsMigrated x))
     → IfErr r (HasOlderReason s s) → MigratesRows s s f g r
-unwritten s f g r part spares told cause = record {
+unwritten s f g r undone spares says cause = record {
   clean = omega arith;
   reads = λ ready. record { left = λ _ db may. may; outcome = λ clean. inl (unchanged_itself s (ready clean)); same = λ clean _. unchanged_itself s (ready clean) };
   clean_too = spares.clean;
   spares = λ _. spares;
-  told = told;
+  says = says;
   cause = λ _. cause;
-  at = λ clean good ready x stands. (x, inr (part, refl), subst (λ b. ChangesAt f g b x x) (sym part) (spared_at f g x x spares));
+  at = λ clean good ready x stands. (x, inr (undone, refl), subst (λ b. ChangesAt f g b x x) (sym undone) (spared_at f g x x spares));
 }
 
 old_or : (format : Format) (db : Database) (x w : World) (done : Bool) → x ≡ only_common → IsOfTables format db done w → IsOldOr db x done w
 old_or format db x w done blank (inl is) = inl (format, is)
 old_or format db x w done blank (inr rest) = inr (rest.0, rest.1 ∙ sym blank)
 
-told_blank : (r : Result Migrated CopyError) → r ≢ Ok NotEmpty → (x : World) → x ≡ only_common → IfOk r (IsMigrated x)
-told_blank (Ok Whole) some x is = is
-told_blank (Ok BadSchema) some x is = is
-told_blank (Ok NotEmpty) some x is = absurd (some refl)
-told_blank (Err e) some x is = tt
+says_blank : (r : Result Migrated CopyError) → r ≢ Ok NotEmpty → (x : World) → x ≡ only_common → IfOk r (IsMigrated x)
+says_blank (Ok Whole) some x is = is
+says_blank (Ok BadSchema) some x is = is
+says_blank (Ok NotEmpty) some x is = absurd (some refl)
+says_blank (Err e) some x is = tt
 
 -- the outcome is an error for a reason, if it is the error of the writing and that had a reason
 pub written_cause : (format : Format) (s t : State) (w : Result Bool CopyError) (r : Result Migrated CopyError)
@@ -80,7 +80,7 @@ module _ (format : Format) (s t f m g : State) (r : Result Migrated CopyError) (
     reads = λ ready. writes.reads (λ clean. (ready clean, schema));
     clean_too = let one = first.clean in let two = writes.clean_too in omega (arith, one, two);
     spares = λ hopeless. elim hopeless [ inl e ↦ absurd (some e) | inr foreign ↦ absurd (foreign format schema) ];
-    told = λ good x stands. told_blank r some x (blank_at_last good x stands).1;
+    says = λ good x stands. says_blank r some x (blank_at_last good x stands).1;
     cause = cause;
     at = λ clean good ready x stands.
         let is = blank_at_last good x stands in
@@ -112,7 +112,7 @@ at_end db old new kept kept_new n n_new x w (Ok u) none clean stands was change 
   ok = ((change.world stands.0, world_of db x w was), nothing_kept w kept_new none);
   err = tt;
   left = λ only. change.left clean stands.0 (narrow old x only);
-  kept = λ only db may. let it = change.alone refl clean stands.0 db may in (it.0, it.1, inl it.2);
+  alone = λ only db may. let it = change.alone refl clean stands.0 db may in (it.0, it.1, inl it.2);
 }
 at_end db old new kept kept_new n n_new x w (Err e) none clean stands was change tells = record {
   tells = tells;
@@ -121,7 +121,7 @@ at_end db old new kept kept_new n n_new x w (Err e) none clean stands was change
   ok = tt;
   err = ((change.world stands.0, stands.1), nothing_kept x kept_new none);
   left = λ only. change.left clean stands.0 (narrow old x only);
-  kept = λ _. tt;
+  alone = λ _. tt;
 }
 
 -- the result of the call follows from the outcome of the rows, and the fresh store caches nothing
@@ -145,24 +145,24 @@ module _ (s t f g : State) (kept kept_new : Kept) (n n_new : ℕ) (rows : Result
     at = λ clean good ready x so.
         let it = moved.at clean good ready x so.0 in
         at_end s.now f g kept kept_new n n_new x it.0 r none good so.0 (subst (λ b. IsOldOr s.now x b it.0) done it.1) (subst (λ b. ChangesAt f g b x it.0) done it.2)
-        (tells x (moved.told good x so.0));
+        (tells x (moved.says good x so.0));
   }
 
 -- `Tells` holds of each refusal that is a fault
-pub fault_told : (x : World) (e : Refusal) → e ≢ refusal.BadSchema → e ≢ refusal.NotEmpty → e ≢ refusal.NoTeam → Tells x (Err e)
-fault_told x refusal.Device a b c = tt
-fault_told x refusal.Memory a b c = tt
-fault_told x refusal.BadSchema a b c = absurd (a refl)
-fault_told x refusal.NotEmpty a b c = absurd (b refl)
-fault_told x refusal.NoTeam a b c = absurd (c refl)
+pub fault_tells : (x : World) (e : Refusal) → e ≢ refusal.BadSchema → e ≢ refusal.NotEmpty → e ≢ refusal.NoTeam → Tells x (Err e)
+fault_tells x refusal.Device a b c = tt
+fault_tells x refusal.Memory a b c = tt
+fault_tells x refusal.BadSchema a b c = absurd (a refl)
+fault_tells x refusal.NotEmpty a b c = absurd (b refl)
+fault_tells x refusal.NoTeam a b c = absurd (c refl)
 
 -- `Tells` holds of each refusal of an opening but `BadSchema`
-pub opening_told : (x : World) (e : Refusal) → IsOfOpening e → e ≢ refusal.BadSchema → Tells x (Err e)
-opening_told x refusal.Device of a = tt
-opening_told x refusal.Memory of a = tt
-opening_told x refusal.BadSchema of a = absurd (a refl)
-opening_told x refusal.NotEmpty of a = absurd of
-opening_told x refusal.NoTeam of a = absurd of
+pub opening_tells : (x : World) (e : Refusal) → IsOfOpening e → e ≢ refusal.BadSchema → Tells x (Err e)
+opening_tells x refusal.Device of a = tt
+opening_tells x refusal.Memory of a = tt
+opening_tells x refusal.BadSchema of a = absurd (a refl)
+opening_tells x refusal.NotEmpty of a = absurd of
+opening_tells x refusal.NoTeam of a = absurd of
 
 pub opening_some : (e : Refusal) → IsOfOpening e → e ≢ refusal.NotEmpty
 opening_some refusal.NotEmpty of same = of
@@ -171,11 +171,11 @@ opening_some refusal.Memory of same = cc
 opening_some refusal.BadSchema of same = cc
 opening_some refusal.NoTeam of same = of
 
-pub some_told : {X : Type 0} (e : Refusal) → e ≢ refusal.NotEmpty → ◌≡◌ {A = Result (Unit {0}) Refusal} (Err e) (Err refusal.NotEmpty) → X
-some_told e some same = let it : e ≡ refusal.NotEmpty = cc in absurd (some it)
+pub error_not_full : {X : Type 0} (e : Refusal) → e ≢ refusal.NotEmpty → ◌≡◌ {A = Result (Unit {0}) Refusal} (Err e) (Err refusal.NotEmpty) → X
+error_not_full e some same = let it : e ≡ refusal.NotEmpty = cc in absurd (some it)
 
-pub done_told : {X : Type 0} → ◌≡◌ {A = Result (Unit {0}) Refusal} (Ok tt) (Err refusal.NotEmpty) → X
-done_told same = absurd (never same)
+pub done_not_full : {X : Type 0} → ◌≡◌ {A = Result (Unit {0}) Refusal} (Ok tt) (Err refusal.NotEmpty) → X
+done_not_full same = absurd (never same)
   where
     never : ◌≡◌ {A = Result (Unit {0}) Refusal} (Ok tt) (Err refusal.NotEmpty) → ⊥
     never e = cc

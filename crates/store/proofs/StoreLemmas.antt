@@ -49,8 +49,8 @@ counted_on before now given fault r on counted =
 
 -- what holds of the answer holds of what was counted
 counted_ok : {T : Type 0} (given : Result T Error) (r : Result T StoreFault) (P : T → Type 0) → IfOk r (λ x. given ≡ Ok x) → IfOk given P → IfOk r P
-counted_ok given (Ok x) P same told = subst (λ g. IfOk g P) same told
-counted_ok given (Err e) P same told = tt
+counted_ok given (Ok x) P same holds = subst (λ g. IfOk g P) same holds
+counted_ok given (Err e) P same holds = tt
 
 not_ok : {T : Type 0} (given : Result T Error) → IsErr given → is_ok given ≡ false
 not_ok (Ok x) is = absurd (true≢false (sym is))
@@ -61,18 +61,18 @@ counted_end before now given (Ok x) counted = ap is_ok counted.ok
 counted_end before now given (Err e) counted = not_ok given counted.err
 
 -- an error is no answer
-pub none_told : {X : Type 0} (P : X → Type 0) (s : Result X StoreFault) → IsErr s → IfOk s P
-none_told P (Ok x) failed = absurd (true≢false (sym failed))
-none_told P (Err e) failed = tt
+pub no_answer : {X : Type 0} (P : X → Type 0) (s : Result X StoreFault) → IsErr s → IfOk s P
+no_answer P (Ok x) failed = absurd (true≢false (sym failed))
+no_answer P (Err e) failed = tt
 
 module _ {T : Type 0} (old new : State) (kept after : Kept) (before now : ℕ) where
   -- a read of the tables, which may cache what it found
   pub reads_keeping : (r : Result T StoreFault) (value : World → T) → Spares old new → HasCause (shown_with old kept before) (shown_with new after now) r
       → (HasCleanDisk new → (w : World) → StandsFor old w → AreKept w kept → IfOk r (λ x. x ≡ value w) × AreKept w after)
       → Reads (shown_with old kept before) (shown_with new after now) r value
-  reads_keeping r value spares cause told = record {
+  reads_keeping r value spares cause found = record {
     honest = was_clean old new spares.clean;
-    at = λ clean w stands. let it = told clean w stands.0 stands.1 in record {
+    at = λ clean w stands. let it = found clean w stands.0 stands.1 in record {
       answer = it.0;
       stays = ((spares.stays w stands.0.0, stands.0.1), it.1);
       left = λ x y only db may. only db (spares.left clean w stands.0.0 db may);
@@ -152,14 +152,14 @@ pub reads_counted_none : {T : Type 0} (old new : State) (kept : Kept) (before no
     → Spares old new → IsErr r × IsErrAnd r (λ e. e ≡ fault) → IsCounted before now given (Err fault) → Reads (shown_with old kept before) (shown_with new kept now) r value
 reads_counted_none old new kept before now given fault r value spares failed counted =
     reads old new kept before now r value spares (counted_cause _ _ given r (counted_on before now given fault r failed.1 counted))
-    (λ _ w _. none_told (λ x. x ≡ value w) r failed.0)
+    (λ _ w _. no_answer (λ x. x ≡ value w) r failed.0)
 
 -- a read of what is cached, with no call on the tables
 pub reads_kept : {T : Type 0} (old : State) (kept after : Kept) (count : ℕ) (x : T) (value : World → T)
     → ((w : World) → AreKept w kept → (x ≡ value w) × AreKept w after) → Reads (shown_with old kept count) (shown_with old after count) (Ok x) value
-reads_kept old kept after count x value told = record {
+reads_kept old kept after count x value found = record {
   honest = λ clean. clean;
-  at = λ clean w stands. let it = told w stands.1 in record { answer = it.0; stays = (stands.0, it.1); left = λ _ _ only. only };
+  at = λ clean w stands. let it = found w stands.1 in record { answer = it.0; stays = (stands.0, it.1); left = λ _ _ only. only };
   cause = answers _ _ x (omega arith);
 }
 
@@ -168,7 +168,7 @@ pub reads_then : {T : Type 0} (start : Shown) (new : State) (kept after : Kept) 
     → (HasCleanDisk new → (w : World) → start.stands w → AreKept w kept → AreKept w after) → Reads start (shown_with new after count) r value
 reads_then start new kept after count r value read right = record {
   honest = read.honest;
-  at = λ clean w stands. let told = read.at clean w stands in record { answer = told.answer; stays = (told.stays.0, right clean w stands told.stays.1); left = told.left };
+  at = λ clean w stands. let says = read.at clean w stands in record { answer = says.answer; stays = (says.stays.0, right clean w stands says.stays.1); left = says.left };
   cause = record { no_fewer = read.cause.no_fewer; device = read.cause.device };
 }
 
@@ -177,7 +177,7 @@ pub reads_as : {T U : Type 0} (start end : Shown) (f : T → U) (x : T) (y : U) 
     → Reads start end (Ok x) value → Reads start end (Ok y) other
 reads_as start end f x y value other made same read = record {
   honest = read.honest;
-  at = λ clean w stands. let told = read.at clean w stands in record { answer = made ∙ (ap f told.answer ∙ same w); stays = told.stays; left = told.left };
+  at = λ clean w stands. let says = read.at clean w stands in record { answer = made ∙ (ap f says.answer ∙ same w); stays = says.stays; left = says.left };
   cause = answers start end y read.cause.no_fewer;
 }
 
@@ -186,7 +186,7 @@ pub reads_failed : {T U : Type 0} (start end : Shown) (fault : StoreFault) (s : 
     → IsErr s × IsErrAnd s (λ e. e ≡ fault) → Reads start end (Err fault) value → Reads start end s other
 reads_failed start end fault s value other failed read = record {
   honest = read.honest;
-  at = λ clean w stands. let told = read.at clean w stands in record { answer = none_told (λ x. x ≡ other w) s failed.0; stays = told.stays; left = told.left };
+  at = λ clean w stands. let says = read.at clean w stands in record { answer = no_answer (λ x. x ≡ other w) s failed.0; stays = says.stays; left = says.left };
   cause = handed_on start end fault s failed.1 read.cause;
 }
 
@@ -196,9 +196,9 @@ pub reads_failed_next : {T U V : Type 0} (start mid end : Shown) (x : T) (fault 
 reads_failed_next start mid end x fault s value next other failed read then = record {
   honest = λ h. read.honest (then.honest h);
   at = λ h w stands.
-      let told = read.at (then.honest h) w stands in
-      let seen = then.at h w told.stays in
-      record { answer = none_told (λ y. y ≡ other w) s failed.0; stays = seen.stays; left = λ x y was. seen.left x y (told.left x y was) };
+      let says = read.at (then.honest h) w stands in
+      let seen = then.at h w says.stays in
+      record { answer = no_answer (λ y. y ≡ other w) s failed.0; stays = seen.stays; left = λ x y was. seen.left x y (says.left x y was) };
   cause = in_turn start mid end x s read.cause (handed_on mid end fault s failed.1 then.cause);
 }
 
@@ -208,9 +208,9 @@ pub reads_no_memory : {T U V : Type 0} (start mid end : Shown) (x : T) (y : U) (
 reads_no_memory start mid end x y s value next other failed read then = record {
   honest = λ h. read.honest (then.honest h);
   at = λ h w stands.
-      let told = read.at (then.honest h) w stands in
-      let seen = then.at h w told.stays in
-      record { answer = none_told (λ z. z ≡ other w) s failed.0; stays = seen.stays; left = λ x y was. seen.left x y (told.left x y was) };
+      let says = read.at (then.honest h) w stands in
+      let seen = then.at h w says.stays in
+      record { answer = no_answer (λ z. z ≡ other w) s failed.0; stays = seen.stays; left = λ x y was. seen.left x y (says.left x y was) };
   cause = in_turn start mid end x s read.cause (handed_on {T = ℕ} mid end Memory s failed.1 (lacks_memory mid end then.cause.no_fewer));
 }
 
@@ -219,7 +219,7 @@ pub reads_with_less : {T : Type 0} (old : State) (kept less : Kept) (count : ℕ
     → Reads (shown_with old less count) end r value → Reads (shown_with old kept count) end r value
 reads_with_less old kept less count end r value right read = record {
   honest = read.honest;
-  at = λ clean w stands. let told = read.at clean w (stands.0, right w stands.1) in record { answer = told.answer; stays = told.stays; left = told.left };
+  at = λ clean w stands. let says = read.at clean w (stands.0, right w stands.1) in record { answer = says.answer; stays = says.stays; left = says.left };
   cause = record { no_fewer = read.cause.no_fewer; device = read.cause.device };
 }
 
@@ -231,12 +231,12 @@ pub reads_along : {T : Type 0} (start : Shown) (mid new : State) (kept : Kept) (
 reads_along start mid new kept before now shelf group shelves given r value along read spares counted answer = record {
   honest = λ clean. read.honest (was_clean mid new spares.clean clean);
   at = λ clean w stands.
-      let told = read.at (was_clean mid new spares.clean clean) w stands in
-      let same : shelves ≡ chain w shelf = along ∙ ap (λ o. shelf ∷ above o) told.answer in
+      let says = read.at (was_clean mid new spares.clean clean) w stands in
+      let same : shelves ≡ chain w shelf = along ∙ ap (λ o. shelf ∷ above o) says.answer in
       record {
-        answer = subst (λ ss. IfOk r (λ x. x ≡ value w ss)) same (counted_ok given r (λ x. x ≡ value w shelves) counted.ok (answer clean w told.stays.0.0));
-        stays = ((spares.stays w told.stays.0.0, told.stays.0.1), told.stays.1);
-        left = λ x y only db may. told.left x y only db (spares.left clean w told.stays.0.0 db may);
+        answer = subst (λ ss. IfOk r (λ x. x ≡ value w ss)) same (counted_ok given r (λ x. x ≡ value w shelves) counted.ok (answer clean w says.stays.0.0));
+        stays = ((spares.stays w says.stays.0.0, says.stays.0.1), says.stays.1);
+        left = λ x y only db may. says.left x y only db (spares.left clean w says.stays.0.0 db may);
       };
   cause = in_turn start (shown_with mid kept before) (shown_with new kept now) group r read.cause (counted_cause _ _ given r counted);
 }

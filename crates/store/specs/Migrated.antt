@@ -65,7 +65,7 @@ pub record MigratesRows (old old_new fresh fresh_new : State) (result : Result M
   pub reads : IsOpenIfHonest old → IsReadBy old old_new (is_whole result)
   pub clean_too : doubt fresh.is_clean ≤ doubt fresh_new.is_clean
   pub spares : IsHopeless old.now result → Spares fresh fresh_new
-  pub told : HasCleanDisk fresh_new → (x : World) → StandsFor fresh x → IfOk result (IsMigrated x)
+  pub says : HasCleanDisk fresh_new → (x : World) → StandsFor fresh x → IfOk result (IsMigrated x)
   pub cause : HasCleanDisk old_new → IfErr result (HasOlderReason old old_new)
   pub at :
       HasCleanDisk old_new → HasCleanDisk fresh_new → IsOpenIfHonest old → (x : World) → StandsFor fresh x
@@ -92,7 +92,7 @@ pub record MigratesAt (db : Database) (old new : Shown) (x : World) (result : Re
   pub ok : OnOk result (new.stands world)
   pub err : OnErr result (new.stands x)
   pub left : old.leaves x x → new.leaves x world
-  pub kept : old.leaves x x → OnOk result (new.leaves world world)
+  pub alone : old.leaves x x → OnOk result (new.leaves world world)
 
 -- The older store is only read, and so is a fresh store that has more than `common`, or if the older tables are those of no older
 -- schema. For each world of the fresh store `MigratesAt` holds, if the disks have returned what was written.

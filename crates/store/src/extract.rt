@@ -17,7 +17,7 @@ use statements::extract_rows::CopyError;
 use world::registry::StoreFault;
 
 /// Returns the refusal for a fault of a store.
-pub(crate) fn told_as(fault: StoreFault) -> Refusal
+pub(crate) fn refusal_of(fault: StoreFault) -> Refusal
     ensures device { result ≡ Refusal.Device → fault ≡ StoreFault.Device }
     ensures named { (result ≢ Refusal.BadSchema) × (result ≢ Refusal.NotEmpty) × (result ≢ Refusal.NoTeam) }
 {
@@ -118,7 +118,7 @@ impl<S: Alter> SqlShelves<S> {
         ensures fills { Fills wanted.entry
             (shown_of (state S.Store self.old.conn)) (shown_of (state S.Store self.new.conn))
             (shown_of (state F.Store fresh.old.conn)) (shown_of (state F.Store fresh.new.conn)) result }
-        ensures kept { (self.new.kept ≡ self.old.kept) × (fresh.new.kept ≡ fresh.old.kept) }
+        ensures same { (self.new.kept ≡ self.old.kept) × (fresh.new.kept ≡ fresh.old.kept) }
         ensures cause { HasCauseInEither self.old.failures self.new.failures
             fresh.old.failures fresh.new.failures result }
     {
@@ -126,8 +126,8 @@ impl<S: Alter> SqlShelves<S> {
             Ok(Judged::Fit(_)) => Ok(()),
             Ok(Judged::NoTeam) => Err(Refusal::NoTeam),
             Ok(Judged::NotEmpty) => Err(Refusal::NotEmpty),
-            Err(CopyError::Source(error)) => Err(told_as(fault(&mut self.failures, error))),
-            Err(CopyError::Fresh(error)) => Err(told_as(fault(&mut fresh.failures, error))),
+            Err(CopyError::Source(error)) => Err(refusal_of(fault(&mut self.failures, error))),
+            Err(CopyError::Fresh(error)) => Err(refusal_of(fault(&mut fresh.failures, error))),
         }
     }
 }

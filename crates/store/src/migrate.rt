@@ -6,7 +6,7 @@ ghost use Rattle.migration.specs.Visits.{is_done};
 ghost use Rattle.store.specs.Shown.{shown_with};
 ghost use Rattle.store.specs.Migrated.{MigratesRows, Migrates, HasCauseInOne, is_whole};
 
-use crate::extract::told_as;
+use crate::extract::refusal_of;
 use crate::store::{SqlShelves, fault};
 use kept::kept::Kept;
 use migration::write::write_world;
@@ -30,7 +30,7 @@ pub(crate) enum Migrated {
 
 /// Returns the outcome of a migration by what `write_world` returned: rows that the fresh store refuses as a broken constraint
 /// are `BadSchema`, and any other error stays an error.
-fn told_of(written: Result<bool, CopyError>) -> Result<Migrated, CopyError>
+fn outcome_of(written: Result<bool, CopyError>) -> Result<Migrated, CopyError>
     ensures whole { is_whole result ≡ is_done written }
     ensures named { result ≢ Ok Migrated.NotEmpty }
     ensures failed { IfErr result (λ e. written ≡ Err e) }
@@ -64,7 +64,7 @@ fn migrate_rows<S: Alter, F: Alter>(
     let Some(format) = format_of(old.schema()) else {
         return Ok(Migrated::BadSchema);
     };
-    told_of(write_world(alloc, old, format, fresh))
+    outcome_of(write_world(alloc, old, format, fresh))
 }
 
 /// Copies all that a store of schema 1 or 2 has into the fresh store: each shelf but `common` becomes a team without a group.
@@ -90,6 +90,6 @@ pub fn migrate<S: Alter, F: Alter>(
         Ok(Migrated::NotEmpty) => Err(Refusal::NotEmpty),
         Ok(Migrated::BadSchema) => Err(Refusal::BadSchema),
         Err(CopyError::Source(error)) => Err(open_refusal(error)),
-        Err(CopyError::Fresh(error)) => Err(told_as(fault(&mut fresh.failures, error))),
+        Err(CopyError::Fresh(error)) => Err(refusal_of(fault(&mut fresh.failures, error))),
     }
 }

@@ -41,7 +41,7 @@ impl SqlShelves<MemStore> {
 
 impl<S: Alter> SqlShelves<S> {
     /// Closes a store and returns its connection, on which it makes no call: what was acknowledged is in the files already.
-    /// A crate that drops a store has to prove the dropping of all its parts, so callers drop the connection instead.
+    /// A crate that drops a store has to prove the dropping of all its fields, so callers drop the connection instead.
     pub fn close(self) -> Connection<S>
         ensures untouched { result ≡ self.conn }
     {

@@ -286,7 +286,7 @@ impl<S: Alter> SqlShelves<S> {
         ensures refused { IfErr result (λ e. IsOfOpening e.0) }
         ensures none_failed { IfOk result (λ s. s.failures ≡ 0) }
         // Where this is refused, the connection shows what it showed, and a crash leaves what it left before or the made tables.
-        ensures kept { IfErr result (λ e. Honestly (state S.Store conn) (state S.Store e.1) (λ old new.
+        ensures same { IfErr result (λ e. Honestly (state S.Store conn) (state S.Store e.1) (λ old new.
             IsTrue new.is_open → new.now ≡ old.now)) }
         ensures crash { IfErr result (λ e. Honestly (state S.Store conn) (state S.Store e.1) LeavesFirst) }
         ensures bad { IfErr result (λ e. Honestly (state S.Store conn) (state S.Store e.1) (λ old _.

@@ -20,7 +20,7 @@ use Rattle.world.specs.Names.{common, is_team_name, is_key, is_lower, is_digit}
 
 ascii_by : (p : ℕ → Bool) → ((b : ℕ) → p b ≡ true → b < 128) → (t : List ℕ) → list_all p t ≡ true → IsAscii t
 ascii_by p small [] h = IsAscii-nil
-ascii_by p small (b ∷ t) h = let parts = and_parts _ _ h in IsAscii-cons b t (small b parts.0) (ascii_by p small t parts.1)
+ascii_by p small (b ∷ t) h = let sides = and_parts _ _ h in IsAscii-cons b t (small b sides.0) (ascii_by p small t sides.1)
 
 below : (b : ℕ) → nat_lt b 128 ≡ true → b < 128
 below b h = ltb-true b 128 h
@@ -56,8 +56,8 @@ formed_ascii [] (b ∷ t) small h = absurd (true≢false (sym h))
 formed_ascii (f ∷ form) [] small h = absurd (true≢false (sym h))
 formed_ascii (f ∷ form) (b ∷ t) small h =
     let first = and_parts _ _ small in
-    let parts = and_parts _ _ h in
-    IsAscii-cons b t (digit_or_hex f b (below f first.0) parts.0) (formed_ascii form t first.1 parts.1)
+    let sides = and_parts _ _ h in
+    IsAscii-cons b t (digit_or_hex f b (below f first.0) sides.0) (formed_ascii form t first.1 sides.1)
 
 pub time_utf8 : (t : List ℕ) → IsTime t → IsUtf8 t
 time_utf8 t is = IsUtf8-from_ascii t (formed_ascii (codes "dddd-dd-ddTdd:dd:ddZ") t refl (time-form t is))
@@ -66,9 +66,9 @@ joined_ascii : (is : List (List ℕ)) → list_all is_identifier is ≡ true →
 joined_ascii [] h = IsAscii-nil
 joined_ascii (i ∷ []) h = ascii_by is_identifier_byte identifier_byte i (and_parts _ _ (and_parts _ _ (and_parts _ _ h).0).0).1
 joined_ascii (i ∷ j ∷ is) h =
-    let parts = and_parts _ _ h in
-    IsAscii-append i (46 ∷ join_with_byte 46 (j ∷ is)) (ascii_by is_identifier_byte identifier_byte i (and_parts _ _ (and_parts _ _ parts.0).0).1)
-    (IsAscii-cons 46 _ (omega arith) (joined_ascii (j ∷ is) parts.1))
+    let sides = and_parts _ _ h in
+    IsAscii-append i (46 ∷ join_with_byte 46 (j ∷ is)) (ascii_by is_identifier_byte identifier_byte i (and_parts _ _ (and_parts _ _ sides.0).0).1)
+    (IsAscii-cons 46 _ (omega arith) (joined_ascii (j ∷ is) sides.1))
 
 pre_release_ascii : (is : List (List ℕ)) → list_all is_identifier is ≡ true → IsAscii (pre_release_text is)
 pre_release_ascii [] h = IsAscii-nil

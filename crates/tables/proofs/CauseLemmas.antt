@@ -120,7 +120,7 @@ is_ascii t = list_all (λ b. nat_lt b 128) t
 
 all_ascii : (t : List ℕ) → is_ascii t ≡ true → IsAscii t
 all_ascii [] h = IsAscii-nil
-all_ascii (b ∷ t) h = let parts = and_parts _ _ h in IsAscii-cons b t (below b parts.0) (all_ascii t parts.1)
+all_ascii (b ∷ t) h = let sides = and_parts _ _ h in IsAscii-cons b t (below b sides.0) (all_ascii t sides.1)
 
 is_text : (t : List ℕ) → is_ascii t ≡ true → IsUtf8 t
 is_text t h = IsUtf8-from_ascii t (all_ascii t h)

@@ -73,7 +73,7 @@ is_on_itself : (q : Place) → is_on q.shelf q.path q ≡ true
 is_on_itself q = rw (text_self q.shelf, text_self q.path) refl
 
 same_path : (s p : List ℕ) (q : Place) → is_on s p q ≡ true → (q.shelf ≡ s) × (q.path ≡ p)
-same_path s p q h = let parts = and_parts _ _ h in (text_same q.shelf s parts.0, text_same q.path p parts.1)
+same_path s p q h = let sides = and_parts _ _ h in (text_same q.shelf s sides.0, text_same q.path p sides.1)
 
 many_same : (s p : List ℕ) (q : Place) (rows : List Row) → is_on s p q ≡ true → many_on q.shelf q.path rows ≡ many_on s p rows
 many_same s p q rows h =

@@ -26,7 +26,7 @@ use Rattle.sqlite_rules.proofs.RuleLemmas.{keeps_at}
 use Rattle.tables.specs.Schema.{store_schema, access_table, version_table, piece_table, given, refers}
 use Rattle.tables.specs.Means.{is_of}
 use Rattle.tables.specs.Fit.{text_in}
-use Rattle.tables.proofs.ValueLemmas.{tied, equals_text, equal_turned, equal_chain, equal_parts}
+use Rattle.tables.proofs.ValueLemmas.{tied, equals_text, equal_turned, equal_chain, equal_gives}
 
 -- ---- values of a type
 
@@ -54,7 +54,7 @@ same_int m n h = int_cmp-IsAntisymmetric m n (sym (value_cmp-Int m n) ∙ tied _
 
 -- numbers that SQL's = takes for equal are equal
 pub ints_equal : (m n : ℤ) → equal Binary (Int m) (Int n) ≡ true → m ≡ n
-ints_equal m n h = same_int m n (equal_parts (Int m) (Int n) h).2
+ints_equal m n h = same_int m n (equal_gives (Int m) (Int n) h).2
 
 -- what passes the check is 0 or 1
 zero_or_one : (n : ℤ) → not (is_false (binary Or (binary (Compare Eq Binary) (Int n) (Int (pos 0))) (binary (Compare Eq Binary) (Int n) (Int (pos 1))))) ≡ true

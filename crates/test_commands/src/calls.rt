@@ -12,7 +12,7 @@ use std::io::Read;
 use std::str::from_utf8;
 use std::test::Fail;
 use test_support::doubles::Sink;
-use test_support::rows::{part, with_lines};
+use test_support::rows::{cell, with_lines};
 use world::shelves::Shelves;
 
 /// Returns the first row of a script that is answered otherwise, or the empty text if each row has its own answer. A row is a
@@ -39,7 +39,7 @@ fn holds<S: Outlines, F: Sources>(
     files: &F,
     row: &str,
 ) -> Result<bool, Fail> {
-    let wanted = with_lines(alloc, part(row, 3))?;
+    let wanted = with_lines(alloc, cell(row, 3))?;
     Ok(answered(alloc, shelves, files, row)?.as_str() == wanted.as_str())
 }
 
@@ -50,8 +50,8 @@ fn answered<S: Outlines, F: Sources>(
     files: &F,
     row: &str,
 ) -> Result<String, Fail> {
-    let (key, asked) = (part(row, 1), part(row, 2));
-    match part(row, 0) {
+    let (key, asked) = (cell(row, 1), cell(row, 2));
+    match cell(row, 0) {
         "import" => import_file(alloc, shelves, files, key, asked),
         "inventory" => seen_by(alloc, shelves, key),
         "requires" => required(alloc, shelves, key, asked),

@@ -3,12 +3,12 @@ use commands::sources::{FilesInMemory, Sources};
 use std::alloc::{AllocError, Global};
 use std::str::from_utf8;
 use std::test::Fail;
-use test_support::rows::{part, with_lines};
+use test_support::rows::{cell, with_lines};
 
 /// Puts files, one a line: a name and its text, in which `;` is a newline.
 pub fn put(alloc: Global, files: &mut FilesInMemory, table: &str) -> Result<(), AllocError> {
     for row in table.lines() {
-        put_file(alloc, files, part(row, 0), part(row, 1))?;
+        put_file(alloc, files, cell(row, 0), cell(row, 1))?;
     }
     Ok(())
 }
@@ -24,7 +24,7 @@ fn put_file(
 }
 
 /// Returns the bytes under a name, at most one more than `most`, or why there are none.
-fn told<F: Sources>(alloc: Global, files: &F, name: &str, most: u32) -> Result<String, Fail> {
+fn read<F: Sources>(alloc: Global, files: &F, name: &str, most: u32) -> Result<String, Fail> {
     match files.bytes(name, u64::from(most)) {
         Ok(bytes) => Ok(String::from_str(alloc, from_utf8(bytes.as_slice())?)?),
         Err(fault) => Ok(format!(in alloc; "{fault:?}")?),
@@ -32,18 +32,18 @@ fn told<F: Sources>(alloc: Global, files: &F, name: &str, most: u32) -> Result<S
 }
 
 /// Reports whether a row's name has the bytes, or the fault, that the row says.
-fn is_told<F: Sources>(alloc: Global, files: &F, row: &str) -> Result<bool, Fail> {
-    let most = part(row, 1).parse::<u32>()?;
-    let wanted = with_lines(alloc, part(row, 2))?;
-    Ok(told(alloc, files, part(row, 0), most)?.as_str() == wanted.as_str())
+fn is_read<F: Sources>(alloc: Global, files: &F, row: &str) -> Result<bool, Fail> {
+    let most = cell(row, 1).parse::<u32>()?;
+    let wanted = with_lines(alloc, cell(row, 2))?;
+    Ok(read(alloc, files, cell(row, 0), most)?.as_str() == wanted.as_str())
 }
 
 /// Puts the file of a row with two columns and returns true. For a row with three, reports whether its name has what it says.
 fn holds(alloc: Global, files: &mut FilesInMemory, row: &str) -> Result<bool, Fail> {
     if row.split('|').count() == 3 {
-        return is_told(alloc, files, row);
+        return is_read(alloc, files, row);
     }
-    put_file(alloc, files, part(row, 0), part(row, 1))?;
+    put_file(alloc, files, cell(row, 0), cell(row, 1))?;
     Ok(true)
 }
 

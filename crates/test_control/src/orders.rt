@@ -93,8 +93,8 @@ bad||Io
 ||Io";
 
 /// Returns a column of a row, or the empty text if the row has no such column.
-fn column(row: &str, place: usize) -> &str {
-    row.split('|').nth(place).unwrap_or("")
+fn column(row: &str, index: usize) -> &str {
+    row.split('|').nth(index).unwrap_or("")
 }
 
 /// Returns the order of a number. No line can carry those from 4 on.

@@ -45,7 +45,7 @@ impl<'a> Job<'a> {
     }
 }
 
-/// Does the parts of a job whose bits are chosen, and returns the bits of those that were acknowledged.
+/// Does the pieces of a job whose bits are chosen, and returns the bits of those that were acknowledged.
 pub fn do_job<S: Alter>(
     alloc: Global,
     shelves: &mut SqlShelves<S>,
@@ -76,7 +76,7 @@ fn extracted<T: Alter, S: Alter>(
     Ok(u8::from(whole.extract("alpha", fresh).is_ok()))
 }
 
-/// Does a job that any shelves can do, and returns the bits of the parts that were acknowledged.
+/// Does a job that any shelves can do, and returns the bits of the pieces that were acknowledged.
 fn do_on_shelves<S: Shelves>(
     alloc: Global,
     shelves: &mut S,

@@ -6,10 +6,10 @@
 //! | `stops` | changes that a stop breaks off, and the worlds that the files may hold afterwards |
 //! | `sweep` | requests that a store answers while a file fails |
 //! | `jobs` | what is done with a store, as one type |
-//! | `open`, `files` | the store in two files that stop at some call: opened and closed at one place |
+//! | `open`, `files` | the store in two files that stop at some call: opened and closed at one spot |
 //! | `steps`, `import`, `requests`, `worlds` | what a job does, over any shelves |
 //!
-//! One place and one type of file keep the check short: each further one would be proved again, in a minute and with 2 GiB.
+//! One spot and one type of file keep the check short: each further one would be proved again, in a minute and with 2 GiB.
 #![tactic(auto)]
 
 #[cfg(test)]

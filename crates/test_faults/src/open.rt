@@ -1,7 +1,7 @@
 //! Stores over two files in memory, for which the machine stops at some call.
 //!
-//! Every store is opened and closed at one place, [`on_files`], and is closed rather than dropped: a function that drops a store has
-//! to prove the dropping of all its parts, at each of its exits.
+//! Every store is opened and closed at one spot, [`on_files`], and is closed rather than dropped: a function that drops a store has
+//! to prove the dropping of all its fields, at each of its exits.
 use crate::files::{Calls, Counted};
 use crate::jobs::{Job, do_job};
 use sqlite::{Alter, Connection, Files, Leftover, Options};

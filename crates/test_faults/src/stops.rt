@@ -51,7 +51,7 @@ fn is_among(worlds: &[String], acknowledged: u8, world: &str) -> bool {
 }
 
 /// Returns what was written, or what was synced if the rest is lost.
-fn kept(file: &Halted, is_lost: bool) -> &Memory {
+fn held(file: &Halted, is_lost: bool) -> &Memory {
     if is_lost { &file.synced } else { &file.written }
 }
 
@@ -69,8 +69,8 @@ fn is_right(alloc: Global, left: &Left, worlds: &[String]) -> Result<bool, Fail>
             continue;
         }
         let found = Found {
-            log: kept(&left.log, log_lost),
-            db: kept(&left.db, db_lost),
+            log: held(&left.log, log_lost),
+            db: held(&left.db, db_lost),
         };
         let world = world_of(alloc, found)?;
         if !is_among(worlds, left.acknowledged, world.as_str()) {
@@ -121,9 +121,9 @@ fn wrong_stops(alloc: Global, found: Found, job: &mut Job, all: u8) -> Result<&'
         return Ok("not all was done");
     }
     let of_log = whole.log.calls.writes.as_slice();
-    let told = wrong_stop(alloc, found, job, all, worlds.as_slice(), of_log, true)?;
-    if told != "" {
-        return Ok(told);
+    let wrong = wrong_stop(alloc, found, job, all, worlds.as_slice(), of_log, true)?;
+    if wrong != "" {
+        return Ok(wrong);
     }
     let of_db = whole.db.calls.writes.as_slice();
     wrong_stop(alloc, found, job, all, worlds.as_slice(), of_db, false)

@@ -8,7 +8,7 @@ use wire::{Bad, Framer, Memory, Message, Next, length_value};
 /// - `stream`: a stream, its messages however it is cut, each with its body after `+`, and how it ends: `empty`, 400, 413, or `more`
 ///   and how many bytes of a body are missing.
 /// - `last`: a stream, its messages and end without its last byte, and then those with it. The stream repeats the second column as
-///   often as the third says, and the fourth follows; the result shows the repeated part as `*`. A head has at most 64 headers and
+///   often as the third says, and the fourth follows; the result shows the repeated piece as `*`. A head has at most 64 headers and
 ///   16,384 bytes.
 pub const ROWS: &str = "\
 length|0|0
@@ -148,10 +148,10 @@ fn handed_out(alloc: Global, front: &[u8], back: &[u8], step: usize) -> Result<V
 }
 
 /// Returns the messages and the end of a stream in one piece. They must not change if the stream is cut in two at any of the first
-/// `places` bytes, nor if the bytes after the cut come one by one; otherwise it returns `the cut matters`.
-fn however_cut(alloc: Global, stream: &[u8], places: usize) -> Result<Vec<u8>, Memory> {
+/// `limit` bytes, nor if the bytes after the cut come one by one; otherwise it returns `the cut matters`.
+fn however_cut(alloc: Global, stream: &[u8], limit: usize) -> Result<Vec<u8>, Memory> {
     let whole = handed_out(alloc, stream, b"", 1)?;
-    for cut in 0..places.min(stream.len()) {
+    for cut in 0..limit.min(stream.len()) {
         let (front, back) = stream.split_at(cut);
         let in_two = handed_out(alloc, front, back, back.len())?;
         let by_bytes = handed_out(alloc, front, back, 1)?;

@@ -11,7 +11,7 @@ use std::test::Fail;
 /// - `keys`: a version; the front of its rank key, before the order key; and its order key. Bytes are in hexadecimal.
 ///
 /// Each version is compared with each, and so are their keys. The first list is the standard's. The next two show numbers of any
-/// length, and each part of an order key: the numbers byte by byte, the kind of an identifier, its digits, its letters, where it
+/// length, and each field of an order key: the numbers byte by byte, the kind of an identifier, its digits, its letters, where it
 /// ends, whether more follow, and whether there is one. The list of `rank` shows each class, and then stamps or precedence.
 pub const ROWS: &str = "\
 precedence|v1.0.0-alpha v1.0.0-alpha.1 v1.0.0-alpha.beta v1.0.0-beta v1.0.0-beta.2 v1.0.0-beta.11 v1.0.0-rc.1 v1.0.0 v2.0.0 v2.1.0 v2.1.1|true
@@ -63,16 +63,16 @@ fn compared(
     Ok(if order == keys { Some(order) } else { None })
 }
 
-/// Whether the versions of a row compare as their places in the row do, or for `equal` whether they are equal.
+/// Whether the versions of a row compare as their positions in the row do, or for `equal` whether they are equal.
 fn are_ordered(alloc: Global, row: &str) -> Result<bool, Fail> {
     let call = column(row, 0);
     let list = versions_of(alloc, column(row, 1))?;
-    for (place, left) in list.iter().enumerate() {
+    for (index, left) in list.iter().enumerate() {
         for (other, right) in list.iter().enumerate() {
             let wanted = if call == "equal" {
                 Ordering::Equal
             } else {
-                place.cmp(&other)
+                index.cmp(&other)
             };
             if compared(alloc, call, left, right)? != Some(wanted) {
                 return Ok(false);

@@ -83,8 +83,8 @@ fn wrong_row(alloc: Global, subject: Subject) -> Result<String, Fail> {
 }
 
 /// Returns a column of a row, empty if the row has fewer columns.
-pub fn column(row: &str, place: usize) -> &str {
-    row.split('|').nth(place).unwrap_or("")
+pub fn column(row: &str, index: usize) -> &str {
+    row.split('|').nth(index).unwrap_or("")
 }
 
 /// Returns the text that a column writes with `;` for each newline.
@@ -96,11 +96,11 @@ pub fn with_lines(alloc: Global, column: &str) -> Result<String, AllocError> {
 pub fn bytes(alloc: Global, column: &str) -> Result<Vec<u8>, AllocError> {
     let text = with_lines(alloc, column)?;
     let mut bytes = Vec::new(alloc);
-    for (place, part) in text.split('ÿ').enumerate() {
-        if place > 0 {
+    for (index, piece) in text.split('ÿ').enumerate() {
+        if index > 0 {
             bytes.push(255)?;
         }
-        bytes.extend_from_slice(part.as_bytes())?;
+        bytes.extend_from_slice(piece.as_bytes())?;
     }
     Ok(bytes)
 }

@@ -60,10 +60,10 @@ fn found<'a>(alloc: Global, call: &str, text: &'a str) -> Result<Vec<Token<'a>>,
 /// Returns which tests a token passes, whether its value is borrowed, and the value.
 fn word(alloc: Global, token: &Token) -> Result<String, AllocError> {
     let value = token.value(alloc)?;
-    let is_part = matches!(value, CowStr::Borrowed(_));
+    let is_lent = matches!(value, CowStr::Borrowed(_));
     let (is_word, is_name, is_arrow) = (token.is_word(), token.is_name(), token.is_arrow());
     format!(in alloc;
-        "{is_word} {is_name} {is_arrow} {is_part} [{}]",
+        "{is_word} {is_name} {is_arrow} {is_lent} [{}]",
         value.as_str()
     )
 }

@@ -120,7 +120,7 @@ UPDATE piece SET bytes = X'FULL'
 UPDATE piece SET bytes = X'FULL';INSERT INTO piece VALUES (7, 1, X'5A')
 DROP TABLE piece;CREATE TABLE piece (version INTEGER NOT NULL REFERENCES version (id), number INTEGER NOT NULL CHECK (number >= 0), bytes BLOB NOT NULL, PRIMARY KEY (version, number)) STRICT;INSERT INTO piece VALUES (7, 0, X'5A')
 ====
-rows|answers|KEPT
+rows|answers|HELD
 
 ====
 rows|answers|BELOW
@@ -162,7 +162,7 @@ GET A example.com/lib/@v/v1.0.0.zip | 200 OK | zip | Z
 ";
 
 /// What the store answers from the tables and rows.
-const KEPT: &str = "\
+const HELD: &str = "\
 key|alphakey00000001 = alpha Publishes
 entry|alpha|example.com/lib|v1.0.0 = common|module example.com/lib;|Z|
 entry|gamma|example.com/lib|v1.0.0 = common|module example.com/lib;|Z|
@@ -180,7 +180,7 @@ fn script(name: &str) -> Result<&'static str, Fail> {
     match name {
         "" => Ok(""),
         "BELOW" => Ok(BELOW),
-        "KEPT" => Ok(KEPT),
+        "HELD" => Ok(HELD),
         "NONE_BELOW" => Ok(NONE_BELOW),
         _ => Err(Fail::new("no such script")),
     }

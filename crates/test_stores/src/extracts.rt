@@ -8,13 +8,13 @@ a part has its shelves alone
 on-whole|WHOLE
 extract|alpha = ()
 on-part|PART
-on-whole|KEPT
+on-whole|SAME
 ====
 a part of a member has its group
 on-whole|GROUPED
 extract|gamma = ()
 on-part|PART_OF_GAMMA
-on-whole|KEPT_OF_GROUPED
+on-whole|SAME_OF_GROUPED
 ====
 a group is no team
 on-whole|GROUPED
@@ -26,7 +26,7 @@ part|team-add|gamma = Done
 extract|alpha = NotEmpty
 extract|gamma = NoTeam
 extract|common = NoTeam
-on-whole|KEPT
+on-whole|SAME
 ====
 a store that has a group
 on-whole|WHOLE
@@ -34,7 +34,7 @@ part|group-add|gamma = Done
 extract|alpha = NotEmpty
 extract|gamma = NoTeam
 extract|common = NoTeam
-on-whole|KEPT
+on-whole|SAME
 ====
 a store that has a key
 on-whole|WHOLE
@@ -42,7 +42,7 @@ part|reader-add|common|commonkey0000001 = Done
 extract|alpha = NotEmpty
 extract|gamma = NoTeam
 extract|common = NoTeam
-on-whole|KEPT
+on-whole|SAME
 ====
 a store that has an entry
 on-whole|WHOLE
@@ -50,7 +50,7 @@ part|insert|common|example.com/x|v1.0.0|module example.com/x; = ()
 extract|alpha = NotEmpty
 extract|gamma = NoTeam
 extract|common = NoTeam
-on-whole|KEPT
+on-whole|SAME
 ====
 a store that was refused is taken, and then is not empty
 on-whole|WHOLE
@@ -63,13 +63,13 @@ a part of two members has their group once
 on-whole|GROUPED
 extract-teams|gamma delta = ()
 on-part|PART_OF_ONE_GROUP
-on-whole|KEPT_OF_GROUPED
+on-whole|SAME_OF_GROUPED
 ====
 a team that is named twice is as one
 on-whole|GROUPED
 extract-teams|gamma gamma = ()
 on-part|PART_OF_GAMMA
-on-whole|KEPT_OF_GROUPED
+on-whole|SAME_OF_GROUPED
 ====
 a part of teams of two groups has both
 on-whole|TWO_GROUPS
@@ -140,7 +140,7 @@ failures = 0
 ";
 
 /// The whole, unchanged.
-const KEPT: &str = "\
+const SAME: &str = "\
 key|betakey000000001 = beta Publishes
 key|alphareader00001 = alpha Reads
 entry|beta|example.com/lib|v1.0.0 = beta|module example.com/lib;|of beta|
@@ -192,7 +192,7 @@ failures = 0
 ";
 
 /// The whole, unchanged.
-const KEPT_OF_GROUPED: &str = "\
+const SAME_OF_GROUPED: &str = "\
 GET D example.com/d/@v/v1.0.0.zip | 200 OK | zip | d
 GET D example.com/h/@v/v1.0.0.zip | 200 OK | zip | h
 GET A example.com/h/@v/v1.0.0.zip | 200 OK | zip | c
@@ -288,10 +288,10 @@ pub fn script(name: &str) -> Result<&'static str, Fail> {
     let script = match name {
         "WHOLE" => WHOLE,
         "PART" => PART,
-        "KEPT" => KEPT,
+        "SAME" => SAME,
         "GROUPED" => GROUPED,
         "PART_OF_GAMMA" => PART_OF_GAMMA,
-        "KEPT_OF_GROUPED" => KEPT_OF_GROUPED,
+        "SAME_OF_GROUPED" => SAME_OF_GROUPED,
         "PART_OF_ONE_GROUP" => PART_OF_ONE_GROUP,
         "TWO_GROUPS" => TWO_GROUPS,
         "PART_OF_TWO_GROUPS" => PART_OF_TWO_GROUPS,

@@ -1,6 +1,6 @@
 //! Readers and writers that fail at each of their calls in turn: what was written, and what the shelves have afterwards.
 //!
-//! This is shown over shelves in maps only, because no part of it depends on where the shelves are kept.
+//! This is shown over shelves in maps only, because none of it depends on where the shelves are kept.
 use crate::shelves::shelves;
 use engine::{Io, answer_all};
 use std::alloc::Global;
@@ -142,7 +142,7 @@ fn is_written_up_to(
     )
 }
 
-/// Returns the first place at which a write that fails does not leave a beginning of the replies and the message done whose
+/// Returns the first position at which a write that fails does not leave a beginning of the replies and the message done whose
 /// reply it cut.
 fn wrong_write(alloc: Global, piece: usize) -> Result<Option<usize>, Fail> {
     let answers = whole(alloc, 1)?;

@@ -1,5 +1,5 @@
 //! Requests and the bytes of their replies, as rows of scripts. (RFC 9112; Go Modules Reference, "GOPROXY protocol".)
-use crate::rows::{part, with_lines};
+use crate::rows::{cell, with_lines};
 use engine::answer_all;
 use std::alloc::{AllocError, Global};
 use std::test::Fail;
@@ -275,26 +275,26 @@ fn request(
 
 /// Returns the bytes of the request or the stream in a row.
 fn asked(alloc: Global, row: &str) -> Result<String, AllocError> {
-    if part(row, 0).contains(" HTTP/1.1") {
-        head_lines(alloc, part(row, 0))
+    if cell(row, 0).contains(" HTTP/1.1") {
+        head_lines(alloc, cell(row, 0))
     } else {
         request(
             alloc,
-            part(row, 0),
-            part(row, 4),
-            part(row, 5),
-            part(row, 6),
+            cell(row, 0),
+            cell(row, 4),
+            cell(row, 5),
+            cell(row, 6),
         )
     }
 }
 
-/// Returns the bytes of the reply in a part of a row.
+/// Returns the bytes of the reply in a piece of a row.
 fn reply(alloc: Global, row: &str) -> Result<String, AllocError> {
-    let body = with_lines(alloc, part(row, 3))?;
+    let body = with_lines(alloc, cell(row, 3))?;
     format!(in alloc;
         "HTTP/1.1 {}\r\nContent-Type: {}\r\nContent-Length: {}\r\nConnection: close\r\n\r\n{body}",
-        part(row, 1),
-        kind_of(part(row, 2)),
+        cell(row, 1),
+        kind_of(cell(row, 2)),
         body.len(),
     )
 }
@@ -302,8 +302,8 @@ fn reply(alloc: Global, row: &str) -> Result<String, AllocError> {
 /// Returns the bytes of all replies in a row.
 fn replies(alloc: Global, row: &str) -> Result<String, AllocError> {
     let mut text = String::new(alloc);
-    for part in row.split('&') {
-        text.push_str(reply(alloc, part)?.as_str())?;
+    for piece in row.split('&') {
+        text.push_str(reply(alloc, piece)?.as_str())?;
     }
     Ok(text)
 }

@@ -4,13 +4,13 @@ use std::fmt::Debug;
 use world::registry::StoreFault;
 
 /// Returns a column of a row, or the empty text if the row has no such column.
-pub fn column(row: &str, place: usize) -> &str {
-    row.split('|').nth(place).unwrap_or("")
+pub fn column(row: &str, index: usize) -> &str {
+    row.split('|').nth(index).unwrap_or("")
 }
 
 /// Returns a column of a row without the spaces around it.
-pub fn part(row: &str, place: usize) -> &str {
-    column(row, place).trim()
+pub fn cell(row: &str, index: usize) -> &str {
+    column(row, index).trim()
 }
 
 /// Returns the call in a row: what stands before its answer.

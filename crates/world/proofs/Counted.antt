@@ -9,7 +9,7 @@ use Rattle.std.proofs.lemmas.Map.Views.{tells_apart}
 use Rattle.world.specs.declared.entry.Place.{Place}
 use Rattle.world.specs.declared.entry.Entry.{Entry}
 use Rattle.world.specs.World.{World, text_cmp, count, with_entry}
-use Rattle.world.specs.Kept.{get_under, put_under}
+use Rattle.world.specs.FinMaps.{get_under, put_under}
 use Rattle.world.specs.Counts.{Tally, AreCounts}
 use Rattle.world.proofs.Orders.{texts_exact, places_total, places_exact, texts_total, text_self, text_same, test_alike}
 use Rattle.world.proofs.Retained.{stays, goes}

@@ -11,7 +11,7 @@ use lib.Dec.{T}
 use Rattle.world.specs.declared.entry.Place.{Place}
 use Rattle.world.specs.declared.entry.Entry.{Entry}
 use Rattle.world.specs.World.{text_cmp, place_cmp, place}
-use Rattle.world.specs.Kept.{Nested, placed, by_place, get_under, map_at}
+use Rattle.world.specs.FinMaps.{Nested, placed, by_place, get_under, map_at}
 use Rattle.world.proofs.Orders.{texts_total, texts_exact, places_total, places_exact}
 use Rattle.world.proofs.MapsNested.{get_map_at}
 use Rattle.world.proofs.MapsPlaces.{get_at, get_by_place, find_placed, under_or_empty}

@@ -27,12 +27,12 @@ done old new w x value next answer same is = record {
 }
 
 -- the answer is the value, and nothing changes
-pub told : {T : Type 0} (m w : World) (x value : T) → ((m ≡ w) × IsWorld w) → x ≡ value → ReadsAt (in_memory m) (in_memory m) w (Ok x) value
-told m w x value is answer = record { answer = answer; stays = is; left = λ x y left. left }
+pub read : {T : Type 0} (m w : World) (x value : T) → ((m ≡ w) × IsWorld w) → x ≡ value → ReadsAt (in_memory m) (in_memory m) w (Ok x) value
+read m w x value is answer = record { answer = answer; stays = is; left = λ x y left. left }
 
 -- the answer is the value, and no world changes, though what the store keeps beside the world may
-pub told_of : {T : Type 0} (old new w : World) (x value : T) → new ≡ old → ((old ≡ w) × IsWorld w) → x ≡ value → ReadsAt (in_memory old) (in_memory new) w (Ok x) value
-told_of old new w x value same is answer = record { answer = answer; stays = (same ∙ is.0, is.1); left = λ x y left. still same left }
+pub read_beside : {T : Type 0} (old new w : World) (x value : T) → new ≡ old → ((old ≡ w) × IsWorld w) → x ≡ value → ReadsAt (in_memory old) (in_memory new) w (Ok x) value
+read_beside old new w x value same is answer = record { answer = answer; stays = (same ∙ is.0, is.1); left = λ x y left. still same left }
 
 pub team_done : (w : World) (t : List ℕ) (group : Option (List ℕ)) → is_team_name t ≡ true → map.contains_key w.shelves t ≡ false → lacks_group w group ≡ false → team_added w t group ≡ Done
 team_done w t group named free has = rw (named, free, has) refl

@@ -5,7 +5,7 @@ use Rattle.std.specs.Ordering.{eq_by_cmp}
 use Rattle.std.specs.FinMap as map
 use Rattle.std.proofs.lemmas.Map.Views.{tells_apart}
 use Rattle.world.specs.World.{text_cmp}
-use Rattle.world.specs.Kept.{map_at, get_under, put_under}
+use Rattle.world.specs.FinMaps.{map_at, get_under, put_under}
 use Rattle.world.proofs.Orders.{texts_total, texts_exact}
 use Rattle.world.proofs.MapsTexts.{put_again}
 
@@ -23,8 +23,8 @@ module _ {X : Type 0} (m : map.FinMap text_cmp (map.FinMap text_cmp X)) (t : Lis
   put_found u x found lent put = lent ∙ ap (map.insert m t) (put ∙ ap (λ (o : Option (map.FinMap text_cmp X)). map.insert (unwrap_or o map.empty) u x) found)
 
   -- nothing put there
-  pub kept_found : Some inner ≡ map.get m t → n ≡ map.insert m t after → after ≡ inner → n ≡ m
-  kept_found found lent kept = lent ∙ ap (map.insert m t) kept ∙ put_again m t inner (sym found)
+  pub same_found : Some inner ≡ map.get m t → n ≡ map.insert m t after → after ≡ inner → n ≡ m
+  same_found found lent same = lent ∙ ap (map.insert m t) same ∙ put_again m t inner (sym found)
 
 get_or_empty : {X : Type 0} (o : Option (map.FinMap text_cmp X)) (u : List ℕ) → map.get (unwrap_or o map.empty) u ≡ option_and_then (λ i. map.get i u) o
 get_or_empty None u = map.get-empty text_cmp u

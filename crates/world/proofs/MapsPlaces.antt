@@ -14,7 +14,7 @@ use lib.Dec.{T}
 use Rattle.world.specs.declared.entry.Place.{Place}
 use Rattle.world.specs.declared.entry.Entry.{Entry}
 use Rattle.world.specs.World.{text_cmp, place_cmp, place}
-use Rattle.world.specs.Kept.{Nested, placed, placed_on, by_place, get_under, map_at, put_under, put_at}
+use Rattle.world.specs.FinMaps.{Nested, placed, placed_on, by_place, get_under, map_at, put_under, put_at}
 use Rattle.world.proofs.Orders.{texts_total, texts_exact, places_total, places_exact}
 use Rattle.world.proofs.MapsNested.{get_put_under}
 
@@ -81,19 +81,19 @@ module _ {A Y K X : Type 0} {R : A → A → Ordering} (o : IsTotalOrder R) (S :
 
 -- ---- places
 
--- one place against another, part by part
-by_parts : {X : Type 0} (x y z : Ordering) (v : X) (rest found : Option X) → rest ≡ cond (is_eq x) (cond (is_eq y) found None) None
+-- one place against another, field by field
+by_fields : {X : Type 0} (x y z : Ordering) (v : X) (rest found : Option X) → rest ≡ cond (is_eq x) (cond (is_eq y) found None) None
     → cond (is_eq (ordering_then x (ordering_then y z))) (Some v) rest ≡ cond (is_eq x) (cond (is_eq y) (cond (is_eq z) (Some v) found) None) None
-by_parts Less y z v rest found e = e
-by_parts Greater y z v rest found e = e
-by_parts Equal Less z v rest found e = e
-by_parts Equal Greater z v rest found e = e
-by_parts Equal Equal z v rest found e = ap (cond (is_eq z) (Some v)) e
+by_fields Less y z v rest found e = e
+by_fields Greater y z v rest found e = e
+by_fields Equal Less z v rest found e = e
+by_fields Equal Greater z v rest found e = e
+by_fields Equal Equal z v rest found e = ap (cond (is_eq z) (Some v)) e
 
 find_listed : (s p : List ℕ) (q : Place) (es : List (List ℕ × Entry))
     → map.find place_cmp q (each (λ v. (place s p v.0, v.1)) es) ≡ cond (eq_by_cmp text_cmp q.shelf s) (cond (eq_by_cmp text_cmp q.path p) (map.find text_cmp q.version es) None) None
 find_listed s p q [] = sym (ap (λ o. cond (eq_by_cmp text_cmp q.shelf s) o None) (neither (eq_by_cmp text_cmp q.path p)) ∙ neither (eq_by_cmp text_cmp q.shelf s))
-find_listed s p q (e ∷ es) = by_parts (text_cmp q.shelf s) (text_cmp q.path p) (text_cmp q.version e.0) e.1 _ (map.find text_cmp q.version es) (find_listed s p q es)
+find_listed s p q (e ∷ es) = by_fields (text_cmp q.shelf s) (text_cmp q.path p) (text_cmp q.version e.0) e.1 _ (map.find text_cmp q.version es) (find_listed s p q es)
 
 -- what stands at a place of a path on a shelf
 pub find_placed : (s p : List ℕ) (versions : map.FinMap text_cmp Entry) (q : Place)
@@ -126,7 +126,7 @@ find_placed_on s paths q =
 abbrev pub get_at : Nested → Place → Option Entry
 get_at m q = option_and_then (λ paths. get_under paths q.path q.version) (map.get m q.shelf)
 
--- each place has what its parts lead to
+-- each place has what its fields lead to
 pub get_by_place : (m : Nested) (q : Place) → map.get (by_place m) q ≡ get_at m q
 get_by_place m q =
     map.get-from_entries places_total _ q
@@ -162,7 +162,7 @@ pub under_or_empty : (o : Option (map.FinMap text_cmp (map.FinMap text_cmp Entry
 under_or_empty None p v = under_nothing p v
 under_or_empty (Some paths) p v = refl
 
--- after an entry was put at s, p and v, a place has that entry if its three parts tie with these, and what it had otherwise
+-- after an entry was put at s, p and v, a place has that entry if its three fields tie with these, and what it had otherwise
 get_put_at : (m : Nested) (s p v : List ℕ) (e : Entry) (q : Place)
     → get_at (put_at m s p v e) q ≡ cond (eq_by_cmp text_cmp q.shelf s) (cond (eq_by_cmp text_cmp q.path p) (cond (eq_by_cmp text_cmp q.version v) (Some e) (get_at m q)) (get_at m q)) (get_at m q)
 get_put_at m s p v e q =

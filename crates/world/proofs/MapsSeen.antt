@@ -9,7 +9,7 @@ use Rattle.std.specs.FinSet as set
 use Rattle.world.specs.declared.entry.Entry.{Entry}
 use Rattle.world.specs.Visible.{versions_among, paths_among}
 use Rattle.world.specs.World.{text_cmp, place}
-use Rattle.world.specs.Kept.{Nested, EachHasVersion, by_place, get_under, map_at, put_at, with_texts}
+use Rattle.world.specs.FinMaps.{Nested, EachHasVersion, by_place, get_under, map_at, put_at, with_texts}
 use Rattle.world.specs.Lines.{in_order}
 use Rattle.world.proofs.InOrder.{in_order-keys, in_order-nothing}
 use Rattle.world.proofs.Orders.{texts_total, texts_exact, get_put}
@@ -152,5 +152,5 @@ each_after m s p v e each t q versions at =
 
 -- after an insertion, whether it was made or not
 pub after_either : {A E Made Not : Type 0} (n : Nested) (r : Result A E) → OnOk r Made → OnErr r Not → (Made → EachHasVersion n) → (Not → EachHasVersion n) → EachHasVersion n
-after_either n (Ok x) made kept f g = f made
-after_either n (Err x) made kept f g = g kept
+after_either n (Ok x) made not_made f g = f made
+after_either n (Err x) made not_made f g = g not_made

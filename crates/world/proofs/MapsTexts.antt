@@ -19,7 +19,7 @@ use lib.Dec.{T}
 use Rattle.std.proofs.lemmas.Map.Text.{is_eq-slice_cmp, btree_map_updates_text}
 use Rattle.std.proofs.lemmas.Map.Keys.{IsDistinct-head, IsDistinct-tail, IsDistinct-from_sorted}
 use Rattle.world.specs.World.{text_cmp}
-use Rattle.world.specs.Kept.{by_text}
+use Rattle.world.specs.FinMaps.{by_text}
 use Rattle.world.proofs.InOrder.{both, less_is}
 use Rattle.world.proofs.Orders.{texts_total, texts_exact}
 
@@ -79,16 +79,16 @@ module _ {Y X : Type 0} where
   rising_texts [] up = tt
   rising_texts (e ∷ es) up = both _ _ (all_below e.0 es up.0) (rising_texts es up.1)
 
-  first_parts : (es : List (String Y × X)) → each {A = List ℕ × X} (λ e. e.0) (each (λ e. (string_bytes e.0, e.1)) es) ≡ each string_bytes (keys_of es)
-  first_parts [] = refl
-  first_parts (e ∷ es) = ap (λ ts. string_bytes e.0 ∷ ts) (first_parts es)
+  first_texts : (es : List (String Y × X)) → each {A = List ℕ × X} (λ e. e.0) (each (λ e. (string_bytes e.0, e.1)) es) ≡ each string_bytes (keys_of es)
+  first_texts [] = refl
+  first_texts (e ∷ es) = ap (λ ts. string_bytes e.0 ∷ ts) (first_texts es)
 
   pub keys_text : (m : BTreeMap (String Y) X) → IsOrdered string_cmp m → map.keys (by_text m.entries) ≡ each string_bytes (keys_of m.entries)
   keys_text m ordered =
       let es = each (λ e. (string_bytes e.0, e.1)) m.entries in
       let up : T (map.is_sorted text_cmp es) = rising_texts m.entries ordered in
       ap map.keys (map.same_map texts_total texts_exact (map.from_entries es) (map.from_sorted es) (λ t. map.get-from_entries texts_total es t ∙ sym (map.get-from_sorted text_cmp es t up)))
-      ∙ ap (each (λ e. e.0)) (map.entries-from_sorted text_cmp es up) ∙ first_parts m.entries
+      ∙ ap (each (λ e. e.0)) (map.entries-from_sorted text_cmp es up) ∙ first_texts m.entries
 
   pub same_entries : (m n : BTreeMap (String Y) X) → n ≡ m → by_text n.entries ≡ by_text m.entries
   same_entries m n e = ap (λ (t : BTreeMap (String Y) X). by_text t.entries) e

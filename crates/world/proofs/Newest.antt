@@ -32,11 +32,11 @@ module _ (old mid : Shown) (sound : (w : World) → old.stands w → IsWorld w) 
   none_read none = record {
     honest = read.honest;
     at = λ h w stands.
-        let told = read.at h w stands in
+        let given = read.at h w stands in
         record {
-          answer = none_latest w (sound w stands) s p vs told.answer none;
-          stays = told.stays;
-          left = told.left;
+          answer = none_latest w (sound w stands) s p vs given.answer none;
+          stays = given.stays;
+          left = given.left;
         };
     cause = answers old mid None read.cause.no_fewer;
   }
@@ -48,12 +48,12 @@ module _ (old mid : Shown) (sound : (w : World) → old.stands w → IsWorld w) 
   latest_read new top shown m v is_top then is_read is_latest = record {
     honest = λ h. read.honest (then.honest h);
     at = λ h w stands.
-        let told = read.at (then.honest h) w stands in
-        let seen = then.at h w told.stays in
+        let given = read.at (then.honest h) w stands in
+        let seen = then.at h w given.stays in
         record {
-          answer = some_latest w (sound w stands) s p vs told.answer top shown m v is_top seen.answer is_read is_latest;
+          answer = some_latest w (sound w stands) s p vs given.answer top shown m v is_top seen.answer is_read is_latest;
           stays = seen.stays;
-          left = λ x y was. seen.left x y (told.left x y was);
+          left = λ x y was. seen.left x y (given.left x y was);
         };
     cause = in_turn old mid new vs (Ok v) read.cause (answers mid new v then.cause.no_fewer);
   }

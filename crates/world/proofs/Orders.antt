@@ -1,4 +1,4 @@
--- The orders of texts and of places tell all of them apart, and what a map has after an insertion.
+-- The orders of texts and of places distinguish all of them, and what a map has after an insertion.
 use Rattle.std.proofs.Common.{◌≡◌, ℕ, List, Bool, true, false, cond, refl, ◌∙◌, sym, ap, Some}
 use Rattle.std.specs.Prelude.{bytes_eq}
 use Rattle.std.specs.Ordering.{ordering_then, is_eq, eq_by_cmp}

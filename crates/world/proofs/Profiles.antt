@@ -9,18 +9,18 @@ use Rattle.gomod.specs.declared.fault.GoModFault.{GoModFault}
 use Rattle.world.specs.declared.entry.Place.{Place}
 use Rattle.world.specs.declared.entry.Entry.{Entry}
 use Rattle.world.specs.declared.reading.Reading.TheVariants.{Module}
-use Rattle.world.specs.GoMods.{told, reading_by, IsGoModBy}
+use Rattle.world.specs.GoMods.{as_reading, reading_by, IsGoModBy}
 use Rattle.world.specs.Profiles.{Profile2KeepsWorlds}
 use Rattle.world.specs.World.{IsEntryBy}
 
-pub reading_ok : (r : Result GoModule GoModFault) (m : GoModule) → told r ≡ Module m → r ≡ Ok m
+pub reading_ok : (r : Result GoModule GoModFault) (m : GoModule) → as_reading r ≡ Module m → r ≡ Ok m
 reading_ok (Ok x) m e = let same : x ≡ m = cc e in ap Ok same
 reading_ok (Err f) m e = cc e
 
 pub reads_still : (bytes : List ℕ) (m : GoModule) → reading_by profile_1 bytes ≡ Module m → reading_by profile_2 bytes ≡ Module m
 reads_still bytes m e =
     let by_first = reads-from_reading profile_1 bytes m (reading_ok (gomod.reading profile_1 bytes) m e) in
-    ap told (reading-from_reads profile_2 bytes m (reads_more profile_1 profile_2 bytes m profile_1-within by_first))
+    ap as_reading (reading-from_reads profile_2 bytes m (reads_more profile_1 profile_2 bytes m profile_1-within by_first))
 
 gomod_still : (path : List ℕ) (is_marked : Bool) (bytes : List ℕ) → IsGoModBy profile_1 path is_marked bytes → IsGoModBy profile_2 path is_marked bytes
 gomod_still path is_marked bytes is = record { says = is.says; reads = reads_still bytes is.says is.reads; names = is.names; bare = is.bare }

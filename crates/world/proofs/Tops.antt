@@ -1,4 +1,4 @@
--- The place of the top of a set of versions is that of the highest of a list.
+-- The index of the top of a set of versions is that of the highest of a list.
 use Rattle.std.proofs.Common.{◌≡◌, ℕ, List, [], ◌∷◌, refl, sym, ap, ◌∙◌, Option, Some, None, slice_get, length, Bor, option_copied}
 use Rattle.std.specs.Prelude.{Contains}
 use Rattle.std.specs.Slice.{IsItemAt}
@@ -12,15 +12,15 @@ use Rattle.world.specs.Latest.{AllOf, higher, highest, unretracted}
 use Rattle.world.proofs.Highest.{highest_top, left}
 use Rattle.world.proofs.Members.{no_member, first_member}
 
--- what is lent at a place stands there
+-- what is lent at an index stands there
 pub lent_at : {X : Type 0} (xs : List X) (i : ℕ) (r : Option (Bor X)) → IsItemAt xs i r → option_copied r ≡ slice_get xs i
 lent_at xs i None item = sym (slice_get_past xs i item.3)
 lent_at xs i (Some x) item = sym (slice_get_read xs (length xs) i x.now refl item.3.0 item.1)
 
--- the version at a place
+-- the version at an index
 abbrev pub version_at : List SemanticVersion → Option ℕ → Option SemanticVersion
 version_at vs None = None
-version_at vs (Some place) = slice_get vs place
+version_at vs (Some index) = slice_get vs index
 
 none_there : (us : List SemanticVersion) → ((v : SemanticVersion) → ¬ Contains us v) → None ≡ highest us
 none_there [] none = refl
@@ -35,7 +35,7 @@ named_highest : (path : List ℕ) (vs us : List SemanticVersion) (set : Versions
     → ((v : SemanticVersion) → Contains us v → set v) → ((v : SemanticVersion) → set v → Contains us v)
     → (answer : Option ℕ) → NamesTop vs set answer → version_at vs answer ≡ highest us
 named_highest path vs us set all to from None none = none_there us (λ v at. none v (to v at))
-named_highest path vs us set all to from (Some place) named =
+named_highest path vs us set all to from (Some index) named =
     let v = named.0 in
     let top : IsTop (among us) v = record { member = from v named.2.member; highest = λ u at. named.2.highest u (to u at) } in
     let some = some_there us v top.member in

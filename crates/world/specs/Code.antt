@@ -1,4 +1,4 @@
--- Codes of worlds and of versions: encodings that lose nothing, so proofs can tell two values apart.
+-- Codes of worlds and of versions: encodings that lose nothing, so proofs can distinguish two values.
 use Rattle.std.specs.Prelude.{ℕ, List, Bool, true, false, refl, ◌≡◌, Option}
 use Rattle.std.specs.Coded.{Coded, code_by, coded×, coded_ℕ, coded_list, coded_bool, coded_option}
 use Rattle.std.specs.FinMap as map

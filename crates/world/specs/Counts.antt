@@ -2,7 +2,7 @@
 use Rattle.std.specs.Prelude.{ℕ, List, ◌≡◌, Some}
 use Rattle.std.specs.FinMap as map
 use Rattle.world.specs.World.{World, text_cmp, count}
-use Rattle.world.specs.Kept.{get_under}
+use Rattle.world.specs.FinMaps.{get_under}
 
 -- a number for each shelf and path that has one
 abbrev pub Tally : Type 0

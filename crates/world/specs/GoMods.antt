@@ -14,22 +14,22 @@ abbrev pub Says : List ℕ → GoModule → Type 0
 Says bytes m = Reads profile_in_force bytes m
 
 -- the result of reading a file: what it says, or the line of its fault
-abbrev pub told : Result GoModule GoModFault → Reading
-told (Ok m) = Module m
-told (Err f) = Fault (line_of f)
+abbrev pub as_reading : Result GoModule GoModFault → Reading
+as_reading (Ok m) = Module m
+as_reading (Err f) = Fault (line_of f)
 
 -- the result of reading a go.mod by these keywords
 abbrev pub reading_by : Keywords → List ℕ → Reading
-reading_by known bytes = told (gomod.reading known bytes)
+reading_by known bytes = as_reading (gomod.reading known bytes)
 
 -- the result of reading a go.mod by the profile in force
 abbrev pub reading_of : List ℕ → Reading
 reading_of bytes = reading_by profile_in_force bytes
 
 -- what a go.mod says, if it reads
-abbrev pub module_told : Reading → Option GoModule
-module_told (Module m) = Some m
-module_told (Fault line) = None
+abbrev pub module_in : Reading → Option GoModule
+module_in (Module m) = Some m
+module_in (Fault line) = None
 
 -- by these keywords the go.mod reads, names the path, and is bare if the version has the mark
 pub record IsGoModBy (known : Keywords) (path : List ℕ) (is_marked : Bool) (bytes : List ℕ) : Type 0 where

@@ -6,7 +6,7 @@ use Rattle.modver.specs.Fits.{IsVersionOf}
 use Rattle.modver.specs.Rank.{rank_cmp}
 use Rattle.modver.specs.SemanticVersion.{SemanticVersion, version_text}
 use Rattle.world.specs.declared.entry.Heading.{Heading}
-use Rattle.world.specs.GoMods.{reading_of, module_told}
+use Rattle.world.specs.GoMods.{reading_of, module_in}
 use Rattle.world.specs.Versions.{versions_of}
 use Rattle.world.specs.World.{World, heading}
 
@@ -36,7 +36,7 @@ unretracted m (v ∷ vs) = if is_retracted m v then unretracted m vs else v ∷ 
 -- what the go.mod of a version says, if it reads
 abbrev pub module_of : Option Heading → Option GoModule
 module_of None = None
-module_of (Some shown) = module_told (reading_of shown.gomod)
+module_of (Some shown) = module_in (reading_of shown.gomod)
 
 -- the highest of those versions that the go.mod does not retract; None without a go.mod
 abbrev pub highest_left : Option GoModule → List SemanticVersion → Option SemanticVersion

@@ -14,7 +14,7 @@ pub mod Visible
 pub mod Versions
 pub mod Latest
 pub mod Store
-pub mod Kept
+pub mod FinMaps
 pub mod Counts
 pub mod KeptLists
 pub mod Part

@@ -2,7 +2,7 @@
 ghost use Rattle.std.specs.Prelude.{◌≡◌, ◌⊎◌, None};
 ghost use Rattle.std.specs.FinMap as map;
 ghost use Rattle.world.specs.World.{World, place, count, with_entry};
-ghost use Rattle.world.specs.Kept.{get_under, put_under};
+ghost use Rattle.world.specs.FinMaps.{get_under, put_under};
 ghost use Rattle.world.specs.Counts.{AreCounts};
 
 use crate::maps::text_map::TextMap;

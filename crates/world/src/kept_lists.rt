@@ -72,8 +72,8 @@ impl KeptLists {
         ensures taken { IfSome result (λ versions. (w : World) → AreLists w self.old
             → versions ≡ versions_of w shelf.now path.now) }
     {
-        let place = self.place(shelf, path)?;
-        let list = self.lists.swap_remove(place);
+        let index = self.index_of(shelf, path)?;
+        let list = self.lists.swap_remove(index);
         Some(list.versions)
     }
 
@@ -117,7 +117,7 @@ impl KeptLists {
     }
 
     /// Returns the index of the list of a shelf and a path, or None if it is not kept.
-    fn place(&self, shelf: &str, path: &str) -> Option<usize>
+    fn index_of(&self, shelf: &str, path: &str) -> Option<usize>
         ensures { result ≡ position (is_of shelf.now path.now) self.now }
     {
         self.lists.iter().position(|list| list.is_of(shelf, path))

@@ -19,7 +19,7 @@ impl Model for TextSet {
     ghost use Rattle.std.specs.FinSet as set;
     ghost use Rattle.std.specs.Coded.{coded_list, coded_ℕ};
     ghost use Rattle.world.specs.World.{text_cmp};
-    ghost use Rattle.world.specs.Kept.{texts};
+    ghost use Rattle.world.specs.FinMaps.{texts};
 
     ghost Value = { set.FinSet text_cmp };
 

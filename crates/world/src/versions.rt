@@ -75,8 +75,8 @@ pub fn ascending(alloc: Global, texts: &TextSet) -> Result<Versions, AllocError>
 pub fn highest(versions: &[Version]) -> Option<&Version>
     ensures { (path : List ℕ) → AllOf path versions.now → option_copied result ≡ spec.highest versions.now }
 {
-    let place = top(versions)?;
-    versions.get(place)
+    let index = top(versions)?;
+    versions.get(index)
 }
 
 /// Returns the highest by rank of those versions of one path that the go.mod does not retract, or None if there are none.
@@ -90,7 +90,7 @@ fn highest_left<'a>(
         → option_copied found ≡ spec.highest (spec.unretracted gomod.now versions.now)) }
 {
     match latest_of(alloc, versions, gomod)? {
-        Some(place) => Ok(versions.get(place)),
+        Some(index) => Ok(versions.get(index)),
         None => Ok(None),
     }
 }

@@ -32,7 +32,7 @@ impl Model for EntryMap {
 
     ghost coded = { map.code place_code entry_code };
 
-    ghost use Rattle.world.specs.Kept.{by_place, EachHasVersion};
+    ghost use Rattle.world.specs.FinMaps.{by_place, EachHasVersion};
 
     ghost view = { λ m. by_place m.shelves };
 

@@ -5,7 +5,7 @@ ghost use Rattle.std.specs.Option.{option_copied_mut};
 ghost use Rattle.std.specs.Borrow.{sem};
 ghost use Rattle.world.specs.World.{text_cmp};
 ghost use Rattle.world.specs.MapsLend.{LendsValue};
-ghost use Rattle.world.specs.Kept.{get_under, put_under, with_texts};
+ghost use Rattle.world.specs.FinMaps.{get_under, put_under, with_texts};
 
 use crate::text_set::TextSet;
 use std::alloc::{AllocError, Global};
@@ -23,7 +23,7 @@ impl<V> Model for TextMap<V> {
     ghost use Rattle.std.specs.FinMap as map;
     ghost use Rattle.std.specs.Coded.{coded_list, coded_ℕ};
     ghost use Rattle.world.specs.World.{text_cmp};
-    ghost use Rattle.world.specs.Kept.{by_text};
+    ghost use Rattle.world.specs.FinMaps.{by_text};
 
     ghost Value = { map.FinMap text_cmp V };
 

@@ -1,7 +1,7 @@
 use Rattle.std.specs.Prelude.{◌++◌, codes}
 use Rattle.std.proofs.lemmas.Result.{err_from_is_err_and}
 use Rattle.commands.specs.Ending.{word}
-use Rattle.commands.proofs.Written.{part_first, writes_after}
+use Rattle.commands.proofs.Written.{begins_both, writes_after}
 use Rattle.commands.proofs.exit.write_line.Goals as goal
 
 pub returns : goal.returns
@@ -9,6 +9,6 @@ returns g c = writes_after _ _ _ _ _ _ c.in_ok-write_bytes.ensures (rw (c.as_byt
 
 pub returns-in_err-write_bytes : goal.returns-in_err-write_bytes
 returns-in_err-write_bytes g c =
-    let told = c.in_err-write_bytes.ensures in
+    let wrote = c.in_err-write_bytes.ensures in
     let returned = err_from_is_err_and c.from_residual.result c.from_residual.ensures.1 in
-    rw (returned.1, returned.2) (told.0, part_first _ _ (codes "goshelf: ") (word c.args.refusal ++ codes "\n") told.1)
+    rw (returned.1, returned.2) (wrote.0, begins_both _ _ (codes "goshelf: ") (word c.args.refusal ++ codes "\n") wrote.1)

@@ -10,7 +10,7 @@ abbrev pub invariant-loop-number : goal.invariant-loop-number
 invariant-loop-number g l =
     let s = g.S.Shelves in
     (turns : List Turn) × record {
-      through : GoesThrough (s.shown l.fn.shelves) (s.shown l.shelves) (g.F.Sources.told l.sources) l.key turns;
+      through : GoesThrough (s.shown l.fn.shelves) (s.shown l.shelves) (g.F.Sources.known l.sources) l.key turns;
       read : HasRead g.L.Read.remaining (g.L.Read.remaining l.fn.list) (rows_of turns) l.reader;
       printed : Appends (g.O.Write.contents l.fn.output) (g.O.Write.contents l.output) (lines_from 1 turns);
       accepted : l.accepted ≡ list_all is_accepted turns;

@@ -9,7 +9,7 @@ use Rattle.commands.proofs.import.import_next.Goals as goal
 pub returns-in-Some : goal.returns-in-Some
 returns-in-Some g c =
     λ list rows so. record {
-      through = nothing_done (g.F.Sources.told c.args.sources.now) c.args.key.now _;
+      through = nothing_done (g.F.Sources.known c.args.sources.now) c.args.key.now _;
       closing = c.in-Some.ensures list rows so;
       output = refl;
     }
@@ -17,7 +17,7 @@ returns-in-Some g c =
 pub returns-in_default-row_of : goal.returns-in_default-row_of
 returns-in_default-row_of g c =
     λ list rows so. record {
-      through = nothing_done (g.F.Sources.told c.args.sources.now) c.args.key.now _;
+      through = nothing_done (g.F.Sources.known c.args.sources.now) c.args.key.now _;
       closing = inr (
         fields_of c.read_row.new.fields,
         c.in_default-row_of.ensures,

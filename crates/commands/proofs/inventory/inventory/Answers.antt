@@ -8,5 +8,5 @@ pub returns-in-Ok-Some-clause-whole : goal.returns-in-Ok-Some-clause-whole
 returns-in-Ok-Some-clause-whole g c = λ honest w stands.
     let key = c.args.key.now in
     let read = c.inventory_of.ensures.at honest w stands in
-    let told = subst (λ r. IfOk r (λ x. x ≡ inventory_of w (map.get w.keys key))) c.in-Ok-Some.is read.answer in
-    tells_all w key c.in-Ok-Some.text (g.met.S.Shelves.sound _ w stands) (sym c.in-Ok-Some.field-0-is ∙ told)
+    let says = subst (λ r. IfOk r (λ x. x ≡ inventory_of w (map.get w.keys key))) c.in-Ok-Some.is read.answer in
+    tells_all w key c.in-Ok-Some.text (g.met.S.Shelves.sound _ w stands) (sym c.in-Ok-Some.field-0-is ∙ says)

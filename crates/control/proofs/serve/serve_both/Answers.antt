@@ -9,19 +9,19 @@ loop-init g c = record { some = omega arith; all = each_zero _ _ _ _ _ _ _ _ _ _
 pub loop-preserved : goal.loop-preserved
 loop-preserved g c =
     let left_is = c.if-left-eq0.false in
-    let kept = c.loop.invariant in
+    let holds = c.loop.invariant in
     elim c.match-next.branch [
       | in-Ok-Operator+else-obey_on w ↦ rw (w.left-is, w.shelves-is, w.tally-is) (record {
-        some = kept.some;
-        all = each_operator _ _ _ _ _ _ _ _ _ _ _ _ _ _ _ _ _ kept.all _ (rw w.in-Ok-Operator.field-0-is at w.in-Ok-Operator.ensures) w.obey_on.ensures (omega arith);
+        some = holds.some;
+        all = each_operator _ _ _ _ _ _ _ _ _ _ _ _ _ _ _ _ _ holds.all _ (rw w.in-Ok-Operator.field-0-is at w.in-Ok-Operator.ensures) w.obey_on.ensures (omega arith);
       })
       | in-Ok-Peer w ↦ rw (w.left-is, w.shelves-is, w.tally-is, w.count.ensures) (record {
-        some = omega (arith, kept.some);
-        all = each_peer _ _ _ _ _ _ _ _ _ _ _ _ _ _ _ _ _ kept.all _ _ (rw w.in-Ok-Peer.field-0-is at w.in-Ok-Peer.ensures) w.answer_on.ensures (omega (arith, kept.some, left_is));
+        some = omega (arith, holds.some);
+        all = each_peer _ _ _ _ _ _ _ _ _ _ _ _ _ _ _ _ _ holds.all _ _ (rw w.in-Ok-Peer.field-0-is at w.in-Ok-Peer.ensures) w.answer_on.ensures (omega (arith, holds.some, left_is));
       })
       | in-Err w ↦ rw (w.left-is, w.shelves-is, w.tally-is) (record {
-        some = omega (arith, kept.some);
-        all = each_same _ _ _ _ _ _ _ _ _ _ _ _ _ _ _ _ w.in-Err.ensures kept.all (omega (arith, kept.some, left_is));
+        some = omega (arith, holds.some);
+        all = each_same _ _ _ _ _ _ _ _ _ _ _ _ _ _ _ _ w.in-Err.ensures holds.all (omega (arith, holds.some, left_is));
       })
     ]
 

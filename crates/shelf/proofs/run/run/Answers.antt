@@ -15,16 +15,16 @@ loop-event-init g c =
 
 pub loop-event-preserved : goal.loop-event-preserved
 loop-event-preserved g c =
-    let kept = c.loop-event.invariant in
-    let told = c.answer-answer.ensures in
+    let so_far = c.loop-event.invariant in
+    let given = c.answer-answer.ensures in
     let items = c.in_ok-push.ensures.items in
     record {
-      runs = rw items (runs_push _ _ _ c.args.events.now c.loop-event.event-index c.event-item.result _ _ c.loop-event-test.true c.event-item.is kept.runs told.runs);
+      runs = rw items (runs_push _ _ _ c.args.events.now c.loop-event.event-index c.event-item.result _ _ c.loop-event-test.true c.event-item.is so_far.runs given.runs);
       no_fewer = omega arith;
       device = λ met. elim (met_before _ _ (rw items at met)) [
-        | inl before ↦ grown_more _ _ _ (kept.device before) told.no_fewer
-        | inr here ↦ grown_before _ _ _ kept.no_fewer (told.device here)
+        | inl before ↦ grown_more _ _ _ (so_far.device before) given.no_fewer
+        | inr here ↦ grown_before _ _ _ so_far.no_fewer (given.device here)
       ];
-      count = omega (arith, c.in_ok-push.ensures.len, kept.count);
-      room = omega (arith, kept.room, c.push.ensures.capacity);
+      count = omega (arith, c.in_ok-push.ensures.len, so_far.count);
+      room = omega (arith, so_far.room, c.push.ensures.capacity);
     }

@@ -5,7 +5,7 @@ use Rattle.store.specs.Migrated.{HasOlderReason, MigratesRows}
 use Rattle.store.specs.declared.migrate.Migrated.{Migrated}
 use Rattle.store.specs.declared.migrate.Migrated.TheVariants.{Whole, NotEmpty, BadSchema}
 use Rattle.setup.specs.declared.refusal.Refusal.TheVariants as refusal
-use Rattle.store.proofs.MigratedLemmas.{migrated, done_told, some_told, fault_told, opening_told, opening_some, no_device, device_is, older_device}
+use Rattle.store.proofs.MigratedLemmas.{migrated, done_not_full, error_not_full, fault_tells, opening_tells, opening_some, no_device, device_is, older_device}
 use Rattle.store.proofs.migrate.migrate.Goals as goal
 
 pub returns-in-Ok-Whole-clause-migrates : goal.returns-in-Ok-Whole-clause-migrates
@@ -15,7 +15,7 @@ returns-in-Ok-Whole-clause-migrates g c =
     let f = state g.F.Store c.args.fresh.now.conn in
     let e = state g.F.Store c.migrate_rows.new.fresh in
     migrated s t f e c.args.fresh.now.kept _ _ _ (Ok Whole) (Ok tt) (subst (λ (m : Migrated). MigratesRows s t f e (Ok m)) c.in-Ok-Whole.field-0-is c.in-Ok-Whole.ensures.migrates)
-    c.new.ensures refl done_told (λ x told. told)
+    c.new.ensures refl done_not_full (λ x says. says)
 
 pub returns-in-Ok-NotEmpty-clause-migrates : goal.returns-in-Ok-NotEmpty-clause-migrates
 returns-in-Ok-NotEmpty-clause-migrates g c =
@@ -25,7 +25,7 @@ returns-in-Ok-NotEmpty-clause-migrates g c =
     let e = state g.F.Store c.migrate_rows.new.fresh in
     migrated s t f e c.args.fresh.now.kept _ _ _ (Ok NotEmpty) (Err refusal.NotEmpty)
     (subst (λ (m : Migrated). MigratesRows s t f e (Ok m)) c.in-Ok-NotEmpty.field-0-is c.in-Ok-NotEmpty.ensures.migrates)
-    c.new.ensures refl (λ _. refl) (λ x told. told)
+    c.new.ensures refl (λ _. refl) (λ x says. says)
 
 pub returns-in-Ok-BadSchema-clause-migrates : goal.returns-in-Ok-BadSchema-clause-migrates
 returns-in-Ok-BadSchema-clause-migrates g c =
@@ -35,7 +35,7 @@ returns-in-Ok-BadSchema-clause-migrates g c =
     let e = state g.F.Store c.migrate_rows.new.fresh in
     migrated s t f e c.args.fresh.now.kept _ _ _ (Ok BadSchema) (Err refusal.BadSchema)
     (subst (λ (m : Migrated). MigratesRows s t f e (Ok m)) c.in-Ok-BadSchema.field-0-is c.in-Ok-BadSchema.ensures.migrates)
-    c.new.ensures refl (some_told refusal.BadSchema (λ same. cc)) (λ x told. told)
+    c.new.ensures refl (error_not_full refusal.BadSchema (λ same. cc)) (λ x says. says)
 
 pub returns-in-Err-Source-clause-migrates : goal.returns-in-Err-Source-clause-migrates
 returns-in-Err-Source-clause-migrates g c =
@@ -43,9 +43,9 @@ returns-in-Err-Source-clause-migrates g c =
     let t = state g.S.Store c.migrate_rows.new.old in
     let f = state g.F.Store c.args.fresh.now.conn in
     let e = state g.F.Store c.migrate_rows.new.fresh in
-    let told = c.open_refusal.ensures in
+    let says = c.open_refusal.ensures in
     migrated s t f e c.args.fresh.now.kept _ _ _ (Err _) (Err c.open_refusal.result) c.in-Err-Source.ensures.migrates
-    c.new.ensures refl (some_told _ (opening_some _ told.opening)) (λ x _. opening_told x _ told.opening told.named)
+    c.new.ensures refl (error_not_full _ (opening_some _ says.opening)) (λ x _. opening_tells x _ says.opening says.named)
 
 pub returns-in-Err-Fresh-clause-migrates : goal.returns-in-Err-Fresh-clause-migrates
 returns-in-Err-Fresh-clause-migrates g c =
@@ -53,9 +53,9 @@ returns-in-Err-Fresh-clause-migrates g c =
     let t = state g.S.Store c.migrate_rows.new.old in
     let f = state g.F.Store c.args.fresh.now.conn in
     let e = state g.F.Store c.migrate_rows.new.fresh in
-    let named = c.told_as.ensures.named in
-    migrated s t f e c.args.fresh.now.kept _ _ _ (Err _) (Err c.told_as.result) c.in-Err-Fresh.ensures.migrates
-    c.new.ensures refl (some_told _ named.1) (λ x _. fault_told x _ named.0 named.1 named.2)
+    let named = c.refusal_of.ensures.named in
+    migrated s t f e c.args.fresh.now.kept _ _ _ (Err _) (Err c.refusal_of.result) c.in-Err-Fresh.ensures.migrates
+    c.new.ensures refl (error_not_full _ named.1) (λ x _. fault_tells x _ named.0 named.1 named.2)
 
 pub returns-in-Ok-Whole-clause-cause : goal.returns-in-Ok-Whole-clause-cause
 returns-in-Ok-Whole-clause-cause g c = no_device _ _ _ (Ok tt) (λ same. cc)
@@ -75,4 +75,4 @@ returns-in-Err-Source-clause-cause g c =
 
 pub returns-in-Err-Fresh-clause-cause : goal.returns-in-Err-Fresh-clause-cause
 returns-in-Err-Fresh-clause-cause g c =
-    record { no_fewer = c.fault.ensures.no_fewer; device = λ _ same. inr (c.fault.ensures.device (c.told_as.ensures.device (device_is c.told_as.result same))) }
+    record { no_fewer = c.fault.ensures.no_fewer; device = λ _ same. inr (c.fault.ensures.device (c.refusal_of.ensures.device (device_is c.refusal_of.result same))) }

@@ -37,8 +37,8 @@ returns g c =
     let format = c.in-Some.format in
     let has : s.now.schema ≡ schema_of format = search rules in
     record {
-      migrates = written format s t f m e c.told_of.result has c.is_blank.ensures.spares
+      migrates = written format s t f m e c.outcome_of.result has c.is_blank.ensures.spares
           (λ good x stands. let is = c.in-Ok-true.ensures.answer good x stands.0 stands.1 in (is.0, is.1.0 c.in-Ok-true.field-0-test))
-          (subst (Migrates format s t m e) (sym c.told_of.ensures.whole) c.write_world.ensures.migrates) c.told_of.ensures.named
-          (λ clean. written_cause format s t c.write_world.result c.told_of.result c.told_of.ensures.failed (c.write_world.ensures.cause clean has));
+          (subst (Migrates format s t m e) (sym c.outcome_of.ensures.whole) c.write_world.ensures.migrates) c.outcome_of.ensures.named
+          (λ clean. written_cause format s t c.write_world.result c.outcome_of.result c.outcome_of.ensures.failed (c.write_world.ensures.cause clean has));
     }

@@ -6,5 +6,5 @@ use Rattle.store.proofs.store.SqlShelves.fill.Goals as goal
 
 pub returns-clause-fills : goal.returns-clause-fills
 returns-clause-fills g c =
-    fills_kept (λ w. IsThere w c.args.wanted) (what c.args.wanted) _ _ _ _ c.args.self.now.kept _ c.args.fresh.now.kept _ _ _ _ _ c.fill_rows.result c.fill_rows.ensures.kept.0
-    (subst IsNothing (sym c.fill_rows.ensures.kept.1) c.new.ensures) c.fill_rows.ensures.fills
+    fills_kept (λ w. IsThere w c.args.wanted) (what c.args.wanted) _ _ _ _ c.args.self.now.kept _ c.args.fresh.now.kept _ _ _ _ _ c.fill_rows.result c.fill_rows.ensures.same.0
+    (subst IsNothing (sym c.fill_rows.ensures.same.1) c.new.ensures) c.fill_rows.ensures.fills

@@ -58,13 +58,13 @@ returns-in-Err-Source-clause-fills g c =
     let it = c.args.wanted in
     let fresh = state g.F.Store c.args.fresh.now.conn in
     let end = state g.F.Store c.extract_part.new.fresh in
-    let named = c.told_as.ensures.named in
+    let named = c.refusal_of.ensures.named in
     record {
       reads = is_read (state g.S.Store c.args.self.now.conn) (state g.S.Store c.extract_part.new.source) c.extract_part.ensures.reads;
       honest = was_clean fresh end c.extract_part.ensures.clean;
-      spares = λ unfit. absurd (fault_is_fit c.told_as.result named.1 named.2 unfit);
-      at = λ clean good w x sw sx. fills_at fresh end (IsThere w it) (what it w) x (Err c.told_as.result) good sx (what_is_world it w sw.1) (c.in-Err-Source.ensures.changes clean good w x sw sx)
-          (fault_tells (IsThere w it) x c.told_as.result named.0 named.1 named.2);
+      spares = λ unfit. absurd (fault_is_fit c.refusal_of.result named.1 named.2 unfit);
+      at = λ clean good w x sw sx. fills_at fresh end (IsThere w it) (what it w) x (Err c.refusal_of.result) good sx (what_is_world it w sw.1) (c.in-Err-Source.ensures.changes clean good w x sw sx)
+          (fault_tells (IsThere w it) x c.refusal_of.result named.0 named.1 named.2);
     }
 
 pub returns-clause-fills : goal.returns-clause-fills
@@ -72,12 +72,12 @@ returns-clause-fills g c =
     let it = c.args.wanted in
     let fresh = state g.F.Store c.args.fresh.now.conn in
     let end = state g.F.Store c.extract_part.new.fresh in
-    let named = c.told_as-in-Err-Fresh.ensures.named in
+    let named = c.refusal_of-in-Err-Fresh.ensures.named in
     record {
       reads = is_read (state g.S.Store c.args.self.now.conn) (state g.S.Store c.extract_part.new.source) c.extract_part.ensures.reads;
       honest = was_clean fresh end c.extract_part.ensures.clean;
-      spares = λ unfit. absurd (fault_is_fit c.told_as-in-Err-Fresh.result named.1 named.2 unfit);
-      at = λ clean good w x sw sx. fills_at fresh end (IsThere w it) (what it w) x (Err c.told_as-in-Err-Fresh.result) good sx
+      spares = λ unfit. absurd (fault_is_fit c.refusal_of-in-Err-Fresh.result named.1 named.2 unfit);
+      at = λ clean good w x sw sx. fills_at fresh end (IsThere w it) (what it w) x (Err c.refusal_of-in-Err-Fresh.result) good sx
           (what_is_world it w sw.1) (c.in-Err-Fresh.ensures.changes clean good w x sw sx)
-          (fault_tells (IsThere w it) x c.told_as-in-Err-Fresh.result named.0 named.1 named.2);
+          (fault_tells (IsThere w it) x c.refusal_of-in-Err-Fresh.result named.0 named.1 named.2);
     }

@@ -2,7 +2,7 @@ use Rattle.std.proofs.Common.{◌≡◌, ◌∙◌, None, option_copied, Ok, sym
 use Rattle.sqlite.specs.Held.{state}
 use Rattle.world.specs.World.{group_in}
 use Rattle.world.proofs.Causes.{answers, handed_on}
-use Rattle.store.proofs.StoreLemmas.{counted_cause, none_told, reads_kept, reads_keeping, reads}
+use Rattle.store.proofs.StoreLemmas.{counted_cause, no_answer, reads_kept, reads_keeping, reads}
 use Rattle.store.proofs.store.SqlShelves.group_of.Goals as goal
 
 pub returns-in-Some : goal.returns-in-Some
@@ -41,5 +41,5 @@ returns-in_err-found g c =
       reads = reads (state g.S.Store c.args.self.now.conn)
           (state g.S.Store c.find_shelf.new.conn) c.args.self.now.kept c.args.self.now.failures _ c.from_residual-in_err-found.result _ c.find_shelf.ensures.spares
           (handed_on _ _ _ c.from_residual-in_err-found.result c.from_residual-in_err-found.ensures.1 (counted_cause _ _ _ _ c.in_err-found.ensures))
-          (λ _ _ _. none_told _ c.from_residual-in_err-found.result c.from_residual-in_err-found.ensures.0);
+          (λ _ _ _. no_answer _ c.from_residual-in_err-found.result c.from_residual-in_err-found.ensures.0);
     }

@@ -8,10 +8,10 @@ use Rattle.store.proofs.store.SqlShelves.versions_kept.Goals as goal
 pub returns-in-Some : goal.returns-in-Some
 returns-in-Some g c =
     let kept = c.args.self.now.kept in
-    let told : c.min.result ≡ min c.in-Some.total most_counted = search rules in
+    let capped : c.min.result ≡ min c.in-Some.total most_counted = search rules in
     record {
       reads = reads_kept (state g.S.Store c.args.self.now.conn) kept kept c.args.self.now.failures c.min.result _
-          (λ w right. (count_of_total w kept.total c.in-Some.total c.min.result c.in-Some.is told right.0.1, right));
+          (λ w right. (count_of_total w kept.total c.in-Some.total c.min.result c.in-Some.is capped right.0.1, right));
     }
 
 pub returns : goal.returns

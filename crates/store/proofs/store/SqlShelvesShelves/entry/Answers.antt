@@ -18,8 +18,8 @@ returns-in_default g c =
       reads = record {
         honest = read.honest;
         at = λ h w stands.
-            let told = read.at h w stands in
-            record { answer = none_seen (view w c.args.shelf.now c.args.path.now (version_text c.args.version.now)) (sym c.in_default.is ∙ told.answer); stays = told.stays; left = told.left };
+            let says = read.at h w stands in
+            record { answer = none_seen (view w c.args.shelf.now c.args.path.now (version_text c.args.version.now)) (sym c.in_default.is ∙ says.answer); stays = says.stays; left = says.left };
         cause = answers _ _ None read.cause.no_fewer;
       };
     }
@@ -35,12 +35,12 @@ returns-in-Some-zip g c =
       reads = record {
         honest = read.honest;
         at = λ h w stands.
-            let told = read.at h w stands in
-            let right = told.stays.1 in
+            let says = read.at h w stands in
+            let right = says.stays.1 in
             record {
-              answer = ap Some c.with_zip.ensures ∙ whole w (chain w s) p v c.in-Some.seen c.in-Some-zip.zip (sym c.in-Some.is ∙ told.answer) (zip w right.3.0);
-              stays = (told.stays.0, (right.0, right.1, right.2, (fewer_zips w c.seen.new.self.kept.zips c.zip.new.self c.zip.ensures.others right.3.0, right.3.1, right.3.2)));
-              left = told.left;
+              answer = ap Some c.with_zip.ensures ∙ whole w (chain w s) p v c.in-Some.seen c.in-Some-zip.zip (sym c.in-Some.is ∙ says.answer) (zip w right.3.0);
+              stays = (says.stays.0, (right.0, right.1, right.2, (fewer_zips w c.seen.new.self.kept.zips c.zip.new.self c.zip.ensures.others right.3.0, right.3.1, right.3.2)));
+              left = says.left;
             };
         cause = answers _ _ (Some c.with_zip.result) read.cause.no_fewer;
       };
@@ -58,14 +58,14 @@ returns g c =
       reads = record {
         honest = λ h. read.honest (then.honest h);
         at = λ h w stands.
-            let told = read.at (then.honest h) w stands in
-            let right = told.stays.1 in
-            let more = then.at h w (told.stays.0, (right.0, right.1, right.2, (fewer_zips w c.seen.new.self.kept.zips c.zip.new.self c.zip.ensures.others right.3.0, right.3.1, right.3.2))) in
+            let says = read.at (then.honest h) w stands in
+            let right = says.stays.1 in
+            let more = then.at h w (says.stays.0, (right.0, right.1, right.2, (fewer_zips w c.seen.new.self.kept.zips c.zip.new.self c.zip.ensures.others right.3.0, right.3.1, right.3.2))) in
             let after = more.stays.1 in
             record {
               answer = c.keep_seen-seen.ensures.same ∙ more.answer;
               stays = (more.stays.0, (after.0, after.1, after.2, (kept w after.3.0 (stands_on w (chain w s) p v c.in_ok-found.found (sym more.answer)), after.3.1, after.3.2)));
-              left = λ x y was. more.left x y (told.left x y was);
+              left = λ x y was. more.left x y (says.left x y was);
             };
         cause = in_turn _ _ _ _ _ read.cause (answers _ _ _ then.cause.no_fewer);
       };
@@ -79,10 +79,10 @@ returns-in_err-found g c =
       reads = record {
         honest = λ h. read.honest (then.honest h);
         at = λ h w stands.
-            let told = read.at (then.honest h) w stands in
-            let right = told.stays.1 in
-            let more = then.at h w (told.stays.0, (right.0, right.1, right.2, (fewer_zips w c.seen.new.self.kept.zips c.zip.new.self c.zip.ensures.others right.3.0, right.3.1, right.3.2))) in
-            record { answer = search rules; stays = more.stays; left = λ x y was. more.left x y (told.left x y was) };
+            let says = read.at (then.honest h) w stands in
+            let right = says.stays.1 in
+            let more = then.at h w (says.stays.0, (right.0, right.1, right.2, (fewer_zips w c.seen.new.self.kept.zips c.zip.new.self c.zip.ensures.others right.3.0, right.3.1, right.3.2))) in
+            record { answer = search rules; stays = more.stays; left = λ x y was. more.left x y (says.left x y was) };
         cause =
             let next = handed_on _ _ _ c.from_residual-in_err-found.result c.from_residual-in_err-found.ensures.1 then.cause in
             in_turn _ _ _ _ _ read.cause (record { no_fewer = next.no_fewer; device = next.device });

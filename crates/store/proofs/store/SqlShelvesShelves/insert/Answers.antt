@@ -11,7 +11,7 @@ use Rattle.store.proofs.store.SqlShelvesShelves.insert.Goals as goal
 
 pub returns : goal.returns
 returns g c =
-    let told = rw c.as_str-path.ensures.value at c.add_entry-added.ensures.changes in
+    let added = rw c.as_str-path.ensures.value at c.add_entry-added.ensures.changes in
     let raised = rw c.as_str-path.ensures.value at c.raise.ensures in
     let forgot = λ (w : World) (right : AreLists w c.args.self.now.kept.lists).
     subst (λ p. AreLists (with_entry w (place c.args.shelf.now p (version_text c.args.version.now)) c.args.entry.now) c.forget.new.self) c.as_str-path.ensures.value
@@ -20,7 +20,7 @@ returns g c =
       does = changes (state g.S.Store c.args.self.now.conn) (state g.S.Store c.add_entry-added.new.conn) c.args.self.now.kept (record c.args.self.now.kept
           { counts = c.raise.new.self; total = c.raised-self.result; lists = c.forget.new.self; headings = c.no_headings.result }) c.args.self.now.failures _ c.add_entry-added.result (Ok tt) _
           (λ _. tt) _ c.in_ok-counted.ensures c.add_entry-added.ensures.clean
-          (λ clean w stands room. (answer_unit c.add_entry-added.result, told clean w stands.0 room.free, entry_added w _ _ stands.1 room))
+          (λ clean w stands room. (answer_unit c.add_entry-added.result, added clean w stands.0 room.free, entry_added w _ _ stands.1 room))
           (λ w room right. (
             (
               (raised w (version_text c.args.version.now) c.args.entry.now room.free right.0.0, c.raised-self.ensures w _ c.args.entry.now room.free right.0.1),
@@ -34,10 +34,10 @@ returns g c =
 
 pub returns-in_err-counted : goal.returns-in_err-counted
 returns-in_err-counted g c =
-    let told = rw c.as_str-path.ensures.value at c.add_entry-added.ensures.changes in
+    let added = rw c.as_str-path.ensures.value at c.add_entry-added.ensures.changes in
     record {
       does = changes_failed (state g.S.Store c.args.self.now.conn) (state g.S.Store c.add_entry-added.new.conn) c.args.self.now.kept c.args.self.now.kept c.args.self.now.failures _
           c.add_entry-added.result _ c.from_residual.result _ (λ _. tt) _ c.from_residual.ensures c.in_err-counted.ensures c.add_entry-added.ensures.clean
-          (λ clean w stands room. (answer_unit c.add_entry-added.result, told clean w stands.0 room.free, entry_added w _ _ stands.1 room))
+          (λ clean w stands room. (answer_unit c.add_entry-added.result, added clean w stands.0 room.free, entry_added w _ _ stands.1 room))
           (λ _ _ right. right);
     }

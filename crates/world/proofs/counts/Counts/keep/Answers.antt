@@ -1,5 +1,5 @@
 use Rattle.std.proofs.Common.{◌≡◌, inl, rules}
-use Rattle.world.specs.Kept.{put_under}
+use Rattle.world.specs.FinMaps.{put_under}
 use Rattle.world.proofs.Counted.{empty_counts, kept_counts}
 use Rattle.world.proofs.counts.Counts.keep.Goals as goal
 

@@ -1,6 +1,6 @@
 use Rattle.std.proofs.Common.{◌≡◌, ◌+◌, inl, inr, sym, ap, ◌∙◌, rules}
 use Rattle.world.specs.World.{place, with_entry}
-use Rattle.world.specs.Kept.{put_under}
+use Rattle.world.specs.FinMaps.{put_under}
 use Rattle.world.proofs.Counted.{empty_counts, raised_counts, other_counts}
 use Rattle.world.proofs.counts.Counts.raise.Goals as goal
 

@@ -6,5 +6,5 @@ use Rattle.world.proofs.kept_lists.KeptLists.take.Goals as goal
 pub returns-clause-taken : goal.returns-clause-taken
 returns-clause-taken c w are =
     let lists = c.self.inside.lists.items in
-    let found : position (is_of c.args.shelf.now c.args.path.now) lists ≡ Some c.in_ok-place.place = search rules in
-    taken_versions lists c.in_ok-place.place c.swap_remove-list.result c.swap_remove-list.ensures.value c.args.shelf.now c.args.path.now w found (subst (AreLists w) (sym c.self.view_is) are)
+    let found : position (is_of c.args.shelf.now c.args.path.now) lists ≡ Some c.in_ok-index.index = search rules in
+    taken_versions lists c.in_ok-index.index c.swap_remove-list.result c.swap_remove-list.ensures.value c.args.shelf.now c.args.path.now w found (subst (AreLists w) (sym c.self.view_is) are)

@@ -3,7 +3,7 @@ use Rattle.std.specs.FinMap as map
 use Rattle.std.specs.FinSet as set
 use Rattle.world.specs.Visible.{paths_among, paths_on, paths_seen}
 use Rattle.world.specs.World.{World, above, text_cmp}
-use Rattle.world.proofs.MapsDone.{told, no_fault}
+use Rattle.world.proofs.MapsDone.{read, no_fault}
 use Rattle.world.proofs.MapsSeen.{put_first}
 use Rattle.world.proofs.map_shelves.MapShelvesShelves.paths.Goals as goal
 
@@ -16,7 +16,7 @@ returns c = record {
         let s = c.args.shelf.now in
         let was : World = record { keys = c.self.inside.keys; shelves = c.self.inside.shelves; entries = c.self.inside.entries } in
         let own : World → set.FinSet text_cmp = λ x. paths_among s (map.entries x.entries) in
-        told m w c.add_paths_above.new.paths (paths_seen w s) is
+        read m w c.add_paths_above.new.paths (paths_seen w s) is
         (c.in_ok-add_paths_above.ensures
         ∙ ap (λ ps. set.union ps (paths_on m (above (option_copied c.group_of.result))))
         (c.in_ok-add_paths.ensures ∙ ap (λ ps. set.union ps (own was)) c.new-paths.ensures ∙ put_first (own was) ∙ ap own c.self.view_is)

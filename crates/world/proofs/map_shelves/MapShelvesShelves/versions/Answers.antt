@@ -1,7 +1,7 @@
 use Rattle.std.proofs.Common.{◌≡◌, ◌∙◌, ap, sym}
 use Rattle.world.specs.Versions.{versions_of}
 use Rattle.world.specs.World.{World}
-use Rattle.world.proofs.MapsDone.{told_of, no_fault}
+use Rattle.world.proofs.MapsDone.{read_beside, no_fault}
 use Rattle.world.proofs.map_shelves.MapShelvesShelves.versions.Goals as goal
 
 pub invariant_of-self : goal.invariant_of-self
@@ -22,7 +22,7 @@ returns c = record {
         let s = c.args.shelf.now in
         let p = c.args.path.now in
         let found = rw c.as_str.ensures.value at c.in_ok-found.ensures.found in
-        told_of c.args.self.now _ w _ (versions_of w s p) (c.self.view_is ∙ c.take_versions.ensures.stays) is (found ∙ ap (λ (x : World). versions_of x s p) is.0);
+        read_beside c.args.self.now _ w _ (versions_of w s p) (c.self.view_is ∙ c.take_versions.ensures.stays) is (found ∙ ap (λ (x : World). versions_of x s p) is.0);
     cause = no_fault _ _ _;
   };
 }

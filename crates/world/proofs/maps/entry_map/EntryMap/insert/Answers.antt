@@ -2,8 +2,8 @@ use Rattle.std.proofs.Common.{◌∙◌, ap, sym, subst}
 use Rattle.std.specs.FinMap as map
 use Rattle.std.proofs.lemmas.Result.{on_ok_weaker, on_err_weaker}
 use Rattle.world.specs.World.{place}
-use Rattle.world.specs.Kept.{EachHasVersion, by_place, put_under}
-use Rattle.world.proofs.MapsNested.{kept_found}
+use Rattle.world.specs.FinMaps.{EachHasVersion, by_place, put_under}
+use Rattle.world.proofs.MapsNested.{same_found}
 use Rattle.world.proofs.MapsPlaces.{put_at_place, put_on_shelf, put_on_new}
 use Rattle.world.proofs.MapsSeen.{after_either, each_after}
 use Rattle.world.proofs.maps.entry_map.EntryMap.insert.Goals as goal
@@ -23,7 +23,7 @@ pub returns-in-Some-clause-err : goal.returns-in-Some-clause-err
 returns-in-Some-clause-err c =
     let lent = rw c.in-Some.is at (c.get_mut.follows.holds c.insert_under.new.self) in
     on_err_weaker c.insert_under.result
-    (λ kept. ap by_place (kept_found c.self.inside.shelves c.args.shelf.now c.in-Some.ensures.value lent kept) ∙ c.self.view_is)
+    (λ same. ap by_place (same_found c.self.inside.shelves c.args.shelf.now c.in-Some.ensures.value lent same) ∙ c.self.view_is)
     c.insert_under.ensures.err
 
 pub invariant_of-self : goal.invariant_of-self
@@ -34,7 +34,7 @@ invariant_of-self c =
     let lent = rw c.in-Some.is at (c.get_mut.follows.holds c.insert_under.new.self) in
     after_either (c.get_mut.follows.lender c.insert_under.new.self) c.insert_under.result c.insert_under.ensures.ok c.insert_under.ensures.err
     (λ put. subst EachHasVersion (sym (put_on_shelf c.self.inside.shelves s p v c.args.entry c.in-Some.ensures.value lent put)) (each_after c.self.inside.shelves s p v c.args.entry c.self.invariant))
-    (λ kept. subst EachHasVersion (sym (kept_found c.self.inside.shelves s c.in-Some.ensures.value lent kept)) c.self.invariant)
+    (λ same. subst EachHasVersion (sym (same_found c.self.inside.shelves s c.in-Some.ensures.value lent same)) c.self.invariant)
 
 pub returns-clause-ok : goal.returns-clause-ok
 returns-clause-ok c =
@@ -60,4 +60,4 @@ invariant_of-self-2 c =
     ∙ ap (λ m. map.insert m s c.insert_under-2.new.self) c.get_mut.follows.holds-at-none)
     (c.in_ok-insert_under.ensures.ok ∙ ap (λ paths. put_under paths p v c.args.entry) c.new-paths.ensures)))
     (each_after c.self.inside.shelves s p v c.args.entry c.self.invariant))
-    (λ kept. subst EachHasVersion (sym (kept ∙ c.get_mut.follows.holds-at-none)) c.self.invariant)
+    (λ same. subst EachHasVersion (sym (same ∙ c.get_mut.follows.holds-at-none)) c.self.invariant)

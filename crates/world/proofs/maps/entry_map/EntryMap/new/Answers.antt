@@ -1,5 +1,5 @@
 use Rattle.std.proofs.Common.{◌∙◌, ap, sym, subst}
-use Rattle.world.specs.Kept.{EachHasVersion, by_place}
+use Rattle.world.specs.FinMaps.{EachHasVersion, by_place}
 use Rattle.world.proofs.MapsPlaces.{by_place-empty}
 use Rattle.world.proofs.MapsSeen.{none_without}
 use Rattle.world.proofs.maps.entry_map.EntryMap.new.Goals as goal

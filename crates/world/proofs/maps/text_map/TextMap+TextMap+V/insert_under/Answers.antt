@@ -1,7 +1,7 @@
 use Rattle.std.proofs.Common.{◌∙◌, ap}
 use Rattle.std.specs.FinMap as map
 use Rattle.std.proofs.lemmas.Result.{on_ok_weaker, on_err_weaker}
-use Rattle.world.proofs.MapsNested.{put_found, kept_found}
+use Rattle.world.proofs.MapsNested.{put_found, same_found}
 use Rattle.world.proofs.maps.text_map.TextMap+TextMap+V.insert_under.Goals as goal
 
 pub returns-in-Some-clause-ok : goal.returns-in-Some-clause-ok
@@ -15,4 +15,4 @@ returns-in-Some-clause-ok g c =
 pub returns-in-Some-clause-err : goal.returns-in-Some-clause-err
 returns-in-Some-clause-err g c =
     let lent = rw c.in-Some.is at (c.get_mut.follows.holds c.insert.new.self) in
-    on_err_weaker c.insert.result (λ kept. kept_found c.args.self.now c.args.first.now c.in-Some.ensures.value lent kept) c.insert.ensures.err
+    on_err_weaker c.insert.result (λ same. same_found c.args.self.now c.args.first.now c.in-Some.ensures.value lent same) c.insert.ensures.err

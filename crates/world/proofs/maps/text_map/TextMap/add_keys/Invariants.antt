@@ -1,7 +1,7 @@
 use Rattle.std.proofs.Common.{◌≡◌, string_bytes}
 use Rattle.std.proofs.Common.{map as each}
 use Rattle.std.specs.FinMap as map
-use Rattle.world.specs.Kept.{with_texts}
+use Rattle.world.specs.FinMaps.{with_texts}
 use Rattle.world.proofs.maps.text_map.TextMap.add_keys.Given as goal
 
 abbrev pub invariant-loop-key : goal.invariant-loop-key

@@ -57,6 +57,7 @@ answered : (m : Request) (a : Answer) → bytes_of m a ≢ unavailable → IsAns
 answered m (Replied r) other = tt
 answered m (Failed fault) other = absurd (other refl)
 
+-- if no remaining text is the 503, each remaining message was answered
 remaining_answered : (w : World) (ss : List (List ℕ)) (xs : List Exchange) → NoneUnavailable (remaining_texts w ss xs)
     → RemainingAnswered w ss (map event_of xs) (map answer_of xs)
 remaining_answered w ss [] none = tt

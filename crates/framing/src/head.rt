@@ -18,8 +18,8 @@ pub const HEAD_LIMIT: usize = 16_384;
 pub const HEADER_LIMIT: usize = 64;
 
 /// The most bytes of a body.
-/// `framing` knows nothing of a go.mod or a zip, so the number is written here; a law of `engine` says that it is the
-/// sum of their limits.
+/// `framing` knows nothing of a go.mod or a zip, so the number is written here; `engine::laws::body_has_room_for_both_files`
+/// says that it is the sum of their limits.
 pub const BODY_LIMIT: usize = 17_825_792;
 
 /// How often a header occurs in a head.

@@ -39,6 +39,7 @@ entries_under-append k (i ∷ is) js =
     ap (λ l. cond (is_keyword k i.keyword) (i.entry ∷ l) l) (entries_under-append k is js)
     ∙ cond-join (is_keyword k i.keyword) i.entry (entries_under k is) (entries_under k js)
 
+-- the module paths of two lists of entries, at most one of which has any, are those of both together
 paths_join : (xs ys : List Row) (p q : Option (List ℕ)) → (xs ≡ []) ⊎ (ys ≡ []) → Pointwise (λ e x. IsModuleEntry e.symbols x) xs (path_list p)
     → Pointwise (λ e x. IsModuleEntry e.symbols x) ys (path_list q) → Pointwise (λ e x. IsModuleEntry e.symbols x) (xs ++ ys) (path_list (last_path p q))
 paths_join [] ys None None once h k = k

@@ -38,6 +38,7 @@ pub joined-joined : (r : Said) (f g : Context → Said) → joined r (λ c. join
 joined-joined (Ok x) f g = with_joined x.1 (f x.0) g
 joined-joined (Err e) f g = refl
 
+-- the lines of two lists say what those of the first say and then those of the second, from the line and the context behind them
 pub lines_say-append : (known : Keywords) (line : ℕ) (c : Context) (ls ms : List (List ℕ))
     → lines_say known line c (ls ++ ms) ≡ joined (lines_say known line c ls) (λ d. lines_say known (line + length ls) d ms)
 lines_say-append known line c [] ms =

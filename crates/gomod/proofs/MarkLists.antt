@@ -211,6 +211,7 @@ set-marks marks new first n k e le h =
 
 -- ---- an interval's marks
 
+-- the marks of one more interval: true for the versions from the first that is not below it, as many as it reaches
 pub marked-once : (vs : List Version) (is : List Interval) (i : Interval) (first n : ℕ) → first ≤ length vs
     → IsPartitionPoint (λ v. is_below v i.low ≡ true) (λ v. is_below v i.low ≡ false) vs first → Reaches i (drop first vs) n
     → take first (marked vs is) ++ (replicate n true ++ drop n (drop first (marked vs is))) ≡ marked vs (is ++ i ∷ [])

@@ -186,6 +186,7 @@ inside_fault known line ds b t ts f alone h =
     (chosen (is_module b.keyword && (context_at ds (Some b)).has_module) _ _ _ other.1))
     (chosen (is_closing (t ∷ ts)) _ _ _ h)
 
+-- where a line says a fault, the fault is that of its row
 pub says_fault : (known : Keywords) (line : ℕ) (ds : List Directive) (o : Option OpenBlock) (ts : List Symbol) (f : GoModFault)
     → IsAlone ds o → line_says known line (context_at ds o) ts ≡ Err f → IsRowFault known ds o line ts f
 unfolding line_says line_outside

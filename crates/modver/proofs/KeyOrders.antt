@@ -188,6 +188,7 @@ order-key u v p q =
 
 -- ---- the first bytes
 
+-- the bytes at 0 to 7, or zeros, are the first eight
 pub eight-bytes : (x : List ℕ) → get_or x 0 0 ∷ get_or x 1 0 ∷ get_or x 2 0 ∷ get_or x 3 0 ∷ get_or x 4 0 ∷ get_or x 5 0 ∷ get_or x 6 0 ∷ get_or x 7 0 ∷ [] ≡ padded 8 x
 eight-bytes [] = refl
 eight-bytes (a ∷ []) = refl
@@ -227,6 +228,7 @@ padded-less (suc n) (a ∷ xs) (b ∷ ys) e = elim (cases_lt a b) [
   ]
 ]
 
+-- lists whose first bytes compare as greater compare so whole
 padded-greater : (n : ℕ) (x y : List ℕ) → bytes_cmp (padded n x) (padded n y) ≡ Greater → bytes_cmp x y ≡ Greater
 padded-greater zero x y e = cc e
 padded-greater (suc n) [] [] e = padded-greater n [] [] e

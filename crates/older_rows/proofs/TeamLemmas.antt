@@ -149,6 +149,7 @@ came so_far db (r ∷ rows) end after visited s there = elim (came visited.0 vis
   ]
 ]
 
+-- if `common` is there after a walk, it was there before or came from one of the rows
 top_came : (so_far : ShelfRows) (db : Trees) (rows : List Row) (end : ShelfRows) (after : Trees)
     → Visits Puts so_far db rows end after → end.has_common ≡ true → (so_far.has_common ≡ true) ⊎ HasRow rows common
 top_came so_far db [] end after same has = inl (ap (λ (x : ShelfRows). x.has_common) (sym same.0) ∙ has)

@@ -117,6 +117,7 @@ low_decided w x s o p d low = low
 same_decision : (a b : Decision) → reply.Decided a ≡ reply.Decided b → a ≡ b
 same_decision a b e = cc
 
+-- a request with a key that both worlds hold alike, and that gets equal replies, leaves worlds that are the same to a shelf
 low_asked : (w x : World) (s : List ℕ) (a : Ask) (k : List ℕ) → key_of a ≡ Some k → map.get w.keys k ≡ map.get x.keys k
     → ask_reply w a ≡ ask_reply x a → Low w x s → Low (after_ask w a) (after_ask x a) s
 low_asked w x s Unreadable k by held alike low = low

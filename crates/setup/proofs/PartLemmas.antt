@@ -280,6 +280,7 @@ SeenSoFar w done shelves = ((t : List ℕ) → Has done t → IsTeam w t) × Are
 pub none_so_far : (w : World) → SeenSoFar w [] []
 none_so_far w = (λ t none. absurd none, none_of w)
 
+-- with the shelves of one more team, the names and the shelves so far are those of one team more
 pub one_so_far : (w : World) → IsWorld w → (done : List (List ℕ)) (shelves more : List Shelf) (t : List ℕ)
     → AddsTeam w t shelves (Some more) → SeenSoFar w done shelves → SeenSoFar w (done ++ t ∷ []) more
 one_so_far w is done shelves more t adds seen = (

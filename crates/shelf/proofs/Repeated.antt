@@ -93,6 +93,7 @@ again_same w s k p may served =
     let same = served_is_same w s p served in
     (ap (λ o. decision w o p) may ∙ same, ap (λ o. after_decision w o p (decision w o p)) may ∙ ap (after_decision w (Some (record { shelf = s; right = Publishes })) p) same)
 
+-- publishes that the shelf serves already are answered Same, or fail, and change nothing
 again : (w new : World) (s k : List ℕ) (ps : List Publish) (answers : List Answer) → map.get w.keys k ≡ Some (record { shelf = s; right = Publishes })
     → AllServed w s ps → Run w (puts k ps) answers new → AllSameOrFailed answers × (new ≡ w)
 again w new s k [] [] may served run = (tt, run)

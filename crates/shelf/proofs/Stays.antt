@@ -165,6 +165,7 @@ entries_revoke : (w : World) (k : List ℕ) (r : Registered) → w.entries ≡ (
 entries_revoke w k Done = refl
 entries_revoke w k r = refl
 
+-- what a shelf sees of a version it sees after any event
 pub stays_seen : (w : World) (s p v : List ℕ) (e : Event) (seen : Seen) → map.contains_key w.shelves s ≡ true → view w s p v ≡ Some seen → view (after w e) s p v ≡ Some seen
 stays_seen w s p v (Asked Unreadable) seen stands found = found
 stays_seen w s p v (Asked (Get k q)) seen stands found = found

@@ -17,6 +17,7 @@ use world::shelves::Shelves;
 use world::version_list::Versions;
 
 /// Returns the reply to a GET with a key: `NotFound` if the key is unknown or its shelf does not see what is asked for.
+/// Each key may read, so its right is not asked.
 /// Fails with `Device` if a device failed, and with `Memory` if memory ran out.
 pub fn answer_query<S: Shelves>(
     alloc: Global,

@@ -247,6 +247,7 @@ means db r = record {
   pieces = rw r.piece tt;
 }
 
+-- the sixth statement puts the row of `meta` and changes no other table
 pub put_meta : (old new : State) (count : ℕ) → old.now.schema ≡ store_schema → old.now.trees 0 ≡ [] → ExecutesIn true first6 [] old new (Ok count)
     → (new.now.schema ≡ store_schema) × (new.now.trees 0 ≡ meta_row ∷ []) × (new.now.trees 2 ≡ old.now.trees 2) × (new.now.trees 4 ≡ old.now.trees 4) × (new.now.trees 6 ≡ old.now.trees 6)
     × (new.now.trees 8 ≡ old.now.trees 8)
@@ -261,6 +262,7 @@ put_meta old new count has none h =
       it.1.tables.1.1.1.1.0 (λ e. omega (arith, e)),
     )
 
+-- the seventh statement puts the row of `common` and changes no other table
 put_common : (old new : State) (count : ℕ) → old.now.schema ≡ store_schema → old.now.trees 2 ≡ [] → ExecutesIn true first7 [] old new (Ok count)
     → (new.now.schema ≡ store_schema) × (new.now.trees 2 ≡ common_row ∷ []) × (new.now.trees 4 ≡ old.now.trees 4) × (new.now.trees 6 ≡ old.now.trees 6)
     × (new.now.trees 0 ≡ old.now.trees 0) × IsDatabase new.now × IsTrue new.is_open × (new.now.trees 8 ≡ old.now.trees 8)

@@ -247,6 +247,7 @@ top_stays (Real x) t u s h = h
 top_stays (Text x) t u s h = h
 top_stays (Blob x) t u s h = h
 
+-- a top that is there after a walk was there before or came from one of the rows
 tops_from : (start : ShelfRows) (rows : List Row) (end : ShelfRows) → Pass ShelfFits ShelfKeeps start rows end
     → (u : List ℕ) → set.contains end.tops u ≡ true → (set.contains start.tops u ≡ true) ⊎ Fit.HasTop rows u
 tops_from start [] end p u h = inl (ap (λ (x : ShelfRows). set.contains x.tops u) (sym p) ∙ h)

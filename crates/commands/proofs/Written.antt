@@ -1,10 +1,9 @@
 -- Writing one text after another.
-use Rattle.std.proofs.Common.{◌≢◌, ◌++◌, List, ℕ, Option, [], ◌∷◌, Ok, Err, Result, refl, sym, ap, ◌∙◌, append_assoc, append-nil}
+use Rattle.std.proofs.Common.{◌≢◌, ◌++◌, List, ℕ, Option, [], ◌∷◌, Ok, Err, Result, refl, sym, ap, ◌∙◌, append_assoc}
 use Rattle.std.proofs.KnownBytes.{Appends-trans}
 use Rattle.std.specs.Io.KnownBytes.{Appends}
 use Rattle.engine.specs.Written.{Writes, WritesBeginning}
 use Rattle.engine.specs.declared.fault.Io.{Io}
-use Rattle.commands.specs.ImportLine.{PrintsFront}
 
 -- writing a text and then another, or a beginning of it, writes both, or a beginning
 pub writes_after : {T : Type 0} (a b c : Option (List ℕ)) (first last : List ℕ) (result : Result T Io) → Appends a b first → Writes b c last result
@@ -28,8 +27,3 @@ longer (x ∷ rest) last some = λ none. cc
 pub begins_both : (a b : Option (List ℕ)) (first last : List ℕ) → WritesBeginning a b first → WritesBeginning a b (first ++ last)
 begins_both a b first last (front, (rest, some, cut), did) =
     (front, (rest ++ last, longer rest last some, ap (λ l. l ++ last) cut ∙ append_assoc front rest last), did)
-
--- what was written is a beginning of the text, however the write ended
-pub writes_front : {T : Type 0} (a b : Option (List ℕ)) (text : List ℕ) (result : Result T Io) → Writes a b text result → PrintsFront a b text
-writes_front a b text (Ok u) done = (text, ([], sym (append-nil text)), done)
-writes_front a b text (Err e) begun = (begun.1.0, (begun.1.1.0, begun.1.1.2), begun.1.2)

@@ -1,10 +1,9 @@
 -- The line that orders a copy.
-use Rattle.std.proofs.Common.{◌≡◌, ◌≢◌, ℕ, List, true, Option, Some, None, Result, Ok, Err, MatchOption, sym, ap, ◌∙◌, subst}
-use Rattle.std.specs.Prelude.{codes, option_copied, IfOk, IfErr}
-use Rattle.std.proofs.lemmas.Bool.{false≢true}
+use Rattle.std.proofs.Common.{◌≡◌, ℕ, List, Option, Some, None, Result, Ok, Err, MatchOption, sym, ap, subst}
+use Rattle.std.specs.Prelude.{option_copied, IfOk, IfErr}
 use denote.Ref.{Bor}
 use Rattle.control.specs.Asking.{IsUnwritten, IsUnsent}
-use Rattle.control.specs.Line.{IsLine, IsSaid, IsSent, HoldsNoLine, IsNoCopy, CopiesNothing, SaysNoCopy, copy_words, longest, longest_copy}
+use Rattle.control.specs.Line.{IsLine, IsSaid, IsSent, IsNoCopy, CopiesNothing, SaysNoCopy, copy_words, longest, longest_copy}
 use Rattle.control.specs.Order.{two, said_in}
 use Rattle.control.specs.Words.{Said, said, IsTextOf, HasNoWords}
 use Rattle.control.specs.declared.words.Words.{Words}
@@ -12,13 +11,9 @@ use Rattle.control.specs.declared.client.Untold.{Untold}
 use Rattle.control.specs.declared.client.Untold.TheVariants as untold
 use Rattle.control.specs.declared.order.Order.{Order}
 use Rattle.control.proofs.LineLemmas.{one_line}
-use Rattle.control.proofs.OrderLemmas.{verb_of, is_longer}
 use Rattle.control.proofs.WordLemmas.{one_saying}
 
 -- ---- which words order a copy
-
-pub another_verb : (verb path : List ℕ) → verb ≢ codes "copy" → SaysNoCopy (two verb path)
-another_verb verb path other to e = other (ap verb_of e)
 
 pub by_two : (w : Words) (r : Option (Bor (List ℕ))) → w.second ≡ None
     → MatchOption r (SaysNoCopy (two w.verb.now w.first.now)) (λ p. two w.verb.now w.first.now ≡ copy_words p.now)
@@ -27,9 +22,6 @@ by_two w r none two_say =
     let same : two w.verb.now w.first.now ≡ said w =
     ap (λ o. record { verb = w.verb.now; first = w.first.now; second = option_copied o }) (sym none) in
     subst (λ s. MatchOption r (SaysNoCopy s) (λ p. s ≡ copy_words p.now)) same two_say
-
-pub three_words : (s : Said) → is_longer s ≡ true → SaysNoCopy s
-three_words s longer to e = false≢true (sym (ap is_longer e) ∙ longer)
 
 -- ---- which lines order a copy
 
@@ -45,9 +37,6 @@ copy_read line s given None none = copies_nothing line s given none
 copy_read line s given (Some p) same = subst (IsTextOf line) same given
 
 -- ---- which bytes order a copy
-
-pub no_line_copied : (got : List ℕ) → HoldsNoLine longest_copy got → IsNoCopy got
-no_line_copied got none path says = none says.line says.ends
 
 pub no_copy : (got line : List ℕ) → IsLine longest_copy got line → CopiesNothing line → IsNoCopy got
 no_copy got line holds nothing path says =

@@ -1,5 +1,5 @@
 -- Lines among bytes.
-use Rattle.std.proofs.Common.{◌≡◌, ◌≢◌, ℕ, ◌-◌, ◌+◌, ◌<◌, ◌≤◌, nat_eq, Bool, true, false, List, [], ◌∷◌, ◌++◌, length, get_or, take, drop, arith, sym, subst, ◌∙◌, Option, Some, None, MatchOption}
+use Rattle.std.proofs.Common.{◌≡◌, ◌≢◌, ℕ, ◌-◌, ◌+◌, nat_eq, Bool, true, false, List, [], ◌∷◌, ◌++◌, length, get_or, take, drop, sym, subst, ◌∙◌, Option, Some, MatchOption}
 use denote.Ref.{Bor}
 use Rattle.std.specs.List.{Contains, IsAnyAnswer}
 use Rattle.std.proofs.Math.Dec.{eqb}
@@ -10,7 +10,6 @@ use Rattle.std.proofs.lemmas.Slice.Eq.{strip_suffix_is}
 use Rattle.std.specs.Str.{IsUtf8}
 use Rattle.std.proofs.lemmas.List.{append_cancel_right}
 use Rattle.control.specs.Line.{longest, IsLine, HoldsNoLine, IsNoOrder}
-use Rattle.control.specs.Order.{Orders, OrdersNothing}
 use Rattle.control.specs.Words.{line_end}
 
 -- ---- the end of a line is cut off
@@ -23,9 +22,6 @@ Stripped s p r =
 pub end_cut : (s p : List ℕ) (r : Option (Bor (List ℕ))) (x : Bor (List ℕ)) → r ≡ Some x → Stripped s p r → s ≡ x.now ++ p
 end_cut s p r x is cases = subst (λ o. MatchOption o ((front : List ℕ) → s ≢ front ++ p) (λ y. s ≡ y.now ++ p)) is (strip_suffix_is unsigned_Decides s p r cases)
 
-pub no_end_cut : (s p : List ℕ) (r : Option (Bor (List ℕ))) → r ≡ None → Stripped s p r → (front : List ℕ) → s ≢ front ++ p
-no_end_cut s p r is cases = subst (λ o. MatchOption o ((front : List ℕ) → s ≢ front ++ p) (λ y. s ≡ y.now ++ p)) is (strip_suffix_is unsigned_Decides s p r cases)
-
 -- ---- lines
 
 -- bytes have at most one line
@@ -35,17 +31,8 @@ one_line got line other is holds = append_cancel_right other line (line_end ∷ 
 pub no_end : (most : ℕ) (got : List ℕ) → ((front : List ℕ) → got ≢ front ++ line_end ∷ []) → HoldsNoLine most got
 no_end most got none line holds = none line holds.is
 
-pub too_long : (most : ℕ) (got line : List ℕ) → got ≡ line ++ line_end ∷ [] → most < length line → HoldsNoLine most got
-too_long most got line is long other holds =
-    let few = subst (λ l. length l ≤ most) (one_line got line other is holds) holds.few in omega (arith, few, long)
-
 pub no_text : (most : ℕ) (got line : List ℕ) → got ≡ line ++ line_end ∷ [] → ¬ IsUtf8 line → HoldsNoLine most got
 no_text most got line is none other holds = none (subst IsUtf8 (one_line got line other is holds) holds.text)
-
--- bytes with a line that orders nothing are no order's
-pub no_order : (got line : List ℕ) → IsLine longest got line → OrdersNothing line → IsNoOrder got
-no_order got line holds nothing order sent =
-    nothing order (subst (λ l. Orders l order) (one_line got line sent.line holds.is sent.ends) sent.orders)
 
 pub no_line : (got : List ℕ) → HoldsNoLine longest got → IsNoOrder got
 no_line got none order sent = none sent.line sent.ends

@@ -1,38 +1,18 @@
 -- What words say no order.
-use Rattle.std.proofs.Common.{◌≡◌, ◌≢◌, ℕ, List, [], Bool, true, false, Option, Some, None, MatchOption, refl, sym, ap, ◌∙◌, subst}
+use Rattle.std.proofs.Common.{◌≡◌, ℕ, List, [], Bool, true, false, Option, Some, None, MatchOption, refl, sym, ap, ◌∙◌, subst}
 use Rattle.std.specs.Prelude.{codes, bytes_eq, if◌then◌else◌, unwrap_or}
-use Rattle.std.proofs.lemmas.Bool.{false≢true}
 use Rattle.shelf.specs.declared.ask.Event.{Event}
 use Rattle.shelf.specs.declared.ask.Event.TheVariants as event
 use Rattle.world.specs.declared.entry.Right.TheVariants.{Reads, Publishes}
 use Rattle.control.specs.Words.{Said, IsTextOf}
-use Rattle.control.specs.Order.{two, three, said_in, SaysNoOrder, AddsNoKey, Orders, OrdersNothing, event_of}
+use Rattle.control.specs.Order.{two, said_in, SaysNoOrder, Orders, OrdersNothing, event_of}
 use Rattle.control.specs.declared.order.Order.{Order}
 use Rattle.control.specs.declared.order.Order.TheVariants.{TeamAdd, GroupAdd, KeyAdd, KeyRevoke}
 use Rattle.control.proofs.WordLemmas.{one_saying}
 
-abbrev pub verb_of : Said → List ℕ
-verb_of s = s.verb
-
 abbrev pub has_more : Option (List ℕ) → Bool
 has_more None = false
 has_more (Some word) = true
-
-abbrev pub is_longer : Said → Bool
-is_longer s = has_more s.second
-
-pub shorter_none : (verb name : List ℕ) → verb ≢ codes "team-add" → verb ≢ codes "group-add" → verb ≢ codes "key-revoke"
-    → SaysNoOrder (two verb name)
-shorter_none verb name no_team no_group no_revoke (TeamAdd n group) e = no_team (ap verb_of e)
-shorter_none verb name no_team no_group no_revoke (GroupAdd n) e = no_group (ap verb_of e)
-shorter_none verb name no_team no_group no_revoke (KeyAdd shelf key right) e = false≢true (ap is_longer e)
-shorter_none verb name no_team no_group no_revoke (KeyRevoke key) e = no_revoke (ap verb_of e)
-
-pub longer_none : (verb first second : List ℕ) → verb ≢ codes "team-add" → AddsNoKey verb → SaysNoOrder (three verb first second)
-longer_none verb first second no_team no_key (TeamAdd n group) e = no_team (ap verb_of e)
-longer_none verb first second no_team no_key (GroupAdd n) e = false≢true (sym (ap is_longer e))
-longer_none verb first second no_team no_key (KeyAdd shelf key right) e = no_key right (ap verb_of e)
-longer_none verb first second no_team no_key (KeyRevoke key) e = false≢true (sym (ap is_longer e))
 
 -- a line whose words say no order is no order's
 pub orders_nothing : (line : List ℕ) (s : Said) → IsTextOf line s → SaysNoOrder s → OrdersNothing line

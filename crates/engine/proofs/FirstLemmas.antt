@@ -1,5 +1,5 @@
 -- The first turn of a stream.
-use Rattle.std.proofs.Common.{◌≡◌, ℕ, List, [], ◌++◌, Option, None, Result, Ok, Err, inl, inr, refl, sym, ap, ◌∙◌, subst, IfOk, IfErr}
+use Rattle.std.proofs.Common.{◌≡◌, ℕ, List, [], ◌++◌, Option, Result, Ok, Err, inl, inr, refl, sym, ap, ◌∙◌, subst}
 use Rattle.std.specs.Io.KnownBytes.{Consumes, Keeps}
 use Rattle.std.proofs.KnownBytes.{Appends-kept, Keeps-trans}
 use Rattle.framing.specs.Message.{ReadsMessage}
@@ -8,7 +8,7 @@ use Rattle.framing.proofs.StreamLemmas.{ReadsMessage-append, unfinished_nothing}
 use Rattle.world.specs.Store.{Shown}
 use Rattle.engine.specs.First.{First, Answers, Closes, IsFirst, TakesFirst, ServesFirst, first_bytes, first_status}
 use Rattle.engine.specs.Served.{IsClosing, Tells}
-use Rattle.engine.specs.Turn.{IsNext, TakesNext, Turns, EndsBy, IsClosed, turn_of, turn_status}
+use Rattle.engine.specs.Turn.{IsNext, TakesNext, Turns, EndsBy, turn_of, turn_status}
 use Rattle.engine.specs.declared.fault.Io.{Io}
 use Rattle.engine.specs.declared.fault.Io.TheVariants as io
 use Rattle.engine.specs.declared.session.Turn.{Turn}
@@ -65,19 +65,3 @@ first_turned old new u u' w w' w'' held held_new (Err io.Read) result none (byte
 first_turned old new u u' w w' w'' held held_new (Err io.Write) result none (first, next, through, (begun, begins, appends)) keeps ends =
     subst (ServesFirst old new u u' w w'') (sym ends)
     (first, first_next held held_new u u' first none next, through, inl (begun, begins, Appends-kept w w' w'' begun appends keeps))
-
--- what holds of a turn that closed the stream holds of a result without a status
-pub none_is_closed : (turned : Result Turn Io) (result : Result (Option ℕ) Io) (P : Type 0) → IfOk turned (λ t. IsClosed t → P) → EndsBy turned result
-    → IfOk result (λ status. status ≡ None → P)
-none_is_closed (Ok (turn.Answered n)) (Ok status) P closed ends = λ none. cc
-none_is_closed (Ok (turn.Closed closing)) (Ok status) P closed ends = λ none. closed tt
-none_is_closed (Ok turned) (Err e) P closed ends = tt
-none_is_closed (Err before) (Ok status) P closed ends = λ none. cc
-none_is_closed (Err before) (Err e) P closed ends = tt
-
--- what holds of a turn with a failed read holds of a result with one, because `end_turn` reads nothing
-pub read_fault_is_unread : (turned : Result Turn Io) (result : Result (Option ℕ) Io) (P : Type 0) → IfErr turned (λ e. e ≡ io.Read → P) → EndsBy turned result
-    → IfErr result (λ e. e ≡ io.Read → P)
-read_fault_is_unread turned (Ok status) P unread ends = tt
-read_fault_is_unread (Ok turned) (Err e) P unread ends = λ is. cc
-read_fault_is_unread (Err before) (Err e) P unread ends = λ is. let same : before ≡ io.Read = cc in unread same

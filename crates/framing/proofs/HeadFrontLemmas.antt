@@ -1,6 +1,6 @@
 -- Where in a head bytes end, with one byte more, and that a head may begin so.
 use Rattle.std.proofs.Common.{◌≡◌, ◌≢◌, ℕ, ◌<◌, ◌≤◌, ◌||◌, ◌==◌, Bool, true, false, inl, inr, List, [], ◌∷◌, ◌++◌, length, drop, take}
-use Rattle.std.proofs.Common.{refl, sym, ap, ◌∙◌, subst, arith, append_assoc, append-nil, length-append, codes, Option, Some, None, IfSome}
+use Rattle.std.proofs.Common.{refl, sym, ap, ◌∙◌, subst, arith, append_assoc, append-nil, length-append, codes, Option}
 use Rattle.std.proofs.lemmas.Grind.{flat_map-append}
 use Rattle.std.proofs.lemmas.List.{length_push, take_all, take-append-drop, take-append-le}
 use Rattle.std.proofs.lemmas.List.Elements.{All-nil, All-push}
@@ -253,20 +253,6 @@ looked_more bytes more looked was =
 
 pub has_looked_more : (bytes more : List ℕ) (looked : Option Looked) → HasLooked bytes looked → HasLooked (bytes ++ more) looked
 has_looked_more bytes more looked has = record { was = λ one some. looked_more bytes more one (has.was one some) }
-
-pub has_not_looked : (bytes : List ℕ) → HasLooked bytes None
-has_not_looked bytes = record { was = λ one some. cc }
-
-pub has_looked_at : (bytes : List ℕ) (looked : Looked) → WasLookedAt bytes looked → HasLooked bytes (Some looked)
-has_looked_at bytes looked was = record { was = λ one some. subst (WasLookedAt bytes) (some_same looked one some) was }
-  where
-    some_same : (a b : Looked) → Some a ≡ Some b → a ≡ b
-    some_same a b e = cc
-
--- what `look` answers
-pub has_looked : (bytes : List ℕ) (result : Option Looked) → IfSome result (WasLookedAt bytes) → HasLooked bytes result
-has_looked bytes None was = has_not_looked bytes
-has_looked bytes (Some looked) was = has_looked_at bytes looked was
 
 -- the state in which the lines at the front end, and the state behind the last line
 pub looked_behind : (bytes front tail : List ℕ) (q p : HeadState) → MayBeginHead bytes → front ++ tail ≡ bytes → EndsLine front

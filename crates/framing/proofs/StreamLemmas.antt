@@ -1,5 +1,5 @@
 -- A stream is one list of messages, and has one end.
-use Rattle.std.proofs.Common.{◌≡◌, ◌≢◌, ℕ, ◌<◌, inl, inr, List, [], ◌∷◌, ◌++◌, length, take, drop, refl, sym, ap, ◌∙◌, subst, arith, length-append, length-drop, ◌-◌, ◌==◌, true, false}
+use Rattle.std.proofs.Common.{◌≡◌, ◌≢◌, ℕ, inl, inr, List, [], ◌∷◌, ◌++◌, length, take, drop, refl, sym, ap, ◌∙◌, subst, arith, length-append, ◌-◌, ◌==◌, true, false}
 use Rattle.std.proofs.lemmas.Bool.{eqb-true, eqb-false}
 use Rattle.std.proofs.lemmas.List.{nil_from_length, take_at, drop_at, append_assoc, append-nil}
 use Rattle.std.proofs.lemmas.List.Elements.{All-nil}
@@ -11,10 +11,7 @@ use Rattle.httparse.proofs.GrammarLemmas.{print_request-append}
 use Rattle.framing.specs.Message.{Request, request_of, BeginsWith, ReadsMessage, ReadsMessages, IsTooLarge, End, clean, too_large, bad, Ends, IsStream}
 use Rattle.framing.specs.Never.{NeverBegins}
 use Rattle.framing.specs.Framing.{MayBeginHead, IsOpen, IsBad, IsUnfinished}
-use Rattle.framing.specs.Values.{IsHeadAt}
-use Rattle.framing.specs.declared.head.Head.{Head}
 use Rattle.framing.specs.declared.framer.Bad.TheVariants.{BadRequest, TooLarge}
-use Rattle.httparse.specs.declared.spans.HeaderSpan.{HeaderSpan}
 use Rattle.framing.proofs.HeadLemmas.{head_unique, BeginsWith-append}
 
 -- a head is not empty
@@ -167,20 +164,6 @@ nothing_may_begin bytes e = (rw e no_request_in_nothing, rw e nothing_may_become
 
 pub unfinished_nothing : (bytes : List ℕ) → bytes ≡ [] → IsUnfinished bytes
 unfinished_nothing bytes e = unfinished bytes (inl (nothing_may_begin bytes e))
-
--- a head whose body has not all come
-pub unfinished_body : (bytes : List ℕ) (headers : List HeaderSpan) (found : Head) → IsHeadAt bytes headers found
-    → length bytes - found.spans.len < found.body → IsUnfinished bytes
-unfinished_body bytes headers found at short =
-    unfinished bytes
-    (inr (
-      at.head,
-      found.body,
-      drop found.spans.len bytes,
-      record { reads = at.at.reads; good = at.good },
-      at.small,
-      omega (arith, length-drop found.spans.len bytes),
-    ))
 
 -- a whole head that is not good
 pub bad_head : (bytes : List ℕ) (h : RequestHead) (rest : List ℕ) → ReadsRequest bytes h rest → NeverBegins bytes → IsBad bytes BadRequest

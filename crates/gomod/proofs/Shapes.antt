@@ -61,10 +61,6 @@ arrow_is kinds.BracketRight h = cc
 arrow_from : (k : Kind) → k ≡ kinds.Arrow → is_arrow_kind k ≡ true
 arrow_from k h = ap is_arrow_kind h
 
--- an arrow is no word
-arrow_no_word : (k : Kind) → k ≡ kinds.Arrow → is_word_kind k ≡ false
-arrow_no_word k h = ap is_word_kind h
-
 -- a word is not an arrow
 word_no_arrow : (k : Kind) → is_word_kind k ≡ true → is_arrow_kind k ≡ false
 word_no_arrow kinds.Arrow h = cc

@@ -1,5 +1,5 @@
 -- A fresh store after the end of the transaction that filled it.
-use Rattle.std.proofs.Common.{◌≡◌, ◌≤◌, ◌⊎◌, Bool, true, false, IsTrue, true≢false, inl, inr, refl, sym, ◌∙◌, arith}
+use Rattle.std.proofs.Common.{◌≡◌, ◌≤◌, Bool, true, false, IsTrue, true≢false, inl, inr, refl, sym, ◌∙◌, arith}
 use Rattle.sqlite_trees.specs.View.{doubt}
 use Rattle.sqlite_trees.specs.declared.store.Store.{Ghosts}
 use Rattle.sqlite.specs.Tree.{Trees}
@@ -10,7 +10,6 @@ use Rattle.world.specs.World.{World, only_common}
 use Rattle.tables.specs.Means.{Stands}
 use Rattle.tables.proofs.FailureLemmas.{was_clean}
 use Rattle.older.specs.declared.schema.Format.{Format}
-use Rattle.older.specs.Means.{StandsAs}
 use Rattle.statements.specs.Calls.{ChangesAt}
 use Rattle.statements.specs.Extract.{IsReadBy}
 use Rattle.statements.specs.Rows.{Writing}
@@ -18,7 +17,6 @@ use Rattle.statements.proofs.RowLemmas.{filling_of}
 use Rattle.statements.proofs.TransactionEnds.{begins_writing}
 use Rattle.migration.specs.Filled.{Fills, Migrates, IsOfTables}
 use Rattle.older_rows.specs.Visits.{Moves, IsReadyAs}
-use Rattle.older_rows.proofs.WalkLemmas.{unchanged_itself}
 
 -- a world that may be written, for which the connection stands inside the transaction if all was done
 pub record HasWritten (format : Format) (old last : State) (done : Bool) : Type 0 where
@@ -40,24 +38,6 @@ written format old read start last true fills clean late ready begun =
     }
 
 -- ---- the call `write_world`
-
--- a call that began no transaction migrates nothing
-pub migrates_nothing : (format : Format) (s f : State) → Migrates format s s f f false
-migrates_nothing format s f = record {
-  clean = omega arith;
-  reads = λ ready. record { left = λ _ db may. may; outcome = λ clean. inl (unchanged_itself s (ready clean).0); same = λ clean _. unchanged_itself s (ready clean).0 };
-  clean_too = omega arith;
-  at = λ clean good ready opened stands. (
-    only_common,
-    inr (refl, refl),
-    record {
-      world = λ holds. holds;
-      left = λ _ _ only db may. let it = only db may in (it.0, it.1, inl it.2);
-      alone = λ done. absurd (true≢false (sym done));
-      failed = λ _ _ _. inr (λ db may. may);
-    },
-  );
-}
 
 -- a world that may be written may be written too if less is done
 of_fewer : (format : Format) (db : Database) (w : World) (done end : Bool) → (IsTrue end → IsTrue done) → IsOfTables format db done w → IsOfTables format db end w

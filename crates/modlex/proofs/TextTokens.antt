@@ -214,11 +214,6 @@ unfolding end_of
 order_join text from to [] us h le k = order_from text from to us le k
 order_join text from to (t ∷ ts) us h le k = (h.0, h.1, h.2, h.3, order_join text t.span.end to ts us h.4 le k)
 
-order_end : (text : List ℕ) (from : ℕ) (ts : List Lexeme) → from ≤ length text → AreInOrder text from ts → end_of from ts ≤ length text
-unfolding end_of
-order_end text from [] le h = le
-order_end text from (t ∷ ts) le h = order_end text t.span.end ts h.2 h.4
-
 -- the tokens of a line in the text
 record InLine (text : List ℕ) (at to : ℕ) (ts : List Lexeme) : Type 0 where
   order : AreInOrder text at ts

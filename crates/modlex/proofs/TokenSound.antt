@@ -189,9 +189,6 @@ or_false : (x y : Bool) → (x || y) ≡ false → (x ≡ false) × (y ≡ false
 or_false true y h = cc
 or_false false y h = (refl, h)
 
-found_pair : (k kind : Kind) (m n : ℕ) → ◌≡◌ {A = Option (Kind × ℕ)} (Some (k, m)) (Some (kind, n)) → (k ≡ kind) × (m ≡ n)
-found_pair k kind m n h = some_pair_parts k kind m n h
-
 -- the word or arrow found at the front, which is not a comment, is a token of that kind and length
 word_cuts : (b : ℕ) (bs : List ℕ) (kind : Kind) (n : ℕ) → is_slash_and 47 b bs ≡ false → word_at b bs ≡ Some (kind, n) → Cuts kind (b ∷ bs) n
 word_cuts b bs kind n no_comment h =

@@ -11,9 +11,6 @@ use Rattle.modpath.specs.EscapeLaws.{EscapeFaultIsLeftmost}
 some-same : (f g : EscapeFault) → Some f ≡ Some g → f ≡ g
 some-same f g h = ap (λ o. unwrap_or o f) h
 
-head-same : (b c : ℕ) (xs ys : List ℕ) → b ∷ xs ≡ c ∷ ys → (b ≡ c) × (xs ≡ ys)
-head-same b c xs ys h = (cc h, cc h)
-
 starts-lower : (rest : List ℕ) → starts_lower rest ≡ true → (b : ℕ) × (after : List ℕ) × (rest ≡ b ∷ after) × (is_ascii_lowercase b ≡ true)
 starts-lower [] h = cc h
 starts-lower (b ∷ after) h = (b, after, refl, h)

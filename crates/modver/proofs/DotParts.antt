@@ -5,7 +5,7 @@ use Rattle.std.proofs.lemmas.Bool.{cases_Bool}
 use Rattle.std.proofs.lemmas.List.{get_or-drop, reverse-append, take-append-drop}
 use Rattle.std.specs.List.{slice_split}
 use Rattle.semver.specs.OrderLaws.{parts-shape}
-use Rattle.std.specs.Prelude.{if◌then◌else◌, nat_le, option_map}
+use Rattle.std.specs.Prelude.{if◌then◌else◌, option_map}
 use Rattle.modver.specs.Time.{time_of_stamp}
 use Rattle.modver.specs.Class.{is_zero, may_precede, stamp_of, stamp_of_identifier}
 use Rattle.modver.specs.Parts.{between_dots, identifiers_of}
@@ -68,11 +68,6 @@ dots-some text =
     let r = reverse-some s.0 s.1 in
     let shape : slice_split (λ x. x == 46) text ≡ s.0 ∷ s.1 = s.2 in
     (r.0, r.1, ap (λ (l : List (List ℕ)). reverse l) shape ∙ r.2)
-
--- what stands before the stamped identifier, where it is one identifier
-pub may-one : (minor patch : ℕ) (front : List ℕ) → between_dots front ≡ front ∷ []
-    → may_precede minor patch (reverse (between_dots front)) ≡ (is_zero front && nat_le 1 patch)
-may-one minor patch front one = rw one refl
 
 -- and where it is more
 pub may-more : (minor patch : ℕ) (front rest before : List ℕ) → between_dots front ≡ between_dots rest ++ before ∷ []

@@ -4,9 +4,8 @@ use Rattle.std.specs.Prelude.{bytes_eq, not}
 use Rattle.std.specs.FinMap as map
 use Rattle.std.proofs.lemmas.Bool.{and_parts}
 use Rattle.world.specs.Registry.{is_top, is_group}
-use Rattle.world.specs.World.{World, common}
+use Rattle.world.specs.World.{common}
 use Rattle.shelf.proofs.Ungrouped.{each_is_of_one, lists_without_groups}
-use Rattle.older.specs.Means.{Means}
 use Rattle.older.specs.Laws.{MeanNoGroup, AnswersAsBefore}
 
 topped : (o : Option (Option (List ℕ))) → is_top o ≡ true → o ≡ Some None

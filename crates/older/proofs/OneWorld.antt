@@ -1,16 +1,15 @@
 -- Tables of an older schema stand for at most one world.
-use Rattle.std.proofs.Common.{◌≡◌, ℕ, Bool, true, false, pos, List, length, filter, Option, Some, None, refl, sym, ap, subst, ◌∙◌, nat_lt, ltb-true, ltb-false}
+use Rattle.std.proofs.Common.{◌≡◌, ℕ, Bool, true, false, pos, List, length, filter, Option, Some, refl, sym, ap, subst, ◌∙◌, nat_lt, ltb-true, ltb-false}
 use Rattle.std.specs.FinMap as map
 use Rattle.sqlite.specs.declared.types.Value.{Value}
-use Rattle.sqlite.specs.declared.types.Value.TheVariants.{Int, Text, Blob}
+use Rattle.sqlite.specs.declared.types.Value.TheVariants.{Int}
 use Rattle.sqlite.specs.Order.{Row, column}
 use Rattle.sqlite.specs.Tree.{Trees}
 use Rattle.world.specs.declared.entry.Place.{Place}
 use Rattle.world.specs.declared.entry.Entry.{Entry}
 use Rattle.world.specs.declared.entry.Holder.{Holder}
-use Rattle.world.specs.World.{World}
 use Rattle.world.proofs.Orders.{texts_total, texts_exact, places_total, places_exact}
-use Rattle.tables.specs.Means.{Tabulates, IsAccess, IsVersion, ArePieces, is_of}
+use Rattle.tables.specs.Means.{Tabulates, IsAccess, ArePieces, is_of}
 use Rattle.tables.specs.Pieces.{begin, piece, HasPiece}
 use Rattle.tables.proofs.CountedRows.{same_place}
 use Rattle.tables.proofs.OneWorld.{same_got, texts_same, blobs_same, rights_same}
@@ -18,7 +17,7 @@ use Rattle.tables.proofs.PieceLemmas.{no_piece, same_zip}
 use Rattle.tables.proofs.RowFits.{time_read}
 use Rattle.older.specs.declared.schema.Format.{Format}
 use Rattle.older.specs.declared.schema.Format.TheVariants.{One, Two}
-use Rattle.older.specs.Means.{Means, IsShelf, IsWithBody, IsEntryIn, parent_of}
+use Rattle.older.specs.Means.{Means, IsShelf, IsEntryIn, parent_of}
 use Rattle.older.specs.Laws.{MeanOne}
 
 -- if a row is of one thing at most, and a table tabulates both P and Q, then Q holds wherever P does

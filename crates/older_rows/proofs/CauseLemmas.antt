@@ -1,7 +1,7 @@
 -- Why a walk over the rows of an older store fails.
-use Rattle.std.proofs.Common.{◌≡◌, ◌≤◌, ◌⊎◌, ◌+◌, ◌^◌, ◌++◌, ℕ, Bool, true, false, List, [], ◌∷◌, length, map, Option, None, Ok}
-use Rattle.std.proofs.Common.{Err, Result, inl, inr, refl, sym, ap, subst, ◌∙◌, arith, IsTrue, IfErr, true≢false, length-append}
-use Rattle.std.specs.Prelude.{IsSome, IsErrAnd}
+use Rattle.std.proofs.Common.{◌≡◌, ◌≤◌, ◌+◌, ◌^◌, ◌++◌, ℕ, Bool, true, false, List, [], ◌∷◌, length, map, Option, None, Ok}
+use Rattle.std.proofs.Common.{Err, Result, inl, inr, refl, sym, ap, subst, ◌∙◌, arith, IsTrue, length-append}
+use Rattle.std.specs.Prelude.{IsSome}
 use Rattle.std.proofs.lemmas.Bool.{cases_Bool}
 use Rattle.std.proofs.lemmas.List.{length-map}
 use Rattle.std.proofs.lemmas.List.Sorted.{length_permutation}

@@ -1,25 +1,20 @@
 -- What the tables mean once the rows of the entries are put in.
-use Rattle.std.proofs.Common.{◌≡◌, ◌∙◌, ℕ, ℤ, true, List, [], ◌∷◌, map as mapped, filter, Option, Some, None, inl, inr, refl, sym, ap, subst, arith, IsPermutation}
+use Rattle.std.proofs.Common.{◌≡◌, ◌∙◌, ℕ, true, List, map as mapped, filter, Option, Some, sym, ap, subst, arith, IsPermutation}
 use Rattle.std.specs.FinMap as map
 use Rattle.std.proofs.lemmas.List.Sorted.{IsPermutation-sym}
-use Rattle.sqlite.specs.declared.types.Value.{Value}
-use Rattle.sqlite.specs.declared.types.Value.TheVariants.{Int, Text, Blob}
-use Rattle.sqlite.specs.Values.{or_null}
 use Rattle.sqlite.specs.Collation.TheVariants.{Binary}
 use Rattle.sqlite.specs.Order.{Row, column}
 use Rattle.sqlite.specs.Tree.{Trees, rowid}
 use Rattle.sqlite_catalog.specs.Listing.{IsSound}
 use Rattle.sqlite_schema.specs.Rules.{equal}
-use Rattle.sqlite_rules.specs.Lists.{Has}
-use Rattle.sqlite_rules.proofs.ListLemmas.{has_filtered, has_kept}
 use Rattle.sqlite_rules.proofs.ProbeLemmas.{has_mapped, mapped_has}
 use Rattle.world.specs.declared.entry.Place.{Place}
 use Rattle.world.specs.declared.entry.Entry.{Entry}
 use Rattle.world.specs.declared.entry.Holder.{Holder}
-use Rattle.world.specs.World.{World, IsWorld}
+use Rattle.world.specs.World.{World}
 use Rattle.world.proofs.Orders.{texts_total, texts_exact}
 use Rattle.tables.specs.Fit.{AreFit, ArePiecesFit, piece_shown}
-use Rattle.tables.specs.Means.{Means as Today, StandFor, Tabulates, IsShelf as IsShelfToday, IsAccess, IsVersion, ArePieces, is_of}
+use Rattle.tables.specs.Means.{Means as Today, Tabulates, IsShelf as IsShelfToday, IsAccess, IsVersion, ArePieces, is_of}
 use Rattle.tables.specs.Schema.{store_schema, piece_table}
 use Rattle.tables.proofs.Ascending.{has_permuted}
 use Rattle.tables.proofs.OneWorld.{same_got, texts_same, rights_same}

@@ -1,6 +1,6 @@
 -- The rows of `version` in the order of their places, put into a store that has no entry.
-use Rattle.std.proofs.Common.{◌≡◌, ◌≤◌, ◌<◌, ◌+◌, ◌++◌, ◌⊎◌, ◌∙◌, ℕ, ℤ, Bool, true, false, cond, List, [], ◌∷◌, Option, Some, None, is_some}
-use Rattle.std.proofs.Common.{inl, inr, refl, sym, ap, subst, subst₂, arith, true≢false, append_assoc, append-nil, Less, length, filter}
+use Rattle.std.proofs.Common.{◌≡◌, ◌≤◌, ◌+◌, ◌++◌, ◌∙◌, ℕ, ℤ, Bool, true, false, cond, List, [], ◌∷◌, Option, Some, None, is_some}
+use Rattle.std.proofs.Common.{inl, inr, refl, sym, ap, subst, subst₂, arith, append_assoc, append-nil, Less}
 use Rattle.std.specs.Prelude.{bytes_eq, ◌&&◌}
 use Rattle.std.specs.FinMap as map
 use Rattle.std.specs.Ordering.{is_lt, ordering_then}
@@ -22,7 +22,6 @@ use Rattle.modver.specs.SemanticVersion.{SemanticVersion}
 use Rattle.world.specs.declared.entry.Place.{Place}
 use Rattle.world.specs.declared.entry.Entry.{Entry}
 use Rattle.world.specs.EntryTest.{fitting_version}
-use Rattle.world.specs.Store.{IsRoomFor}
 use Rattle.world.specs.World.{World, IsWorld, place as place_of, place_cmp, version_limit, count, with_entry}
 use Rattle.world.proofs.Orders.{places_total, places_exact, text_self, get_put}
 use Rattle.world.proofs.Retained.{stays, goes}

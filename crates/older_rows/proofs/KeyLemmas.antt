@@ -1,8 +1,7 @@
 -- The rows of `access`, put into a store that has the old shelves and nothing else.
-use Rattle.std.proofs.Common.{◌≡◌, ◌≤◌, ◌∙◌, ℕ, true, List, [], ◌∷◌, Option, Some, is_some, inl, inr, refl, sym, ap, subst}
+use Rattle.std.proofs.Common.{◌≡◌, ◌≤◌, ◌∙◌, ℕ, true, List, [], ◌∷◌, Some, is_some, inl, inr, refl, sym, ap, subst}
 use Rattle.std.specs.Prelude.{bytes_eq, ◌&&◌}
 use Rattle.std.specs.FinMap as map
-use Rattle.sqlite.specs.declared.types.Value.TheVariants.{Text}
 use Rattle.sqlite.specs.Order.{Row, column}
 use Rattle.sqlite.specs.Tree.{Trees}
 use Rattle.sqlite_rules.specs.Lists.{Has}
@@ -13,13 +12,13 @@ use Rattle.tables.specs.Walks.{Pass}
 use Rattle.tables.proofs.Maps.{none_in_empty}
 use Rattle.tables.proofs.OneWorld.{texts_same}
 use Rattle.tables.proofs.SoundLemmas.{key_shelf}
-use Rattle.statements.specs.Extract.{AddsKeys, AddsKey, PutsKey, ShowsKey, IsKeyShown}
+use Rattle.statements.specs.Extract.{AddsKeys, PutsKey, ShowsKey, IsKeyShown}
 use Rattle.statements.specs.Lookup.{AreFound}
 use Rattle.statements.specs.Rows.{IsOfAny}
 use Rattle.statements.proofs.CopyKeyLemmas.{keys_passed, put_all}
 use Rattle.older.specs.Means.{IsShelf}
 use Rattle.older_rows.specs.Visits.{Visits}
-use Rattle.older_rows.specs.Registry.{IsGoodKey, IsKeyRow, HasShelves, HasRegistry, PutsKeys}
+use Rattle.older_rows.specs.Registry.{IsGoodKey, IsKeyRow, PutsKeys}
 use Rattle.older_rows.proofs.ListedLemmas.{key_columns}
 
 -- what a visit of a row of `access` does, whatever was noted

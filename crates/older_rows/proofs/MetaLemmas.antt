@@ -1,10 +1,9 @@
 -- The rows of `meta`.
-use Rattle.std.proofs.Common.{◌≡◌, ◌⊎◌, ℤ, Bool, true, false, List, [], ◌∷◌, codes, inl, inr, refl, sym, ap, subst, ◌∙◌, true≢false, to_z, of_z, w64}
-use Rattle.sqlite.specs.Order.{Row, column}
+use Rattle.std.proofs.Common.{◌≡◌, ◌⊎◌, ℤ, true, false, List, [], ◌∷◌, codes, inl, inr, refl, sym, ap, subst, ◌∙◌, true≢false, to_z, of_z, w64}
+use Rattle.sqlite.specs.Order.{Row}
 use Rattle.sqlite.specs.Tree.{Trees}
 use Rattle.sqlite_rules.specs.Lists.{Has}
-use Rattle.sqlite.specs.Effect.{Database}
-use Rattle.tables.specs.Means.{Tabulates, IsMeta}
+use Rattle.tables.specs.Means.{IsMeta}
 use Rattle.statements.specs.Lookup.{AreFound}
 use Rattle.older.specs.declared.schema.Format.{Format}
 use Rattle.older.specs.declared.schema.Format.TheVariants.{One, Two}

@@ -1,11 +1,11 @@
 -- The rows of `version` of schema 1, each with its row of `body`.
-use Rattle.std.proofs.Common.{◌≡◌, ◌⊎◌, ◌∙◌, ℕ, Bool, true, false, List, [], ◌∷◌, ◌++◌, codes, map as mapped, filter, flat_map, None, Some, inl, inr, refl, sym, ap, subst, IsPermutation}
+use Rattle.std.proofs.Common.{◌≡◌, ◌∙◌, ℕ, Bool, true, false, List, [], ◌∷◌, codes, map as mapped, filter, flat_map, None, Some, inl, inr, refl, sym, ap, subst, IsPermutation}
 use Rattle.std.specs.List.{list_all}
 use Rattle.std.specs.FinMap as map
 use Rattle.std.proofs.lemmas.Bool.{and_parts, and_from}
 use Rattle.std.proofs.lemmas.List.Sorted.{IsPermutation-sym}
 use Rattle.sqlite.specs.declared.types.Value.{Value}
-use Rattle.sqlite.specs.declared.types.Value.TheVariants.{Null, Text, Blob}
+use Rattle.sqlite.specs.declared.types.Value.TheVariants.{Null, Blob}
 use Rattle.sqlite.specs.Collation.TheVariants.{Binary}
 use Rattle.sqlite_sql.specs.declared.ops.BinaryOp.TheVariants.{Compare}
 use Rattle.sqlite_sql.specs.declared.ops.CompareOp.TheVariants.{Eq}
@@ -42,7 +42,7 @@ use Rattle.older_rows.specs.Entries.{IsFitRow}
 use Rattle.older_rows.specs.Entered.{HasEntries}
 use Rattle.older_rows.specs.Registry.{HasRegistry}
 use Rattle.older_rows.specs.Visits.{Visits}
-use Rattle.older_rows.proofs.EntryLemmas.{Puts, Rises, InPlaces, Entered, all_entered, all_rise, place_is}
+use Rattle.older_rows.proofs.EntryLemmas.{Puts, InPlaces, Entered, all_entered, all_rise}
 
 abbrev pub one_text : List ℕ
 one_text = codes "SELECT v.shelf, v.path, v.version, v.time, v.mod, v.id, b.zip FROM version AS v LEFT JOIN body AS b ON b.id = v.id ORDER BY v.shelf, v.path, v.version"

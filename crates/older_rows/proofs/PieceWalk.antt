@@ -1,5 +1,5 @@
 -- The rows of `piece` of schema 2.
-use Rattle.std.proofs.Common.{◌≡◌, ℕ, false, List, [], map as mapped, Option, None, refl, sym, ap, subst}
+use Rattle.std.proofs.Common.{◌≡◌, false, List, [], map as mapped, None, refl, sym, subst}
 use Rattle.sqlite.specs.declared.types.Value.TheVariants.{Null}
 use Rattle.sqlite.specs.Order.{Row}
 use Rattle.sqlite.specs.Tree.{Trees}
@@ -10,7 +10,6 @@ use Rattle.sqlite.specs.Listing.{understood, reads_listing}
 use Rattle.sqlite.specs.Command.TheVariants.{Select}
 use Rattle.sqlite.proofs.Callers.{IsPlain, command_of}
 use Rattle.sqlite_tied.specs.Compute.{everything}
-use Rattle.sqlite_catalog.specs.Listing.{IsSound}
 use Rattle.tables.specs.Fit.{ArePiecesFit, piece_shown}
 use Rattle.tables.specs.Schema.{store_schema}
 use Rattle.tables.proofs.ListingLemmas.{listing, is_listing, piece_columns, piece_names, by_piece, piece_rows_is, pieces_listed}

@@ -10,7 +10,7 @@ use Rattle.sqlite.specs.Tree.{Trees}
 use Rattle.sqlite_rules.specs.Lists.{Has}
 use Rattle.world.specs.World.{World, IsWorld, common, text_cmp, is_team_name, only_common, with_shelf}
 use Rattle.world.proofs.OnlyCommon.{only_common_stands}
-use Rattle.world.proofs.Orders.{texts_total, texts_exact, text_same, get_put}
+use Rattle.world.proofs.Orders.{texts_total, texts_exact, get_put}
 use Rattle.world.proofs.Sound.{shelf_stands, still}
 use Rattle.tables.specs.Means.{StandFor}
 use Rattle.tables.proofs.Maps.{text_put, text_splits, no_text, none_in_empty, put_keeps, put_splits}
@@ -19,7 +19,7 @@ use Rattle.statements.specs.Lookup.{AreFound}
 use Rattle.older.specs.Means.{IsShelf, parent_of}
 use Rattle.older_rows.specs.declared.shelves.ShelfRows.{ShelfRows}
 use Rattle.older_rows.specs.Visits.{Visits}
-use Rattle.older_rows.specs.Registry.{IsCommonRow, IsTeamRow, HasShelves, PutsShelves}
+use Rattle.older_rows.specs.Registry.{IsCommonRow, IsTeamRow, PutsShelves}
 use Rattle.older_rows.proofs.ListedLemmas.{shelf_columns}
 
 abbrev pub Puts : ShelfRows → Row → Trees → ShelfRows → Trees → Type 0

@@ -1,10 +1,10 @@
 -- The rows of `version` of schema 2.
-use Rattle.std.proofs.Common.{◌≡◌, ◌∙◌, ◌<◌, ℕ, false, List, [], ◌∷◌, codes, map as mapped, length, None, Some, inl, refl, sym, ap, subst, arith, IsPermutation}
+use Rattle.std.proofs.Common.{◌≡◌, ◌∙◌, ℕ, false, List, [], ◌∷◌, codes, map as mapped, length, None, Some, inl, refl, sym, ap, subst, arith, IsPermutation}
 use Rattle.std.specs.FinMap as map
 use Rattle.std.proofs.lemmas.List.Sorted.{IsPermutation-sym}
 use Rattle.sqlite.specs.declared.types.Value.TheVariants.{Null}
 use Rattle.sqlite.specs.Order.{Row, column}
-use Rattle.sqlite.specs.Term.{Term, col, eval_all}
+use Rattle.sqlite.specs.Term.{Term, col}
 use Rattle.sqlite.specs.Tree.{Trees}
 use Rattle.sqlite.specs.Query.{inner, end}
 use Rattle.sqlite.specs.Program.{overlay}
@@ -16,9 +16,9 @@ use Rattle.sqlite_tied.specs.Compute.{everything}
 use Rattle.sqlite_rules.specs.Lists.{Has}
 use Rattle.sqlite_rules.proofs.ListLemmas.{has_kept}
 use Rattle.sqlite_rules.proofs.ProbeLemmas.{has_mapped, mapped_has}
-use Rattle.world.specs.World.{World, IsWorld}
-use Rattle.tables.specs.Means.{StandFor, Tabulates, IsAccess, is_of}
-use Rattle.tables.specs.Pieces.{HasPiece, begin}
+use Rattle.world.specs.World.{World}
+use Rattle.tables.specs.Means.{Tabulates, IsAccess, is_of}
+use Rattle.tables.specs.Pieces.{HasPiece}
 use Rattle.tables.proofs.Ascending.{has_permuted}
 use Rattle.tables.proofs.ListingLemmas.{listing, IsListing, is_listing, listed_rows, of_table, listed_in_order, by_place, place_columns}
 use Rattle.tables.proofs.SoundLemmas.{piece_version}

@@ -1,6 +1,6 @@
 -- The rows of `piece`, put into a store that has none.
-use Rattle.std.proofs.Common.{◌≡◌, ◌++◌, ◌⊎◌, ◌∙◌, ◌||◌, ℕ, ℤ, Bool, true, false, List, [], ◌∷◌, map, Option, Some, None, inl}
-use Rattle.std.proofs.Common.{inr, refl, sym, ap, subst, subst₂, true≢false, append-nil, IsPermutation, Less, Equal, Greater}
+use Rattle.std.proofs.Common.{◌≡◌, ◌++◌, ◌∙◌, ◌||◌, Bool, true, false, List, [], ◌∷◌, map, Some}
+use Rattle.std.proofs.Common.{refl, sym, ap, subst, true≢false, append-nil, IsPermutation, Less, Equal, Greater}
 use Rattle.std.specs.Prelude.{not}
 use Rattle.std.specs.Ordering.{is_eq, match_ordering}
 use Rattle.std.specs.declared.cmp.Ordering.{Ordering}
@@ -9,16 +9,15 @@ use Rattle.std.proofs.lemmas.List.Sorted.{IsPermutation-refl, IsPermutation-sym,
 use Rattle.sqlite.specs.Order.{Row, column}
 use Rattle.sqlite.specs.Edit.{put_all, are_fresh}
 use Rattle.sqlite.specs.Tree.{Trees, rowid}
-use Rattle.sqlite_rules.specs.Lists.{Has}
-use Rattle.sqlite_trees.specs.Tree.{put_row, IsAscending}
+use Rattle.sqlite_trees.specs.Tree.{put_row}
 use Rattle.sqlite_value.specs.Order.{value_cmp}
 use Rattle.sqlite_rules.specs.Edit.{is_taken}
-use Rattle.tables.specs.Fit.{ArePiecesFit, AreOnce, IsPieceRow, piece_key, piece_in, piece_shown, nat_in, full_piece, int_in}
+use Rattle.tables.specs.Fit.{ArePiecesFit, IsPieceRow, piece_key, piece_in, piece_shown}
 use Rattle.tables.specs.Walks.{Pass, MayGoOn}
 use Rattle.tables.specs.Schema.{piece_table}
 use Rattle.tables.proofs.Ascending.{has_permuted, ascends_permuted}
 use Rattle.tables.proofs.PieceTests.{PieceFits, PieceKeeps}
-use Rattle.statements.specs.Rows.{PutsPiece, piece_of, piece_read, IsElseSame}
+use Rattle.statements.specs.Rows.{PutsPiece, piece_of, IsElseSame}
 use Rattle.statements.proofs.RowLemmas.{else_itself, else_then}
 use Rattle.older_rows.specs.declared.pieces.ZipRows.{ZipRows}
 use Rattle.older_rows.specs.Visits.{Visits}

@@ -1,5 +1,5 @@
 -- What the rows of `meta`, `shelf` and `access` of an older store make of a fresh one.
-use Rattle.std.specs.Prelude.{ℤ, ℕ, pos, ◌≡◌, ◌⊎◌, Bool, true, false, List, Option, Some, None, codes, if◌then◌else◌}
+use Rattle.std.specs.Prelude.{ℤ, ℕ, pos, ◌≡◌, true, false, List, Some, codes, if◌then◌else◌}
 use Rattle.std.specs.FinMap as map
 use Rattle.std.specs.FinSet as set
 use Rattle.sqlite.specs.declared.types.Value.TheVariants.{Int, Text}

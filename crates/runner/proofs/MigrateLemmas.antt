@@ -2,10 +2,9 @@
 use Rattle.std.proofs.Common.{◌≡◌, sym, ap, ◌∙◌}
 use Rattle.sqlite.specs.Effect.{Database}
 use Rattle.sqlite.specs.Schema.{Schema}
-use Rattle.sqlite.specs.Table.{Table}
 use Rattle.older.specs.declared.schema.Format.{Format}
 use Rattle.older.specs.declared.schema.Format.TheVariants.{One, Two}
-use Rattle.older.specs.Schemas.{schema_of, schema_1, schema_2}
+use Rattle.older.specs.Schemas.{schema_1, schema_2}
 use Rattle.tables.specs.Schema.{no_schema}
 use Rattle.store.specs.Migrated.{IsForeign}
 

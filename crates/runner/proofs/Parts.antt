@@ -1,14 +1,14 @@
 -- A store of some teams' part replies to them as the whole does.
-use Rattle.std.proofs.Common.{◌≡◌, ◌⊎◌, ℕ, List, [], ◌∷◌, ◌++◌, Bool, true, false, cond, inl, inr, refl, ◌∙◌, sym, ap, subst, Option, Some, None, true≢false}
+use Rattle.std.proofs.Common.{◌≡◌, ℕ, List, [], ◌∷◌, ◌++◌, Bool, true, false, cond, inl, inr, refl, ◌∙◌, sym, ap, subst, Option, Some, None, true≢false}
 use Rattle.std.specs.Prelude.{bytes_eq, is_some}
 use Rattle.std.specs.FinMap as map
 use Rattle.sqlite_rules.specs.Lists.{Has}
 use Rattle.world.specs.declared.entry.Place.{Place}
 use Rattle.world.specs.declared.entry.Entry.{Entry}
 use Rattle.world.specs.declared.entry.Holder.{Holder}
-use Rattle.world.specs.World.{World, IsWorld, common, place, on_shelf, group_in, above, chain, is_among, sees}
+use Rattle.world.specs.World.{World, IsWorld, place, on_shelf, group_in, above, is_among, sees}
 use Rattle.world.specs.Part.{is_held}
-use Rattle.world.proofs.Orders.{places_total, places_exact, get_put_both, text_self, test_alike}
+use Rattle.world.proofs.Orders.{places_total, get_put_both, text_self, test_alike}
 use Rattle.world.proofs.Sees.{sees_itself, sees_common, same_chain}
 use Rattle.shelf.specs.declared.ask.Publish.{Publish}
 use Rattle.shelf.specs.declared.ask.Ask.{Ask}
@@ -18,9 +18,8 @@ use Rattle.shelf.specs.declared.ask.Event.TheVariants.{Asked, TeamAdd, GroupAdd,
 use Rattle.shelf.specs.declared.reply.Decision.{Decision}
 use Rattle.shelf.specs.declared.reply.Decision.TheVariants.{Published}
 use Rattle.shelf.specs.declared.reply.Reply.TheVariants as reply
-use Rattle.shelf.specs.declared.reply.Answer.{Answer}
-use Rattle.shelf.specs.Machine.{decision, after_decision, stored, offered, place_of, ask_reply, after_ask, reply_to, after, after_all, replies, Run, answered, replies_of, is_readable}
-use Rattle.shelf.specs.Isolation.{key_of, asking_key, Low}
+use Rattle.shelf.specs.Machine.{decision, after_decision, stored, offered, place_of, ask_reply, after_ask, after_all, replies, answered, is_readable}
+use Rattle.shelf.specs.Isolation.{key_of, Low}
 use Rattle.shelf.specs.Parts.{IsNotFound, AllAsked}
 use Rattle.shelf.proofs.Views.{SameOn}
 use Rattle.shelf.proofs.Blind.{blind, same_whole}

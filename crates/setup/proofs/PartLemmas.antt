@@ -311,10 +311,6 @@ all_chosen w is shelves all = (tt, all.are, part_all w (common ∷ names_of shel
 
 -- ---- whether a team is named
 
-pub none_named : {X : Type 0} (f : X → List ℕ) (xs : List X) → length xs ≡ 0 → each f xs ≡ []
-none_named f [] e = refl
-none_named f (x ∷ xs) e = absurd (omega arith)
-
 not_cons : (t : List ℕ) (ts : List (List ℕ)) → t ∷ ts ≡ [] → ⊥
 not_cons t ts e = cc e
 

@@ -1,6 +1,6 @@
 -- Calls one after another.
 use Rattle.std.proofs.Common.{◌≡◌, ◌≤◌, ◌⊎◌, Bool, true, false, inl, inr, refl, sym, subst, arith, IsTrue, true≢false}
-use Rattle.std.proofs.Common.{Result, Ok, Err, IsErr, is_ok, IfOk, OnOk, Option, Some, None, is_some, option_map}
+use Rattle.std.proofs.Common.{Result, Ok, Err, IsErr, is_ok, IfOk, OnOk}
 use Rattle.sqlite_trees.specs.View.{doubt}
 use Rattle.sqlite.specs.Tree.{Trees}
 use Rattle.sqlite.specs.State.{State, HasCleanDisk}
@@ -65,10 +65,6 @@ spares_at a b c done w next s up then = record {
 pub not_ok : {A E : Type 0} (r : Result A E) → IsErr r → is_ok r ≡ false
 not_ok (Ok x) h = absurd (true≢false (sym h))
 not_ok (Err e) h = refl
-
-pub some_mapped : {A B : Type 0} (f : A → B) (o : Option A) → is_some o ≡ is_some (option_map f o)
-some_mapped f None = refl
-some_mapped f (Some x) = refl
 
 pub on_weaker : {A E : Type 0} {P Q : Type 0} (r : Result A E) → (P → Q) → OnOk r P → OnOk r Q
 on_weaker (Ok x) then h = then h

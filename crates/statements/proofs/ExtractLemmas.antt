@@ -1,5 +1,5 @@
 -- Rows that are copied from one store to another.
-use Rattle.std.proofs.Common.{◌≡◌, ◌≤◌, Bool, true, false, ℕ, List, [], ◌∷◌, ◌++◌, Option, Result, Ok, Err, IsErr, inl, refl, sym, subst, arith, IsTrue, is_ok, OnOk, true≢false}
+use Rattle.std.proofs.Common.{◌≡◌, ◌≤◌, Bool, true, false, ℕ, List, [], ◌∷◌, ◌++◌, Result, Ok, Err, IsErr, inl, refl, sym, subst, arith, IsTrue, is_ok, OnOk, true≢false}
 use Rattle.sqlite_trees.specs.View.{doubt}
 use Rattle.sqlite.specs.Order.{Row}
 use Rattle.sqlite.specs.Tree.{Trees}
@@ -16,7 +16,7 @@ use Rattle.tables.proofs.FailureLemmas.{was_clean}
 use Rattle.tables.proofs.WalkLemmas.{unchanged_schema, outcome_then}
 use Rattle.statements.specs.Calls.{Spares}
 use Rattle.statements.specs.Rows.{Filling, GoesOn}
-use Rattle.statements.specs.Extract.{IsReady, IsReadBy, Copies, PutsShelf, Then, Along}
+use Rattle.statements.specs.Extract.{IsReady, IsReadBy, Copies, Then, Along}
 use Rattle.statements.proofs.CallLemmas.{stands_still}
 use Rattle.statements.proofs.ChangeLemmas.{when_ok}
 use Rattle.statements.proofs.GoingLemmas.{goes_on_itself, goes_on_then}
@@ -80,17 +80,6 @@ copies_none s a = record {
   reads = untouched s true;
   goes_on = goes_on_itself a;
   makes = λ _ _ _ _ _ filling _. (refl, filling);
-}
-
--- a shelf is put in, and the source is not touched
-pub put_copied : {A E : Type 0} (r : Result A E) (name : List ℕ) (parent : Option (List ℕ)) (s a b : State) → Survives a b (λ _. ⊥) → (HasCleanDisk b → IsTrue a.in_transaction → KeepsCommit a b)
-    → (HasCleanDisk b → IsTrue a.in_transaction → OnOk r (IsTrue b.in_transaction))
-    → (HasCleanDisk b → Filling a → OnOk r (PutsShelf name parent a.now.trees b.now.trees × Filling b)) → Copies (λ _. PutsShelf name parent) s s a b (is_ok r)
-put_copied r name parent s a b survives commit inside puts = record {
-  clean = omega arith;
-  reads = untouched s (is_ok r);
-  goes_on = goes_on_if r a b survives commit inside;
-  makes = λ clean good ready w means filling done. when_ok r done (puts good filling);
 }
 
 module _ (P Q : Trees → Trees → Trees → Type 0) (s t u a b c : State) (done : Bool) (p : Copies P s t a b true) (q : Copies Q t u b c done) where

@@ -16,7 +16,7 @@ use Rattle.world.specs.World.{World, with_entry}
 use Rattle.world.proofs.Orders.{places_total, places_exact, get_put}
 use Rattle.tables.specs.Schema.{store_schema}
 use Rattle.tables.specs.Pieces.{HasPiece}
-use Rattle.tables.specs.Means.{Means, Tabulates, IsVersion, IsAt, IsPiece, ArePieces, is_of}
+use Rattle.tables.specs.Means.{Means, Tabulates, IsVersion, IsAt, ArePieces, is_of}
 use Rattle.tables.proofs.Maps.{put_keeps, put_splits}
 use Rattle.tables.proofs.ValueLemmas.{int_itself, fresh_before, fresh_after, equal_turned, equal_chain}
 use Rattle.tables.proofs.SoundLemmas.{piece_version}

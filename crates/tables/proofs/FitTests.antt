@@ -1,5 +1,5 @@
 -- What the walks over the rows of the tables tell.
-use Rattle.std.proofs.Common.{◌≡◌, ◌≤◌, ◌++◌, ◌||◌, ◌⊎◌, ℕ, Bool, true, false, List, [], ◌∷◌, map, Option, Some, None, Ok, Err, Result, OnOk}
+use Rattle.std.proofs.Common.{◌≡◌, ◌≤◌, ◌++◌, ◌⊎◌, ℕ, Bool, true, false, List, [], ◌∷◌, map, Option, Some, None, Ok, Err, Result, OnOk}
 use Rattle.std.proofs.Common.{IfOk, inl, inr, refl, sym, ap, subst, ◌∙◌, arith, Decides, true≢false, append_assoc, Less, Equal, IsPermutation}
 use Rattle.std.specs.Prelude.{Contains}
 use Rattle.std.specs.List.{list_all}

@@ -1,5 +1,5 @@
 -- Tables stand for at most one world.
-use Rattle.std.proofs.Common.{◌≡◌, ℕ, Bool, true, false, pos, cond, List, length, filter, Option, Some, None, refl, sym, ap, subst, ◌∙◌, IsTrue, nat_lt, ltb-true, ltb-false}
+use Rattle.std.proofs.Common.{◌≡◌, ℕ, Bool, true, false, pos, cond, List, length, filter, Option, Some, None, refl, sym, ap, subst, ◌∙◌, nat_lt, ltb-true, ltb-false}
 use Rattle.std.specs.declared.cmp.Ordering.{Ordering}
 use Rattle.std.specs.FinMap as map
 use Rattle.sqlite.specs.declared.types.Value.{Value}
@@ -35,11 +35,6 @@ same_got {K} {X} {R} m n k there back = go (map.get m k) (map.get n k) refl refl
     go (Some x) b one two = one ∙ sym (there x one)
     go None (Some x) one two = back x two ∙ sym two
     go None None one two = one ∙ sym two
-
-pub same_test : (a b : Bool) → (a ≡ true → b ≡ true) → (b ≡ true → a ≡ true) → a ≡ b
-same_test true b there back = sym (there refl)
-same_test false true there back = back refl
-same_test false false there back = refl
 
 pub texts_same : (v : Value) (s t : List ℕ) → v ≡ Text s → v ≡ Text t → t ≡ s
 texts_same v s t one two = let e = sym two ∙ one in cc

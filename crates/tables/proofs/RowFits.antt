@@ -61,14 +61,6 @@ pub time_read : (v : Value) (time : Option (List ℕ)) → v ≡ or_null Text ti
 time_read v None is = ap time_in (sym is)
 time_read v (Some t) is = ap time_in (sym is)
 
--- what a row shows of a shelf it shows of one
-text_one : (v : Value) (s t : List ℕ) → v ≡ Text s → v ≡ Text t → s ≡ t
-text_one v s t one two = let e = sym one ∙ two in cc
-
-pub shelf_one : (row : Row) (name : List ℕ) (parent : Option (List ℕ)) → column row 0 ≡ Text name → column row 1 ≡ or_null Text parent → IsShelfRow row → IsNamed name parent
-shelf_one row name parent first second fits =
-    subst₂ IsNamed (text_one (column row 0) fits.0 name fits.2 first) (time_read (column row 1) fits.1 fits.3 ∙ sym (time_read (column row 1) parent second)) fits.4
-
 pub same_entry : (row : Row) (d e : Entry) → ShowsFiles row d → ShowsFiles row e → d ≡ e
 same_entry row d e one two =
     let gomod : d.gomod ≡ e.gomod = let f = sym one.gomod ∙ two.gomod in cc in

@@ -1,36 +1,8 @@
 -- The tables as their texts make them, and the columns of `version`.
-use Rattle.std.proofs.Common.{◌≡◌, ◌≤◌, ◌<◌, Bool, Decides, List, Ok, refl, sym, ap, ◌∙◌, [], ◌∷◌, arith, codes, fold, get_or, length}
-use Rattle.sqlite.specs.Compile.{table_defined_by}
-use Rattle.sqlite.specs.Change.{created}
-use Rattle.sqlite_tied.specs.Compute.{everything}
+use Rattle.std.proofs.Common.{◌≡◌, ◌≤◌, ◌<◌, Bool, Decides, List, sym, ap, ◌∙◌, [], ◌∷◌, arith, codes, get_or, length}
 use Rattle.sqlite.specs.Kind.TheVariants.{Integer, Text, Blob}
 use Rattle.sqlite_schema.specs.declared.schema.Column.{Column}
-use Rattle.tables.specs.Schema.{store_schema, no_schema, given, optional, version_columns, meta_text, shelf_text, access_text}
-use Rattle.tables.specs.Schema.{version_text, piece_text, meta_table, shelf_table, access_table, version_table, piece_table}
-
-pub made1 : table_defined_by meta_text ≡ Ok (record meta_table { tree = 0 })
-unfolding everything
-made1 = refl
-
-pub made2 : table_defined_by shelf_text ≡ Ok (record shelf_table { tree = 0 })
-unfolding everything
-made2 = refl
-
-pub made3 : table_defined_by access_text ≡ Ok (record access_table { tree = 0 })
-unfolding everything
-made3 = refl
-
-pub made4 : table_defined_by version_text ≡ Ok (record version_table { tree = 0 })
-unfolding everything
-made4 = refl
-
-pub made5 : table_defined_by piece_text ≡ Ok (record piece_table { tree = 0 })
-unfolding everything
-made5 = refl
-
-pub made6 : fold created no_schema (meta_table ∷ shelf_table ∷ access_table ∷ version_table ∷ piece_table ∷ []) ≡ store_schema
-unfolding everything
-made6 = refl
+use Rattle.tables.specs.Schema.{given, optional, version_columns}
 
 -- a list of eight is that of what stands at its indexes
 eight : (xs : List Column) (i s p v t g o r : Column) → 8 ≤ length xs → length xs < 9

@@ -1,5 +1,5 @@
 -- Rows that are read one at a time, and one test of the tables after another.
-use Rattle.std.proofs.Common.{◌≡◌, ◌≤◌, ◌⊎◌, Bool, true, false, List, [], ◌∷◌, ◌++◌, Ok, Err, Result, inl, inr, refl, sym, ap, subst, ◌∙◌, arith, Decides, OnOk, IfOk, true≢false}
+use Rattle.std.proofs.Common.{◌≡◌, ◌≤◌, ◌⊎◌, Bool, true, false, List, [], ◌∷◌, ◌++◌, Ok, Err, Result, inl, inr, refl, sym, ap, subst, ◌∙◌, arith, Decides, OnOk, IfOk}
 use Rattle.sqlite_trees.specs.View.{doubt}
 use Rattle.sqlite.specs.Tree.{Trees}
 use Rattle.sqlite.specs.Order.{Row}
@@ -78,10 +78,6 @@ module _ {X : Type 0} (Fits : X → Row → Type 0) (Keeps : X → Row → X →
   one_more start (r ∷ rows) so_far row next passed fits keeps = (passed.0, passed.1, passed.2, one_more passed.1 rows so_far row next passed.3 fits keeps)
 
 -- ---- one test after the other
-
--- a test that failed, of less
-pub fails_for : (a b : State) (P Q : Trees → Type 0) → ((db : Trees) → Q db → P db) → Tests a b (Ok false) P → Tests a b (Ok false) Q
-fails_for a b P Q less t = record { looks = t.looks; same = t.same; answer = λ clean has. (λ h. absurd (true≢false (sym h)), λ whole. (t.answer clean has).1 (less _ whole)) }
 
 -- a test that was not made
 pub errs_for : (a b : State) (e : Error) (P Q : Trees → Type 0) → Tests a b (Err e) P → Tests a b (Err e) Q

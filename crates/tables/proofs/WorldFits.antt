@@ -11,7 +11,6 @@ use Rattle.sqlite_rules.proofs.ListLemmas.{all_has, all_from, has_filtered, has_
 use Rattle.sqlite_rules.proofs.ProbeLemmas.{has_mapped, mapped_has}
 use Rattle.world.specs.declared.entry.Place.{Place}
 use Rattle.world.specs.World.{World, IsWorld, common, zip_limit}
-use Rattle.world.proofs.Orders.{text_self}
 use Rattle.tables.specs.Schema.{store_schema}
 use Rattle.tables.specs.Pieces.{piece_size, piece, HasPiece}
 use Rattle.tables.specs.Means.{Means, IsMeta, IsAt, IsPiece, ArePieces, is_of, schema_named}

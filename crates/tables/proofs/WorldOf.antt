@@ -1,5 +1,5 @@
 -- Rows that fit stand for a world.
-use Rattle.std.proofs.Common.{◌≡◌, ◌≤◌, ◌==◌, ◌⊎◌, ℕ, suc, pos, negsuc, Bool, true, false, true≢false, cond, Option, Some, None}
+use Rattle.std.proofs.Common.{◌≡◌, ◌≤◌, ◌==◌, ℕ, suc, pos, negsuc, Bool, true, false, true≢false, cond, Option, Some, None}
 use Rattle.std.proofs.Common.{is_some, inr, List, [], ◌∷◌, length, map as mapped, filter, refl, sym, ap, subst, subst₂, ◌∙◌, arith}
 use Rattle.std.specs.FinMap as map
 use Rattle.sqlite.specs.declared.types.Value.{Value}
@@ -17,8 +17,8 @@ use Rattle.world.specs.declared.entry.Entry.{Entry}
 use Rattle.world.specs.declared.entry.Holder.{Holder}
 use Rattle.world.specs.declared.entry.Right.{Right}
 use Rattle.world.specs.declared.entry.Right.TheVariants.{Reads, Publishes}
-use Rattle.world.specs.World.{World, IsWorld, IsEntry, common, count, text_cmp, is_team_name, is_key, version_limit}
-use Rattle.world.proofs.Orders.{texts_total, texts_exact, places_total, places_exact, text_same}
+use Rattle.world.specs.World.{World, IsWorld, IsEntry, common, count, text_cmp, is_key, version_limit}
+use Rattle.world.proofs.Orders.{texts_total, texts_exact, places_total, places_exact}
 use Rattle.tables.specs.Schema.{store_schema}
 use Rattle.tables.specs.Means.{may_publish}
 use Rattle.tables.specs.Means.{Means, IsMeta, IsShelf, IsAccess, IsNumbered, IsVersion, HasKeys, schema_named}

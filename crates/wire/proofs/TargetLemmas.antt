@@ -31,9 +31,6 @@ if-some false x y h = cc h
 same-pointwise : (xs : List ℕ) → pointwise nat_eq xs xs ≡ true
 same-pointwise xs = (pointwise_decides Decides-eqb xs xs).1 refl
 
-pub start-taken : (start rest : List ℕ) → without_start start (start ++ rest) ≡ Some rest
-start-taken start rest = rw (take_at start rest (length start) refl, same-pointwise start, drop_at start rest (length start) refl) refl
-
 pub start-is : (start text rest : List ℕ) → without_start start text ≡ Some rest → text ≡ start ++ rest
 start-is start text rest h =
     let found = if-some (pointwise nat_eq (take (length start) text) start) (drop (length start) text) rest h in

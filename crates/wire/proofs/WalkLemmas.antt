@@ -1,15 +1,11 @@
 -- What the parameters of the two routes took.
-use Rattle.std.proofs.Common.{◌≡◌, ℕ, ◌+◌, ◌-◌, ◌≤◌, List, [], ◌∷◌, ◌++◌, length, drop, take, true, refl, sym, ap, ◌∙◌, arith, ltb, leb, length-append, length-drop, codes}
+use Rattle.std.proofs.Common.{◌≡◌, ℕ, ◌+◌, ◌-◌, List, [], ◌∷◌, ◌++◌, length, drop, take, true, refl, sym, ap, ◌∙◌, arith, ltb, leb, length-append, length-drop, codes}
 use Rattle.std.proofs.lemmas.Bool.{lt-ltb, le-leb}
 use Rattle.std.proofs.lemmas.List.{drop_at, take_at, drop-drop, take_all}
 use Rattle.matchit.specs.Seek.{segment}
-use Rattle.matchit.specs.Params.{walk, part_of}
+use Rattle.matchit.specs.Params.{walk}
 use Rattle.wire.specs.Route.{path_route, shelf_route}
 use Rattle.wire.proofs.RouteLemmas.{Splits, segment_key}
-
--- the bytes between two indices
-span_at : (bytes : List ℕ) (start end : ℕ) → start ≤ end → end ≤ length bytes → part_of bytes start end ≡ take (end - start) (drop start bytes)
-span_at bytes start end a b = rw (le-leb start end a, le-leb end (length bytes) b) refl
 
 module _ (target key rest : List ℕ) (splits : Splits target key rest) where
   long : length target ≡ 4 + length key + length rest

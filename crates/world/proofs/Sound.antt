@@ -38,10 +38,6 @@ at_or_before {R = R} o exact m k q x y e =
 pub still : (s : set.FinSet text_cmp) (t x : List ℕ) → set.contains s x ≡ true → set.contains (set.insert s t) x ≡ true
 still s t x stands = set.contains-insert texts_total s t x ∙ or_right (eq_by_cmp text_cmp x t) _ stands
 
--- what is among the old or is the new
-new_or_old : (s : set.FinSet text_cmp) (t x : List ℕ) → set.contains (set.insert s t) x ≡ true → (x ≡ t) ⊎ (set.contains s x ≡ true)
-new_or_old s t x at = elim (or_cases (eq_by_cmp text_cmp x t) _ (sym (set.contains-insert texts_total s t x) ∙ at)) [ inl here ↦ inl (tells_apart texts_exact x t here) | inr old ↦ inr old ]
-
 -- ---- one more shelf
 
 -- what stands where a shelf is put, by the test of its name

@@ -1,8 +1,7 @@
-use Rattle.std.proofs.Common.{◌≡◌, ◌<◌, Some, length, get_or, slice_get, arith, sym, ap, ◌∙◌, subst, refl, [], ◌∷◌, ◌++◌, ◌≤◌, IsUtf8, drop}
+use Rattle.std.proofs.Common.{◌≡◌, ◌<◌, Some, length, get_or, slice_get, arith, sym, ap, ◌∙◌, subst, refl, ◌≤◌, IsUtf8, drop}
 use Rattle.std.proofs.lemmas.Option.{get_or_from_slice_get, slice_get_within}
-use Rattle.std.proofs.lemmas.List.{map-append}
 use Rattle.modlex.specs.Bytes.{is_blank, is_slash_and}
-use Rattle.modlex.specs.Lexer.{view, views, lexeme_at}
+use Rattle.modlex.specs.Lexer.{views, lexeme_at}
 use Rattle.std.proofs.lemmas.Str.{IsUtf8-drop, IsCharBoundary-after_ascii}
 use Rattle.modlex.proofs.TokenLoop.{ReadsOn-token}
 use Rattle.modlex.proofs.lexer.first_tokens.Goals as goal

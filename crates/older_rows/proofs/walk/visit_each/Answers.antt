@@ -1,17 +1,16 @@
 use Rattle.std.proofs.Common.{◌≡◌, IsTrue, true, false, true≢false, [], ◌∷◌, ◌++◌, inl, inr, refl, sym, subst, ◌∙◌, rules, arith, length-append}
-use Rattle.sqlite.specs.State.{HasCleanDisk, IsUnchanged, Survives, CommitsShowing}
+use Rattle.sqlite.specs.State.{HasCleanDisk, Survives, CommitsShowing}
 use Rattle.sqlite.specs.Held.{state}
 use Rattle.sqlite.specs.Listing.{understood}
 use Rattle.sqlite.proofs.Callers.{IsPlain, given_begin, begun_plain, unchanged_then}
 use Rattle.tables.proofs.FailureLemmas.{was_clean, failed_query}
 use Rattle.tables.proofs.WalkCauses.{excused_same, error_says}
-use Rattle.tables.proofs.WalkLemmas.{failed_or_same}
 use Rattle.older.specs.Schemas.{schema_of}
 use Rattle.statements.specs.Extract.{IsReadBy}
 use Rattle.statements.proofs.ChangeLemmas.{not_ok}
-use Rattle.statements.proofs.GoingLemmas.{goes_on_itself, goes_on_then, stays_quiet, commit_then}
+use Rattle.statements.proofs.GoingLemmas.{goes_on_itself, goes_on_then}
 use Rattle.older_rows.proofs.CauseLemmas.{query_excused, next_excused, too_vast}
-use Rattle.older_rows.proofs.WalkLemmas.{commits_nothing, all_shown, quiet_read, then_survives, moved_read, failed_read, one_more}
+use Rattle.older_rows.proofs.WalkLemmas.{commits_nothing, all_shown, quiet_read, then_survives, one_more}
 use Rattle.older_rows.proofs.walk.visit_each.Goals as goal
 
 -- ---- the query is refused

@@ -14,17 +14,17 @@ use Rattle.gomod.specs.Entries.{IsModuleEntry, IsPair}
 use Rattle.gomod.specs.Grammar.{Row, row, Directive, one, block, OpenBlock, keyword_of, keywords_in, Item, item, items_of, items, is_keyword, entries_under, rows_of, rows_of_open, AreWritten}
 use Rattle.gomod.specs.Reads.{Pointwise, rows_of_tokens}
 use Rattle.gomod.specs.Faults.{AreRead, HasFirstFault}
-use Rattle.gomod.specs.Reading.{Context, Parts, nothing, at_start, last_path, ◌⊕◌, ◌>>=◌, bytes_say, lines_say}
+use Rattle.gomod.specs.Reading.{Context, Contents, nothing, at_start, last_path, ◌⊕◌, ◌>>=◌, bytes_say, lines_say}
 use Rattle.gomod.proofs.Steps.{bound, fails, ok_same}
 use Rattle.gomod.proofs.Lists.{pointwise-append, last_of, empty_list, length-join}
 use Rattle.gomod.proofs.Moves.{Move, blank, single, begins, inside, closes, IsFresh, keywords_more, items_more, keywords_in-move, items-move}
 use Rattle.gomod.proofs.Written.{same_keyword, written-move}
 use Rattle.gomod.proofs.Unwritten.{written-back}
 use Rattle.gomod.proofs.Contexts.{context_at, stands, IsAlone, module_same, written-alone}
-use Rattle.gomod.proofs.EntryMeaning.{IsPlaced, AreMeant, path_list}
+use Rattle.gomod.proofs.EntryMeaning.{IsSpanAt, AreMeant, path_list}
 use Rattle.gomod.proofs.LineLaw.{Says, move_says, says_move}
 use Rattle.gomod.proofs.LineTokens.{tokens_plain, bytes_ok, bytes_say-tokens, bytes_fault}
-use Rattle.gomod.proofs.Appends.{joined, lines_say-append, place_behind, tokens_of-append, tokens_of-length, tokens_of-last, rows_of-append}
+use Rattle.gomod.proofs.Appends.{joined, lines_say-append, position_behind, tokens_of-append, tokens_of-length, tokens_of-last, rows_of-append}
 use Rattle.gomod.proofs.Pass.{join_assoc, join_nothing}
 
 -- ---- entries behind entries
@@ -51,14 +51,14 @@ paths_join (x ∷ xs) (y ∷ ys) (Some p) None once h k = absurd k
 paths_join (x ∷ xs) [] (Some p) (Some q) once h k = absurd k
 paths_join (x ∷ xs) (y ∷ ys) (Some p) (Some q) once h k = ⊎_elim (λ none. cc) (λ none. cc) once
 
-meant_join : (is js : List Item) (p q : Parts) → (entries_under Module is ≡ []) ⊎ (entries_under Module js ≡ []) → AreMeant is p → AreMeant js q → AreMeant (is ++ js) (p ⊕ q)
+meant_join : (is js : List Item) (p q : Contents) → (entries_under Module is ≡ []) ⊎ (entries_under Module js ≡ []) → AreMeant is p → AreMeant js q → AreMeant (is ++ js) (p ⊕ q)
 meant_join is js p q once h k = record {
   paths = subst (λ l. Pointwise (λ e x. IsModuleEntry e.symbols x) l (path_list (last_path p.module_path q.module_path)))
       (sym (entries_under-append Module is js)) (paths_join (entries_under Module is) (entries_under Module js) p.module_path q.module_path once h.paths k.paths);
   required = subst (λ l. Pointwise (λ e r. IsPair e.symbols r) l (p.required ++ q.required)) (sym (entries_under-append Require is js))
       (pointwise-append (λ e r. IsPair e.symbols r) (entries_under Require is) p.required (entries_under Require js) q.required h.required k.required);
-  retractions = subst (λ l. Pointwise IsPlaced l (p.retractions ++ q.retractions)) (sym (entries_under-append Retract is js))
-      (pointwise-append IsPlaced (entries_under Retract is) p.retractions (entries_under Retract js) q.retractions h.retractions k.retractions);
+  retractions = subst (λ l. Pointwise IsSpanAt l (p.retractions ++ q.retractions)) (sym (entries_under-append Retract is js))
+      (pointwise-append IsSpanAt (entries_under Retract is) p.retractions (entries_under Retract js) q.retractions h.retractions k.retractions);
 }
 
 other_entries : (j k : Keyword) (es : List Row) → is_keyword j k ≡ false → entries_under j (map (item k) es) ≡ []
@@ -73,12 +73,12 @@ directive_entries j (block k first es last) other = other_entries j k es other
 pub none_entries : (j : Keyword) (ds : List Directive) → stands j ds ≡ false → entries_under j (flat_map items_of ds) ≡ []
 none_entries j [] h = refl
 none_entries j (d ∷ ds) h =
-    let parts = or_parts (is_keyword j (keyword_of d)) (stands j ds) h in
+    let halves = or_parts (is_keyword j (keyword_of d)) (stands j ds) h in
     entries_under-append j (items_of d) (flat_map items_of ds)
-    ∙ ap (λ l. l ++ entries_under j (flat_map items_of ds)) (directive_entries j d parts.0)
-    ∙ none_entries j ds parts.1
+    ∙ ap (λ l. l ++ entries_under j (flat_map items_of ds)) (directive_entries j d halves.0)
+    ∙ none_entries j ds halves.1
 
--- of the entries so far and those that a move adds, at most one part has an entry of module
+-- of the entries so far and those that a move adds, at most one side has an entry of module
 module_once : {known : Keywords} {ds es : List Directive} {o p : Option OpenBlock} {r : Row} (m : Move known ds o r es p)
     → IsAlone ds o → (entries_under Module (items ds o) ≡ []) ⊎ (entries_under Module (items_more m) ≡ [])
 module_once (blank ds o line) alone = inr refl
@@ -104,7 +104,7 @@ module_once (closes ds b line filled) alone = inr refl
 
 -- ---- the lines above
 
-pub record Above (known : Keywords) (ls : List (List ℕ)) (ds : List Directive) (o : Option OpenBlock) (p : Parts) : Type 0 where
+pub record Above (known : Keywords) (ls : List (List ℕ)) (ds : List Directive) (o : Option OpenBlock) (p : Contents) : Type 0 where
   pub read : AreRead known ls ds o
   pub meant : AreMeant (items ds o) p
   pub bare : p.bare ≡ list_all is_module (keywords_in ds o)
@@ -130,16 +130,16 @@ list_all-join p (x ∷ xs) ys = and_assoc (p x) (list_all p xs) (list_all p ys) 
     and_assoc false b c = refl
 
 -- a line more
-pub above_move : {known : Keywords} {ls : List (List ℕ)} {ds es : List Directive} {o q : Option OpenBlock} {p : Parts} (l : List ℕ) (ts : List Lexeme)
+pub above_move : {known : Keywords} {ls : List (List ℕ)} {ds es : List Directive} {o q : Option OpenBlock} {p : Contents} (l : List ℕ) (ts : List Lexeme)
     (m : Move known ds o (row (length ls + 1) (map symbol_of ts)) es q) (s : Says known (length ls + 1) (context_at ds o) (context_at es q) (map symbol_of ts) (items_more m) (keywords_more m))
-    → Above known ls ds o p → AreTokens (length ls + 1) (place_behind 0 ls) l ts → Above known (ls ++ l ∷ []) es q (p ⊕ s.said)
+    → Above known ls ds o p → AreTokens (length ls + 1) (position_behind 0 ls) l ts → Above known (ls ++ l ∷ []) es q (p ⊕ s.said)
 above_move {known = known} {ls = ls} {ds = ds} {es = es} {o = o} {q = q} {p = p} l ts m s a are =
     let number : length ls + 1 ≡ 1 + length ls = omega arith in
     let alone = written-alone known (rows_of_tokens a.read.tokens) ds o a.read.grammar in
     record {
       read = record {
         tokens = a.read.tokens ++ ts ∷ [];
-        lexemes = tokens_of-append 1 0 ls a.read.tokens l ts a.read.lexemes (subst (λ n. AreTokens n (place_behind 0 ls) l ts) number are);
+        lexemes = tokens_of-append 1 0 ls a.read.tokens l ts a.read.lexemes (subst (λ n. AreTokens n (position_behind 0 ls) l ts) number are);
         grammar = subst (λ rows. AreWritten known rows es q) (sym (rows_of-append (length ls) a.read.tokens ts (tokens_of-length 1 0 ls a.read.tokens a.read.lexemes)))
             (written-move (rows_of_tokens a.read.tokens) m a.read.grammar);
       };
@@ -149,36 +149,36 @@ above_move {known = known} {ls = ls} {ds = ds} {es = es} {o = o} {q = q} {p = p}
     }
 
 -- the lines above the next line, and what is computed of them
-pub record Next (known : Keywords) (ls : List (List ℕ)) (c : Context) (p : Parts) : Type 0 where
+pub record Next (known : Keywords) (ls : List (List ℕ)) (c : Context) (p : Contents) : Type 0 where
   pub directives : List Directive
   pub opened : Option OpenBlock
   pub above : Above known ls directives opened p
   pub context : c ≡ context_at directives opened
 
 -- a line that is read after lines that are read leaves lines that are read, with what it says added
-pub above_line : {known : Keywords} {ls : List (List ℕ)} {ds : List Directive} {o : Option OpenBlock} {p : Parts} (l : List ℕ) (x : Context × Parts)
+pub above_line : {known : Keywords} {ls : List (List ℕ)} {ds : List Directive} {o : Option OpenBlock} {p : Contents} (l : List ℕ) (x : Context × Contents)
     → Above known ls ds o p → bytes_say known (length ls + 1) (context_at ds o) l ≡ Ok x → Next known (ls ++ l ∷ []) x.0 (p ⊕ x.1)
 above_line {known = known} {ls = ls} {ds = ds} {o = o} {p = p} l x a h =
-    let b = bytes_ok known (length ls + 1) (place_behind 0 ls) (context_at ds o) l x h in
+    let b = bytes_ok known (length ls + 1) (position_behind 0 ls) (context_at ds o) l x h in
     let alone = written-alone known (rows_of_tokens a.read.tokens) ds o a.read.grammar in
-    let m = says_move known (length ls + 1) ds o (map symbol_of b.0) x alone (tokens_plain (length ls + 1) (place_behind 0 ls) l b.0 b.1) b.2 in
+    let m = says_move known (length ls + 1) ds o (map symbol_of b.0) x alone (tokens_plain (length ls + 1) (position_behind 0 ls) l b.0 b.1) b.2 in
     let s = move_says m.move alone in
-    let same : ◌≡◌ {A = Context × Parts} (context_at m.directives m.opened, s.said) x = ok_same _ x (sym s.is_said ∙ b.2) in
+    let same : ◌≡◌ {A = Context × Contents} (context_at m.directives m.opened, s.said) x = ok_same _ x (sym s.is_said ∙ b.2) in
     record {
       directives = m.directives;
       opened = m.opened;
-      above = subst (λ (y : Context × Parts). Above known (ls ++ l ∷ []) m.directives m.opened (p ⊕ y.1)) same (above_move l b.0 m.move s a b.1);
-      context = ap (λ (y : Context × Parts). y.0) (sym same);
+      above = subst (λ (y : Context × Contents). Above known (ls ++ l ∷ []) m.directives m.opened (p ⊕ y.1)) same (above_move l b.0 m.move s a b.1);
+      context = ap (λ (y : Context × Contents). y.0) (sym same);
     }
 
 -- ---- all lines
 
 -- lines that are read after lines that are read leave lines that are read, with what they say added
-pub above_lines : (known : Keywords) (ms ls : List (List ℕ)) (ds : List Directive) (o : Option OpenBlock) (p : Parts) (x : Context × Parts)
+pub above_lines : (known : Keywords) (ms ls : List (List ℕ)) (ds : List Directive) (o : Option OpenBlock) (p : Contents) (x : Context × Contents)
     → Above known ls ds o p → lines_say known (length ls + 1) (context_at ds o) ms ≡ Ok x → Next known (ls ++ ms) x.0 (p ⊕ x.1)
 above_lines known [] ls ds o p x a h =
-    let same : ◌≡◌ {A = Context × Parts} (context_at ds o, nothing) x = ok_same _ x h in
-    subst (λ (y : Context × Parts). Next known (ls ++ []) y.0 (p ⊕ y.1)) same
+    let same : ◌≡◌ {A = Context × Contents} (context_at ds o, nothing) x = ok_same _ x h in
+    subst (λ (y : Context × Contents). Next known (ls ++ []) y.0 (p ⊕ y.1)) same
     (record {
       directives = ds;
       opened = o;
@@ -193,13 +193,13 @@ above_lines known (l ∷ ms) ls ds o p x a h =
     let rest : lines_say known (length (ls ++ l ∷ []) + 1) (context_at n.directives n.opened) ms ≡ Ok c.0 =
     ap (λ d. lines_say known (length (ls ++ l ∷ []) + 1) d ms) (sym n.context) ∙ ap (λ k. lines_say known k b.0.0 ms) (sym number) ∙ c.1 in
     let more = above_lines known ms (ls ++ l ∷ []) n.directives n.opened (p ⊕ b.0.1) c.0 n.above rest in
-    let same : ◌≡◌ {A = Context × Parts} (c.0.0, b.0.1 ⊕ c.0.1) x = ok_same _ x c.2 in
-    subst (λ (y : Context × Parts). Next known (ls ++ (l ∷ ms)) y.0 (p ⊕ y.1)) same
+    let same : ◌≡◌ {A = Context × Contents} (c.0.0, b.0.1 ⊕ c.0.1) x = ok_same _ x c.2 in
+    subst (λ (y : Context × Contents). Next known (ls ++ (l ∷ ms)) y.0 (p ⊕ y.1)) same
     (subst (λ j. Next known j c.0.0 (p ⊕ (b.0.1 ⊕ c.0.1))) (append_assoc ls (l ∷ []) ms)
     (subst (Next known ((ls ++ l ∷ []) ++ ms) c.0.0) (sym (join_assoc p b.0.1 c.0.1)) more))
 
 -- the first line with a fault
-pub above_fault : (known : Keywords) (ms ls : List (List ℕ)) (ds : List Directive) (o : Option OpenBlock) (p : Parts) (f : GoModFault)
+pub above_fault : (known : Keywords) (ms ls : List (List ℕ)) (ds : List Directive) (o : Option OpenBlock) (p : Contents) (f : GoModFault)
     → Above known ls ds o p → lines_say known (length ls + 1) (context_at ds o) ms ≡ Err f → HasFirstFault known (ls ++ ms) f
 above_fault known [] ls ds o p f a h = cc
 above_fault known (l ∷ ms) ls ds o p f a h =
@@ -228,13 +228,13 @@ above_fault known (l ∷ ms) ls ds o p f a h =
 -- ---- lines that read are computed
 
 pub record Computed (known : Keywords) (ls : List (List ℕ)) (ds : List Directive) (o : Option OpenBlock) : Type 0 where
-  pub parts : Parts
-  pub said : lines_say known 1 at_start ls ≡ Ok (context_at ds o, parts)
-  pub above : Above known ls ds o parts
+  pub contents : Contents
+  pub said : lines_say known 1 at_start ls ≡ Ok (context_at ds o, contents)
+  pub above : Above known ls ds o contents
 
 -- no lines have no directives
 nothing_above : (known : Keywords) (ds : List Directive) (o : Option OpenBlock) → [] ≡ flat_map rows_of ds ++ rows_of_open o → Computed known [] ds o
-nothing_above known [] None h = record { parts = nothing; said = refl; above = above_start known }
+nothing_above known [] None h = record { contents = nothing; said = refl; above = above_start known }
 nothing_above known [] (Some b) h = cc
 nothing_above known (one k e ∷ ds) o h = cc
 nothing_above known (block k first es last ∷ ds) o h = cc
@@ -254,17 +254,17 @@ computed_line known ls l ds o before r =
     let c = before back.directives back.opened (record { tokens = t.front; lexemes = t.above; grammar = back.above }) in
     let s = move_says back.move (written-alone known (rows_of_tokens t.front) back.directives back.opened back.above) in
     let number : 1 + length ls ≡ length ls + 1 = omega arith in
-    let here : AreTokens (length ls + 1) (place_behind 0 ls) l t.last = subst (λ n. AreTokens n (place_behind 0 ls) l t.last) number t.here in
+    let here : AreTokens (length ls + 1) (position_behind 0 ls) l t.last = subst (λ n. AreTokens n (position_behind 0 ls) l t.last) number t.here in
     let line_said : bytes_say known (1 + length ls) (context_at back.directives back.opened) l ≡ Ok (context_at ds o, s.said) =
     ap (λ n. bytes_say known n (context_at back.directives back.opened) l) number
-    ∙ bytes_say-tokens known (length ls + 1) (place_behind 0 ls) (context_at back.directives back.opened) l t.last here ∙ s.is_said in
+    ∙ bytes_say-tokens known (length ls + 1) (position_behind 0 ls) (context_at back.directives back.opened) l t.last here ∙ s.is_said in
     let last_said : lines_say known (1 + length ls) (context_at back.directives back.opened) (l ∷ []) ≡ Ok (context_at ds o, s.said) =
     ap (λ x. x >>= (λ u. Ok (u.0, u.1 ⊕ nothing))) line_said ∙ ap (λ p. Ok (context_at ds o, p)) (join_nothing s.said) in
     record {
-      parts = c.parts ⊕ s.said;
+      contents = c.contents ⊕ s.said;
       said = lines_say-append known 1 at_start ls (l ∷ [])
           ∙ ap (λ x. joined x (λ d. lines_say known (1 + length ls) d (l ∷ []))) c.said
-          ∙ ap (λ x. x >>= (λ y. Ok (y.0, c.parts ⊕ y.1))) last_said;
+          ∙ ap (λ x. x >>= (λ y. Ok (y.0, c.contents ⊕ y.1))) last_said;
       above = above_move l t.last back.move s c.above here;
     }
 

@@ -59,11 +59,11 @@ and_one true = refl
 and_one false = refl
 
 -- a keyword that stands among those without blocks stands, and has no block
-any_part : (b c w x : Bool) → (b ≡ true → w ≡ c) → cond c (b || (w && x)) (w && x) ≡ (w && (b || x))
-any_part true true w x h = let is = h refl in rw is refl
-any_part true false w x h = let is = h refl in rw is refl
-any_part false true w x h = refl
-any_part false false w x h = refl
+any_step : (b c w x : Bool) → (b ≡ true → w ≡ c) → cond c (b || (w && x)) (w && x) ≡ (w && (b || x))
+any_step true true w x h = let is = h refl in rw is refl
+any_step true false w x h = let is = h refl in rw is refl
+any_step false true w x h = refl
+any_step false false w x h = refl
 
 any_cond : (k j : Keyword) (js : List Keyword) (c : Bool) → list_any (is_keyword k) (cond c (j ∷ js) js) ≡ cond c (is_keyword k j || list_any (is_keyword k) js) (list_any (is_keyword k) js)
 any_cond k j js true = refl
@@ -74,7 +74,7 @@ any_without k [] = sym (and_none (has_no_block k))
 any_without k (j ∷ js) =
     any_cond k j (filter has_no_block js) (has_no_block j)
     ∙ ap (λ x. cond (has_no_block j) (is_keyword k j || x) x) (any_without k js)
-    ∙ any_part (is_keyword k j) (has_no_block j) (has_no_block k) (list_any (is_keyword k) js) (λ same. ap has_no_block (same_keyword k j same))
+    ∙ any_step (is_keyword k j) (has_no_block j) (has_no_block k) (list_any (is_keyword k) js) (λ same. ap has_no_block (same_keyword k j same))
 
 -- a directive has stood if it may stand once and stands above
 pub stood_is : (ds : List Directive) (k : Keyword) → has_stood (context_at ds None) k ≡ (is_single k && stands k ds)

@@ -9,7 +9,7 @@ use Rattle.gomod.specs.declared.fault.GoModFault.{GoModFault}
 use Rattle.gomod.specs.declared.fault.GoModFault.TheVariants as faults
 use Rattle.modlex.specs.Symbols.{Symbol, is_word_kind}
 use Rattle.gomod.specs.Keywords.{opens_block_kind, closes_block_kind, Keywords, keyword_named, spelling}
-use Rattle.gomod.specs.Reading.{Parts, entry, is_opening, is_closing}
+use Rattle.gomod.specs.Reading.{Contents, entry, is_opening, is_closing}
 use Rattle.gomod.specs.Entries.{Demand, HasShape, IsRight, FailsFirst, fault_of, module_shape, word_shape, go_shape, require_shape, exclude_shape}
 use Rattle.gomod.specs.Entries.{path_by_file, path_by_version, version_by_file, version_by_version, retract_version, retract_interval}
 use Rattle.gomod.proofs.Demands.{check-met, check-all, check-fails, outcome}
@@ -25,10 +25,10 @@ right_by : (line : ℕ) (k : Keyword) (ts : List Symbol) (o : Option (List Deman
 right_by line k ts None is h = cc
 right_by line k ts (Some ds) is h = (ds, shape-from_demands k ts ds is, check-met line ds h)
 
-pub entry_right : (line : ℕ) (k : Keyword) (ts : List Symbol) (q : Parts) → entry line k ts ≡ Ok q → IsRight k ts
+pub entry_right : (line : ℕ) (k : Keyword) (ts : List Symbol) (q : Contents) → entry line k ts ≡ Ok q → IsRight k ts
 entry_right line k ts q h = right_by line k ts (demands_of k ts) refl (sym (entry_success line k ts) ∙ ap success h)
 
-pub right_entry : (line : ℕ) (k : Keyword) (ts : List Symbol) → IsRight k ts → (q : Parts) × (entry line k ts ≡ Ok q)
+pub right_entry : (line : ℕ) (k : Keyword) (ts : List Symbol) → IsRight k ts → (q : Contents) × (entry line k ts ≡ Ok q)
 right_entry line k ts h =
     succeeds (entry line k ts) (entry_success line k ts ∙ ap (outcome line) (demands-from_shape k ts h.0 h.1) ∙ check-all line h.0 h.2)
 

@@ -22,12 +22,12 @@ use Rattle.gomod.specs.Grammar.{Row, Directive, OpenBlock, Item, items_of, keywo
 use Rattle.gomod.specs.Reads.{Pointwise, FitsPath, Reads, rows_of_tokens}
 use Rattle.gomod.specs.Faults.{HasFirstFault, IsFirstUnfit, IsLastFault, Faulty}
 use Rattle.gomod.specs.FileLaws.{ReadsOrIsFaulty}
-use Rattle.gomod.specs.Reading.{interval_of, Context, Parts, nothing, at_start, ◌⊕◌, ◌>>=◌, bytes_say, lines_say}
+use Rattle.gomod.specs.Reading.{interval_of, Context, Contents, nothing, at_start, ◌⊕◌, ◌>>=◌, bytes_say, lines_say}
 use Rattle.gomod.specs.Reading.{fits_retraction, first_unfit, fitting_module, module_of, file_says, text_says, reading}
 use Rattle.modlex.proofs.TokenSound.{chosen}
 use Rattle.gomod.proofs.Steps.{bound, fails, ok_same, err_same, ok_err, ok_or_err}
 use Rattle.gomod.proofs.Contexts.{context_at, stands, module_same, written-alone}
-use Rattle.gomod.proofs.EntryMeaning.{IsPlaced, AreMeant, path_list}
+use Rattle.gomod.proofs.EntryMeaning.{IsSpanAt, AreMeant, path_list}
 use Rattle.gomod.proofs.LineTokens.{fault_bytes}
 use Rattle.gomod.proofs.Appends.{joined, lines_say-append}
 use Rattle.gomod.proofs.Pass.{join_start}
@@ -104,11 +104,11 @@ pointwise_same R only (a ∷ es) (x ∷ xs) (y ∷ ys) h k =
     λ i. here i ∷ more i
 
 -- without their lines
-pub placed_spans : (es : List Row) (rs : List Retraction) → Pointwise IsPlaced es rs → Pointwise (λ e i. IsSpan e.symbols i) es (map interval_of rs)
-placed_spans [] [] h = tt
-placed_spans [] (r ∷ rs) h = absurd h
-placed_spans (e ∷ es) [] h = absurd h
-placed_spans (e ∷ es) (r ∷ rs) h = (h.0.1, placed_spans es rs h.1)
+pub only_spans : (es : List Row) (rs : List Retraction) → Pointwise IsSpanAt es rs → Pointwise (λ e i. IsSpan e.symbols i) es (map interval_of rs)
+only_spans [] [] h = tt
+only_spans [] (r ∷ rs) h = absurd h
+only_spans (e ∷ es) [] h = absurd h
+only_spans (e ∷ es) (r ∷ rs) h = (h.0.1, only_spans es rs h.1)
 
 -- ---- retractions that fit
 
@@ -135,11 +135,11 @@ unfit_behind path e i es line span fits u = record {
   span = u.span;
   is = u.is;
   misfit = u.misfit;
-  place = u.place;
+  position = u.position;
 }
 
 -- the line found by the search of an unfit retraction is that of the first unfit retraction
-unfit_from : (path : List ℕ) (es : List Row) (rs : List Retraction) (line : ℕ) → Pointwise IsPlaced es rs → first_unfit path rs ≡ Some line → IsFirstUnfit path es line
+unfit_from : (path : List ℕ) (es : List Row) (rs : List Retraction) (line : ℕ) → Pointwise IsSpanAt es rs → first_unfit path rs ≡ Some line → IsFirstUnfit path es line
 unfit_from path [] [] line h k = cc
 unfit_from path [] (r ∷ rs) line h k = absurd h
 unfit_from path (e ∷ es) [] line h k = absurd h
@@ -155,12 +155,12 @@ unfit_from path (e ∷ es) (r ∷ rs) line h k =
       span = interval_of r;
       is = h.0.1;
       misfit = λ fits. both_ways (fits_retraction path r) x.0 (and_from (fits_path path r.versions.low) (fits_path path r.versions.high) fits.0 fits.1);
-      place = (let same : r.line ≡ line = (let e = x.1 in cc) in sym same ∙ h.0.0);
+      position = (let same : r.line ≡ line = (let e = x.1 in cc) in sym same ∙ h.0.0);
     })
     (chosen (fits_retraction path r) _ _ _ k)
 
 -- the search of an unfit retraction finds the line of the first one
-unfit_at : (path : List ℕ) (before : List Row) (u : Row) (others : List Row) (rs : List Retraction) (span : Interval) → Pointwise IsPlaced (before ++ u ∷ others) rs
+unfit_at : (path : List ℕ) (before : List Row) (u : Row) (others : List Row) (rs : List Retraction) (span : Interval) → Pointwise IsSpanAt (before ++ u ∷ others) rs
     → AllByRecursion (λ e. (i : Interval) × IsSpan e.symbols i × FitsPath path i) before → IsSpan u.symbols span → ¬ FitsPath path span → first_unfit path rs ≡ Some u.line
 unfit_at path [] u others [] span h fit is misfit = absurd h
 unfit_at path [] u others (r ∷ rs) span h fit is misfit =
@@ -175,9 +175,9 @@ unfit_at path (b ∷ before) u others (r ∷ rs) span h fit is misfit =
     let here : fits_retraction path r ≡ true = and_from (fits_path path r.versions.low) (fits_path path r.versions.high) fits.0 fits.1 in
     rw here (unfit_at path before u others rs span h.1 fit.1 is misfit)
 
-unfit_is : (path : List ℕ) (es : List Row) (rs : List Retraction) (line : ℕ) → Pointwise IsPlaced es rs → IsFirstUnfit path es line → first_unfit path rs ≡ Some line
+unfit_is : (path : List ℕ) (es : List Row) (rs : List Retraction) (line : ℕ) → Pointwise IsSpanAt es rs → IsFirstUnfit path es line → first_unfit path rs ≡ Some line
 unfit_is path es rs line h u =
-    unfit_at path u.before u.unfit u.others rs u.span (subst (λ l. Pointwise IsPlaced l rs) u.split h) u.fitting u.is u.misfit ∙ ap (λ n. Some n) (sym u.place)
+    unfit_at path u.before u.unfit u.others rs u.span (subst (λ l. Pointwise IsSpanAt l rs) u.split h) u.fitting u.is u.misfit ∙ ap (λ n. Some n) (sym u.position)
 
 -- ---- bare files
 
@@ -236,7 +236,7 @@ no_path None es none h = refl
 no_path (Some p) es none h = absurd (subst (λ l. Pointwise (λ e q. IsModuleEntry e.symbols q) l (p ∷ [])) none h)
 
 -- a file whose lines, path and retractions pass is read by the grammar as what was computed
-reads_fitting : (known : Keywords) (bytes : List ℕ) (ds : List Directive) (p : Parts) (path : List ℕ) (m : GoModule) (u : Option ℕ) → IsUtf8 bytes
+reads_fitting : (known : Keywords) (bytes : List ℕ) (ds : List Directive) (p : Contents) (path : List ℕ) (m : GoModule) (u : Option ℕ) → IsUtf8 bytes
     → Above known (lines bytes) ds None p → p.module_path ≡ Some path → first_unfit path p.retractions ≡ u → fitting_module path p u ≡ Ok m → Reads known bytes m
 reads_fitting known bytes ds p path m (Some line) utf8 a is unfit h = cc
 reads_fitting known bytes ds p path m None utf8 a is unfit h =
@@ -251,24 +251,24 @@ reads_fitting known bytes ds p path m None utf8 a is unfit h =
       grammar = a.read.grammar;
       path = paths;
       required = a.meant.required;
-      retractions = placed_spans (entries_under Retract (items ds None)) p.retractions a.meant.retractions;
+      retractions = only_spans (entries_under Retract (items ds None)) p.retractions a.meant.retractions;
       fitting = fits_all path p.retractions unfit;
       bare = (λ b. bare.0 (sym a.bare ∙ b), λ one. a.bare ∙ bare.1 one);
     })
 
-reads_by : (known : Keywords) (bytes : List ℕ) (ds : List Directive) (p : Parts) (m : GoModule) (o : Option (List ℕ))
+reads_by : (known : Keywords) (bytes : List ℕ) (ds : List Directive) (p : Contents) (m : GoModule) (o : Option (List ℕ))
     → IsUtf8 bytes → Above known (lines bytes) ds None p → p.module_path ≡ o → module_of p o ≡ Ok m → Reads known bytes m
 reads_by known bytes ds p m None utf8 a is h = cc
 reads_by known bytes ds p m (Some path) utf8 a is h = reads_fitting known bytes ds p path m (first_unfit path p.retractions) utf8 a is refl h
 
-reads_file : (known : Keywords) (bytes : List ℕ) (ds : List Directive) (o : Option OpenBlock) (p : Parts) (m : GoModule) (last : ℕ)
+reads_file : (known : Keywords) (bytes : List ℕ) (ds : List Directive) (o : Option OpenBlock) (p : Contents) (m : GoModule) (last : ℕ)
     → IsUtf8 bytes → Above known (lines bytes) ds o p → file_says last (context_at ds o, p) ≡ Ok m → Reads known bytes m
 unfolding file_says
 reads_file known bytes ds None p m last utf8 a h = reads_by known bytes ds p m p.module_path utf8 a refl h
 reads_file known bytes ds (Some b) p m last utf8 a h = cc
 
 -- the file with these bytes, by what is computed of all its lines
-next_of : (known : Keywords) (ls : List (List ℕ)) (x : Context × Parts) → lines_say known 1 at_start ls ≡ Ok x → Next known ls x.0 x.1
+next_of : (known : Keywords) (ls : List (List ℕ)) (x : Context × Contents) → lines_say known 1 at_start ls ≡ Ok x → Next known ls x.0 x.1
 next_of known ls x h =
     let n = above_lines known ls [] [] None nothing x (above_start known) h in
     subst (Next known ls x.0) (join_start x.1) n
@@ -296,15 +296,15 @@ text_of : (known : Keywords) (bytes : List ℕ) → IsUtf8 bytes → reading kno
 unfolding reading
 text_of known bytes utf8 = let test = is_utf8-from_IsUtf8 bytes utf8 in rw test refl
 
-said_file : (known : Keywords) (bytes : List ℕ) (c : Context) (p : Parts) → lines_say known 1 at_start (lines bytes) ≡ Ok (c, p) → text_says known bytes ≡ file_says (length (lines bytes)) (c, p)
+said_file : (known : Keywords) (bytes : List ℕ) (c : Context) (p : Contents) → lines_say known 1 at_start (lines bytes) ≡ Ok (c, p) → text_says known bytes ≡ file_says (length (lines bytes)) (c, p)
 unfolding text_says
 said_file known bytes c p h = ap (λ r. r >>= file_says (length (lines bytes))) h
 
-closed_file : (last : ℕ) (ds : List Directive) (p : Parts) → file_says last (context_at ds None, p) ≡ module_of p p.module_path
+closed_file : (last : ℕ) (ds : List Directive) (p : Contents) → file_says last (context_at ds None, p) ≡ module_of p p.module_path
 unfolding file_says
 closed_file last ds p = refl
 
-open_file : (last : ℕ) (ds : List Directive) (b : OpenBlock) (p : Parts) → file_says last (context_at ds (Some b), p) ≡ Err (faults.Grammar last)
+open_file : (last : ℕ) (ds : List Directive) (b : OpenBlock) (p : Contents) → file_says last (context_at ds (Some b), p) ≡ Err (faults.Grammar last)
 unfolding file_says
 open_file last ds b p = refl
 
@@ -314,32 +314,32 @@ reading-from_reads known bytes m r =
     let c = computed known (lines bytes) r.directives None (record { tokens = r.tokens; lexemes = r.lexemes; grammar = r.grammar }) in
     let is : List Item = items r.directives None in
     let paths = pointwise_same (λ (e : Row) (x : List ℕ). IsModuleEntry e.symbols x)
-    (λ e x y h k. path_same e.symbols x y h k) (entries_under Module is) (path_list c.parts.module_path) (m.path ∷ []) c.above.meant.paths r.path in
+    (λ e x y h k. path_same e.symbols x y h k) (entries_under Module is) (path_list c.contents.module_path) (m.path ∷ []) c.above.meant.paths r.path in
     let required = pointwise_same (λ (e : Row) (x : Requirement). IsPair e.symbols x)
-    (λ e x y h k. pair_same e.symbols x y h k) (entries_under Require is) c.parts.required m.required c.above.meant.required r.required in
+    (λ e x y h k. pair_same e.symbols x y h k) (entries_under Require is) c.contents.required m.required c.above.meant.required r.required in
     let spans = pointwise_same (λ (e : Row) (x : Interval). IsSpan e.symbols x) (λ e x y h k. span_same e.symbols x y h k) (entries_under Retract is)
-    (map interval_of c.parts.retractions) m.retractions (placed_spans (entries_under Retract is) c.parts.retractions c.above.meant.retractions) r.retractions in
-    let path = path_some c.parts.module_path m.path paths in
-    let fits = all_fit m.path c.parts.retractions (subst (AllByRecursion (FitsPath m.path)) (sym spans) r.fitting) in
+    (map interval_of c.contents.retractions) m.retractions (only_spans (entries_under Retract is) c.contents.retractions c.above.meant.retractions) r.retractions in
+    let path = path_some c.contents.module_path m.path paths in
+    let fits = all_fit m.path c.contents.retractions (subst (AllByRecursion (FitsPath m.path)) (sym spans) r.fitting) in
     let bare = bare_file known (rows_of_tokens c.above.read.tokens) r.directives c.above.read.grammar (module_stands r.directives m.path r.path) in
-    let truth = same_truth (length r.directives ≡ 1) c.parts.bare m.bare (λ b. bare.0 (sym c.above.bare ∙ b), λ one. c.above.bare ∙ bare.1 one) r.bare in
+    let truth = same_truth (length r.directives ≡ 1) c.contents.bare m.bare (λ b. bare.0 (sym c.above.bare ∙ b), λ one. c.above.bare ∙ bare.1 one) r.bare in
     text_of known bytes r.utf8
-    ∙ said_file known bytes (context_at r.directives None) c.parts c.said
-    ∙ closed_file (length (lines bytes)) r.directives c.parts
-    ∙ ap (module_of c.parts) path
-    ∙ ap (fitting_module m.path c.parts) fits
+    ∙ said_file known bytes (context_at r.directives None) c.contents c.said
+    ∙ closed_file (length (lines bytes)) r.directives c.contents
+    ∙ ap (module_of c.contents) path
+    ∙ ap (fitting_module m.path c.contents) fits
     ∙ ap (λ x. Ok x) (λ i. record { path = m.path; required = required i; retractions = spans i; bare = truth i })
 
 -- ---- faults
 
-last_fitting : (ds : List Directive) (p : Parts) (last : ℕ) (path : List ℕ) (f : GoModFault) (u : Option ℕ) → AreMeant (items ds None) p
+last_fitting : (ds : List Directive) (p : Contents) (last : ℕ) (path : List ℕ) (f : GoModFault) (u : Option ℕ) → AreMeant (items ds None) p
     → p.module_path ≡ Some path → first_unfit path p.retractions ≡ u → fitting_module path p u ≡ Err f → IsLastFault ds None last f
 last_fitting ds p last path f None meant is unfit h = cc
 last_fitting ds p last path f (Some line) meant is unfit h =
     let paths = subst (λ o. Pointwise (λ e x. IsModuleEntry e.symbols x) (entries_under Module (items ds None)) (path_list o)) is meant.paths in
     inr (path, paths, (line, unfit_from path (entries_under Retract (items ds None)) p.retractions line meant.retractions unfit, cc))
 
-last_by : (ds : List Directive) (p : Parts) (last : ℕ) (f : GoModFault) (o : Option (List ℕ)) → AreMeant (items ds None) p → p.module_path ≡ o → module_of p o ≡ Err f → IsLastFault ds None last f
+last_by : (ds : List Directive) (p : Contents) (last : ℕ) (f : GoModFault) (o : Option (List ℕ)) → AreMeant (items ds None) p → p.module_path ≡ o → module_of p o ≡ Err f → IsLastFault ds None last f
 last_by ds p last f None meant is h =
     inl (
       empty_pointwise (λ e x. IsModuleEntry e.symbols x) (entries_under Module (items ds None))
@@ -348,7 +348,7 @@ last_by ds p last f None meant is h =
     )
 last_by ds p last f (Some path) meant is h = last_fitting ds p last path f (first_unfit path p.retractions) meant is refl h
 
-last_fault : (ds : List Directive) (o : Option OpenBlock) (p : Parts) (last : ℕ) (f : GoModFault) → AreMeant (items ds o) p → file_says last (context_at ds o, p) ≡ Err f → IsLastFault ds o last f
+last_fault : (ds : List Directive) (o : Option OpenBlock) (p : Contents) (last : ℕ) (f : GoModFault) → AreMeant (items ds o) p → file_says last (context_at ds o, p) ≡ Err f → IsLastFault ds o last f
 last_fault ds None p last f meant h = last_by ds p last f p.module_path meant refl (sym (closed_file last ds p) ∙ h)
 last_fault ds (Some b) p last f meant h = let e = sym (open_file last ds b p) ∙ h in cc
 
@@ -386,10 +386,10 @@ first_said known ls f h =
     ap (λ r. r >>= (λ x. lines_say known (1 + length h.before + 1) x.0 h.others >>= (λ y. Ok (y.0, x.1 ⊕ y.1)))) here in
     ap (lines_say known 1 at_start) h.split ∙ lines_say-append known 1 at_start h.before (h.faulty ∷ h.others)
     ∙ ap (λ r. joined r (λ d. lines_say known (1 + length h.before) d (h.faulty ∷ h.others))) c.said
-    ∙ ap (λ r. r >>= (λ y. Ok (y.0, c.parts ⊕ y.1))) rest
+    ∙ ap (λ r. r >>= (λ y. Ok (y.0, c.contents ⊕ y.1))) rest
 
 -- if all lines can be read, the fault after the last line is the fault found there
-last_said : (known : Keywords) (ls : List (List ℕ)) (ds : List Directive) (o : Option OpenBlock) (p : Parts) (last : ℕ) (f : GoModFault)
+last_said : (known : Keywords) (ls : List (List ℕ)) (ds : List Directive) (o : Option OpenBlock) (p : Contents) (last : ℕ) (f : GoModFault)
     → Above known ls ds o p → IsLastFault ds o last f → file_says last (context_at ds o, p) ≡ Err f
 last_said known ls ds (Some b) p last f a h = open_file last ds b p ∙ ap (λ e. Err e) (sym h)
 last_said known ls ds None p last f a h =
@@ -421,8 +421,8 @@ reading-from_faulty known bytes f h =
     (λ first. first_text known bytes f (first_said known (lines bytes) f first))
     (λ last.
     let c = computed known (lines bytes) last.directives last.opened last.above in
-    said_file known bytes (context_at last.directives last.opened) c.parts c.said
-    ∙ last_said known (lines bytes) last.directives last.opened c.parts (length (lines bytes)) f c.above last.fault)
+    said_file known bytes (context_at last.directives last.opened) c.contents c.said
+    ∙ last_said known (lines bytes) last.directives last.opened c.contents (length (lines bytes)) f c.above last.fault)
     text.1)
     h
 

@@ -12,8 +12,8 @@ use Rattle.modlex.specs.Lexer as lexer
 use Rattle.modlex.specs.Lexer.{Lexeme, views, line_tokens, first_of}
 use Rattle.modlex.specs.Symbols.{Symbol, symbol_of, symbols, is_name_kind}
 use Rattle.gomod.specs.Keywords.{Keywords, keyword_named, is_module, has_block}
-use Rattle.gomod.specs.State.{parts_then}
-use Rattle.gomod.specs.Reading.{Context, Parts, Fails, Gives, ◌>>=◌, ◌⊕◌, header, has_stood, with_entry, module_entry, go_entry, word_entry, pair_entry}
+use Rattle.gomod.specs.State.{said_after}
+use Rattle.gomod.specs.Reading.{Context, Contents, Fails, Gives, ◌>>=◌, ◌⊕◌, header, has_stood, with_entry, module_entry, go_entry, word_entry, pair_entry}
 use Rattle.gomod.specs.Reading.{replace_entry, retract_entry, entry, entry_says, directive, line_outside, line_inside, line_says, token_fault, as_reader, bytes_say}
 
 -- an entry of more than five tokens has no right form, whatever stands behind
@@ -31,7 +31,7 @@ entry_long line Godebug b c d e f g ts us = refl
 entry_long line Ignore b c d e f g ts us = refl
 
 -- a directive that begins no block, by what its entry says
-headed : ℕ → Context → Keyword → Result (Context × Parts) GoModFault → Result (Context × Parts) GoModFault
+headed : ℕ → Context → Keyword → Result (Context × Contents) GoModFault → Result (Context × Contents) GoModFault
 headed line o k said =
     if has_stood o k then Err (faults.Twice line)
     else (if has_block k && false then Ok (record { block = Some k; has_module = o.has_module; stood = o.stood }, header k)
@@ -46,7 +46,7 @@ directive_long : (line : ℕ) (o : Context) (k : Keyword) (b c d e f g : Symbol)
 unfolding directive headed
 directive_long line o k b c d e f g ts us = ap (headed line o k) (entry_says_long line o k b c d e f g ts us)
 
-named_long : (line : ℕ) (o : Context) (n : Option Keyword) (b c d e f g : Symbol) (ts us : List Symbol) → ◌≡◌ {A = Result (Context × Parts) GoModFault} (elim n [
+named_long : (line : ℕ) (o : Context) (n : Option Keyword) (b c d e f g : Symbol) (ts us : List Symbol) → ◌≡◌ {A = Result (Context × Contents) GoModFault} (elim n [
   | None ↦ Err (faults.Unknown line)
   | Some k ↦ directive line o k (b ∷ c ∷ d ∷ e ∷ f ∷ g ∷ ts)
 ]) (elim n [ None ↦ Err (faults.Unknown line) | Some k ↦ directive line o k (b ∷ c ∷ d ∷ e ∷ f ∷ g ∷ us) ])
@@ -66,7 +66,7 @@ inside_long line o k a b c d e f g ts us =
     ap (λ r. if is_module k && o.has_module then Err (faults.Grammar line) else r) (entry_says_long line o k a b c d e f (g ∷ ts) (g ∷ us))
 
 says_long : (known : Keywords) (line : ℕ) (o : Context) (n : Option Keyword) (a b c d e f g : Symbol) (ts us : List Symbol)
-    → ◌≡◌ {A = Result (Context × Parts) GoModFault} (elim n [ None ↦ line_outside known line o a (b ∷ c ∷ d ∷ e ∷ f ∷ g ∷ ts) | Some k ↦ line_inside line o k (a ∷ b ∷ c ∷ d ∷ e ∷ f ∷ g ∷ ts) ])
+    → ◌≡◌ {A = Result (Context × Contents) GoModFault} (elim n [ None ↦ line_outside known line o a (b ∷ c ∷ d ∷ e ∷ f ∷ g ∷ ts) | Some k ↦ line_inside line o k (a ∷ b ∷ c ∷ d ∷ e ∷ f ∷ g ∷ ts) ])
     (elim n [ None ↦ line_outside known line o a (b ∷ c ∷ d ∷ e ∷ f ∷ g ∷ us) | Some k ↦ line_inside line o k (a ∷ b ∷ c ∷ d ∷ e ∷ f ∷ g ∷ us) ])
 says_long known line o None a b c d e f g ts us = outside_long known line o a b c d e f g ts us
 says_long known line o (Some k) a b c d e f g ts us = inside_long line o k a b c d e f g ts us
@@ -102,16 +102,16 @@ unfolding bytes_say
 said_by_front known line o l ts h = front_by known line o (line_tokens line 0 l) ts h
 
 -- what was read of the first tokens of a line is what was to be read of its bytes
-pub gives_front : {X : Type 0} (shown : X → Context × Parts) (read : Result X GoModFault) (p : Parts) (known : Keywords) (line : ℕ) (o : Context) (l : List ℕ) (us vs : List Token) → us ≡ vs
-    → first_of 7 (line_tokens line 0 l) ≡ Ok (views vs) → Gives shown read (parts_then p (line_says known line o (symbols us))) → Gives shown read (parts_then p (bytes_say known line o l))
+pub gives_front : {X : Type 0} (shown : X → Context × Contents) (read : Result X GoModFault) (p : Contents) (known : Keywords) (line : ℕ) (o : Context) (l : List ℕ) (us vs : List Token) → us ≡ vs
+    → first_of 7 (line_tokens line 0 l) ≡ Ok (views vs) → Gives shown read (said_after p (line_says known line o (symbols us))) → Gives shown read (said_after p (bytes_say known line o l))
 gives_front shown read p known line o l us vs same h g =
-    subst (λ r. Gives shown read (parts_then p r)) (ap (λ ts. line_says known line o (symbols ts)) same ∙ sym (said_by_front known line o l (views vs) h)) g
+    subst (λ r. Gives shown read (said_after p r)) (ap (λ ts. line_says known line o (symbols ts)) same ∙ sym (said_by_front known line o l (views vs) h)) g
 
 faulty_by_front : (known : Keywords) (line : ℕ) (o : Context) (l : List ℕ) (e : TokenFault) → first_of 7 (line_tokens line 0 l) ≡ Err e → bytes_say known line o l ≡ Err (token_fault e)
 unfolding bytes_say
 faulty_by_front known line o l e h = fault_by known line o (line_tokens line 0 l) e h
 
-pub fails_front : (known : Keywords) (line : ℕ) (o : Context) (l : List ℕ) (p : Parts) (e : TokenFault)
-    → lexer.Fails e (first_of 7 (line_tokens line 0 l)) → Fails (token_fault e) (parts_then p (bytes_say known line o l))
-fails_front known line o l p (token_faults.Lex n) h = ap (parts_then p) (faulty_by_front known line o l (token_faults.Lex n) h)
+pub fails_front : (known : Keywords) (line : ℕ) (o : Context) (l : List ℕ) (p : Contents) (e : TokenFault)
+    → lexer.Fails e (first_of 7 (line_tokens line 0 l)) → Fails (token_fault e) (said_after p (bytes_say known line o l))
+fails_front known line o l p (token_faults.Lex n) h = ap (said_after p) (faulty_by_front known line o l (token_faults.Lex n) h)
 fails_front known line o l p token_faults.Memory h = tt

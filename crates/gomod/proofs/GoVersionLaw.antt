@@ -1,4 +1,4 @@
--- The test of a Go version passes just those that are ones by their parts.
+-- The test of a Go version passes just those that have the form of one.
 use Rattle.std.proofs.Common.{◌≡◌, ◌↔◌, ℕ, zero, suc, ◌+◌, ◌<◌, true, false, ◌==◌, List, [], ◌∷◌, ◌++◌, length, take, drop, codes, arith}
 use Rattle.std.proofs.Common.{add-one, refl, ap, sym, ◌∙◌, subst, append_assoc, length-append, inl, inr, ⊎_elim, nat_eq, rules, tests}
 use Rattle.std.specs.List.{list_all, starts_with}
@@ -37,18 +37,18 @@ digit_no_dot b h = search (rules, tests)
 dot_at-digits : (a r : List ℕ) → list_all is_ascii_digit a ≡ true → dot_at (a ++ 46 ∷ r) ≡ length a
 dot_at-digits [] r h = refl
 dot_at-digits (b ∷ a) r h =
-    let parts = and_parts (is_ascii_digit b) (list_all is_ascii_digit a) h in
-    let no = digit_no_dot b parts.0 in
-    let more = dot_at-digits a r parts.1 in
+    let halves = and_parts (is_ascii_digit b) (list_all is_ascii_digit a) h in
+    let no = digit_no_dot b halves.0 in
+    let more = dot_at-digits a r halves.1 in
     let here : dot_at (b ∷ (a ++ 46 ∷ r)) ≡ dot_at (a ++ 46 ∷ r) + 1 = rw no refl in
     omega (arith, more, here)
 
 digits_len-front : (b tail : List ℕ) → list_all is_ascii_digit b ≡ true → digits_len tail ≡ 0 → digits_len (b ++ tail) ≡ length b
 digits_len-front [] tail h none = none
 digits_len-front (x ∷ b) tail h none =
-    let parts = and_parts (is_ascii_digit x) (list_all is_ascii_digit b) h in
-    let yes = parts.0 in
-    let more = digits_len-front b tail parts.1 none in
+    let halves = and_parts (is_ascii_digit x) (list_all is_ascii_digit b) h in
+    let yes = halves.0 in
+    let more = digits_len-front b tail halves.1 none in
     let here : digits_len (x ∷ (b ++ tail)) ≡ digits_len (b ++ tail) + 1 = rw yes refl in
     omega (arith, more, here)
 
@@ -82,9 +82,9 @@ starts tail p h =
     sym (split_at (length p) tail) ∙ ap (λ l. l ++ drop (length p) tail) (sym front)
 
 -- a text that passes the computed test may follow a minor number
-tail_parts : (tail : List ℕ) → is_tail tail ≡ true → IsTail tail
+tail_form : (tail : List ℕ) → is_tail tail ≡ true → IsTail tail
 unfolding is_tail
-tail_parts tail h =
+tail_form tail h =
     ⊎_elim
     (λ a. ⊎_elim
     (λ b. ⊎_elim
@@ -119,10 +119,10 @@ version_from a b tail ha hb ht =
     (ap (λ n. is_decimal (take n (a ++ 46 ∷ rest))) len ∙ ap is_decimal (take_at a (46 ∷ rest) (length a) refl) ∙ ha))
     (ap (λ n. is_minor (drop (n + 1) (a ++ 46 ∷ rest))) len ∙ ap is_minor cut ∙ minor_from b tail hb ht)
 
--- a text that passes the test of a Go version has the parts of one
-version_parts : (text : List ℕ) → is_go_version text ≡ true → IsGoVersion text
+-- a text that passes the test of a Go version has the form of one
+version_form : (text : List ℕ) → is_go_version text ≡ true → IsGoVersion text
 unfolding is_go_version is_minor
-version_parts text h =
+version_form text h =
     let outer = and_parts _ _ h in
     let inner = and_parts _ _ outer.0 in
     let rest : List ℕ = drop (dot_at text + 1) text in
@@ -133,12 +133,12 @@ version_parts text h =
       tail = drop (digits_len rest) rest;
       is_major = inner.1;
       is_minor = behind.0;
-      is_tail = tail_parts (drop (digits_len rest) rest) behind.1;
+      is_tail = tail_form (drop (digits_len rest) rest) behind.1;
       spelled = dot_split text (ltb-true (dot_at text) (length text) inner.0) ∙ ap (λ l. take (dot_at text) text ++ 46 ∷ l) (sym (split_at (digits_len rest) rest));
     }
 
 pub is_go_version-exact : (text : List ℕ) → (is_go_version text ≡ true) ↔ IsGoVersion text
 is_go_version-exact text = (
-  λ h. version_parts text h,
+  λ h. version_form text h,
   λ v. ap is_go_version v.spelled ∙ version_from v.major v.minor v.tail v.is_major v.is_minor v.is_tail,
 )

@@ -8,7 +8,7 @@ use Rattle.gomod.specs.declared.fault.GoModFault.{GoModFault}
 use Rattle.gomod.specs.declared.fault.GoModFault.TheVariants as faults
 use Rattle.modlex.specs.Symbols.{Symbol, is_name_kind}
 use Rattle.gomod.specs.Keywords.{Keywords, keyword_named, is_module, has_block, opens_block_kind, closes_block_kind}
-use Rattle.gomod.specs.Reading.{Context, Parts, nothing, last_path, ◌⊕◌, ◌>>=◌, has_stood, header, with_entry, entry}
+use Rattle.gomod.specs.Reading.{Context, Contents, nothing, last_path, ◌⊕◌, ◌>>=◌, has_stood, header, with_entry, entry}
 use Rattle.gomod.specs.Reading.{entry_says, is_opening, is_closing, directive, line_outside, line_inside, line_says}
 use Rattle.gomod.specs.declared.keyword.Keyword.TheVariants.{Module}
 use Rattle.gomod.specs.Reads.{Pointwise}
@@ -32,7 +32,7 @@ last_path-none (Some x) = refl
 
 -- what a line says of the entries and keywords that it adds
 pub record Says (known : Keywords) (line : ℕ) (c d : Context) (ts : List Symbol) (is : List Item) (ks : List Keyword) : Type 0 where
-  pub said : Parts
+  pub said : Contents
   pub is_said : line_says known line c ts ≡ Ok (d, said)
   pub meant : AreMeant is said
   pub bare : said.bare ≡ list_all is_module ks
@@ -44,7 +44,7 @@ unfolding line_says line_outside
 outside_is known line ds k ts known_k = rw known_k refl
 
 -- a line with a keyword that may come here and an entry that is read says what the keyword and the entry say
-directive_entry : (line : ℕ) (c : Context) (k : Keyword) (ts : List Symbol) (q : Parts) → has_stood c k ≡ false
+directive_entry : (line : ℕ) (c : Context) (k : Keyword) (ts : List Symbol) (q : Contents) → has_stood c k ≡ false
     → is_opening ts ≡ false → entry line k ts ≡ Ok q → directive line c k ts ≡ Ok (with_entry c k, header k ⊕ q)
 unfolding directive
 directive_entry line c k ts q fresh no_opening is =
@@ -63,14 +63,14 @@ directive_begins line ds k fresh h =
     let stood = fresh-stood ds k fresh in
     rw (stood, h) (ap (λ c. Ok (c, header k)) (context-begins ds k line))
 
-meant_behind : (k : Keyword) (is : List Item) (q : Parts) → AreMeant is q → AreMeant is (header k ⊕ q)
+meant_behind : (k : Keyword) (is : List Item) (q : Contents) → AreMeant is q → AreMeant is (header k ⊕ q)
 meant_behind k is q m = record {
   paths = subst (λ p. Pointwise (λ e x. IsModuleEntry e.symbols x) (entries_under Module is) (path_list p)) (sym (last_path-none q.module_path)) m.paths;
   required = m.required;
   retractions = m.retractions;
 }
 
-inside_entry : (known : Keywords) (line : ℕ) (ds : List Directive) (b : OpenBlock) (t : Symbol) (ts : List Symbol) (q : Parts) → IsAlone ds (Some b) → HasRoom b → is_closing (t ∷ ts) ≡ false
+inside_entry : (known : Keywords) (line : ℕ) (ds : List Directive) (b : OpenBlock) (t : Symbol) (ts : List Symbol) (q : Contents) → IsAlone ds (Some b) → HasRoom b → is_closing (t ∷ ts) ≡ false
     → entry line b.keyword (t ∷ ts) ≡ Ok q → line_says known line (context_at ds (Some b)) (t ∷ ts) ≡ Ok (context_at ds (Some (with_row b (row line (t ∷ ts)))), q)
 unfolding line_says line_inside
 inside_entry known line ds b t ts q alone room no_closing is =
@@ -170,15 +170,15 @@ name_is kinds.ParenRight h = cc
 name_is kinds.BracketLeft h = cc
 name_is kinds.BracketRight h = cc
 
-pub opening_parts : (ts : List Symbol) → is_opening ts ≡ true → (p : Symbol) × (ts ≡ p ∷ []) × (p.kind ≡ kinds.ParenLeft)
-opening_parts [] h = cc
-opening_parts (p ∷ []) h = (p, refl, opens_is p.kind h)
-opening_parts (p ∷ q ∷ ts) h = cc
+pub opening_symbol : (ts : List Symbol) → is_opening ts ≡ true → (p : Symbol) × (ts ≡ p ∷ []) × (p.kind ≡ kinds.ParenLeft)
+opening_symbol [] h = cc
+opening_symbol (p ∷ []) h = (p, refl, opens_is p.kind h)
+opening_symbol (p ∷ q ∷ ts) h = cc
 
-pub closing_parts : (ts : List Symbol) → is_closing ts ≡ true → (p : Symbol) × (ts ≡ p ∷ []) × (p.kind ≡ kinds.ParenRight)
-closing_parts [] h = cc
-closing_parts (p ∷ []) h = (p, refl, closes_is p.kind h)
-closing_parts (p ∷ q ∷ ts) h = cc
+pub closing_symbol : (ts : List Symbol) → is_closing ts ≡ true → (p : Symbol) × (ts ≡ p ∷ []) × (p.kind ≡ kinds.ParenRight)
+closing_symbol [] h = cc
+closing_symbol (p ∷ []) h = (p, refl, closes_is p.kind h)
+closing_symbol (p ∷ q ∷ ts) h = cc
 
 -- a name of the profile is a keyword
 pub keyword_is : (known : Keywords) (t : Symbol) (k : Keyword) → is_name_kind t.kind ≡ true → keyword_named known t.text ≡ Some k → IsKeyword known t k
@@ -193,7 +193,7 @@ pub record Moves (known : Keywords) (ds : List Directive) (o : Option OpenBlock)
   pub move : Move known ds o r directives opened
 
 -- a line outside a block whose reading succeeds after its keyword is a move by the grammar
-directive_moves : (known : Keywords) (line : ℕ) (ds : List Directive) (k : Keyword) (ts : List Symbol) (x : Context × Parts) → IsKnown known k
+directive_moves : (known : Keywords) (line : ℕ) (ds : List Directive) (k : Keyword) (ts : List Symbol) (x : Context × Contents) → IsKnown known k
     → AllByRecursion IsPlain ts → directive line (context_at ds None) k ts ≡ Ok x → Moves known ds None (row line (keyword_symbol k ∷ ts))
 unfolding directive
 directive_moves known line ds k ts x known_k plain h =
@@ -201,8 +201,8 @@ directive_moves known line ds k ts x known_k plain h =
     (λ twice. (let e = twice.1 in cc))
     (λ fresh. ⊎_elim
     (λ block.
-    let parts = opening_parts ts (and_right (has_block k) (is_opening ts) block.0) in
-    let is_left : ts ≡ left ∷ [] = parts.1 ∙ ap (λ p. p ∷ []) (λ i. record { kind = parts.2 i; text = (subst (AllByRecursion IsPlain) parts.1 plain).0.0 parts.2 i }) in
+    let sole = opening_symbol ts (and_right (has_block k) (is_opening ts) block.0) in
+    let is_left : ts ≡ left ∷ [] = sole.1 ∙ ap (λ p. p ∷ []) (λ i. record { kind = sole.2 i; text = (subst (AllByRecursion IsPlain) sole.1 plain).0.0 sole.2 i }) in
     subst (λ us. Moves known ds None (row line (keyword_symbol k ∷ us))) (sym is_left)
     (record {
       directives = ds;
@@ -224,23 +224,23 @@ directive_moves known line ds k ts x known_k plain h =
     and_right true b e = e
     and_right false b e = cc
 
-named_moves : (known : Keywords) (line : ℕ) (ds : List Directive) (t : Symbol) (ts : List Symbol) (x : Context × Parts) (o : Option Keyword)
-    → keyword_named known t.text ≡ o → is_name_kind t.kind ≡ true → AllByRecursion IsPlain ts
-    → ◌≡◌ {A = Result (Context × Parts) GoModFault} (elim o [ None ↦ Err (faults.Unknown line) | Some k ↦ directive line (context_at ds None) k ts ]) (Ok x) → Moves known ds None (row line (t ∷ ts))
+named_moves : (ks : Keywords) (line : ℕ) (ds : List Directive) (t : Symbol) (ts : List Symbol) (x : Context × Contents) (o : Option Keyword)
+    → keyword_named ks t.text ≡ o → is_name_kind t.kind ≡ true → AllByRecursion IsPlain ts
+    → ◌≡◌ {A = Result (Context × Contents) GoModFault} (elim o [ None ↦ Err (faults.Unknown line) | Some k ↦ directive line (context_at ds None) k ts ]) (Ok x) → Moves ks ds None (row line (t ∷ ts))
 named_moves known line ds t ts x None named name plain h = cc
 named_moves known line ds t ts x (Some k) named name plain h =
     let is = keyword_is known t k name named in
     subst (λ u. Moves known ds None (row line (u ∷ ts))) (sym is.0) (directive_moves known line ds k ts x is.1 plain h)
 
 -- a line inside a block whose reading succeeds is a move by the grammar
-inside_moves : (known : Keywords) (line : ℕ) (ds : List Directive) (b : OpenBlock) (t : Symbol) (ts : List Symbol) (x : Context × Parts) → IsAlone ds (Some b)
+inside_moves : (known : Keywords) (line : ℕ) (ds : List Directive) (b : OpenBlock) (t : Symbol) (ts : List Symbol) (x : Context × Contents) → IsAlone ds (Some b)
     → AllByRecursion IsPlain (t ∷ ts) → line_inside line (context_at ds (Some b)) b.keyword (t ∷ ts) ≡ Ok x → Moves known ds (Some b) (row line (t ∷ ts))
 unfolding line_inside
 inside_moves known line ds b t ts x alone plain h =
     ⊎_elim
     (λ closing_.
-    let parts = closing_parts (t ∷ ts) closing_.0 in
-    let is_right : t ∷ ts ≡ right ∷ [] = parts.1 ∙ ap (λ p. p ∷ []) (λ i. record { kind = parts.2 i; text = (subst (AllByRecursion IsPlain) parts.1 plain).0.1 parts.2 i }) in
+    let sole = closing_symbol (t ∷ ts) closing_.0 in
+    let is_right : t ∷ ts ≡ right ∷ [] = sole.1 ∙ ap (λ p. p ∷ []) (λ i. record { kind = sole.2 i; text = (subst (AllByRecursion IsPlain) sole.1 plain).0.1 sole.2 i }) in
     ⊎_elim
     (λ empty. (let e = empty.1 in cc))
     (λ full. subst (λ us. Moves known ds (Some b) (row line us)) (sym is_right)
@@ -254,7 +254,7 @@ inside_moves known line ds b t ts x alone plain h =
     (chosen (is_module b.keyword && (context_at ds (Some b)).has_module) _ _ _ other.1))
     (chosen (is_closing (t ∷ ts)) _ _ _ h)
 
-pub says_move : (known : Keywords) (line : ℕ) (ds : List Directive) (o : Option OpenBlock) (ts : List Symbol) (x : Context × Parts)
+pub says_move : (known : Keywords) (line : ℕ) (ds : List Directive) (o : Option OpenBlock) (ts : List Symbol) (x : Context × Contents)
     → IsAlone ds o → AllByRecursion IsPlain ts → line_says known line (context_at ds o) ts ≡ Ok x → Moves known ds o (row line ts)
 unfolding line_says line_outside
 says_move known line ds o [] x alone plain h = record { directives = ds; opened = o; move = blank ds o line }

@@ -9,7 +9,7 @@ use Rattle.modlex.specs.Lexer.{Lexeme, line_tokens}
 use Rattle.modlex.specs.Tokens.{AreTokens, IsLexeme}
 use Rattle.modlex.specs.Symbols.{symbol_of}
 use Rattle.gomod.specs.Keywords.{Keywords}
-use Rattle.gomod.specs.Reading.{Context, Parts, ◌>>=◌, as_reader, line_says, bytes_say}
+use Rattle.gomod.specs.Reading.{Context, Contents, ◌>>=◌, as_reader, line_says, bytes_say}
 use Rattle.gomod.specs.Grammar.{Directive, OpenBlock}
 use Rattle.gomod.specs.Faults.{IsLineFault}
 use Rattle.gomod.proofs.Steps.{bound, fails}
@@ -42,7 +42,7 @@ read_ok (Err (token_faults.Lex n)) ts h = cc
 read_ok (Err token_faults.Memory) ts h = cc
 
 -- a line that reads has tokens
-pub bytes_ok : (known : Keywords) (line at : ℕ) (c : Context) (l : List ℕ) (x : Context × Parts) → bytes_say known line c l ≡ Ok x
+pub bytes_ok : (known : Keywords) (line at : ℕ) (c : Context) (l : List ℕ) (x : Context × Contents) → bytes_say known line c l ≡ Ok x
     → (ts : List Lexeme) × AreTokens line at l ts × (line_says known line c (map symbol_of ts) ≡ Ok x)
 unfolding bytes_say
 bytes_ok known line at c l x h =

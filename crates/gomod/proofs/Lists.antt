@@ -61,7 +61,7 @@ last_same (a ∷ xs) (b ∷ ys) x y h =
 
 pub any-none : {A : Type 0} (p : A → Bool) (xs : List A) → list_any p xs ≡ false → filter p xs ≡ []
 any-none p [] h = refl
-any-none p (x ∷ xs) h = let parts = or_parts (p x) (list_any p xs) h in let here = parts.0 in rw here (any-none p xs parts.1)
+any-none p (x ∷ xs) h = let halves = or_parts (p x) (list_any p xs) h in let here = halves.0 in rw here (any-none p xs halves.1)
 
 pub none-any : {A : Type 0} (p : A → Bool) (xs : List A) → length (filter p xs) ≡ 0 → list_any p xs ≡ false
 none-any p [] h = refl

@@ -182,7 +182,7 @@ ascends-take vs n le up i j d a b =
     let lt : j < n = subst (λ l. j < l) long b in
     rw (get_or-take n vs j d lt, get_or-take n vs i d (omega arith)) (up i j d a (omega arith))
 
--- ---- parts of lists
+-- ---- slices of lists
 
 pub length-drop : {X : Type 0} (m : ℕ) (xs : List X) → m ≤ length xs → length (drop m xs) + m ≡ length xs
 length-drop zero xs le = omega arith
@@ -200,7 +200,7 @@ none-marked [] n e = rw e refl
 none-marked (v ∷ vs) zero e = absurd (omega arith)
 none-marked (v ∷ vs) (suc n) e = ap (λ l. false ∷ l) (none-marked vs n (omega arith))
 
--- marks that are set in a part of a list
+-- marks that are set in a slice of a list
 pub set-marks : (marks new : List Bool) (first n k : ℕ) → k ≡ n → first + n ≤ length marks → new ≡ replicate (length (take k (drop first marks))) true
     → take first marks ++ (new ++ drop k (drop first marks)) ≡ take first marks ++ (replicate n true ++ drop n (drop first marks))
 set-marks marks new first n k e le h =

@@ -51,7 +51,7 @@ items_more (closes ds b line filled) = []
 no_more : {A : Type 0} (xs : List A) → xs ≡ xs ++ []
 no_more xs = sym (append-nil xs)
 
--- a list whose second part is empty, and one element more
+-- a list whose second half is empty, and one element more
 at_end : {A : Type 0} (xs : List A) (x : A) → (xs ++ x ∷ []) ++ [] ≡ (xs ++ []) ++ x ∷ []
 at_end xs x = append-nil (xs ++ x ∷ []) ∙ ap (λ l. l ++ x ∷ []) (no_more xs)
 

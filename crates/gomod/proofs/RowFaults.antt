@@ -7,7 +7,7 @@ use Rattle.gomod.specs.declared.fault.GoModFault.{GoModFault}
 use Rattle.gomod.specs.declared.fault.GoModFault.TheVariants as faults
 use Rattle.modlex.specs.Symbols.{Symbol, is_name_kind}
 use Rattle.gomod.specs.Keywords.{Keywords, keyword_named, is_module, has_block, opens_block_kind, closes_block_kind}
-use Rattle.gomod.specs.Reading.{Context, Parts, ◌⊕◌, has_stood, header, with_entry, entry, entry_says, is_opening, is_closing, directive, line_outside, line_inside, line_says}
+use Rattle.gomod.specs.Reading.{Context, Contents, ◌⊕◌, has_stood, header, with_entry, entry, entry_says, is_opening, is_closing, directive, line_outside, line_inside, line_says}
 use Rattle.gomod.specs.Entries.{Demand, HasShape}
 use Rattle.gomod.specs.Grammar.{Directive, OpenBlock, is_single}
 use Rattle.gomod.specs.Faults.{HasRoom, IsFilled, IsKeyword, IsUnknown, IsRepeated, IsAllowed, IsRowFault}
@@ -123,8 +123,8 @@ directive_fault known line ds t ts k f is named h =
     (chosen (has_block k && is_opening ts) _ _ _ fresh.1))
     (chosen (has_stood (context_at ds None) k) _ _ _ h)
 
-named_fault : (known : Keywords) (line : ℕ) (ds : List Directive) (t : Symbol) (ts : List Symbol) (f : GoModFault) (o : Option Keyword) → keyword_named known t.text ≡ o → is_name_kind t.kind ≡ true
-    → ◌≡◌ {A = Result (Context × Parts) GoModFault} (elim o [ None ↦ Err (faults.Unknown line) | Some k ↦ directive line (context_at ds None) k ts ]) (Err f) → IsRowFault known ds None line (t ∷ ts) f
+named_fault : (ks : Keywords) (line : ℕ) (ds : List Directive) (t : Symbol) (ts : List Symbol) (f : GoModFault) (o : Option Keyword) → keyword_named ks t.text ≡ o → is_name_kind t.kind ≡ true
+    → ◌≡◌ {A = Result (Context × Contents) GoModFault} (elim o [ None ↦ Err (faults.Unknown line) | Some k ↦ directive line (context_at ds None) k ts ]) (Err f) → IsRowFault ks ds None line (t ∷ ts) f
 named_fault known line ds t ts f None named name h = inl ((name_is t.kind name, named), cc)
 named_fault known line ds t ts f (Some k) named name h = directive_fault known line ds t ts k f (keyword_is known t k name named) named h
 

@@ -127,28 +127,28 @@ back_open known rows line t ts es b h w =
     ⊎_elim
     (λ none.
     let same : b ≡ record { keyword = b.keyword; first = b.first; entries = [] } = λ i. record { keyword = b.keyword; first = b.first; entries = none i } in
-    let parts = last_same (filter has_symbols rows) (flat_map rows_of es) (row line (t ∷ ts)) (opening b.keyword b.first) (h ∙ ap (λ x. flat_map rows_of es ++ rows_of_open (Some x)) same) in
-    subst (λ x. Goal known rows (row line (t ∷ ts)) es (Some x)) (sym same) (back_begins known rows es b.keyword b.first (row line (t ∷ ts)) parts.0 parts.1) w)
+    let halves = last_same (filter has_symbols rows) (flat_map rows_of es) (row line (t ∷ ts)) (opening b.keyword b.first) (h ∙ ap (λ x. flat_map rows_of es ++ rows_of_open (Some x)) same) in
+    subst (λ x. Goal known rows (row line (t ∷ ts)) es (Some x)) (sym same) (back_begins known rows es b.keyword b.first (row line (t ∷ ts)) halves.0 halves.1) w)
     (λ some.
     let front : OpenBlock = record { keyword = b.keyword; first = b.first; entries = some.0 } in
     let same : b ≡ with_row front some.1 = λ i. record { keyword = b.keyword; first = b.first; entries = some.2 i } in
-    let parts = last_same (filter has_symbols rows) (flat_map rows_of es ++ rows_of_open (Some front)) (row line (t ∷ ts)) some.1
+    let halves = last_same (filter has_symbols rows) (flat_map rows_of es ++ rows_of_open (Some front)) (row line (t ∷ ts)) some.1
     (h ∙ ap (λ x. flat_map rows_of es ++ rows_of_open (Some x)) same ∙ sym (append_assoc (flat_map rows_of es) (rows_of_open (Some front)) (some.1 ∷ []))) in
-    let whole : b ≡ with_row front (row line (t ∷ ts)) = same ∙ ap (with_row front) (sym parts.1) in
-    subst (λ x. Goal known rows (row line (t ∷ ts)) es (Some x)) (sym whole) (back_inside known rows es front line t ts parts.0) w)
+    let whole : b ≡ with_row front (row line (t ∷ ts)) = same ∙ ap (with_row front) (sym halves.1) in
+    subst (λ x. Goal known rows (row line (t ∷ ts)) es (Some x)) (sym whole) (back_inside known rows es front line t ts halves.0) w)
     (last_of b.entries)
 
 -- it is the last of what the last directive is written on
 back_directive : (known : Keywords) (rows : List Row) (r : Row) (ds : List Directive) (d : Directive)
     → filter has_symbols rows ++ r ∷ [] ≡ flat_map rows_of ds ++ rows_of d → Goal known rows r (ds ++ d ∷ []) None
 back_directive known rows r ds (one k e) h w =
-    let parts = last_same (filter has_symbols rows) (flat_map rows_of ds) r (row e.line (keyword_symbol k ∷ e.symbols)) h in
-    back_single known rows ds k e r parts.0 parts.1 w
+    let halves = last_same (filter has_symbols rows) (flat_map rows_of ds) r (row e.line (keyword_symbol k ∷ e.symbols)) h in
+    back_single known rows ds k e r halves.0 halves.1 w
 back_directive known rows r ds (block k first entries last) h w =
     let b : OpenBlock = record { keyword = k; first = first; entries = entries } in
-    let parts = last_same (filter has_symbols rows) (flat_map rows_of ds ++ rows_of_open (Some b)) r (closing last)
+    let halves = last_same (filter has_symbols rows) (flat_map rows_of ds ++ rows_of_open (Some b)) r (closing last)
     (h ∙ sym (append_assoc (flat_map rows_of ds) (rows_of_open (Some b)) (closing last ∷ []))) in
-    back_closes known rows ds b last r parts.0 parts.1 w
+    back_closes known rows ds b last r halves.0 halves.1 w
 
 nothing_written : {A P : Type 0} (xs : List A) (x : A) → xs ++ x ∷ [] ≡ [] → P
 nothing_written [] x h = cc

@@ -1,4 +1,4 @@
--- Go versions by their parts, such as `1.21`, `1.21.3`, `1.21rc1` and `1.21beta2`.
+-- Go versions by their form, such as `1.21`, `1.21.3`, `1.21rc1` and `1.21beta2`.
 use Rattle.std.specs.Prelude.{◌≡◌, ℕ, true, List, [], ◌∷◌, ◌++◌, codes, ◌⊎◌}
 use Rattle.gomod.specs.GoVersion.{is_decimal}
 

@@ -18,7 +18,7 @@ pub enum GoModFault {
     /// The grammar does not allow the line where it is, or it is the last line and a block is open after it.
     #[error("line {0} does not have the form of a directive")]
     Grammar(usize),
-    /// A word is not the module path, the loose path or the file path that its place demands.
+    /// A word is not the module path, the loose path or the file path that its position demands.
     #[error("line {0} has a malformed path")]
     Path(usize),
     /// A word is not a canonical version, or is one that its path may not have.

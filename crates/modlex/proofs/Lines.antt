@@ -30,5 +30,5 @@ lines-newline (b ∷ l) rest one =
 pub cut_lines : (text : List ℕ) (r : Option (Bor (List ℕ) × Bor (List ℕ))) → IsSplitOnceResult 10 text r → MatchOption r (lines text ≡ text ∷ []) (λ x. lines text ≡ x.0.now ∷ lines x.1.now)
 cut_lines text None h = lines-one text (record { none = split_parts 10 text None h (lit< tt) })
 cut_lines text (Some x) h =
-    let parts = split_parts 10 text (Some x) h (lit< tt) in
-    ap lines parts.0 ∙ lines-newline x.0.now x.1.now (record { none = parts.1 })
+    let halves = split_parts 10 text (Some x) h (lit< tt) in
+    ap lines halves.0 ∙ lines-newline x.0.now x.1.now (record { none = halves.1 })

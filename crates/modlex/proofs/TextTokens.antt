@@ -245,8 +245,8 @@ line_order text front bytes back line at (t ∷ ts) is offset h =
     let sizes = length-append (front ++ gap) (t.text ++ (rest ++ back)) in
     let sizes2 = length-append t.text (rest ++ back) in
     let bytes_len = ap length h.4 in
-    let bytes_parts = length-append gap (t.text ++ rest) in
-    let bytes_parts2 = length-append t.text rest in
+    let bytes_sum = length-append gap (t.text ++ rest) in
+    let bytes_sum2 = length-append t.text rest in
     record {
       order = (
         omega (arith, from),
@@ -255,7 +255,7 @@ line_order text front bytes back line at (t ∷ ts) is offset h =
         ap (λ n. slice_range text n t.span.end) from ∙ ap (slice_range text start) to ∙ slice,
         subst (λ n. AreInOrder text n ts) (sym to) more.order,
       );
-      within = subst (λ n. end_of n ts ≤ at + length bytes) (sym to) (omega (arith, more.within, bytes_len, bytes_parts, bytes_parts2));
+      within = subst (λ n. end_of n ts ≤ at + length bytes) (sym to) (omega (arith, more.within, bytes_len, bytes_sum, bytes_sum2));
     }
 
 -- the tokens of lines that follow one another in a text are in order

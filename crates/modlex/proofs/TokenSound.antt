@@ -195,7 +195,7 @@ word_cuts b bs kind n no_comment h =
     ⊎_elim
     (λ p.
     let m = mapped (λ k. (Quoted, k + 1)) (quoted_len false bs) (kind, n) p.1 in
-    let same = pair_parts m.2 in
+    let same = pair_halves m.2 in
     let more = quoted_closes bs m.0 m.1 in
     record {
       text = 34 ∷ (more.content ++ 34 ∷ []);
@@ -207,7 +207,7 @@ word_cuts b bs kind n no_comment h =
     (λ p. ⊎_elim
     (λ q.
     let m = mapped (λ k. (Raw, k + 1)) (raw_len bs) (kind, n) q.1 in
-    let same = pair_parts m.2 in
+    let same = pair_halves m.2 in
     let more = raw_closes bs m.0 m.1 in
     record {
       text = 96 ∷ (more.content ++ 96 ∷ []);
@@ -221,7 +221,7 @@ word_cuts b bs kind n no_comment h =
     (λ r.
     let tests = or_false (not (is_name_byte b)) (is_slash_and 42 b bs) r.0 in
     let m = mapped (λ k. (name_kind (b ∷ take k bs), k + 1)) (name_len bs) (kind, n) r.1 in
-    let same = pair_parts m.2 in
+    let same = pair_halves m.2 in
     let more = name_runs bs m.0 m.1 in
     let cut : take m.0 bs ≡ more.text = ap (take m.0) more.is ∙ take_at more.text more.rest m.0 (sym more.len) in
     let run : IsRun (b ∷ more.text) more.rest =
@@ -237,8 +237,8 @@ word_cuts b bs kind n no_comment h =
     (chosen (b == 96) _ _ _ p.1))
     (chosen (b == 34) _ _ _ h)
   where
-    pair_parts : {k j : Kind} {m i : ℕ} → ◌≡◌ {A = Kind × ℕ} (k, m) (j, i) → (k ≡ j) × (m ≡ i)
-    pair_parts h = (ap (λ p. p.0) h, ap (λ p. p.1) h)
+    pair_halves : {k j : Kind} {m i : ℕ} → ◌≡◌ {A = Kind × ℕ} (k, m) (j, i) → (k ≡ j) × (m ≡ i)
+    pair_halves h = (ap (λ p. p.0) h, ap (λ p. p.1) h)
 
 cuts_by : (o : Option Kind) (b : ℕ) (bs : List ℕ) (kind : Kind) (n : ℕ) → punctuation_kind b ≡ o → is_slash_and 47 b bs ≡ false
     → ◌≡◌ {A = Option (Kind × ℕ)} (elim o [ Some k ↦ Some (k, 1) | None ↦ word_at b bs ]) (Some (kind, n)) → Cuts kind (b ∷ bs) n

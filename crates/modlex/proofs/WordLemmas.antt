@@ -79,8 +79,8 @@ pub cut_escapes : (text : List ℕ) (r : Option (Bor (List ℕ) × Bor (List ℕ
 cut_escapes text None h =
     ap plain_text (sym (append-nil text)) ∙ plain_text-plain text [] (record { none = split_parts 92 text None h (lit< tt) }) ∙ append-nil text
 cut_escapes text (Some x) h =
-    let parts = split_parts 92 text (Some x) h (lit< tt) in
-    ap plain_text parts.0 ∙ plain_text-plain x.0.now (92 ∷ x.1.now) (record { none = parts.1 })
+    let halves = split_parts 92 text (Some x) h (lit< tt) in
+    ap plain_text halves.0 ∙ plain_text-plain x.0.now (92 ∷ x.1.now) (record { none = halves.1 })
 
 pub cut_has_escape : (text : List ℕ) (r : Option (Bor (List ℕ) × Bor (List ℕ))) → IsSplitOnceResult 92 text r → IfSome r (λ _. HasBackslash text)
 cut_has_escape text None h = tt

@@ -1,4 +1,4 @@
--- What tests that hold say of their parts, and numbers of their comparison.
+-- What tests that hold say of their halves, and numbers of their comparison.
 use Rattle.std.proofs.Common.{◌≡◌, ◌&&◌, ◌==◌, ◌<◌, ◌≤◌, ℕ, Bool, true, false, not, refl, inl, inr, arith}
 use Rattle.std.proofs.lemmas.Bool.{cases_lt, eq-eqb, le-ltb, lt-ltb}
 use Rattle.std.proofs.lemmas.Bool.Decides.{nat_tests}

@@ -58,7 +58,7 @@ dot-fits n v h =
     let mark = unmarked v.marked both.1 in
     elim (or-either _ _ both.0) [
       | inl major ↦ (inl (eqb-true v.major n major), mark)
-      | inr old ↦ let parts = and-both _ _ old in (inr (eqb-true n 1 parts.0, zero-of v parts.1), mark)
+      | inr old ↦ let halves = and-both _ _ old in (inr (eqb-true n 1 halves.0, zero-of v halves.1), mark)
     ]
 
 fits-dot : (n : ℕ) (v : SemanticVersion) → Fits (suffix.Dot n) v → fits (suffix.Dot n) v ≡ true

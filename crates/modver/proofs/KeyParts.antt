@@ -83,5 +83,5 @@ pseudo-key v time e = class-pseudo v.identifiers (stamp_of v) time (stamp-digits
 
 -- ---- one behind the other
 
-pub four-parts : (key a b c d : List ℕ) → (((key ++ a) ++ b) ++ c) ++ d ≡ key ++ (a ++ (b ++ (c ++ d)))
-four-parts key a b c d = simp append_assoc
+pub four-joined : (key a b c d : List ℕ) → (((key ++ a) ++ b) ++ c) ++ d ≡ key ++ (a ++ (b ++ (c ++ d)))
+four-joined key a b c d = simp append_assoc

@@ -14,7 +14,7 @@ use Rattle.modver.specs.SemanticVersion.{SemanticVersion}
 use Rattle.modver.specs.Time.{IsTime, fits_byte, fits_form, is_lower_hex, is_moment, time_of_stamp}
 use Rattle.modver.specs.declared.version.Class.TheVariants as class
 use Rattle.modver.proofs.DotParts.{reverse-some}
-use Rattle.modver.proofs.Forms.{fits_form-append, fits_form-part, length-fits}
+use Rattle.modver.proofs.Forms.{fits_form-append, fits_form-slice, length-fits}
 use Rattle.modver.proofs.Times.{stamp-of_digits, stamp-passes}
 use Rattle.modver.proofs.Conditions.{and-both, and-first, and-second, le-nat_le, nat_le-true}
 use Rattle.modver.proofs.DotParts.{no-stamp}
@@ -49,9 +49,9 @@ form-stamped : (i : List ℕ) → fits_form (codes "dddddddddddddd-hhhhhhhhhhhh"
 form-stamped i form moment =
     let f = codes "dddddddddddddd-hhhhhhhhhhhh" in
     let size : 27 ≡ length i = length-fits f i form in
-    let stamp : fits_form (codes "dddddddddddddd") (take 14 i) ≡ true = fits_form-part f i 0 14 form in
-    let middle : drop 14 i ≡ 45 ∷ drop 1 (drop 14 i) = dash (drop 14 i) (fits_form-part f i 14 1 form) in
-    let revision : fits_form (codes "hhhhhhhhhhhh") (take 12 (drop 15 i)) ≡ true = fits_form-part f i 15 12 form in
+    let stamp : fits_form (codes "dddddddddddddd") (take 14 i) ≡ true = fits_form-slice f i 0 14 form in
+    let middle : drop 14 i ≡ 45 ∷ drop 1 (drop 14 i) = dash (drop 14 i) (fits_form-slice f i 14 1 form) in
+    let revision : fits_form (codes "hhhhhhhhhhhh") (take 12 (drop 15 i)) ≡ true = fits_form-slice f i 15 12 form in
     let rest : length (drop 15 i) ≡ 12 = omega (arith, length-drop 15 i) in
     let whole : take 12 (drop 15 i) ≡ drop 15 i = take_all 12 (drop 15 i) (omega arith) in
     record {
@@ -74,12 +74,12 @@ stamped-of i stamp h = elim (cases_Bool (fits_form (codes "dddddddddddddd-hhhhhh
 
 of-stamped : (i stamp : List ℕ) → IsStamped i stamp → stamp_of_identifier i ≡ Some stamp
 of-stamped i stamp s =
-    let told = stamp-passes stamp s.named in
-    let front : take 14 i ≡ stamp = rw s.same (take-front stamp (45 ∷ s.revision) 14 (sym (length-fits (codes "dddddddddddddd") stamp told.0))) in
+    let given = stamp-passes stamp s.named in
+    let front : take 14 i ≡ stamp = rw s.same (take-front stamp (45 ∷ s.revision) 14 (sym (length-fits (codes "dddddddddddddd") stamp given.0))) in
     let rest : fits_form (codes "-hhhhhhhhhhhh") (45 ∷ s.revision) ≡ true = fit-hex (codes "hhhhhhhhhhhh") s.revision refl (sym s.hexadecimal.0) s.hexadecimal.1 in
     let whole : fits_form (codes "dddddddddddddd-hhhhhhhhhhhh") i ≡ true = rw s.same
-    (fits_form-append (codes "dddddddddddddd") (codes "-hhhhhhhhhhhh") stamp (45 ∷ s.revision) told.0 rest) in
-    rw (whole, front, told.1) refl
+    (fits_form-append (codes "dddddddddddddd") (codes "-hhhhhhhhhhhh") stamp (45 ∷ s.revision) given.0 rest) in
+    rw (whole, front, given.1) refl
 
 -- ---- the three forms
 
@@ -94,18 +94,18 @@ if-some false o s h = cc h
 pseudo-from : (v : SemanticVersion) (back : List (List ℕ)) (stamp : List ℕ) → v.identifiers ≡ reverse back → stamp_from v.minor v.patch back ≡ Some stamp → IsPseudo v stamp
 pseudo-from v [] stamp ids h = cc h
 pseudo-from v (last ∷ []) stamp ids h =
-    let parts = if-some _ _ stamp h in
-    let zeros = and-both _ _ parts.0 in
-    inl (record { last = last; identifiers = ids; numbers = (eqb-true v.minor 0 zeros.0, eqb-true v.patch 0 zeros.1); stamped = stamped-of last stamp parts.1 })
+    let halves = if-some _ _ stamp h in
+    let zeros = and-both _ _ halves.0 in
+    inl (record { last = last; identifiers = ids; numbers = (eqb-true v.minor 0 zeros.0, eqb-true v.patch 0 zeros.1); stamped = stamped-of last stamp halves.1 })
 pseudo-from v (last ∷ before ∷ []) stamp ids h =
-    let parts = if-some _ _ stamp h in
-    let tests = and-both _ _ parts.0 in
+    let halves = if-some _ _ stamp h in
+    let tests = and-both _ _ halves.0 in
     let zero = zero-is before tests.0 in
     let patch : 1 ≤ v.patch = nat_le-true 1 v.patch tests.1 in
-    inr (inl (record { last = last; identifiers = ids ∙ ap (λ (z : List ℕ). z ∷ last ∷ []) zero; patch = patch; stamped = stamped-of last stamp parts.1 }))
+    inr (inl (record { last = last; identifiers = ids ∙ ap (λ (z : List ℕ). z ∷ last ∷ []) zero; patch = patch; stamped = stamped-of last stamp halves.1 }))
 pseudo-from v (last ∷ before ∷ more ∷ rest) stamp ids h =
-    let parts = if-some _ _ stamp h in
-    let zero = zero-is before parts.0 in
+    let halves = if-some _ _ stamp h in
+    let zero = zero-is before halves.0 in
     let front = reverse (more ∷ rest) in
     let some = reverse-some more rest in
     let split : reverse (last ∷ before ∷ more ∷ rest) ≡ front ++ before ∷ last ∷ [] = reverse-append (last ∷ before ∷ []) (more ∷ rest) in
@@ -114,7 +114,7 @@ pseudo-from v (last ∷ before ∷ more ∷ rest) stamp ids h =
       last = last;
       some = λ e. cc (sym some.2 ∙ e);
       identifiers = ids ∙ split ∙ ap (λ (z : List ℕ). front ++ z ∷ last ∷ []) zero;
-      stamped = stamped-of last stamp parts.1;
+      stamped = stamped-of last stamp halves.1;
     }))
 
 -- from the form to the stamp

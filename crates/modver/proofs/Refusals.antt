@@ -6,7 +6,7 @@ use Rattle.semver.specs.Parse.{◌>>=◌, digits_from, dot_of, end_error, identi
 use Rattle.semver.specs.Parse.{memory_error, numeric, part_end, scan, starts_zero, tail_build, tail_end, tail_pre, version_parts}
 use Rattle.semver.specs.declared.error.Error.{Error}
 use Rattle.semver.specs.declared.error.Position.{Position}
-use Rattle.semver.specs.declared.error.Position.TheVariants as place
+use Rattle.semver.specs.declared.error.Position.TheVariants as position
 
 abbrev pub BlamesText : {A : Type 0} → Result A Error → Type 0
 BlamesText (Ok x) = ⊤
@@ -37,22 +37,22 @@ dot : (pos : Position) (xs : List ℕ) → BlamesText (dot_of pos xs)
 dot pos [] = λ e. cc (ap (λ (x : Error). x.kind) e)
 dot pos (b ∷ rest) = either (b == 46) _ _ tt (λ e. cc (ap (λ (x : Error). x.kind) e))
 
-part : (pos : Position) (acc seg : ℕ) (nondigit lead : Bool) → BlamesText (part_end pos acc seg nondigit lead)
-part pos acc seg nondigit lead =
+piece : (pos : Position) (acc seg : ℕ) (nondigit lead : Bool) → BlamesText (part_end pos acc seg nondigit lead)
+piece pos acc seg nondigit lead =
     either (seg == 0) _ _ (either (acc == 0) _ _ tt (λ e. cc (ap (λ (x : Error). x.kind) e)))
     (either (is_bad_zero pos seg nondigit lead) _ _ (λ e. cc (ap (λ (x : Error). x.kind) e)) tt)
 
 -- scanning a text never fails for want of memory
 scans : (pos : Position) (acc seg : ℕ) (nondigit lead : Bool) (xs : List ℕ) → BlamesText (scan pos acc seg nondigit lead xs)
 unfolding scan
-scans pos acc seg nondigit lead [] = part pos acc seg nondigit lead
+scans pos acc seg nondigit lead [] = piece pos acc seg nondigit lead
 scans pos acc seg nondigit lead (b ∷ rest) =
     either (is_letter b) _ _ (scans pos acc (seg + 1) true lead rest)
     (either (is_ascii_digit b) _ _ (scans pos acc (seg + 1) nondigit (starts_zero lead seg b) rest)
     (either (b == 46) _ _
     (either (seg == 0) _ _ (λ e. cc (ap (λ (x : Error). x.kind) e))
     (either (is_bad_zero pos seg nondigit lead) _ _ (λ e. cc (ap (λ (x : Error). x.kind) e)) (scans pos (acc + seg + 1) 0 false false rest)))
-    (part pos acc seg nondigit lead)))
+    (piece pos acc seg nondigit lead)))
 
 identifier : (pos : Position) (xs : List ℕ) → BlamesText (identifier_of pos xs)
 identifier pos xs = chain (scan pos 0 0 false false xs) _ (scans pos 0 0 false false xs)
@@ -65,20 +65,20 @@ tail-ends pos a b c pre build (x ∷ rest) = λ e. cc (ap (λ (x : Error). x.kin
 tail-builds : (pos : Position) (a b c : ℕ) (pre xs : List ℕ) → BlamesText (tail_build pos a b c pre xs)
 tail-builds pos a b c pre [] = tt
 tail-builds pos a b c pre (x ∷ rest) =
-    either (x == 43) _ _ (chain (identifier_of place.Build rest) _ (identifier place.Build rest) (λ y. tail-ends place.Build a b c pre y.0 y.1))
+    either (x == 43) _ _ (chain (identifier_of position.Build rest) _ (identifier position.Build rest) (λ y. tail-ends position.Build a b c pre y.0 y.1))
     (tail-ends pos a b c pre [] (x ∷ rest))
 
 tail-pres : (a b c : ℕ) (xs : List ℕ) → BlamesText (tail_pre a b c xs)
 tail-pres a b c [] = tt
 tail-pres a b c (x ∷ rest) =
-    either (x == 45) _ _ (chain (identifier_of place.Pre rest) _ (identifier place.Pre rest) (λ y. tail-builds place.Pre a b c y.0 y.1))
-    (tail-builds place.Patch a b c [] (x ∷ rest))
+    either (x == 45) _ _ (chain (identifier_of position.Pre rest) _ (identifier position.Pre rest) (λ y. tail-builds position.Pre a b c y.0 y.1))
+    (tail-builds position.Patch a b c [] (x ∷ rest))
 
 pub text-to-blame : (text : List ℕ) → BlamesText (version_parts text)
 text-to-blame text =
     either (length text == 0) _ _ (λ e. cc (ap (λ (x : Error). x.kind) e))
-    (chain (numeric place.Major text) _ (digits place.Major 0 0 text) (λ x.
-    chain (dot_of place.Major x.1) _ (dot place.Major x.1) (λ t.
-    chain (numeric place.Minor t) _ (digits place.Minor 0 0 t) (λ y.
-    chain (dot_of place.Minor y.1) _ (dot place.Minor y.1) (λ u.
-    chain (numeric place.Patch u) _ (digits place.Patch 0 0 u) (λ z. tail-pres x.0 y.0 z.0 z.1))))))
+    (chain (numeric position.Major text) _ (digits position.Major 0 0 text) (λ x.
+    chain (dot_of position.Major x.1) _ (dot position.Major x.1) (λ t.
+    chain (numeric position.Minor t) _ (digits position.Minor 0 0 t) (λ y.
+    chain (dot_of position.Minor y.1) _ (dot position.Minor y.1) (λ u.
+    chain (numeric position.Patch u) _ (digits position.Patch 0 0 u) (λ z. tail-pres x.0 y.0 z.0 z.1))))))

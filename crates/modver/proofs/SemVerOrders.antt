@@ -77,7 +77,7 @@ differs : {A : Type 0} (R : A → A → Ordering) → ((x : A) → R x x ≡ Equ
 differs R itself [] x y xs ys h = rw h refl
 differs R itself (c ∷ common) x y xs ys h = rw (itself c) (differs R itself common x y xs ys h)
 
--- what passes a test at a place
+-- what all elements pass, the one at a position does
 all-at : {A : Type 0} (p : A → Bool) (common : List A) (x : A) (rest : List A) → list_all p (common ++ x ∷ rest) ≡ true → p x ≡ true
 all-at p [] x rest h = and-first _ _ h
 all-at p (c ∷ common) x rest h = all-at p common x rest (and-second (p c) _ h)

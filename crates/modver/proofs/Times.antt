@@ -18,7 +18,7 @@ use Rattle.modver.specs.TimeLaws.{EachTextIsATimeOrFaulty, IsTimeIsExact, TimeOf
 use Rattle.modver.specs.declared.time.TimeFault.{TimeFault}
 use Rattle.modver.specs.declared.time.TimeFault.TheVariants as fault
 use Rattle.modver.proofs.Conditions.{and-both, and-first, and-second, le-nat_le, nat_le-true}
-use Rattle.modver.proofs.Forms.{digits-fit, fit-digits, fits_form-append, fits_form-part, length-fits}
+use Rattle.modver.proofs.Forms.{digits-fit, fit-digits, fits_form-append, fits_form-slice, length-fits}
 use Rattle.modver.proofs.Numerals.{all-digits}
 
 -- ---- a number and its digits
@@ -59,21 +59,21 @@ written-after n k m (c ∷ ds) e h =
 written : (n : ℕ) (ds : List ℕ) → length ds ≡ n → list_all is_ascii_digit ds ≡ true → padded n (digits_value 10 ds) ≡ ds
 written n ds size h = written-after 0 n 0 ds (omega arith) h
 
--- ---- the parts of a text that has a form
+-- ---- the pieces of a text that has a form
 
 -- digits are those of their number
-record IsNumber (text : List ℕ) (place n : ℕ) : Type 0 where
-  pub same : take n (drop place text) ≡ padded n (number_at text place n)
-  pub bound : number_at text place n < 10 ^ n
+record IsNumber (text : List ℕ) (index n : ℕ) : Type 0 where
+  pub same : take n (drop index text) ≡ padded n (number_at text index n)
+  pub bound : number_at text index n < 10 ^ n
 
--- where a form has n digits at a place, a text of the form has there the n digits of the number at that place
-number : (form text : List ℕ) (place n : ℕ) → fits_form form text ≡ true → list_all (λ f. f == 100) (take n (drop place form)) ≡ true → length (take n (drop place form)) ≡ n
-    → IsNumber text place n
-number form text place n fits letters size =
-    let ds = take n (drop place text) in
-    let part = fits_form-part form text place n fits in
-    let digits = digits-fit (take n (drop place form)) ds letters part in
-    let long : length ds ≡ n = sym (length-fits (take n (drop place form)) ds part) ∙ size in
+-- where a form has n digits at an index, a text of the form has there the n digits of the number at that index
+number : (form text : List ℕ) (index n : ℕ) → fits_form form text ≡ true → list_all (λ f. f == 100) (take n (drop index form)) ≡ true → length (take n (drop index form)) ≡ n
+    → IsNumber text index n
+number form text index n fits letters size =
+    let ds = take n (drop index text) in
+    let piece = fits_form-slice form text index n fits in
+    let digits = digits-fit (take n (drop index form)) ds letters piece in
+    let long : length ds ≡ n = sym (length-fits (take n (drop index form)) ds piece) ∙ size in
     record {
       same = sym (written n ds long digits);
       bound = rw long at (digits_value-lt 10 ds (all-digits ds digits));
@@ -87,15 +87,15 @@ single c (b ∷ []) h p q =
     ap (λ (x : ℕ). x ∷ []) (eqb-true b c same)
 
 -- and another byte is itself
-byte : (form text : List ℕ) (place c : ℕ) → fits_form form text ≡ true → take 1 (drop place form) ≡ c ∷ [] → (c == 100) ≡ false → (c == 104) ≡ false
-    → take 1 (drop place text) ≡ c ∷ []
-byte form text place c fits at p q =
-    single c (take 1 (drop place text)) (subst (λ (f : List ℕ). fits_form f (take 1 (drop place text)) ≡ true) at (fits_form-part form text place 1 fits)) p q
+byte : (form text : List ℕ) (index c : ℕ) → fits_form form text ≡ true → take 1 (drop index form) ≡ c ∷ [] → (c == 100) ≡ false → (c == 104) ≡ false
+    → take 1 (drop index text) ≡ c ∷ []
+byte form text index c fits at p q =
+    single c (take 1 (drop index text)) (subst (λ (f : List ℕ). fits_form f (take 1 (drop index text)) ≡ true) at (fits_form-slice form text index 1 fits)) p q
 
--- a part of a text, and what follows
-next : (text part rest : List ℕ) (place n : ℕ) → take n (drop place text) ≡ part → drop (place + n) text ≡ rest → drop place text ≡ part ++ rest
-next text part rest place n p r =
-    sym (take-append-drop n (drop place text)) ∙ ap (λ (t : List ℕ). t ++ drop n (drop place text)) p ∙ ap (λ (t : List ℕ). part ++ t) (drop-drop n place text ∙ r)
+-- a piece of a text, and what follows
+next : (text piece rest : List ℕ) (index n : ℕ) → take n (drop index text) ≡ piece → drop (index + n) text ≡ rest → drop index text ≡ piece ++ rest
+next text piece rest index n p r =
+    sym (take-append-drop n (drop index text)) ∙ ap (λ (t : List ℕ). t ++ drop n (drop index text)) p ∙ ap (λ (t : List ℕ). piece ++ t) (drop-drop n index text ∙ r)
 
 -- ---- a text of the form of a time is that of its numbers
 
@@ -125,9 +125,9 @@ numbers-digits text h = record {
 -- a text of the form of a time is the text of the numbers in it
 numbers-same : (text : List ℕ) → has_time_form text ≡ true → text ≡ time_text (numbers text)
 numbers-same text h =
-    let number-at : (place n : ℕ) → list_all (λ f. f == 100) (take n (drop place time_form)) ≡ true → length (take n (drop place time_form)) ≡ n
-    → take n (drop place text) ≡ padded n (number_at text place n)
-    = λ place n letters size. (number time_form text place n h letters size).same in
+    let number-at : (index n : ℕ) → list_all (λ f. f == 100) (take n (drop index time_form)) ≡ true → length (take n (drop index time_form)) ≡ n
+    → take n (drop index text) ≡ padded n (number_at text index n)
+    = λ index n letters size. (number time_form text index n h letters size).same in
     let size : 20 ≡ length text = length-fits time_form text h in
     next text _ _ 0 4 (number-at 0 4 refl refl)
     (next text _ _ 4 1 (byte time_form text 4 45 h refl refl refl)
@@ -183,10 +183,10 @@ exists at = is_date at.year at.month at.day && is_time_of_day at.hour at.minute 
 -- a date and a time of day that pass the computed test exist
 exists-so : (at : DateTime) → exists at ≡ true → Exists at
 exists-so at h =
-    let parts = and-both (is_date at.year at.month at.day) _ h in
-    let days = and-both _ (nat_le at.day (days_in_month at.year at.month)) parts.0 in
+    let halves = and-both (is_date at.year at.month at.day) _ h in
+    let days = and-both _ (nat_le at.day (days_in_month at.year at.month)) halves.0 in
     let months = and-both _ (nat_le 1 at.day) days.0 in
-    let hours = and-both _ (nat_lt at.second 60) parts.1 in
+    let hours = and-both _ (nat_lt at.second 60) halves.1 in
     record {
       month = (grind (arith, nat_tests), grind (arith, nat_tests));
       day = (nat_le-true 1 at.day months.1, nat_le-true at.day (days_in_month at.year at.month) days.1);
@@ -226,7 +226,7 @@ time-moment text is = ap is_moment is.same ∙ text-moment is.at is.digits is.ex
 
 pub time-exact : IsTimeIsExact
 time-exact text = (
-  λ h. let parts = and-both (has_time_form text) (is_moment text) h in time-of_tests text parts.0 parts.1,
+  λ h. let halves = and-both (has_time_form text) (is_moment text) h in time-of_tests text halves.0 halves.1,
   λ is. rw (time-form text is, time-moment text is) refl,
 )
 

@@ -1,6 +1,6 @@
 use Rattle.std.proofs.Common.{◌≡◌, subst}
 use Rattle.modver.specs.Keys.{order_key_of, pre_release_key}
-use Rattle.modver.proofs.KeyParts.{four-parts}
+use Rattle.modver.proofs.KeyParts.{four-joined}
 use Rattle.modver.proofs.keys.push_order.Goals as goal
 
 pub returns : goal.returns
@@ -20,4 +20,4 @@ returns c =
       c.minor.ensures,
       c.patch.ensures,
     )
-    (four-parts c.args.key.now.items _ _ _ _)
+    (four-joined c.args.key.now.items _ _ _ _)

@@ -91,7 +91,7 @@ number-first m n s t p q =
 -- ---- identifiers
 
 -- the bytes of an identifier are not 0
-some-byte : (b : ℕ) → is_identifier_byte b ≡ true → 0 < b
+pub some-byte : (b : ℕ) → is_identifier_byte b ≡ true → 0 < b
 some-byte b h = grind (arith, nat_tests)
 
 -- lists without zeros come first, where 0 ends them
@@ -103,7 +103,7 @@ ended-lists (x ∷ xs) [] s t p q = let some = some-byte x (and-first _ _ p) in 
 ended-lists (x ∷ xs) (y ∷ ys) s t p q =
     ap (ordering_then (nat_cmp x y)) (ended-lists xs ys s t (and-second _ _ p) (and-second _ _ q)) ∙ sym (then-assoc (nat_cmp x y) (bytes_cmp xs ys) (bytes_cmp s t))
 
-identifier-bytes : (x : List ℕ) → is_identifier x ≡ true → list_all is_identifier_byte x ≡ true
+pub identifier-bytes : (x : List ℕ) → is_identifier x ≡ true → list_all is_identifier_byte x ≡ true
 identifier-bytes x h = and-second _ _ (and-first (is_build_identifier x) _ h)
 
 -- numeric identifiers of any lengths
@@ -151,7 +151,7 @@ release-above x s = elim (cases_Bool (is_numeric x)) [ inl nx ↦ rw nx refl | i
 -- ---- pre-releases and releases
 
 -- the key of an identifier, those of others, and their end
-cut : (x : List ℕ) (xs : List (List ℕ)) → flat_map identifier_key (x ∷ xs) ++ 0 ∷ [] ≡ identifier_key x ++ (flat_map identifier_key xs ++ 0 ∷ [])
+pub cut : (x : List ℕ) (xs : List (List ℕ)) → flat_map identifier_key (x ∷ xs) ++ 0 ∷ [] ≡ identifier_key x ++ (flat_map identifier_key xs ++ 0 ∷ [])
 cut x xs = append_assoc (identifier_key x) (flat_map identifier_key xs) (0 ∷ [])
 
 -- the keys of two lists of identifiers, each ended by 0, compare as the lists do from the left
@@ -247,7 +247,7 @@ padded-greater (suc n) (a ∷ xs) (b ∷ ys) e = elim (cases_lt a b) [
   ]
 ]
 
-padded-length : (n : ℕ) (x : List ℕ) → length (padded n x) ≡ n
+pub padded-length : (n : ℕ) (x : List ℕ) → length (padded n x) ≡ n
 padded-length zero x = refl
 padded-length (suc n) [] = ap suc (padded-length n [])
 padded-length (suc n) (b ∷ rest) = ap suc (padded-length n rest)

@@ -9,7 +9,7 @@ use Rattle.std.specs.Str.Parse.{digits_value}
 use Rattle.std.specs.declared.cmp.Ordering.{Ordering}
 use Rattle.modver.specs.Class.{class_from, class_of, stamp_of}
 use Rattle.modver.specs.Parts.{identifiers_of}
-use Rattle.modver.specs.Rank.{class_rank, number_of_stamp, rank_cmp, rank_from, time_cmp}
+use Rattle.modver.specs.Rank.{number_of_stamp, rank_cmp, rank_from, rank_of, time_cmp, time_of}
 use Rattle.modver.specs.Precedence.{precedence}
 use Rattle.modver.specs.SemanticVersion.{SemanticVersion}
 use Rattle.modver.specs.Time.{time_of_stamp}
@@ -93,11 +93,29 @@ ranked (i ∷ xs) (j ∷ ys) None (Some y) r p q f g = refl
 ranked (i ∷ xs) (j ∷ ys) (Some x) None r p q f g = refl
 ranked (i ∷ xs) (j ∷ ys) (Some x) (Some y) r p q f g = ap (λ (o : Ordering). ordering_then o r) (time-number x y p q)
 
+rank_of-class : (ids : List (List ℕ)) (stamp : Option (List ℕ)) → rank_of (class_from ids stamp) ≡ rank_from ids stamp
+rank_of-class [] stamp = refl
+rank_of-class (i ∷ rest) None = refl
+rank_of-class (i ∷ rest) (Some stamp) = refl
+
+time_of-class : (ids : List (List ℕ)) (stamp : Option (List ℕ)) → (ids ≡ [] → stamp ≡ None) → time_of (class_from ids stamp) ≡ option_map time_of_stamp stamp
+time_of-class [] None h = refl
+time_of-class [] (Some stamp) h = cc (h refl)
+time_of-class (i ∷ rest) None h = refl
+time_of-class (i ∷ rest) (Some stamp) h = refl
+
 -- rank by class, then by time, then by precedence
 pub rank_by : (u v : SemanticVersion)
-    → ordering_then (nat_cmp (class_rank u) (class_rank v)) (ordering_then (time_cmp (option_map time_of_stamp (stamp_of u)) (option_map time_of_stamp (stamp_of v))) (precedence u v))
+    → ordering_then (nat_cmp (rank_of (class_of u)) (rank_of (class_of v))) (ordering_then (time_cmp (time_of (class_of u)) (time_of (class_of v))) (precedence u v))
     ≡ rank_cmp u v
-rank_by u v = ranked u.identifiers v.identifiers (stamp_of u) (stamp_of v) (precedence u v) (stamp-digits u) (stamp-digits v) (no-stamp u) (no-stamp v)
+rank_by u v =
+    rw (
+      rank_of-class u.identifiers (stamp_of u),
+      rank_of-class v.identifiers (stamp_of v),
+      time_of-class u.identifiers (stamp_of u) (no-stamp u),
+      time_of-class v.identifiers (stamp_of v) (no-stamp v),
+    )
+    (ranked u.identifiers v.identifiers (stamp_of u) (stamp_of v) (precedence u v) (stamp-digits u) (stamp-digits v) (no-stamp u) (no-stamp v))
 
 -- ---- class
 
@@ -119,11 +137,16 @@ pub class-pseudo : (v : SemanticVersion) (pre time : List ℕ) → identifiers_o
     → class.Pseudo time ≡ class_of v
 class-pseudo v pre time ids some e = class-of_ids pre v.identifiers (stamp_of v) time ids some e
 
-rank-some : (ids : List (List ℕ)) (stamp : Option (List ℕ)) (time : List ℕ) → class.Pseudo time ≡ class_from ids stamp → 1 ≡ rank_from ids stamp
-rank-some [] stamp time e = cc e
-rank-some (i ∷ rest) None time e = cc e
-rank-some (i ∷ rest) (Some stamp) time e = refl
+pre-from : (ids : List (List ℕ)) (stamp : Option (List ℕ)) (pre : List ℕ) → identifiers_of pre ≡ ids → 0 < length pre → None ≡ option_map time_of_stamp stamp
+    → class.Pre ≡ class_from ids stamp
+pre-from ids stamp [] same some e = absurd (omega arith)
+pre-from ids None (b ∷ rest) same some e =
+    let s = dots-shape (b ∷ rest) in
+    let shape : ids ≡ s.0 ∷ s.1 = sym same ∙ s.2 in
+    rw shape refl
+pre-from ids (Some stamp) (b ∷ rest) same some e = cc e
 
--- and has the rank of one
-pub rank-pseudo : (v : SemanticVersion) (time : List ℕ) → class.Pseudo time ≡ class_of v → 1 ≡ class_rank v
-rank-pseudo v time e = rank-some v.identifiers (stamp_of v) time e
+-- and one with none is a pre-release
+pub class-pre : (v : SemanticVersion) (pre : List ℕ) → identifiers_of pre ≡ v.identifiers → 0 < length pre → None ≡ option_map time_of_stamp (stamp_of v)
+    → class.Pre ≡ class_of v
+class-pre v pre ids some e = pre-from v.identifiers (stamp_of v) pre ids some e

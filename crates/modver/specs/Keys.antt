@@ -1,7 +1,8 @@
 -- Keys of order and of rank: bytes that sort as the versions do.
-use Rattle.std.specs.Prelude.{ℕ, zero, suc, ◌<◌, List, [], ◌∷◌, ◌++◌, length, Option, Some, None, if◌then◌else◌}
+use Rattle.std.specs.Prelude.{ℕ, zero, suc, ◌+◌, ◌==◌, ◌<◌, nat_eq, List, [], ◌∷◌, ◌++◌, length}
+use Rattle.std.specs.Prelude.{slice_index, take, drop, Option, Some, None, if◌then◌else◌}
 use Rattle.std.specs.Int.{from_be_bytes, to_be_bytes, w64}
-use Rattle.std.specs.List.{flat_map}
+use Rattle.std.specs.List.{flat_map, position_or_len}
 use Rattle.modver.specs.Class.{stamp_of}
 use Rattle.modver.specs.SemanticVersion.{SemanticVersion, is_numeric}
 
@@ -43,3 +44,23 @@ head_of key = from_be_bytes w64 (padded 8 key)
 abbrev pub AreBytes : List ℕ → Type 0
 AreBytes [] = Unit {0}
 AreBytes (b ∷ bs) = (b < 256) × AreBytes bs
+
+-- ---- the identifiers in a key
+
+-- the identifiers at the front of a key, at most `n`; what follows their end does not count
+abbrev pub front_identifiers : ℕ → List ℕ → List (List ℕ)
+front_identifiers zero key = []
+front_identifiers (suc n) [] = []
+front_identifiers (suc n) (b ∷ rest) =
+    if b == 1 then (take (slice_index rest 0) (drop 1 rest) ∷ front_identifiers n (drop (slice_index rest 0 + 1) rest))
+    else (if b == 2
+    then (take (position_or_len (nat_eq 0) rest) rest ∷ front_identifiers n (drop (position_or_len (nat_eq 0) rest + 1) rest))
+    else [])
+
+-- the identifiers that a key was made of, also if more bytes follow it
+unfoldable pub identifiers_in : List ℕ → List (List ℕ)
+identifiers_in key = front_identifiers (length key) key
+
+-- the identifiers in a key of at most 8 bytes, of its head
+unfoldable pub identifiers_in_head : ℕ → List (List ℕ)
+identifiers_in_head head = identifiers_in (to_be_bytes w64 head)

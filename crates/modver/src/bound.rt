@@ -1,26 +1,26 @@
 //! Versions without their text, which are what the ends of an interval need.
 
-ghost use Rattle.std.specs.Prelude.{◌≡◌, ◌≤◌, ◌⊎◌, IfErr, IfOk, Some, None, [], false, length};
+ghost use Rattle.std.specs.Prelude.{◌≡◌, ◌≤◌, ◌⊎◌, IfErr, IfOk, length};
 ghost use Rattle.semver.specs.Identifiers.{parts_of, pre_text};
 ghost use Rattle.semver.specs.Parse.{memory_error};
-ghost use Rattle.modver.specs.Keys.{pre_release_key};
-ghost use Rattle.modver.specs.Parts.{identifiers_of, version_of_parts};
+ghost use Rattle.modver.specs.Bounds.{HasKey, mark_in, tails_cmp};
+ghost use Rattle.modver.specs.Fits.{has_identifiers};
+ghost use Rattle.modver.specs.Parts.{version_of_parts};
 ghost use Rattle.modver.specs.Precedence.{pre_release_cmp};
 ghost use Rattle.modver.specs.Reading.{IsCanonical, IsFault, IsHeld, is_mark};
 ghost use Rattle.modver.specs.SemanticVersion.{IsVersion};
 ghost use Rattle.modver.specs.declared.version.VersionFault.TheVariants as fault;
 
-use crate::tail::{Tail, head_of};
+use crate::tail::{Tail, head_of, push_pre_release};
 use crate::version::VersionFault;
-use semver::Prerelease;
 use std::alloc::{AllocError, Global};
 use std::cmp::Ordering;
 use std::marker::Model;
 use std::rc::Rc;
 
 /// A version without its text. Contracts see its numbers, its pre-release identifiers and its mark.
-/// A go.mod file can name nearly 150,000 versions that are compared and never written, so it keeps bounds:
-/// one of three numbers alone takes no memory of its own, and copies of another share what it takes.
+/// A go.mod file can name nearly 150,000 versions that are compared and never written, so it keeps bounds: most take
+/// no memory of their own, and copies of another share what it takes.
 #[derive(Drop)]
 pub struct Bound {
     major: u64,
@@ -28,34 +28,20 @@ pub struct Bound {
     patch: u64,
     /// The first 8 bytes of the end of the key of order, which most comparisons need no more than.
     head: u64,
-    /// `None` if there is neither a pre-release nor the mark, as in most versions, so the field is a pointer.
+    /// `None` if there is no mark and the head has the whole end of the key, as for a release or `v0.0.0-aBc`.
     tail: Option<Rc<Tail>>,
 }
 
 impl Model for Bound {
-    ghost use Rattle.std.specs.Prelude.{◌≡◌, Some, None, [], false};
-    ghost use Rattle.modver.specs.Keys.{AreBytes, head_of, padded, pre_release_key};
-    ghost use Rattle.modver.specs.SemanticVersion.{IsVersion, SemanticVersion};
+    ghost use Rattle.modver.specs.SemanticVersion.{SemanticVersion};
 
     ghost Value = { SemanticVersion };
 
-    ghost view = { λ b. record {
-      major = b.major;
-      minor = b.minor;
-      patch = b.patch;
-      identifiers = elim b.tail [ None ↦ [] | Some t ↦ t.value.identifiers ];
-      marked = elim b.tail [ None ↦ false | Some t ↦ t.value.marked ];
-    } };
+    ghost use Rattle.modver.specs.Bounds.{IsBound, version_in};
 
-    ghost invariant = { λ b. IsVersion (record {
-      major = b.major;
-      minor = b.minor;
-      patch = b.patch;
-      identifiers = elim b.tail [ None ↦ [] | Some t ↦ t.value.identifiers ];
-      marked = elim b.tail [ None ↦ false | Some t ↦ t.value.marked ];
-    })
-        × (b.head ≡ head_of (pre_release_key (elim b.tail [ None ↦ [] | Some t ↦ t.value.identifiers ])))
-        × AreBytes (padded 8 (pre_release_key (elim b.tail [ None ↦ [] | Some t ↦ t.value.identifiers ]))) };
+    ghost view = { version_in };
+
+    ghost invariant = { IsBound };
 }
 
 impl Bound {
@@ -97,8 +83,21 @@ impl Bound {
             pre,
             build,
         } = parts;
-        let tail = tail_of(alloc, pre, !build.is_empty())?;
-        let head = head_of(key_of(&tail));
+        let marked = !build.is_empty();
+        if pre.is_empty() && !marked {
+            return Ok(Bound {
+                major,
+                minor,
+                patch,
+                head: head_of(b"\x03"),
+                tail: None,
+            });
+        }
+        // Room for the key of one identifier.
+        let mut key = Vec::with_capacity(alloc, pre.as_str().len() + 3)?;
+        push_pre_release(&mut key, pre.as_str().as_bytes())?;
+        let head = head_of(key.as_slice());
+        let tail = tail_of(alloc, key, marked)?;
         Ok(Bound {
             major,
             minor,
@@ -129,7 +128,7 @@ impl Bound {
         ensures { result ≡ self.now.marked }
     {
         match &self.tail {
-            Some(tail) => tail.is_marked(),
+            Some(tail) => tail.marked,
             None => false,
         }
     }
@@ -152,21 +151,11 @@ impl Bound {
         self.patch
     }
 
-    // The text of the pre-release, empty for a release.
-    pub(crate) fn pre_release(&self) -> &str
-        ensures { identifiers_of result.now ≡ self.now.identifiers }
+    // Whether there are pre-release identifiers.
+    pub(crate) fn is_pre_release(&self) -> bool
+        ensures { result ≡ has_identifiers self.now.identifiers }
     {
-        match &self.tail {
-            Some(tail) => tail.pre_release(),
-            None => "",
-        }
-    }
-
-    // The end of the key of order, behind the three numbers.
-    pub(crate) fn end_key(&self) -> &[u8]
-        ensures { result.now ≡ pre_release_key self.now.identifiers }
-    {
-        key_of(&self.tail)
+        self.head != head_of(b"\x03")
     }
 
     // Compares the pre-releases.
@@ -174,44 +163,33 @@ impl Bound {
         ensures { result ≡ pre_release_cmp self.now.identifiers other.now.identifiers }
     {
         match self.head.cmp(&other.head) {
-            Ordering::Equal => self.compare_keys(other),
+            Ordering::Equal => compare_tails(&self.tail, &other.tail),
             decided => decided,
         }
     }
+}
 
-    // Compares the pre-releases by their whole keys.
-    fn compare_keys(&self, other: &Bound) -> Ordering
-        ensures { result ≡ pre_release_cmp self.now.identifiers other.now.identifiers }
-    {
-        match (&self.tail, &other.tail) {
-            (None, None) => Ordering::Equal,
-            _ => self.end_key().cmp(other.end_key()),
-        }
+// Compares the keys of two bounds whose heads are equal. No key begins another, so the keys are equal if a head has one
+// of them whole.
+fn compare_tails(left: &Option<Rc<Tail>>, right: &Option<Rc<Tail>>) -> Ordering
+    ensures { result ≡ tails_cmp left.now right.now }
+{
+    match (left, right) {
+        (Some(left), Some(right)) => left.key.as_slice().cmp(right.key.as_slice()),
+        _ => Ordering::Equal,
     }
 }
 
-// Returns the end of the key of order of a version with this tail.
-fn key_of(tail: &Option<Rc<Tail>>) -> &[u8]
-    ensures { result.now ≡ pre_release_key (elim tail.now [ None ↦ [] | Some t ↦ t.value.identifiers ]) }
+// Returns the tail of a version with this key and mark, or `None` if a head says as much. It fails only if memory runs out.
+fn tail_of(alloc: Global, key: Vec<u8>, marked: bool) -> Result<Option<Rc<Tail>>, AllocError>
+    ensures key { IfOk result (λ tail. HasKey tail key.items) }
+    ensures mark { IfOk result (λ tail. mark_in tail ≡ marked) }
 {
-    match tail {
-        Some(tail) => tail.key(),
-        None => b"\x03".as_slice(),
+    if key.len() <= 8 && !marked {
+        Ok(None)
+    } else {
+        Ok(Some(Rc::new(alloc, Tail { key, marked })?))
     }
-}
-
-// Returns the tail of a pre-release and a mark, or `None` if there is neither. It fails only if memory runs out.
-fn tail_of(alloc: Global, pre: Prerelease, marked: bool) -> Result<Option<Rc<Tail>>, AllocError>
-    requires { length (pre_text pre) ≤ 128 }
-    ensures identifiers { IfOk result (λ tail.
-        elim tail [ None ↦ [] | Some t ↦ t.value.identifiers ] ≡ identifiers_of (pre_text pre)) }
-    ensures marked { IfOk result (λ tail. elim tail [ None ↦ false | Some t ↦ t.value.marked ] ≡ marked) }
-{
-    if pre.is_empty() && !marked {
-        return Ok(None);
-    }
-    let tail = Tail::new(alloc, pre, marked)?;
-    Ok(Some(Rc::new(alloc, tail)?))
 }
 
 // Returns `Memory` if memory ran out, and otherwise `Form`.

@@ -27,10 +27,7 @@ pub fn fits_loose(path: &LoosePath, version: &Version) -> bool
 fn is_zero_pre_release(version: &Bound) -> bool
     ensures { result ≡ fit.is_zero_pre_release version.now }
 {
-    version.major() == 0
-        && version.minor() == 0
-        && version.patch() == 0
-        && !version.pre_release().is_empty()
+    version.major() == 0 && version.minor() == 0 && version.patch() == 0 && version.is_pre_release()
 }
 
 /// Whether a path with this suffix may have a version, by the same rules. It takes no memory.

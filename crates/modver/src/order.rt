@@ -2,11 +2,10 @@
 
 ghost use Rattle.std.specs.Prelude.{◌≡◌};
 ghost use Rattle.modver.specs.Precedence.{precedence};
-ghost use Rattle.modver.specs.Rank.{class_rank, rank_cmp, time_cmp};
+ghost use Rattle.modver.specs.Rank.{rank_cmp, rank_of, time_cmp, time_of};
 
 use crate::bound::Bound;
-use crate::pseudo::{class, pseudo_time};
-use crate::time::TimeText;
+use crate::pseudo::class;
 use crate::version::{Class, Version};
 use std::cmp::Ordering;
 
@@ -34,22 +33,22 @@ pub fn compare_bounds(left: &Bound, right: &Bound) -> Ordering
 }
 
 // 3 for a release, 2 for a pre-release, 1 for a pseudo-version.
-fn class_rank(version: &Version) -> u8
-    ensures { result ≡ class_rank version.now }
+fn class_rank(class: &Class) -> u8
+    ensures { result ≡ rank_of class.now }
 {
-    match class(version) {
+    match class {
         Class::Release => 3,
         Class::Pre => 2,
         Class::Pseudo(_) => 1,
     }
 }
 
-// Compares two times. They are equal if either is absent.
-fn compare_times(left: Option<TimeText>, right: Option<TimeText>) -> Ordering
-    ensures { result ≡ time_cmp left right }
+// Compares the times of two pseudo-versions. Versions are equal if either is none.
+fn compare_times(left: &Class, right: &Class) -> Ordering
+    ensures { result ≡ time_cmp (time_of left.now) (time_of right.now) }
 {
     match (left, right) {
-        (Some(left), Some(right)) => left.as_str().cmp(right.as_str()),
+        (Class::Pseudo(left), Class::Pseudo(right)) => left.as_str().cmp(right.as_str()),
         _ => Ordering::Equal,
     }
 }
@@ -61,7 +60,9 @@ fn compare_times(left: Option<TimeText>, right: Option<TimeText>) -> Ordering
 pub fn rank_compare(left: &Version, right: &Version) -> Ordering
     ensures { result ≡ rank_cmp left.now right.now }
 {
-    let by_class = class_rank(left).cmp(&class_rank(right));
-    let by_time = compare_times(pseudo_time(left), pseudo_time(right));
+    let left_class = class(left);
+    let right_class = class(right);
+    let by_class = class_rank(&left_class).cmp(&class_rank(&right_class));
+    let by_time = compare_times(&left_class, &right_class);
     by_class.then(by_time.then(compare(left, right)))
 }

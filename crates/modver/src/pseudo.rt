@@ -1,8 +1,8 @@
 //! Pseudo-versions, and the class of a version. (Go Modules Reference, "Pseudo-versions".)
 
 ghost use Rattle.std.specs.Prelude.{◌≡◌, ◌∷◌, [], ◌++◌, MatchOption, option_map, reverse};
-ghost use Rattle.modver.specs.Class.{class_of, may_precede, stamp_of, stamp_of_identifier};
-ghost use Rattle.modver.specs.Parts.{between_dots};
+ghost use Rattle.modver.specs.Class.{class_of, may_precede, stamp_from, stamp_of_identifier};
+ghost use Rattle.modver.specs.Parts.{between_dots, identifiers_of};
 ghost use Rattle.modver.specs.Time.{time_of_stamp};
 
 use crate::time::{TimeText, fits_form};
@@ -43,21 +43,21 @@ fn is_base(front: &[u8], minor: u64, patch: u64) -> bool
     }
 }
 
-// Returns the time of a pseudo-version's stamp, or `None` for any other version.
-pub(crate) fn pseudo_time(version: &Version) -> Option<TimeText>
-    ensures { result ≡ option_map time_of_stamp (stamp_of version.now) }
+// Returns the time of a pseudo-version's stamp, by its pre-release, minor and patch, or `None` for any other version.
+fn pseudo_time(pre_release: &[u8], minor: u64, patch: u64) -> Option<TimeText>
+    ensures { result ≡ option_map time_of_stamp
+        (stamp_from minor patch (reverse (identifiers_of pre_release.now))) }
 {
-    let pre_release = version.pre_release();
     match cut_last(pre_release) {
         None => {
-            if version.minor() == 0 && version.patch() == 0 {
+            if minor == 0 && patch == 0 {
                 time_of_identifier(pre_release)
             } else {
                 None
             }
         }
         Some((front, last)) => {
-            if is_base(front, version.minor(), version.patch()) {
+            if is_base(front, minor, patch) {
                 time_of_identifier(last)
             } else {
                 None
@@ -71,10 +71,11 @@ pub(crate) fn pseudo_time(version: &Version) -> Option<TimeText>
 pub fn class(version: &Version) -> Class
     ensures { result ≡ class_of version.now }
 {
-    if version.pre_release().is_empty() {
+    let pre_release = version.pre_release();
+    if pre_release.is_empty() {
         return Class::Release;
     }
-    match pseudo_time(version) {
+    match pseudo_time(pre_release, version.minor(), version.patch()) {
         Some(time) => Class::Pseudo(time),
         None => Class::Pre,
     }

@@ -1,18 +1,18 @@
-use Rattle.std.proofs.Common.{◌≡◌, sym, ap, subst, ◌∙◌}
-use Rattle.std.specs.Ordering.{nat_cmp}
-use Rattle.modver.specs.Keys.{AreBytes, head_of, padded, pre_release_key}
-use Rattle.modver.specs.SemanticVersion.{IsVersion, SemanticVersion}
-use Rattle.modver.proofs.KeyOrders.{heads-decide, pre_release-order}
+use Rattle.std.proofs.Common.{sym, ◌∙◌}
+use Rattle.std.specs.FinMap.{nat_cmp-IsAntisymmetric}
+use Rattle.modver.proofs.Ends.{ends-of, heads-apart, tails-order}
 use Rattle.modver.proofs.bound.Bound.compare_pre_releases.Goals as goal
 
 pub returns-in_default : goal.returns-in_default
 returns-in_default c =
-    let u = subst IsVersion c.self.view_is c.self.invariant.0 in
-    let v = subst IsVersion c.other.view_is c.other.invariant.0 in
-    let p = subst (λ (x : SemanticVersion). AreBytes (padded 8 (pre_release_key x.identifiers))) c.self.view_is c.self.invariant.2 in
-    let q = subst (λ (x : SemanticVersion). AreBytes (padded 8 (pre_release_key x.identifiers))) c.other.view_is c.other.invariant.2 in
-    let h = subst (λ (x : SemanticVersion). c.self.inside.head ≡ head_of (pre_release_key x.identifiers)) c.self.view_is c.self.invariant.1 in
-    let k = subst (λ (x : SemanticVersion). c.other.inside.head ≡ head_of (pre_release_key x.identifiers)) c.other.view_is c.other.invariant.1 in
-    let heads = c.cmp.ensures ∙ ap (λ n. nat_cmp n c.other.inside.head) h ∙ ap (nat_cmp (head_of (pre_release_key c.args.self.now.identifiers))) k in
-    sym (heads-decide _ _ c.cmp.result p q (sym heads) c.in_default.not-Equal)
-    ∙ pre_release-order c.args.self.now.identifiers c.args.other.now.identifiers u.identifiers v.identifiers
+    let u = ends-of c.self.inside c.args.self.now c.self.invariant c.self.view_is in
+    let v = ends-of c.other.inside c.args.other.now c.other.invariant c.other.view_is in
+    heads-apart _ _ _ _ c.args.self.now.identifiers c.args.other.now.identifiers u.0.identifiers v.0.identifiers u.1 v.1 c.cmp.result c.cmp.ensures c.in_default.not-Equal
+
+pub returns-in-Equal : goal.returns-in-Equal
+returns-in-Equal c =
+    let u = ends-of c.self.inside c.args.self.now c.self.invariant c.self.view_is in
+    let v = ends-of c.other.inside c.args.other.now c.other.invariant c.other.view_is in
+    let heads = nat_cmp-IsAntisymmetric c.self.inside.head c.other.inside.head (sym c.cmp.ensures ∙ c.in-Equal.is) in
+    c.compare_tails.ensures
+    ∙ tails-order _ _ c.self.inside.tail c.other.inside.tail c.args.self.now.identifiers c.args.other.now.identifiers u.0.identifiers v.0.identifiers u.1 v.1 heads

@@ -284,11 +284,20 @@ def leaked(suite, machine):
     suite.equal("the next version is published", publish(machine, ALPHA, "example.com/lib", "v1.3.0", b"next"), "201 published")
     machine.does("systemctl start goshelf")
     status, told, _ = machine.sh("goshelf-backup")
-    suite.holds("the next backup complains", status == 1 and "alpha|example.com/lib|v1.1.0|" in told, (status, told))
-    os.rename(f"{machine.folder}/var/backups/goshelf/{copies(machine)[-1]}", f"{machine.folder}/root/before")
-    for it in copies(machine):
-        shutil.rmtree(f"{machine.folder}/var/backups/goshelf/{it}")
-    suite.equal("and a later one does not", machine.sh("goshelf-backup"), (0, "", ""))
+    row = "alpha|example.com/lib|v1.1.0|"
+    suite.holds("the next backup complains", status == 1 and row in told, (status, told))
+    oldest, *others = copies(machine)
+    versions = f"var/backups/goshelf/{oldest}/versions"
+    machine.write(versions, "".join(it for it in machine.read(versions).splitlines(True) if not it.startswith(row)))
+    os.rename(f"{machine.folder}/var/backups/goshelf/{others.pop()}", f"{machine.folder}/root/last")
+    status, told, _ = machine.sh("goshelf-backup")
+    suite.holds("also once the last copy is away", status == 1 and row in told, (status, told))
+    names = re.search(r"`(grep -l '\^alpha\|P\|V\|' \S+)`", PAGE)[1].replace("P|V", "example.com/lib|v1.1.0")
+    found = [it.split("/")[-2] for it in machine.does(names).split()]
+    suite.equal("the page finds every copy that has it", found, others)
+    for it in found:
+        os.rename(f"{machine.folder}/var/backups/goshelf/{it}", f"{machine.folder}/root/{it}")
+    suite.equal("once these are away, a backup is made", (machine.sh("goshelf-backup"), len(copies(machine))), ((0, "", ""), 2))
 
 
 def moved(suite, machine):

@@ -404,17 +404,19 @@ def day_old(suite, company):
         shutil.copyfile(first.store + end, f"{first.folder}/copy{end}")
     first.does("systemctl start goshelf")
     suite.equal("a publish after the copy", company.put("pub", "example.com/lib", "v1.9.0")[0], 201)
+    zip_file = "/example.com/lib/@v/v1.9.0.zip"
     for at in FRONTS:
-        company.desk.ask(at, "ann", "/example.com/lib/@v/v1.9.0.zip")
+        company.desk.ask(at, "ann", zip_file)
     first.does("systemctl stop goshelf")
     for end in ("", "-wal"):
         shutil.copyfile(f"{first.folder}/copy{end}", first.store + end)
     first.does("systemctl start goshelf")
+    suite.equal("each cache still has what was published since", [company.desk.ask(at, "ann", zip_file)[0] for at in FRONTS], [200] * 3)
     count = block("sh", "$goshelf_shelf", "DEPLOYMENTS.md")
     first.does(count)
     first.reload()
     company.forget()
-    suite.equal("what was published since is gone", company.own("ann", "/example.com/lib/@v/v1.9.0.zip")[0], 404)
+    suite.equal("what was published since is gone", company.own("ann", zip_file)[0], 404)
     equal(suite, company, "the copy of a day before")
     suite.equal("it is published with other bytes", company.put("pub", "example.com/lib", "v1.9.0")[0], 201)
     equal(suite, company, "the version again")

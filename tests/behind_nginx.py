@@ -11,6 +11,7 @@ import http.server
 import io
 import os
 import re
+import signal
 import socket
 import ssl
 import subprocess
@@ -254,6 +255,18 @@ def cached(suite, client):
     machine.does("systemctl start goshelf")
 
 
+def stalled(suite, client):
+    """goshelf stands still: /healthz is a 504 after 15 seconds."""
+    number, begun = int(client.machine.read("serve.pid")), time.time()
+    os.kill(number, signal.SIGSTOP)
+    try:
+        told = client.ask("GET", "/healthz", None)
+    finally:
+        os.kill(number, signal.SIGCONT)
+    took = time.time() - begun
+    suite.holds("health of a goshelf that stands still is a 504, after 15 seconds", told[0] == 504 and told[1].startswith(b"goshelf does not answer") and 14 < took < 30, (told, took))
+
+
 def revoked(suite, client):
     """A user who is removed by the page's commands gets nothing from then on, cached or not, on a new connection or an old one."""
     suite.holds("before: what is cached, and a list", [client.get(f"{AT}/{it}")[0] for it in ("v1.0.0.zip", "list")] == [200, 200])
@@ -461,7 +474,7 @@ def main():
         machine = client = None
         try:
             machine, client = set_up(suite, folder)
-            for part in (strangers, rights, spellings, sizes, slow_clients, cached, go_command, three_modules, revoked, keys_change, too_many, at_once, logs, unwritable_cache):
+            for part in (strangers, rights, spellings, sizes, slow_clients, cached, stalled, go_command, three_modules, revoked, keys_change, too_many, at_once, logs, unwritable_cache):
                 part(suite, client)
         finally:
             if machine:

@@ -216,10 +216,12 @@ def watch(suite, machine):
     """Nothing is printed while all is well, and a line for each problem."""
     server = http.server.ThreadingHTTPServer(("127.0.0.1", 0), Health)
     threading.Thread(target=server.serve_forever, daemon=True).start()
-    script = machine.read("usr/local/bin/goshelf-watch")
-    script = script.replace("https://shelf.example.com/", f"http://127.0.0.1:{server.server_port}/").replace("--retry-delay 10", "--retry-delay 1")
+    script = machine.read("usr/local/bin/goshelf-watch").replace("--retry-delay 10", "--retry-delay 1")
+    for line, text in {"health": f"http://127.0.0.1:{server.server_port}/healthz", "certificate": f"{machine.folder}/etc/ssl/host.pem"}.items():
+        script, count = re.subn(rf"^{line}=.*$", f"{line}={text}", script, flags=re.M)
+        suite.equal(f"the page has an operator change one line {line}=", (count, f"`{line}=`" in PAGE), (1, True))
     machine.write("usr/local/bin/goshelf-watch", script)
-    machine.does("openssl req -x509 -newkey rsa:2048 -nodes -days 30 -subj /CN=localhost -out /etc/ssl/goshelf.pem -keyout /etc/ssl/goshelf.key")
+    machine.does("openssl req -x509 -newkey rsa:2048 -nodes -days 30 -subj /CN=localhost -out /etc/ssl/host.pem -keyout /etc/ssl/host.key")
     now = machine.does("date +%Y-%m-%dT%H:%M:%S%:z").strip()
     line = "{} 127.0.0.1 ann alpha GET /example.com/lib/@v/list {} 7 0.001 -\n"
     old, good, bad = line.format("2020-01-01T00:00:00+00:00", 502), line.format(now, 200), line.format(now, 503)
@@ -251,7 +253,7 @@ def watch(suite, machine):
     says("backups", "no backup")
     for it in copies(machine):
         os.utime(f"{machine.folder}/var/backups/goshelf/{it}")
-    machine.does("openssl req -x509 -newkey rsa:2048 -nodes -days 10 -subj /CN=localhost -out /etc/ssl/goshelf.pem -keyout /etc/ssl/goshelf.key")
+    machine.does("openssl req -x509 -newkey rsa:2048 -nodes -days 10 -subj /CN=localhost -out /etc/ssl/host.pem -keyout /etc/ssl/host.key")
     says("the certificate", "within 14 days")
     server.shutdown()
 

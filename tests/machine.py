@@ -21,6 +21,7 @@ SYSTEMCTL = """\
 # `systemctl stop goshelf` and `systemctl start goshelf`, for a program that a file names by its number, and how often it was restarted
 case $1 in
 show) cat "@/restarts" ;;
+is-active) exit 3 ;; # (of goshelf.socket, which is not there)
 start)
     rm -f "@/serve.out"
     mkdir -p "@/run/goshelf"

@@ -338,8 +338,39 @@ def by_socket(suite, copy):
     suite.holds(f"{len(told)} requests around four restarts", told.count("200 0") > 20, told[:20])
     suite.holds("none is refused", not any(it.endswith(" 7") for it in told), sorted({*told}))
     suite.holds("at most those in hand are lost", len(told) - told.count("200 0") <= 4, sorted({*told}))
+    stopped(suite, copy)
     undo = "systemctl disable --now goshelf.socket; systemctl stop goshelf; rm -r /etc/systemd/system/goshelf.s*; systemctl daemon-reload"
-    suite.holds("and it is undone", copy.sh(f"{undo}; systemctl start goshelf")[0] == 0 and ask(copy, f"{AT}/list") == "v1.0.0 200")
+    suite.holds("and it is undone", copy.sh(f"{undo}; systemctl enable --now goshelf")[0] == 0 and ask(copy, f"{AT}/list") == "v1.0.0 200")
+
+
+# Takes the place of `cp`: a connection comes before each copy, and what then runs is noted.
+COPYING = """cat > /usr/local/bin/cp <<'END'
+#!/bin/sh
+curl -s http://127.0.0.1:8080/ || echo $? >> /root/during
+systemctl is-active goshelf goshelf.socket >> /root/during
+exec /usr/bin/cp "$@"
+END
+chmod 755 /usr/local/bin/cp"""
+
+
+def stopped(suite, copy):
+    """While systemd holds the port, a connection starts a goshelf that was stopped alone; the word of the page and the scripts stop the port too."""
+    are = "systemctl is-active goshelf goshelf.socket"
+    copy.sh("systemctl stop goshelf")
+    suite.equal("a connection starts a goshelf that was stopped", (ask(copy, f"{AT}/list"), copy.prints(are)), ("v1.0.0 200", "active active"))
+    page = read(os.path.join(ROOT, "docs", "OPERATING.md")).decode()
+    word = "systemctl stop goshelf.socket goshelf"
+    suite.holds("the page has a word for both", f"`{word}`" in page)
+    connect = "curl -s http://127.0.0.1:8080/ || echo $?"
+    for name, script in (("that word", word), ("a removal", "/var/lib/dpkg/info/goshelf.prerm remove")):
+        status, printed, errors = copy.sh(f"{script}\n{connect}")
+        suite.equal(f"{name} stops both, and a connection starts neither", (status, printed, errors, copy.prints(are)), (0, "7\n", "", "inactive inactive"))
+        suite.equal(f"a start after {name} starts both", (copy.sh("systemctl start goshelf"), copy.prints(are), ask(copy, f"{AT}/list")), ((0, "", ""), "active active", "v1.0.0 200"))
+    copy.sh(f"{COPYING}; install /usr/share/goshelf/deploy/goshelf-backup /usr/local/bin")
+    suite.equal("a backup that stops goshelf prints nothing", copy.sh("goshelf-backup stop"), (0, "", ""))
+    suite.equal("no connection starts it while files are copied", copy.prints("cat /root/during"), " ".join(["7 inactive inactive"] * 2))
+    suite.equal("and then both run again", (copy.prints(are), ask(copy, f"{AT}/list")), ("active active", "v1.0.0 200"))
+    copy.sh("rm -r /usr/local/bin/cp /usr/local/bin/goshelf-backup /var/backups/goshelf")
 
 
 def confined(suite, copy):

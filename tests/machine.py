@@ -18,9 +18,13 @@ from harness import PROGRAM, ROOT
 PLACES = re.compile(r"(?<![\w./~])/(?=(?:etc/(?:nginx|ssl|cron\.d)|var/(?:lib|log|cache|backups)|usr/local|run|root)\b)")
 SYSTEMCTL = """\
 #!/bin/sh
-# `systemctl stop goshelf` and `systemctl start goshelf`, for a program that a file names by its number, and how often it was restarted
+# `systemctl stop goshelf` and `systemctl start goshelf`, for a program that a file names by its number, that number, and how often it
+# was restarted
+case "$1 ${3-}" in
+"show MainPID") cat "@/serve.pid" ;;
+"show NRestarts") cat "@/restarts" ;;
+esac
 case $1 in
-show) cat "@/restarts" ;;
 is-active) exit 3 ;; # (of goshelf.socket, which is not there)
 start)
     rm -f "@/serve.out"

@@ -242,7 +242,7 @@ def watch(suite, machine):
     machine.write("restarts", "2\n")
     says("it was restarted", "2 times")
     says("it was not restarted again", "")
-    machine.command("ps", "#!/bin/sh\necho 900000\n")
+    machine.command("ps", '#!/bin/sh\n[ "$*" != "-o rss= -p $(cat "@/serve.pid")" ] || echo 900000\n')
     says("memory", "900000 KiB of memory")
     os.remove(f"{machine.folder}/usr/local/bin/ps")
     machine.command("df", FULL.format(81))

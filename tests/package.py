@@ -2,7 +2,8 @@
 """The release of tools/release: its files, and its Debian package installed, upgraded, removed and purged under systemd.
 
 The package goes to a copy of this machine: the same files under an overlay, with processes, a network and a systemd of its own. The copy
-vanishes with the suite, and the machine stays as it is. The commands that set goshelf up are those of docs/OPERATING.md.
+vanishes with the suite, and the machine stays as it is. The commands that set goshelf up are those of docs/OPERATING.md, and those for a
+second shard of docs/DEPLOYMENTS.md.
 """
 
 import hashlib
@@ -16,6 +17,7 @@ import tempfile
 import time
 
 from harness import KEY, PROGRAM, ROOT, Suite, read, write
+from machine import block
 
 NEEDS = ["adduser", "cc", "curl", "dpkg-deb", "git", "ldd", "nsenter", "sqlite3", "systemd-analyze", "unshare"]
 RELEASE = os.path.join(ROOT, "tools", "release")
@@ -373,6 +375,23 @@ def stopped(suite, copy):
     copy.sh("rm -r /usr/local/bin/cp /usr/local/bin/goshelf-backup /var/backups/goshelf")
 
 
+def second(suite, copy):
+    """A second shard beside the first, by the commands of docs/DEPLOYMENTS.md."""
+    store = f"goshelf init --db second.db; goshelf team-add --db second.db --team delta; goshelf key-add --db second.db --shelf delta --key {KEY}"
+    status, _, errors = copy.sh(f"cd /usr/share/goshelf\n{store}\n{block('sh', 'goshelf-second.service', 'DEPLOYMENTS.md')}")
+    suite.holds("a second shard: the commands of the page end well", status == 0, errors)
+    suite.equal("the second unit is right", copy.sh("systemd-analyze verify goshelf-second.service"), (0, "", ""))
+    suite.equal("each answers for its own store", (ask(copy, f"{AT}/list"), ask(copy, f"{AT}/list", 8081)), ("v1.0.0 200", "not found 404"))
+    copy.sh("systemctl stop goshelf")
+    ping = "goshelf ping --control /run/goshelf-second/control"
+    suite.equal("the second does without the first", (copy.sh(ping)[0], ask(copy, "-/modules", 8081)), (0, "200"))
+    made = "for it in backup watch; do sed -E 's,(lib/|run/|backups/|start |stop |-q |-P \\w+ )goshelf,&-second,g' deploy/goshelf-$it > /root/$it; done"
+    told = copy.sh(f"cd /usr/share/goshelf; {made}; sh /root/backup; sh /root/backup stop; ls /var/backups")
+    suite.equal("a backup of its own", told, (0, "goshelf-second\n", ""))
+    suite.equal("both run", (copy.sh("systemctl start goshelf")[0], ask(copy, f"{AT}/list"), ask(copy, "-/modules", 8081)), (0, "v1.0.0 200", "200"))
+    copy.sh("systemctl disable --now goshelf-second; rm -r /etc/systemd/system/goshelf-second.service /etc/default/goshelf-second /var/lib/goshelf-second /var/backups/goshelf-second; systemctl daemon-reload")
+
+
 def confined(suite, copy):
     """The process as the kernel sees it."""
     at = "/proc/$(systemctl show -P MainPID goshelf)"
@@ -468,6 +487,7 @@ def on_a_copy(suite, tar, package, version, folder):
         confined(suite, copy)
         edited(suite, copy)
         by_socket(suite, copy)
+        second(suite, copy)
         restarted(suite, copy)
         upgraded(suite, copy, package, later(package, folder), version)
         removed(suite, copy, package)

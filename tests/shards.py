@@ -10,6 +10,7 @@ import ssl
 import subprocess
 import sys
 import tempfile
+import time
 from concurrent.futures import ThreadPoolExecutor
 
 from harness import PROGRAM, ROOT, Suite, done, new_store, run
@@ -265,6 +266,34 @@ def made(suite, company):
         shard.stop()
 
 
+def new_team(suite, company):
+    """A team is added at the second shard, to the file of the shards and to nginx's maps."""
+    second, machine = company.shards["second"], company.machine
+    second.stop()
+    add(second.file, "zeta")
+    maps = {it: machine.read(f"etc/nginx/goshelf/{it}.map") for it in ("keys", "users")}
+    for right, words in (("read", ["--read-only"]), ("publish", [])):
+        done("key-add", "--db", second.file, "--shelf", "zeta", "--key", key("zeta", right), *words)
+        maps["keys"] += f'"zeta {right}" {key("zeta", right)};\n'
+        maps["users"] += user_line("zeta", right)
+    second.start()
+    for name, text in maps.items():
+        machine.write(f"etc/nginx/goshelf/{name}.map", text)
+    with open(company.file, "a", encoding="utf-8") as file:
+        file.write("team zeta\n")
+    machine.does(f"{ROOT}/tools/shards conf {company.file} < deploy/nginx/goshelf.conf > /etc/nginx/conf.d/goshelf.conf\nnginx -t && nginx -s reload")
+    for _ in range(100):
+        if company.ask("GET", "zeta", "/-/modules")[0] == 200:
+            break
+        time.sleep(0.1)
+    suite.equal("a new team publishes", company.put("zeta", "example.com/zeta", "v1.0.0")[0], 201)
+    there = [it.ask("GET", "zeta", "/example.com/zeta/@v/list")[0] for it in company.shards.values()]
+    suite.equal("at its shard alone", there, [404, 200])
+    suite.equal("it sees common", company.ask("GET", "zeta", "/example.com/common/@v/list"), company.ask("GET", "delta", "/example.com/common/@v/list"))
+    suite.equal("and send goes on", company.tool("send")[1][-1], "0 sent, 0 wrong")
+    suite.equal("no answer to another differs", company.differing(), [])
+
+
 def ran_ahead(suite, company):
     """A team publishes a version that common has, before it came to its shard."""
     path = "example.com/ahead"
@@ -336,7 +365,7 @@ def main():
         os.chmod(folder, 0o755)
         company = Company(folder)
         try:
-            for part in (alike, shard_down, two_publishers, pseudo_versions, made, wrong_files, ran_ahead, other_keys, past_nginx):
+            for part in (alike, shard_down, two_publishers, pseudo_versions, made, new_team, wrong_files, ran_ahead, other_keys, past_nginx):
                 part(suite, company)
         finally:
             company.close()

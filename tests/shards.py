@@ -200,6 +200,8 @@ def shard_down(suite, company):
     status, lines, _ = company.tool("send")
     suite.holds("a shard that is down is named", status == 1 and lines[0].startswith("second at ") and lines[-1] == "0 sent, 1 wrong", lines)
     suite.equal("its teams get a 502, others all that they had", (company.ask("GET", "gamma", "/-/modules")[0], company.ask("GET", "alpha", "/-/modules")[0]), (502, 200))
+    health = [company.ask("GET", "gamma", "/healthz")[0], company.ask("GET", "alpha", "/healthz")[0], company.ask("GET", "", "/healthz", headers={"Authorization": ""})[0]]
+    suite.equal("health is that of the shard of the login, and without one of the first", health, [502, 200, 200])
     company.shards["second"].start()
     suite.equal("it is back, and gets what it missed", company.tool("send")[1][-1], "1 sent, 0 wrong")
     suite.equal("no answer differs once it is back", company.differing(), [])

@@ -337,7 +337,7 @@ def by_socket(suite, copy):
     restarts = "(for it in 1 2 3 4; do sleep 0.5; systemctl restart goshelf; done) &"
     asking = f"while kill -0 $! 2> /dev/null; do curl -s -m 60 -o /dev/null -w '%{{http_code}}' {url}; echo \" $?\"; done"
     told = copy.sh(f"set +e\n{restarts}\n{asking}")[1].splitlines()
-    suite.holds(f"{len(told)} requests around four restarts", told.count("200 0") > 20, told[:20])
+    suite.holds(f"{len(told)} requests around four restarts", told.count("200 0") > 8, told[:20])
     suite.holds("none is refused", not any(it.endswith(" 7") for it in told), sorted({*told}))
     suite.holds("at most those in hand are lost", len(told) - told.count("200 0") <= 4, sorted({*told}))
     stopped(suite, copy)

@@ -132,6 +132,18 @@ def reordered(name, other):
     conn.close()
 
 
+# ends in the middle of a transaction whose pages no longer fit into its cache
+LEAVES_A_JOURNAL = """
+import os, sqlite3, sys
+other = sqlite3.connect(sys.argv[1], isolation_level=None)
+for words in ("PRAGMA journal_mode = DELETE", "PRAGMA cache_size = 1", "BEGIN", "CREATE TABLE t (x)"):
+    other.execute(words)
+for _ in range(500):
+    other.execute("INSERT INTO t VALUES (?)", ("x" * 1000,))
+os._exit(0)
+"""
+
+
 def device(suite):
     new_store("d.db")
     serve = subprocess.Popen([PROGRAM, *"serve --db d.db --port 0".split()], stdout=subprocess.PIPE)
@@ -150,6 +162,13 @@ def device(suite):
     suite.wants("a second name by a hard link", "device", word("team-add --db d.db --team delta"))
     os.remove("second.db")
     suite.wants("the link was removed", "", word("team-add --db d.db --team delta"))
+    subprocess.run([sys.executable, "-c", LEAVES_A_JOURNAL, "d.db"], check=True)
+    suite.holds("a program with SQLite left a journal", os.path.getsize("d.db-journal") > 0, "it is empty")
+    suite.wants("a rollback journal beside the file", "device", word("team-add --db d.db --team epsilon"))
+    left = sqlite3.connect("d.db")
+    suite.equal("sqlite3 plays it back", left.execute("SELECT count(*) FROM shelf").fetchone(), (5,))
+    left.close()
+    suite.wants("the journal was played back", "", word("team-add --db d.db --team epsilon"))
     os.mkdir("folder")
     suite.wants("a folder in the place of the file", "device", word("init --db folder"))
     suite.wants("no such folder", "device", word("init --db none/d.db"))

@@ -142,7 +142,7 @@ fn raw_len(bytes: &[u8]) -> Option<usize>
     None
 }
 
-/// Returns the number of bytes by which a name goes on, or `None` if a `/*` is in it.
+/// Returns how many bytes at the front of `bytes` continue a name, or `None` if a `/*` is among them.
 #[tactic(auto, using(crate::proofs::Cuts::name_ends))]
 fn name_len(bytes: &[u8]) -> Option<usize>
     ensures value { result ≡ name_len bytes.now }

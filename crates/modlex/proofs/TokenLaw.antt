@@ -1,6 +1,7 @@
 -- A line has the tokens that the definition computes, and no others.
 use Rattle.std.proofs.Common.{◌≡◌, ◌≢◌, ℕ, suc, ◌+◌, ◌<◌, Bool, true, false, not, ◌==◌, cond, List, [], ◌∷◌, ◌++◌, length, take, drop, arith, sym}
 use Rattle.std.proofs.Common.{ap, ◌∙◌, refl, rules, tests, add-one, append_assoc, Option, Some, None, Ok, ⊎_elim, codes, length-append, MatchBool}
+use Rattle.std.proofs.lemmas.Bool.{ne_eqb}
 use Rattle.std.proofs.lemmas.List.{take_at, drop_at}
 use Rattle.std.specs.Option.{option_map}
 use Rattle.std.specs.Str.{bytes_eq}
@@ -43,9 +44,6 @@ tokens_behind-end line at (b ∷ bs) end =
     ⊎_elim (λ e. cc) (λ comment. tokens_behind-comment line at b bs (slash_no_blank 47 b bs comment) comment) end
 
 -- how far a string goes
-other_byte : (b c : ℕ) → (b ≡ c → ⊥) → (b == c) ≡ false
-other_byte b c h = search (rules, tests)
-
 string_96 : is_string_byte 96 ≡ true
 unfolding is_string_byte
 string_96 = refl
@@ -60,7 +58,7 @@ one_more o n h = ap (option_map (λ k. k + 1)) h ∙ ap (λ k. Some k) (add-one 
 pub raw_len-content : (content rest : List ℕ) → IsRaw content → raw_len (content ++ 96 ∷ rest) ≡ Some (suc (length content))
 raw_len-content [] rest raw = rw string_96 refl
 raw_len-content (b ∷ content) rest raw =
-    let other = other_byte b 96 raw.0.1 in
+    let other = ne_eqb b 96 raw.0.1 in
     rw (raw.0.0, other) (one_more _ _ (raw_len-content content rest raw.1))
 
 escape_by : (b c : ℕ) (bs rest : List ℕ) (t : Bool) → (IsQuoted bs → quoted_len false (bs ++ 34 ∷ rest) ≡ Some (suc (length bs))) → (IsQuoted (c ∷ bs) → quoted_len false (c ∷ (bs ++ 34 ∷ rest))
@@ -71,11 +69,11 @@ escape_by b c bs rest false short long h = long h
 pub quoted_len-content : (content rest : List ℕ) → IsQuoted content → quoted_len false (content ++ 34 ∷ rest) ≡ Some (suc (length content))
 quoted_len-content [] rest quoted = rw string_34 refl
 quoted_len-content (b ∷ []) rest quoted =
-    let mark = other_byte b 34 quoted.1 in
-    let slash = other_byte b 92 quoted.2 in
+    let mark = ne_eqb b 34 quoted.1 in
+    let slash = ne_eqb b 92 quoted.2 in
     rw (quoted.0, mark, slash) (one_more _ 1 (rw string_34 refl))
 quoted_len-content (b ∷ c ∷ bs) rest quoted =
-    let mark = other_byte b 34 quoted.1 in
+    let mark = ne_eqb b 34 quoted.1 in
     rw (quoted.0, mark) (one_more _ _ (escape_by b c bs rest (b == 92) (quoted_len-content bs rest) (quoted_len-content (c ∷ bs) rest) quoted.2))
 
 name_len-comment : (c : ℕ) (cs : List ℕ) → is_slash_and 47 c cs ≡ true → name_len (c ∷ cs) ≡ Some 0
@@ -94,7 +92,7 @@ name_len-run (b ∷ text) rest run =
 
 -- a name has no other byte
 name_other : (b c : ℕ) → is_name_byte c ≡ false → is_name_byte b ≡ true → (b == c) ≡ false
-name_other b c other name = other_byte b c (λ e. let same = ap is_name_byte e in cc)
+name_other b c other name = ne_eqb b c (λ e. let same = ap is_name_byte e in cc)
 
 no_name_40 : is_name_byte 40 ≡ false
 unfolding is_name_byte

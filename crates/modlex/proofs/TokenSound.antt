@@ -1,6 +1,7 @@
 -- What the definition computes are tokens of the line.
 use Rattle.std.proofs.Common.{◌≡◌, ◌≢◌, ℕ, zero, suc, ◌+◌, ◌<◌, ◌≤◌, Bool, true, false, ◌||◌, not, ◌==◌, cond, List, [], ◌∷◌, ◌++◌, length, take, drop, arith, subst, sym}
 use Rattle.std.proofs.Common.{ap, ◌∙◌, refl, rules, tests, append_assoc, Option, Some, None, Result, Ok, Err, ◌⊎◌, inl, inr, ⊎_elim, codes, MatchBool, length-append}
+use Rattle.std.proofs.lemmas.Bool.{not-false}
 use Rattle.std.proofs.lemmas.Option.{same_Some}
 use Rattle.modlex.specs.declared.lexer.Kind.{Kind}
 use Rattle.modlex.specs.declared.lexer.Kind.TheVariants.{Name, Quoted, Raw, Arrow, Comma, ParenLeft, ParenRight, BracketLeft, BracketRight}
@@ -24,10 +25,6 @@ chosen false x y z h = inr (refl, h)
 pub mapped : {A B : Type 0} (f : A → B) (o : Option A) (y : B) → option_map f o ≡ Some y → (x : A) × (o ≡ Some x) × (f x ≡ y)
 mapped f None y h = cc
 mapped f (Some x) y h = (x, refl, cc)
-
-not_false : (b : Bool) → not b ≡ false → b ≡ true
-not_false true h = refl
-not_false false h = cc
 
 same_byte : (b c : ℕ) → (b == c) ≡ true → b ≡ c
 same_byte b c h = search (rules, tests)
@@ -57,7 +54,7 @@ raw_closes (b ∷ bs) n h =
     record {
       content = b ∷ more.content;
       rest = more.rest;
-      holds = ((not_false _ good.0, differs b 96 goes.0), more.holds);
+      holds = ((not-false _ good.0, differs b 96 goes.0), more.holds);
       is = ap (λ l. b ∷ l) more.is;
       len = omega (arith, m.2, more.len);
     })
@@ -88,7 +85,7 @@ name_runs (b ∷ bs) n h =
     record {
       text = b ∷ more.text;
       rest = more.rest;
-      run = (not_false _ name.0, subst (λ l. is_slash_and 47 b l ≡ false) more.is no_comment.0, subst (λ l. is_slash_and 42 b l ≡ false) more.is goes.0, more.run);
+      run = (not-false _ name.0, subst (λ l. is_slash_and 47 b l ≡ false) more.is no_comment.0, subst (λ l. is_slash_and 42 b l ≡ false) more.is goes.0, more.run);
       is = ap (λ l. b ∷ l) more.is;
       len = omega (arith, m.2, more.len);
     })
@@ -118,7 +115,7 @@ quoted_by b c bs n k true slash good mark short long h n_is =
     record {
       content = b ∷ c ∷ more.content;
       rest = more.rest;
-      holds = (good, mark, subst (λ u. MatchBool u ((is_string_byte c ≡ true) × IsQuoted more.content) (IsQuoted (c ∷ more.content))) (sym slash) (not_false _ string.0, more.holds));
+      holds = (good, mark, subst (λ u. MatchBool u ((is_string_byte c ≡ true) × IsQuoted more.content) (IsQuoted (c ∷ more.content))) (sym slash) (not-false _ string.0, more.holds));
       is = ap (λ l. b ∷ c ∷ l) more.is;
       len = omega (arith, m.2, more.len, n_is);
     })
@@ -151,7 +148,7 @@ quoted_closes (b ∷ c ∷ bs) n h =
     (λ close. record { content = []; rest = c ∷ bs; holds = tt; is = ap (λ x. x ∷ c ∷ bs) (same_byte b 34 close.0); len = let e : 1 ≡ n = cc in sym e })
     (λ goes.
     let m = mapped (λ k. k + 1) (quoted_len (b == 92) (c ∷ bs)) n goes.1 in
-    quoted_by b c bs n m.0 (b == 92) refl (not_false _ good.0) (differs b 34 goes.0) (quoted_closes bs) (quoted_closes (c ∷ bs) m.0) m.1 m.2)
+    quoted_by b c bs n m.0 (b == 92) refl (not-false _ good.0) (differs b 34 goes.0) (quoted_closes bs) (quoted_closes (c ∷ bs) m.0) m.1 m.2)
     (chosen (b == 34) _ _ _ good.1))
     (chosen (not (is_string_byte b)) _ _ _ h)
 
@@ -225,7 +222,7 @@ word_cuts b bs kind n no_comment h =
     let more = name_runs bs m.0 m.1 in
     let cut : take m.0 bs ≡ more.text = ap (take m.0) more.is ∙ take_at more.text more.rest m.0 (sym more.len) in
     let run : IsRun (b ∷ more.text) more.rest =
-    (not_false _ tests.0, subst (λ l. is_slash_and 47 b l ≡ false) more.is no_comment, subst (λ l. is_slash_and 42 b l ≡ false) more.is tests.1, more.run) in
+    (not-false _ tests.0, subst (λ l. is_slash_and 47 b l ≡ false) more.is no_comment, subst (λ l. is_slash_and 42 b l ≡ false) more.is tests.1, more.run) in
     record {
       text = b ∷ more.text;
       rest = more.rest;

@@ -1,5 +1,6 @@
 -- The computed value of a token is the one value that it has.
-use Rattle.std.proofs.Common.{◌≡◌, ◌↔◌, ℕ, ◌+◌, Bool, true, false, ◌==◌, cond, List, [], ◌∷◌, ◌++◌, length, refl, ap, sym, ◌∙◌, subst, MatchBool, rules, tests}
+use Rattle.std.proofs.Common.{◌≡◌, ◌↔◌, ℕ, ◌+◌, Bool, true, false, ◌==◌, cond, List, [], ◌∷◌, ◌++◌, length, refl, ap, sym, ◌∙◌, subst, MatchBool}
+use Rattle.std.proofs.lemmas.Bool.{ne_eqb}
 use Rattle.std.specs.List.{AllByRecursion}
 use Rattle.modlex.specs.declared.lexer.Kind.{Kind}
 use Rattle.modlex.specs.declared.lexer.Kind.TheVariants.{Name, Quoted, Raw, Arrow, Comma, ParenLeft, ParenRight, BracketLeft, BracketRight}
@@ -9,9 +10,6 @@ use Rattle.modlex.specs.Tokens.{IsQuoted, IsLexeme, AreTokens}
 use Rattle.modlex.specs.Words.{without_last, inside, plain_text, value_of_text, value_of}
 use Rattle.modlex.specs.Values.{Spells, HasValue, ValueIsExact}
 use Rattle.modlex.proofs.WordLemmas.{without_first-there, without_last-there}
-
-other_byte : (b c : ℕ) → (b ≡ c → ⊥) → (b == c) ≡ false
-other_byte b c h = search (rules, tests)
 
 -- one byte more, escaped or not
 abbrev Says : List ℕ → Type 0
@@ -24,7 +22,7 @@ says_by b c bs false short long q = (plain_text (c ∷ bs), long q, refl)
 
 plain_spells : (content : List ℕ) → Says content
 plain_spells [] = λ q. refl
-plain_spells (b ∷ []) = λ q. (let plain = other_byte b 92 q.2 in rw plain refl)
+plain_spells (b ∷ []) = λ q. (let plain = ne_eqb b 92 q.2 in rw plain refl)
 plain_spells (b ∷ c ∷ bs) = λ q. says_by b c bs (b == 92) (plain_spells bs) (plain_spells (c ∷ bs)) q.2
 
 same_by : (b c : ℕ) (bs value : List ℕ) (t : Bool) → ((v : List ℕ) → IsQuoted bs → Spells bs v → v ≡ plain_text bs)
@@ -35,7 +33,7 @@ same_by b c bs value false short long q h = h.2 ∙ ap (λ l. b ∷ l) (long h.0
 
 spells_same : (content value : List ℕ) → IsQuoted content → Spells content value → value ≡ plain_text content
 spells_same [] value q h = h
-spells_same (b ∷ []) value q h = let plain = other_byte b 92 q.2 in rw plain h
+spells_same (b ∷ []) value q h = let plain = ne_eqb b 92 q.2 in rw plain h
 spells_same (b ∷ c ∷ bs) value q h = same_by b c bs value (b == 92) (λ v. spells_same bs v) (λ v. spells_same (c ∷ bs) v) q.2 h
 
 -- what stands between two marks

@@ -1,16 +1,14 @@
 -- What stands between two marks, and without its backslashes.
-use Rattle.std.proofs.Common.{◌≡◌, ◌≢◌, ℕ, suc, ◌+◌, ◌-◌, ◌<◌, true, false, ◌==◌, eq-eqb, List, [], ◌∷◌, ◌++◌, length, take, drop, get_or}
-use Rattle.std.proofs.Common.{arith, refl, ap, sym, ◌∙◌, rules, tests, Option, Some, None, MatchOption, IfSome, lit<, append_assoc, append-nil}
+use Rattle.std.proofs.Common.{◌≡◌, ◌≢◌, ℕ, suc, ◌+◌, ◌-◌, ◌<◌, true, ◌==◌, eq-eqb, List, [], ◌∷◌, ◌++◌, length, take, drop, get_or}
+use Rattle.std.proofs.Common.{arith, refl, ap, sym, ◌∙◌, Option, Some, None, MatchOption, IfSome, lit<, append_assoc, append-nil}
 use denote.Ref.{Bor}
 use lib.Utf8.{encode}
+use Rattle.std.proofs.lemmas.Bool.{ne_eqb}
 use Rattle.std.proofs.lemmas.Str.{inside_one, length-encode, len_utf8_bounds, len_utf8_ascii}
 use Rattle.std.specs.Option.{unwrap_or}
 use Rattle.std.specs.Str.Pattern.{FindsCharPrefix, FindsCharSuffix}
 use Rattle.std.proofs.lemmas.Str.Pattern.{strip_prefix_char, strip_suffix_char, IsSplitOnceResult, split_parts}
 use Rattle.modlex.specs.Words.{without_first, without_last, inside, plain_text, HasBackslash}
-
-other_byte : (b c : ℕ) → (b ≡ c → ⊥) → (b == c) ≡ false
-other_byte b c h = search (rules, tests)
 
 same_byte : (b : ℕ) → (b == b) ≡ true
 same_byte b = eq-eqb b b refl
@@ -20,7 +18,7 @@ without_first-there mark rest = rw (same_byte mark) refl
 
 pub without_first-absent : (mark : ℕ) (text : List ℕ) → ((rest : List ℕ) → text ≢ mark ∷ rest) → without_first mark text ≡ text
 without_first-absent mark [] absent = refl
-without_first-absent mark (b ∷ bs) absent = rw (other_byte b mark (λ e. absent bs (ap (λ x. x ∷ bs) e))) refl
+without_first-absent mark (b ∷ bs) absent = rw (ne_eqb b mark (λ e. absent bs (ap (λ x. x ∷ bs) e))) refl
 
 pub without_last-there : (mark : ℕ) (front : List ℕ) → without_last mark (front ++ mark ∷ []) ≡ front
 without_last-there mark [] = rw (same_byte mark) refl
@@ -29,7 +27,7 @@ without_last-there mark (b ∷ c ∷ bs) = ap (λ l. b ∷ l) (without_last-ther
 
 pub without_last-absent : (mark : ℕ) (text : List ℕ) → ((front : List ℕ) → text ≢ front ++ mark ∷ []) → without_last mark text ≡ text
 without_last-absent mark [] absent = refl
-without_last-absent mark (b ∷ []) absent = rw (other_byte b mark (λ e. absent [] (ap (λ x. x ∷ []) e))) refl
+without_last-absent mark (b ∷ []) absent = rw (ne_eqb b mark (λ e. absent [] (ap (λ x. x ∷ []) e))) refl
 without_last-absent mark (b ∷ c ∷ bs) absent =
     ap (λ l. b ∷ l) (without_last-absent mark (c ∷ bs) (λ front e. absent (b ∷ front) (ap (λ l. b ∷ l) e)))
 
@@ -50,8 +48,8 @@ pub record IsPlain (xs : List ℕ) : Type 0 where
   pub none : (i : ℕ) → i < length xs → get_or xs i 0 ≡ 92 → ⊥
 
 plain_text-other : (b : ℕ) (bs : List ℕ) → (b ≡ 92 → ⊥) → plain_text (b ∷ bs) ≡ b ∷ plain_text bs
-plain_text-other b [] other = rw (other_byte b 92 other) refl
-plain_text-other b (c ∷ bs) other = rw (other_byte b 92 other) refl
+plain_text-other b [] other = rw (ne_eqb b 92 other) refl
+plain_text-other b (c ∷ bs) other = rw (ne_eqb b 92 other) refl
 
 pub plain_text-plain : (xs rest : List ℕ) → IsPlain xs → plain_text (xs ++ rest) ≡ xs ++ plain_text rest
 plain_text-plain [] rest plain = refl

@@ -1,6 +1,6 @@
 -- The checks find the first rule that a text breaks.
 use Rattle.std.proofs.Common.{◌≡◌, ◌↔◌, ◌⊎◌, ◌&&◌, ◌<◌, ◌≤◌, ◌++◌, List, ℕ, [], ◌∷◌, length, Ok, Err, Bool, true, false, not, refl, sym, ap, ◌∙◌, inl, inr, arith, subst}
-use Rattle.std.proofs.lemmas.Bool.{le-ltb, leb-false, lt-leb, lt-ltb, ltb-false}
+use Rattle.std.proofs.lemmas.Bool.{le-ltb, leb-false, lt-leb, lt-ltb, ltb-false, not-false, not-true}
 use Rattle.std.proofs.lemmas.List.Elements.{All-cons, All-head, All-nil, All-tail}
 use Rattle.std.specs.List.{All}
 use Rattle.modpath.specs.declared.major.Suffix.{Suffix}
@@ -11,8 +11,9 @@ use Rattle.modpath.specs.ModulePath.{HasPathElements, HasPathLength, HasSuffix, 
 use Rattle.modpath.specs.Path.{Check, ◌>>◌, check_each, check_of, element_check, elements, elements_check, fault_unless, first_element, has_dot_end}
 use Rattle.modpath.specs.Path.{is_element_text, is_first_element, is_reserved, has_tilde_number, length_check, passed, stem, suffix_check}
 use Rattle.modpath.specs.PathLaws.{FaultsAreExact, LooseFaultsAreExact}
+use Rattle.modpath.proofs.CheckEach.{both-passed}
 use Rattle.modpath.proofs.ElementLaw.{dot_ends_are_exact, element_bytes_are_exact, first_elements_are_exact}
-use Rattle.modpath.proofs.PathLaw.{and_then, asked, both, element_passes, elements_pass, fails, holds, length_passes, no_test, suffix_passes, tested}
+use Rattle.modpath.proofs.PathLaw.{and_then, asked, element_passes, elements_pass, fails, holds, length_passes, no_test, suffix_passes, tested}
 use Rattle.modpath.proofs.ReservedLaw.{reserved_names_are_exact}
 use Rattle.modpath.proofs.TildeLaw.{tilde_numbers_are_exact}
 
@@ -41,14 +42,6 @@ faulty b f e = rw e refl
 refutes : (b : Bool) (P : Type 0) → (b ≡ true) ↔ P → b ≡ false → ¬ P
 refutes b P e h p = cc (e.1 p, h)
 
-not-false : (b : Bool) → not b ≡ false → b ≡ true
-not-false true h = refl
-not-false false h = cc h
-
-not-true : (b : Bool) → not b ≡ true → b ≡ false
-not-true true h = cc h
-not-true false h = refl
-
 fails-not : (b : Bool) → b ≡ true → not b ≡ false
 fails-not b h = rw h refl
 
@@ -68,7 +61,7 @@ names_check e = dots_check e >> fault_unless (not (is_reserved (stem e))) fault.
 element-to : (e : List ℕ) (f : PathFault) → element_check e ≡ Err f → BreaksElement e f
 element-to e f h = elim (fault-cases (names_check e) (fault_unless (not (has_tilde_number (stem e))) fault.Tilde) f h) [
   | inr tilde ↦
-      let a = both _ _ tilde.0 in let b = both _ _ a.0 in let u = unmet _ fault.Tilde f tilde.1 in
+      let a = both-passed _ _ tilde.0 in let b = both-passed _ _ a.0 in let u = unmet _ fault.Tilde f tilde.1 in
       subst (BreaksElement e) u.1 (
         (element_bytes_are_exact e).0 (tested _ _ b.0),
         refutes _ _ (dot_ends_are_exact e) (not-true _ (tested _ _ b.1)),
@@ -77,7 +70,7 @@ element-to e f h = elim (fault-cases (names_check e) (fault_unless (not (has_til
       )
   | inl h₁ ↦ elim (fault-cases (dots_check e) (fault_unless (not (is_reserved (stem e))) fault.Reserved) f h₁) [
     | inr reserved ↦
-        let b = both _ _ reserved.0 in let u = unmet _ fault.Reserved f reserved.1 in
+        let b = both-passed _ _ reserved.0 in let u = unmet _ fault.Reserved f reserved.1 in
         subst (BreaksElement e) u.1 (
           (element_bytes_are_exact e).0 (tested _ _ b.0),
           refutes _ _ (dot_ends_are_exact e) (not-true _ (tested _ _ b.1)),
@@ -204,12 +197,12 @@ found : (strict : Bool) (text : List ℕ) (f : PathFault) → check_of strict te
 unfolding check_of
 found strict text f h = elim (fault-cases (length_check text >> elements_check (elements text) >> first_check strict text) (suffix_check (elements text)) f h) [
   | inr major ↦
-      let a = both _ _ major.0 in let b = both _ _ a.0 in let u = unmet _ fault.Suffix f major.1 in
+      let a = both-passed _ _ major.0 in let b = both-passed _ _ a.0 in let u = unmet _ fault.Suffix f major.1 in
       at_suffix ((length_passes text).0 b.0, (elements_pass (elements text)).0 b.1) (not-true _ (tested _ _ a.1))
       (refutes _ _ (suffix_passes text) u.0) (sym u.1)
   | inl h₁ ↦ elim (fault-cases (length_check text >> elements_check (elements text)) (first_check strict text) f h₁) [
     | inr host ↦
-        let b = both _ _ host.0 in let u = unmet _ fault.First f host.1 in
+        let b = both-passed _ _ host.0 in let u = unmet _ fault.First f host.1 in
         at_first ((length_passes text).0 b.0, (elements_pass (elements text)).0 b.1) (not-false _ u.0) (sym u.1)
     | inl h₂ ↦ elim (fault-cases (length_check text) (elements_check (elements text)) f h₂) [
       | inr es ↦ at_element ((length_passes text).0 es.0) es.1

@@ -75,7 +75,10 @@ fn is_reserved(name: &[u8]) -> bool
 fn is_device(name: &[u8]) -> bool
     ensures { result ≡ Spec.is_device name.now }
 {
-    is_word(name, b"CON") || is_word(name, b"PRN") || is_word(name, b"AUX") || is_word(name, b"NUL")
+    same_ignoring_case(name, b"CON")
+        || same_ignoring_case(name, b"PRN")
+        || same_ignoring_case(name, b"AUX")
+        || same_ignoring_case(name, b"NUL")
 }
 
 fn is_port(name: &[u8]) -> bool
@@ -86,10 +89,12 @@ fn is_port(name: &[u8]) -> bool
     }
     let kind = &name[..name.len() - 1];
     let number = name[name.len() - 1];
-    (is_word(kind, b"COM") || is_word(kind, b"LPT")) && b'1' <= number && number <= b'9'
+    (same_ignoring_case(kind, b"COM") || same_ignoring_case(kind, b"LPT"))
+        && b'1' <= number
+        && number <= b'9'
 }
 
-fn is_word(name: &[u8], word: &[u8]) -> bool
+fn same_ignoring_case(name: &[u8], word: &[u8]) -> bool
     ensures { result ≡ Spec.same_ignoring_case name.now word.now }
 {
     name.eq_ignore_ascii_case(word)

@@ -19,14 +19,14 @@ use std::marker::Model;
 use std::rc::Rc;
 
 /// A version without its text. Contracts see its numbers, its pre-release identifiers and its mark.
-/// A go.mod file can name nearly 150,000 versions that are compared and never written, so it keeps bounds: most take
-/// no memory of their own, and copies of another share what it takes.
+/// The ends of intervals are of this type, because they are compared and never written. Most take no
+/// memory of their own, and copies share the memory of the original.
 #[derive(Drop)]
 pub struct Bound {
     major: u64,
     minor: u64,
     patch: u64,
-    /// The first 8 bytes of the end of the key of order, which most comparisons need no more than.
+    /// The first 8 bytes of the end of the key of order. Most comparisons of pre-releases read nothing else.
     head: u64,
     /// `None` if there is no mark and the head has the whole end of the key, as for a release or `v0.0.0-aBc`.
     tail: Option<Rc<Tail>>,
@@ -70,7 +70,7 @@ impl Bound {
         }
     }
 
-    // Returns the version of the parts that `semver` read. It fails only if memory runs out.
+    /// Returns the version of the parts that `semver` read. It fails only if memory runs out.
     fn of(alloc: Global, parts: semver::Version) -> Result<Bound, AllocError>
         requires valid { IsVersion (version_of_parts (parts_of parts)) }
         requires short { length (pre_text parts.pre) ≤ 128 }
@@ -151,14 +151,14 @@ impl Bound {
         self.patch
     }
 
-    // Whether there are pre-release identifiers.
+    /// Whether there are pre-release identifiers.
     pub(crate) fn is_pre_release(&self) -> bool
         ensures { result ≡ has_identifiers self.now.identifiers }
     {
         self.head != head_of(b"\x03")
     }
 
-    // Compares the pre-releases.
+    /// Compares the pre-releases.
     pub(crate) fn compare_pre_releases(&self, other: &Bound) -> Ordering
         ensures { result ≡ pre_release_cmp self.now.identifiers other.now.identifiers }
     {
@@ -169,8 +169,8 @@ impl Bound {
     }
 }
 
-// Compares the keys of two bounds whose heads are equal. No key begins another, so the keys are equal if a head has one
-// of them whole.
+/// Compares the keys of two bounds whose heads are equal. No key begins another, so the keys are equal if a head has one
+/// of them whole.
 fn compare_tails(left: &Option<Rc<Tail>>, right: &Option<Rc<Tail>>) -> Ordering
     ensures { result ≡ tails_cmp left.now right.now }
 {
@@ -180,7 +180,7 @@ fn compare_tails(left: &Option<Rc<Tail>>, right: &Option<Rc<Tail>>) -> Ordering
     }
 }
 
-// Returns the tail of a version with this key and mark, or `None` if a head says as much. It fails only if memory runs out.
+/// Returns the tail of a version with this key and mark, or `None` if a head says as much. It fails only if memory runs out.
 fn tail_of(alloc: Global, key: Vec<u8>, marked: bool) -> Result<Option<Rc<Tail>>, AllocError>
     ensures key { IfOk result (λ tail. HasKey tail key.items) }
     ensures mark { IfOk result (λ tail. mark_in tail ≡ marked) }
@@ -192,7 +192,7 @@ fn tail_of(alloc: Global, key: Vec<u8>, marked: bool) -> Result<Option<Rc<Tail>>
     }
 }
 
-// Returns `Memory` if memory ran out, and otherwise `Form`.
+/// Returns `Memory` if memory ran out, and otherwise `Form`.
 fn fault_of(error: semver::Error) -> VersionFault
     ensures { ((result ≡ fault.Memory) × (error ≡ memory_error))
         ⊎ ((result ≡ fault.Form) × (error ≡ memory_error → ⊥)) }
@@ -204,7 +204,7 @@ fn fault_of(error: semver::Error) -> VersionFault
     }
 }
 
-// Whether a version may have the build metadata `build`: nothing, or the mark.
+/// Whether a version may have the build metadata `build`: nothing, or the mark.
 fn is_mark(build: &str) -> bool
     ensures { result ≡ is_mark build.now }
 {

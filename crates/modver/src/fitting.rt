@@ -23,7 +23,7 @@ pub fn fits_loose(path: &LoosePath, version: &Version) -> bool
     fits_suffix(loose_suffix(path), version.bound())
 }
 
-// Whether a version is a pre-release of v0.0.0, as the old pseudo-versions of paths with `.v1` are.
+/// Whether a version is a pre-release of v0.0.0, as the old pseudo-versions of paths with `.v1` are.
 fn is_zero_pre_release(version: &Bound) -> bool
     ensures { result ≡ fit.is_zero_pre_release version.now }
 {

@@ -32,7 +32,7 @@ pub fn compare_bounds(left: &Bound, right: &Bound) -> Ordering
     }
 }
 
-// 3 for a release, 2 for a pre-release, 1 for a pseudo-version.
+/// Returns 3 for a release, 2 for a pre-release and 1 for a pseudo-version.
 fn class_rank(class: &Class) -> u8
     ensures { result ≡ rank_of class.now }
 {
@@ -43,7 +43,7 @@ fn class_rank(class: &Class) -> u8
     }
 }
 
-// Compares the times of two pseudo-versions. Versions are equal if either is none.
+/// Compares the times of two pseudo-versions. Returns `Equal` if either class is not a pseudo-version.
 fn compare_times(left: &Class, right: &Class) -> Ordering
     ensures { result ≡ time_cmp (time_of left.now) (time_of right.now) }
 {

@@ -8,7 +8,7 @@ ghost use Rattle.modver.specs.Time.{time_of_stamp};
 use crate::time::{TimeText, fits_form};
 use crate::version::{Class, Version};
 
-// Returns the texts before and after the last dot, or `None` if there is no dot.
+/// Returns the texts before and after the last dot, or `None` if there is no dot.
 fn cut_last(text: &[u8]) -> Option<(&[u8], &[u8])>
     ensures { MatchOption result
         (between_dots text.now ≡ text.now ∷ [])
@@ -22,7 +22,7 @@ fn cut_last(text: &[u8]) -> Option<(&[u8], &[u8])>
     None
 }
 
-// Returns the time of a stamped identifier, or `None` for any other identifier.
+/// Returns the time of a stamped identifier, or `None` for any other identifier.
 fn time_of_identifier(identifier: &[u8]) -> Option<TimeText>
     ensures { result ≡ option_map time_of_stamp (stamp_of_identifier identifier.now) }
 {
@@ -32,8 +32,8 @@ fn time_of_identifier(identifier: &[u8]) -> Option<TimeText>
     TimeText::of_stamp(&identifier[..14])
 }
 
-// Whether `front`, the text before the last dot of a pre-release, may precede the stamped identifier
-// of a pseudo-version.
+/// Whether `front`, the text before the last dot of a pre-release, may precede the stamped identifier
+/// of a pseudo-version.
 fn is_base(front: &[u8], minor: u64, patch: u64) -> bool
     ensures { result ≡ may_precede minor patch (reverse (between_dots front.now)) }
 {
@@ -43,7 +43,7 @@ fn is_base(front: &[u8], minor: u64, patch: u64) -> bool
     }
 }
 
-// Returns the time of a pseudo-version's stamp, by its pre-release, minor and patch, or `None` for any other version.
+/// Returns the time of a pseudo-version's stamp, by its pre-release, minor and patch, or `None` for any other version.
 fn pseudo_time(pre_release: &[u8], minor: u64, patch: u64) -> Option<TimeText>
     ensures { result ≡ option_map time_of_stamp
         (stamp_from minor patch (reverse (identifiers_of pre_release.now))) }

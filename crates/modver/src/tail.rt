@@ -15,7 +15,7 @@ pub(crate) struct Tail {
     pub(crate) marked: bool,
 }
 
-// Returns the first 8 bytes of a key as a number, whose highest byte is the first. Bytes that the key lacks are 0.
+/// Returns the first 8 bytes of a key as a number, whose highest byte is the first. Bytes that the key lacks are 0.
 pub(crate) fn head_of(key: &[u8]) -> u64
     ensures value { result ≡ head_of key.now }
     ensures bytes { AreBytes (padded 8 key.now) }
@@ -32,7 +32,7 @@ pub(crate) fn head_of(key: &[u8]) -> u64
     ])
 }
 
-// Returns a byte of a key, or 0 if the key is shorter.
+/// Returns a byte of a key, or 0 if the key is shorter.
 fn byte_at(key: &[u8], index: usize) -> u8
     ensures value { result ≡ get_or key.now index 0 }
     ensures bound { get_or key.now index 0 < 256 }
@@ -43,7 +43,7 @@ fn byte_at(key: &[u8], index: usize) -> u8
     }
 }
 
-// Appends the identifiers of a pre-release and their end to a key, or the `03` of a release if there are none.
+/// Appends the identifiers of a pre-release and their end to a key, or the `03` of a release if there are none.
 pub(crate) fn push_pre_release(key: &mut Vec<u8>, pre_release: &[u8]) -> Result<(), AllocError>
     requires { length pre_release.now ≤ 128 }
     ensures { OnOk result (key.new.items ≡ key.old.items ++ pre_release_key (identifiers_of pre_release.now)) }
@@ -59,8 +59,8 @@ pub(crate) fn push_pre_release(key: &mut Vec<u8>, pre_release: &[u8]) -> Result<
     Ok(())
 }
 
-// Appends an identifier to a key.
-// The number of its digits fits a byte, because a version has at most 128 bytes.
+/// Appends an identifier to a key.
+/// The number of its digits fits a byte, because a version has at most 128 bytes.
 fn push_identifier(key: &mut Vec<u8>, identifier: &[u8]) -> Result<(), AllocError>
     requires { length identifier.now < 256 }
     ensures { OnOk result (key.new.items ≡ key.old.items ++ identifier_key identifier.now) }
@@ -78,7 +78,7 @@ fn push_identifier(key: &mut Vec<u8>, identifier: &[u8]) -> Result<(), AllocErro
     }
 }
 
-// Whether an identifier has only digits.
+/// Whether an identifier has only digits.
 fn is_numeric(identifier: &[u8]) -> bool
     ensures { result ≡ is_numeric identifier.now }
 {

@@ -1,6 +1,6 @@
 //! Pseudo-versions, and the class of a version. (Go Modules Reference, "Pseudo-versions".)
 
-ghost use Rattle.std.specs.Prelude.{◌≡◌, ◌∷◌, [], ◌++◌, MatchOption, option_map, reverse};
+ghost use Rattle.std.specs.Prelude.{◌≡◌, ◌∷◌, [], ◌++◌, MatchOption, option_map, reverse, ℕ};
 ghost use Rattle.modver.specs.Class.{class_of, may_precede, stamp_from, stamp_of_identifier};
 ghost use Rattle.modver.specs.Parts.{between_dots, identifiers_of};
 ghost use Rattle.modver.specs.Time.{time_of_stamp};
@@ -34,8 +34,8 @@ fn time_of_identifier(identifier: &[u8]) -> Option<TimeText>
 
 /// Whether `front`, the text before the last dot of a pre-release, may precede the stamped identifier
 /// of a pseudo-version.
-fn is_base(front: &[u8], minor: u64, patch: u64) -> bool
-    ensures { result ≡ may_precede minor patch (reverse (between_dots front.now)) }
+fn is_base(front: &[u8], patch: u64) -> bool
+    ensures { (minor : ℕ) → result ≡ may_precede minor patch (reverse (between_dots front.now)) }
 {
     match cut_last(front) {
         None => front == b"0".as_slice() && 1 <= patch,
@@ -57,7 +57,7 @@ fn pseudo_time(pre_release: &[u8], minor: u64, patch: u64) -> Option<TimeText>
             }
         }
         Some((front, last)) => {
-            if is_base(front, minor, patch) {
+            if is_base(front, patch) {
                 time_of_identifier(last)
             } else {
                 None

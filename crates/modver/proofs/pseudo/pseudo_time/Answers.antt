@@ -40,9 +40,9 @@ pub returns-then-is_base : goal.returns-then-is_base
 unfolding stamp_of
 returns-then-is_base c =
     c.time_of_identifier-then-is_base.ensures
-    ∙ time-more (by c.args.minor c.args.patch c.args.pre_release.now) c.args.pre_release.now c.in-Some.front.now c.in-Some.last.now refl c.in-Some.ensures true c.if-is_base.ensures
+    ∙ time-more (by c.args.minor c.args.patch c.args.pre_release.now) c.args.pre_release.now c.in-Some.front.now c.in-Some.last.now refl c.in-Some.ensures true (c.if-is_base.ensures c.args.minor)
 
 pub returns-else-is_base : goal.returns-else-is_base
 unfolding stamp_of
 returns-else-is_base c =
-    time-more (by c.args.minor c.args.patch c.args.pre_release.now) c.args.pre_release.now c.in-Some.front.now c.in-Some.last.now refl c.in-Some.ensures false c.if-is_base.ensures
+    time-more (by c.args.minor c.args.patch c.args.pre_release.now) c.args.pre_release.now c.in-Some.front.now c.in-Some.last.now refl c.in-Some.ensures false (c.if-is_base.ensures c.args.minor)

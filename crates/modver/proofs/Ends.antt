@@ -1,5 +1,5 @@
 -- What a bound keeps gives its version back, and the order of versions.
-use Rattle.std.proofs.Common.{◌≡◌, ◌≢◌, ◌==◌, not, inl, inr, Bool, List, [], ◌∷◌, ◌++◌, ℕ, length, Option, Some, None, true, sym, ap, ◌∙◌, refl, subst, arith}
+use Rattle.std.proofs.Common.{◌≡◌, ◌≢◌, ◌==◌, not, inl, inr, Bool, List, [], ◌∷◌, ◌++◌, ℕ, ◌*◌, ◌^◌, length, Option, Some, None, true, sym, ap, ◌∙◌, refl, subst, arith}
 use Rattle.std.proofs.lemmas.Bool.{cases_Bool, eq-eqb, eqb-true}
 use Rattle.std.specs.Cmp.Lexicographic.{slice_cmp}
 use Rattle.std.specs.List.{list_all}
@@ -43,16 +43,20 @@ heads-apart m n s t xs ys p q a b o e some =
     let heads = ap (λ k. nat_cmp k (head_of (pre_release_key ys))) (sym a.front) ∙ ap (nat_cmp m) (sym b.front) ∙ sym e in
     sym (heads-decide (pre_release_key xs) (pre_release_key ys) o a.bytes b.bytes heads some) ∙ pre_release-order xs ys p q
 
--- the bytes of the head of a release
+-- the head of a release, and its bytes
+release-head : 3 * 2 ^ 56 ≡ head_of (3 ∷ [])
+unfolding head_of
+release-head = refl
+
 release-bytes : AreBytes (padded 8 (3 ∷ []))
 release-bytes = (omega arith, (omega arith, (omega arith, (omega arith, (omega arith, (omega arith, (omega arith, (omega arith, tt))))))))
 
 -- a pre-release has another head than a release
-pub other-head : (m n : ℕ) (s : Option (Rc Tail Global)) (xs : List (List ℕ)) → list_all is_identifier xs ≡ true → AreEnds m s xs → n ≡ head_of (3 ∷ [])
-    → not (m == n) ≡ has_identifiers xs
-other-head m n s [] p a e = ap not (eq-eqb m n (a.front ∙ sym e))
-other-head m n s (x ∷ xs) p a e = elim (cases_Bool (m == n)) [
-  | inl t ↦ cc (same-heads [] (x ∷ xs) refl p release-bytes a.bytes (omega arith) (sym e ∙ sym (eqb-true m n t) ∙ a.front))
+pub other-head : (m : ℕ) (s : Option (Rc Tail Global)) (xs : List (List ℕ)) → list_all is_identifier xs ≡ true → AreEnds m s xs
+    → not (m == 3 * 2 ^ 56) ≡ has_identifiers xs
+other-head m s [] p a = ap not (eq-eqb m (3 * 2 ^ 56) (a.front ∙ sym release-head))
+other-head m s (x ∷ xs) p a = elim (cases_Bool (m == 3 * 2 ^ 56)) [
+  | inl t ↦ cc (same-heads [] (x ∷ xs) refl p release-bytes a.bytes (omega arith) (sym release-head ∙ sym (eqb-true m (3 * 2 ^ 56) t) ∙ a.front))
   | inr f ↦ ap not f
 ]
 
@@ -77,9 +81,9 @@ bound-valid b v valid ends same = record {
 }
 
 -- the ends of a release
-pub release-ends : (head : ℕ) (pre : List ℕ) → head ≡ head_of (3 ∷ []) → length pre ≡ 0 → AreEnds head None (identifiers_of pre)
-release-ends head [] e h = record { front = e; bytes = release-bytes; whole = omega arith }
-release-ends head (b ∷ pre) e h = absurd (omega arith)
+pub release-ends : (pre : List ℕ) → length pre ≡ 0 → AreEnds (3 * 2 ^ 56) None (identifiers_of pre)
+release-ends [] h = record { front = release-head; bytes = release-bytes; whole = omega arith }
+release-ends (b ∷ pre) h = absurd (omega arith)
 
 -- the ends of a key that was built
 pub built-ends : (head : ℕ) (tail : Option (Rc Tail Global)) (pre start text key slice : List ℕ) → text ≡ pre → start ≡ [] → key ≡ start ++ pre_release_key (identifiers_of text)

@@ -11,7 +11,7 @@ ghost use Rattle.modver.specs.Reading.{IsCanonical, IsFault, IsHeld, is_mark};
 ghost use Rattle.modver.specs.SemanticVersion.{IsVersion};
 ghost use Rattle.modver.specs.declared.version.VersionFault.TheVariants as fault;
 
-use crate::tail::{Tail, head_of, push_pre_release};
+use crate::tail::{RELEASE_HEAD, Tail, head_of, push_pre_release};
 use crate::version::VersionFault;
 use std::alloc::{AllocError, Global};
 use std::cmp::Ordering;
@@ -89,7 +89,7 @@ impl Bound {
                 major,
                 minor,
                 patch,
-                head: head_of(b"\x03"),
+                head: RELEASE_HEAD,
                 tail: None,
             });
         }
@@ -155,7 +155,7 @@ impl Bound {
     pub(crate) fn is_pre_release(&self) -> bool
         ensures { result ≡ has_identifiers self.now.identifiers }
     {
-        self.head != head_of(b"\x03")
+        self.head != RELEASE_HEAD
     }
 
     /// Compares the pre-releases.

@@ -15,6 +15,9 @@ pub(crate) struct Tail {
     pub(crate) marked: bool,
 }
 
+/// The head of a release, whose key of order ends in `03` alone.
+pub(crate) const RELEASE_HEAD: u64 = 3 << 56;
+
 /// Returns the first 8 bytes of a key as a number, whose highest byte is the first. Bytes that the key lacks are 0.
 pub(crate) fn head_of(key: &[u8]) -> u64
     ensures value { result ≡ head_of key.now }

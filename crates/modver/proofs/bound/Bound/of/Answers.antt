@@ -11,14 +11,14 @@ pub returns-then-not-marked : goal.returns-then-not-marked
 returns-then-not-marked c =
     let size : length (pre_text c.args.parts.pre) ≡ 0 = grind (arith, nat_tests) in
     let mark : false ≡ is_marked (build_text c.args.parts.build) = ap not (sym c.if-not-marked.true ∙ c.is_empty-marked.ensures) in
-    let ends = release-ends c.head_of.result (pre_text c.args.parts.pre) c.head_of.ensures.value size in
+    let ends = release-ends (pre_text c.args.parts.pre) size in
     bound-version _ (version_of_parts (parts_of c.args.parts)) c.requires.valid refl refl refl ends mark
 
 pub invariant_of-result : goal.invariant_of-result
 invariant_of-result c =
     let size : length (pre_text c.args.parts.pre) ≡ 0 = grind (arith, nat_tests) in
     let mark : false ≡ is_marked (build_text c.args.parts.build) = ap not (sym c.if-not-marked.true ∙ c.is_empty-marked.ensures) in
-    let ends = release-ends c.head_of.result (pre_text c.args.parts.pre) c.head_of.ensures.value size in
+    let ends = release-ends (pre_text c.args.parts.pre) size in
     bound-valid _ (version_of_parts (parts_of c.args.parts)) c.requires.valid ends
     (bound-version _ (version_of_parts (parts_of c.args.parts)) c.requires.valid refl refl refl ends mark)
 

@@ -2,15 +2,18 @@
 use Rattle.std.proofs.Common.{◌≡◌, ◌≤◌, ◌<◌, ◌++◌, ℕ, zero, suc, List, [], ◌∷◌, length, length-append, take, drop, append_assoc, Option, Some, None, true, refl, sym, ap, ◌∙◌, arith}
 use Rattle.std.specs.Char.{is_ascii_digit}
 use Rattle.std.specs.List.{filter, flat_map, list_all}
+use Rattle.std.specs.Option.{unwrap_or}
 use Rattle.semver.specs.Identifiers.{marked}
 use Rattle.modver.specs.Class.{class_from, class_of, stamp_of}
 use Rattle.modver.specs.Keys.{class_key, identifier_key, pre_release_key}
 use Rattle.modver.specs.Parts.{between_dots, identifiers_of}
+use Rattle.modver.specs.Rank.{rank_of}
 use Rattle.modver.specs.SemanticVersion.{SemanticVersion, pre_release_text, text_with_build}
 use Rattle.modver.specs.Time.{time_of_stamp}
+use Rattle.modver.specs.declared.version.Class.{Class}
 use Rattle.modver.specs.declared.version.Class.TheVariants as class
 use Rattle.modver.proofs.Conditions.{and-first, and-second}
-use Rattle.modver.proofs.DotParts.{dots-shape}
+use Rattle.modver.proofs.DotParts.{dots-shape, no-stamp}
 use Rattle.modver.proofs.Ranks.{IsDigits, stamp-digits}
 use Rattle.modver.proofs.SemVerText.{pre_release_text-of}
 use Rattle.modver.proofs.StampOrder.{fourteen}
@@ -71,15 +74,32 @@ stamp-digits-back x size h =
     ∙ pieces x size
 
 class-pseudo : (ids : List (List ℕ)) (s : Option (List ℕ)) (time : List ℕ) → IsDigits s → class.Pseudo time ≡ class_from ids s
-    → class_key ids s ≡ 1 ∷ filter is_ascii_digit time
+    → rank_of (class_from ids s) ∷ unwrap_or s [] ≡ 1 ∷ filter is_ascii_digit time
 class-pseudo [] s time d e = cc e
 class-pseudo (i ∷ ids) None time d e = cc e
 class-pseudo (i ∷ ids) (Some x) time d e =
     let same : time ≡ time_of_stamp x = cc e in
     ap (λ (l : List ℕ). 1 ∷ l) (sym (ap (filter is_ascii_digit) same ∙ stamp-digits-back x d.0 d.1))
 
-pub pseudo-key : (v : SemanticVersion) (time : List ℕ) → class.Pseudo time ≡ class_of v → class_key v.identifiers (stamp_of v) ≡ 1 ∷ filter is_ascii_digit time
-pseudo-key v time e = class-pseudo v.identifiers (stamp_of v) time (stamp-digits v) e
+pub pseudo-key : (v : SemanticVersion) (c : Class) (rank : ℕ) (time : List ℕ) → c ≡ class_of v → rank ≡ rank_of c → c ≡ class.Pseudo time
+    → class_key v ≡ rank ∷ filter is_ascii_digit time
+pseudo-key v c rank time e r is =
+    class-pseudo v.identifiers (stamp_of v) time (stamp-digits v) (sym is ∙ e)
+    ∙ ap (λ (n : ℕ). n ∷ filter is_ascii_digit time) (sym (r ∙ ap rank_of is))
+
+class-alone : (ids : List (List ℕ)) (s : Option (List ℕ)) → (ids ≡ [] → s ≡ None) → ((time : List ℕ) → class_from ids s ≡ class.Pseudo time → ⊥)
+    → rank_of (class_from ids s) ∷ unwrap_or s [] ≡ rank_of (class_from ids s) ∷ []
+class-alone [] None h other = refl
+class-alone [] (Some x) h other = cc (h refl)
+class-alone (i ∷ ids) None h other = refl
+class-alone (i ∷ ids) (Some x) h other = absurd (other (time_of_stamp x) refl)
+
+-- the key of a class that is no pseudo-version is its rank alone
+pub rank-key : (v : SemanticVersion) (c : Class) (rank : ℕ) → c ≡ class_of v → rank ≡ rank_of c → ((time : List ℕ) → c ≡ class.Pseudo time → ⊥)
+    → class_key v ≡ rank ∷ []
+rank-key v c rank e r other =
+    class-alone v.identifiers (stamp_of v) (no-stamp v) (λ time is. other time (e ∙ is))
+    ∙ ap (λ (n : ℕ). n ∷ []) (sym (r ∙ ap rank_of e))
 
 -- ---- one behind the other
 

@@ -2,17 +2,18 @@
 use Rattle.std.proofs.Common.{◌≡◌, ◌++◌, ℕ, List, [], ◌∷◌, Option, Some, None, Bool, true, false, if◌then◌else◌, nat_le, nat_lt, refl, sym, ap, ◌∙◌, arith}
 use Rattle.std.proofs.lemmas.Bool.Decides.{nat_tests}
 use Rattle.std.proofs.lemmas.Cmp.{nat_list_cmp_total, tied_itself}
+use Rattle.std.specs.Option.{unwrap_or}
 use Rattle.std.specs.Ordering.{nat_cmp, ordering_then}
 use Rattle.std.specs.declared.cmp.Ordering.{Ordering}
 use Rattle.std.specs.declared.cmp.Ordering.TheVariants.{Equal}
 use Rattle.modpath.specs.Path.{suffix_of}
 use Rattle.modpath.specs.declared.major.Suffix.TheVariants as suffix
-use Rattle.modver.specs.Class.{stamp_of}
+use Rattle.modver.specs.Class.{class_from, stamp_of}
 use Rattle.modver.specs.Fits.{fits}
 use Rattle.modver.specs.KeyLaws.{KeysAreOneToOneAtAPath, OrderKeyIsPrecedence, RankKeyIsRank, bytes_cmp, unmarked}
-use Rattle.modver.specs.Keys.{class_key, order_key_of, rank_key_of}
+use Rattle.modver.specs.Keys.{order_key_of, rank_key_of}
 use Rattle.modver.specs.Precedence.{precedence}
-use Rattle.modver.specs.Rank.{class_rank, number_of_stamp, rank_cmp, rank_from, stamp_number}
+use Rattle.modver.specs.Rank.{class_rank, number_of_stamp, rank_cmp, rank_of, stamp_number}
 use Rattle.modver.specs.SemanticVersion.{IsVersion, SemanticVersion}
 use Rattle.modver.proofs.Conditions.{then_second}
 use Rattle.modver.proofs.DotParts.{no-stamp}
@@ -26,8 +27,8 @@ use Rattle.modver.proofs.StrictOrders.{precedence-tied, turned, turned-back}
 
 -- keys that begin with a class compare by rank of class, then by stamp as a number, and then by what follows the class
 ranked : (xs ys : List (List ℕ)) (s t : Option (List ℕ)) (a b : List ℕ) → IsDigits s → IsDigits t → (xs ≡ [] → s ≡ None) → (ys ≡ [] → t ≡ None)
-    → bytes_cmp (class_key xs s ++ a) (class_key ys t ++ b)
-    ≡ ordering_then (nat_cmp (rank_from xs s) (rank_from ys t)) (ordering_then (nat_cmp (number_of_stamp s) (number_of_stamp t)) (bytes_cmp a b))
+    → bytes_cmp (rank_of (class_from xs s) ∷ (unwrap_or s [] ++ a)) (rank_of (class_from ys t) ∷ (unwrap_or t [] ++ b))
+    ≡ ordering_then (nat_cmp (rank_of (class_from xs s)) (rank_of (class_from ys t))) (ordering_then (nat_cmp (number_of_stamp s) (number_of_stamp t)) (bytes_cmp a b))
 ranked [] [] None None a b p q f g = refl
 ranked [] [] None (Some y) a b p q f g = cc (g refl)
 ranked [] [] (Some x) t a b p q f g = cc (f refl)

@@ -7,7 +7,7 @@ use Rattle.std.specs.declared.cmp.Ordering.TheVariants.{Equal, Greater, Less}
 use Rattle.modver.specs.Class.{class_from, stamp_of}
 use Rattle.modver.specs.Laws.{RankIsByClass}
 use Rattle.modver.specs.Precedence.{precedence}
-use Rattle.modver.specs.Rank.{IsAboveByClass, number_of_stamp, rank_from}
+use Rattle.modver.specs.Rank.{IsAboveByClass, number_of_stamp, rank_of}
 use Rattle.modver.specs.SemanticVersion.{SemanticVersion}
 use Rattle.modver.proofs.StrictOrders.{precedence_total, turned, turned-back}
 use Rattle.modver.proofs.Conditions.{greater-nat, nat_cmp-eq, nat_cmp-gt}
@@ -20,7 +20,7 @@ then-greater Greater s h = inl refl
 
 -- the order of rank, from the numbers of the classes and the stamps
 abbrev rank : List (List ℕ) → List (List ℕ) → Option (List ℕ) → Option (List ℕ) → Ordering → Ordering
-rank xs ys s t r = ordering_then (nat_cmp (rank_from xs s) (rank_from ys t)) (ordering_then (nat_cmp (number_of_stamp s) (number_of_stamp t)) r)
+rank xs ys s t r = ordering_then (nat_cmp (rank_of (class_from xs s)) (rank_of (class_from ys t))) (ordering_then (nat_cmp (number_of_stamp s) (number_of_stamp t)) r)
 
 -- a version that compares as greater by rank is above the other by class
 above-class : (u v : SemanticVersion) (xs ys : List (List ℕ)) (s t : Option (List ℕ)) → s ≡ stamp_of u → t ≡ stamp_of v

@@ -9,7 +9,7 @@ use Rattle.std.specs.Str.Parse.{digits_value}
 use Rattle.std.specs.declared.cmp.Ordering.{Ordering}
 use Rattle.modver.specs.Class.{class_from, class_of, stamp_of}
 use Rattle.modver.specs.Parts.{identifiers_of}
-use Rattle.modver.specs.Rank.{number_of_stamp, rank_cmp, rank_from, rank_of, time_cmp, time_of}
+use Rattle.modver.specs.Rank.{number_of_stamp, rank_cmp, rank_of, time_cmp, time_of}
 use Rattle.modver.specs.Precedence.{precedence}
 use Rattle.modver.specs.SemanticVersion.{SemanticVersion}
 use Rattle.modver.specs.Time.{time_of_stamp}
@@ -79,8 +79,8 @@ time-number x y p q = time-order x y p.0 q.0 ∙ sym (same_length x y p.1 q.1 (p
 
 -- comparing the times of two stamps gives the order that comparing the stamps as numbers gives, after the classes
 ranked : (xs ys : List (List ℕ)) (s t : Option (List ℕ)) (r : Ordering) → IsDigits s → IsDigits t → (xs ≡ [] → s ≡ None) → (ys ≡ [] → t ≡ None)
-    → ordering_then (nat_cmp (rank_from xs s) (rank_from ys t)) (ordering_then (time_cmp (option_map time_of_stamp s) (option_map time_of_stamp t)) r)
-    ≡ ordering_then (nat_cmp (rank_from xs s) (rank_from ys t)) (ordering_then (nat_cmp (number_of_stamp s) (number_of_stamp t)) r)
+    → ordering_then (nat_cmp (rank_of (class_from xs s)) (rank_of (class_from ys t))) (ordering_then (time_cmp (option_map time_of_stamp s) (option_map time_of_stamp t)) r)
+    ≡ ordering_then (nat_cmp (rank_of (class_from xs s)) (rank_of (class_from ys t))) (ordering_then (nat_cmp (number_of_stamp s) (number_of_stamp t)) r)
 ranked [] [] None None r p q f g = refl
 ranked [] [] None (Some y) r p q f g = cc (g refl)
 ranked [] [] (Some x) t r p q f g = cc (f refl)
@@ -92,11 +92,6 @@ ranked (i ∷ xs) (j ∷ ys) None None r p q f g = refl
 ranked (i ∷ xs) (j ∷ ys) None (Some y) r p q f g = refl
 ranked (i ∷ xs) (j ∷ ys) (Some x) None r p q f g = refl
 ranked (i ∷ xs) (j ∷ ys) (Some x) (Some y) r p q f g = ap (λ (o : Ordering). ordering_then o r) (time-number x y p q)
-
-rank_of-class : (ids : List (List ℕ)) (stamp : Option (List ℕ)) → rank_of (class_from ids stamp) ≡ rank_from ids stamp
-rank_of-class [] stamp = refl
-rank_of-class (i ∷ rest) None = refl
-rank_of-class (i ∷ rest) (Some stamp) = refl
 
 time_of-class : (ids : List (List ℕ)) (stamp : Option (List ℕ)) → (ids ≡ [] → stamp ≡ None) → time_of (class_from ids stamp) ≡ option_map time_of_stamp stamp
 time_of-class [] None h = refl
@@ -110,8 +105,6 @@ pub rank_by : (u v : SemanticVersion)
     ≡ rank_cmp u v
 rank_by u v =
     rw (
-      rank_of-class u.identifiers (stamp_of u),
-      rank_of-class v.identifiers (stamp_of v),
       time_of-class u.identifiers (stamp_of u) (no-stamp u),
       time_of-class v.identifiers (stamp_of v) (no-stamp v),
     )

@@ -1,9 +1,11 @@
 -- Keys of order and of rank: bytes that sort as the versions do.
 use Rattle.std.specs.Prelude.{ℕ, zero, suc, ◌+◌, ◌==◌, ◌<◌, nat_eq, List, [], ◌∷◌, ◌++◌, length}
-use Rattle.std.specs.Prelude.{slice_index, take, drop, Option, Some, None, if◌then◌else◌}
+use Rattle.std.specs.Prelude.{slice_index, take, drop, if◌then◌else◌}
 use Rattle.std.specs.Int.{from_be_bytes, to_be_bytes, w64}
 use Rattle.std.specs.List.{flat_map, position_or_len}
+use Rattle.std.specs.Option.{unwrap_or}
 use Rattle.modver.specs.Class.{stamp_of}
+use Rattle.modver.specs.Rank.{class_rank}
 use Rattle.modver.specs.SemanticVersion.{SemanticVersion, is_numeric}
 
 -- a number: 1, how many digits it has, and the digits; any other identifier: 2, its bytes, and 0
@@ -19,15 +21,13 @@ pre_release_key (i ∷ rest) = flat_map identifier_key (i ∷ rest) ++ 0 ∷ []
 unfoldable pub order_key_of : SemanticVersion → List ℕ
 order_key_of v = to_be_bytes w64 v.major ++ (to_be_bytes w64 v.minor ++ (to_be_bytes w64 v.patch ++ pre_release_key v.identifiers))
 
--- 3 for a release, 2 for a pre-release, 1 and the stamp for a pseudo-version
-abbrev pub class_key : List (List ℕ) → Option (List ℕ) → List ℕ
-class_key [] stamp = 3 ∷ []
-class_key (i ∷ rest) None = 2 ∷ []
-class_key (i ∷ rest) (Some stamp) = 1 ∷ stamp
+-- the rank of the class, and behind it the stamp of a pseudo-version
+abbrev pub class_key : SemanticVersion → List ℕ
+class_key v = class_rank v ∷ unwrap_or (stamp_of v) []
 
 -- the class, and then the key of order
 unfoldable pub rank_key_of : SemanticVersion → List ℕ
-rank_key_of v = class_key v.identifiers (stamp_of v) ++ order_key_of v
+rank_key_of v = class_key v ++ order_key_of v
 
 -- ---- the first bytes of a key, for a comparison that reads no more
 

@@ -33,7 +33,7 @@ pub fn compare_bounds(left: &Bound, right: &Bound) -> Ordering
 }
 
 /// Returns 3 for a release, 2 for a pre-release and 1 for a pseudo-version.
-fn class_rank(class: &Class) -> u8
+pub(crate) fn class_rank(class: &Class) -> u8
     ensures { result ≡ rank_of class.now }
 {
     match class {

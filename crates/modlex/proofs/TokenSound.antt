@@ -1,7 +1,7 @@
 -- What the definition computes are tokens of the line.
 use Rattle.std.proofs.Common.{◌≡◌, ◌≢◌, ℕ, zero, suc, ◌+◌, ◌<◌, ◌≤◌, Bool, true, false, ◌||◌, not, ◌==◌, cond, List, [], ◌∷◌, ◌++◌, length, take, drop, arith, subst, sym}
-use Rattle.std.proofs.Common.{ap, ◌∙◌, refl, rules, tests, append_assoc, Option, Some, None, Result, Ok, Err, ◌⊎◌, inl, inr, ⊎_elim, codes, MatchBool, length-append}
-use Rattle.std.proofs.lemmas.Bool.{not-false}
+use Rattle.std.proofs.Common.{ap, ◌∙◌, refl, append_assoc, Option, Some, None, Result, Ok, Err, ◌⊎◌, inl, inr, ⊎_elim, codes, MatchBool, length-append}
+use Rattle.std.proofs.lemmas.Bool.{eqb-false, eqb-true, not-false}
 use Rattle.std.proofs.lemmas.Option.{same_Some}
 use Rattle.modlex.specs.declared.lexer.Kind.{Kind}
 use Rattle.modlex.specs.declared.lexer.Kind.TheVariants.{Name, Quoted, Raw, Arrow, Comma, ParenLeft, ParenRight, BracketLeft, BracketRight}
@@ -26,12 +26,6 @@ pub mapped : {A B : Type 0} (f : A → B) (o : Option A) (y : B) → option_map 
 mapped f None y h = cc
 mapped f (Some x) y h = (x, refl, cc)
 
-same_byte : (b c : ℕ) → (b == c) ≡ true → b ≡ c
-same_byte b c h = search (rules, tests)
-
-differs : (b c : ℕ) → (b == c) ≡ false → b ≢ c
-differs b c h e = search (rules, tests)
-
 -- the first `n` bytes are a content with the property `P` and then the mark
 pub record Closes (P : List ℕ → Type 0) (mark : ℕ) (bs : List ℕ) (n : ℕ) : Type 0 where
   pub content : List ℕ
@@ -47,14 +41,14 @@ raw_closes (b ∷ bs) n h =
     ⊎_elim
     (λ bad. cc)
     (λ good. ⊎_elim
-    (λ close. record { content = []; rest = bs; holds = tt; is = ap (λ x. x ∷ bs) (same_byte b 96 close.0); len = let e : 1 ≡ n = cc in sym e })
+    (λ close. record { content = []; rest = bs; holds = tt; is = ap (λ x. x ∷ bs) (eqb-true b 96 close.0); len = let e : 1 ≡ n = cc in sym e })
     (λ goes.
     let m = mapped (λ k. k + 1) (raw_len bs) n goes.1 in
     let more = raw_closes bs m.0 m.1 in
     record {
       content = b ∷ more.content;
       rest = more.rest;
-      holds = ((not-false _ good.0, differs b 96 goes.0), more.holds);
+      holds = ((not-false _ good.0, eqb-false b 96 goes.0), more.holds);
       is = ap (λ l. b ∷ l) more.is;
       len = omega (arith, m.2, more.len);
     })
@@ -99,7 +93,7 @@ name_runs (b ∷ bs) n h =
 
 -- a byte in front of what an interpreted string holds
 cons_quoted : (b : ℕ) (content : List ℕ) → is_string_byte b ≡ true → b ≢ 34 → (b == 92) ≡ false → IsQuoted content → IsQuoted (b ∷ content)
-cons_quoted b [] good mark slash quoted = (good, mark, differs b 92 slash)
+cons_quoted b [] good mark slash quoted = (good, mark, eqb-false b 92 slash)
 cons_quoted b (c ∷ bs) good mark slash quoted =
     (good, mark, subst (λ t. MatchBool t ((is_string_byte c ≡ true) × IsQuoted bs) (IsQuoted (c ∷ bs))) (sym slash) quoted)
 
@@ -137,7 +131,7 @@ quoted_closes (b ∷ []) n h =
     ⊎_elim
     (λ bad. cc)
     (λ good. ⊎_elim
-    (λ close. record { content = []; rest = []; holds = tt; is = ap (λ x. x ∷ []) (same_byte b 34 close.0); len = let e : 1 ≡ n = cc in sym e })
+    (λ close. record { content = []; rest = []; holds = tt; is = ap (λ x. x ∷ []) (eqb-true b 34 close.0); len = let e : 1 ≡ n = cc in sym e })
     (λ goes. let m = mapped (λ k. k + 1) (quoted_len (b == 92) []) n goes.1 in let e = m.1 in cc)
     (chosen (b == 34) _ _ _ good.1))
     (chosen (not (is_string_byte b)) _ _ _ h)
@@ -145,10 +139,10 @@ quoted_closes (b ∷ c ∷ bs) n h =
     ⊎_elim
     (λ bad. cc)
     (λ good. ⊎_elim
-    (λ close. record { content = []; rest = c ∷ bs; holds = tt; is = ap (λ x. x ∷ c ∷ bs) (same_byte b 34 close.0); len = let e : 1 ≡ n = cc in sym e })
+    (λ close. record { content = []; rest = c ∷ bs; holds = tt; is = ap (λ x. x ∷ c ∷ bs) (eqb-true b 34 close.0); len = let e : 1 ≡ n = cc in sym e })
     (λ goes.
     let m = mapped (λ k. k + 1) (quoted_len (b == 92) (c ∷ bs)) n goes.1 in
-    quoted_by b c bs n m.0 (b == 92) refl (not-false _ good.0) (differs b 34 goes.0) (quoted_closes bs) (quoted_closes (c ∷ bs) m.0) m.1 m.2)
+    quoted_by b c bs n m.0 (b == 92) refl (not-false _ good.0) (eqb-false b 34 goes.0) (quoted_closes bs) (quoted_closes (c ∷ bs) m.0) m.1 m.2)
     (chosen (b == 34) _ _ _ good.1))
     (chosen (not (is_string_byte b)) _ _ _ h)
 
@@ -174,7 +168,7 @@ mark_lexeme b kind rest h =
     (chosen (b == 40) _ _ _ h)
   where
     mark_is : (c : ℕ) (k : Kind) → (b == c) ≡ true → k ≡ kind → IsLexeme k (c ∷ []) rest → IsLexeme kind (b ∷ []) rest
-    mark_is c k e same lex = subst (λ j. IsLexeme j (b ∷ []) rest) same (subst (λ x. IsLexeme k (x ∷ []) rest) (sym (same_byte b c e)) lex)
+    mark_is c k e same lex = subst (λ j. IsLexeme j (b ∷ []) rest) same (subst (λ x. IsLexeme k (x ∷ []) rest) (sym (eqb-true b c e)) lex)
 
 kind_lexeme : (t : Bool) (text rest : List ℕ) (kind : Kind) → bytes_eq text (codes "=>") ≡ t → 0 < length text → IsRun text rest → cond t Arrow Name ≡ kind → IsLexeme kind text rest
 kind_lexeme true text rest kind test some run h =
@@ -198,7 +192,7 @@ word_cuts b bs kind n no_comment h =
       text = 34 ∷ (more.content ++ 34 ∷ []);
       rest = more.rest;
       lex = subst (λ k. IsLexeme k (34 ∷ (more.content ++ 34 ∷ [])) more.rest) same.0 (more.content, more.holds, refl);
-      is = ap (λ x. x ∷ bs) (same_byte b 34 p.0) ∙ ap (λ l. 34 ∷ l) (more.is ∙ sym (append_assoc more.content (34 ∷ []) more.rest));
+      is = ap (λ x. x ∷ bs) (eqb-true b 34 p.0) ∙ ap (λ l. 34 ∷ l) (more.is ∙ sym (append_assoc more.content (34 ∷ []) more.rest));
       len = omega (arith, same.1, more.len, length-append more.content (34 ∷ []));
     })
     (λ p. ⊎_elim
@@ -210,7 +204,7 @@ word_cuts b bs kind n no_comment h =
       text = 96 ∷ (more.content ++ 96 ∷ []);
       rest = more.rest;
       lex = subst (λ k. IsLexeme k (96 ∷ (more.content ++ 96 ∷ [])) more.rest) same.0 (more.content, more.holds, refl);
-      is = ap (λ x. x ∷ bs) (same_byte b 96 q.0) ∙ ap (λ l. 96 ∷ l) (more.is ∙ sym (append_assoc more.content (96 ∷ []) more.rest));
+      is = ap (λ x. x ∷ bs) (eqb-true b 96 q.0) ∙ ap (λ l. 96 ∷ l) (more.is ∙ sym (append_assoc more.content (96 ∷ []) more.rest));
       len = omega (arith, same.1, more.len, length-append more.content (96 ∷ []));
     })
     (λ q. ⊎_elim

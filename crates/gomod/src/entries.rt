@@ -361,7 +361,8 @@ fn interval(
     }
 }
 
-/// Reads an entry of `retract`: a version, or a closed interval of versions.
+/// Reads an entry of `retract`: a version, or a closed interval of versions. After the faults of the words,
+/// it fails with [`GoModFault::Interval`] if the first version is above the second.
 #[tactic(auto, unfolding(crate::specs::Reading::retract_entry))]
 pub(crate) fn retract_entry(
     alloc: Global,

@@ -13,7 +13,7 @@ pub enum GoModFault {
     #[error("the file is not UTF-8")]
     Utf8,
     /// The line cannot be split into tokens.
-    #[error("line {0} has no tokens")]
+    #[error("line {0} cannot be split into tokens")]
     Lex(usize),
     /// The grammar does not allow the line where it is, or it is the last line and a block is open after it.
     #[error("line {0} does not have the form of a directive")]
@@ -31,12 +31,12 @@ pub enum GoModFault {
     #[error("there is no module directive")]
     NoModule,
     /// The line is a second directive of a keyword that a file may have once.
-    #[error("line {0} repeats a directive that may stand once")]
+    #[error("line {0} repeats a directive that a file may have once")]
     Twice(usize),
     /// The low version of the interval is above its high one.
     #[error("line {0} has an interval whose versions are reversed")]
     Interval(usize),
-    /// The line begins with a name that is not a keyword.
+    /// The line is outside a block and begins with a name that is not a keyword.
     #[error("line {0} begins with an unknown directive")]
     Unknown(usize),
     /// Memory ran out.

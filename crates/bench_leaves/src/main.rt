@@ -7,7 +7,8 @@
 //! | `gomod` | a go.mod | reads it | its requirements, none where it does not read |
 //! | `latest` | a go.mod, a line `===`, a version a line | reads it, chooses among the versions | the index of the latest |
 //!
-//! With no rounds it makes its input ready alone, and prints 0.
+//! With 0 rounds it only prepares its input, and prints 0. It fails with `InvalidInput` if a word is missing,
+//! WHAT is unknown, ROUNDS is not a number, or the input of `latest` has no line `===`.
 #![tactic(auto)]
 
 ghost use Rattle.std.specs.Prelude.{◌≡◌, count_by, is_ok};
@@ -31,7 +32,8 @@ enum Work<'a> {
 }
 
 impl<'a> Work<'a> {
-    /// The work of that name; none of another one.
+    /// Returns the work of this name, or `None` if there is no such work or the input of `latest` has no
+    /// line `===`. It fails only if memory runs out.
     fn named(alloc: Global, name: &str, text: &'a str) -> Result<Option<Work<'a>>, AllocError> {
         match name {
             "paths" => Ok(Some(Work::Paths(text.lines().collect(alloc)?))),

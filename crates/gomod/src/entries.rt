@@ -25,7 +25,8 @@ pub struct Requirement {
 }
 
 /// The versions that a module retracts on one line. (Go Modules Reference, "retract directive".)
-/// `GoMod` publishes the versions without the line, which only faults need.
+/// A go.mod of 1,048,576 bytes can hold nearly 150,000 of them.
+/// Contracts of `GoMod` see the versions without the line, which only faults need.
 #[derive(Drop)]
 pub(crate) struct Retraction {
     pub(crate) line: usize,

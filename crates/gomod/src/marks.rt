@@ -11,8 +11,8 @@ use modver::Version;
 use std::alloc::{AllocError, Global};
 
 /// Returns for each version whether a retraction contains it. The versions ascend by precedence. It fails only
-/// if memory runs out. A legal file can hold nearly 150,000 retractions, and a path has few versions beside
-/// them. So the retractions are read once, in the order of the file, and each is searched among the versions.
+/// if memory runs out. A file can have far more retractions than its path has versions, so the retractions are
+/// read once, in the order of the file, and each is searched among the versions.
 pub(crate) fn marks(
     alloc: Global,
     retractions: &[Retraction],

@@ -72,7 +72,7 @@ impl GoMod {
     }
 
     /// Whether the module retracts a version. It takes no memory, and may compare the version with each
-    /// retraction. Of many versions [`GoMod::retracted`] tells it sooner.
+    /// retraction. For many versions that ascend by precedence, [`GoMod::retracted`] is faster.
     pub fn retracts(&self, version: &Version) -> bool
         ensures value { result ≡ is_retracted self.now version.now }
         ensures retracted { IsTrue result ↔ IsRetracted self.now version.now }
@@ -123,8 +123,8 @@ impl Retraction {
 }
 
 /// Returns the line of the first retraction with a version that the path may not have, or `None` if
-/// there is no such retraction. A path can have 255 bytes and a file nearly 150,000 retractions, so it
-/// reads the suffix of the path once.
+/// there is no such retraction. It reads the suffix of the path once, because a file can have many
+/// retractions.
 #[tactic(auto, unfolding(crate::specs::Paths::fits_path))]
 fn first_unfit(path: &ModulePath, retractions: &[Retraction]) -> Option<usize>
     ensures { result ≡ first_unfit path.now retractions.now }

@@ -1,6 +1,6 @@
 -- Which of some versions intervals cover.
 use Rattle.std.proofs.Common.{◌+◌, ◌-◌, ◌++◌, length, get_or, arith, ◌≡◌, ◌<◌, ◌≤◌, ℕ, zero, suc, List, [], ◌∷◌, Bool, true}
-use Rattle.std.proofs.Common.{false, not, refl, sym, ap, subst, ◌∙◌, inl, inr, ◌&&◌, ◌||◌, map, take, drop, replicate}
+use Rattle.std.proofs.Common.{◌↔◌, false, not, refl, sym, ap, subst, ◌∙◌, inl, inr, ◌&&◌, ◌||◌, map, take, drop, replicate}
 use Rattle.std.proofs.lemmas.Bool.{cases_Bool, true≢false}
 use Rattle.std.proofs.lemmas.Cmp.{upto}
 use Rattle.std.proofs.Math.Seq.{take-length}
@@ -246,9 +246,16 @@ marked-once vs is i first n le begun reach =
     beyond : (v : Version) → is_below i.high v ≡ true → covers v i ≡ false
     beyond v h = rw h (and-false (not (is_below v i.low)))
 
-pub ascends-by : (vs : List Version) (r : Bool) → IsAllAdjacentAnswer (λ x y b. b ≡ not (is_below y x)) vs r → IsTrue r → Ascends vs
-ascends-by vs true all is = ascends-from vs (λ k d lt. not-true _ (sym (all k d lt)))
-ascends-by vs false all is = cc is
+-- a version that is below the one before it
+descends : (vs : List Version) → ((k : ℕ) × (k + 1 < length vs) × ((d : Version) → false ≡ not (is_below (get_or vs (k + 1) d) (get_or vs k d)))) → ¬ Ascends vs
+descends [] pair up = omega (arith, pair.1)
+descends (v ∷ vs) pair up =
+    let e : is_below (get_or (v ∷ vs) (pair.0 + 1) v) (get_or (v ∷ vs) pair.0 v) ≡ false = up pair.0 (pair.0 + 1) v (omega arith) pair.1 in
+    true≢false (sym (not-false _ (sym (pair.2 v))) ∙ e)
+
+pub ascends-by : (vs : List Version) (r : Bool) → IsAllAdjacentAnswer (λ x y b. b ≡ not (is_below y x)) vs r → IsTrue r ↔ Ascends vs
+ascends-by vs true all = (λ is. ascends-from vs (λ k d lt. not-true _ (sym (all k d lt))), λ up. refl)
+ascends-by vs false pair = (λ is. cc is, λ up. absurd (descends vs pair up))
 
 pub any-of_each : {X Y : Type 0} (p : Y → Bool) (f : X → Y) (xs : List X) → list_any (λ x. p (f x)) xs ≡ list_any p (map f xs)
 any-of_each p f [] = refl

@@ -1,6 +1,6 @@
 //! Which of some versions retractions contain.
 
-ghost use Rattle.std.specs.Prelude.{◌≡◌, ◌++◌, ◌∷◌, [], IfOk, IsTrue, List, length, map};
+ghost use Rattle.std.specs.Prelude.{◌≡◌, ◌↔◌, ◌++◌, ◌∷◌, [], IfOk, IsTrue, List, length, map};
 ghost use Rattle.gomod.specs.Module.{Interval};
 ghost use Rattle.gomod.specs.Marks.{Ascends, Reaches, marked};
 ghost use Rattle.gomod.specs.Reading.{interval_of};
@@ -30,7 +30,7 @@ pub(crate) fn marks(
 
 /// Whether no version is below the one before it.
 pub(crate) fn ascend(versions: &[Version]) -> bool
-    ensures { IsTrue result → Ascends versions.now }
+    ensures { IsTrue result ↔ Ascends versions.now }
 {
     versions.is_sorted_by(|left, right| !is_below(right.bound(), left.bound()))
 }

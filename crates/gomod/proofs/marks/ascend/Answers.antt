@@ -5,5 +5,5 @@ use Rattle.gomod.proofs.MarkLists.{ascends-by}
 use Rattle.gomod.proofs.marks.ascend.Goals as goal
 
 pub returns : goal.returns
-returns c = λ is. ascends-by _ _
-    (c.is_sorted_by.ensures.cases (λ x y. not (is_below y x)) (always_returns_same _ (λ a r. r ≡ not (is_below a.1.0.now a.0.now)) _ (λ a r f' k. search rules))) is
+returns c = ascends-by _ _
+    (c.is_sorted_by.ensures.cases (λ x y. not (is_below y x)) (always_returns_same _ (λ a r. r ≡ not (is_below a.1.0.now a.0.now)) _ (λ a r f' k. search rules)))

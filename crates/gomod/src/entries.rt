@@ -2,8 +2,9 @@
 //! [`GoModFault::Grammar`] for another form, otherwise with the fault of the leftmost wrong word, or with
 //! [`GoModFault::Memory`] if memory runs out.
 
-ghost use Rattle.std.specs.Prelude.{◌≡◌};
+ghost use Rattle.std.specs.Prelude.{◌≡◌, ℕ, List};
 ghost use Rattle.modlex.specs.Symbols.{symbol, symbols};
+ghost use Rattle.modpath.specs.Path.{suffix_of};
 ghost use Rattle.gomod.specs.Paths.{is_path, is_loose_path, is_below};
 ghost use Rattle.gomod.specs.Reading.{Gives, path_word, version_fault, version_word, fitting_word, module_entry, go_entry};
 ghost use Rattle.gomod.specs.Reading.{word_entry, pair, pair_entry, old_path, old_version, new_file, new_version, replace_three};
@@ -13,8 +14,8 @@ use super::fault::GoModFault;
 use super::go_version::{is_file_path, is_go_version};
 use super::stretch::Stretch;
 use modlex::{Kind, Token};
-use modpath::{LoosePath, ModulePath, PathError};
-use modver::{Bound, Version, VersionFault, compare_bounds, fits, fits_loose};
+use modpath::{LoosePath, ModulePath, PathError, Suffix, loose_suffix, suffix};
+use modver::{Bound, Version, VersionFault, compare_bounds, fits_suffix};
 use std::alloc::Global;
 
 /// A version of a module that another module requires. (Go Modules Reference, "require directive".)
@@ -98,37 +99,14 @@ pub(crate) fn is_below(left: &Bound, right: &Bound) -> bool
 }
 
 /// Returns the version that `word` names. It fails with [`GoModFault::Version`] if `word` is not a
-/// version or the module path may not have it.
+/// version or a path with this suffix may not have it, and with [`GoModFault::Memory`] if memory runs out.
 #[tactic(auto, unfolding(crate::specs::Reading::fitting_word, crate::specs::Paths::fits_path))]
-fn fitting(
-    alloc: Global,
-    line: usize,
-    path: &ModulePath,
-    word: &Token,
-) -> Result<Version, GoModFault>
-    ensures { Gives (λ v. v) result (fitting_word line path.now (symbol word.now)) }
+fn fitting(alloc: Global, line: usize, suffix: Suffix, word: &Token) -> Result<Version, GoModFault>
+    ensures { (path : List ℕ) → suffix ≡ suffix_of path
+        → Gives (λ v. v) result (fitting_word line path (symbol word.now)) }
 {
     let version = version(alloc, line, word)?;
-    if fits(path, &version) {
-        Ok(version)
-    } else {
-        Err(GoModFault::Version(line))
-    }
-}
-
-/// Returns the version that `word` names. It fails with [`GoModFault::Version`] if `word` is not a
-/// version or the loose path may not have it.
-#[tactic(auto, unfolding(crate::specs::Reading::fitting_word, crate::specs::Paths::fits_path))]
-fn fitting_loose(
-    alloc: Global,
-    line: usize,
-    path: &LoosePath,
-    word: &Token,
-) -> Result<Version, GoModFault>
-    ensures { Gives (λ v. v) result (fitting_word line path.now (symbol word.now)) }
-{
-    let version = version(alloc, line, word)?;
-    if fits_loose(path, &version) {
+    if fits_suffix(suffix, version.bound()) {
         Ok(version)
     } else {
         Err(GoModFault::Version(line))
@@ -190,7 +168,7 @@ fn pair(
     ensures { Gives (λ r. r) result (pair line (symbol first.now) (symbol second.now)) }
 {
     let path = loose_path(alloc, line, first)?;
-    let version = fitting_loose(alloc, line, &path, second)?;
+    let version = fitting(alloc, line, loose_suffix(&path), second)?;
     Ok(Requirement { path, version })
 }
 
@@ -230,7 +208,7 @@ fn new_version(alloc: Global, line: usize, path: &Token, word: &Token) -> Result
     ensures { Gives (λ o. o) result (new_version line (symbol path.now) (symbol word.now)) }
 {
     let path = module_path(alloc, line, path)?;
-    fitting(alloc, line, &path, word)?;
+    fitting(alloc, line, suffix(&path), word)?;
     Ok(())
 }
 
